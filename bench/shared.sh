@@ -45,7 +45,7 @@ least() {
 agreed() {
     count=$1
     shift
-    if [ "$(sed -E '/^((user_|processor_)?nanoseconds|peak_bytes|plain_line_of|read_and_write) /d' "$@" | sort -u | wc -l)" -ne "$count" ]; then
+    if [ "$(sed -E '/^((user_|processor_)?nanoseconds|peak_bytes) /d' "$@" | sort -u | wc -l)" -ne "$count" ]; then
         echo "the runs made different things" >&2
         exit 1
     fi

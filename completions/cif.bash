@@ -58,7 +58,7 @@ _cif() {
         check) options='-v --verbose --from --to --form --all -h --help' ;;
         train) options='-v --verbose --from --to --form --stops --format -h --help' ;;
         compare) options='-v --verbose --from --to --common -h --help' ;;
-        diff) options='-v --verbose --from --to --common -h --help' ;;
+        diff) options='-v --verbose --from --to --common --format -h --help' ;;
         clashes | calendar) options='-v --verbose --from --to -h --help' ;;
         day) options='-v --verbose --stops --format -h --help' ;;
         explain) options='-v --verbose --format -h --help' ;;

@@ -63,7 +63,7 @@ complete -c cif -n '__cif_in normalise check compare diff train clashes table ca
 complete -c cif -n '__cif_in normalise check compare diff train clashes table calendar' -l to -x -d 'Last date of the window, YYMMDD'
 complete -c cif -n '__cif_in compare diff' -l common -d 'Use the common window'
 complete -c cif -n '__cif_in day train' -l stops -d 'List the calls of each train too'
-complete -c cif -n '__cif_in day train explain' -l format -x -a 'text tsv' -d 'Layout'
+complete -c cif -n '__cif_in diff day train explain' -l format -x -a 'text tsv' -d 'Layout'
 complete -c cif -n '__cif_in check' -l all -d 'Judge each line by itself, and count the reasons'
 complete -c cif -n '__cif_in normalise check train table' -l form -x -a '1 2' -d 'How to join weeks'
 complete -c cif -n '__cif_in prepare' -l holidays -r -F -d 'Dates of the holiday codes'

@@ -11,9 +11,9 @@ use crate::standing::{Standing, Standings, look_at};
 use cif_columns::{Day, DaysRun};
 use std::alloc::{AllocError, Global};
 
-/// How many members are few: to look at all of them for each stretch takes less time than to halve
+/// Of at most so many members all are looked at for each stretch, which takes less time than to halve
 /// them.
-const FEW: usize = 16;
+const MOST_DIRECT: usize = 16;
 
 /// Dates on each of which the same members apply as on the others of its weekday. A stretch begins
 /// on the day after the one before it in a list, and the first with the window.
@@ -122,7 +122,7 @@ pub(crate) fn stretches_of<E: Entry>(
     ensures stretches { IfOk result
         (λ made. AreStretchesOf (map E.terms entries.now) members.now part.now window.now made.items) }
 {
-    if part.len() <= FEW {
+    if part.len() <= MOST_DIRECT {
         return stretches_of_few(alloc, entries, members, alike, number, part, window);
     }
     let half = part.len() / 2;

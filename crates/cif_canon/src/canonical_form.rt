@@ -110,7 +110,7 @@ fn write_tiplocs<W: WriteDevice>(tiplocs: &[Tiploc], sink: &mut Sink<W>)
 }
 
 /// The bytes of the longest line: three numbers of twenty digits each.
-const LONGEST: usize = 106;
+const LONGEST_COUNTS: usize = 106;
 
 /// The numbers of records of an extract, by kind; its header and its trailer aren't counted.
 #[derive(Clone, Copy, Debug, PartialEq, Eq)]
@@ -132,7 +132,7 @@ pub fn write_counts<W: WriteDevice>(counts: &Counts, sink: &mut Sink<W>) -> Resu
 
 /// The line that says how many records there are.
 #[tactic(auto, unfolding(crate::specs::Counts::counts_line))]
-fn line_of(counts: &Counts) -> ArrayString<LONGEST>
+fn line_of(counts: &Counts) -> ArrayString<LONGEST_COUNTS>
     ensures { result.bytes ≡ counts_line counts.now }
 {
     let mut line = ArrayString::new();

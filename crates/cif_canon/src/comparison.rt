@@ -27,7 +27,7 @@ use std::alloc::Global;
 use std::fmt;
 
 /// The bytes of the longest line: that of a location.
-const LONGEST: usize = 89;
+const LONGEST_COMPARISON: usize = 89;
 
 /// How two extracts compare in their window: whether they agree, and else the first difference.
 #[derive(Drop, PartialEq, Eq)]
@@ -65,7 +65,7 @@ pub fn write_comparison<W: WriteDevice>(
 
 /// The line that says how two extracts compare.
 #[tactic(auto, unfolding(crate::specs::Comparison::comparison_line))]
-fn line_of(comparison: &Comparison) -> ArrayString<LONGEST>
+fn line_of(comparison: &Comparison) -> ArrayString<LONGEST_COMPARISON>
     ensures { result.bytes ≡ comparison_line comparison.now }
 {
     let mut line = ArrayString::new();

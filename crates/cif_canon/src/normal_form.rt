@@ -178,7 +178,7 @@ pub fn canon<'a>(alloc: Global, extract: &'a Extract, form: Form) -> Result<Cano
 }
 
 /// The bytes of the longest line: that of associations that clash.
-const LONGEST: usize = 70;
+const LONGEST_FAULT_LINE: usize = 70;
 
 /// Appends the line that names the fault: `cif: `, what it is, and a line feed.
 pub fn report<W: WriteDevice>(fault: &Fault, sink: &mut Sink<W>) -> Result<(), WriteFault>
@@ -189,7 +189,7 @@ pub fn report<W: WriteDevice>(fault: &Fault, sink: &mut Sink<W>) -> Result<(), W
 
 /// The line that names the fault.
 #[tactic(auto, unfolding(crate::specs::Report::fault_line))]
-fn line_of(fault: &Fault) -> ArrayString<LONGEST>
+fn line_of(fault: &Fault) -> ArrayString<LONGEST_FAULT_LINE>
     ensures { result.bytes ≡ fault_line fault.now }
 {
     let mut line = ArrayString::new();

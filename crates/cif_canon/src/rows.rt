@@ -43,7 +43,7 @@ pub const NO_TRAIN: &str = "\t\t\t\t\t\t\t\t\t\t";
 pub const NO_ASSOCIATION: &str = "\t\t\t\t\t\t\t\t\t";
 
 /// The bytes of the longest line: that of a schedule in the table of an explanation.
-pub const LONGEST: usize = 116;
+pub const LONGEST_ROW: usize = 116;
 
 /// The bytes of a date and a tab, with which the lines of some tables begin.
 pub const LEAD: usize = 11;
@@ -54,10 +54,10 @@ pub fn association_row(
     format: Format,
     key: &AssocKey,
     body: &AssocBody,
-) -> ArrayString<LONGEST>
+) -> ArrayString<LONGEST_ROW>
     requires { length before.now ≤ LEAD }
     ensures text { result.bytes ≡ before.now ++ fields_text format (association_row format (key.now, body.now)) }
-    ensures len { array_string_len result + 13 ≤ LONGEST }
+    ensures len { array_string_len result + 13 ≤ LONGEST_ROW }
 {
     let mut row = started(before, format, Shape::Trimmed, b"AA");
     push_left_out(&mut row, format, NO_TRAIN);
@@ -66,10 +66,10 @@ pub fn association_row(
 }
 
 /// The row of a train that runs, behind what its line begins with.
-pub fn train_row(before: &str, format: Format, uid: &Uid, body: &Body) -> ArrayString<LONGEST>
+pub fn train_row(before: &str, format: Format, uid: &Uid, body: &Body) -> ArrayString<LONGEST_ROW>
     requires { length before.now ≤ LEAD }
     ensures text { result.bytes ≡ before.now ++ fields_text format (train_row format (uid.now, body.now)) }
-    ensures len { array_string_len result + 1 ≤ LONGEST }
+    ensures len { array_string_len result + 1 ≤ LONGEST_ROW }
 {
     let mut row = started(before, format, Shape::Trimmed, b"BS");
     push_train(&mut row, format, uid, body);
@@ -78,10 +78,15 @@ pub fn train_row(before: &str, format: Format, uid: &Uid, body: &Body) -> ArrayS
 }
 
 /// The row of a schedule with the dates and the mask of the run, behind what its line begins with.
-pub fn schedule_row(before: &str, format: Format, run: &Run, body: &Body) -> ArrayString<LONGEST>
+pub fn schedule_row(
+    before: &str,
+    format: Format,
+    run: &Run,
+    body: &Body,
+) -> ArrayString<LONGEST_ROW>
     requires { length before.now ≤ LEAD }
     ensures text { result.bytes ≡ before.now ++ fields_text format (schedule_row format (record_of run.now body.now)) }
-    ensures len { array_string_len result + 1 ≤ LONGEST }
+    ensures len { array_string_len result + 1 ≤ LONGEST_ROW }
 {
     let mut row = started(before, format, Shape::Date, &run.first.to_yymmdd());
     push_fields(
@@ -98,12 +103,12 @@ pub fn schedule_row(before: &str, format: Format, run: &Run, body: &Body) -> Arr
 
 /// Appends the fields of an association that holds.
 pub fn push_association(
-    line: &mut ArrayString<LONGEST>,
+    line: &mut ArrayString<LONGEST_ROW>,
     format: Format,
     key: &AssocKey,
     body: &AssocBody,
 )
-    requires { array_string_len line.old + 35 ≤ LONGEST }
+    requires { array_string_len line.old + 35 ≤ LONGEST_ROW }
     ensures text { line.new.bytes ≡ line.old.bytes ++ after format (association_fields (key.now, body.now)) }
     ensures len { array_string_len line.new ≤ array_string_len line.old + 35 }
 {
@@ -125,8 +130,8 @@ pub fn push_association(
 }
 
 /// Appends the fields of a train that runs.
-pub fn push_train(line: &mut ArrayString<LONGEST>, format: Format, uid: &Uid, body: &Body)
-    requires { array_string_len line.old + 52 ≤ LONGEST }
+pub fn push_train(line: &mut ArrayString<LONGEST_ROW>, format: Format, uid: &Uid, body: &Body)
+    requires { array_string_len line.old + 52 ≤ LONGEST_ROW }
     ensures text { line.new.bytes ≡ line.old.bytes ++ after format (train_fields format (uid.now, body.now)) }
     ensures len { array_string_len line.new ≤ array_string_len line.old + 52 }
 {
@@ -135,8 +140,8 @@ pub fn push_train(line: &mut ArrayString<LONGEST>, format: Format, uid: &Uid, bo
 }
 
 /// Appends the fields of the body's journey.
-fn push_journey(line: &mut ArrayString<LONGEST>, format: Format, body: &Body)
-    requires { array_string_len line.old + 45 ≤ LONGEST }
+fn push_journey(line: &mut ArrayString<LONGEST_ROW>, format: Format, body: &Body)
+    requires { array_string_len line.old + 45 ≤ LONGEST_ROW }
     ensures text { line.new.bytes ≡ line.old.bytes ++ after format (journey_fields format body.now) }
     ensures len { array_string_len line.new ≤ array_string_len line.old + 45 }
 {
@@ -167,14 +172,14 @@ fn push_journey(line: &mut ArrayString<LONGEST>, format: Format, body: &Body)
 
 /// Appends the fields of a place of a journey.
 fn push_place(
-    line: &mut ArrayString<LONGEST>,
+    line: &mut ArrayString<LONGEST_ROW>,
     format: Format,
     location: &Text<7>,
     suffix: &Text<1>,
     time: &WorkTime,
     platform: &Text<3>,
 )
-    requires { array_string_len line.old + 20 ≤ LONGEST }
+    requires { array_string_len line.old + 20 ≤ LONGEST_ROW }
     ensures text { line.new.bytes ≡ line.old.bytes
         ++ after format (place_fields format location.now suffix.now time.now platform.now) }
     ensures len { array_string_len line.new ≤ array_string_len line.old + 20 }
@@ -186,12 +191,12 @@ fn push_place(
 
 /// Appends a location with its suffix: one field of text, two of a table.
 fn push_location(
-    line: &mut ArrayString<LONGEST>,
+    line: &mut ArrayString<LONGEST_ROW>,
     format: Format,
     location: &Text<7>,
     suffix: &Text<1>,
 )
-    requires { array_string_len line.old + 10 ≤ LONGEST }
+    requires { array_string_len line.old + 10 ≤ LONGEST_ROW }
     ensures text { line.new.bytes ≡ line.old.bytes
         ++ after format (location_fields format location.now suffix.now) }
     ensures len { array_string_len line.new ≤ array_string_len line.old + 10 }
@@ -204,8 +209,8 @@ fn push_location(
 }
 
 /// Appends as many empty fields as there are tabs, if the line is a row.
-pub fn push_left_out(line: &mut ArrayString<LONGEST>, format: Format, tabs: &str)
-    requires room { array_string_len line.old + length tabs.now ≤ LONGEST }
+pub fn push_left_out(line: &mut ArrayString<LONGEST_ROW>, format: Format, tabs: &str)
+    requires room { array_string_len line.old + length tabs.now ≤ LONGEST_ROW }
     requires tabs { tabs.now ≡ replicate (length tabs.now) 9 }
     ensures text { line.new.bytes ≡ line.old.bytes ++ after format (left_out format (length tabs.now)) }
     ensures len { array_string_len line.new ≤ array_string_len line.old + length tabs.now }
@@ -217,8 +222,13 @@ pub fn push_left_out(line: &mut ArrayString<LONGEST>, format: Format, tabs: &str
 }
 
 /// A line that begins with this field, behind what stands before it.
-pub fn started(before: &str, format: Format, shape: Shape, columns: &[u8]) -> ArrayString<LONGEST>
-    requires room { length before.now + width_of shape columns.now ≤ LONGEST }
+pub fn started(
+    before: &str,
+    format: Format,
+    shape: Shape,
+    columns: &[u8],
+) -> ArrayString<LONGEST_ROW>
+    requires room { length before.now + width_of shape columns.now ≤ LONGEST_ROW }
     requires field { CanBeShown shape columns.now }
     ensures text { result.bytes ≡ before.now ++ shown format (shape, columns.now) }
     ensures len { array_string_len result ≤ length before.now + width_of shape columns.now }
@@ -246,9 +256,9 @@ pub fn lead(format: Format, shape: Shape, columns: &[u8; 6]) -> ArrayString<LEAD
 }
 
 /// Appends fields, a space or a tab before each.
-pub fn push_fields(line: &mut ArrayString<LONGEST>, format: Format, fields: &[(Shape, &[u8])])
+pub fn push_fields(line: &mut ArrayString<LONGEST_ROW>, format: Format, fields: &[(Shape, &[u8])])
     requires fields { AreFields (map (λ field. (field.0, field.1.now)) fields.now) }
-    requires room { array_string_len line.old + width (map (λ field. (field.0, field.1.now)) fields.now) ≤ LONGEST }
+    requires room { array_string_len line.old + width (map (λ field. (field.0, field.1.now)) fields.now) ≤ LONGEST_ROW }
     ensures text { line.new.bytes ≡ line.old.bytes ++ after format (map (λ field. (field.0, field.1.now)) fields.now) }
     ensures len { array_string_len line.new
         ≤ array_string_len line.old + width (map (λ field. (field.0, field.1.now)) fields.now) }
@@ -259,8 +269,8 @@ pub fn push_fields(line: &mut ArrayString<LONGEST>, format: Format, fields: &[(S
 }
 
 /// Appends a space or a tab, and a field.
-pub fn push_field(line: &mut ArrayString<LONGEST>, format: Format, shape: Shape, columns: &[u8])
-    requires room { array_string_len line.old + width_of shape columns.now + 1 ≤ LONGEST }
+pub fn push_field(line: &mut ArrayString<LONGEST_ROW>, format: Format, shape: Shape, columns: &[u8])
+    requires room { array_string_len line.old + width_of shape columns.now + 1 ≤ LONGEST_ROW }
     requires field { CanBeShown shape columns.now }
     ensures text { line.new.bytes ≡ line.old.bytes ++ (separator format ∷ shown format (shape, columns.now)) }
     ensures len { array_string_len line.new ≤ array_string_len line.old + width_of shape columns.now + 1 }
@@ -280,8 +290,8 @@ fn separator(format: Format) -> &'static str
 }
 
 /// Appends the field as it is shown.
-fn push_shown(line: &mut ArrayString<LONGEST>, format: Format, shape: Shape, columns: &[u8])
-    requires room { array_string_len line.old + width_of shape columns.now ≤ LONGEST }
+fn push_shown(line: &mut ArrayString<LONGEST_ROW>, format: Format, shape: Shape, columns: &[u8])
+    requires room { array_string_len line.old + width_of shape columns.now ≤ LONGEST_ROW }
     requires field { CanBeShown shape columns.now }
     ensures text { line.new.bytes ≡ line.old.bytes ++ shown format (shape, columns.now) }
     ensures len { array_string_len line.new ≤ array_string_len line.old + width_of shape columns.now }

@@ -12,7 +12,7 @@ ghost use Rattle.cif_canon.specs.Views.{IsTrainListed, IsTrainView};
 use crate::asked::check_within;
 use crate::canonical_form::{RecordLines, write_runs};
 use crate::records::extract_runs;
-use crate::rows::{Format, LONGEST, association_row, schedule_row, train_row};
+use crate::rows::{Format, LONGEST_ROW, association_row, schedule_row, train_row};
 use crate::writing::{answer, append};
 use arrayvec::ArrayString;
 use cif_calendar::Dates;
@@ -102,8 +102,8 @@ impl TrainLines for TextLines {
 }
 
 /// Appends the row and a line feed.
-fn write_line<W: WriteDevice>(row: ArrayString<LONGEST>, sink: &mut Sink<W>)
-    requires { array_string_len row + 1 ≤ LONGEST }
+fn write_line<W: WriteDevice>(row: ArrayString<LONGEST_ROW>, sink: &mut Sink<W>)
+    requires { array_string_len row + 1 ≤ LONGEST_ROW }
     ensures { IsAppended W.contents W.write_errors (row.bytes ++ codes "\n") sink.old sink.new }
 {
     let mut line = row;

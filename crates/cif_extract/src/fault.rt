@@ -33,7 +33,7 @@ pub enum Fault {
 }
 
 /// The bytes of the longest text: that of associations that clash.
-const LONGEST: usize = 64;
+const LONGEST_FAULT: usize = 64;
 
 impl Fault {
     ghost use Rattle.cif_extract.specs.Fault.{fault_text, name_of, number_of};
@@ -75,7 +75,7 @@ impl Fault {
     /// What the fault is: its name, behind the line that is refused, as `line 2: BadDays`, or before
     /// what clashes. It takes no memory.
     #[tactic(auto, unfolding(crate::specs::Fault::fault_text))]
-    pub fn text(&self) -> ArrayString<LONGEST>
+    pub fn text(&self) -> ArrayString<LONGEST_FAULT>
         ensures { result.bytes ≡ fault_text self.now }
     {
         let mut text = ArrayString::new();

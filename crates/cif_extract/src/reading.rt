@@ -309,7 +309,7 @@ impl Reading {
         ensures { IsKept (record_refusal line.now) line.now (progress_of self.old) result
             (progress_of self.new) }
     {
-        // `plain_line_of` alone would do. Of most lines this spares the copy.
+        // `plain_line_of` alone would do, but most lines are plain, and need no record.
         if is_plain_line(kind, line) {
             self.keep_plain(line)
         } else {
@@ -381,7 +381,7 @@ impl TakeFault {
     ghost use Rattle.cif_extract.specs.Steps.Reading.{fault_at_line};
 
     /// The fault, at the line of this number.
-    pub fn at_line(self, number: u64) -> Fault
+    fn at_line(self, number: u64) -> Fault
         ensures { result ≡ fault_at_line number self }
     {
         match self {

@@ -128,7 +128,7 @@ impl<'a> ScheduleWriter<'a> {
     }
 
     /// Appends this line, as the BS of a schedule, and the plain lines of the body, each with a line feed.
-    pub fn write_with_basic<W: WriteDevice>(
+    fn write_with_basic<W: WriteDevice>(
         &mut self,
         basic: &Line,
         sink: &mut Sink<W>,

@@ -8,6 +8,7 @@ use Rattle.std.specs.Prelude.{filter}
 use Rattle.std.proofs.lemmas.List.Elements.{filter-append}
 use Rattle.cif_feed.specs.Changes.{ChangeParts, TellsSame, after, after_all, is_changed, is_there, last_word, of_key, put, put_last}
 use Rattle.cif_feed.specs.Changes.{refusal, refusals, untouched, without}
+use Rattle.cif_feed.specs.Steps.Changes.{same_by}
 
 module _ {A : Type 0} where
   -- a filter after a filter
@@ -132,6 +133,14 @@ module _ {K : Type 0} where
   told_by_cmp eq cmp matches same a b = (
     λ is. (same a b).0 (matches a b ∙ is),
     λ is. sym (matches a b) ∙ (same a b).1 is,
+  )
+
+  -- what stands for the keys tells it
+  pub told_by_rank : {N : Type 0} (eq : N → N → Bool) (cmp : N → N → Ordering) (rank : K → N) → ((a b : N) → eq a b ≡ eq_by_cmp cmp a b)
+      → ((a b : K) → IsTrue (eq (rank a) (rank b)) ↔ (a ≡ b)) → TellsSame (same_by cmp rank)
+  told_by_rank eq cmp rank matches same a b = (
+    λ is. (same a b).0 (matches (rank a) (rank b) ∙ is),
+    λ is. sym (matches (rank a) (rank b)) ∙ (same a b).1 is,
   )
 
   -- tests that tell it agree

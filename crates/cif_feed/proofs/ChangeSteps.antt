@@ -1,19 +1,16 @@
 -- The changes of an update, one after another.
-use Rattle.std.proofs.Common.{◌≡◌, ⊎_elim, ℕ, ◌+◌, ◌<◌, ◌≤◌, ◌==◌, Bool, true, false, not, cond, ◌&&◌, ◌||◌, List, [], ◌∷◌, ◌++◌}
-use Rattle.std.proofs.Common.{length, get_or, take, drop, Option, None, Some, is_some, unwrap_or, Contains, slice_get, refl, sym, ap, ◌∙◌}
-use Rattle.std.proofs.Common.{subst, arith, append-nil, append_assoc, eq-eqb, length-take, take-append-drop}
+use Rattle.std.proofs.Common.{◌≡◌, ℕ, ◌+◌, ◌<◌, ◌≤◌, ◌==◌, Bool, true, false, not, cond, ◌&&◌, ◌||◌, List, [], ◌∷◌, ◌++◌}
+use Rattle.std.proofs.Common.{length, get_or, take, drop, Option, None, Some, is_some, unwrap_or, slice_get, refl, sym, ap, ◌∙◌}
+use Rattle.std.proofs.Common.{arith, append-nil, append_assoc, eq-eqb, length-take, take-append-drop}
 use Rattle.std.specs.Cmp.{IsEquivalence}
-use Rattle.std.specs.List.{list_any}
+use Rattle.std.specs.List.{items_where_true, list_any}
+use Rattle.std.specs.List.Retain.{IsFiltered, ReturnsInTurn}
 use Rattle.std.specs.Option.{option_or}
-use Rattle.std.specs.Prelude.{filter, option_to_list}
-use Rattle.std.proofs.lemmas.Bool.{cases_lt, false≢true}
+use Rattle.std.specs.Prelude.{filter, map, option_to_list}
 use Rattle.std.proofs.lemmas.Bool.Decides.{nat_tests}
 use Rattle.std.proofs.lemmas.List.{get_or-map, length-map, map-append, take_more}
-use Rattle.std.proofs.lemmas.List.Elements.{Contains-get_or, Contains-append_left, Contains-push, Contains-push_cases}
 use Rattle.std.proofs.lemmas.List.Folds.{list_any-append, list_any_at}
-use Rattle.std.proofs.lemmas.List.Quantifiers.{all_pairs_push}
-use Rattle.std.proofs.lemmas.Option.{same_Some, slice_get_past}
-use Rattle.cif_calendar.proofs.Elements.{Contains-first}
+use Rattle.std.proofs.lemmas.Option.{same_Some}
 use Rattle.cif_calendar.proofs.Winning.{terms_at}
 use Rattle.cif_feed.specs.Changes.{ChangeParts, after, after_all, changes_of, is_changed, is_there, key_of, of_key, parts_of, put, put_last}
 use Rattle.cif_feed.specs.Changes.{put_of, refusal, refusals, untouched, with_keys}
@@ -232,6 +229,38 @@ module _ {K I : Type 0} (same : K → K → Bool) (laws : IsEquivalence same) wh
       ∙ sym (append_assoc (refusal (is_there same records x.key) x) (refusals same (after same records x) changes)
       (refusal (is_there same (after_all same (after same records x) changes) c.key) c))
 
+-- ---- the first ones of a list
+
+-- what is made of one more
+pub made-more : {A B : Type 0} (f : A → B) (xs : List A) (i : ℕ) (x : A) → i < length xs → x ≡ get_or xs i x
+    → map f (take (i + 1) xs) ≡ map f (take i xs) ++ f x ∷ []
+made-more f xs i x below is =
+    ap (map f) (take_more xs i x below ∙ ap (λ y. take i xs ++ y ∷ []) (sym is)) ∙ map-append f (take i xs) (x ∷ [])
+
+-- ---- what is kept by flags, one for each element
+
+module _ {X P : Type 0} (R : P → X → Bool → P → Type 0) (flags : P → List Bool)
+    (step : (p : P) (x : X) (b : Bool) (q : P) → R p x b q → (flag : Bool) (others : List Bool) → flags p ≡ flag ∷ others
+    → (b ≡ not flag) × (flags q ≡ others)) (test : X → Bool) where
+  kept-all : (bs : List Bool) (xs : List X) (p q : P) → length bs ≡ length xs → flags p ≡ map test xs → ReturnsInTurn R p bs xs q
+      → items_where_true bs xs ≡ filter (λ x. not (test x)) xs
+  kept-all [] [] p q long are ran = refl
+  kept-all [] (x ∷ xs) p q long are ran = absurd (omega arith)
+  kept-all (b ∷ bs) [] p q long are ran = absurd ran
+  kept-all (b ∷ bs) (x ∷ xs) p q long are ran =
+      let (kept, left) = step p x b ran.0 ran.1 (test x) (map test xs) are in
+      at b (not (test x)) kept (kept-all bs xs ran.0 q (omega arith) left ran.2)
+    where
+      at : (v w : Bool) → v ≡ w → items_where_true bs xs ≡ filter (λ y. not (test y)) xs
+          → items_where_true (v ∷ bs) (x ∷ xs) ≡ cond w (x ∷ filter (λ y. not (test y)) xs) (filter (λ y. not (test y)) xs)
+      at true true same more = ap (λ l. x ∷ l) more
+      at false false same more = more
+      at true false same more = absurd (cc)
+      at false true same more = absurd (cc)
+
+  pub kept-by_flags : (xs ys : List X) (p : P) → flags p ≡ map test xs → IsFiltered R p xs ys → ys ≡ filter (λ x. not (test x)) xs
+  kept-by_flags xs ys p are ran = ran.4 ∙ kept-all ran.0 xs p ran.1 ran.2 are ran.3
+
 -- ---- what the lines of an update are
 
 module _ {K R : Type 0} (key : R → K) where
@@ -240,9 +269,7 @@ module _ {K R : Type 0} (key : R → K) where
     change-at = terms_at (parts_of key) xs i x below is
 
     pub changes-more : changes_of key (take (i + 1) xs) ≡ changes_of key (take i xs) ++ parts_of key x ∷ []
-    changes-more =
-        ap (changes_of key) (take_more xs i x below ∙ ap (λ y. take i xs ++ y ∷ []) (sym is))
-        ∙ map-append (parts_of key) (take i xs) (x ∷ [])
+    changes-more = made-more (parts_of key) xs i x below is
 
     pub changes-long : i ≡ length (changes_of key (take i xs))
     changes-long = omega (arith, length-map (take i xs) (parts_of key), length-take i xs)
@@ -257,9 +284,7 @@ module _ {K R : Type 0} (key : R → K) where
 
   pub records-more : (xs : List R) (i : ℕ) (x : R) → i < length xs → x ≡ get_or xs i x
       → with_keys key (take (i + 1) xs) ≡ with_keys key (take i xs) ++ (key x, x) ∷ []
-  records-more xs i x below is =
-      ap (with_keys key) (take_more xs i x below ∙ ap (λ y. take i xs ++ y ∷ []) (sym is))
-      ∙ map-append (λ (r : R). (key r, r)) (take i xs) (x ∷ [])
+  records-more xs i x below is = made-more (λ (r : R). (key r, r)) xs i x below is
 
   -- the records of the keys that aren't changed
   pub untouched-keys : (same : K → K → Bool) (changes : List (ChangeParts K R)) (test : R → Bool)

@@ -1,5 +1,6 @@
 -- What an update knows a record by.
 use Rattle.std.specs.Prelude.{ℕ, List}
+use Rattle.cif_calendar.specs.Ranks.{number_after}
 use Rattle.cif_columns.specs.Field.{columns}
 use Rattle.cif_columns.specs.declared.stp.Stp.{Stp}
 use Rattle.cif_extract.specs.declared.extract.Schedule.{Schedule}
@@ -18,3 +19,7 @@ association_key a = (a.key, a.first, a.letter)
 -- a schedule by its UID, its first day and its letter
 abbrev pub schedule_key : Schedule → List ℕ × ℕ × Stp
 schedule_key s = (s.uid, s.first, s.letter)
+
+-- what stands for the key of a schedule where keys are looked up: the columns of the UID come first, as one number
+abbrev pub schedule_rank : List ℕ × ℕ × Stp → ℕ × ℕ × Stp × List ℕ
+schedule_rank k = (number_after 0 k.0, k.1, k.2, k.0)

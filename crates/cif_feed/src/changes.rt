@@ -1,11 +1,10 @@
 //! What the lines of an update do to records of one kind.
-ghost use Rattle.std.specs.Prelude.{◌≡◌, ◌↔◌, ◌++◌, [], List, IfOk, IsTrue, is_some, not, reverse};
-ghost use Rattle.std.specs.Prelude.{option_to_list, if◌then◌else◌};
-ghost use Rattle.std.specs.Ordering.{eq_by_cmp};
+ghost use Rattle.std.specs.Prelude.{◌≡◌, ◌↔◌, ◌++◌, ◌∷◌, [], Bool, List, IfOk, IsTrue, filter, is_some, map, not};
+ghost use Rattle.std.specs.Prelude.{option_to_list, reverse, if◌then◌else◌};
 ghost use Rattle.std.specs.BTreeMap.{get};
 ghost use Rattle.cif_feed.specs.Changes.{AreAfter, AreRefused, ChangeParts, changes_of, may, parts_of, put_last};
-ghost use Rattle.cif_feed.specs.Changes.{refusals, untouched, with_keys};
-ghost use Rattle.cif_feed.specs.Steps.Changes.{AreLast, SaysThere, is_position};
+ghost use Rattle.cif_feed.specs.Changes.{refusals, with_keys};
+ghost use Rattle.cif_feed.specs.Steps.Changes.{AreLast, SaysThere, at_keys, is_position, same_by};
 
 use crate::FeedFault;
 use std::alloc::{AllocError, Global};
@@ -14,21 +13,27 @@ use std::collections::BTreeMap;
 /// A record that an update knows by its key.
 pub trait Keyed {
     /// What an update knows it by.
-    type Key: Ord + Drop;
+    type Key: Drop;
+
+    /// What stands for a key where keys are looked up.
+    type Rank: Ord + Drop;
 
     // Its key.
     ghost key: { Self → Self.Key };
 
-    /// Its key.
-    fn record_key(&self) -> Self::Key
-        ensures { result ≡ key self.now };
+    // The rank of a key.
+    ghost rank: { Self.Key → Self.Rank };
 
-    /// The same key.
-    fn copied(known: &Self::Key) -> Self::Key
-        ensures { result ≡ known.now };
+    /// The rank of its key.
+    fn rank(&self) -> Self::Rank
+        ensures { result ≡ rank (key self.now) };
 
-    // Keys that compare equal are the same key; that their order is total is a law of `Ord`.
-    ghost same_key: { (a b : Self.Key) → IsTrue (Self.Key.eq a b) ↔ (a ≡ b) };
+    /// The rank of a key.
+    fn rank_of(known: &Self::Key) -> Self::Rank
+        ensures { result ≡ rank known.now };
+
+    // Ranks that compare equal are those of one key; that their order is total is a law of `Ord`.
+    ghost same_key: { (a b : Self.Key) → IsTrue (Self.Rank.eq (rank a) (rank b)) ↔ (a ≡ b) };
 }
 
 /// What a line of an update does.
@@ -90,9 +95,9 @@ pub fn apply<R: Keyed + Drop>(
         AreRefused R.key records.old.items changes.items refused.items) }
 {
     let last = last_changes::<R>(alloc, changes.as_slice())?;
-    let there = keys_there(alloc, records.as_slice(), &last)?;
+    let (there, changed) = keys_there(alloc, records.as_slice(), &last)?;
     let refused = refused_changes::<R>(alloc, there, changes.as_slice())?;
-    take_out(records, &last);
+    take_out(records, changed.as_slice());
     changes.reverse();
     put(records, changes, &last)?;
     Ok(refused)
@@ -102,74 +107,88 @@ pub fn apply<R: Keyed + Drop>(
 fn last_changes<R: Keyed>(
     alloc: Global,
     changes: &[Change<R::Key, R>],
-) -> Result<BTreeMap<R::Key, usize>, AllocError>
-    ensures { IfOk result (λ last.
-        AreLast (eq_by_cmp R.Key.cmp) (changes_of R.key changes.now) (get R.Key.cmp last)) }
+) -> Result<BTreeMap<R::Rank, usize>, AllocError>
+    ensures { IfOk result (λ last. AreLast (same_by R.Rank.cmp R.rank) (changes_of R.key changes.now)
+        (at_keys R.rank (get R.Rank.cmp last))) }
 {
     let mut last = BTreeMap::new(alloc);
     for (at, change) in changes.iter().enumerate() {
-        last.insert(key_of::<R>(change), at)?;
+        last.insert(rank_of::<R>(change), at)?;
     }
     Ok(last)
 }
 
-/// Of the keys that are changed, those of which there are records.
+/// Of the keys that are changed, those of which there are records; and of each record, whether its
+/// key is changed.
 fn keys_there<R: Keyed>(
     alloc: Global,
     records: &[R],
-    last: &BTreeMap<R::Key, usize>,
-) -> Result<BTreeMap<R::Key, bool>, AllocError>
-    ensures { IfOk result (λ there. (changes : List (ChangeParts R.Key R))
-        → AreLast (eq_by_cmp R.Key.cmp) changes (get R.Key.cmp last.now)
-        → SaysThere (eq_by_cmp R.Key.cmp) (with_keys R.key records.now) changes (get R.Key.cmp there)) }
+    last: &BTreeMap<R::Rank, usize>,
+) -> Result<(BTreeMap<R::Rank, bool>, Vec<bool>), AllocError>
+    ensures there { IfOk result (λ found. (changes : List (ChangeParts R.Key R))
+        → AreLast (same_by R.Rank.cmp R.rank) changes (at_keys R.rank (get R.Rank.cmp last.now))
+        → SaysThere (same_by R.Rank.cmp R.rank) (with_keys R.key records.now) changes
+        (at_keys R.rank (get R.Rank.cmp found.0))) }
+    ensures changed { IfOk result (λ found. found.1.items
+        ≡ map (λ r. is_some (get R.Rank.cmp last.now (R.rank (R.key r)))) records.now) }
 {
     let mut there = BTreeMap::new(alloc);
+    let mut changed = Vec::with_capacity(alloc, records.len())?;
     for record in records {
-        let key = record.record_key();
-        if last.contains_key(&key) {
-            there.insert(key, true)?;
+        let rank = record.rank();
+        let is_changed = last.contains_key(&rank);
+        changed.push(is_changed)?;
+        if is_changed {
+            there.insert(rank, true)?;
         }
     }
-    Ok(there)
+    Ok((there, changed))
 }
 
 /// The changes that may not be done after those before them.
 fn refused_changes<R: Keyed>(
     alloc: Global,
-    mut there: BTreeMap<R::Key, bool>,
+    mut there: BTreeMap<R::Rank, bool>,
     changes: &[Change<R::Key, R>],
 ) -> Result<Vec<RefusedLine>, AllocError>
     ensures { IfOk result (λ refused. (records : List (R.Key × R))
-        → SaysThere (eq_by_cmp R.Key.cmp) records (changes_of R.key changes.now) (get R.Key.cmp there)
-        → refused.items ≡ refusals (eq_by_cmp R.Key.cmp) records (changes_of R.key changes.now)) }
+        → SaysThere (same_by R.Rank.cmp R.rank) records (changes_of R.key changes.now)
+        (at_keys R.rank (get R.Rank.cmp there))
+        → refused.items ≡ refusals (same_by R.Rank.cmp R.rank) records (changes_of R.key changes.now)) }
 {
     let mut refused = Vec::new(alloc);
     for change in changes {
-        let key = key_of::<R>(change);
-        let is_there = there.get(&key).copied().unwrap_or(false);
+        let rank = rank_of::<R>(change);
+        let is_there = there.get(&rank).copied().unwrap_or(false);
         if !may::<R>(change, is_there) {
             refused.push(RefusedLine {
                 line: change.line,
                 is_there,
             })?;
         }
-        there.insert(key, puts::<R>(change))?;
+        there.insert(rank, puts::<R>(change))?;
     }
     Ok(refused)
 }
 
-/// Takes out the records of the keys that are changed.
-fn take_out<R: Keyed + Drop>(records: &mut Vec<R>, last: &BTreeMap<R::Key, usize>)
-    ensures { (changes : List (ChangeParts R.Key R))
-        → AreLast (eq_by_cmp R.Key.cmp) changes (get R.Key.cmp last.now)
-        → with_keys R.key records.new.items
-        ≡ untouched (eq_by_cmp R.Key.cmp) (with_keys R.key records.old.items) changes }
+/// Takes out the records that are changed.
+fn take_out<R: Drop>(records: &mut Vec<R>, changed: &[bool])
+    ensures { (test : R → Bool) → changed.now ≡ map test records.old.items
+        → records.new.items ≡ filter (λ r. not (test r)) records.old.items }
 {
+    let mut flags = changed.iter();
     records.retain(
-        |record|
-            ensures kept { result ≡ not (is_some (get R.Key.cmp last.entry.now (R.key record.now))) }
-            ensures same { last.exit ≡ last.entry }
-        { !last.contains_key(&record.record_key()) },
+        move |_record|
+            ensures kept { (flag : Bool) (others : List Bool) → flags.entry.rest.now ≡ flag ∷ others
+                → result ≡ not flag }
+            ensures left { (flag : Bool) (others : List Bool) → flags.entry.rest.now ≡ flag ∷ others
+                → flags.exit.rest.now ≡ others }
+        {
+            match flags.next() {
+                Some(is_changed) => !*is_changed,
+                None => true,
+            }
+        },
     );
 }
 
@@ -177,12 +196,12 @@ fn take_out<R: Keyed + Drop>(records: &mut Vec<R>, last: &BTreeMap<R::Key, usize
 fn put<R: Keyed + Drop>(
     records: &mut Vec<R>,
     mut changes: Vec<Change<R::Key, R>>,
-    last: &BTreeMap<R::Key, usize>,
+    last: &BTreeMap<R::Rank, usize>,
 ) -> Result<(), AllocError>
-    ensures { IfOk result (λ _.
-        AreLast (eq_by_cmp R.Key.cmp) (changes_of R.key (reverse changes.items)) (get R.Key.cmp last.now)
+    ensures { IfOk result (λ _. AreLast (same_by R.Rank.cmp R.rank) (changes_of R.key (reverse changes.items))
+        (at_keys R.rank (get R.Rank.cmp last.now))
         → with_keys R.key records.new.items ≡ with_keys R.key records.old.items
-        ++ put_last (eq_by_cmp R.Key.cmp) (changes_of R.key (reverse changes.items))) }
+        ++ put_last (same_by R.Rank.cmp R.rank) (changes_of R.key (reverse changes.items))) }
 {
     let mut at = 0;
     while let Some(change) = changes.pop() {
@@ -194,10 +213,10 @@ fn put<R: Keyed + Drop>(
 }
 
 /// Whether the change at this position is the last of its key.
-fn is_last<R: Keyed>(change: &Change<R::Key, R>, at: usize, last: &BTreeMap<R::Key, usize>) -> bool
-    ensures { result ≡ is_position (get R.Key.cmp last.now (parts_of R.key change.now).key) at }
+fn is_last<R: Keyed>(change: &Change<R::Key, R>, at: usize, last: &BTreeMap<R::Rank, usize>) -> bool
+    ensures { result ≡ is_position (get R.Rank.cmp last.now (R.rank (parts_of R.key change.now).key)) at }
 {
-    match last.get(&key_of::<R>(change)) {
+    match last.get(&rank_of::<R>(change)) {
         Some(position) => *position == at,
         None => false,
     }
@@ -225,13 +244,13 @@ fn record_of<R: Keyed + Drop>(change: Change<R::Key, R>) -> Option<R>
     }
 }
 
-/// The key of a change.
-fn key_of<R: Keyed>(change: &Change<R::Key, R>) -> R::Key
-    ensures { result ≡ (parts_of R.key change.now).key }
+/// The rank of the key of a change.
+fn rank_of<R: Keyed>(change: &Change<R::Key, R>) -> R::Rank
+    ensures { result ≡ R.rank (parts_of R.key change.now).key }
 {
     match &change.action {
-        Action::New(record) | Action::Revised(record) => record.record_key(),
-        Action::Deleted(key) => R::copied(key),
+        Action::New(record) | Action::Revised(record) => record.rank(),
+        Action::Deleted(key) => R::rank_of(key),
     }
 }
 

@@ -32,7 +32,7 @@ pub enum FeedFault {
 }
 
 /// The bytes of the longest text, which is one of an extract of this profile.
-const LONGEST: usize = 64;
+const LONGEST_FAULT: usize = 64;
 
 impl FeedFault {
     ghost use Rattle.cif_feed.specs.FeedTexts.{fault_text, name_of, number_of};
@@ -67,7 +67,7 @@ impl FeedFault {
     /// What the fault is: its name, behind the line that is refused, as `line 2: NotUpdate`. It takes no
     /// memory.
     #[tactic(auto, unfolding(crate::specs::FeedTexts::fault_text))]
-    pub fn text(&self) -> ArrayString<LONGEST>
+    pub fn text(&self) -> ArrayString<LONGEST_FAULT>
         ensures { result.bytes ≡ fault_text self.now }
     {
         match self {
@@ -82,7 +82,7 @@ impl FeedFault {
 
 /// A line's number and a name.
 #[tactic(auto, unfolding(crate::specs::FeedTexts::line_text))]
-fn line_text(line: u64, name: &str) -> ArrayString<LONGEST>
+fn line_text(line: u64, name: &str) -> ArrayString<LONGEST_FAULT>
     requires { length name.now ≤ 20 }
     ensures { result.bytes ≡ line_text line name.now }
 {

@@ -128,13 +128,6 @@ impl Holidays {
         }
     }
 
-    /// Whether the day is a holiday of the code.
-    pub fn is_holiday(&self, code: HolidayCode, day: Day) -> bool
-        ensures { IsTrue result ↔ IsHoliday self.now code day }
-    {
-        self.dates(code).contains(day)
-    }
-
     /// The first holiday of the code from `from` to `last` whose weekday is in the mask.
     pub fn next_holiday(
         &self,

@@ -38,7 +38,7 @@ const REFUSALS: usize = 14;
 const LONGEST_LINE: usize = 80;
 
 /// The bytes of the lines of all reasons, at most.
-const LONGEST: usize = 880;
+const LONGEST_REASONS: usize = 880;
 
 /// For each reason how many lines have it, and the number of the first, counted from 1.
 #[derive(Clone, Copy)]
@@ -106,14 +106,14 @@ impl Reasons {
 
     /// The lines of all reasons.
     #[tactic(auto, unfolding(crate::specs::Reasons::told_text))]
-    fn text(&self) -> ArrayString<LONGEST>
+    fn text(&self) -> ArrayString<LONGEST_REASONS>
         ensures { result.bytes ≡ told_text self.now }
     {
         self.text_of(&OWN_REASONS)
     }
 
     /// The lines of these reasons.
-    fn text_of(&self, reasons: &[Refusal]) -> ArrayString<LONGEST>
+    fn text_of(&self, reasons: &[Refusal]) -> ArrayString<LONGEST_REASONS>
         requires { length reasons.now ≤ 11 }
         ensures { result.bytes ≡ flat_map
             (λ why. reason_line why (lines_in self.now why) (first_in self.now why)) reasons.now }

@@ -1,14 +1,14 @@
 //! By what an update knows a location, an association and a schedule.
 ghost use Rattle.std.specs.Prelude.{◌≡◌};
-ghost use Rattle.cif_feed.specs.RecordKeys.{association_key, schedule_key, tiploc_key};
+ghost use Rattle.cif_calendar.specs.Ranks.{IsNumberOf};
+ghost use Rattle.cif_feed.specs.RecordKeys.{association_key, schedule_rank, tiploc_key};
 
 use crate::{Keyed, PublishedAssociation, PublishedSchedule};
 use cif_columns::{Day, Stp, Uid};
-use cif_extract::Schedule;
 use cif_records::{AssocKey, Association, Tiploc};
 
 /// The key of a location: its TIPLOC.
-fn tiploc_key(tiploc: &Tiploc) -> [u8; 7]
+pub(crate) fn tiploc_key(tiploc: &Tiploc) -> [u8; 7]
     ensures { result ≡ tiploc_key tiploc.now }
 {
     let mut key = [0; 7];
@@ -27,27 +27,39 @@ fn association_key(association: &Association) -> (AssocKey, Day, Stp)
     )
 }
 
-/// The key of a schedule: its UID, its first date and its letter.
-fn schedule_key(schedule: &Schedule) -> (Uid, Day, Stp)
-    ensures { result ≡ schedule_key schedule.now }
+/// The rank of the key of a schedule: of its UID, its first date and its letter.
+fn schedule_rank(uid: Uid, first: Day, letter: Stp) -> (u64, Day, Stp, Uid)
+    ensures { result ≡ schedule_rank (uid, first, letter) }
 {
-    (schedule.uid, schedule.first, schedule.letter)
+    (number_of(&uid), first, letter, uid)
+}
+
+/// The columns of a UID as one number.
+fn number_of(uid: &Uid) -> u64
+    ensures { IsNumberOf result uid.now }
+{
+    let [a, b, c, d, e, f] = uid.write();
+    u64::from_be_bytes([0, 0, a, b, c, d, e, f])
 }
 
 /// A location by its TIPLOC.
 impl Keyed for Tiploc {
     type Key = [u8; 7];
 
+    type Rank = [u8; 7];
+
     ghost use Rattle.std.specs.Cmp.Lexicographic.{bytes_decides};
     ghost use Rattle.cif_feed.specs.RecordKeys.{tiploc_key};
 
     ghost key = { tiploc_key };
 
-    fn record_key(&self) -> [u8; 7] {
+    ghost rank = { λ k. k };
+
+    fn rank(&self) -> [u8; 7] {
         tiploc_key(self)
     }
 
-    fn copied(known: &[u8; 7]) -> [u8; 7] {
+    fn rank_of(known: &[u8; 7]) -> [u8; 7] {
         *known
     }
 
@@ -58,6 +70,8 @@ impl Keyed for Tiploc {
 impl Keyed for PublishedAssociation {
     type Key = (AssocKey, Day, Stp);
 
+    type Rank = (AssocKey, Day, Stp);
+
     ghost use Rattle.std.proofs.Common.{rules};
     ghost use Rattle.std.proofs.lemmas.Grind.{common_steps};
     ghost use Rattle.std.specs.Cmp.Lexicographic.{pointwise_decides, bytes_decides};
@@ -65,11 +79,13 @@ impl Keyed for PublishedAssociation {
 
     ghost key = { λ a. association_key a.association };
 
-    fn record_key(&self) -> (AssocKey, Day, Stp) {
+    ghost rank = { λ k. k };
+
+    fn rank(&self) -> (AssocKey, Day, Stp) {
         association_key(&self.association)
     }
 
-    fn copied(known: &(AssocKey, Day, Stp)) -> (AssocKey, Day, Stp) {
+    fn rank_of(known: &(AssocKey, Day, Stp)) -> (AssocKey, Day, Stp) {
         (known.0.copy(), known.1, known.2)
     }
 
@@ -80,19 +96,24 @@ impl Keyed for PublishedAssociation {
 impl Keyed for PublishedSchedule {
     type Key = (Uid, Day, Stp);
 
+    // The columns of the UID come first as one number, since two numbers are compared in a third of the time.
+    type Rank = (u64, Day, Stp, Uid);
+
     ghost use Rattle.std.proofs.Common.{rules};
     ghost use Rattle.std.proofs.lemmas.Grind.{common_steps};
     ghost use Rattle.std.specs.Cmp.Lexicographic.{bytes_decides};
-    ghost use Rattle.cif_feed.specs.RecordKeys.{schedule_key};
+    ghost use Rattle.cif_feed.specs.RecordKeys.{schedule_key, schedule_rank};
 
     ghost key = { λ s. schedule_key s.schedule };
 
-    fn record_key(&self) -> (Uid, Day, Stp) {
-        schedule_key(&self.schedule)
+    ghost rank = { schedule_rank };
+
+    fn rank(&self) -> (u64, Day, Stp, Uid) {
+        schedule_rank(self.schedule.uid, self.schedule.first, self.schedule.letter)
     }
 
-    fn copied(known: &(Uid, Day, Stp)) -> (Uid, Day, Stp) {
-        (known.0, known.1, known.2)
+    fn rank_of(known: &(Uid, Day, Stp)) -> (u64, Day, Stp, Uid) {
+        schedule_rank(known.0, known.1, known.2)
     }
 
     ghost same_key = { Prim.search (rules, common_steps, bytes_decides) };

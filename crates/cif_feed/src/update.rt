@@ -17,9 +17,10 @@ ghost use Rattle.cif_feed.specs.declared.feed.Feed.TheVariants as feed;
 use crate::feed_reading::{FeedExtract, read_feed};
 use crate::from_lines::{FromLine, from_lines, last_of};
 use crate::mark::{Numbered, RecordMark, TiplocMark};
+use crate::record_keys::tiploc_key;
 use crate::{
-    Action, Change, Feed, FeedFault, HolidayCodes, Keyed, Passed, PublishedAssociation,
-    PublishedExtract, PublishedSchedule, RefusedLine, Transaction, apply,
+    Action, Change, Feed, FeedFault, HolidayCodes, Passed, PublishedAssociation, PublishedExtract,
+    PublishedSchedule, RefusedLine, Transaction, apply,
 };
 use cif_columns::{Day, ReadDevice, Source, Stp, Uid};
 use cif_extract::{Extract, Fault, Schedule};
@@ -321,7 +322,7 @@ fn push_reversed(
         Transaction::New => push(changes, line, Action::New(tiploc)),
         Transaction::Deleted => push(changes, line, Action::Deleted(own)),
         Transaction::Revised => {
-            if tiploc.record_key() == own {
+            if tiploc_key(&tiploc) == own {
                 push(changes, line, Action::Revised(tiploc))
             } else {
                 push(changes, line, Action::New(tiploc))?;

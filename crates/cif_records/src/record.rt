@@ -17,7 +17,7 @@ use std::fmt;
 
 /// The kinds of record of the CIF End User Specification that this profile knows, by the
 /// identities in columns 1 and 2.
-#[derive(Clone, Copy, Debug, PartialEq, Eq, Hash)]
+#[derive(Clone, Copy, Debug, PartialEq, Eq)]
 pub enum Kind {
     /// `HD`, the header.
     Hd,
@@ -217,8 +217,8 @@ pub fn write_record(record: &Record) -> Line
 }
 
 /// The plain line of the record that the line, which names this kind, spells, or the first reason
-/// why it spells none: what `read_record` and then `write_record` give. Of most plain lines of a
-/// journey no record is built.
+/// why it spells none: what `read_record` and then `write_record` give. Where `is_plain_line` says
+/// so, that is the line itself.
 // Few lines come here, so it is kept out of the loops over lines.
 #[inline(never)]
 pub fn plain_line_of(kind: Kind, line: &Line) -> Result<Line, Refusal>
@@ -228,9 +228,6 @@ pub fn plain_line_of(kind: Kind, line: &Line) -> Result<Line, Refusal>
     ensures only { (r : Record) → SpellsRecord line.now r
         → result ≡ Ok (plain_line (record_table r)) }
 {
-    if is_plain_line(kind, line) {
-        return Ok(*line);
-    }
     match read_as(kind, line) {
         Ok(record) => Ok(write_record(&record)),
         Err(why) => Err(why),

@@ -3,24 +3,21 @@ use Rattle.std.proofs.Common.{◌≡◌, ◌≢◌, ℕ, List, [], Option, Resul
 use Rattle.std.specs.Prelude.{IsErrAnd, MatchResult}
 use Rattle.std.proofs.lemmas.Result.{IfOk-weaker, err_from_is_err_and}
 use Rattle.cif_columns.specs.Sink.{HasFailed, HasWritten, Writes}
+use Rattle.cif_columns.specs.declared.line_reader.TheConstants.{MAX_LINES}
 use Rattle.cif_columns.specs.declared.sink.Sink.{Sink}
 use Rattle.cif_columns.proofs.WrittenTexts.{failed_second, written_both}
 use Rattle.cif_extract.specs.declared.fault.Fault.{Fault}
 use Rattle.cif_extract.specs.declared.fault.Fault.TheVariants as fault
+use Rattle.cif_canon.specs.Fault.{IsOfReadNarrowed}
 use Rattle.cif_canon.specs.Normalised.{FaultWrites, IfWritten}
+use Rattle.cif_canon.proofs.HandedFaults.{at-fault}
 use Rattle.cif_tool.specs.Answer.{Answers, Finishes, IfAnswered}
 
 -- what holds where a text was written, and what follows from it
 pub written-then : (A P Q : Type 0) (written : Result A Fault) → (P → Q) → IfWritten written P → IfWritten written Q
 written-then A P Q (Ok done) so h = so h
-written-then A P Q (Err (fault.Refused line why)) so h = tt
-written-then A P Q (Err (fault.Ambiguous clash)) so h = tt
-written-then A P Q (Err fault.WindowsDiffer) so h = tt
-written-then A P Q (Err fault.OutsideWindow) so h = tt
-written-then A P Q (Err fault.WindowReversed) so h = tt
-written-then A P Q (Err fault.Read) so h = tt
 written-then A P Q (Err fault.Write) so h = so h
-written-then A P Q (Err fault.Memory) so h = tt
+written-then A P Q (Err _) so h = tt
 
 -- a fault that is Write alone
 pub only-write : {A : Type 0} (P : Fault → Type 0) (result : Result A Fault) → IfErr result (λ f. f ≡ fault.Write) → P fault.Write →
@@ -29,37 +26,19 @@ only-write P (Ok done) is h = tt
 only-write P (Err f) is h = subst P (sym is) h
 
 unanswered : (P : ℕ → Type 0) (f : Fault) → f ≢ fault.Write → IfAnswered (Err f) P
-unanswered P (fault.Refused line why) silent = tt
-unanswered P (fault.Ambiguous clash) silent = tt
-unanswered P fault.WindowsDiffer silent = tt
-unanswered P fault.OutsideWindow silent = tt
-unanswered P fault.WindowReversed silent = tt
-unanswered P fault.Read silent = tt
 unanswered P fault.Write silent = absurd (silent refl)
-unanswered P fault.Memory silent = tt
+unanswered P _ silent = tt
 
 module _ {W : Type 0} (contents : W → Option (List ℕ)) (errors : W → Option ℕ) where
   -- a fault owes the same, whatever would have been answered
   owes-same : (A B : Type 0) (text : List ℕ) (old new : Sink W) (f : Fault) → FaultWrites {A = A} contents errors text old new (Err f) →
       FaultWrites {A = B} contents errors text old new (Err f)
-  owes-same A B text old new (fault.Refused line why) h = h
-  owes-same A B text old new (fault.Ambiguous clash) h = h
-  owes-same A B text old new fault.WindowsDiffer h = h
-  owes-same A B text old new fault.OutsideWindow h = h
-  owes-same A B text old new fault.WindowReversed h = h
-  owes-same A B text old new fault.Read h = h
   owes-same A B text old new fault.Write h = h
-  owes-same A B text old new fault.Memory h = h
+  owes-same A B text old new _ h = h
 
   unwritten : (A : Type 0) (old : Sink W) (f : Fault) → f ≢ fault.Write → FaultWrites {A = A} contents errors [] old old (Err f)
-  unwritten A old (fault.Refused line why) silent = refl
-  unwritten A old (fault.Ambiguous clash) silent = refl
-  unwritten A old fault.WindowsDiffer silent = refl
-  unwritten A old fault.OutsideWindow silent = refl
-  unwritten A old fault.WindowReversed silent = refl
-  unwritten A old fault.Read silent = refl
   unwritten A old fault.Write silent = absurd (silent refl)
-  unwritten A old fault.Memory silent = refl
+  unwritten A old _ silent = refl
 
   -- a fault before anything is written
   pub fails-silently : (P : List ℕ → ℕ → Type 0) (old : Sink W) (result : Result ℕ Fault) (f : Fault) → result ≡ Err f →
@@ -71,16 +50,16 @@ module _ {W : Type 0} (contents : W → Option (List ℕ)) (errors : W → Optio
         answer = unanswered (P []) f silent;
       }
 
+  -- the same of a fault of reading
+  pub fails-to-read : (P : List ℕ → ℕ → Type 0) (old : Sink W) (result : Result ℕ Fault) (f : Fault) → IsErrAnd result (λ e. e ≡ f) →
+      IsOfReadNarrowed MAX_LINES f → Answers contents errors P old old result
+  fails-to-read P old result f handed of =
+      fails-silently P old result f (at-fault result f handed) (λ write. subst (IsOfReadNarrowed MAX_LINES) write of)
+
   module _ (P : List ℕ → ℕ → Type 0) (old : Sink W) (text : List ℕ) (status : ℕ) where
     answered : (A : Type 0) (f : Fault) → IfWritten {A = A} (Err f) (P text status) → IfAnswered (Err f) (P text)
-    answered A (fault.Refused line why) h = tt
-    answered A (fault.Ambiguous clash) h = tt
-    answered A fault.WindowsDiffer h = tt
-    answered A fault.OutsideWindow h = tt
-    answered A fault.WindowReversed h = tt
-    answered A fault.Read h = tt
     answered A fault.Write h = (status, h)
-    answered A fault.Memory h = tt
+    answered A _ h = tt
 
     -- a fault of a call that writes the text
     pub fails : (A : Type 0) (new : Sink W) (result : Result ℕ Fault) (f : Fault) → result ≡ Err f →

@@ -1,10 +1,9 @@
 -- What `check --all` answers, by what its calls answer: of bytes that are known.
-use Rattle.std.proofs.Common.{◌≢◌, ℕ, List, Option, IfSome, inl, inr, refl}
+use Rattle.std.proofs.Common.{ℕ, List, Option, IfSome, inl, inr, refl}
 use Rattle.cif_columns.specs.declared.line_reader.TheConstants.{MAX_LINES}
 use Rattle.cif_columns.proofs.GivenLinesLaws.{known_so}
 use Rattle.cif_columns.specs.Source.{Unread}
 use Rattle.cif_extract.specs.ExtractParts.{ExtractParts}
-use Rattle.cif_extract.specs.ReadFault.{IsOfReading}
 use Rattle.cif_extract.specs.SpellsExtract.{BytesSpellWithin}
 use Rattle.cif_extract.specs.declared.fault.Fault.{Fault}
 use Rattle.cif_extract.specs.declared.fault.Fault.TheVariants as fault
@@ -27,53 +26,12 @@ use Rattle.cif_tool.specs.Answer.{IsCheckAllAnswer, IsCheckAllFault, IsCountFaul
 pub narrowing_counts : (asked : Asked) (header : Header) (f : Fault) → IsNarrowingFault asked header f → IsCountFault f
 narrowing_counts asked header fault.OutsideWindow h = tt
 narrowing_counts asked header fault.WindowReversed h = tt
-narrowing_counts asked header (fault.Refused line why) h = absurd h
-narrowing_counts asked header (fault.Ambiguous clash) h = absurd h
-narrowing_counts asked header fault.WindowsDiffer h = absurd h
-narrowing_counts asked header fault.Read h = absurd h
-narrowing_counts asked header fault.Write h = absurd h
-narrowing_counts asked header fault.Memory h = absurd h
+narrowing_counts asked header _ h = absurd h
 
 pub canon_counts : (x : ExtractParts) (f : Fault) → IsCanonFault x f → IsCountFault f
 canon_counts x (fault.Ambiguous clash) h = tt
 canon_counts x fault.Memory h = tt
-canon_counts x (fault.Refused line why) h = absurd h
-canon_counts x fault.OutsideWindow h = absurd h
-canon_counts x fault.WindowReversed h = absurd h
-canon_counts x fault.WindowsDiffer h = absurd h
-canon_counts x fault.Read h = absurd h
-canon_counts x fault.Write h = absurd h
-
-pub count_no_write : (f : Fault) → IsCountFault f → f ≢ fault.Write
-count_no_write (fault.Ambiguous clash) h e = absurd (cc)
-count_no_write fault.Memory h e = absurd (cc)
-count_no_write (fault.Refused line why) h e = absurd h
-count_no_write fault.OutsideWindow h e = absurd (cc)
-count_no_write fault.WindowReversed h e = absurd (cc)
-count_no_write fault.WindowsDiffer h e = absurd h
-count_no_write fault.Read h e = absurd h
-count_no_write fault.Write h e = absurd h
-
-pub count_no_read : (f : Fault) → IsCountFault f → f ≢ fault.Read
-count_no_read (fault.Ambiguous clash) h e = absurd (cc)
-count_no_read fault.Memory h e = absurd (cc)
-count_no_read (fault.Refused line why) h e = absurd h
-count_no_read fault.OutsideWindow h e = absurd (cc)
-count_no_read fault.WindowReversed h e = absurd (cc)
-count_no_read fault.WindowsDiffer h e = absurd h
-count_no_read fault.Read h e = absurd h
-count_no_read fault.Write h e = absurd h
-
--- a fault of reading isn't Write
-pub reading_no_write : (max : ℕ) (f : Fault) → IsOfReading max f → f ≢ fault.Write
-reading_no_write max (fault.Ambiguous clash) h e = absurd h
-reading_no_write max fault.Memory h e = absurd (cc)
-reading_no_write max (fault.Refused line why) h e = absurd (cc)
-reading_no_write max fault.OutsideWindow h e = absurd h
-reading_no_write max fault.WindowReversed h e = absurd h
-reading_no_write max fault.WindowsDiffer h e = absurd h
-reading_no_write max fault.Read h e = absurd (cc)
-reading_no_write max fault.Write h e = absurd h
+canon_counts x _ h = absurd h
 
 -- ---- the answers
 
@@ -109,13 +67,10 @@ module _ (start : Option (List ℕ)) (asked : Asked) (after : Unread) where
   pub judged_fault : (f : Fault) → IfSome start (λ bytes. IsJudgedFault MAX_LINES bytes after f)
       → IfSome start (λ bytes. IsCheckAllFault asked bytes after f)
   judged_fault (fault.Refused line why) h = h
-  judged_fault (fault.Ambiguous clash) h = known_so start _ _ (λ bytes is. absurd is) h
-  judged_fault fault.WindowsDiffer h = known_so start _ _ (λ bytes is. absurd is) h
-  judged_fault fault.OutsideWindow h = known_so start _ _ (λ bytes is. absurd is) h
-  judged_fault fault.WindowReversed h = known_so start _ _ (λ bytes is. absurd is) h
   judged_fault fault.Read h = h
   judged_fault fault.Write h = known_so start _ _ (λ bytes is. tt) h
   judged_fault fault.Memory h = known_so start _ _ (λ bytes is. tt) h
+  judged_fault _ h = known_so start _ _ (λ bytes is. absurd is) h
 
   -- of counting
   pub counts_fault : (x : ExtractParts) (f : Fault) → IsCountFault f → IfSome start (λ bytes. HaveNone MAX_LINES bytes x)
@@ -125,7 +80,4 @@ module _ (start : Option (List ℕ)) (asked : Asked) (after : Unread) where
   counts_fault x fault.OutsideWindow counts h so = known_so start _ _ (λ bytes is. (is.none, so bytes after is.spell)) h
   counts_fault x fault.WindowReversed counts h so = known_so start _ _ (λ bytes is. (is.none, so bytes after is.spell)) h
   counts_fault x fault.Memory counts h so = known_so start _ _ (λ bytes is. tt) h
-  counts_fault x (fault.Refused line why) counts h so = absurd counts
-  counts_fault x fault.WindowsDiffer counts h so = absurd counts
-  counts_fault x fault.Read counts h so = absurd counts
-  counts_fault x fault.Write counts h so = absurd counts
+  counts_fault x _ counts h so = absurd counts

@@ -1,6 +1,6 @@
--- Where `clap` takes the words of a command, each argument that it finds has a value.
-use Rattle.std.proofs.Common.{◌≡◌, Bool, true, false, ℕ, zero, suc, refl, sym, subst, List, [], ◌∷◌, ◌++◌, ◌||◌}
-use Rattle.std.proofs.Common.{◌&&◌, not, length, drop, Option, Some, None, is_some, if◌then◌else◌, true≢false}
+-- Where `clap` takes the words of a command, each argument that it finds has a value, and none of them enters its subcommand `help`.
+use Rattle.std.proofs.Common.{◌≡◌, Bool, true, false, ℕ, zero, suc, refl, sym, subst, List, [], ◌∷◌, ◌++◌, ◌||◌, ◌&&◌, not, length, drop}
+use Rattle.std.proofs.Common.{Option, Some, None, is_some, if◌then◌else◌, true≢false, codes}
 use Rattle.std.specs.Prelude.{⊤, IfSome, find, slice_get, encode_utf8}
 use Rattle.std.specs.List.{fold, list_any}
 use Rattle.std.specs.Option.{option_map_or, option_and_then}
@@ -11,24 +11,27 @@ use Rattle.clap.specs.Facts.{explicit_source, unwrap_or_range}
 use Rattle.clap.specs.Kinds.{Kinds, check_kinds, or_else, range_kinds}
 use Rattle.clap.specs.Walk.{Held, Names, Outcome, Step, Waiting, Walk, action_of, after_flag, after_step, arg_by_id, arg_by_index}
 use Rattle.clap.specs.Walk.{arg_by_long, arg_by_short, at_row, attached_value, bundle, bundle_met, bundle_step, default_rows, done}
-use Rattle.clap.specs.Walk.{finished, flag_met, has_row, idle, is_pending, long_met, long_or_other, more_values, most_values, next}
-use Rattle.clap.specs.Walk.{nothing_held, option, option_met, option_word, plain, plain_word, positional, reacted, reading_by}
-use Rattle.clap.specs.Walk.{refused, settled, settled_rows, short_met, short_or_plain, subcommand, subcommand_met}
-use Rattle.clap.specs.Walk.{subcommand_or_other, takes_several, takes_values, to_positional, trailing, used, used_as, used_by_id}
-use Rattle.clap.specs.Walk.{value, values_or_missing, waits, walk, walk_from, walked, walked_from, with_default, with_values}
-use Rattle.clap.specs.Walk.{without, word_met}
+use Rattle.clap.specs.Walk.{finished, flag_met, has_row, is_pending, long_met, long_or_other, more_values, most_values, next, nothing_held}
+use Rattle.clap.specs.Walk.{option, option_met, option_word, plain, plain_word, reacted, reading_by, settled, settled_rows, short_met}
+use Rattle.clap.specs.Walk.{short_or_plain, subcommand, subcommand_met, subcommand_or_other, takes_several, takes_values, to_positional}
+use Rattle.clap.specs.Walk.{trailing, used, used_as, used_by_id, value, values_or_missing, waits, walk, walk_from, walked, walked_from}
+use Rattle.clap.specs.Walk.{with_default, with_values, without, word_met}
 use Rattle.clap.specs.Takes.{is_given}
 use Rattle.clap.specs.Simple.{rows_at}
-use Rattle.clap.specs.Faults.{bundle_fault, bundle_step_fault, check_fault, defaults_fault, flag_word_fault}
-use Rattle.clap.specs.Faults.{flags_fault, level_fault, long_fault, option_fault, other_fault, positional_fault, react_fault}
-use Rattle.clap.specs.Faults.{settle_fault, short_fault, step_fault, stray_fault, turn_fault, use_fault, walk_fault, word_fault}
-use Rattle.clap.specs.declared.error.ErrorKind.TheVariants.{TooManyValues}
+use Rattle.clap.specs.Faults.{bundle_fault, bundle_step_fault, defaults_fault, flag_word_fault, flags_fault, level_fault, long_fault}
+use Rattle.clap.specs.Faults.{option_fault, other_fault, positional_fault, react_fault, settle_fault, short_fault, step_fault, stray_fault}
+use Rattle.clap.specs.Faults.{turn_fault, use_fault, walk_fault, word_fault}
+use Rattle.clap.specs.declared.error.ErrorKind.TheVariants.{DisplayHelp, InvalidSubcommand, TooManyValues}
 use Rattle.clap.specs.declared.builder.ArgAction.{ArgAction}
-use Rattle.clap.specs.declared.builder.ArgAction.TheVariants.{Set, SetTrue, SetFalse, Append, Count, Help, HelpShort, HelpLong, Version}
+use Rattle.clap.specs.declared.builder.ArgAction.TheVariants.{Set, SetTrue, Append, Help, Version}
 use Rattle.clap.specs.declared.parser.ValueSource.{ValueSource}
 use Rattle.clap.specs.declared.parser.ValueSource.TheVariants.{DefaultValue, CommandLine}
 use Rattle.cif_tool.proofs.Each.{Each, each_both, found_holds}
-use Rattle.cif_tool.proofs.FirstFault.{first_passes, later_passes}
+
+-- where neither of two steps fails, of which the second counts only if the first doesn't fail
+both_pass : (a b : Kinds) → or_else a b ≡ [] → (a ≡ []) × (b ≡ [])
+both_pass [] b e = (refl, e)
+both_pass (k ∷ ks) b e = absurd (cc)
 
 -- ---- rows with values
 
@@ -36,8 +39,7 @@ abbrev pub IsFilled : Row → Type 0
 IsFilled r = is_some (slice_get r.values 0) ≡ true
 
 changed_filled : (id : Text) (change : Row → List Row) (missing : List Row) → ((r : Row) → IsFilled r → Each IsFilled (change r))
-    → Each IsFilled missing
-    → (rows : List Row) → Each IsFilled rows → Each IsFilled (at_row id change missing rows)
+    → Each IsFilled missing → (rows : List Row) → Each IsFilled rows → Each IsFilled (at_row id change missing rows)
 changed_filled id change missing h m [] f = m
 changed_filled id change missing h m (r ∷ rs) f =
     elim (bytes_eq r.id id) as (λ v. Each IsFilled (if v then change r ++ rs else r ∷ at_row id change missing rs)) [
@@ -65,12 +67,13 @@ without_filled id rows f = changed_filled id (λ r. []) [] (λ r h. tt) tt rows 
 
 -- ---- one use of an argument
 
--- a use sets or adds one value or more, or sets that of a flag, or it asks for help
+-- a use sets or adds one value or more, or sets that of a flag, or it asks for help or the version
 abbrev pub IsPlainAction : ArgAction → Rule → Type 0
 IsPlainAction Set a = (unwrap_or_range a.range).start_inclusive ≡ 1
 IsPlainAction Append a = (unwrap_or_range a.range).start_inclusive ≡ 1
 IsPlainAction SetTrue a = is_some (slice_get a.missing 0) ≡ true
 IsPlainAction Help a = ⊤
+IsPlainAction Version a = ⊤
 IsPlainAction _ a = ⊥
 
 abbrev pub IsPlainRule : Rule → Type 0
@@ -96,194 +99,199 @@ used_by Append a (v ∷ vs) rows one few f = values_filled a CommandLine v vs ro
 used_by SetTrue a values rows has few f =
     some_filled a CommandLine (values_or_missing a values) (without a.id rows) (flag_value a values has) (without_filled a.id rows f)
 used_by Help a values rows ok few f = f
-used_by SetFalse a values rows bad few f = absurd bad
-used_by Count a values rows bad few f = absurd bad
-used_by HelpShort a values rows bad few f = absurd bad
-used_by HelpLong a values rows bad few f = absurd bad
-used_by Version a values rows bad few f = absurd bad
+used_by Version a values rows ok few f = f
+used_by _ a values rows bad few f = absurd bad
 
 use_filled : (again : Bool) (a : Rule) (values : List Text) (rows : List Row) → IsPlainRule a → use_fault again a values rows ≡ []
-    → Each IsFilled rows
-    → Each IsFilled (used a values rows)
-use_filled again a values rows ok e f = used_by (action_of a) a values rows ok (first_passes _ _ e) f
+    → Each IsFilled rows → Each IsFilled (used a values rows)
+use_filled again a values rows ok e f = used_by (action_of a) a values rows ok (both_pass _ _ e).0 f
 
 -- ---- the walk over the words
-
-used_filled : (again : Bool) (o : Option Rule) (values : List Text) (rows : List Row) → IfSome o IsPlainRule
-    → option_map_or (λ a. use_fault again a values rows) o [] ≡ [] → Each IsFilled rows → Each IsFilled (used_by_id o values rows)
-used_filled again None values rows p e f = f
-used_filled again (Some a) values rows p e f = use_filled again a values rows p e f
-
-settled_filled : (c : List Rule) (again : Bool) (p : Option (Text × List Text)) (rows : List Row) → Each IsPlainRule c
-    → option_map_or (λ q. option_map_or (λ a. use_fault again a q.1 rows) (arg_by_id c q.0) []) p [] ≡ []
-    → Each IsFilled rows → Each IsFilled (settled_rows c p rows)
-settled_filled c again None rows plains e f = f
-settled_filled c again (Some p) rows plains e f = used_filled again (arg_by_id c p.0) p.1 rows (found_holds IsPlainRule _ c plains) e f
-
-settle : (c : List Rule) (again : Bool) (h : Held) → Each IsPlainRule c → settle_fault c again h ≡ [] → Each IsFilled h.rows
-    → Each IsFilled (settled c h).rows
-settle c again h plains e f = settled_filled c again h.pending h.rows plains e f
-
-react : (c : List Rule) (again : Bool) (a : Rule) (values : List Text) (h : Held) → Each IsPlainRule c → IsPlainRule a
-    → react_fault c again a values h ≡ []
-    → Each IsFilled h.rows → Each IsFilled (reacted c a values h).rows
-react c again a values h plains p e f =
-    use_filled again a values (settled c h).rows p (later_passes (settle_fault c again h) _ e)
-    (settle c again h plains (first_passes (settle_fault c again h) _ e) f)
-
-option_filled : (c : List Rule) (again : Bool) (a : Rule) (v : Option Text) (h : Held) → Each IsPlainRule c → IsPlainRule a
-    → option_fault c again a v h ≡ []
-    → Each IsFilled h.rows → Each IsFilled (option_met c a v h).0.rows
-option_filled c again a (Some v) h plains p e f = react c again a (v ∷ []) h plains p e f
-option_filled c again a None h plains p e f = settle c again h plains e f
-
-long_by : (b : Bool) (c : List Rule) (again : Bool) (a : Rule) (v : Option Text) (h : Held) → Each IsPlainRule c → IsPlainRule a
-    → (if b then option_fault c again a v h else (if is_some v then TooManyValues ∷ [] else react_fault c again a [] h)) ≡ []
-    → Each IsFilled h.rows → Each IsFilled (if b then option_met c a v h else flag_met c a v h).0.rows
-long_by true c again a v h plains p e f = option_filled c again a v h plains p e f
-long_by false c again a (Some v) h plains p e f = f
-long_by false c again a None h plains p e f = react c again a [] h plains p e f
-
-long_filled : (c : List Rule) (again : Bool) (o : Option Rule) (v : Option Text) (h : Held) → Each IsPlainRule c → IfSome o IsPlainRule
-    → long_fault c again o v h ≡ [] → Each IsFilled h.rows → Each IsFilled (long_met c o v h).0.rows
-long_filled c again None v h plains p e f = f
-long_filled c again (Some a) v h plains p e f = long_by (takes_values a) c again a v h plains p e f
 
 -- what reads the rest of a bundle keeps the rows filled, where it has no fault
 abbrev KeepsFilled : (Held → Kinds) → (Held → Held × Outcome) → Type 0
 KeepsFilled fault reads = (h : Held) → fault h ≡ [] → Each IsFilled h.rows → Each IsFilled (reads h).0.rows
 
-short_by : (b : Bool) (c : List Rule) (again : Bool) (a : Rule) (rest : Text) (h : Held) (fault : Held → Kinds)
-    (reads : Held → Held × Outcome)
-    → Each IsPlainRule c → IsPlainRule a → KeepsFilled fault reads
-    → (if b then option_fault c again a (attached_value rest) h else or_else (react_fault c again a [] h) (fault (reacted c a [] h))) ≡ []
-    → Each IsFilled h.rows → Each IsFilled (if b then option_met c a (attached_value rest) h else reads (reacted c a [] h)).0.rows
-short_by true c again a rest h fault reads plains p keeps e f = option_filled c again a (attached_value rest) h plains p e f
-short_by false c again a rest h fault reads plains p keeps e f =
-    keeps (reacted c a [] h) (later_passes (react_fault c again a [] h) _ e)
-    (react c again a [] h plains p (first_passes (react_fault c again a [] h) _ e) f)
+abbrev pub IsNotHelp : Text → Type 0
+IsNotHelp name = bytes_eq name (codes "help") ≡ false
 
-short_filled : (c : List Rule) (again : Bool) (o : Option Rule) (rest : Text) (h : Held) (fault : Held → Kinds)
-    (reads : Held → Held × Outcome)
-    → Each IsPlainRule c → IfSome o IsPlainRule → KeepsFilled fault reads → short_fault c again o rest h fault ≡ []
-    → Each IsFilled h.rows → Each IsFilled (short_met c o rest h reads).0.rows
-short_filled c again None rest h fault reads plains p keeps e f = f
-short_filled c again (Some a) rest h fault reads plains p keeps e f = short_by (takes_values a) c again a rest h fault reads plains p
-    keeps e f
+module _ (c : List Rule) (again : Bool) (plains : Each IsPlainRule c) where
+  used_filled : (o : Option Rule) (values : List Text) (rows : List Row) → IfSome o IsPlainRule
+      → option_map_or (λ a. use_fault again a values rows) o [] ≡ [] → Each IsFilled rows → Each IsFilled (used_by_id o values rows)
+  used_filled None values rows p e f = f
+  used_filled (Some a) values rows p e f = use_filled again a values rows p e f
 
-step_filled : (c : List Rule) (again : Bool) (o : Option ℕ) (flags : Text) (skip : ℕ) (so_far : Outcome) (h : Held)
-    (fault : Text → ℕ → Held → Kinds) (reads : Text → ℕ → Outcome → Held → Held × Outcome) → Each IsPlainRule c
-    → ((t : Text) (k : ℕ) (s : Outcome) → KeepsFilled (fault t k) (reads t k s))
-    → bundle_step_fault c again o flags skip h fault ≡ [] → Each IsFilled h.rows
-    → Each IsFilled (bundle_step c o flags skip so_far h reads).0.rows
-step_filled c again None flags skip so_far h fault reads plains keeps e f = f
-step_filled c again (Some x) flags zero so_far h fault reads plains keeps e f =
-    let rest = drop (length (encode_utf8 x)) flags in
-    short_filled c again (arg_by_short c x) rest h (fault rest 0) (reads rest 0 done) plains (found_holds IsPlainRule _ c plains)
-    (keeps rest 0 done) e f
-step_filled c again (Some x) flags (suc skip) so_far h fault reads plains keeps e f =
-    keeps (drop (length (encode_utf8 x)) flags) skip so_far h e f
+  settled_filled : (p : Option (Text × List Text)) (rows : List Row)
+      → option_map_or (λ q. option_map_or (λ a. use_fault again a q.1 rows) (arg_by_id c q.0) []) p [] ≡ []
+      → Each IsFilled rows → Each IsFilled (settled_rows c p rows)
+  settled_filled None rows e f = f
+  settled_filled (Some p) rows e f = used_filled (arg_by_id c p.0) p.1 rows (found_holds IsPlainRule _ c plains) e f
 
-flags_filled : (c : List Rule) (again : Bool) → Each IsPlainRule c → (k : ℕ) (flags : Text) (skip : ℕ) (so_far : Outcome)
-    → KeepsFilled (flags_fault c again k flags skip) (bundle_met c k flags skip so_far)
-unfolding flags_fault bundle_met
-flags_filled c again plains zero flags skip so_far = λ h e f. f
-flags_filled c again plains (suc k) flags skip so_far = λ h e f.
-    step_filled c again (slice_get (chars flags) 0) flags skip so_far h (flags_fault c again k) (bundle_met c k) plains
-    (flags_filled c again plains k) e f
+  settle : (h : Held) → settle_fault c again h ≡ [] → Each IsFilled h.rows → Each IsFilled (settled c h).rows
+  settle h e f = settled_filled h.pending h.rows e f
 
-option_rows : (o : Option Rule) (id word : Text) (h : Held) → (option_word o id word h).0.rows ≡ h.rows
-option_rows None id word h = refl
-option_rows (Some a) id word h = refl
+  react : (a : Rule) (values : List Text) (h : Held) → IsPlainRule a → react_fault c again a values h ≡ [] → Each IsFilled h.rows
+      → Each IsFilled (reacted c a values h).rows
+  react a values h p e f =
+      let one = both_pass (settle_fault c again h) _ e in
+      use_filled again a values (settled c h).rows p one.1 (settle h one.0 f)
 
-plain_rows : (c : List Rule) (waiting : Waiting) (word : Text) (h : Held) → (plain_word c waiting word h).0.rows ≡ h.rows
-plain_rows c (option id) word h = option_rows (arg_by_id c id) id word h
-plain_rows c idle word h = refl
-plain_rows c positional word h = refl
+  option_filled : (a : Rule) (v : Option Text) (h : Held) → IsPlainRule a → option_fault c again a v h ≡ [] → Each IsFilled h.rows
+      → Each IsFilled (option_met c a v h).0.rows
+  option_filled a (Some v) h p e f = react a (v ∷ []) h p e f
+  option_filled a None h p e f = settle h e f
 
-after_rows : (c : List Rule) (waiting : Waiting) (word : Text) (h : Held) (o : Outcome) → (after_flag c waiting word h o).0.rows ≡ h.rows
-after_rows c waiting word h done = refl
-after_rows c waiting word h (waits id) = refl
-after_rows c waiting word h plain = plain_rows c waiting word h
-after_rows c waiting word h refused = plain_rows c waiting word h
+  long_by : (b : Bool) (a : Rule) (v : Option Text) (h : Held) → IsPlainRule a
+      → (if b then option_fault c again a v h else (if is_some v then TooManyValues ∷ [] else react_fault c again a [] h)) ≡ []
+      → Each IsFilled h.rows → Each IsFilled (if b then option_met c a v h else flag_met c a v h).0.rows
+  long_by true a v h p e f = option_filled a v h p e f
+  long_by false a (Some v) h p e f = cc
+  long_by false a None h p e f = react a [] h p e f
 
-along : (xs ys : List Row) → xs ≡ ys → Each IsFilled ys → Each IsFilled xs
-along xs ys same f = subst (Each IsFilled) (sym same) f
+  long_filled : (o : Option Rule) (v : Option Text) (h : Held) → IfSome o IsPlainRule → long_fault c again o v h ≡ []
+      → Each IsFilled h.rows → Each IsFilled (long_met c o v h).0.rows
+  long_filled None v h p e f = f
+  long_filled (Some a) v h p e f = long_by (takes_values a) a v h p e f
 
-short_word_filled : (c : List Rule) (again : Bool) (waiting : Waiting) (word : Text) (o : Option Text) (h : Held) → Each IsPlainRule c
-    → option_map_or (λ flags. bundle_fault c again flags h) o [] ≡ [] → Each IsFilled h.rows
-    → Each IsFilled (short_or_plain c waiting word o h).0.rows
-short_word_filled c again waiting word None h plains e f = along _ _ (plain_rows c waiting word h) f
-short_word_filled c again waiting word (Some flags) h plains e f =
-    along _ _ (after_rows c waiting word (bundle c flags h).0 (bundle c flags h).1)
-    (flags_filled c again plains (length flags) flags h.skip plain (record h { skip = 0 }) e f)
+  short_by : (b : Bool) (a : Rule) (rest : Text) (h : Held) (fault : Held → Kinds) (reads : Held → Held × Outcome)
+      → IsPlainRule a → KeepsFilled fault reads
+      → (if b then option_fault c again a (attached_value rest) h else or_else (react_fault c again a [] h) (fault (reacted c a [] h))) ≡ []
+      → Each IsFilled h.rows
+      → Each IsFilled (if b then option_met c a (attached_value rest) h else reads (reacted c a [] h)).0.rows
+  short_by true a rest h fault reads p keeps e f = option_filled a (attached_value rest) h p e f
+  short_by false a rest h fault reads p keeps e f =
+      let one = both_pass (react_fault c again a [] h) _ e in
+      keeps (reacted c a [] h) one.1 (react a [] h p one.0 f)
 
-long_word_filled : (c : List Rule) (again : Bool) (waiting : Waiting) (word : Text) (o : Option (Text × Option Text)) (h : Held)
-    → Each IsPlainRule c
-    → flag_word_fault c again o word h ≡ [] → Each IsFilled h.rows → Each IsFilled (long_or_other c waiting word o h).0.rows
-long_word_filled c again waiting word None h plains e f = short_word_filled c again waiting word (short_of word) h plains e f
-long_word_filled c again waiting word (Some p) h plains e f =
-    let met = long_met c (arg_by_long c p.0) p.1 h in
-    along _ _ (after_rows c waiting word met.0 met.1)
-    (long_filled c again (arg_by_long c p.0) p.1 h plains (found_holds IsPlainRule _ c plains) e f)
+  short_filled : (o : Option Rule) (rest : Text) (h : Held) (fault : Held → Kinds) (reads : Held → Held × Outcome)
+      → IfSome o IsPlainRule → KeepsFilled fault reads → short_fault c again o rest h fault ≡ [] → Each IsFilled h.rows
+      → Each IsFilled (short_met c o rest h reads).0.rows
+  short_filled None rest h fault reads p keeps e f = f
+  short_filled (Some a) rest h fault reads p keeps e f = short_by (takes_values a) a rest h fault reads p keeps e f
 
-other_by : (b : Bool) (s : Shape) (waiting : Waiting) (position : ℕ) (word : Text) (h : Held) → Each IsPlainRule s.rules
-    → (if b then [] else flag_word_fault s.rules s.args_override_self (long_of word) word h) ≡ [] → Each IsFilled h.rows
-    → Each IsFilled (if b then (h, trailing position) else long_or_other s.rules waiting word (long_of word) h).0.rows
-other_by true s waiting position word h plains e f = f
-other_by false s waiting position word h plains e f = long_word_filled s.rules s.args_override_self waiting word (long_of word) h plains e f
+  step_filled : (o : Option ℕ) (flags : Text) (skip : ℕ) (so_far : Outcome) (h : Held) (fault : Text → ℕ → Held → Kinds)
+      (reads : Text → ℕ → Outcome → Held → Held × Outcome) → ((t : Text) (k : ℕ) (s : Outcome) → KeepsFilled (fault t k) (reads t k s))
+      → bundle_step_fault c again o flags skip h fault ≡ [] → Each IsFilled h.rows
+      → Each IsFilled (bundle_step c o flags skip so_far h reads).0.rows
+  step_filled None flags skip so_far h fault reads keeps e f = f
+  step_filled (Some x) flags zero so_far h fault reads keeps e f =
+      let rest = drop (length (encode_utf8 x)) flags in
+      short_filled (arg_by_short c x) rest h (fault rest 0) (reads rest 0 done) (found_holds IsPlainRule _ c plains) (keeps rest 0 done) e f
+  step_filled (Some x) flags (suc skip) so_far h fault reads keeps e f = keeps (drop (length (encode_utf8 x)) flags) skip so_far h e f
 
-other_filled : (s : Shape) (o : Option Text) (waiting : Waiting) (position : ℕ) (word : Text) (h : Held) → Each IsPlainRule s.rules
-    → other_fault s o word h ≡ [] → Each IsFilled h.rows → Each IsFilled (subcommand_or_other s.rules o waiting position word h).0.rows
-other_filled s (Some name) waiting position word h plains e f = f
-other_filled s None waiting position word h plains e f = other_by (bytes_eq word (45 ∷ 45 ∷ [])) s waiting position word h plains e f
+  flags_filled : (k : ℕ) (flags : Text) (skip : ℕ) (so_far : Outcome)
+      → KeepsFilled (flags_fault c again k flags skip) (bundle_met c k flags skip so_far)
+  unfolding flags_fault bundle_met
+  flags_filled zero flags skip so_far = λ h e f. f
+  flags_filled (suc k) flags skip so_far = λ h e f.
+      step_filled (slice_get (chars flags) 0) flags skip so_far h (flags_fault c again k) (bundle_met c k) (flags_filled k) e f
 
-word_filled : (b : Bool) (s : Shape) (names : Names) (waiting : Waiting) (position : ℕ) (word : Text) (h : Held) → Each IsPlainRule s.rules
-    → word_fault s names b waiting word h ≡ [] → Each IsFilled h.rows
-    → Each IsFilled (word_met s.rules names b waiting position word h).0.rows
-word_filled true s names waiting position word h plains e f = f
-word_filled false s names waiting position word h plains e f =
-    other_filled s (subcommand_met names waiting word) waiting position word h plains e f
+module _ (s : Shape) (plains : Each IsPlainRule s.rules) where
+  -- the step enters no subcommand `help` that the command has
+  abbrev IsStepOn : Step → Type 0
+  IsStepOn (subcommand name) = s.disable_help_subcommand ≡ false → IsNotHelp name
+  IsStepOn _ = ⊤
 
-positional_by : (b : Bool) (c : List Rule) (again : Bool) (h : Held) → Each IsPlainRule c → (if b then [] else settle_fault c again h) ≡ []
-    → Each IsFilled h.rows → Each IsFilled (if b then h else settled c h).rows
-positional_by true c again h plains e f = f
-positional_by false c again h plains e f = settle c again h plains e f
+  -- nor does this word, after which each row has a value
+  abbrev IsMet : Held × Step → Type 0
+  IsMet met = Each IsFilled met.0.rows × IsStepOn met.1
 
-given_filled : (s : Shape) (o : Option Rule) (word : Text) (w : Walk) (h : Held) → Each IsPlainRule s.rules
-    → option_map_or (λ a. positional_fault s.rules s.args_override_self a h) o (stray_fault s) ≡ [] → Each IsFilled h.rows
-    → Each IsFilled (to_positional s.rules o word w h).held.rows
-given_filled s None word w h plains e f = f
-given_filled s (Some a) word w h plains e f =
-    positional_by (is_pending a h.pending && takes_several a) s.rules s.args_override_self h plains e f
+  option_on : (o : Option Rule) (id word : Text) (h : Held) → Each IsFilled h.rows → Each IsFilled (option_word o id word h).0.rows
+  option_on None id word h f = f
+  option_on (Some a) id word h f = f
 
-after_filled : (s : Shape) (word : Text) (w : Walk) (h : Held) (step : Step) → Each IsPlainRule s.rules
-    → step_fault s w.position h step ≡ []
-    → Each IsFilled h.rows → Each IsFilled (after_step s.rules word w h step).held.rows
-after_filled s word w h (next waiting) plains e f = f
-after_filled s word w h (trailing position) plains e f = f
-after_filled s word w h (subcommand name) plains e f = f
-after_filled s word w h value plains e f = given_filled s (arg_by_index s.rules w.position) word w h plains e f
+  plain_on : (waiting : Waiting) (word : Text) (h : Held) → Each IsFilled h.rows → IsMet (plain_word s.rules waiting word h)
+  plain_on (option id) word h f = (option_on (arg_by_id s.rules id) id word h f, tt)
+  plain_on _ word h f = (f, tt)
 
-turn_filled : (s : Shape) (names : Names) (o : Option (Text × List Text)) (w : Walk) (word : Text) → Each IsPlainRule s.rules
-    → (let met = word_met s.rules names w.is_trailing w.waiting w.position word w.held in
-    if is_some o then [] else or_else (word_fault s names w.is_trailing w.waiting word w.held) (step_fault s w.position met.0 met.1)) ≡ []
-    → Each IsFilled w.held.rows → Each IsFilled (walked_from s.rules names o w word).held.rows
-turn_filled s names (Some p) w word plains e f = f
-turn_filled s names None w word plains e f =
-    let met = word_met s.rules names w.is_trailing w.waiting w.position word w.held in
-    let one = word_fault s names w.is_trailing w.waiting word w.held in
-    after_filled s word w met.0 met.1 plains (later_passes one _ e)
-    (word_filled w.is_trailing s names w.waiting w.position word w.held plains (first_passes one _ e) f)
+  after_on : (waiting : Waiting) (word : Text) (h : Held) (o : Outcome) → Each IsFilled h.rows
+      → IsMet (after_flag s.rules waiting word h o)
+  after_on waiting word h done f = (f, tt)
+  after_on waiting word h (waits id) f = (f, tt)
+  after_on waiting word h _ f = plain_on waiting word h f
 
-walk_filled : (s : Shape) (names : Names) → Each IsPlainRule s.rules → (words : List Text) (w : Walk) → walk_fault s names w words ≡ []
-    → Each IsFilled w.held.rows → Each IsFilled (fold (walked s.rules names) w words).held.rows
-unfolding walk_fault walked
-walk_filled s names plains [] w e f = f
-walk_filled s names plains (word ∷ rest) w e f =
-    let one = turn_fault s names w word in
-    walk_filled s names plains rest (walked s.rules names w word) (later_passes one _ e)
-    (turn_filled s names w.stopped w word plains (first_passes one _ e) f)
+  short_on : (waiting : Waiting) (word : Text) (o : Option Text) (h : Held)
+      → option_map_or (λ flags. bundle_fault s.rules s.args_override_self flags h) o [] ≡ [] → Each IsFilled h.rows
+      → IsMet (short_or_plain s.rules waiting word o h)
+  short_on waiting word None h e f = plain_on waiting word h f
+  short_on waiting word (Some flags) h e f =
+      let met = bundle s.rules flags h in
+      after_on waiting word met.0 met.1
+      (flags_filled s.rules s.args_override_self plains (length flags) flags h.skip plain (record h { skip = 0 }) e f)
+
+  long_on : (waiting : Waiting) (word : Text) (o : Option (Text × Option Text)) (h : Held)
+      → flag_word_fault s.rules s.args_override_self o word h ≡ [] → Each IsFilled h.rows
+      → IsMet (long_or_other s.rules waiting word o h)
+  long_on waiting word None h e f = short_on waiting word (short_of word) h e f
+  long_on waiting word (Some p) h e f =
+      let named = arg_by_long s.rules p.0 in
+      let met = long_met s.rules named p.1 h in
+      after_on waiting word met.0 met.1
+      (long_filled s.rules s.args_override_self plains named p.1 h (found_holds IsPlainRule _ s.rules plains) e f)
+
+  other_by : (b : Bool) (waiting : Waiting) (position : ℕ) (word : Text) (h : Held)
+      → (if b then [] else flag_word_fault s.rules s.args_override_self (long_of word) word h) ≡ [] → Each IsFilled h.rows
+      → IsMet (if b then (h, trailing position) else long_or_other s.rules waiting word (long_of word) h)
+  other_by true waiting position word h e f = (f, tt)
+  other_by false waiting position word h e f = long_on waiting word (long_of word) h e f
+
+  name_on : (b d : Bool) → (if b && not d then DisplayHelp ∷ InvalidSubcommand ∷ [] else []) ≡ [] → d ≡ false → b ≡ false
+  name_on true true e has = absurd (true≢false has)
+  name_on true false e has = cc
+  name_on false d e has = refl
+
+  other_on : (o : Option Text) (waiting : Waiting) (position : ℕ) (word : Text) (h : Held) → other_fault s o word h ≡ []
+      → Each IsFilled h.rows → IsMet (subcommand_or_other s.rules o waiting position word h)
+  other_on (Some name) waiting position word h e f = (f, name_on (bytes_eq name (codes "help")) s.disable_help_subcommand e)
+  other_on None waiting position word h e f = other_by (bytes_eq word (45 ∷ 45 ∷ [])) waiting position word h e f
+
+  word_on : (b : Bool) (names : Names) (waiting : Waiting) (position : ℕ) (word : Text) (h : Held)
+      → word_fault s names b waiting word h ≡ [] → Each IsFilled h.rows → IsMet (word_met s.rules names b waiting position word h)
+  word_on true names waiting position word h e f = (f, tt)
+  word_on false names waiting position word h e f = other_on (subcommand_met names waiting word) waiting position word h e f
+
+  positional_by : (b : Bool) (h : Held) → (if b then [] else settle_fault s.rules s.args_override_self h) ≡ [] → Each IsFilled h.rows
+      → Each IsFilled (if b then h else settled s.rules h).rows
+  positional_by true h e f = f
+  positional_by false h e f = settle s.rules s.args_override_self plains h e f
+
+  -- the walk has not stopped at such a `help`
+  abbrev IsStopOn : Option (Text × List Text) → Type 0
+  IsStopOn stopped = IfSome stopped (λ p. s.disable_help_subcommand ≡ false → IsNotHelp p.0)
+
+  abbrev IsOn : Walk → Type 0
+  IsOn w = Each IsFilled w.held.rows × IsStopOn w.stopped
+
+  given_on : (o : Option Rule) (word : Text) (w : Walk) (h : Held)
+      → option_map_or (λ a. positional_fault s.rules s.args_override_self a h) o (stray_fault s) ≡ [] → Each IsFilled h.rows
+      → IsStopOn w.stopped → IsOn (to_positional s.rules o word w h)
+  given_on None word w h e f on = (f, on)
+  given_on (Some a) word w h e f on = (positional_by (is_pending a h.pending && takes_several a) h e f, tt)
+
+  step_on : (word : Text) (w : Walk) (h : Held) (step : Step) → step_fault s w.position h step ≡ [] → IsMet (h, step)
+      → IsStopOn w.stopped → IsOn (after_step s.rules word w h step)
+  step_on word w h (next waiting) e is on = (is.0, on)
+  step_on word w h (trailing position) e is on = (is.0, on)
+  step_on word w h (subcommand name) e is on = is
+  step_on word w h value e is on = given_on (arg_by_index s.rules w.position) word w h e is.0 on
+
+  turn_on : (names : Names) (o : Option (Text × List Text)) (w : Walk) (word : Text)
+      → (let met = word_met s.rules names w.is_trailing w.waiting w.position word w.held in
+      if is_some o then [] else or_else (word_fault s names w.is_trailing w.waiting word w.held) (step_fault s w.position met.0 met.1)) ≡ []
+      → IsStopOn o → IsOn w → IsOn (walked_from s.rules names o w word)
+  turn_on names (Some p) w word e stop on = (on.0, stop)
+  turn_on names None w word e stop on =
+      let met = word_met s.rules names w.is_trailing w.waiting w.position word w.held in
+      let one = both_pass (word_fault s names w.is_trailing w.waiting word w.held) _ e in
+      step_on word w met.0 met.1 one.1 (word_on w.is_trailing names w.waiting w.position word w.held one.0 on.0) on.1
+
+  pub walk_on : (names : Names) (words : List Text) (w : Walk) → walk_fault s names w words ≡ [] → IsOn w
+      → IsOn (fold (walked s.rules names) w words)
+  unfolding walk_fault walked
+  walk_on names [] w e on = on
+  walk_on names (word ∷ rest) w e on =
+      let one = both_pass (turn_fault s names w word) _ e in
+      walk_on names rest (walked s.rules names w word) one.1 (turn_on names w.stopped w word one.0 on.1 on)
 
 -- ---- defaults, and what is required
 
@@ -303,24 +311,38 @@ defaults_filled : (rules : List Rule) (rows : List Row) → Each IsFilled rows �
 defaults_filled [] rows f = f
 defaults_filled (a ∷ rest) rows f = defaults_filled rest (with_default rows a) (with_default_filled rows a f)
 
--- where a level has no fault, each of its rows has a value
-pub level_filled : (s : Shape) (names : Names) (words : List Text) (has : Bool) (below : Kinds) → Each IsPlainRule s.rules
-    → level_fault s names nothing_held words has below ≡ [] → Each IsFilled (finished s.rules (walk s.rules names nothing_held words).held)
-level_filled s names words has below plains e =
+-- ---- one level of the parse
+
+kinds_pass : (help wanted argument : Bool) → check_kinds help wanted argument ≡ [] → (wanted ≡ false) × (argument ≡ false)
+kinds_pass true wanted argument e = absurd (cc)
+kinds_pass false true argument e = absurd (cc)
+kinds_pass false false true e = absurd (cc)
+kinds_pass false false false e = (refl, refl)
+
+-- no step of a level fails, where `has` says whether it enters a subcommand, which fails by `below`
+pub record Passes (s : Shape) (names : Names) (words : List Text) (has : Bool) (below : Kinds) : Type 0 where
+  pub walks : walk_fault s names (walk_from nothing_held) words ≡ []
+  pub enters : below ≡ []
+  pub settles : settle_fault s.rules s.args_override_self (walk s.rules names nothing_held words).held ≡ []
+  pub wanted : (not has && s.subcommand_required) ≡ false
+  pub required : (not (s.subcommand_negates_reqs && has)
+      && list_any (λ a. a.required && not (is_given a.id (finished s.rules (walk s.rules names nothing_held words).held))) s.rules) ≡ false
+
+pub level_passes : (s : Shape) (names : Names) (words : List Text) (has : Bool) (below : Kinds)
+    → level_fault s names nothing_held words has below ≡ [] → Passes s names words has below
+level_passes s names words has below e =
     let end = (walk s.rules names nothing_held words).held in
-    let one = walk_fault s names (walk_from nothing_held) words in
-    let two = later_passes below _ (later_passes one _ e) in
-    let f = walk_filled s names plains words (walk_from nothing_held) (first_passes one _ e) tt in
-    defaults_filled s.rules (settled s.rules end).rows
-    (settle s.rules s.args_override_self end plains (first_passes (settle_fault s.rules s.args_override_self end) _ two) f)
+    let rows = finished s.rules end in
+    let one = both_pass (walk_fault s names (walk_from nothing_held) words) _ e in
+    let two = both_pass below _ one.1 in
+    let three = both_pass (settle_fault s.rules s.args_override_self end) _ two.1 in
+    let four = both_pass (defaults_fault (settled s.rules end).rows s.rules) _ three.1 in
+    let five = kinds_pass (not has && (s.arg_required_else_help && not (list_any (λ r. explicit_source r.source) rows)))
+    (not has && s.subcommand_required)
+    (not (s.subcommand_negates_reqs && has) && list_any (λ a. a.required && not (is_given a.id rows)) s.rules) four.1 in
+    record { walks = one.0; enters = two.0; settles = three.0; wanted = five.0; required = five.1 }
 
 -- ---- what is required is given
-
-wants_none : (help wanted argument : Bool) → check_kinds help wanted argument ≡ [] → argument ≡ false
-wants_none true wanted argument e = cc
-wants_none false true argument e = cc
-wants_none false false true e = cc
-wants_none false false false e = refl
 
 not_negated : (n b : Bool) → (not (n && false) && b) ≡ false → b ≡ false
 not_negated true b e = e
@@ -343,23 +365,25 @@ has_word : (o : Option Row) → IfSome o IsFilled → option_map_or (λ r. expli
 has_word None f e = absurd (true≢false (sym e))
 has_word (Some r) f e = f
 
+-- a rule's word is there, if it may not be left out
+abbrev pub HasOwn : List Row → Rule → Type 0
+HasOwn rows a = a.required ≡ true → is_some (first_of a.id rows) ≡ true
+
 each_has : (rows : List Row) (rules : List Rule) → Each IsFilled rows → Each (λ a. a.required ≡ true → is_given a.id rows ≡ true) rules
-    → Each (λ a. a.required ≡ true → is_some (first_of a.id rows) ≡ true) rules
+    → Each (HasOwn rows) rules
 each_has rows [] f each = tt
 each_has rows (a ∷ rest) f each =
     (λ needs. has_word (find (λ r. bytes_eq r.id a.id) rows) (found_holds IsFilled _ rows f) (each.0 needs), each_has rows rest f each.1)
 
 -- where a subcommand takes the words, each word that it wants is there
 pub required_given : (s : Shape) (words : List Text) → Each IsPlainRule s.rules → level_fault s [] nothing_held words false [] ≡ []
-    → Each (λ a. a.required ≡ true → is_some (first_of a.id (rows_at s words).1) ≡ true) s.rules
+    → Each (HasOwn (rows_at s words).1) s.rules
 required_given s words plains e =
+    let passes = level_passes s [] words false [] e in
     let end = (walk s.rules [] nothing_held words).held in
     let rows = finished s.rules end in
-    let two = later_passes [] _ (later_passes (walk_fault s [] (walk_from nothing_held) words) _ e) in
-    let three = later_passes (settle_fault s.rules s.args_override_self end) _ two in
-    let checked : check_fault s rows false ≡ [] = later_passes (defaults_fault (settled s.rules end).rows s.rules) _ three in
     let missing = list_any (λ (a : Rule). a.required && not (is_given a.id rows)) s.rules in
-    let none = not_negated s.subcommand_negates_reqs missing (wants_none
-    (s.arg_required_else_help && not (list_any (λ r. explicit_source r.source) rows)) s.subcommand_required
-    (not (s.subcommand_negates_reqs && false) && missing) checked) in
-    each_has rows s.rules (level_filled s [] words false [] plains e) (each_given rows s.rules none)
+    let filled = (walk_on s plains [] words (walk_from nothing_held) passes.walks (tt, tt)).0 in
+    each_has rows s.rules
+    (defaults_filled s.rules (settled s.rules end).rows (settle s.rules s.args_override_self plains end passes.settles filled))
+    (each_given rows s.rules (not_negated s.subcommand_negates_reqs missing passes.required))

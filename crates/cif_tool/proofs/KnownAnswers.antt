@@ -11,12 +11,11 @@ use Rattle.cif_extract.specs.declared.fault.Fault.{Fault}
 use Rattle.cif_extract.specs.declared.fault.Fault.TheVariants as fault
 use Rattle.cif_weeks.specs.declared.form.Form.{Form}
 use Rattle.cif_canon.specs.Accepted.{SpellsNarrowed}
-use Rattle.cif_canon.specs.Asked.{IsNarrowed}
 use Rattle.cif_canon.specs.Canon.{CanonParts, IsCanonOf}
 use Rattle.cif_canon.specs.Comparison.{AreCompared, IsCompareFault, comparison_line}
 use Rattle.cif_views.specs.Clashes.{AreAllClashes, clashes_text}
 use Rattle.cif_canon.specs.Counts.{counts_line}
-use Rattle.cif_canon.specs.Differences.{AreDifferences, AreNone, DifferencesParts, differences_text}
+use Rattle.cif_canon.specs.Differences.{AreDifferences, AreNone, DifferencesParts}
 use Rattle.cif_views.specs.Explanation.{IsExplanation}
 use Rattle.cif_canon.specs.Normalised.{IfWritten, IsNormalised, Normalises}
 use Rattle.cif_canon.specs.Pair.{IsCompareRefusal, ReadAsPair, SpellPair}
@@ -30,7 +29,7 @@ use Rattle.cif_canon.specs.declared.rows.Format.{Format}
 use Rattle.cif_views.specs.declared.listing.Listing.{Listing}
 use Rattle.cif_views.specs.WeekCalendar.{IsWeekCalendar}
 use Rattle.cif_tool.specs.Answer.{IsCalendarAnswer, IsCheckAnswer, IsClashesAnswer, IsCompareAnswer, IsDayAnswer, IsDiffAnswer}
-use Rattle.cif_tool.specs.Answer.{IsExplainAnswer, IsListedStatus, IsNormaliseAnswer, IsTableAnswer, IsTrainAnswer}
+use Rattle.cif_tool.specs.Answer.{IsExplainAnswer, IsListedStatus, IsNormaliseAnswer, IsTableAnswer, IsTrainAnswer, differences_in}
 use Rattle.cif_tool.specs.Status.{listed_status, outcome_of}
 
 -- the status of a list, of which it is told whether there is none
@@ -57,17 +56,11 @@ module _ (start : Option (List ℕ)) where
   pub normalise-failed : (form : Form) (asked : Asked) (text : List ℕ) (f : Fault) →
       IfSome start (λ bytes. Normalises form asked MAX_LINES bytes text (Err f)) →
       IfWritten {A = Counts} (Err f) (IfSome start (λ bytes. IsNormaliseAnswer form asked bytes text 0))
-  normalise-failed form asked text (fault.Refused line why) h = tt
-  normalise-failed form asked text (fault.Ambiguous clash) h = tt
-  normalise-failed form asked text fault.WindowsDiffer h = tt
-  normalise-failed form asked text fault.OutsideWindow h = tt
-  normalise-failed form asked text fault.WindowReversed h = tt
-  normalise-failed form asked text fault.Read h = tt
   normalise-failed form asked text fault.Write h =
       known_so start (λ bytes. Normalises form asked MAX_LINES bytes text (Err fault.Write))
       (λ bytes. IsNormaliseAnswer form asked bytes text 0)
       (λ bytes is. record { counts = is.0; normalised = is.1; status_is = refl }) h
-  normalise-failed form asked text fault.Memory h = tt
+  normalise-failed form asked text _ h = tt
 
   module _ (x : ExtractParts) (spelled : IfSome start (λ bytes. BytesSpellWithin MAX_LINES bytes x)) where
     pub day-answer : (listing : Listing) (day : ℕ) (text : List ℕ) → IsDayListing listing x day text →
@@ -82,57 +75,50 @@ module _ (start : Option (List ℕ)) where
         known_so start (λ bytes. BytesSpellWithin MAX_LINES bytes x) (λ bytes. IsExplainAnswer format uid day bytes text 0)
         (λ bytes s. record { extract = x; spelled = s; explanation = is; status_is = refl }) spelled
 
-    pub calendar-answer : (asked : Asked) (y : ExtractParts) (uid text : List ℕ) → IsNarrowed asked x y → IsWeekCalendar y uid text →
-        IfSome start (λ bytes. IsCalendarAnswer asked uid bytes text 0)
-    calendar-answer asked y uid text narrowed view =
-        known_so start (λ bytes. BytesSpellWithin MAX_LINES bytes x) (λ bytes. IsCalendarAnswer asked uid bytes text 0)
-        (λ bytes s. record {
-          extract = y;
-          spelled = record { whole = x; spelled = s; narrowed = narrowed };
-          view = view;
-          status_is = refl;
-        }) spelled
+  module _ (asked : Asked) (x : ExtractParts) (spelled : IfSome start (SpellsNarrowed MAX_LINES asked x)) where
+    pub train-answer : (listing : Listing) (form : Form) (uid text : List ℕ) → IsTrainListing listing form x uid text →
+        IfSome start (λ bytes. IsTrainAnswer listing form asked uid bytes text 0)
+    train-answer listing form uid text view =
+        known_so start (SpellsNarrowed MAX_LINES asked x) (λ bytes. IsTrainAnswer listing form asked uid bytes text 0)
+        (λ bytes s. record { extract = x; spelled = s; view = view; status_is = refl }) spelled
 
-    pub clashes-answer : (asked : Asked) (y : ExtractParts) (clashes : List Clash) (none : Bool) → IsNarrowed asked x y →
-        AreAllClashes y clashes → IsTrue none ↔ (clashes ≡ []) →
+    pub calendar-answer : (uid text : List ℕ) → IsWeekCalendar x uid text → IfSome start (λ bytes. IsCalendarAnswer asked uid bytes text 0)
+    calendar-answer uid text view =
+        known_so start (SpellsNarrowed MAX_LINES asked x) (λ bytes. IsCalendarAnswer asked uid bytes text 0)
+        (λ bytes s. record { extract = x; spelled = s; view = view; status_is = refl }) spelled
+
+    pub clashes-answer : (clashes : List Clash) (none : Bool) → AreAllClashes x clashes → IsTrue none ↔ (clashes ≡ []) →
         IfSome start (λ bytes. IsClashesAnswer asked bytes (clashes_text clashes) (listed_status none))
-    clashes-answer asked y clashes none narrowed all tells =
-        known_so start (λ bytes. BytesSpellWithin MAX_LINES bytes x)
+    clashes-answer clashes none all tells =
+        known_so start (SpellsNarrowed MAX_LINES asked x)
         (λ bytes. IsClashesAnswer asked bytes (clashes_text clashes) (listed_status none)) (λ bytes s. record {
-          extract = y;
-          spelled = record { whole = x; spelled = s; narrowed = narrowed };
+          extract = x;
+          spelled = s;
           clashes = clashes;
           are_clashes = all;
           text_is = refl;
           status_is = listed (clashes ≡ []) none tells;
         }) spelled
 
-  pub train-answer : (asked : Asked) (x : ExtractParts) → IfSome start (SpellsNarrowed MAX_LINES asked x) → (listing : Listing)
-      (form : Form) (uid text : List ℕ) → IsTrainListing listing form x uid text →
-      IfSome start (λ bytes. IsTrainAnswer listing form asked uid bytes text 0)
-  train-answer asked x spelled listing form uid text view =
-      known_so start (SpellsNarrowed MAX_LINES asked x) (λ bytes. IsTrainAnswer listing form asked uid bytes text 0)
-      (λ bytes s. record { extract = x; spelled = s; view = view; status_is = refl }) spelled
-
-  pub table-answer : (table : TableOf) (form : Form) (asked : Asked) (x : ExtractParts) → IfSome start (SpellsNarrowed MAX_LINES asked x) →
-      (c : CanonParts) → IsCanonOf form x c → IfSome start (λ bytes. IsTableAnswer table form asked bytes (table_text table c.lines) 0)
-  table-answer table form asked x spelled c is =
-      known_so start (SpellsNarrowed MAX_LINES asked x) (λ bytes. IsTableAnswer table form asked bytes (table_text table c.lines) 0)
-      (λ bytes s. record {
-        canonical = c.text;
-        counts = c.counts;
-        normalised = record {
-          meant = x;
-          accepted = record { spelled = s; clear = is.clear };
-          canonical = is.canonical;
-          unique = is.unique;
-          again = is.again asked s.whole s.narrowed;
-          reached = is.reached asked s.whole s.narrowed;
-          counted = is.counted;
-        };
-        text_is = ap (table_text table) is.lines_are;
-        status_is = refl;
-      }) spelled
+    pub table-answer : (table : TableOf) (form : Form) (c : CanonParts) → IsCanonOf form x c →
+        IfSome start (λ bytes. IsTableAnswer table form asked bytes (table_text table c.lines) 0)
+    table-answer table form c is =
+        known_so start (SpellsNarrowed MAX_LINES asked x) (λ bytes. IsTableAnswer table form asked bytes (table_text table c.lines) 0)
+        (λ bytes s. record {
+          canonical = c.text;
+          counts = c.counts;
+          normalised = record {
+            meant = x;
+            accepted = record { spelled = s; clear = is.clear };
+            canonical = is.canonical;
+            unique = is.unique;
+            again = is.again asked s.whole s.narrowed;
+            reached = is.reached asked s.whole s.narrowed;
+            counted = is.counted;
+          };
+          text_is = ap (table_text table) is.lines_are;
+          status_is = refl;
+        }) spelled
 
 -- two readers, of which what they give is read as these extracts
 module _ (asked : Asked) (common : Bool) (left right : Option (List ℕ)) (x y : ExtractParts)
@@ -163,10 +149,10 @@ module _ (asked : Asked) (common : Bool) (left right : Option (List ℕ)) (x y :
         status_is = refl;
       })
 
-  pub diff-answer : (d : DifferencesParts) (none : Bool) → AreDifferences x y d → IsTrue none ↔ AreNone d →
-      IfSome left (λ a. IfSome right (λ b. IsDiffAnswer asked common a b (differences_text d) (listed_status none)))
-  diff-answer d none are tells =
-      known-pair (λ a b. IsDiffAnswer asked common a b (differences_text d) (listed_status none)) (λ a b spelled. record {
+  pub diff-answer : (format : Format) (d : DifferencesParts) (none : Bool) → AreDifferences x y d → IsTrue none ↔ AreNone d →
+      IfSome left (λ a. IfSome right (λ b. IsDiffAnswer format asked common a b (differences_in format d) (listed_status none)))
+  diff-answer format d none are tells =
+      known-pair (λ a b. IsDiffAnswer format asked common a b (differences_in format d) (listed_status none)) (λ a b spelled. record {
         left = x;
         right = y;
         spelled = spelled;

@@ -1,11 +1,9 @@
 pub mod Answered
-pub mod CalendarFaults
 pub mod CheckedLines
+pub mod ClashlessFaults
 pub mod CommandBuilt
 pub mod Each
-pub mod FirstFault
 pub mod GivenWords
-pub mod HelpNotEntered
 pub mod KnownAnswers
 pub mod OwnSubcommand
 pub mod TrainFaults

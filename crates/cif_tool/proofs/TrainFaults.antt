@@ -13,11 +13,4 @@ use Rattle.cif_canon.proofs.Normalising.{canon-fault}
 pub train-fault : (max : ℕ) (asked : Asked) (bytes : List ℕ) (after : Unread) (x : ExtractParts) →
     SpellsNarrowed max asked x bytes → (f : Fault) → IsTrainFault x f → IsNormaliseFault max asked bytes after f
 train-fault max asked bytes after x s fault.Write h = tt
-train-fault max asked bytes after x s (fault.Refused line why) h =
-    canon-fault max asked bytes after x s (fault.Refused line why) h
-train-fault max asked bytes after x s (fault.Ambiguous clash) h = canon-fault max asked bytes after x s (fault.Ambiguous clash) h
-train-fault max asked bytes after x s fault.WindowsDiffer h = canon-fault max asked bytes after x s fault.WindowsDiffer h
-train-fault max asked bytes after x s fault.OutsideWindow h = canon-fault max asked bytes after x s fault.OutsideWindow h
-train-fault max asked bytes after x s fault.WindowReversed h = canon-fault max asked bytes after x s fault.WindowReversed h
-train-fault max asked bytes after x s fault.Read h = canon-fault max asked bytes after x s fault.Read h
-train-fault max asked bytes after x s fault.Memory h = canon-fault max asked bytes after x s fault.Memory h
+train-fault max asked bytes after x s f h = canon-fault max asked bytes after x s f h

@@ -17,14 +17,14 @@ use Rattle.cif_feed.specs.Reasons.{reasons_in, reasons_text}
 use Rattle.cif_weeks.specs.declared.form.Form.{Form}
 use Rattle.cif_canon.specs.Accepted.{SpellsNarrowed}
 use Rattle.cif_extract.specs.declared.fault.Clash.{Clash}
-use Rattle.cif_canon.specs.Asked.{IsNarrowingFault}
 use Rattle.cif_views.specs.Clashes.{AreAllClashes, clashes_text}
+use Rattle.cif_views.specs.DifferenceTable.{difference_table}
 use Rattle.cif_views.specs.WeekCalendar.{IsWeekCalendar}
 use Rattle.cif_canon.specs.Comparison.{AreCompared, comparison_line}
 use Rattle.cif_canon.specs.Counts.{counts_line}
 use Rattle.cif_canon.specs.Differences.{AreDifferences, AreNone, DifferencesParts, differences_text}
 use Rattle.cif_views.specs.Explanation.{IsExplanation, IsExplanationFault}
-use Rattle.cif_canon.specs.Fault.{IsNormaliseFault}
+use Rattle.cif_canon.specs.Fault.{IsNormaliseFault, IsReadNarrowedFault}
 use Rattle.cif_canon.specs.Lines.{lines_of}
 use Rattle.cif_canon.specs.Normalised.{FaultWrites, IsNormalised}
 use Rattle.cif_canon.specs.Pair.{FaultOfBoth, IsCompareRefusal, ReadsBoth, SpellPair}
@@ -36,6 +36,7 @@ use Rattle.cif_canon.specs.declared.asked.Asked.{Asked}
 use Rattle.cif_canon.specs.declared.comparison.Comparison.{Comparison}
 use Rattle.cif_canon.specs.declared.canonical_form.Counts.{Counts}
 use Rattle.cif_canon.specs.declared.rows.Format.{Format}
+use Rattle.cif_canon.specs.declared.rows.Format.TheVariants.{Text, Tsv}
 use Rattle.cif_views.specs.declared.listing.Listing.{Listing}
 use Rattle.cif_tool.specs.Status.{outcome_of}
 use Rattle.cif_tool.specs.declared.job.Job.{Job}
@@ -129,14 +130,19 @@ pub record IsCompareAnswer (asked : Asked) (common : Bool) (left_bytes right_byt
 abbrev pub IsListedStatus : Type 0 → ℕ → Type 0
 IsListedStatus None status = ((status ≡ 0) × None) ⊎ ((status ≡ 1) × ¬ None)
 
--- `diff` answers two inputs by their differences in the window that is asked for.
-pub record IsDiffAnswer (asked : Asked) (common : Bool) (left_bytes right_bytes text : List ℕ) (status : ℕ) : Type 0 where
+-- the text of differences in this format
+abbrev pub differences_in : Format → DifferencesParts → List ℕ
+differences_in Text differences = differences_text differences
+differences_in Tsv differences = difference_table differences
+
+-- `diff` answers two inputs by their differences in the window that is asked for, in this format.
+pub record IsDiffAnswer (format : Format) (asked : Asked) (common : Bool) (left_bytes right_bytes text : List ℕ) (status : ℕ) : Type 0 where
   pub left : ExtractParts
   pub right : ExtractParts
   pub spelled : SpellPair asked common left_bytes right_bytes left right
   pub differences : DifferencesParts
   pub are_differences : AreDifferences left right differences
-  pub text_is : text ≡ differences_text differences
+  pub text_is : text ≡ differences_in format differences
   pub status_is : IsListedStatus (AreNone differences) status
 
 -- `explain` answers these bytes by why the train runs on the day, or doesn't, in this format.
@@ -191,12 +197,11 @@ pub record IsCalendarAnswer (asked : Asked) (uid bytes text : List ℕ) (status 
   pub view : IsWeekCalendar extract uid text
   pub status_is : status ≡ 0
 
--- Why `clashes` or `calendar`, which refuse no clash, have no answer: the input's first refusal, or the window that is asked for doesn't fit, or memory ran out, or the sink
--- failed.
+-- Why `clashes` or `calendar`, which refuse no clash, have no answer: the bytes aren't read as an extract for the window that is asked
+-- for; or they are, and the sink failed.
 abbrev pub IsClashlessRefusal : Asked → List ℕ → Unread → Fault → Type 0
-IsClashlessRefusal asked bytes after fault = IsReadFault MAX_LINES bytes after fault
-    ⊎ ((extract : ExtractParts) × BytesSpellWithin MAX_LINES bytes extract
-    × (IsNarrowingFault asked extract.header fault ⊎ ((fault ≡ Memory) ⊎ (fault ≡ Write))))
+IsClashlessRefusal asked bytes after Write = (extract : ExtractParts) × SpellsNarrowed MAX_LINES asked extract bytes
+IsClashlessRefusal asked bytes after fault = IsReadNarrowedFault MAX_LINES asked bytes after fault
 
 -- where a command answers, its sink's writer holds nothing back: the whole answer is handed on
 abbrev pub IsHandedOn : {W A E : Type 0} → (W → Type 0) → Sink W → Result A E → Type 0
@@ -211,7 +216,7 @@ abbrev pub ReadsInputs : {R A : Type 0} → (R → Option (List ℕ)) → (R →
 ReadsInputs remaining errors (Compare left_file right_file asked common) left left_new right right_new result =
     ReadsBoth errors left left_new right right_new result × LeavesNothing remaining left left_new result
     × LeavesNothing remaining right right_new result
-ReadsInputs remaining errors (Diff left_file right_file asked common) left left_new right right_new result =
+ReadsInputs remaining errors (Diff left_file right_file asked common format) left left_new right right_new result =
     ReadsBoth errors left left_new right right_new result × LeavesNothing remaining left left_new result
     × LeavesNothing remaining right right_new result
 ReadsInputs remaining errors (CheckAll file asked form) source source_new right right_new result =
@@ -231,8 +236,8 @@ IsJobAnswer remaining (Check file asked form) source right = OfInput remaining (
 IsJobAnswer remaining (CheckAll file asked form) source right = OfInput remaining (IsCheckAllAnswer form asked) source
 IsJobAnswer remaining (Compare left_file right_file asked common) source right =
     OfBoth remaining (IsCompareAnswer asked common) source right
-IsJobAnswer remaining (Diff left_file right_file asked common) source right =
-    OfBoth remaining (IsDiffAnswer asked common) source right
+IsJobAnswer remaining (Diff left_file right_file asked common format) source right =
+    OfBoth remaining (IsDiffAnswer format asked common) source right
 IsJobAnswer remaining (Day day file listing) source right = OfInput remaining (IsDayAnswer listing day) source
 IsJobAnswer remaining (Train uid file asked form listing) source right =
     OfInput remaining (IsTrainAnswer listing form asked uid) source
@@ -252,7 +257,7 @@ IsJobFault remaining (CheckAll file asked form) source source_new right right_ne
     FaultOf remaining (IsCheckAllFault asked) source source_new result
 IsJobFault remaining (Compare left_file right_file asked common) source source_new right right_new result =
     FaultOfBoth remaining (IsCompareRefusal asked common) source source_new right right_new result
-IsJobFault remaining (Diff left_file right_file asked common) source source_new right right_new result =
+IsJobFault remaining (Diff left_file right_file asked common format) source source_new right right_new result =
     FaultOfBoth remaining (IsCompareRefusal asked common) source source_new right right_new result
 IsJobFault remaining (Day day file listing) source source_new right right_new result =
     FaultOf remaining (IsDayRefusal day) source source_new result

@@ -12,8 +12,8 @@ use Rattle.cif_tool.specs.declared.command_line.Argument.{Argument}
 use Rattle.cif_tool.specs.declared.command_line.Argument.TheVariants.{Verbose, File, Left, Right, Uid, Date, From, To, All, Common, Stops}
 use Rattle.cif_tool.specs.declared.command_line.Argument.TheVariants.{Form, Format, Full, Updates, Holidays, DropClashes, Lenient, Table}
 use Rattle.cif_tool.specs.declared.command_line.Choices.{Choices}
-use Rattle.cif_tool.specs.declared.command_line.Kind.{Kind}
-use Rattle.cif_tool.specs.declared.command_line.Kind.TheVariants as kind
+use Rattle.cif_tool.specs.declared.command_line.Syntax.{Syntax}
+use Rattle.cif_tool.specs.declared.command_line.Syntax.TheVariants as syntax
 use Rattle.cif_tool.specs.declared.command_line.Parts.{Parts}
 
 -- a word that may not be left out
@@ -54,40 +54,40 @@ one_of words rule = record rule { parser = Some (Names words) }
 abbrev pub one_of_or : Choice → Text → Rule → Rule
 one_of_or words default rule = record (one_of words rule) { defaults = default ∷ [] }
 
--- what an argument is called, and how it is given
-abbrev pub given : Argument → Text × Kind
-given Verbose = (codes "verbose", kind.Verbose)
-given File = (codes "FILE", kind.Word)
-given Left = (codes "LEFT", kind.Required)
-given Right = (codes "RIGHT", kind.Required)
-given Full = (codes "FULL", kind.Required)
-given Updates = (codes "UPDATE", kind.Several)
-given Uid = (codes "UID", kind.Required)
-given Date = (codes "YYMMDD", kind.Required)
-given From = (codes "from", kind.Date)
-given To = (codes "to", kind.Date)
-given All = (codes "all", kind.Flag)
-given Common = (codes "common", kind.Flag)
-given Stops = (codes "stops", kind.Flag)
-given Holidays = (codes "holidays", kind.Name)
-given DropClashes = (codes "drop-clashes", kind.Flag)
-given Lenient = (codes "lenient", kind.Flag)
-given Form = (codes "form", kind.Form)
-given Format = (codes "format", kind.Format)
-given Table = (codes "TABLE", kind.Table)
+-- what an argument is called, and how it is written
+abbrev pub given : Argument → Text × Syntax
+given Verbose = (codes "verbose", syntax.Verbose)
+given File = (codes "FILE", syntax.Word)
+given Left = (codes "LEFT", syntax.Required)
+given Right = (codes "RIGHT", syntax.Required)
+given Full = (codes "FULL", syntax.Required)
+given Updates = (codes "UPDATE", syntax.Several)
+given Uid = (codes "UID", syntax.Required)
+given Date = (codes "YYMMDD", syntax.Required)
+given From = (codes "from", syntax.Date)
+given To = (codes "to", syntax.Date)
+given All = (codes "all", syntax.Flag)
+given Common = (codes "common", syntax.Flag)
+given Stops = (codes "stops", syntax.Flag)
+given Holidays = (codes "holidays", syntax.Name)
+given DropClashes = (codes "drop-clashes", syntax.Flag)
+given Lenient = (codes "lenient", syntax.Flag)
+given Form = (codes "form", syntax.Form)
+given Format = (codes "format", syntax.Format)
+given Table = (codes "TABLE", syntax.Table)
 
 -- what a subcommand can take
-abbrev pub argument : Choices → Text × Kind → Rule
-argument choices (id, kind.Word) = new_rule id
-argument choices (id, kind.Required) = required id
-argument choices (id, kind.Several) = several id
-argument choices (id, kind.Flag) = flag id
-argument choices (id, kind.Verbose) = record (flag id) { short = Some 118 }
-argument choices (id, kind.Name) = option id
-argument choices (id, kind.Date) = option id
-argument choices (id, kind.Form) = one_of_or choices.forms (codes "2") (option id)
-argument choices (id, kind.Format) = one_of_or choices.formats (codes "text") (option id)
-argument choices (id, kind.Table) = one_of choices.tables (required id)
+abbrev pub argument : Choices → Text × Syntax → Rule
+argument choices (id, syntax.Word) = new_rule id
+argument choices (id, syntax.Required) = required id
+argument choices (id, syntax.Several) = several id
+argument choices (id, syntax.Flag) = flag id
+argument choices (id, syntax.Verbose) = record (flag id) { short = Some 118 }
+argument choices (id, syntax.Name) = option id
+argument choices (id, syntax.Date) = option id
+argument choices (id, syntax.Form) = one_of_or choices.forms (codes "2") (option id)
+argument choices (id, syntax.Format) = one_of_or choices.formats (codes "text") (option id)
+argument choices (id, syntax.Table) = one_of choices.tables (required id)
 
 -- a subcommand that takes these arguments too
 abbrev pub taking : Choices → App → List Argument → App
@@ -106,9 +106,9 @@ check = Verbose ∷ File ∷ From ∷ To ∷ Form ∷ All ∷ []
 abbrev pub compare : List Argument
 compare = Verbose ∷ Left ∷ Right ∷ From ∷ To ∷ Common ∷ []
 
--- `cif diff [-v] [--from YYMMDD] [--to YYMMDD] [--common] LEFT RIGHT`
+-- `cif diff [-v] [--from YYMMDD] [--to YYMMDD] [--common] [--format FORMAT] LEFT RIGHT`
 abbrev pub diff : List Argument
-diff = Verbose ∷ Left ∷ Right ∷ From ∷ To ∷ Common ∷ []
+diff = Verbose ∷ Left ∷ Right ∷ From ∷ To ∷ Common ∷ Format ∷ []
 
 -- `cif day [-v] [--stops] [--format FORMAT] YYMMDD [FILE]`
 abbrev pub day : List Argument

@@ -17,8 +17,8 @@ use Rattle.cif_weeks.specs.declared.form.Form.TheVariants.{One, Two}
 use Rattle.cif_tool.specs.CommandLine.{AreChoices, chosen, extract_subcommands, faults_of, feed_subcommands, given}
 use Rattle.cif_tool.specs.declared.command_line.Argument.{Argument}
 use Rattle.cif_tool.specs.declared.command_line.Choices.{Choices}
-use Rattle.cif_tool.specs.declared.command_line.Kind.{Kind}
-use Rattle.cif_tool.specs.declared.command_line.Kind.TheVariants as kind
+use Rattle.cif_tool.specs.declared.command_line.Syntax.{Syntax}
+use Rattle.cif_tool.specs.declared.command_line.Syntax.TheVariants as syntax
 use Rattle.cif_tool.specs.declared.job.Call.{Call}
 use Rattle.cif_tool.specs.declared.job.FeedJob.{FeedJob}
 use Rattle.cif_tool.specs.declared.job.FeedJob.TheVariants.{Prepare, Update}
@@ -127,8 +127,9 @@ IsChosen (CheckAll file asked form) met = (met.0 ≡ codes "check") × (has_all 
     × AreCanonicalWords met.1 (option_map string_bytes file) asked form
 IsChosen (Compare left right asked common) met = (met.0 ≡ codes "compare")
     × AreTwoFilesWords met.1 (string_bytes left) (string_bytes right) asked common
-IsChosen (Diff left right asked common) met = (met.0 ≡ codes "diff")
+IsChosen (Diff left right asked common shape) met = (met.0 ≡ codes "diff")
     × AreTwoFilesWords met.1 (string_bytes left) (string_bytes right) asked common
+    × (shape ≡ format_of (first_of (codes "format") met.1))
 IsChosen (Day day file listing) met = (met.0 ≡ codes "day")
     × IsDateOf (first_of (codes "YYMMDD") met.1) (Some day)
     × HasFile met.1 (option_map string_bytes file)
@@ -184,11 +185,11 @@ IsTaskChosen (Feed job) = IsFeedChosen job
 abbrev pub IsCallChosen : Call → Text × List Row → Type 0
 IsCallChosen call met = IsTaskChosen call.task met × (call.verbose ≡ is_set (first_of (codes "verbose") met.1))
 
--- a word of this id is there, if one of its kind may not be left out, and so is the rest
-abbrev pub HasRequiredWord : Kind → Text → List Row → Type 0 → Type 0
-HasRequiredWord kind.Required id rows Rest = HasWord id rows × Rest
-HasRequiredWord kind.Several id rows Rest = HasWord id rows × Rest
-HasRequiredWord kind.Table id rows Rest = HasWord id rows × Rest
+-- a word of this id is there, if one that is written so may not be left out, and so is the rest
+abbrev pub HasRequiredWord : Syntax → Text → List Row → Type 0 → Type 0
+HasRequiredWord syntax.Required id rows Rest = HasWord id rows × Rest
+HasRequiredWord syntax.Several id rows Rest = HasWord id rows × Rest
+HasRequiredWord syntax.Table id rows Rest = HasWord id rows × Rest
 HasRequiredWord _ id rows Rest = Rest
 
 -- of these arguments those are there that may not be left out
@@ -222,7 +223,7 @@ input_names (Normalise file asked form) = (option_map string_bytes file, None)
 input_names (Check file asked form) = (option_map string_bytes file, None)
 input_names (CheckAll file asked form) = (option_map string_bytes file, None)
 input_names (Compare left right asked common) = (Some (string_bytes left), Some (string_bytes right))
-input_names (Diff left right asked common) = (Some (string_bytes left), Some (string_bytes right))
+input_names (Diff left right asked common shape) = (Some (string_bytes left), Some (string_bytes right))
 input_names (Day day file listing) = (option_map string_bytes file, None)
 input_names (Train uid file asked form listing) = (option_map string_bytes file, None)
 input_names (Explain uid day file shape) = (option_map string_bytes file, None)

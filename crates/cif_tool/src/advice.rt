@@ -1,7 +1,7 @@
 //! What `--verbose` says on standard error beyond the line that names a fault. It is said when the answer is decided
 //! and changes nothing of it.
 use crate::answers::Kept;
-use crate::devices::{ExtractInput, LONGEST, LineAgain, START, Written, line_again};
+use crate::devices::{ExtractInput, LineAgain, MOST_LOOKED_AT, START, Written, line_again};
 use crate::job::{Job, JobFault};
 use crate::message::Message;
 use crate::refused_columns::columns_refused;
@@ -456,7 +456,7 @@ fn format_of(start: &[u8]) -> Option<&'static str> {
 /// The line of this number, if it is still known: of a file, or the first of the standard input.
 fn refused_line<R: Files + Input>(input: &ExtractInput<'_, R>, number: u64) -> Option<LineAgain> {
     match input.again() {
-        Some(mut file) => line_again(&mut file, number, LONGEST),
+        Some(mut file) => line_again(&mut file, number, MOST_LOOKED_AT),
         None if number == 1 => line_again(&mut input.start.as_slice(), number, START),
         None => None,
     }
@@ -486,8 +486,8 @@ fn add_line(line: &LineAgain, why: Refusal, reader: Reader, message: &mut Messag
             add_columns(29, 29, "a holiday code is a space, X, E or G", message);
         }
         _ => {
-            if let Some(refused) = columns_refused(line.bytes.as_slice(), why) {
-                add_columns(refused.first, refused.last, refused.what, message);
+            if let Some((first, last, what)) = columns_refused(line.bytes.as_slice(), why) {
+                add_columns(first, last, what, message);
             }
         }
     }
@@ -515,7 +515,7 @@ fn add_length(length: usize, known: usize, message: &mut Message) {
     if length < known {
         let mut columns = Buffer::new();
         message.line(&["the line has ", columns.format(length), " columns, not 80"]);
-    } else if known == LONGEST {
+    } else if known == MOST_LOOKED_AT {
         message.line(&["the line has thousands of columns, not 80"]);
     } else {
         message.line(&["the line has more than 80 columns"]);

@@ -1,13 +1,15 @@
 //! What each command answers, for any devices, and which of them a job asks for.
-ghost use Rattle.std.specs.Prelude.{ℕ, List, IfErr, IfOk};
+ghost use Rattle.std.specs.Prelude.{◌≡◌, ℕ, List, IfErr, IfOk};
 ghost use Rattle.cif_canon.specs.Fault.{IsNormaliseFault};
 ghost use Rattle.cif_canon.specs.Normalised.{IsNormalised};
 ghost use Rattle.cif_canon.specs.Pair.{FaultOfBoth, IsCompareRefusal, ReadsBoth};
+ghost use Rattle.cif_columns.specs.Sink.{Writes};
 ghost use Rattle.cif_columns.specs.Source.{Unread};
 ghost use Rattle.cif_columns.specs.declared.line_reader.TheConstants.{MAX_LINES};
 ghost use Rattle.cif_extract.specs.ExtractParts.{extract_parts};
 ghost use Rattle.cif_extract.specs.ReadFault.{FaultOf, FaultReads, LeavesNothing};
 ghost use Rattle.cif_extract.specs.SpellsExtract.{BytesSpellWithin};
+ghost use Rattle.cif_extract.specs.declared.fault.Fault.TheVariants.{Write};
 ghost use Rattle.cif_tool.specs.Answer.{IsCountFault};
 ghost use Rattle.cif_tool.specs.Answer.{Answers, IsCalendarAnswer, IsCheckAllAnswer, IsCheckAllFault};
 ghost use Rattle.cif_tool.specs.Answer.{IsCheckAnswer, IsClashesAnswer, IsClashlessRefusal};
@@ -15,20 +17,20 @@ ghost use Rattle.cif_tool.specs.Answer.{LeavesUnlessListed};
 ghost use Rattle.cif_tool.specs.Answer.{IsCompareAnswer, IsDayAnswer, IsDayRefusal, IsDiffAnswer};
 ghost use Rattle.cif_tool.specs.Answer.{IsExplainAnswer, IsExplainRefusal, IsHandedOn, IsJobAnswer};
 ghost use Rattle.cif_tool.specs.Answer.{IsJobFault, IsNormaliseAnswer, IsTableAnswer, IsTrainAnswer, OfBoth};
-ghost use Rattle.cif_tool.specs.Answer.{Finishes, OfInput, ReadsInputs};
+ghost use Rattle.cif_tool.specs.Answer.{Finishes, OfInput, ReadsInputs, differences_in};
 
 use crate::job::Job;
 use crate::status::{DONE, REFUSED, listed, outcome};
 use cif_canon::{
-    Asked, Counts, Format, canon, check_keeping, compare, differences, narrow, normalise_keeping,
-    read_narrowed, read_pair, write_comparison, write_counts,
+    Asked, Counts, Differences, Format, canon, check_keeping, compare, differences, narrow,
+    normalise_keeping, read_narrowed, read_pair, write_comparison, write_counts,
 };
 use cif_columns::{Day, MAX_LINES, ReadDevice, Sink, Source, Uid, WriteDevice};
 use cif_extract::{Extract, Fault, read_extract};
 use cif_feed::{Judged, Reasons};
 use cif_views::{
     Listing, Table, clashes, day_listing, explain_listing, train_listing, week_calendar,
-    write_table,
+    write_difference_table, write_table,
 };
 use cif_weeks::Form;
 use std::alloc::Global;
@@ -177,8 +179,9 @@ pub fn answer_compare<R: ReadDevice, W: WriteDevice>(
     finish(written, sink, outcome(&comparison))
 }
 
-/// Writes in what the extracts of two sources differ, and answers 0 where they don't, else 1. The
-/// right one isn't touched before the left one is read to its end and no line of it is refused.
+/// Writes in what the extracts of two sources differ, in this format, and answers 0 where they don't,
+/// else 1. The right one isn't touched before the left one is read to its end and no line of it is
+/// refused.
 pub fn answer_diff<R: ReadDevice, W: WriteDevice>(
     alloc: Global,
     left: &mut Source<R>,
@@ -186,10 +189,11 @@ pub fn answer_diff<R: ReadDevice, W: WriteDevice>(
     sink: &mut Sink<W>,
     asked: &Asked,
     common: bool,
+    format: Format,
     kept: &mut Kept,
 ) -> Result<u8, Fault>
     ensures answer { Answers W.contents W.write_errors
-        (OfBoth R.remaining (IsDiffAnswer asked.now common) left.old right.old)
+        (OfBoth R.remaining (IsDiffAnswer format asked.now common) left.old right.old)
         sink.old sink.new result }
     ensures fault { FaultOfBoth R.remaining (IsCompareRefusal asked.now common)
         left.old left.new right.old right.new result }
@@ -202,7 +206,24 @@ pub fn answer_diff<R: ReadDevice, W: WriteDevice>(
     let left = kept.left.insert(left);
     let right = kept.right.insert(right);
     let found = differences(alloc, left, right)?;
-    finish(found.write(sink), sink, listed(found.is_empty()))
+    let written = write_differences(&found, format, sink);
+    finish(written, sink, listed(found.is_empty()))
+}
+
+/// Appends the differences in this format.
+fn write_differences<W: WriteDevice>(
+    found: &Differences<'_>,
+    format: Format,
+    sink: &mut Sink<W>,
+) -> Result<(), Fault>
+    ensures writes { Writes W.contents W.write_errors (differences_in format found.now)
+        sink.old sink.new result }
+    ensures fault { IfErr result (λ fault. fault ≡ Write) }
+{
+    match format {
+        Format::Text => found.write(sink),
+        Format::Tsv => write_difference_table(found, sink),
+    }
 }
 
 /// Writes what runs on the day, in this listing, and answers status 0.
@@ -298,8 +319,7 @@ pub fn answer_clashes<R: ReadDevice, W: WriteDevice>(
     ensures end { LeavesNothing R.remaining source.old source.new result }
     ensures handed_on { IsHandedOn W.holds_nothing sink.new result }
 {
-    let mut extract = read_extract(alloc, source, MAX_LINES)?;
-    narrow(&mut extract, asked)?;
+    let extract = read_narrowed(alloc, source, MAX_LINES, asked)?;
     let found = clashes(alloc, &extract)?;
     finish(found.write(sink), sink, listed(found.is_empty()))
 }
@@ -346,8 +366,7 @@ pub fn answer_calendar<R: ReadDevice, W: WriteDevice>(
     ensures end { LeavesNothing R.remaining source.old source.new result }
     ensures handed_on { IsHandedOn W.holds_nothing sink.new result }
 {
-    let mut extract = read_extract(alloc, source, MAX_LINES)?;
-    narrow(&mut extract, asked)?;
+    let extract = read_narrowed(alloc, source, MAX_LINES, asked)?;
     let extract = kept.insert(extract);
     finish(week_calendar(alloc, extract, uid, sink), sink, DONE)
 }
@@ -411,7 +430,8 @@ pub fn answer<R: ReadDevice, W: WriteDevice>(
             right: _,
             asked,
             common,
-        } => answer_diff(alloc, source, right, sink, asked, *common, kept),
+            format,
+        } => answer_diff(alloc, source, right, sink, asked, *common, *format, kept),
         Job::Day {
             day,
             file: _,

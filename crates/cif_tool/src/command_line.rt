@@ -7,12 +7,16 @@ ghost use Rattle.cif_tool.specs.CommandLine.{AreChoices, IsCommand, argument, ch
 ghost use Rattle.cif_tool.specs.CommandLine.{given, subcommands, taken, taking};
 
 use crate::help;
+use Argument::{
+    All, Common, Date, DropClashes, File, Form, Format, From, Full, Holidays, Left, Lenient, Right,
+    Stops, Table, To, Uid, Updates, Verbose,
+};
 use clap::{Arg, ArgAction, ArgMatches, Command};
 use std::alloc::{AllocError, Global};
 
-/// How an argument is given.
+/// How an argument is written.
 #[derive(Clone, Copy)]
-enum Kind {
+enum Syntax {
     /// By a word that may be left out.
     Word,
     /// By a word that may not be left out.
@@ -33,14 +37,6 @@ enum Kind {
     Format,
     /// By a word that may not be left out, and names a table.
     Table,
-}
-
-/// What an argument is called, how it is given, and what help says of it.
-#[derive(Clone, Copy)]
-struct Given<'a> {
-    id: &'a str,
-    kind: Kind,
-    help: &'a str,
 }
 
 /// What a subcommand can take.
@@ -68,106 +64,30 @@ enum Argument {
 }
 
 impl Argument {
-    /// How it is given.
-    fn given(self) -> Given<'static>
-        ensures { (result.id.now, result.kind) ≡ given self }
+    /// What it is called, how it is written, and what help says of it.
+    fn given(self) -> (&'static str, Syntax, &'static str)
+        ensures { (result.0.now, result.1) ≡ given self }
     {
         match self {
-            Argument::Verbose => Given {
-                id: "verbose",
-                kind: Kind::Verbose,
-                help: help::VERBOSE,
-            },
-            Argument::File => Given {
-                id: "FILE",
-                kind: Kind::Word,
-                help: help::FILE,
-            },
-            Argument::Left => Given {
-                id: "LEFT",
-                kind: Kind::Required,
-                help: help::LEFT,
-            },
-            Argument::Right => Given {
-                id: "RIGHT",
-                kind: Kind::Required,
-                help: help::RIGHT,
-            },
-            Argument::Full => Given {
-                id: "FULL",
-                kind: Kind::Required,
-                help: help::FULL,
-            },
-            Argument::Updates => Given {
-                id: "UPDATE",
-                kind: Kind::Several,
-                help: help::UPDATES,
-            },
-            Argument::Uid => Given {
-                id: "UID",
-                kind: Kind::Required,
-                help: help::UID,
-            },
-            Argument::Date => Given {
-                id: "YYMMDD",
-                kind: Kind::Required,
-                help: help::DATE,
-            },
-            Argument::From => Given {
-                id: "from",
-                kind: Kind::Date,
-                help: help::FROM,
-            },
-            Argument::To => Given {
-                id: "to",
-                kind: Kind::Date,
-                help: help::TO,
-            },
-            Argument::All => Given {
-                id: "all",
-                kind: Kind::Flag,
-                help: help::ALL,
-            },
-            Argument::Common => Given {
-                id: "common",
-                kind: Kind::Flag,
-                help: help::COMMON,
-            },
-            Argument::Stops => Given {
-                id: "stops",
-                kind: Kind::Flag,
-                help: help::STOPS,
-            },
-            Argument::Holidays => Given {
-                id: "holidays",
-                kind: Kind::Name,
-                help: help::HOLIDAYS,
-            },
-            Argument::DropClashes => Given {
-                id: "drop-clashes",
-                kind: Kind::Flag,
-                help: help::DROP_CLASHES,
-            },
-            Argument::Lenient => Given {
-                id: "lenient",
-                kind: Kind::Flag,
-                help: help::LENIENT,
-            },
-            Argument::Form => Given {
-                id: "form",
-                kind: Kind::Form,
-                help: help::FORM,
-            },
-            Argument::Format => Given {
-                id: "format",
-                kind: Kind::Format,
-                help: help::FORMAT,
-            },
-            Argument::Table => Given {
-                id: "TABLE",
-                kind: Kind::Table,
-                help: help::TABLES,
-            },
+            Verbose => ("verbose", Syntax::Verbose, help::VERBOSE),
+            File => ("FILE", Syntax::Word, help::FILE),
+            Left => ("LEFT", Syntax::Required, help::LEFT),
+            Right => ("RIGHT", Syntax::Required, help::RIGHT),
+            Full => ("FULL", Syntax::Required, help::FULL),
+            Updates => ("UPDATE", Syntax::Several, help::UPDATES),
+            Uid => ("UID", Syntax::Required, help::UID),
+            Date => ("YYMMDD", Syntax::Required, help::DATE),
+            From => ("from", Syntax::Date, help::FROM),
+            To => ("to", Syntax::Date, help::TO),
+            All => ("all", Syntax::Flag, help::ALL),
+            Common => ("common", Syntax::Flag, help::COMMON),
+            Stops => ("stops", Syntax::Flag, help::STOPS),
+            Holidays => ("holidays", Syntax::Name, help::HOLIDAYS),
+            DropClashes => ("drop-clashes", Syntax::Flag, help::DROP_CLASHES),
+            Lenient => ("lenient", Syntax::Flag, help::LENIENT),
+            Form => ("form", Syntax::Form, help::FORM),
+            Format => ("format", Syntax::Format, help::FORMAT),
+            Table => ("TABLE", Syntax::Table, help::TABLES),
         }
     }
 }
@@ -208,32 +128,32 @@ pub(crate) fn all_choices() -> Choices<'static>
 }
 
 /// The argument that is given so.
-fn arg_of<'a>(alloc: Global, given: Given<'a>, choices: &Choices<'a>) -> Arg<'a>
-    ensures rule { rule_of result ≡ argument choices.now (given.entry.id.now, given.entry.kind) }
+fn arg_of<'a>(alloc: Global, given: (&'a str, Syntax, &'a str), choices: &Choices<'a>) -> Arg<'a>
+    ensures rule { rule_of result ≡ argument choices.now (given.entry.0.now, given.entry.1) }
     ensures local { result.global ≡ false }
 {
-    let id = given.id;
-    let arg = Arg::new(alloc, id).help(given.help);
-    match given.kind {
-        Kind::Word => arg,
-        Kind::Required => arg.required(true),
-        Kind::Several => arg.required(true).num_args(1..),
-        Kind::Flag => arg.long(id).action(ArgAction::SetTrue),
-        Kind::Verbose => arg.long(id).short('v').action(ArgAction::SetTrue),
-        Kind::Name => arg.long(id).value_name("FILE"),
-        Kind::Date => arg.long(id).value_name("YYMMDD"),
-        Kind::Form => arg
+    let (id, syntax, help) = given;
+    let arg = Arg::new(alloc, id).help(help);
+    match syntax {
+        Syntax::Word => arg,
+        Syntax::Required => arg.required(true),
+        Syntax::Several => arg.required(true).num_args(1..),
+        Syntax::Flag => arg.long(id).action(ArgAction::SetTrue),
+        Syntax::Verbose => arg.long(id).short('v').action(ArgAction::SetTrue),
+        Syntax::Name => arg.long(id).value_name("FILE"),
+        Syntax::Date => arg.long(id).value_name("YYMMDD"),
+        Syntax::Form => arg
             .long(id)
             .value_name("FORM")
             .value_parser(choices.forms)
             .default_value("2"),
-        Kind::Format => arg
+        Syntax::Format => arg
             .long(id)
             .value_name("FORMAT")
             .value_parser(choices.formats)
             .default_value("text"),
         // Help would have them in a line of more than 80 columns.
-        Kind::Table => arg
+        Syntax::Table => arg
             .required(true)
             .value_parser(choices.tables)
             .hide_possible_values(true),
@@ -274,149 +194,73 @@ fn subcommands() -> &'static [Parts<'static>]
             name: "normalise",
             about: help::NORMALISE,
             more: help::NORMALISE_MORE,
-            arguments: &[
-                Argument::Verbose,
-                Argument::File,
-                Argument::From,
-                Argument::To,
-                Argument::Form,
-            ],
+            arguments: &[Verbose, File, From, To, Form],
         },
         Parts {
             name: "check",
             about: help::CHECK,
             more: help::CHECK_MORE,
-            arguments: &[
-                Argument::Verbose,
-                Argument::File,
-                Argument::From,
-                Argument::To,
-                Argument::Form,
-                Argument::All,
-            ],
+            arguments: &[Verbose, File, From, To, Form, All],
         },
         Parts {
             name: "compare",
             about: help::COMPARE,
             more: help::COMPARE_MORE,
-            arguments: &[
-                Argument::Verbose,
-                Argument::Left,
-                Argument::Right,
-                Argument::From,
-                Argument::To,
-                Argument::Common,
-            ],
+            arguments: &[Verbose, Left, Right, From, To, Common],
         },
         Parts {
             name: "diff",
             about: help::DIFF,
             more: help::DIFF_MORE,
-            arguments: &[
-                Argument::Verbose,
-                Argument::Left,
-                Argument::Right,
-                Argument::From,
-                Argument::To,
-                Argument::Common,
-            ],
+            arguments: &[Verbose, Left, Right, From, To, Common, Format],
         },
         Parts {
             name: "day",
             about: help::DAY,
             more: help::DAY_MORE,
-            arguments: &[
-                Argument::Verbose,
-                Argument::Date,
-                Argument::File,
-                Argument::Stops,
-                Argument::Format,
-            ],
+            arguments: &[Verbose, Date, File, Stops, Format],
         },
         Parts {
             name: "train",
             about: help::TRAIN,
             more: help::TRAIN_MORE,
-            arguments: &[
-                Argument::Verbose,
-                Argument::Uid,
-                Argument::File,
-                Argument::From,
-                Argument::To,
-                Argument::Form,
-                Argument::Stops,
-                Argument::Format,
-            ],
+            arguments: &[Verbose, Uid, File, From, To, Form, Stops, Format],
         },
         Parts {
             name: "explain",
             about: help::EXPLAIN,
             more: help::EXPLAIN_MORE,
-            arguments: &[
-                Argument::Verbose,
-                Argument::Uid,
-                Argument::Date,
-                Argument::File,
-                Argument::Format,
-            ],
+            arguments: &[Verbose, Uid, Date, File, Format],
         },
         Parts {
             name: "clashes",
             about: help::CLASHES,
             more: help::CLASHES_MORE,
-            arguments: &[
-                Argument::Verbose,
-                Argument::File,
-                Argument::From,
-                Argument::To,
-            ],
+            arguments: &[Verbose, File, From, To],
         },
         Parts {
             name: "table",
             about: help::TABLE,
             more: help::TABLE_MORE,
-            arguments: &[
-                Argument::Verbose,
-                Argument::Table,
-                Argument::File,
-                Argument::From,
-                Argument::To,
-                Argument::Form,
-            ],
+            arguments: &[Verbose, Table, File, From, To, Form],
         },
         Parts {
             name: "calendar",
             about: help::CALENDAR,
             more: help::CALENDAR_MORE,
-            arguments: &[
-                Argument::Verbose,
-                Argument::Uid,
-                Argument::File,
-                Argument::From,
-                Argument::To,
-            ],
+            arguments: &[Verbose, Uid, File, From, To],
         },
         Parts {
             name: "prepare",
             about: help::PREPARE,
             more: help::PREPARE_MORE,
-            arguments: &[
-                Argument::Verbose,
-                Argument::File,
-                Argument::Holidays,
-                Argument::DropClashes,
-            ],
+            arguments: &[Verbose, File, Holidays, DropClashes],
         },
         Parts {
             name: "update",
             about: help::UPDATE,
             more: help::UPDATE_MORE,
-            arguments: &[
-                Argument::Verbose,
-                Argument::Full,
-                Argument::Updates,
-                Argument::Lenient,
-            ],
+            arguments: &[Verbose, Full, Updates, Lenient],
         },
     ]
 }
@@ -426,7 +270,7 @@ fn program<'a>(alloc: Global, choices: &Choices<'a>) -> Result<Command<'a>, Allo
     ensures { IfOk result (IsCommand (cif choices.now)) }
 {
     let mut command = described(alloc, "cif", help::CIF, help::CIF_MORE)
-        .version("0.1.0")
+        .version("0.2.0")
         .subcommand_required(true);
     for parts in subcommands() {
         command = with_parts(alloc, command, parts, choices)?;

@@ -3,10 +3,12 @@ ghost use Rattle.std.specs.Io.{ReadsAtMost};
 
 use crate::words::is_standard;
 use arrayvec::ArrayVec;
-use cif_columns::{LINE_WIDTH, Line, ReadDevice, WriteDevice};
+use cif_columns::{LINE_WIDTH, Line, ReadDevice, Sink, WriteDevice};
+use cif_extract::Fault;
 use cif_records::Header;
+use std::alloc::Global;
 use std::fs::OpenFile;
-use std::io::{Read, Seek, SeekFrom, Write};
+use std::io::{BufWriter, Read, Seek, SeekFrom, Write};
 use std::rt::Files;
 use std::{fs, io};
 
@@ -206,8 +208,22 @@ impl<W: Write> WriteDevice for Output<'_, W> {
     }
 }
 
+/// The bytes of output that are gathered before they are written.
+const OUTPUT_BUFFER: usize = 65_536;
+
+/// A sink that gathers what goes to the output; Memory comes where there is none for it.
+pub(crate) fn buffered<W: WriteDevice + Drop>(
+    alloc: Global,
+    output: W,
+) -> Result<Sink<BufWriter<W>>, Fault> {
+    match BufWriter::with_capacity(alloc, OUTPUT_BUFFER, output) {
+        Ok(output) => Ok(Sink::new(output)),
+        Err(_) => Err(Fault::Memory),
+    }
+}
+
 /// The bytes of a line that are looked at before it counts as endless.
-pub(crate) const LONGEST: usize = 4096;
+pub(crate) const MOST_LOOKED_AT: usize = 4096;
 
 /// A line of an input that is read again.
 #[derive(Drop)]
@@ -216,7 +232,7 @@ pub(crate) struct LineAgain {
     before: u64,
     /// Its first bytes.
     pub(crate) bytes: ArrayVec<u8, LINE_WIDTH>,
-    /// How many it has, up to `LONGEST`.
+    /// How many it has, up to `MOST_LOOKED_AT`.
     pub(crate) length: usize,
     /// From how many on not all of them are known.
     pub(crate) known: usize,
@@ -240,7 +256,7 @@ impl LineAgain {
             }
             return true;
         }
-        if self.length == LONGEST {
+        if self.length == MOST_LOOKED_AT {
             return true;
         }
         let _ = self.bytes.try_push(byte);
@@ -259,7 +275,7 @@ pub(crate) fn line_again<F: Read>(file: &mut F, number: u64, known: usize) -> Op
         known,
         last: 0,
     };
-    let mut chunk = [0; LONGEST];
+    let mut chunk = [0; MOST_LOOKED_AT];
     for _ in 0..u64::MAX {
         match file.read(&mut chunk) {
             Ok(0) => break,

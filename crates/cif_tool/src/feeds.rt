@@ -2,10 +2,9 @@
 //! `tests/` show it on the built program. What is read, done and written is said by the clauses of `cif_feed`:
 //! of `prepare` by one, and of `update` input by input.
 use crate::advice::{add_feed_fault, add_holiday_line, add_window, add_write_failure};
-use crate::devices::{ExtractInput, Output, Written};
+use crate::devices::{ExtractInput, Output, Written, buffered};
 use crate::job::FeedJob;
 use crate::message::Message;
-use crate::program::OUTPUT_BUFFER;
 use crate::status::{DONE, REFUSED, status};
 use arrayvec::ArrayString;
 use cif_columns::{MAX_LINES, Sink, Source, WriteDevice};
@@ -18,7 +17,6 @@ use cif_records::Header;
 use itoa::Buffer;
 use std::alloc::Global;
 use std::fmt::Write;
-use std::io::BufWriter;
 use std::rt::Files;
 use std::{io, mem};
 
@@ -187,10 +185,9 @@ fn prepare<R: Files + Input + Print + AllocGlobal>(
         writer: io::writer(rt),
         written: &mut written,
     };
-    let Ok(output) = BufWriter::with_capacity(alloc, OUTPUT_BUFFER, output) else {
+    let Ok(mut output) = buffered(alloc, output) else {
         return Err(MEMORY);
     };
-    let mut output = Sink::new(output);
     let mut source = Source::new(ExtractInput::of(rt, "", file));
     let mut kept = None;
     let answer = write_prepared(
@@ -203,7 +200,7 @@ fn prepare<R: Files + Input + Print + AllocGlobal>(
         &mut kept,
     );
     let answer = flushed(answer, &mut output);
-    // A `BufWriter` that is dropped writes what it holds, also after a failure.
+    // One that is dropped writes what it holds, also after a failure.
     mem::forget(output);
     let done = match answer {
         Ok(dropped) => {
@@ -355,10 +352,9 @@ fn write<R: Files + Input + Print + AllocGlobal>(
         writer: io::writer(rt),
         written: &mut written,
     };
-    let Ok(output) = BufWriter::with_capacity(rt.alloc(), OUTPUT_BUFFER, output) else {
+    let Ok(mut output) = buffered(rt.alloc(), output) else {
         return Err(MEMORY);
     };
-    let mut output = Sink::new(output);
     let done = match extract.write(&mut output) {
         Ok(()) => output.flush(),
         Err(fault) => Err(fault),

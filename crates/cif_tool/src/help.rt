@@ -86,11 +86,15 @@ pub(crate) const DIFF_MORE: &str = "\
 Prints the records of what only one of the two says: its lines begin with `< `
 if that is LEFT, and with `> ` if it is RIGHT. Locations come first, then
 associations, then schedules. If there is no difference, prints nothing.
+--format tsv prints a table instead: field names in the first line, tabs between
+fields. Two records of one train or association with the same dates and days
+have a row for each field that differs, and any other record has one row.
 With --common, the common window goes from the later of the two first dates
 to the earlier of the two last dates. Extracts of different days need it.
 
-Example:
+Examples:
   cif diff --common yesterday.cif today.cif
+  cif diff --format tsv old.cif new.cif > changes.tsv
 
 Statuses:
   0  no difference

@@ -59,12 +59,13 @@ pub enum Job {
         asked: Asked,
         common: bool,
     },
-    /// To list everything in which two extracts differ. `common` is as of `Compare`.
+    /// To list everything in which two extracts differ, in this format. `common` is as of `Compare`.
     Diff {
         left: String,
         right: String,
         asked: Asked,
         common: bool,
+        format: Format,
     },
     /// To list what runs on a day, in this listing.
     Day {

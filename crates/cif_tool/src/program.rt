@@ -2,7 +2,7 @@
 //! show it on the built program.
 use crate::advice::{advise, advise_on_word, must_be};
 use crate::answers::{Kept, answer};
-use crate::devices::{ExtractInput, Output, Written};
+use crate::devices::{ExtractInput, Output, Written, buffered};
 use crate::feeds::feed_task;
 use crate::job::{Job, JobFault, Task};
 use crate::status::{MISTAKEN, end};
@@ -11,12 +11,9 @@ use cif_columns::{ReadDevice, Sink, Source, WriteDevice};
 use cif_extract::Fault;
 use std::alloc::Global;
 use std::env::Env;
-use std::io::{BufWriter, ErrorKind};
+use std::io::ErrorKind;
 use std::rt::Files;
 use std::{env, io, mem};
-
-/// The bytes of output that are gathered before they are written.
-pub(crate) const OUTPUT_BUFFER: usize = 65_536;
 
 const NOT_TEXT: &str =
     "error: an argument is no text in UTF-8\n\nFor more information, try '--help'.\n";
@@ -26,7 +23,7 @@ const NOT_TEXT: &str =
 pub fn run<R: Env + Files + Input + Print + AllocGlobal, E: Print>(rt: &R, errors: &E) -> u8 {
     let mut errors = Sink::new(io::writer(errors));
     match words_of(rt) {
-        Ok(words) => asked(rt, words, &mut errors),
+        Ok(words) => run_words(rt, words, &mut errors),
         Err(error) => {
             if error.kind() == ErrorKind::OutOfMemory {
                 end(&Err(Fault::Memory), &mut errors)
@@ -39,7 +36,7 @@ pub fn run<R: Env + Files + Input + Print + AllocGlobal, E: Print>(rt: &R, error
 }
 
 /// Does what these words ask for, and returns the status to exit with.
-fn asked<R: Env + Files + Input + Print + AllocGlobal, W: WriteDevice>(
+fn run_words<R: Env + Files + Input + Print + AllocGlobal, W: WriteDevice>(
     rt: &R,
     words: Vec<String>,
     errors: &mut Sink<W>,
@@ -137,16 +134,11 @@ fn answered<R: ReadDevice, W: WriteDevice + Drop>(
     output: W,
     kept: &mut Kept,
 ) -> Result<u8, Fault> {
-    match BufWriter::with_capacity(alloc, OUTPUT_BUFFER, output) {
-        Ok(output) => {
-            let mut output = Sink::new(output);
-            let answer = answer(alloc, job, left, right, &mut output, kept);
-            // A `BufWriter` that is dropped writes what it holds, also after a failure.
-            mem::forget(output);
-            answer
-        }
-        Err(_) => Err(Fault::Memory),
-    }
+    let mut output = buffered(alloc, output)?;
+    let answer = answer(alloc, job, left, right, &mut output, kept);
+    // One that is dropped writes what it holds, also after a failure.
+    mem::forget(output);
+    answer
 }
 
 /// Says why the words ask for nothing: help and the version on the output, all else on `errors`.
@@ -156,14 +148,9 @@ fn explained<O: WriteDevice + Drop, W: WriteDevice>(
     output: O,
     errors: &mut Sink<W>,
 ) -> Result<u8, Fault> {
-    match BufWriter::with_capacity(alloc, OUTPUT_BUFFER, output) {
-        Ok(output) => {
-            let mut output = Sink::new(output);
-            let answer = fault.explain(alloc, &mut output, errors);
-            // As in `answered`.
-            mem::forget(output);
-            answer
-        }
-        Err(_) => Err(Fault::Memory),
-    }
+    let mut output = buffered(alloc, output)?;
+    let answer = fault.explain(alloc, &mut output, errors);
+    // As in `answered`.
+    mem::forget(output);
+    answer
 }

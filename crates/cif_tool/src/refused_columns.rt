@@ -1,19 +1,9 @@
 //! Which columns of a line a refusal is about, and what must stand there.
 use cif_columns::{Day, PublicTime, Refusal, WorkTime};
 
-/// Columns of a line for which a reason can refuse it.
-#[derive(Clone, Copy)]
-pub(crate) struct RefusedColumns {
-    /// The first two letters of the lines that it is about; none: of all.
-    kind: &'static str,
-    /// The reason.
-    why: Refusal,
-    /// The first and the last column, counted from 1.
-    pub(crate) first: usize,
-    pub(crate) last: usize,
-    /// What must stand there.
-    pub(crate) what: &'static str,
-}
+const IDENTITY: &str = "no kind of record has this identity";
+
+const PLACE: &str = "a record of this kind can't stand here";
 
 const DDMMYY: &str = "must be a valid date as six digits, DDMMYY";
 
@@ -25,6 +15,8 @@ const REVERSED: &str = "the first date is after the last";
 
 const DAYS: &str = "a day is 0 or 1";
 
+const BANK_HOLIDAY: &str = "bank holiday running must be a space";
+
 const STP: &str = "the STP indicator is P, N, O or C";
 
 const WORKING: &str = "a working time is HHMM, then a space or H";
@@ -33,269 +25,76 @@ const PUBLIC: &str = "a public time is HHMM";
 
 const UPDATE: &str = "this is an update extract, not a full one";
 
-/// The columns for which each reason can refuse a line, those of one reason in their order.
-static TABLE: [RefusedColumns; 31] = [
-    RefusedColumns {
-        kind: "",
-        why: Refusal::UnknownRecord,
-        first: 1,
-        last: 2,
-        what: "no kind of record has this identity",
-    },
-    RefusedColumns {
-        kind: "",
-        why: Refusal::OutOfOrder,
-        first: 1,
-        last: 2,
-        what: "a record of this kind can't stand here",
-    },
-    RefusedColumns {
-        kind: "HD",
-        why: Refusal::NotFull,
-        first: 47,
-        last: 47,
-        what: UPDATE,
-    },
-    RefusedColumns {
-        kind: "AA",
-        why: Refusal::NotFull,
-        first: 3,
-        last: 3,
-        what: UPDATE,
-    },
-    RefusedColumns {
-        kind: "BS",
-        why: Refusal::NotFull,
-        first: 3,
-        last: 3,
-        what: UPDATE,
-    },
-    RefusedColumns {
-        kind: "T",
-        why: Refusal::NotFull,
-        first: 1,
-        last: 2,
-        what: UPDATE,
-    },
-    RefusedColumns {
-        kind: "HD",
-        why: Refusal::BadDate,
-        first: 49,
-        last: 54,
-        what: DDMMYY,
-    },
-    RefusedColumns {
-        kind: "HD",
-        why: Refusal::BadDate,
-        first: 55,
-        last: 60,
-        what: DDMMYY,
-    },
-    RefusedColumns {
-        kind: "HD",
-        why: Refusal::DatesReversed,
-        first: 49,
-        last: 60,
-        what: REVERSED,
-    },
-    RefusedColumns {
-        kind: "AA",
-        why: Refusal::BadDate,
-        first: 16,
-        last: 21,
-        what: YYMMDD,
-    },
-    RefusedColumns {
-        kind: "AA",
-        why: Refusal::BadDate,
-        first: 22,
-        last: 27,
-        what: YYMMDD,
-    },
-    RefusedColumns {
-        kind: "AA",
-        why: Refusal::OpenEnd,
-        first: 22,
-        last: 27,
-        what: OPEN,
-    },
-    RefusedColumns {
-        kind: "AA",
-        why: Refusal::DatesReversed,
-        first: 16,
-        last: 27,
-        what: REVERSED,
-    },
-    RefusedColumns {
-        kind: "AA",
-        why: Refusal::BadDays,
-        first: 28,
-        last: 34,
-        what: DAYS,
-    },
-    RefusedColumns {
-        kind: "AA",
-        why: Refusal::BadStp,
-        first: 80,
-        last: 80,
-        what: STP,
-    },
-    RefusedColumns {
-        kind: "BS",
-        why: Refusal::BadDate,
-        first: 10,
-        last: 15,
-        what: YYMMDD,
-    },
-    RefusedColumns {
-        kind: "BS",
-        why: Refusal::BadDate,
-        first: 16,
-        last: 21,
-        what: YYMMDD,
-    },
-    RefusedColumns {
-        kind: "BS",
-        why: Refusal::OpenEnd,
-        first: 16,
-        last: 21,
-        what: OPEN,
-    },
-    RefusedColumns {
-        kind: "BS",
-        why: Refusal::DatesReversed,
-        first: 10,
-        last: 21,
-        what: REVERSED,
-    },
-    RefusedColumns {
-        kind: "BS",
-        why: Refusal::BadDays,
-        first: 22,
-        last: 28,
-        what: DAYS,
-    },
-    RefusedColumns {
-        kind: "BS",
-        why: Refusal::BankHoliday,
-        first: 29,
-        last: 29,
-        what: "bank holiday running must be a space",
-    },
-    RefusedColumns {
-        kind: "BS",
-        why: Refusal::BadStp,
-        first: 80,
-        last: 80,
-        what: STP,
-    },
-    RefusedColumns {
-        kind: "LO",
-        why: Refusal::BadTime,
-        first: 11,
-        last: 15,
-        what: WORKING,
-    },
-    RefusedColumns {
-        kind: "LO",
-        why: Refusal::BadTime,
-        first: 16,
-        last: 19,
-        what: PUBLIC,
-    },
-    RefusedColumns {
-        kind: "LI",
-        why: Refusal::BadTime,
-        first: 11,
-        last: 15,
-        what: WORKING,
-    },
-    RefusedColumns {
-        kind: "LI",
-        why: Refusal::BadTime,
-        first: 16,
-        last: 20,
-        what: WORKING,
-    },
-    RefusedColumns {
-        kind: "LI",
-        why: Refusal::BadTime,
-        first: 21,
-        last: 25,
-        what: WORKING,
-    },
-    RefusedColumns {
-        kind: "LI",
-        why: Refusal::BadTime,
-        first: 26,
-        last: 29,
-        what: PUBLIC,
-    },
-    RefusedColumns {
-        kind: "LI",
-        why: Refusal::BadTime,
-        first: 30,
-        last: 33,
-        what: PUBLIC,
-    },
-    RefusedColumns {
-        kind: "LT",
-        why: Refusal::BadTime,
-        first: 11,
-        last: 15,
-        what: WORKING,
-    },
-    RefusedColumns {
-        kind: "LT",
-        why: Refusal::BadTime,
-        first: 16,
-        last: 19,
-        what: PUBLIC,
-    },
+/// For which columns a reason can refuse a line: with which letters the line begins, the reason, the first and the
+/// last column, counted from 1, and what must stand there. Those of one reason are in their order.
+static TABLE: [(&str, Refusal, usize, usize, &str); 31] = [
+    ("", Refusal::UnknownRecord, 1, 2, IDENTITY),
+    ("", Refusal::OutOfOrder, 1, 2, PLACE),
+    ("HD", Refusal::NotFull, 47, 47, UPDATE),
+    ("AA", Refusal::NotFull, 3, 3, UPDATE),
+    ("BS", Refusal::NotFull, 3, 3, UPDATE),
+    ("T", Refusal::NotFull, 1, 2, UPDATE),
+    ("HD", Refusal::BadDate, 49, 54, DDMMYY),
+    ("HD", Refusal::BadDate, 55, 60, DDMMYY),
+    ("HD", Refusal::DatesReversed, 49, 60, REVERSED),
+    ("AA", Refusal::BadDate, 16, 21, YYMMDD),
+    ("AA", Refusal::BadDate, 22, 27, YYMMDD),
+    ("AA", Refusal::OpenEnd, 22, 27, OPEN),
+    ("AA", Refusal::DatesReversed, 16, 27, REVERSED),
+    ("AA", Refusal::BadDays, 28, 34, DAYS),
+    ("AA", Refusal::BadStp, 80, 80, STP),
+    ("BS", Refusal::BadDate, 10, 15, YYMMDD),
+    ("BS", Refusal::BadDate, 16, 21, YYMMDD),
+    ("BS", Refusal::OpenEnd, 16, 21, OPEN),
+    ("BS", Refusal::DatesReversed, 10, 21, REVERSED),
+    ("BS", Refusal::BadDays, 22, 28, DAYS),
+    ("BS", Refusal::BankHoliday, 29, 29, BANK_HOLIDAY),
+    ("BS", Refusal::BadStp, 80, 80, STP),
+    ("LO", Refusal::BadTime, 11, 15, WORKING),
+    ("LO", Refusal::BadTime, 16, 19, PUBLIC),
+    ("LI", Refusal::BadTime, 11, 15, WORKING),
+    ("LI", Refusal::BadTime, 16, 20, WORKING),
+    ("LI", Refusal::BadTime, 21, 25, WORKING),
+    ("LI", Refusal::BadTime, 26, 29, PUBLIC),
+    ("LI", Refusal::BadTime, 30, 33, PUBLIC),
+    ("LT", Refusal::BadTime, 11, 15, WORKING),
+    ("LT", Refusal::BadTime, 16, 19, PUBLIC),
 ];
 
-/// The columns for which the line is refused, and what must stand there.
-pub(crate) fn columns_refused(line: &[u8], why: Refusal) -> Option<RefusedColumns> {
+/// The first and the last column for which the line is refused, and what must stand there.
+pub(crate) fn columns_refused(line: &[u8], why: Refusal) -> Option<(usize, usize, &'static str)> {
     if why == Refusal::BadByte {
         return bad_byte(line);
     }
-    for refused in &TABLE {
-        if refused.why == why && is_refused(refused, line) {
-            return Some(*refused);
+    for (kind, reason, first, last, what) in &TABLE {
+        if *reason == why
+            && line.starts_with(kind.as_bytes())
+            && let Some(columns) = line.get(first.saturating_sub(1)..*last)
+            && is_refused(kind, why, columns)
+        {
+            return Some((*first, *last, what));
         }
     }
     None
 }
 
 /// The column of the first byte that isn't printable.
-fn bad_byte(line: &[u8]) -> Option<RefusedColumns> {
+fn bad_byte(line: &[u8]) -> Option<(usize, usize, &'static str)> {
     let mut column: usize = 0;
     for byte in line {
         column = column.saturating_add(1);
         if !(0x20..=0x7E).contains(byte) {
-            return Some(RefusedColumns {
-                kind: "",
-                why: Refusal::BadByte,
-                first: column,
-                last: column,
-                what: "a byte is 0x20 to 0x7E",
-            });
+            return Some((column, column, "a byte is 0x20 to 0x7E"));
         }
     }
     None
 }
 
-/// Whether what stands in the columns of the line is refused.
-fn is_refused(refused: &RefusedColumns, line: &[u8]) -> bool {
-    if !line.starts_with(refused.kind.as_bytes()) {
-        return false;
-    }
-    let Some(columns) = line.get(refused.first.saturating_sub(1)..refused.last) else {
-        return false;
-    };
-    match refused.why {
+/// Whether these columns of a line that begins so are refused.
+fn is_refused(kind: &str, why: Refusal, columns: &[u8]) -> bool {
+    match why {
         Refusal::BadDate => match <[u8; 6]>::try_from(columns) {
-            Ok(date) if refused.kind == "HD" => Day::from_ddmmyy(&date).is_none(),
+            Ok(date) if kind == "HD" => Day::from_ddmmyy(&date).is_none(),
             Ok(date) => Day::from_yymmdd(&date).is_none(),
             Err(_) => false,
         },

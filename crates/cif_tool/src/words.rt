@@ -173,6 +173,7 @@ fn two_files_job(alloc: Global, name: &str, matches: &ArgMatches<'_>) -> Result<
             common,
             left,
             right,
+            format: format_of(matches),
         }),
     }
 }

@@ -1,8 +1,14 @@
 mod AllFields
 pub mod CallTexts
 pub mod ClashLists
+mod DifferenceRows
+mod DifferingCells
+pub mod DifferingFields
 mod ExplainedMarks
 mod ExplainedTexts
 mod Explaining
+mod PairedBodies
+mod PairedJourneys
+mod RowsOfDifferences
 pub mod TableRows
 pub mod WeekLines

@@ -1,5 +1,5 @@
 -- Each row of a table has a field for each of its names.
-use Rattle.std.specs.Prelude.{◌≡◌, ℕ, Bool, true, false, List, ◌++◌, length}
+use Rattle.std.specs.Prelude.{◌≡◌, ℕ, Bool, true, false, List, [], ◌∷◌, ◌++◌, length, replicate}
 use Rattle.cif_extract.specs.BodyParts.{BodyParts}
 use Rattle.cif_records.specs.declared.association.AssocBody.{AssocBody}
 use Rattle.cif_records.specs.declared.association.AssocKey.{AssocKey}
@@ -7,10 +7,11 @@ use Rattle.cif_records.specs.declared.origin.Origin.{Origin}
 use Rattle.cif_records.specs.declared.stop.Stop.{Stop}
 use Rattle.cif_records.specs.declared.terminus.Terminus.{Terminus}
 use Rattle.cif_weeks.specs.Permanent.{Permanent}
-use Rattle.cif_canon.specs.Fields.{Field, led}
+use Rattle.cif_canon.specs.Fields.{Field, led, nothing}
 use Rattle.cif_canon.specs.Rows.{schedule_row, train_row}
 use Rattle.cif_canon.specs.declared.rows.Format.TheVariants.{Tsv}
 use Rattle.cif_views.specs.Calls.{call_names, origin_fields, stop_fields, terminus_fields}
+use Rattle.cif_views.specs.DifferenceTable.{Stands, association_head, difference_names, schedule_head, text, tiploc_head}
 use Rattle.cif_views.specs.Explanation.{Explained, explained_association_fields, explained_train_fields, explanation_names}
 use Rattle.cif_views.specs.Listing.{association_fields_of, date_field, day_names, train_names, uid_field}
 use Rattle.cif_views.specs.Tables.{TableFields, association_fields, call_fields, change_fields, header_fields, names, row_fields}
@@ -62,3 +63,16 @@ pub record TrainRowsHaveAll : Type 0 where
 pub record ExplainedRowsHaveAll : Type 0 where
   pub association : (d : ℕ) (e : Explained AssocKey AssocBody) → HasAll explanation_names (explained_association_fields Tsv d e)
   pub train : (d : ℕ) (e : Explained (List ℕ) BodyParts) → HasAll explanation_names (explained_train_fields Tsv d e)
+
+-- The rows of differences: of what only one side has, and of a field of a pair. Those of a location, of an association and of a schedule
+-- begin with as many fields.
+abbrev pub HaveAllBehind : List Field → Type 0
+HaveAllBehind head =
+    HasAll difference_names (head ++ replicate 6 nothing)
+    × ((at : Stands) (name : List ℕ) (left right : Field) →
+    HasAll difference_names (head ++ (at.call ∷ at.identity ∷ at.place ∷ text name ∷ left ∷ right ∷ [])))
+
+pub record DifferenceRowsHaveAll : Type 0 where
+  pub tiploc : (change : Field) (line : List ℕ) → HaveAllBehind (tiploc_head change line)
+  pub association : (change : Field) (line : List ℕ) → HaveAllBehind (association_head change line)
+  pub schedule : (change : Field) (line : List ℕ) → HaveAllBehind (schedule_head change line)

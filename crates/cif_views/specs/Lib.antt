@@ -1,8 +1,10 @@
 pub mod AllFields
 pub mod Calls
 pub mod Clashes
+pub mod DifferenceTable
 pub mod Explanation
 pub mod Listing
+pub mod RowsOfDifferences
 pub mod Steps
 pub mod Tables
 pub mod WeekCalendar

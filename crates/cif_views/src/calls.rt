@@ -12,7 +12,7 @@ ghost use Rattle.cif_views.specs.Steps.Rows.{row_lines};
 
 use crate::listing::Listing;
 use arrayvec::ArrayString;
-use cif_canon::rows::{LONGEST, push_fields, started};
+use cif_canon::rows::{LONGEST_ROW, push_fields, started};
 use cif_canon::writing::append;
 use cif_canon::{Format, Shape};
 use cif_columns::{Sink, WriteDevice};
@@ -27,10 +27,10 @@ const NO_PUBLIC_TIME: &[u8] = b"    ";
 const NO_TRACK: &[u8] = b"   ";
 
 /// The line of a call of this kind, with these fields.
-fn call_line(format: Format, kind: &[u8], fields: &[(Shape, &[u8])]) -> ArrayString<LONGEST>
+fn call_line(format: Format, kind: &[u8], fields: &[(Shape, &[u8])]) -> ArrayString<LONGEST_ROW>
     requires kind { ArePrintable kind.now }
     requires fields { AreFields (map (λ field. (field.0, field.1.now)) fields.now) }
-    requires room { length kind.now + width (map (λ field. (field.0, field.1.now)) fields.now) + 1 ≤ LONGEST }
+    requires room { length kind.now + width (map (λ field. (field.0, field.1.now)) fields.now) + 1 ≤ LONGEST_ROW }
     ensures { result.bytes ≡ line_of format ((Trimmed, kind.now) ∷ map (λ field. (field.0, field.1.now)) fields.now) }
 {
     let mut line = started("", format, Shape::Trimmed, kind);
@@ -40,7 +40,7 @@ fn call_line(format: Format, kind: &[u8], fields: &[(Shape, &[u8])]) -> ArrayStr
 }
 
 /// The line of an origin.
-fn origin_line(format: Format, origin: &Origin) -> ArrayString<LONGEST>
+fn origin_line(format: Format, origin: &Origin) -> ArrayString<LONGEST_ROW>
     ensures { result.bytes ≡ line_of format (origin_fields origin.now) }
 {
     call_line(
@@ -63,7 +63,7 @@ fn origin_line(format: Format, origin: &Origin) -> ArrayString<LONGEST>
 }
 
 /// The line of a location on the way.
-fn stop_line(format: Format, stop: &Stop) -> ArrayString<LONGEST>
+fn stop_line(format: Format, stop: &Stop) -> ArrayString<LONGEST_ROW>
     ensures { result.bytes ≡ line_of format (stop_fields stop.now) }
 {
     call_line(
@@ -86,7 +86,7 @@ fn stop_line(format: Format, stop: &Stop) -> ArrayString<LONGEST>
 }
 
 /// The line of a terminus.
-fn terminus_line(format: Format, terminus: &Terminus) -> ArrayString<LONGEST>
+fn terminus_line(format: Format, terminus: &Terminus) -> ArrayString<LONGEST_ROW>
     ensures { result.bytes ≡ line_of format (terminus_fields terminus.now) }
 {
     call_line(
@@ -109,7 +109,7 @@ fn terminus_line(format: Format, terminus: &Terminus) -> ArrayString<LONGEST>
 }
 
 /// Appends what stands before a call's line, and the line.
-fn write_both<W: WriteDevice>(before: &str, line: &ArrayString<LONGEST>, sink: &mut Sink<W>)
+fn write_both<W: WriteDevice>(before: &str, line: &ArrayString<LONGEST_ROW>, sink: &mut Sink<W>)
     ensures { IsAppended W.contents W.write_errors (before.now ++ line.now.bytes) sink.old sink.new }
 {
     append(before, sink);
@@ -159,11 +159,11 @@ fn write_calls<W: WriteDevice>(format: Format, before: &str, body: &Body, sink: 
 /// Appends the lines of a train with this row, and those of its calls if they are listed.
 pub(crate) fn write_row<W: WriteDevice>(
     listing: Listing,
-    row: ArrayString<LONGEST>,
+    row: ArrayString<LONGEST_ROW>,
     body: &Body,
     sink: &mut Sink<W>,
 )
-    requires { array_string_len row + 1 ≤ LONGEST }
+    requires { array_string_len row + 1 ≤ LONGEST_ROW }
     ensures { IsAppended W.contents W.write_errors (row_lines listing row.bytes body.now)
         sink.old sink.new }
 {

@@ -12,7 +12,7 @@ use cif_extract::{Clash, Fault};
 use std::marker::Model;
 
 /// The bytes of the longest line: that of associations.
-const LONGEST: usize = 54;
+const LONGEST_CLASH_LINE: usize = 54;
 
 /// The clashes of an extract in its window: a clause sees them as a list, in which associations come
 /// before trains, and both rise by key.
@@ -66,7 +66,7 @@ fn write_clashes<W: WriteDevice>(clashes: &[Clash], sink: &mut Sink<W>)
 
 /// The line of a clash.
 #[tactic(auto, unfolding(crate::specs::Clashes::clash_line))]
-fn line_of(clash: &Clash) -> ArrayString<LONGEST>
+fn line_of(clash: &Clash) -> ArrayString<LONGEST_CLASH_LINE>
     ensures { result.bytes ≡ clash_line clash.now }
 {
     let mut line = ArrayString::new();

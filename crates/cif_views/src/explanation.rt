@@ -18,7 +18,7 @@ use crate::marks::{Applying, ExplainedEntry, Mark, mark_at, records_on};
 use arrayvec::ArrayString;
 use cif_calendar::Entry;
 use cif_canon::rows::{
-    LONGEST, NO_ASSOCIATION, NO_TRAIN, lead, push_association, push_field, push_fields,
+    LONGEST_ROW, NO_ASSOCIATION, NO_TRAIN, lead, push_association, push_field, push_fields,
     push_left_out, push_train, started,
 };
 use cif_canon::writing::{answer, append};
@@ -118,7 +118,7 @@ fn columns_of(mark: Mark) -> [u8; 6]
 }
 
 /// The beginning of a line: in a table the date, then the mark and the kind.
-fn begun(format: Format, day: Day, mark: Mark, kind: &[u8; 2]) -> ArrayString<LONGEST>
+fn begun(format: Format, day: Day, mark: Mark, kind: &[u8; 2]) -> ArrayString<LONGEST_ROW>
     requires { ArePrintable kind.now }
     ensures text { result.bytes ≡ (lead format (date_field day) ++ shown format (Trimmed, mark_columns mark))
         ++ (separator format ∷ shown format (Trimmed, kind.now)) }
@@ -131,8 +131,8 @@ fn begun(format: Format, day: Day, mark: Mark, kind: &[u8; 2]) -> ArrayString<LO
 }
 
 /// Appends the letter, the dates and the mask of a record.
-fn push_terms<E: Entry>(line: &mut ArrayString<LONGEST>, format: Format, entry: &E)
-    requires { array_string_len line.old + 32 ≤ LONGEST }
+fn push_terms<E: Entry>(line: &mut ArrayString<LONGEST_ROW>, format: Format, entry: &E)
+    requires { array_string_len line.old + 32 ≤ LONGEST_ROW }
     ensures text { line.new.bytes ≡ line.old.bytes ++ after format (terms_fields (E.terms entry.now)) }
     ensures len { array_string_len line.new ≤ array_string_len line.old + 32 }
 {
@@ -150,11 +150,11 @@ fn push_terms<E: Entry>(line: &mut ArrayString<LONGEST>, format: Format, entry: 
 
 /// Appends what an association says.
 fn push_said_of_association(
-    line: &mut ArrayString<LONGEST>,
+    line: &mut ArrayString<LONGEST_ROW>,
     format: Format,
     association: &Association,
 )
-    requires { array_string_len line.old + 35 ≤ LONGEST }
+    requires { array_string_len line.old + 35 ≤ LONGEST_ROW }
     ensures text { line.new.bytes ≡ line.old.bytes
         ++ after format (said_of_association format association.now.key association.now.body) }
     ensures len { array_string_len line.new ≤ array_string_len line.old + 35 }
@@ -187,8 +187,8 @@ fn push_said_of_association(
 }
 
 /// Appends what a schedule says.
-fn push_said_of_train(line: &mut ArrayString<LONGEST>, format: Format, schedule: &Schedule)
-    requires { array_string_len line.old + 52 ≤ LONGEST }
+fn push_said_of_train(line: &mut ArrayString<LONGEST_ROW>, format: Format, schedule: &Schedule)
+    requires { array_string_len line.old + 52 ≤ LONGEST_ROW }
     ensures text { line.new.bytes ≡ line.old.bytes
         ++ after format (said_of_train format schedule.now.uid schedule.now.body) }
     ensures len { array_string_len line.new ≤ array_string_len line.old + 52 }
@@ -213,7 +213,7 @@ impl ExplainedEntry for Association {
         self.key.base == *uid || self.key.associated == *uid
     }
 
-    fn line(&self, format: Format, day: Day, mark: Mark) -> ArrayString<LONGEST> {
+    fn line(&self, format: Format, day: Day, mark: Mark) -> ArrayString<LONGEST_ROW> {
         let mut line = begun(format, day, mark, b"AA");
         push_terms(&mut line, format, self);
         push_left_out(&mut line, format, NO_TRAIN);
@@ -234,7 +234,7 @@ impl ExplainedEntry for Schedule {
         self.uid == *uid
     }
 
-    fn line(&self, format: Format, day: Day, mark: Mark) -> ArrayString<LONGEST> {
+    fn line(&self, format: Format, day: Day, mark: Mark) -> ArrayString<LONGEST_ROW> {
         let mut line = begun(format, day, mark, b"BS");
         push_terms(&mut line, format, self);
         push_said_of_train(&mut line, format, self);

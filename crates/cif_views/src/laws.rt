@@ -6,10 +6,17 @@ ghost use Rattle.cif_calendar.specs.Keys.{of_key};
 ghost use Rattle.cif_calendar.specs.Runs.{Runs};
 ghost use Rattle.cif_calendar.specs.Terms.{AreLawful, Terms};
 ghost use Rattle.cif_calendar.specs.declared.day_state.DayState.{DayState};
-ghost use Rattle.cif_views.specs.AllFields.{CallsHaveAll, DayRowsHaveAll, ExplainedRowsHaveAll};
-ghost use Rattle.cif_views.specs.AllFields.{TablesHaveAll, TrainRowsHaveAll};
+ghost use Rattle.cif_canon.specs.Accepted.{IsAccepted};
+ghost use Rattle.cif_canon.specs.Differences.{AreDifferences, AreNone, DifferencesParts};
+ghost use Rattle.cif_canon.specs.declared.asked.Asked.{Asked};
+ghost use Rattle.cif_extract.specs.ExtractParts.{ExtractParts};
+ghost use Rattle.cif_views.specs.AllFields.{CallsHaveAll, DayRowsHaveAll, DifferenceRowsHaveAll};
+ghost use Rattle.cif_views.specs.AllFields.{ExplainedRowsHaveAll, TablesHaveAll, TrainRowsHaveAll};
+ghost use Rattle.cif_views.specs.DifferenceTable.{difference_names, difference_table};
 ghost use Rattle.cif_views.specs.Explanation.{AreExplained, Explained, HasWinningMark};
 ghost use Rattle.cif_views.specs.Explanation.{SomeApplies};
+ghost use Rattle.cif_views.specs.RowsOfDifferences.{HaveRows};
+ghost use Rattle.cif_views.specs.Tables.{names_line};
 ghost use Rattle.cif_views.specs.WeekCalendar.{IsRunningLetter};
 ghost use Rattle.cif_views.specs.declared.marks.Mark.TheVariants.{Wins};
 
@@ -39,6 +46,19 @@ pub fn rows_have_all_fields()
     ensures day { DayRowsHaveAll }
     ensures train { TrainRowsHaveAll }
     ensures explanation { ExplainedRowsHaveAll }
+    ensures differences { DifferenceRowsHaveAll }
+{}
+
+/// The table of the differences of two accepted inputs has a row for each location, record and pair
+/// that is listed, and is the line of its names alone exactly where there is no difference.
+pub fn a_row_for_each_difference()
+    ensures rows { (asked other : Asked) (left right : List ℕ) (x y : ExtractParts)
+        (d : DifferencesParts) → IsAccepted asked x left → IsAccepted other y right
+        → AreDifferences x y d → HaveRows d }
+    ensures none { (asked other : Asked) (left right : List ℕ) (x y : ExtractParts)
+        (d : DifferencesParts) → IsAccepted asked x left → IsAccepted other y right
+        → AreDifferences x y d
+        → (difference_table d ≡ names_line difference_names) ↔ AreNone d }
 {}
 
 /// A letter other than C stands exactly where a train runs and its winners don't differ.

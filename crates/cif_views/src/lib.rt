@@ -5,6 +5,7 @@
 mod calendar_weeks;
 mod calls;
 mod clash_list;
+mod difference_table;
 mod explanation;
 mod find_clashes;
 pub mod laws;
@@ -15,6 +16,7 @@ mod tables;
 
 pub use calendar_weeks::week_calendar;
 pub use clash_list::Clashes;
+pub use difference_table::write_difference_table;
 pub use explanation::{explain_listing, explain_view};
 pub use find_clashes::clashes;
 pub use listing::{Listing, day_listing, train_listing};

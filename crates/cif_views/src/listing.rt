@@ -12,7 +12,7 @@ ghost use Rattle.cif_views.specs.Steps.Rows.{first_field, heading_text, names_be
 use crate::calls::write_row;
 use arrayvec::ArrayString;
 use cif_canon::rows::{
-    LEAD, LONGEST, association_row, lead, push_left_out, schedule_row, train_row,
+    LEAD, LONGEST_ROW, association_row, lead, push_left_out, schedule_row, train_row,
 };
 use cif_canon::writing::append;
 use cif_canon::{DayLines, Format, Shape, TrainLines, write_day, write_train};
@@ -185,7 +185,7 @@ impl TrainLines for Led {
 
 /// The line of an association that holds.
 #[tactic(auto, unfolding(crate::specs::Listing::association_line))]
-fn association_line(led: &Led, key: &AssocKey, body: &AssocBody) -> ArrayString<LONGEST>
+fn association_line(led: &Led, key: &AssocKey, body: &AssocBody) -> ArrayString<LONGEST_ROW>
     ensures { result.bytes ≡ association_line led.now.listing (first_field led.now.first) (key.now, body.now) }
 {
     let mut line = association_row(led.beginning().as_str(), led.listing.format, key, body);
@@ -195,8 +195,8 @@ fn association_line(led: &Led, key: &AssocKey, body: &AssocBody) -> ArrayString<
 }
 
 /// Appends the fields of a call, empty, if the line is a row of a table of calls.
-fn push_no_call(line: &mut ArrayString<LONGEST>, listing: Listing)
-    requires { array_string_len line.old + 12 ≤ LONGEST }
+fn push_no_call(line: &mut ArrayString<LONGEST_ROW>, listing: Listing)
+    requires { array_string_len line.old + 12 ≤ LONGEST_ROW }
     ensures text { line.new.bytes ≡ line.old.bytes ++ after listing.format (no_call listing) }
     ensures len { array_string_len line.new ≤ array_string_len line.old + 12 }
 {

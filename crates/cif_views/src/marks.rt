@@ -8,7 +8,7 @@ ghost use Rattle.cif_views.specs.Steps.Explanation.{IsRisingBy, placed_cmp, plac
 use arrayvec::ArrayString;
 use cif_calendar::{Dates, Entry, precedence, same_body};
 use cif_canon::Format;
-use cif_canon::rows::LONGEST;
+use cif_canon::rows::LONGEST_ROW;
 use cif_columns::{Day, Uid};
 use std::alloc::{AllocError, Global};
 use std::cmp::Ordering;
@@ -41,7 +41,7 @@ pub trait ExplainedEntry: Entry {
         ensures { IsTrue result ↔ is_of (Self.key self.now) uid.now };
 
     /// Its line on the day, with a mark.
-    fn line(&self, format: Format, day: Day, mark: Mark) -> ArrayString<LONGEST>
+    fn line(&self, format: Format, day: Day, mark: Mark) -> ArrayString<LONGEST_ROW>
         ensures { (place : ℕ) → result.bytes ≡ line format day (record {
           place = place;
           key = Self.key self.now;

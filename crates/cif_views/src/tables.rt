@@ -291,7 +291,7 @@ fn write_schedule<W: WriteDevice>(number: usize, schedule: &CanonSchedule<'_>, s
 }
 
 /// The BX that stands first among the lines, or a line of spaces.
-fn extra_among(lines: &LineSlice<'_>) -> Line
+pub(crate) fn extra_among(lines: &LineSlice<'_>) -> Line
     ensures { result ≡ extra_in lines.now }
 {
     if lines.is_empty() {
@@ -327,7 +327,7 @@ fn write_journey<W: WriteDevice>(
 }
 
 /// The kind of a line of a journey.
-fn kind_of_line(line: &Line) -> JourneyKind
+pub(crate) fn kind_of_line(line: &Line) -> JourneyKind
     ensures { result ≡ kind_of_line line.now }
 {
     match kind_of(line) {
@@ -340,7 +340,7 @@ fn kind_of_line(line: &Line) -> JourneyKind
 }
 
 /// The number of the next call behind a line of this kind; before the line it is this one.
-fn call_after(call: usize, kind: JourneyKind) -> usize
+pub(crate) fn call_after(call: usize, kind: JourneyKind) -> usize
     requires { call ≤ 2 ^ 63 }
     ensures { result ≡ cond (is_call kind) (call + 1) call }
 {

@@ -22,9 +22,6 @@ use std::str;
 /// The bytes of a line of eighty columns and its line feed.
 pub(crate) const LINE_BYTES: usize = 81;
 
-/// How often something is there, or is repeated, in cases of `sizes` and `calendar-sizes`.
-pub(crate) const SIZES: [usize; 6] = [0, 1, 2, 8, 9, 1000];
-
 /// What is asked.
 #[derive(Drop)]
 pub(crate) struct Case<'a> {
@@ -141,26 +138,9 @@ fn push_line(input: &mut Vec<u8>, line: &str) -> Result<(), AllocError> {
     input.extend_from_slice(ending.as_bytes())
 }
 
-/// Appends a case with this input.
-pub(crate) fn push_case(out: &mut Output, name: &str, call: &str, input: &[u8]) {
-    writeln!(out, "== {name}: {call}");
-    for line in input.split_inclusive(is_line_feed) {
-        match line.strip_suffix(b"\n") {
-            Some(columns) => {
-                push_columns(out, columns);
-                writeln!(out);
-            }
-            None => {
-                push_columns(out, line);
-                writeln!(out, "\\");
-            }
-        }
-    }
-}
-
-/// Appends the bytes, those that can't be printed by their numbers.
-fn push_columns(out: &mut Output, columns: &[u8]) {
-    for byte in columns {
+/// Appends the bytes as they stand in a case, line feeds by their number too.
+pub(crate) fn push_bytes(out: &mut Output, bytes: &[u8]) {
+    for byte in bytes {
         if (b' '..=b'~').contains(byte) && *byte != b'\\' {
             write!(out, "{}", char::from(*byte));
         } else {

@@ -10,48 +10,37 @@
 //!   no line it is asked for once more.
 //! - `count max=N`: asks for lines until there is none. The answer is their number or the fault,
 //!   and how often the reader was read.
-//! - `extract max=N`: reads the input as an extract. The answer is how many records it has or the
-//!   fault, and how often the reader was read.
-//! - `devices max=N`: tells whether a slice begins with a line, and counts the lines of a slice, of
-//!   a reader behind a buffer and of a borrowed reader.
+//! - `extract max=N`: reads the input as an extract. The answer is what that came to, how often the
+//!   reader was read, and whether it has failed.
+//! - `devices max=N`: counts the lines of a slice, of a reader behind a buffer and of a borrowed
+//!   reader.
 //! - `reads`: reads up to 100 bytes at a time, until there are none or the reader fails, and once
 //!   more. The answer is what each read gave, how often the reader was read, and whether it failed.
 //! - `records first=YYMMDD last=YYMMDD days=NNNNNNN`: the input is an extract. Its header, its
 //!   locations, its associations and schedules that have bodies (these on the dates that are asked
 //!   for) and its trailer go to one sink. The answer is what the sink has got.
-//! - `bytes`: the input goes to a sink over a buffer. The answer is what came through.
+//! - `bytes`: the input goes to a sink.
 //! - `writes takes=N`: gives each line of the input, by one write, to a trial writer itself, which
 //!   takes N bytes and then fails, or answers 0 by the word `then=zero`; and then flushes it. The
 //!   answer is what each of these gave, what the writer has, and how often it was called.
-//! - `flushes takes=N`: the input goes to a sink over a buffer that has room for it, before such a
-//!   trial writer, and the sink is flushed twice. The answer is as before.
-//! - `sizes from=K to=L`: reads the input as an extract with its lines K to L, counted from 1, so
-//!   many times: 0, 1, 2, 8, 9 and 1,000. The answer is how many records each has; and where they
-//!   don't make the same bytes when they are written, with bodies that are made again of their
-//!   parts, it says so.
 //! - `normalise form=1 max=N`: gives what a reader as above has to `normalise`, for a trial writer
 //!   as above that takes N bytes by the word `takes=N` (2,048 if left out). The form is 2 if left
 //!   out. The answer is what the writer has, the line of the counts or of the fault, and how often
 //!   the writer was called.
-//! - `canon form=1`: the answer is the canonical text of the extract that the input is, and the
-//!   line of the counts, or that of the fault.
-//! - `day day=YYMMDD`, `train uid=UID form=1`, `compare with=NAME`: the answer is what runs on the
-//!   day, when the train runs, or how the input compares with that of the case NAME; or the line of
-//!   the fault.
+//! - `canon form=1`: the answer is the line of the counts of the extract that the input is, or that
+//!   of the fault, and its canonical text.
 //!
-//! What `records` and `bytes` write, the line of `normalise`, the text of `canon` and the lines of
-//! `day`, `train` and `compare` is then written, each record by itself, to trial writers. One takes
-//! all bytes, and then it is flushed; the answer says how often it was called for each. The others
-//! take fewer bytes, every number of them, and then fail or answer 0. Such a sink has to fail, to
-//! have the bytes that fit, by one write a line and in extracts one for all lines of a schedule (of
-//! `bytes` by one), and then the one that failed, and not to be touched again. The answer says
-//! so, or where first it isn't so.
+//! What `records` and `bytes` write, and the text of `canon`, is then written to trial writers. One
+//! takes all bytes, and then it is flushed; the answer says how often it was called for each. The
+//! others take fewer bytes, every number of them, and then fail or answer 0. Such a sink has to fail,
+//! to have the bytes that fit, by one write a line and one for all lines of a schedule (of `bytes` by
+//! one), and then the one that failed, and not to be touched again. The answer says so, or where first
+//! it isn't so.
 
 mod canonical;
+mod line_count;
 mod reading;
-mod sizes;
 mod trials;
-mod views;
 mod writers;
 mod writing;
 mod written;
@@ -60,25 +49,18 @@ use crate::case::Case;
 use crate::output::Output;
 use canonical::{push_canon, push_normalise};
 use reading::push_read;
-use sizes::push_sizes;
 use std::alloc::Global;
-use views::{push_comparison, push_day, push_train};
-use writers::{push_flushes, push_writes};
+use writers::push_writes;
 use writing::{push_bytes, push_records};
 
 /// Appends what the case's call answers, if it is one of these.
-pub(crate) fn push_answer(alloc: Global, out: &mut Output, case: &Case, cases: &[Case]) -> bool {
+pub(crate) fn push_answer(alloc: Global, out: &mut Output, case: &Case) -> bool {
     match case.call {
         "records" => push_records(alloc, out, case),
         "bytes" => push_bytes(alloc, out, case.input.as_slice()),
         "writes" => push_writes(out, case),
-        "flushes" => push_flushes(alloc, out, case),
         "normalise" => push_normalise(alloc, out, case),
         "canon" => push_canon(alloc, out, case),
-        "day" => push_day(alloc, out, case),
-        "train" => push_train(alloc, out, case),
-        "compare" => push_comparison(alloc, out, case, cases),
-        "sizes" => push_sizes(alloc, out, case),
         _ => return push_read(alloc, out, case),
     }
     true

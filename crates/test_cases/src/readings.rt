@@ -3,36 +3,28 @@
 //! The lines of a case are those of an extract, whole or damaged, and CALL is one of these, where
 //! `max=N` is how many lines may come (100 if left out):
 //!
-//! - `read`: reads the input. The answer is what that came to; of an extract follow its window and
-//!   the plain lines of its records, and for each schedule whether it has a body, and whether an
-//!   earlier one has the same.
-//! - `fails`: reads the input from a reader that fails after it.
-//! - `goes-on from=K`: reads the input from a reader that goes on with its bytes from K, for ever.
-//!   The answer has the number of reads too.
+//! - `read`: reads the input, and compares what it is read as with what a plain look at its whole
+//!   contents says. The answer is what the reading came to.
 //! - `cuts`: reads each prefix of the input, from no byte to all.
-//! - `failing-cuts`: does what `fails` does with each prefix.
+//! - `failing-cuts`: reads each prefix from a reader that fails after it.
 //! - `limits`: reads the input with each `max` from 0 to N.
 //! - `replace byte=NN`: reads the input with the byte NN, in hexadecimal digits, in place of each of
 //!   its bytes in turn.
 //! - `kinds others=NAME`: puts each line of the case NAME behind each prefix of whole lines, as it
 //!   stands and then with other columns 3 to 80, and tells of those that are not out of order.
-//! - `plain-look`: compares what the input is read as with what a plain look at its whole contents says.
-//! - `damage count=N others=NAME`: does that with N inputs that are made from this one by damages that
+//! - `damage count=N others=NAME`: compares so N inputs that are made from this one by damages that
 //!   look random, the same in each run: lines are swapped, dropped, repeated, or stand beside or in
 //!   place of lines of the case NAME, and then bytes are. The answer has the numbers of the refusals
-//!   that were met, 0 for none. An input that is read in another way is printed as a case of
-//!   `plain-look`.
+//!   that were met, 0 for none. An input that is read in another way is printed.
 //! - `keep`: keeps the input for other cases.
 //!
-//! Each reading is done of a slice and again with one byte a read (`fails` and `failing-cuts`: with
-//! one byte a read and again with a hundred; `plain-look` and `damage`: of a slice alone). Where these
-//! differ, the answer says so.
+//! Each reading is done of a slice and again with one byte a read (`failing-cuts`: with one byte a
+//! read and again with a hundred; `damage`: of a slice alone). Where these differ, the answer says so.
 
-mod answer;
+pub(crate) mod answer;
 mod comparisons;
 mod damage;
 mod kinds;
-mod listing;
 mod numbers;
 mod plain_reading;
 mod read;
@@ -40,9 +32,8 @@ mod sweeps;
 
 use crate::case::Case;
 use crate::output::Output;
-use comparisons::{push_compared, push_damage};
+use comparisons::{push_damage, push_reading};
 use kinds::push_kinds;
-use read::{push_endless, push_failing, push_reading};
 use std::alloc::Global;
 use sweeps::{push_cuts, push_failing_cuts, push_limits, push_replaced};
 
@@ -52,14 +43,11 @@ pub(crate) fn push_answer(alloc: Global, out: &mut Output, case: &Case, cases: &
     let max_lines = case.number("max", 100);
     match case.call {
         "read" => push_reading(alloc, out, bytes, max_lines),
-        "fails" => push_failing(alloc, out, bytes, max_lines),
-        "goes-on" => push_endless(alloc, out, bytes, case.number("from", 0), max_lines),
         "cuts" => push_cuts(alloc, out, bytes, max_lines),
         "failing-cuts" => push_failing_cuts(alloc, out, bytes, max_lines),
         "limits" => push_limits(alloc, out, bytes, max_lines),
         "replace" => push_replaced(alloc, out, bytes, byte_of(case), max_lines),
         "kinds" => push_kinds(alloc, out, bytes, case.named("others", cases)),
-        "plain-look" => push_compared(alloc, out, bytes, max_lines),
         "damage" => {
             let others = case.named("others", cases);
             push_damage(alloc, out, bytes, others, case.number("count", 1));

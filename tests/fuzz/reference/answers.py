@@ -29,7 +29,7 @@ OPTIONS = {
     "normalise": {"first", "last", "form"},
     "check": {"first", "last", "form", "all"},
     "compare": {"first", "last", "common"},
-    "diff": {"first", "last", "common"},
+    "diff": {"first", "last", "common", "format"},
     "day": {"stops", "format"},
     "train": {"first", "last", "form", "stops", "format"},
     "explain": {"format"},

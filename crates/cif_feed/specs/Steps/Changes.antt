@@ -1,11 +1,21 @@
 -- Where changes stand, for the contracts of the steps of doing them. A map is seen as the value at each key.
 use Rattle.std.specs.Prelude.{◌≡◌, ℕ, ◌+◌, ◌==◌, ◌&&◌, Bool, true, false, List, [], ◌∷◌, Option, Some, None, Result, Ok, Err, slice_get, unwrap_or, if◌then◌else◌}
 use Rattle.std.specs.Option.{option_or}
+use Rattle.std.specs.Ordering.{eq_by_cmp}
+use Rattle.std.specs.declared.cmp.Ordering.{Ordering}
 use Rattle.cif_feed.specs.declared.changes.RefusedLine.{RefusedLine}
 use Rattle.cif_feed.specs.declared.feed.FeedFault.{FeedFault}
 use Rattle.cif_feed.specs.declared.feed.FeedFault.TheVariants.{NotThere, AlreadyThere}
 use Rattle.cif_feed.specs.declared.update.Outcome.{Outcome}
 use Rattle.cif_feed.specs.Changes.{ChangeParts, is_changed, is_there}
+
+-- two keys are the same by what stands for them
+abbrev pub same_by : {K N : Type 0} → (N → N → Ordering) → (K → N) → K → K → Bool
+same_by cmp rank a b = eq_by_cmp cmp (rank a) (rank b)
+
+-- a map of what stands for keys, as the value at each key
+abbrev pub at_keys : {K N X : Type 0} → (K → N) → (N → Option X) → K → Option X
+at_keys rank values key = values (rank key)
 
 -- the position of the last change of a key, where the first change has this one
 abbrev pub last_from : {K I : Type 0} → (K → K → Bool) → ℕ → List (ChangeParts K I) → K → Option ℕ

@@ -1,5 +1,5 @@
 //! Positions of records.
-ghost use Rattle.std.specs.Prelude.{◌<◌, ◌↔◌, All, IsTrue};
+ghost use Rattle.std.specs.Prelude.{◌<◌, ◌↔◌, All, IfOk, IsTrue};
 
 use cif_calendar::{Entry, same_body};
 use std::alloc::{AllocError, Global};
@@ -35,7 +35,9 @@ pub(crate) fn first_alike<E: Entry>(entries: &[E], position: Option<usize>) -> P
 }
 
 /// The positions of all of so many records.
-pub(crate) fn all_positions(alloc: Global, count: usize) -> Result<Vec<usize>, AllocError> {
+pub(crate) fn all_positions(alloc: Global, count: usize) -> Result<Vec<usize>, AllocError>
+    ensures { IfOk result (λ positions. All (λ i. i < count) positions.items) }
+{
     (0..count).collect(alloc)
 }
 

@@ -45,7 +45,7 @@ pub(crate) fn push_sources<E: Entry>(out: &mut Output, entries: &[E], calendar: 
 }
 
 /// The source of the date, which is in the window.
-pub(crate) fn place_on<E: Entry>(entries: &[E], calendar: &Calendar, day: Day) -> Place {
+fn place_on<E: Entry>(entries: &[E], calendar: &Calendar, day: Day) -> Place {
     let window = calendar.window();
     if window.first <= day && day <= window.last {
         first_alike(entries, calendar.source_on(day))

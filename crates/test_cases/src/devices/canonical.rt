@@ -1,8 +1,8 @@
 //! Canonical extracts, and the lines that answer.
 use crate::case::{Case, text_of};
 use crate::devices::reading::reader_of;
-use crate::devices::trials::push_trials;
 use crate::devices::writers::writer_of;
+use crate::devices::writing::push_written;
 use crate::devices::written::{Written, writes_of_lines};
 use crate::output::Output;
 use cif_canon::{Asked, Canon, Counts, canon, normalise, report, write_counts};
@@ -33,9 +33,8 @@ pub(crate) fn push_normalise(alloc: Global, out: &mut Output, case: &Case) {
         form_of(case),
     );
     out.push_str(text_of(sink.writer().bytes()));
-    push_line(alloc, out, &Answer(&answer));
-    writeln!(out, "writes {}", sink.writer().calls());
-    push_trials(alloc, out, "Line", &Answer(&answer))
+    push_line(alloc, out, &answer);
+    writeln!(out, "writes {}", sink.writer().calls())
 }
 
 /// Appends the canonical form of the extract that the input is, and its counts.
@@ -49,47 +48,31 @@ pub(crate) fn push_canon(alloc: Global, out: &mut Output, case: &Case) {
 fn push_canon_of(alloc: Global, out: &mut Output, extract: &Extract, form: Form) {
     match canon(alloc, extract, form) {
         Ok(canon) => {
-            let counts = Ok(canon.counts());
-            let canonical = Canonical(canon);
-            push_line(alloc, out, &canonical);
-            push_line(alloc, out, &Answer(&counts));
-            push_trials(alloc, out, "Canon", &canonical)
+            push_line(alloc, out, &Ok(canon.counts()));
+            push_written(alloc, out, "Canon", &Canonical(canon))
         }
-        Err(fault) => push_line(alloc, out, &Answer(&Err(fault))),
+        Err(fault) => push_line(alloc, out, &Err(fault)),
     }
 }
 
-/// Appends what goes to a writer that takes all of it.
-pub(crate) fn push_line<T: Written>(alloc: Global, out: &mut Output, written: &T) {
+/// Appends the line that answers: that of the counts, or that of the fault.
+fn push_line(alloc: Global, out: &mut Output, answer: &Result<Counts, Fault>) {
     let mut sink = Sink::new(Vec::new(alloc));
-    if written.write(&mut sink).is_err() {
-        return out.fail();
+    let outcome = match answer {
+        Ok(counts) => write_counts(counts, &mut sink),
+        Err(fault) => report(fault, &mut sink),
+    };
+    match outcome {
+        Ok(()) => out.push_str(text_of(sink.writer().as_slice())),
+        Err(_) => out.fail(),
     }
-    out.push_str(text_of(sink.writer().as_slice()))
 }
 
 /// The form that the case asks for.
-pub(crate) fn form_of(case: &Case) -> Form {
+fn form_of(case: &Case) -> Form {
     match case.value("form") {
         Some("1") => Form::One,
         _ => Form::Two,
-    }
-}
-
-/// The line that answers: the counts, or the fault.
-#[derive(Clone, Copy)]
-pub(crate) struct Answer<'a>(pub(crate) &'a Result<Counts, Fault>);
-
-impl Written for Answer<'_> {
-    fn write<W: WriteDevice>(&self, sink: &mut Sink<W>) -> Result<(), WriteFault> {
-        match self.0 {
-            Ok(counts) => write_counts(counts, sink),
-            Err(fault) => report(fault, sink),
-        }
-    }
-
-    fn writes_of(&self, prefix: &[u8]) -> u64 {
-        u64::from(!prefix.is_empty())
     }
 }
 

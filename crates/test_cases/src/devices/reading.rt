@@ -1,8 +1,10 @@
 //! What is read.
+use super::line_count::count_lines;
 use crate::case::{Case, text_of};
 use crate::output::Output;
-use cif_columns::{End, LineFault, LineReader, Source, TrialReader, count_lines};
-use cif_extract::{Extract, read_extract};
+use crate::readings::answer::Outcome;
+use cif_columns::{End, LineFault, LineReader, Source, TrialReader};
+use cif_extract::read_extract;
 use std::alloc::Global;
 use std::io::BufReader;
 
@@ -106,28 +108,19 @@ fn push_count(out: &mut Output, count: Result<u64, LineFault>) {
     }
 }
 
-/// Appends what the source is read as, and how often it is read.
+/// Appends what the source is read as, how often it is read, and whether it has failed.
 fn push_extract(alloc: Global, out: &mut Output, source: &mut Source<TrialReader>, max_lines: u16) {
-    match read_extract(alloc, source, u64::from(max_lines)) {
-        Ok(extract) => push_counts(out, &extract),
-        Err(fault) => write!(out, "{fault}"),
-    }
-    writeln!(out, ", after {} reads", source.reader().calls())
-}
-
-/// Appends how many records the extract has.
-pub(crate) fn push_counts(out: &mut Output, extract: &Extract) {
-    let tiplocs = extract.tiplocs.len();
-    let associations = extract.associations.len();
-    let schedules = extract.schedules.len();
-    write!(out, "{tiplocs} TI, {associations} AA, {schedules} BS")
+    let outcome = Outcome::of(&read_extract(alloc, source, u64::from(max_lines)));
+    let reads = source.reader().calls();
+    writeln!(
+        out,
+        "{outcome}, after {reads} reads, failed {}",
+        source.failed()
+    )
 }
 
 /// Appends how many lines these bytes are, over several devices.
 fn push_devices(alloc: Global, out: &mut Output, bytes: &[u8], max_lines: u16) {
-    if begins_with_line(bytes, max_lines) {
-        writeln!(out, "begins with a line");
-    }
     let max_lines = u64::from(max_lines);
     push_count(out, count_lines(&mut Source::new(bytes), max_lines));
     let Ok(reader) = BufReader::with_capacity(alloc, 16, bytes) else {
@@ -136,16 +129,6 @@ fn push_devices(alloc: Global, out: &mut Output, bytes: &[u8], max_lines: u16) {
     push_count(out, count_lines(&mut Source::new(reader), max_lines));
     let mut reader = TrialReader::new(bytes, 9, End::Stop);
     push_count(out, count_lines(&mut Source::new(&mut reader), max_lines));
-}
-
-/// Whether a line stands first in the bytes. A slice never fails.
-fn begins_with_line(bytes: &[u8], max_lines: u16) -> bool {
-    let mut lines = LineReader::new(u64::from(max_lines));
-    match lines.next(&mut Source::new(bytes)) {
-        Ok(line) => line.is_some(),
-        Err(LineFault::Refused { line: _, why: _ }) => false,
-        Err(LineFault::Read) => unreachable!(),
-    }
 }
 
 /// Appends what each read gives.

@@ -4,19 +4,13 @@ ghost use Rattle.std.specs.Prelude.{◌≤◌};
 use crate::devices::written::Written;
 use crate::output::Output;
 use cif_columns::{Sink, TrialWriter, WriteFault};
-use std::alloc::Global;
 
 /// The most bytes that a trial writer takes.
 const ROOM: usize = 2048;
 
-/// Appends how often a writer that takes all bytes is called, and whether each that takes too few
+/// Appends how often a writer that takes all bytes of the text is called, and whether each that takes too few
 /// keeps those that fit, is called for these and once more, and is let be then.
-pub(crate) fn push_trials<T: Written>(alloc: Global, out: &mut Output, name: &str, written: &T) {
-    let mut sink = Sink::new(Vec::new(alloc));
-    if written.write(&mut sink).is_err() {
-        return out.fail();
-    }
-    let text = sink.writer().as_slice();
+pub(crate) fn push_trials<T: Written>(out: &mut Output, name: &str, written: &T, text: &[u8]) {
     let len = text.len();
     match calls_for_all(written, text) {
         Some((writes, flushes)) => {

@@ -1,10 +1,10 @@
 //! Readings beside a plain look at the whole contents.
-use crate::case::push_case;
+use crate::case::push_bytes;
 use crate::output::Output;
 use crate::readings::damage::damaged;
 use crate::readings::numbers::Numbers;
 use crate::readings::plain_reading::{contents_of, first_refusal, has_records_of};
-use crate::readings::read::read_slice;
+use crate::readings::read::{answer_of, read_slice};
 use cif_extract::Fault;
 use std::alloc::{AllocError, Global};
 
@@ -35,16 +35,14 @@ fn compare(alloc: Global, bytes: &[u8], max_lines: u16) -> Result<Comparison, Al
     })
 }
 
-/// Appends whether the bytes are read as their contents say.
-pub(crate) fn push_compared(alloc: Global, out: &mut Output, bytes: &[u8], max_lines: u16) {
+/// Appends what the bytes are read as, and where their contents say something else, that they do.
+pub(crate) fn push_reading(alloc: Global, out: &mut Output, bytes: &[u8], max_lines: u16) {
     let Ok(compared) = compare(alloc, bytes, max_lines) else {
         return out.fail();
     };
-    let number = compared.number;
-    if compared.is_same {
-        writeln!(out, "read as its contents say: {number}")
-    } else {
-        writeln!(out, "not read as its contents say: {number}")
+    writeln!(out, "{}", answer_of(alloc, bytes, max_lines));
+    if !compared.is_same {
+        writeln!(out, "its contents say something else")
     }
 }
 
@@ -72,7 +70,7 @@ pub(crate) fn push_damage(
             return out.fail();
         };
         if !compared.is_same {
-            return push_difference(alloc, out, input.as_slice(), max_lines);
+            return push_difference(out, input.as_slice(), max_lines);
         }
         if let Some(is_met) = met.get_mut(usize::from(compared.number)) {
             *is_met = true;
@@ -94,9 +92,11 @@ fn push_met(out: &mut Output, met: &[bool; 15]) {
 }
 
 /// Appends an input that isn't read as its contents say.
-fn push_difference(alloc: Global, out: &mut Output, input: &[u8], max_lines: u16) {
-    let Ok(call) = format!(in alloc; "plain-look max={max_lines}") else {
-        return out.fail();
-    };
-    push_case(out, "not-read-as-its-contents-say", call.as_str(), input);
+fn push_difference(out: &mut Output, input: &[u8], max_lines: u16) {
+    write!(
+        out,
+        "of at most {max_lines} lines not read as its contents say: "
+    );
+    push_bytes(out, input);
+    writeln!(out)
 }

@@ -35,14 +35,8 @@ pub(crate) fn push_text(out: &mut Output, columns: &[u8]) {
         return push_none(out);
     };
     match columns.len() {
-        1 => push_text_of::<1>(out, &line),
-        2 => push_text_of::<2>(out, &line),
         3 => push_text_of::<3>(out, &line),
         4 => push_text_of::<4>(out, &line),
-        5 => push_text_of::<5>(out, &line),
-        6 => push_text_of::<6>(out, &line),
-        7 => push_text_of::<7>(out, &line),
-        8 => push_text_of::<8>(out, &line),
         _ => writeln!(out, "no such text"),
     }
 }
@@ -89,14 +83,6 @@ pub(crate) fn push_days(out: &mut Output, columns: &[u8]) {
     match columns.as_array().and_then(DaysRun::read) {
         Some(days) => push_days_run(out, days),
         None => push_none(out),
-    }
-}
-
-/// Appends the mask with this weekday alone.
-pub(crate) fn push_weekday(out: &mut Output, columns: &[u8]) {
-    match columns {
-        [digit @ b'0'..=b'6'] => push_days_run(out, DaysRun::only(*digit - b'0')),
-        _ => push_none(out),
     }
 }
 

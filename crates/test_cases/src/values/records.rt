@@ -1,23 +1,15 @@
 //! Lines of records.
-use crate::case::{Case, text_of};
+use crate::case::text_of;
 use crate::output::Output;
 use crate::values::fields::list_record;
-use cif_columns::{Day, Line, Refusal};
-use cif_records::{Association, Header, kind_of, plain_line_of, read_record, write_record};
+use cif_columns::{Line, Refusal};
+use cif_records::{kind_of, plain_line_of, read_record, write_record};
 
 /// Appends the line, or why there is none.
 fn push_judged(out: &mut Output, judged: Result<Line, Refusal>) {
     match judged {
         Ok(line) => writeln!(out, "{}", text_of(line.bytes())),
         Err(why) => writeln!(out, "{why:?}, number {}", why.number()),
-    }
-}
-
-/// Appends the kind that the line names.
-pub(crate) fn push_kind(out: &mut Output, line: &Line) {
-    match kind_of(line) {
-        Some(kind) => writeln!(out, "{kind:?} |{}|", text_of(&kind.identity())),
-        None => writeln!(out, "none"),
     }
 }
 
@@ -54,44 +46,4 @@ pub(crate) fn push_fields(out: &mut Output, line: &Line) {
         Ok(record) => list_record(out, &record),
         Err(why) => push_judged(out, Err(why)),
     }
-}
-
-/// Appends the plain line of the header that the line spells.
-pub(crate) fn push_header(out: &mut Output, line: &Line) {
-    match Header::read(line) {
-        Ok(header) => push_judged(out, Ok(header.write())),
-        Err(why) => push_judged(out, Err(why)),
-    }
-}
-
-/// Appends the plain line of the association that the line spells.
-pub(crate) fn push_association(out: &mut Output, line: &Line) {
-    match Association::read(line) {
-        Ok(association) => push_judged(out, Ok(association.write())),
-        Err(why) => push_judged(out, Err(why)),
-    }
-}
-
-/// Appends the plain line of the header with the window that the case asks for.
-pub(crate) fn push_window(out: &mut Output, case: &Case, line: &Line) {
-    let first = case.day("first");
-    let last = case.day("last");
-    match (first, last) {
-        (Some(first), Some(last)) => match Header::read(line) {
-            Ok(header) => push_header_with(out, &header, first, last),
-            Err(why) => push_judged(out, Err(why)),
-        },
-        _ => writeln!(out, "no window"),
-    }
-}
-
-fn push_header_with(out: &mut Output, header: &Header, first: Day, last: Day) {
-    if first > last {
-        return writeln!(out, "no window");
-    }
-    let header = header.with_window(first, last);
-    if header.first != first || header.last != last {
-        writeln!(out, "its dates are others:");
-    }
-    push_judged(out, Ok(header.write()))
 }

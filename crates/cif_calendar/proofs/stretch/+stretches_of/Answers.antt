@@ -72,8 +72,8 @@ loop-left-smaller g t c = let at = goal.at.loop-left-smaller g t c in
     (bounds-other-0 g t at.After-one-item) c.one-item.is c.other-item.is (joint g t at.After-look_at) c.behind-left.ensures
     c.behind-right.ensures
 
-pub returns-then-part-le-FEW : goal.returns-then-part-le-FEW
-returns-then-part-le-FEW g t c = record { alike = c.stretches_of_few.ensures.alike; stretches = c.stretches_of_few.ensures.stretches }
+pub returns-then-part-le-MOST_DIRECT : goal.returns-then-part-le-MOST_DIRECT
+returns-then-part-le-MOST_DIRECT g t c = record { alike = c.stretches_of_few.ensures.alike; stretches = c.stretches_of_few.ensures.stretches }
 
 pub returns-in_err-lefts : goal.returns-in_err-lefts
 returns-in_err-lefts g t c = record { alike = c.in_err-lefts.ensures.alike; stretches = IfOk-from_err _ _ c.from_residual.ensures.0 }

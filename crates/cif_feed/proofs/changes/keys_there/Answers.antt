@@ -1,42 +1,60 @@
 -- One record more, of a key that is changed (`alone-put`) or not (`alone-other`).
-use Rattle.std.proofs.Common.{◌≡◌, ◌∙◌, true, Some, cond, is_some, sym, ap, subst, take}
+use Rattle.std.proofs.Common.{◌≡◌, ◌∙◌, ◌++◌, ◌∷◌, [], true, Bool, Some, cond, is_some, map, sym, ap, subst, take}
 use Rattle.std.specs.BTreeMap.{get}
+use Rattle.std.specs.Cmp.{on_equiv}
 use Rattle.std.specs.Ordering.{eq_by_cmp}
 use Rattle.std.proofs.lemmas.Cmp.{eq_by_cmp_equiv}
 use Rattle.std.proofs.lemmas.List.{take_all}
 use Rattle.cif_feed.specs.Changes.{is_changed, with_keys}
-use Rattle.cif_feed.specs.Steps.Changes.{SaysAlone}
-use Rattle.cif_feed.proofs.ChangeSteps.{alone-other, alone-put, last-some, records-more, says-there}
+use Rattle.cif_feed.specs.Steps.Changes.{SaysAlone, at_keys, same_by}
+use Rattle.cif_feed.proofs.ChangeSteps.{alone-other, alone-put, last-some, made-more, records-more, says-there}
 use Rattle.cif_feed.proofs.changes.keys_there.Goals as goal
-use Rattle.cif_feed.proofs.changes.keys_there.Goals.{then-contains_key+in_ok-insert, else-contains_key}
+use Rattle.cif_feed.proofs.changes.keys_there.Goals.{then-is_changed+in_ok-insert, else-is_changed}
 
 pub loop-record-preserved : goal.loop-record-preserved
-loop-record-preserved g c = λ changes last.
-    let cmp = g.R.Key.Ord.cmp in
-    let laws = eq_by_cmp_equiv g.met.R.Key.Ord.total in
+loop-record-preserved g c =
+    let cmp = g.R.Rank.Ord.cmp in
+    let rank = g.R.Keyed.rank in
+    let same = same_by cmp rank in
+    let laws = on_equiv rank (eq_by_cmp_equiv g.met.R.Rank.Ord.total) in
     let key = g.R.Keyed.key in
     let xs = c.args.records.now in
     let i = c.loop-record.record-index in
     let x = c.record-item.result in
-    let so_far = c.loop-record.invariant changes last in
-    let one = records-more key xs i x c.loop-record-test.true c.record-item.is in
-    let has : c.contains_key.result ≡ is_changed (eq_by_cmp cmp) changes (key x) =
-    (c.contains_key.ensures ∙ ap (λ k. is_some (get cmp c.args.last.now k)) c.record_key-key.ensures ∙ ap is_some (last.are (key x))
-    ∙ last-some (eq_by_cmp cmp) laws 0 changes (key x)) in
-    elim c.if-contains_key.branch [
-      | then-contains_key+in_ok-insert w ↦ rw (w.there-is, one)
-          (alone-put (eq_by_cmp cmp) laws (with_keys key (take i xs)) changes (key x, x) (get cmp c.loop-record.there) so_far
-          (get cmp w.insert.new.self) (sym has ∙ w.if-contains_key.true)
-          (λ q. subst (λ k. get cmp w.insert.new.self q ≡ cond (eq_by_cmp cmp k q) (Some true) (get cmp c.loop-record.there q))
-          c.record_key-key.ensures (w.in_ok-insert.ensures.updates.0 q)))
-      | else-contains_key w ↦ rw (w.there-is, one)
-          (alone-other (eq_by_cmp cmp) laws (with_keys key (take i xs)) changes (key x, x) (get cmp c.loop-record.there) so_far
-          (sym has ∙ w.if-contains_key.false))
-    ]
+    let found : c.contains_key-is_changed.result ≡ is_some (get cmp c.args.last.now (rank (key x))) =
+    (c.contains_key-is_changed.ensures ∙ ap (λ n. is_some (get cmp c.args.last.now n)) c.rank-rank.ensures) in (
+      λ changes last.
+          let so_far = c.loop-record.invariant.0 changes last in
+          let one = records-more key xs i x c.loop-record-test.true c.record-item.is in
+          let has : c.contains_key-is_changed.result ≡ is_changed same changes (key x) =
+          (found ∙ ap is_some (last.are (key x)) ∙ last-some same laws 0 changes (key x)) in
+          elim c.if-is_changed.branch [
+            | then-is_changed+in_ok-insert w ↦ rw (w.there-is, one)
+                (alone-put same laws (with_keys key (take i xs)) changes (key x, x) (at_keys rank (get cmp c.loop-record.there)) so_far
+                (at_keys rank (get cmp w.insert.new.self)) (sym has ∙ w.if-is_changed.true)
+                (λ q. subst (λ n. get cmp w.insert.new.self (rank q)
+                ≡ cond (eq_by_cmp cmp n (rank q)) (Some true) (get cmp c.loop-record.there (rank q)))
+                c.rank-rank.ensures (w.in_ok-insert.ensures.updates.0 (rank q))))
+            | else-is_changed w ↦ rw (w.there-is, one)
+                (alone-other same laws (with_keys key (take i xs)) changes (key x, x) (at_keys rank (get cmp c.loop-record.there)) so_far
+                (sym has ∙ w.if-is_changed.false))
+          ],
+      c.in_ok-push.ensures.items ∙ ap (λ l. l ++ c.contains_key-is_changed.result ∷ []) c.loop-record.invariant.1
+          ∙ ap (λ (b : Bool). map (λ (r : g.row.R.Denot). is_some (get cmp c.args.last.now (rank (key r)))) (take i xs) ++ b ∷ []) found
+          ∙ sym (made-more (λ (r : g.row.R.Denot). is_some (get cmp c.args.last.now (rank (key r)))) xs i x c.loop-record-test.true
+          c.record-item.is),
+    )
 
-pub returns : goal.returns
-returns g c = λ changes last.
-    says-there (eq_by_cmp g.R.Key.Ord.cmp) (eq_by_cmp_equiv g.met.R.Key.Ord.total) (with_keys g.R.Keyed.key c.args.records.now) changes
-    (get g.R.Key.Ord.cmp c.loop-record.there)
-    (subst (λ l. SaysAlone (eq_by_cmp g.R.Key.Ord.cmp) (with_keys g.R.Keyed.key l) changes (get g.R.Key.Ord.cmp c.loop-record.there))
-    (take_all c.loop-record.record-index c.args.records.now c.loop-record-test.false) (c.loop-record.invariant changes last))
+pub returns-clause-there : goal.returns-clause-there
+returns-clause-there g c = λ changes last.
+    let same = same_by g.R.Rank.Ord.cmp g.R.Keyed.rank in
+    let there = at_keys g.R.Keyed.rank (get g.R.Rank.Ord.cmp c.loop-record.there) in
+    says-there same (on_equiv g.R.Keyed.rank (eq_by_cmp_equiv g.met.R.Rank.Ord.total)) (with_keys g.R.Keyed.key c.args.records.now) changes there
+    (subst (λ l. SaysAlone same (with_keys g.R.Keyed.key l) changes there)
+    (take_all c.loop-record.record-index c.args.records.now c.loop-record-test.false) (c.loop-record.invariant.0 changes last))
+
+pub returns-clause-changed : goal.returns-clause-changed
+returns-clause-changed g c =
+    c.loop-record.invariant.1
+    ∙ ap (map (λ (r : g.row.R.Denot). is_some (get g.R.Rank.Ord.cmp c.args.last.now (g.R.Keyed.rank (g.R.Keyed.key r)))))
+    (take_all c.loop-record.record-index c.args.records.now c.loop-record-test.false)

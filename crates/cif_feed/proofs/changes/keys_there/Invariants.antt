@@ -1,12 +1,14 @@
 -- Of the records so far.
-use Rattle.std.proofs.Common.{List, take}
+use Rattle.std.proofs.Common.{◌≡◌, List, is_some, map, take}
 use Rattle.std.specs.BTreeMap.{get}
-use Rattle.std.specs.Ordering.{eq_by_cmp}
 use Rattle.cif_feed.specs.Changes.{ChangeParts, with_keys}
-use Rattle.cif_feed.specs.Steps.Changes.{AreLast, SaysAlone}
+use Rattle.cif_feed.specs.Steps.Changes.{AreLast, SaysAlone, at_keys, same_by}
 use Rattle.cif_feed.proofs.changes.keys_there.Given as goal
 
 abbrev pub invariant-loop-record : goal.invariant-loop-record
-invariant-loop-record g l = (changes : List (ChangeParts g.row.R-Key.Denot g.row.R.Denot))
-    → AreLast (eq_by_cmp g.R.Key.Ord.cmp) changes (get g.R.Key.Ord.cmp l.last)
-    → SaysAlone (eq_by_cmp g.R.Key.Ord.cmp) (with_keys g.R.Keyed.key (take l.record-index l.records)) changes (get g.R.Key.Ord.cmp l.there)
+invariant-loop-record g l = ((changes : List (ChangeParts g.row.R-Key.Denot g.row.R.Denot))
+    → AreLast (same_by g.R.Rank.Ord.cmp g.R.Keyed.rank) changes (at_keys g.R.Keyed.rank (get g.R.Rank.Ord.cmp l.last))
+    → SaysAlone (same_by g.R.Rank.Ord.cmp g.R.Keyed.rank) (with_keys g.R.Keyed.key (take l.record-index l.records)) changes
+    (at_keys g.R.Keyed.rank (get g.R.Rank.Ord.cmp l.there)))
+    × (l.changed.items ≡ map (λ (r : g.row.R.Denot). is_some (get g.R.Rank.Ord.cmp l.last (g.R.Keyed.rank (g.R.Keyed.key r))))
+    (take l.record-index l.records))

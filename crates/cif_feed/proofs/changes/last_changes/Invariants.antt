@@ -1,11 +1,11 @@
 -- These are the last changes so far.
 use Rattle.std.proofs.Common.{take}
 use Rattle.std.specs.BTreeMap.{get}
-use Rattle.std.specs.Ordering.{eq_by_cmp}
 use Rattle.cif_feed.specs.Changes.{changes_of}
-use Rattle.cif_feed.specs.Steps.Changes.{AreLast}
+use Rattle.cif_feed.specs.Steps.Changes.{AreLast, at_keys, same_by}
 use Rattle.cif_feed.proofs.changes.last_changes.Given as goal
 
 abbrev pub invariant-loop-at : goal.invariant-loop-at
 invariant-loop-at g l =
-    AreLast (eq_by_cmp g.R.Key.Ord.cmp) (changes_of g.R.Keyed.key (take l.at l.changes)) (get g.R.Key.Ord.cmp l.last)
+    AreLast (same_by g.R.Rank.Ord.cmp g.R.Keyed.rank) (changes_of g.R.Keyed.key (take l.at l.changes))
+    (at_keys g.R.Keyed.rank (get g.R.Rank.Ord.cmp l.last))

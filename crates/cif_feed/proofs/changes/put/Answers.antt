@@ -3,9 +3,10 @@ use Rattle.std.proofs.Common.{◌≡◌, ◌∙◌, ◌++◌, ◌∷◌, [], ref
 use Rattle.std.specs.Prelude.{option_to_list}
 use Rattle.std.proofs.lemmas.List.{drop-drop, length-reverse, nil_from_length, reverse-append}
 use Rattle.std.specs.BTreeMap.{get}
-use Rattle.std.specs.Ordering.{eq_by_cmp}
+use Rattle.std.specs.Cmp.{on_equiv}
 use Rattle.std.proofs.lemmas.Cmp.{eq_by_cmp_equiv}
 use Rattle.cif_feed.specs.Changes.{changes_of, put_last, with_keys}
+use Rattle.cif_feed.specs.Steps.Changes.{at_keys, same_by}
 use Rattle.cif_feed.proofs.ChangeSteps.{last-of_all, put-more}
 use Rattle.cif_feed.proofs.changes.put.Goals as goal
 
@@ -15,8 +16,9 @@ loop-change-init g c = (omega arith, refl, λ last. refl)
 pub loop-change-preserved : goal.loop-change-preserved
 loop-change-preserved g c =
     let (long, rest, so_far) = c.loop-change.invariant in
-    let cmp = g.R.Key.Ord.cmp in
-    let same = eq_by_cmp cmp in
+    let cmp = g.R.Rank.Ord.cmp in
+    let rank = g.R.Keyed.rank in
+    let same = same_by cmp rank in
     let key = g.R.Keyed.key in
     let all = reverse c.args.changes.items in
     let at = c.loop-change.at in
@@ -32,7 +34,8 @@ loop-change-preserved g c =
           ∙ ap (λ (o : Option g.row.R.Denot). c.loop-change.records.items ++ cond c.is_last-is_last.result (option_to_list o) [])
           c.record_of.ensures)
           (c.is_last-is_last.ensures
-          ∙ last-of_all key same (eq_by_cmp_equiv g.met.R.Key.Ord.total) all change others at (get cmp c.args.last.now) last next
+          ∙ last-of_all key same (on_equiv rank (eq_by_cmp_equiv g.met.R.Rank.Ord.total)) all change others at
+          (at_keys rank (get cmp c.args.last.now)) last next
           (omega (arith, long, length-reverse c.args.changes.items)))
           ∙ ap (λ l. with_keys key c.loop-change.records.items ++ put_last same (changes_of key l)) (sym turned)
           ∙ so_far last,
@@ -45,5 +48,5 @@ returns g c =
     let none : c.loop-change.changes.items ≡ [] =
     nil_from_length c.loop-change.changes.items (omega (arith, c.in_default.ensures.cases.0, c.loop-change.changes.ok.0)) in
     λ last.
-    sym (ap (λ l. with_keys key c.loop-change.records.items ++ put_last (eq_by_cmp g.R.Key.Ord.cmp) (changes_of key (reverse l))) none
+    sym (ap (λ l. with_keys key c.loop-change.records.items ++ put_last (same_by g.R.Rank.Ord.cmp g.R.Keyed.rank) (changes_of key (reverse l))) none
     ∙ append-nil (with_keys key c.loop-change.records.items)) ∙ so_far last

@@ -1,19 +1,19 @@
 -- What is put, and what the changes that are left put, is all.
 use Rattle.std.proofs.Common.{◌≡◌, ◌+◌, ◌++◌, drop, length, reverse, vec_len}
 use Rattle.std.specs.BTreeMap.{get}
-use Rattle.std.specs.Ordering.{eq_by_cmp}
 use Rattle.cif_feed.specs.Changes.{changes_of, put_last, with_keys}
-use Rattle.cif_feed.specs.Steps.Changes.{AreLast}
+use Rattle.cif_feed.specs.Steps.Changes.{AreLast, at_keys, same_by}
 use Rattle.cif_feed.proofs.changes.put.Given as goal
 
 abbrev pub invariant-loop-change : goal.invariant-loop-change
 invariant-loop-change g l = (l.at + length l.changes.items ≡ length l.fn.changes.items)
     × (reverse l.changes.items ≡ drop l.at (reverse l.fn.changes.items))
-    × (AreLast (eq_by_cmp g.R.Key.Ord.cmp) (changes_of g.R.Keyed.key (reverse l.fn.changes.items)) (get g.R.Key.Ord.cmp l.last)
+    × (AreLast (same_by g.R.Rank.Ord.cmp g.R.Keyed.rank) (changes_of g.R.Keyed.key (reverse l.fn.changes.items))
+    (at_keys g.R.Keyed.rank (get g.R.Rank.Ord.cmp l.last))
     → with_keys g.R.Keyed.key l.records.items
-    ++ put_last (eq_by_cmp g.R.Key.Ord.cmp) (changes_of g.R.Keyed.key (reverse l.changes.items))
+    ++ put_last (same_by g.R.Rank.Ord.cmp g.R.Keyed.rank) (changes_of g.R.Keyed.key (reverse l.changes.items))
     ≡ with_keys g.R.Keyed.key l.fn.records.items
-    ++ put_last (eq_by_cmp g.R.Key.Ord.cmp) (changes_of g.R.Keyed.key (reverse l.fn.changes.items)))
+    ++ put_last (same_by g.R.Rank.Ord.cmp g.R.Keyed.rank) (changes_of g.R.Keyed.key (reverse l.fn.changes.items)))
 
 abbrev pub decreases-loop-change : goal.decreases-loop-change
 decreases-loop-change g l = vec_len l.changes

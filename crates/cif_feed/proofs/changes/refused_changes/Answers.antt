@@ -1,11 +1,12 @@
 -- One change more: what is there after it (`says-after`), and whether it is refused (`refusals-more`).
-use Rattle.std.proofs.Common.{◌≡◌, ◌+◌, ◌∙◌, ◌++◌, ◌∷◌, [], Bool, false, List, Option, Some, cond, is_some, unwrap_or, sym, ap, subst, take, append-nil}
+use Rattle.std.proofs.Common.{◌≡◌, ◌+◌, ◌∙◌, ◌++◌, ◌∷◌, [], Bool, false, Option, Some, cond, is_some, unwrap_or, sym, ap, subst, take, append-nil}
 use Rattle.std.specs.BTreeMap.{get}
+use Rattle.std.specs.Cmp.{on_equiv}
 use Rattle.std.specs.Ordering.{eq_by_cmp}
 use Rattle.std.proofs.lemmas.Cmp.{eq_by_cmp_equiv}
 use Rattle.std.proofs.lemmas.List.{take_all}
-use Rattle.cif_feed.specs.Changes.{after_all, changes_of, is_there, may, parts_of, refusal, refusals}
-use Rattle.cif_feed.specs.Steps.Changes.{SaysThere}
+use Rattle.cif_feed.specs.Changes.{after_all, changes_of, is_there, parts_of, refusal, refusals}
+use Rattle.cif_feed.specs.Steps.Changes.{SaysThere, at_keys, same_by}
 use Rattle.cif_feed.specs.declared.changes.RefusedLine.{RefusedLine}
 use Rattle.cif_feed.proofs.ChangeLaws.{after_all-append}
 use Rattle.cif_feed.proofs.ChangeSteps.{change-changed, changes-more, refusals-more, says-after}
@@ -14,9 +15,10 @@ use Rattle.cif_feed.proofs.changes.refused_changes.Goals.{then-not-may+in_ok-pus
 
 pub loop-change-preserved : goal.loop-change-preserved
 loop-change-preserved g c = λ records start.
-    let cmp = g.R.Key.Ord.cmp in
-    let same = eq_by_cmp cmp in
-    let laws = eq_by_cmp_equiv g.met.R.Key.Ord.total in
+    let cmp = g.R.Rank.Ord.cmp in
+    let rank = g.R.Keyed.rank in
+    let same = same_by cmp rank in
+    let laws = on_equiv rank (eq_by_cmp_equiv g.met.R.Rank.Ord.total) in
     let key = g.R.Keyed.key in
     let xs = c.args.changes.now in
     let all = changes_of key xs in
@@ -28,7 +30,7 @@ loop-change-preserved g c = λ records start.
     let more = changes-more key xs at x c.loop-change-test.true c.change-item.is in
     let now : is_there same (after_all same records done) change.key ≡ c.unwrap_or-is_there.result =
     (sym (says.says change.key (change-changed key xs at x c.loop-change-test.true c.change-item.is same laws))
-    ∙ ap (λ k. unwrap_or (get cmp c.loop-change.there k) false) (sym c.key_of-key.ensures)
+    ∙ ap (λ n. unwrap_or (get cmp c.loop-change.there n) false) (sym c.rank_of-rank.ensures)
     ∙ ap (λ (o : Option Bool). unwrap_or o false) (sym c.get.ensures.value) ∙ ap (λ (o : Option Bool). unwrap_or o false) (sym c.copied.ensures)
     ∙ sym c.unwrap_or-is_there.ensures) in
     let told : refusals same records (changes_of key (take (at + 1) xs))
@@ -38,13 +40,16 @@ loop-change-preserved g c = λ records start.
     ∙ ap (λ b. c.loop-change.refused.items ++ refusal b change) now
     ∙ ap (λ (b : Bool). let r : RefusedLine = record { line = change.line; is_there = c.unwrap_or-is_there.result } in
     c.loop-change.refused.items ++ cond b [] (r ∷ [])) (sym c.may.ensures)) in (
-      subst (λ l. SaysThere same (after_all same records l) all (get cmp c.insert.new.self)) (sym more)
-          (subst (λ l. SaysThere same l all (get cmp c.insert.new.self)) (sym (after_all-append same records done (change ∷ [])))
-          (says-after same laws (after_all same records done) all change (get cmp c.loop-change.there) (get cmp c.insert.new.self) says
-          (λ q. subst (λ k. get cmp c.insert.new.self q ≡ cond (same k q) (Some (is_some change.puts)) (get cmp c.loop-change.there q))
-          c.key_of-key.ensures
-          (c.in_ok-insert.ensures.updates.0 q
-          ∙ ap (λ (b : Bool). cond (same c.key_of-key.result q) (Some b) (get cmp c.loop-change.there q)) c.puts.ensures)))),
+      subst (λ l. SaysThere same (after_all same records l) all (at_keys rank (get cmp c.insert.new.self))) (sym more)
+          (subst (λ l. SaysThere same l all (at_keys rank (get cmp c.insert.new.self))) (sym (after_all-append same records done (change ∷ [])))
+          (says-after same laws (after_all same records done) all change (at_keys rank (get cmp c.loop-change.there))
+          (at_keys rank (get cmp c.insert.new.self)) says
+          (λ q. subst (λ n. get cmp c.insert.new.self (rank q)
+          ≡ cond (eq_by_cmp cmp n (rank q)) (Some (is_some change.puts)) (get cmp c.loop-change.there (rank q)))
+          c.rank_of-rank.ensures
+          (c.in_ok-insert.ensures.updates.0 (rank q)
+          ∙ ap (λ (b : Bool). cond (eq_by_cmp cmp c.rank_of-rank.result (rank q)) (Some b) (get cmp c.loop-change.there (rank q)))
+          c.puts.ensures)))),
       elim c.if-not-may.branch [
         | then-not-may+in_ok-push w ↦ rw (w.refused-is, w.in_ok-push.ensures.items)
             (ap (λ (b : Bool). c.loop-change.refused.items ++ cond b [] (record { line = change.line; is_there = c.unwrap_or-is_there.result } ∷ []))
@@ -59,5 +64,5 @@ loop-change-preserved g c = λ records start.
 pub returns : goal.returns
 returns g c = λ records start.
     (c.loop-change.invariant records start).1
-    ∙ ap (λ l. refusals (eq_by_cmp g.R.Key.Ord.cmp) records (changes_of g.R.Keyed.key l))
+    ∙ ap (λ l. refusals (same_by g.R.Rank.Ord.cmp g.R.Keyed.rank) records (changes_of g.R.Keyed.key l))
     (take_all c.loop-change.change-index c.args.changes.now c.loop-change-test.false)

@@ -3,10 +3,6 @@ use Rattle.std.proofs.Common.{Err, Ok, ◌∙◌}
 use Rattle.cif_records.proofs.Records.{only_plain, refusal-kind}
 use Rattle.cif_records.proofs.record.plain_line_of.Goals as goal
 
-pub returns-then-is_plain_line-clause-only : goal.returns-then-is_plain_line-clause-only
-returns-then-is_plain_line-clause-only c r h =
-    only_plain c.args.line.now (Ok c.args.line.now) (c.is_plain_line.ensures c.if-is_plain_line.true) r h
-
 pub returns-in-Ok-clause-exact : goal.returns-in-Ok-clause-exact
 returns-in-Ok-clause-exact c =
     let read = c.in-Ok.ensures in

@@ -1,23 +1,20 @@
 -- A fault after both are read is told by `compare-refused`, and the text by `compare-answer`; `both-read` says what became of the sources.
 -- `read`: what was read, of the extracts that are kept.
 use Rattle.std.proofs.Common.{◌≢◌, inl, inr, refl, subst}
-use Rattle.cif_columns.specs.declared.line_reader.TheConstants.{MAX_LINES}
 use Rattle.cif_extract.specs.ExtractParts.{extract_parts}
 use Rattle.cif_extract.specs.declared.fault.Fault.TheVariants.{Read, Write}
 use Rattle.cif_canon.specs.Comparison.{IsCompareFault, comparison_line}
-use Rattle.cif_canon.specs.Fault.{IsOfReadNarrowed}
 use Rattle.cif_canon.proofs.HandedFaults.{at-fault, hands, known-fault}
 use Rattle.cif_tool.specs.Status.{outcome_of}
-use Rattle.cif_tool.proofs.Answered.{fails-silently, handed-text, only-fails, told-as}
+use Rattle.cif_tool.proofs.Answered.{fails-silently, fails-to-read, handed-text, only-fails, told-as}
 use Rattle.cif_canon.proofs.BothRead.{both-read}
 use Rattle.cif_tool.proofs.KnownAnswers.{compare-answer, compare-refused}
 use Rattle.cif_tool.proofs.answers.answer_compare.Goals as goal
 
 pub returns-in_err-left-clause-answer : goal.returns-in_err-left-clause-answer
 returns-in_err-left-clause-answer g c =
-    let f = c.in_err-left.field-0.0 in
-    fails-silently _ _ _ c.args.sink.now c.from_residual.result f (at-fault c.from_residual.result f c.from_residual.ensures.1)
-    (λ write. subst (IsOfReadNarrowed MAX_LINES) write c.in_err-left.ensures.answers)
+    fails-to-read _ _ _ c.args.sink.now c.from_residual.result c.in_err-left.field-0.0 c.from_residual.ensures.1
+    c.in_err-left.ensures.answers
 
 pub returns-in_err-left-clause-fault : goal.returns-in_err-left-clause-fault
 returns-in_err-left-clause-fault g c =

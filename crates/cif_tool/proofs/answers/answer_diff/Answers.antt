@@ -5,9 +5,9 @@ use Rattle.cif_columns.specs.declared.line_reader.TheConstants.{MAX_LINES}
 use Rattle.cif_extract.specs.ExtractParts.{extract_parts}
 use Rattle.cif_extract.specs.declared.fault.Fault.TheVariants.{Read, Write}
 use Rattle.cif_canon.specs.Comparison.{IsCompareFault}
-use Rattle.cif_canon.specs.Differences.{differences_text}
 use Rattle.cif_canon.specs.Fault.{IsOfReadNarrowed}
 use Rattle.cif_canon.proofs.HandedFaults.{at-fault, hands, known-fault}
+use Rattle.cif_tool.specs.Answer.{differences_in}
 use Rattle.cif_tool.specs.Status.{listed_status}
 use Rattle.cif_tool.proofs.Answered.{fails-silently, handed-text, only-fails}
 use Rattle.cif_canon.proofs.BothRead.{both-read}
@@ -59,9 +59,10 @@ returns-clause-answer g c =
     let y = extract_parts c.insert-right.result.now in
     let made = c.in_ok-found.found in
     let none = c.is_empty.result in
-    handed-text _ _ _ _ (differences_text made) (listed_status none) _ c.listed.result c.write.result c.write.new.sink
-    c.finish.new.sink c.finish.result c.listed.ensures c.write.ensures.writes c.write.ensures.fault
-    (diff-answer c.args.asked.now c.args.common _ _ x y read made none c.in_ok-found.ensures.ok c.is_empty.ensures)
+    let call = c.write_differences-written in
+    handed-text _ _ _ _ (differences_in c.args.format made) (listed_status none) _ c.listed.result call.result call.new.sink
+    c.finish.new.sink c.finish.result c.listed.ensures call.ensures.writes call.ensures.fault
+    (diff-answer c.args.asked.now c.args.common _ _ x y read c.args.format made none c.in_ok-found.ensures.ok c.is_empty.ensures)
     c.finish.ensures.finishes
 
 pub returns-clause-fault : goal.returns-clause-fault
@@ -69,12 +70,14 @@ returns-clause-fault g c =
     let read = rw (← c.insert-left.ensures.value, ← c.insert-right.ensures.value) at c.in_ok-left.ensures.ok in
     let x = extract_parts c.insert-left.result.now in
     let y = extract_parts c.insert-right.result.now in
+    let call = c.write_differences-written in
     compare-refused c.args.asked.now c.args.common _ _ x y read _ _ _ c.finish.result Write
-    (λ P q. only-fails _ _ _ P c.listed.result c.write.result c.write.new.sink c.finish.new.sink c.finish.result c.write.ensures.fault q
+    (λ P q. only-fails _ _ _ P c.listed.result call.result call.new.sink c.finish.new.sink c.finish.result call.ensures.fault q
     c.finish.ensures.finishes) (inr refl)
 
 pub returns-clause-sources : goal.returns-clause-sources
 returns-clause-sources g c =
+    let call = c.write_differences-written in
     both-read _ _ _ _ _ c.finish.result c.in_ok-left.ensures.sources
-    (only-fails _ _ _ (λ f. f ≢ Read) c.listed.result c.write.result c.write.new.sink c.finish.new.sink c.finish.result
-    c.write.ensures.fault (λ is. cc) c.finish.ensures.finishes)
+    (only-fails _ _ _ (λ f. f ≢ Read) c.listed.result call.result call.new.sink c.finish.new.sink c.finish.result
+    call.ensures.fault (λ is. cc) c.finish.ensures.finishes)

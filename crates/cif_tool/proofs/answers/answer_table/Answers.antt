@@ -5,20 +5,19 @@ use Rattle.cif_columns.specs.declared.line_reader.TheConstants.{MAX_LINES}
 use Rattle.cif_columns.specs.Source.{unread_of}
 use Rattle.cif_extract.specs.ExtractParts.{extract_parts}
 use Rattle.cif_extract.specs.declared.fault.Fault.TheVariants.{Read}
-use Rattle.cif_canon.specs.Fault.{IsCanonFault, IsNormaliseFault, IsOfReadNarrowed}
+use Rattle.cif_canon.specs.Fault.{IsCanonFault, IsNormaliseFault}
 use Rattle.cif_canon.proofs.BothRead.{read-on}
 use Rattle.cif_canon.proofs.HandedFaults.{at-fault, hands}
 use Rattle.cif_canon.proofs.Normalising.{known-canon_fault, known-read_fault}
 use Rattle.cif_views.specs.Tables.{table_text}
-use Rattle.cif_tool.proofs.Answered.{fails-silently, handed-text, only-fails}
+use Rattle.cif_tool.proofs.Answered.{fails-silently, fails-to-read, handed-text, only-fails}
 use Rattle.cif_tool.proofs.KnownAnswers.{table-answer}
 use Rattle.cif_tool.proofs.answers.answer_table.Goals as goal
 
 pub returns-in_err-extract-clause-answer : goal.returns-in_err-extract-clause-answer
 returns-in_err-extract-clause-answer g c =
-    let f = c.in_err-extract.field-0.0 in
-    fails-silently _ _ _ c.args.sink.now c.from_residual.result f (at-fault c.from_residual.result f c.from_residual.ensures.1)
-    (λ write. subst (IsOfReadNarrowed MAX_LINES) write c.in_err-extract.ensures.answers)
+    fails-to-read _ _ _ c.args.sink.now c.from_residual.result c.in_err-extract.field-0.0 c.from_residual.ensures.1
+    c.in_err-extract.ensures.answers
 
 pub returns-in_err-extract-clause-fault : goal.returns-in_err-extract-clause-fault
 returns-in_err-extract-clause-fault g c =
@@ -51,7 +50,7 @@ returns-clause-answer g c =
     let canon = c.in_ok-canon.canon in
     handed-text _ _ _ _ (table_text c.args.table canon.lines) 0 _ 0 call.result call.new.sink c.finish.new.sink c.finish.result refl
     call.ensures.writes call.ensures.fault
-    (table-answer _ c.args.table c.args.form c.args.asked.now (extract_parts c.in_ok-extract.extract) c.in_ok-extract.ensures.ok canon
+    (table-answer _ c.args.asked.now (extract_parts c.in_ok-extract.extract) c.in_ok-extract.ensures.ok c.args.table c.args.form canon
     (rw c.insert-extract.ensures.value at c.in_ok-canon.ensures.ok)) c.finish.ensures.finishes
 
 pub returns-clause-fault : goal.returns-clause-fault

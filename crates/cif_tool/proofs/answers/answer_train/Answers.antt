@@ -6,11 +6,10 @@ use Rattle.cif_columns.specs.declared.line_reader.TheConstants.{MAX_LINES}
 use Rattle.cif_columns.specs.Source.{unread_of}
 use Rattle.cif_extract.specs.ExtractParts.{extract_parts}
 use Rattle.cif_extract.specs.declared.fault.Fault.TheVariants.{Read}
-use Rattle.cif_canon.specs.Fault.{IsNormaliseFault, IsOfReadNarrowed}
+use Rattle.cif_canon.specs.Fault.{IsNormaliseFault}
 use Rattle.cif_canon.specs.Views.{IsTrainFault}
-use Rattle.cif_canon.proofs.HandedFaults.{at-fault}
 use Rattle.cif_canon.proofs.Normalising.{known-read_fault}
-use Rattle.cif_tool.proofs.Answered.{fails-silently, handed, handed-fault, written-then}
+use Rattle.cif_tool.proofs.Answered.{fails-to-read, handed, handed-fault, written-then}
 use Rattle.cif_canon.proofs.BothRead.{read-on}
 use Rattle.cif_tool.proofs.KnownAnswers.{train-answer}
 use Rattle.cif_tool.proofs.TrainFaults.{train-fault}
@@ -18,9 +17,8 @@ use Rattle.cif_tool.proofs.answers.answer_train.Goals as goal
 
 pub returns-in_err-extract-clause-answer : goal.returns-in_err-extract-clause-answer
 returns-in_err-extract-clause-answer g c =
-    let f = c.in_err-extract.field-0.0 in
-    fails-silently _ _ _ c.args.sink.now c.from_residual.result f (at-fault c.from_residual.result f c.from_residual.ensures.1)
-    (λ write. subst (IsOfReadNarrowed MAX_LINES) write c.in_err-extract.ensures.answers)
+    fails-to-read _ _ _ c.args.sink.now c.from_residual.result c.in_err-extract.field-0.0 c.from_residual.ensures.1
+    c.in_err-extract.ensures.answers
 
 pub returns-in_err-extract-clause-fault : goal.returns-in_err-extract-clause-fault
 returns-in_err-extract-clause-fault g c =

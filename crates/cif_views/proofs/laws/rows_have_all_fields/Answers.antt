@@ -31,3 +31,10 @@ returns-clause-explanation c = record {
   association = λ d e. explained-association d e.mark e.key e.terms e.terms.body;
   train = λ d e. explained-train d e.mark e.key e.terms e.terms.body;
 }
+
+pub returns-clause-differences : goal.returns-clause-differences
+returns-clause-differences c = record {
+  tiploc = λ change line. (refl, λ at name left right. refl);
+  association = λ change line. (refl, λ at name left right. refl);
+  schedule = λ change line. (refl, λ at name left right. refl);
+}

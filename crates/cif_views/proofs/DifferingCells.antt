@@ -1,0 +1,147 @@
+-- Where no field of a pair has a row, what stands in the columns of all its fields is the same.
+use Rattle.std.proofs.Common.{◌≡◌, ℕ, zero, suc, ◌+◌, ◌-◌, ◌<◌, ◌≤◌, Bool, true, false, List, [], ◌∷◌, ◌++◌, codes, cond, drop, length}
+use Rattle.std.proofs.Common.{◌∙◌, ap, ap₂, arith, length-append, map, nat_eq, refl, replicate, subst, sym, take}
+use Rattle.std.specs.Prelude.{◌&&◌, nat_le}
+use Rattle.std.specs.Cmp.Lexicographic.{bytes_decides, pointwise}
+use Rattle.std.proofs.lemmas.Bool.{and_parts, eqb-true, leb-true}
+use Rattle.std.proofs.lemmas.List.{drop-take, length-take-le, take-take}
+use Rattle.cif_columns.specs.Field.{AllStandIn, FieldValue, Row, StandsIn, columns}
+use Rattle.cif_columns.specs.Field.{activity_codes, date, exactly, indicator, public_time, spare, text, weekdays, working_time}
+use Rattle.cif_columns.specs.Line.{IsLine}
+use Rattle.cif_columns.specs.Lines.{is_space, used, used_with}
+use Rattle.cif_columns.proofs.KeptLines.{used_few}
+use Rattle.cif_columns.proofs.PlainLines.{length-columns}
+use Rattle.cif_canon.specs.Fields.{Field, fields_text, line_of, shown, trimmed}
+use Rattle.cif_canon.specs.declared.rows.Format.TheVariants.{Tsv}
+use Rattle.cif_canon.specs.declared.rows.Shape.TheVariants.{Trimmed}
+use Rattle.cif_views.specs.DifferenceTable.{Stands, differing_row, differing_rows}
+use Rattle.cif_views.specs.Tables.{TableFields, row_fields}
+
+-- ---- rows
+
+-- a row has a byte at least: its line feed
+pub some-row : (fields : List Field) → 0 < length (line_of Tsv fields)
+some-row fields = omega (arith, length-append (fields_text Tsv fields) (codes "\n"))
+
+-- neither of two lists has an element
+pub both-none : {A : Type 0} (xs ys : List A) → xs ++ ys ≡ [] → (xs ≡ []) × (ys ≡ [])
+both-none [] ys none = (refl, none)
+both-none (x ∷ xs) ys none = absurd (let long = ap length none in omega (arith, long))
+
+first-none : (same : Bool) (a b row rest : List ℕ) → pointwise nat_eq a b ≡ same → 0 < length row → cond same [] row ++ rest ≡ [] →
+    (a ≡ b) × (rest ≡ [])
+first-none true a b row rest is some none = ((bytes_decides a b).0 is, none)
+first-none false a b row rest is some none =
+    absurd (let long = ap length none in omega (arith, some, long, length-append row rest))
+
+module _ {R : Type 0} (head : List Field) (at : Stands) (left right : R) where
+  -- where no field has a row, the cells of all are the same
+  pub same-cells : (fields : TableFields R) → differing_rows head at fields left right ≡ [] →
+      map (shown Tsv) (row_fields fields left) ≡ map (shown Tsv) (row_fields fields right)
+  same-cells [] none = refl
+  same-cells (f ∷ fields) none =
+      let a = shown Tsv (f.1 left) in
+      let b = shown Tsv (f.1 right) in
+      let (same, others) = first-none (pointwise nat_eq a b) a b (differing_row head at f.0 (f.1 left) (f.1 right))
+      (differing_rows head at fields left right) refl
+      (some-row (head ++ (at.call ∷ at.identity ∷ at.place ∷ (Trimmed, f.0) ∷ f.1 left ∷ f.1 right ∷ []))) none in
+      ap₂ (λ (c : List ℕ) (cs : List (List ℕ)). c ∷ cs) same (same-cells fields others)
+
+-- ---- columns
+
+-- columns are those up to the last that is no space, and then spaces
+widened : (columns : List ℕ) → trimmed columns ++ replicate (length columns - used columns) 32 ≡ columns
+widened [] = refl
+widened (b ∷ columns) = by (is_space b) refl (used columns) (widened columns)
+  where
+    by : (space : Bool) → is_space b ≡ space → (count : ℕ) → take count columns ++ replicate (length columns - count) 32 ≡ columns →
+        take (used_with space count) (b ∷ columns) ++ replicate (suc (length columns) - used_with space count) 32 ≡ b ∷ columns
+    by true e zero so =
+        let less : suc (length columns) - 0 ≡ suc (length columns) = omega arith in
+        let all : length columns ≡ length columns - 0 = omega arith in
+        ap (λ n. replicate n 32) less ∙ ap (λ n. 32 ∷ replicate n 32) all ∙ ap (λ l. 32 ∷ l) so
+        ∙ ap (λ c. c ∷ columns) (sym (eqb-true b 32 e))
+    by true e (suc count) so =
+        let less : suc (length columns) - suc (suc count) ≡ length columns - suc count = omega arith in
+        ap (λ n. b ∷ (take (suc count) columns ++ replicate n 32)) less ∙ ap (λ l. b ∷ l) so
+    by false e count so =
+        let less : suc (length columns) - suc count ≡ length columns - count = omega arith in
+        ap (λ n. b ∷ (take count columns ++ replicate n 32)) less ∙ ap (λ l. b ∷ l) so
+
+-- as many columns are the same where they are without the spaces at their end
+same-columns : (a b : List ℕ) → length a ≡ length b → trimmed a ≡ trimmed b → a ≡ b
+same-columns a b long same =
+    let one = length-take-le (used a) a (used_few a) in
+    let other = length-take-le (used b) b (used_few b) in
+    let shown = ap length same in
+    let rest : length a - used a ≡ length b - used b = omega (arith, long, one, other, shown) in
+    sym (widened a) ∙ ap₂ (λ (c : List ℕ) n. c ++ replicate n 32) same rest ∙ widened b
+
+module _ (l m : List ℕ) where
+  module _ (left : IsLine l) (right : IsLine m) where
+    pub same-at : (from to : ℕ) → (nat_le 1 from && (nat_le from to && nat_le to 80)) ≡ true →
+        trimmed (columns from to l) ≡ trimmed (columns from to m) → columns from to l ≡ columns from to m
+    same-at from to within same =
+        let (a, more) = and_parts _ _ within in
+        let (b, c) = and_parts _ _ more in
+        let start = leb-true 1 from a in
+        let some = leb-true from to b in
+        let end = leb-true to 80 c in
+        same-columns (columns from to l) (columns from to m)
+        (length-columns from to l left start some end ∙ sym (length-columns from to m right start some end)) same
+
+  -- columns among the first ten
+  inside : (before more count : ℕ) → count ≤ more → (line : List ℕ) →
+      take count (drop before (take (before + more) line)) ≡ take count (drop before line)
+  inside before more count few line = ap (take count) (drop-take before more line) ∙ take-take count more (drop before line) few
+
+  same-inside : (before more count : ℕ) → count ≤ more → take (before + more) l ≡ take (before + more) m →
+      take count (drop before l) ≡ take count (drop before m)
+  same-inside before more count few same =
+      sym (inside before more count few l) ∙ ap (λ (line : List ℕ). take count (drop before line)) same
+      ∙ inside before more count few m
+
+  module _ (same : columns 1 10 l ≡ columns 1 10 m) where
+    pub same-identity : columns 1 2 l ≡ columns 1 2 m
+    same-identity = same-inside 0 10 2 (omega arith) same
+
+    pub same-location : columns 3 9 l ≡ columns 3 9 m
+    same-location = same-inside 2 8 7 (omega arith) same
+
+    pub same-suffix : columns 10 10 l ≡ columns 10 10 m
+    same-suffix = same-inside 9 1 1 (omega arith) same
+
+  -- ---- what stands in one line stands in another with the same columns, but for spare ones
+
+  abbrev pub AreSame : FieldValue → List ℕ → List ℕ → Type 0
+  AreSame (exactly value) c d = c ≡ d
+  AreSame (text value) c d = c ≡ d
+  AreSame (activity_codes codes) c d = c ≡ d
+  AreSame (working_time time) c d = c ≡ d
+  AreSame (public_time time) c d = c ≡ d
+  AreSame (date day) c d = c ≡ d
+  AreSame (weekdays days) c d = c ≡ d
+  AreSame (indicator stp) c d = c ≡ d
+  AreSame spare c d = Unit {0}
+
+  abbrev pub AllSame : List Row → Type 0
+  AllSame [] = Unit {0}
+  AllSame (r ∷ rows) = AreSame r.value (columns r.from r.to l) (columns r.from r.to m) × AllSame rows
+
+  moved : (value : FieldValue) (c d : List ℕ) → AreSame value c d → StandsIn d value → StandsIn c value
+  moved (exactly value) c d same h = subst (λ e. StandsIn e (exactly value)) (sym same) h
+  moved (text value) c d same h = subst (λ e. StandsIn e (text value)) (sym same) h
+  moved (activity_codes codes) c d same h = subst (λ e. StandsIn e (activity_codes codes)) (sym same) h
+  moved (working_time time) c d same h = subst (λ e. StandsIn e (working_time time)) (sym same) h
+  moved (public_time time) c d same h = subst (λ e. StandsIn e (public_time time)) (sym same) h
+  moved (date day) c d same h = subst (λ e. StandsIn e (date day)) (sym same) h
+  moved (weekdays days) c d same h = subst (λ e. StandsIn e (weekdays days)) (sym same) h
+  moved (indicator stp) c d same h = subst (λ e. StandsIn e (indicator stp)) (sym same) h
+  moved spare c d same h = tt
+
+  pub all-moved : (rows : List Row) → AllSame rows → AllStandIn m rows → AllStandIn l rows
+  all-moved [] same h = tt
+  all-moved (r ∷ rows) same h = (
+    moved r.value (columns r.from r.to l) (columns r.from r.to m) same.0 h.0,
+    all-moved rows same.1 h.1,
+  )

@@ -1,0 +1,198 @@
+-- The rows of fields that differ.
+use Rattle.std.proofs.Common.{◌≡◌, ℕ, ◌+◌, ◌<◌, zero, suc, Bool, true, false, Bor, IsTrue, List, [], ◌∷◌, ◌++◌, cond, codes, if◌then◌else◌}
+use Rattle.std.proofs.Common.{◌∙◌, append-nil, append_assoc, ap, arith, drop, get_or, length, refl, slice_index_or, sym, take}
+use Rattle.std.specs.Prelude.{find, nat_eq, replicate}
+use Rattle.std.specs.List.{flat_map}
+use Rattle.std.specs.Cmp.Lexicographic.{bytes_decides, pointwise}
+use Rattle.std.proofs.lemmas.Bool.{and_parts, false≢true}
+use Rattle.std.proofs.lemmas.List.{take-take}
+use Rattle.cif_columns.specs.Field.{columns}
+use Rattle.cif_records.specs.Kind.{is_identity, kinds}
+use Rattle.cif_canon.specs.Fields.{Field, after, line_of, nothing, shown, trimmed}
+use Rattle.cif_canon.specs.declared.rows.Format.TheVariants.{Tsv}
+use Rattle.cif_canon.specs.declared.rows.Shape.TheVariants.{Trimmed}
+use Rattle.cif_views.specs.DifferenceTable.{Stands, differing_row, differing_rows, own_fields}
+use Rattle.cif_views.specs.Steps.DifferenceRows.{are_named, field_row, fields_of_kind, head_fields, is_named, lines_rows, named_fields}
+use Rattle.cif_views.specs.Steps.DifferenceRows.{rows_of_place, same_places}
+use Rattle.cif_views.specs.Steps.TableRows.{call_fields_of}
+use Rattle.cif_views.specs.Tables.{Numbered, TableFields, call_fields, is_call, is_change, journey_kind, kind_of_line, names, number}
+use Rattle.cif_views.specs.Tables.{row_fields, text_at}
+use Rattle.cif_views.specs.declared.difference_table.RowKind.{RowKind}
+use Rattle.cif_views.specs.declared.tables.JourneyKind.{JourneyKind}
+use Rattle.cif_views.specs.declared.tables.JourneyKind.TheVariants.{Change, Origin, Other, Stop, Terminus}
+use Rattle.cif_views.proofs.DifferenceRows.{head-row}
+use Rattle.cif_views.proofs.TableRows.{HasPushed, one-pushed, origin-fields, stop-fields, terminus-fields}
+
+-- one field more, of which the code has what is shown
+pub shown-pushed : (old mid new : List ℕ) (done : List Field) (c cs : List ℕ) → HasPushed old mid done → new ≡ mid ++ (9 ∷ c) →
+    c ≡ trimmed cs → HasPushed old new (done ++ ((Trimmed, cs) ∷ []))
+shown-pushed old mid new done c cs before is shows =
+    one-pushed old mid new done Trimmed cs cs before (is ∙ ap (λ (l : List ℕ). mid ++ (9 ∷ l)) shows) refl
+
+-- what a row begins with, and the fields behind it, are a line
+pub pushed-line : (kind : RowKind) (change : Field) (line start row : List ℕ) (more : List Field) →
+    start ≡ after Tsv (head_fields kind change line) → HasPushed start row more →
+    drop 1 row ++ codes "\n" ≡ line_of Tsv (head_fields kind change line ++ more)
+pushed-line kind change line start row more is pushed =
+    ap (λ (l : List ℕ). drop 1 l ++ codes "\n") (pushed.text ∙ ap (λ (l : List ℕ). l ++ after Tsv more) is) ∙ head-row change line more kind
+
+-- a test of what is shown of two cells
+pub tested : (one other c d : List ℕ) (answer test : Bool) → answer ≡ pointwise nat_eq one other → answer ≡ test → one ≡ trimmed c →
+    other ≡ trimmed d → pointwise nat_eq (trimmed c) (trimmed d) ≡ test
+tested one other c d answer test told is left right =
+    ap (λ (l : List ℕ). pointwise nat_eq l (trimmed d)) (sym left) ∙ ap (λ (l : List ℕ). pointwise nat_eq one l) (sym right) ∙ sym told ∙ is
+
+module _ (head : List Field) (at : Stands) where
+  -- the row of a field, by that test
+  module _ (name : List ℕ) (left right : Field) where
+    pub same-cells : pointwise nat_eq (shown Tsv left) (shown Tsv right) ≡ true → [] ≡ field_row head at name left right
+    unfolding field_row
+    same-cells same = ap (λ (b : Bool). if b then [] else differing_row head at name left right) (sym same)
+
+    pub other-cells : pointwise nat_eq (shown Tsv left) (shown Tsv right) ≡ false →
+        differing_row head at name left right ≡ field_row head at name left right
+    unfolding field_row
+    other-cells other = ap (λ (b : Bool). if b then [] else differing_row head at name left right) (sym other)
+
+  -- cells without columns don't differ
+  no-cells : (name : List ℕ) → field_row head at name nothing nothing ≡ []
+  unfolding field_row
+  no-cells name = refl
+
+  -- the rows of fields that the code names, field by field
+  module _ (left right : List ℕ) where
+    abbrev pub row_of_named : Bor (List ℕ) × ℕ × ℕ → List ℕ
+    row_of_named f = field_row head at f.0.now (text_at f.1 f.2 left) (text_at f.1 f.2 right)
+
+    pub named-rows : (fields : List (Bor (List ℕ) × ℕ × ℕ)) →
+        flat_map row_of_named fields ≡ differing_rows head at (named_fields fields) left right
+    unfolding field_row
+    named-rows [] = refl
+    named-rows (f ∷ fields) = ap (λ (l : List ℕ). row_of_named f ++ l) (named-rows fields)
+
+  -- the rows of fields, by their names and cells
+  pub cell_rows : List (List ℕ) → List Field → List Field → List ℕ
+  cell_rows [] lefts rights = []
+  cell_rows (name ∷ names) [] rights = []
+  cell_rows (name ∷ names) (left ∷ lefts) [] = []
+  cell_rows (name ∷ names) (left ∷ lefts) (right ∷ rights) = field_row head at name left right ++ cell_rows names lefts rights
+
+  by-cells : {Row : Type 0} (fields : TableFields Row) (left right : Row) →
+      differing_rows head at fields left right ≡ cell_rows (names fields) (row_fields fields left) (row_fields fields right)
+  unfolding field_row cell_rows
+  by-cells [] left right = refl
+  by-cells (f ∷ fields) left right =
+      ap (λ (l : List ℕ). field_row head at f.0 (f.1 left) (f.1 right) ++ l) (by-cells fields left right)
+
+  both-cells : (names : List (List ℕ)) (a b c d : List Field) → a ≡ b → c ≡ d → cell_rows names a c ≡ cell_rows names b d
+  both-cells names a b c d p q = ap (λ (l : List Field). cell_rows names l c) p ∙ ap (λ (l : List Field). cell_rows names b l) q
+
+-- each of the fields is within a line
+pub named-at : (fields : List (Bor (List ℕ) × ℕ × ℕ)) → IsTrue (are_named fields) → (i : ℕ) (none : Bor (List ℕ) × ℕ × ℕ) →
+    i < length fields → IsTrue (is_named (get_or fields i none))
+named-at [] all i none below = absurd (omega (arith, below))
+named-at (f ∷ fields) all zero none below = (and_parts (is_named f) (are_named fields) all).0
+named-at (f ∷ fields) all (suc i) none below =
+    named-at fields (and_parts (is_named f) (are_named fields) all).1 i none (omega (arith, below))
+
+-- lines with the same first columns are of one kind
+pub same-kind : (line other : List ℕ) → columns 1 10 line ≡ columns 1 10 other → kind_of_line other ≡ kind_of_line line
+same-kind line other same =
+    ap (λ (two : List ℕ). journey_kind (find (is_identity two) kinds))
+    (sym (take-take 2 10 (drop 0 other) (omega arith)) ∙ ap (take 2) (sym same) ∙ take-take 2 10 (drop 0 line) (omega arith))
+
+-- a line of no kind has none of the fields of a call
+no-fields : (line : List ℕ) → kind_of_line line ≡ Other → call_fields_of line ≡ replicate 12 nothing
+no-fields line e = rw e refl
+
+-- where a field of a place stands
+abbrev pub at_place : ℕ → List ℕ → Stands
+at_place call line = record { call = number call; identity = text_at 1 2 line; place = text_at 3 9 line }
+
+abbrev stands_with : Field → List ℕ → List ℕ → Stands
+stands_with call identity place = record { call = call; identity = (Trimmed, identity); place = (Trimmed, place) }
+
+pub stands-there : (call : ℕ) (line identity place : List ℕ) (stands : Stands) → stands ≡ stands_with (number call) identity place →
+    identity ≡ columns 1 2 line → place ≡ columns 3 9 line → stands ≡ at_place call line
+stands-there call line identity place stands is a b =
+    is ∙ ap (λ (l : List ℕ). stands_with (number call) l place) a ∙ ap (stands_with (number call) (columns 1 2 line)) b
+
+module _ (head : List Field) (call : ℕ) (line other : List ℕ) where
+  -- the rows of a call, by its cells
+  call-rows : (lefts rights : List Field) → is_change (kind_of_line line) ≡ false → call_fields_of line ≡ lefts →
+      call_fields_of other ≡ rights →
+      rows_of_place head call line other ≡ cell_rows head (at_place call line) (names (drop 5 call_fields)) lefts rights
+  call-rows lefts rights called left right =
+      let p : Numbered = record { schedule = 0; call = call; line = line } in
+      let q : Numbered = record { schedule = 0; call = call; line = other } in
+      ap (λ change. differing_rows head (at_place call line) (own_fields change) p q) called
+      ∙ by-cells head (at_place call line) (drop 5 call_fields) p q
+      ∙ both-cells head (at_place call line) (names (drop 5 call_fields)) _ lefts _ rights left right
+
+  -- the rows of a place, by the kind of its lines
+  pub place-rows : (kind : JourneyKind) → kind_of_line line ≡ kind → kind_of_line other ≡ kind →
+      differing_rows head (at_place call line) (fields_of_kind kind) line other ≡ rows_of_place head call line other
+  unfolding cell_rows
+  place-rows Origin e f =
+      by-cells head (at_place call line) (fields_of_kind Origin) line other
+      ∙ sym (call-rows _ _ (ap is_change e) (origin-fields line e) (origin-fields other f) ∙ simp no-cells)
+  place-rows Stop e f =
+      by-cells head (at_place call line) (fields_of_kind Stop) line other
+      ∙ sym (call-rows _ _ (ap is_change e) (stop-fields line e) (stop-fields other f))
+  place-rows Terminus e f =
+      by-cells head (at_place call line) (fields_of_kind Terminus) line other
+      ∙ sym (call-rows _ _ (ap is_change e) (terminus-fields line e) (terminus-fields other f) ∙ simp no-cells)
+  place-rows Change e f =
+      let p : Numbered = record { schedule = 0; call = call; line = line } in
+      let q : Numbered = record { schedule = 0; call = call; line = other } in
+      ap (λ change. differing_rows head (at_place call line) (own_fields change) p q) (sym (ap is_change e))
+  place-rows Other e f = sym (call-rows _ _ (ap is_change e) (no-fields line e) (no-fields other f) ∙ simp no-cells)
+
+-- journeys with the same places have as many lines, and the first of both have one place
+pub as-many : (lefts rights : List (List ℕ)) → IsTrue (same_places lefts rights) → length lefts ≡ length rights
+as-many [] [] same = refl
+as-many [] (other ∷ rights) same = absurd (false≢true same)
+as-many (line ∷ lefts) [] same = absurd (false≢true same)
+as-many (line ∷ lefts) (other ∷ rights) same =
+    ap suc (as-many lefts rights (and_parts (pointwise nat_eq (columns 1 10 line) (columns 1 10 other)) (same_places lefts rights) same).1)
+
+pub first-places : (lefts rights : List (List ℕ)) (line other : List ℕ) → IsTrue (same_places lefts rights) → 0 < length lefts →
+    line ≡ slice_index_or lefts 0 [] → other ≡ slice_index_or rights 0 [] → columns 1 10 line ≡ columns 1 10 other
+first-places [] rights line other same some left right = absurd (omega (arith, some))
+first-places (l ∷ lefts) [] line other same some left right = absurd (false≢true same)
+first-places (l ∷ lefts) (r ∷ rights) line other same some left right =
+    ap (columns 1 10) left
+    ∙ (bytes_decides (columns 1 10 l) (columns 1 10 r)).0
+    (and_parts (pointwise nat_eq (columns 1 10 l) (columns 1 10 r)) (same_places lefts rights) same).0
+    ∙ ap (columns 1 10) (sym right)
+
+-- and so have the lines behind
+pub rest-places : (lefts rights more others : List (List ℕ)) → IsTrue (same_places lefts rights) → 0 < length lefts →
+    more ≡ drop 1 lefts → others ≡ drop 1 rights → IsTrue (same_places more others)
+rest-places [] rights more others same some left right = absurd (omega (arith, some))
+rest-places (l ∷ lefts) [] more others same some left right = absurd (false≢true same)
+rest-places (l ∷ lefts) (r ∷ rights) more others same some left right =
+    rw (left, right) (and_parts (pointwise nat_eq (columns 1 10 l) (columns 1 10 r)) (same_places lefts rights) same).1
+
+-- the rows of the lines so far, and of those that are left, are all
+module _ (head : List Field) (whole : List ℕ) where
+  abbrev pub PlacesAreLeft : List ℕ → ℕ → List (List ℕ) → List (List ℕ) → Type 0
+  PlacesAreLeft text call lefts rights = text ++ lines_rows head call lefts rights ≡ whole
+
+  pub one-place : (text : List ℕ) (call next : ℕ) (kind : JourneyKind) (lefts rights : List (List ℕ)) (line other : List ℕ)
+      (more others : List (List ℕ)) → lefts ≡ line ∷ more → rights ≡ other ∷ others → kind ≡ kind_of_line line →
+      next ≡ cond (is_call kind) (call + 1) call → PlacesAreLeft text call lefts rights →
+      PlacesAreLeft (text ++ rows_of_place head call line other) next more others
+  one-place text call next kind lefts rights line other more others left right of_line after_line is =
+      let rows : List ℕ = rows_of_place head call line other in
+      ap (λ n. (text ++ rows) ++ lines_rows head n more others)
+      (after_line ∙ ap (λ (k : JourneyKind). cond (is_call k) (call + 1) call) of_line)
+      ∙ append_assoc text rows (lines_rows head (cond (is_call (kind_of_line line)) (call + 1) call) more others)
+      ∙ ap (λ ls. text ++ lines_rows head call ls (other ∷ others)) (sym left)
+      ∙ ap (λ ls. text ++ lines_rows head call lefts ls) (sym right)
+      ∙ is
+
+  pub no-place : (text : List ℕ) (call : ℕ) (lefts rights : List (List ℕ)) → length lefts ≡ 0 → PlacesAreLeft text call lefts rights →
+      text ≡ whole
+  no-place text call [] rights none is = sym (append-nil text) ∙ is
+  no-place text call (line ∷ lefts) rights none is = absurd (omega (arith, none))

@@ -1,0 +1,501 @@
+-- Where a pair of schedules has no row, their bodies are the same; and so it is with associations.
+use Rattle.std.proofs.Common.{◌≡◌, ℕ, ◌+◌, ◌<◌, Bool, true, false, List, [], ◌∷◌, ◌++◌, Option, None, Some, codes, cond, length, get_or}
+use Rattle.std.proofs.Common.{◌∙◌, ap, ap₂, arith, drop, map, refl, replicate, subst, sym, take}
+use Rattle.std.specs.Prelude.{◌&&◌, IsTrue, nat_le, find}
+use Rattle.std.specs.Cmp.Lexicographic.{bytes_decides}
+use Rattle.std.proofs.lemmas.Bool.{and_parts, false≢true}
+use Rattle.cif_columns.specs.Field.{AllFit, AllStandIn, Row, StandsIn, columns, plain_line, row, spare, text}
+use Rattle.cif_columns.specs.Line.{IsLine}
+use Rattle.cif_columns.specs.declared.stp.Stp.TheVariants.{P}
+use Rattle.cif_columns.proofs.FieldLaws.{one_text_value}
+use Rattle.cif_columns.proofs.Parts.{fits-append, fits-front, stands-front, stands-plain_line}
+use Rattle.cif_columns.proofs.PlainLines.{line-plain_line}
+use Rattle.cif_extract.specs.Body.{KeepAll, KeepBody}
+use Rattle.cif_extract.specs.BodyParts.{BodyParts, body_records, extra_records, journey_records}
+use Rattle.cif_extract.specs.Call.{call_record}
+use Rattle.cif_extract.specs.Laws.SameBody.{same_values}
+use Rattle.cif_extract.specs.Texts.{AllTablesFit}
+use Rattle.cif_extract.specs.declared.call.Call.{Call}
+use Rattle.cif_extract.specs.declared.call.Call.TheVariants.{At, Turn}
+use Rattle.cif_extract.proofs.Bodies.{same_parts}
+use Rattle.cif_records.specs.Association as aa
+use Rattle.cif_records.specs.Basic.{basic_back, basic_rows}
+use Rattle.cif_records.specs.Detail.{detail_rows, detail_table}
+use Rattle.cif_records.specs.Kind.{is_identity, kind_in, kinds}
+use Rattle.cif_records.specs.Record.{SpellsRecord, record_table}
+use Rattle.cif_records.specs.declared.association.AssocBody.{AssocBody}
+use Rattle.cif_records.specs.declared.association.AssocKey.{AssocKey}
+use Rattle.cif_records.specs.declared.change.Change.{Change}
+use Rattle.cif_records.specs.declared.detail.Detail.{Detail}
+use Rattle.cif_records.specs.declared.extra.Extra.{Extra}
+use Rattle.cif_records.specs.declared.origin.Origin.{Origin}
+use Rattle.cif_records.specs.declared.record.Kind.TheVariants.{Bx, Lo}
+use Rattle.cif_records.specs.declared.record.Record.{Record}
+use Rattle.cif_records.specs.declared.record.Record.TheVariants as of
+use Rattle.cif_records.specs.declared.stop.Stop.{Stop}
+use Rattle.cif_records.specs.declared.terminus.Terminus.{Terminus}
+use Rattle.cif_records.proofs.Details.{one_detail}
+use Rattle.cif_records.proofs.Records as records
+use Rattle.cif_records.proofs.Rows.{◌&◌}
+use Rattle.cif_weeks.specs.Permanent.{Permanent}
+use Rattle.cif_canon.specs.Fields.{Field, line_of, nothing, shown, trimmed}
+use Rattle.cif_canon.specs.Lines.{association_plain, schedule_plain}
+use Rattle.cif_canon.specs.declared.listed_differences.Side.TheVariants.{Left}
+use Rattle.cif_canon.specs.declared.rows.Format.TheVariants.{Tsv}
+use Rattle.cif_canon.specs.declared.rows.Shape.TheVariants.{Trimmed}
+use Rattle.cif_views.specs.DifferenceTable.{association_head, association_rows, changed, differing_rows, in_record, journey_of}
+use Rattle.cif_views.specs.DifferenceTable.{journey_rows, own_fields, schedule_head, schedule_rows, without_extra}
+use Rattle.cif_views.specs.Steps.DifferenceRows.{count_of_calls, journeys_of, lines_rows, rows_of_place, same_places}
+use Rattle.cif_views.specs.Tables.{Numbered, NumberedSchedule, association_fields, extra_in, is_call, is_change, is_extra, journey_kind}
+use Rattle.cif_views.specs.Tables.{kind_of_line, number, numbered_schedule, row_fields, schedule_fields}
+use Rattle.cif_views.specs.declared.tables.JourneyKind.TheVariants as kind
+use Rattle.cif_views.proofs.DifferingCells.{AllSame, all-moved, both-none, same-at, same-cells, same-identity, same-location, same-suffix}
+use Rattle.cif_views.proofs.DifferingCells.{some-row}
+use Rattle.cif_views.proofs.PairedJourneys.{journeys-by-lines}
+use Rattle.cif_views.proofs.TableRows.{origin-fields, stop-fields, terminus-fields}
+
+-- the records of a journey
+abbrev pub IsPlace : Record → Type 0
+IsPlace (of.Origin r) = Unit {0}
+IsPlace (of.Stop r) = Unit {0}
+IsPlace (of.Change r) = Unit {0}
+IsPlace (of.Terminus r) = Unit {0}
+IsPlace _ = ⊥
+
+abbrev pub ArePlaces : List Record → Type 0
+ArePlaces [] = Unit {0}
+ArePlaces (r ∷ rs) = IsPlace r × ArePlaces rs
+
+abbrev nth : ℕ → List (List ℕ) → List ℕ
+nth n cells = get_or cells n []
+
+-- ---- one place of two journeys
+
+module _ (head : List Field) (call : ℕ) (l m : List ℕ) (left : IsLine l) (right : IsLine m)
+    (place : columns 1 10 l ≡ columns 1 10 m) (none : rows_of_place head call l m ≡ []) where
+  abbrev numbered : List ℕ → Numbered
+  numbered line = record { schedule = 0; call = call; line = line }
+
+  abbrev cells : Bool → List ℕ → List (List ℕ)
+  cells change line = map (shown Tsv) (row_fields (own_fields change) (numbered line))
+
+  told : (change : Bool) → is_change (kind_of_line l) ≡ change → cells change l ≡ cells change m
+  told change is =
+      subst (λ c. cells c l ≡ cells c m) is
+      (same-cells head _ (numbered l) (numbered m) (own_fields (is_change (kind_of_line l))) none)
+
+  -- both lines are of one kind
+  one-kind : kind_of_line l ≡ kind_of_line m
+  one-kind = ap (λ (c : List ℕ). journey_kind (find (is_identity c) kinds)) (same-identity l m place)
+
+  origin : (r : Origin) → SpellsRecord m (of.Origin r) → AllSame l m (record_table (of.Origin r))
+  origin r h =
+      let here : kind_of_line m ≡ kind.Origin = ap journey_kind (records.kind_there m (of.Origin r) h) in
+      let there = one-kind ∙ here in
+      let same = sym (ap (map (shown Tsv)) (origin-fields l there)) ∙ told false (ap is_change there)
+      ∙ ap (map (shown Tsv)) (origin-fields m here) in
+      same-identity l m place
+      & same-location l m place
+      & same-suffix l m place
+      & same-at l m left right 11 15 refl (ap (nth 1) same)
+      & same-at l m left right 16 19 refl (ap (nth 4) same)
+      & same-at l m left right 20 22 refl (ap (nth 5) same)
+      & same-at l m left right 23 25 refl (ap (nth 6) same)
+      & same-at l m left right 26 27 refl (ap (nth 9) same)
+      & same-at l m left right 28 29 refl (ap (nth 10) same)
+      & same-at l m left right 30 41 refl (ap (nth 8) same)
+      & same-at l m left right 42 43 refl (ap (nth 11) same)
+      & tt
+      & tt
+
+  stop : (r : Stop) → SpellsRecord m (of.Stop r) → AllSame l m (record_table (of.Stop r))
+  stop r h =
+      let here : kind_of_line m ≡ kind.Stop = ap journey_kind (records.kind_there m (of.Stop r) h) in
+      let there = one-kind ∙ here in
+      let same = sym (ap (map (shown Tsv)) (stop-fields l there)) ∙ told false (ap is_change there)
+      ∙ ap (map (shown Tsv)) (stop-fields m here) in
+      same-identity l m place
+      & same-location l m place
+      & same-suffix l m place
+      & same-at l m left right 11 15 refl (ap (nth 0) same)
+      & same-at l m left right 16 20 refl (ap (nth 1) same)
+      & same-at l m left right 21 25 refl (ap (nth 2) same)
+      & same-at l m left right 26 29 refl (ap (nth 3) same)
+      & same-at l m left right 30 33 refl (ap (nth 4) same)
+      & same-at l m left right 34 36 refl (ap (nth 5) same)
+      & same-at l m left right 37 39 refl (ap (nth 6) same)
+      & same-at l m left right 40 42 refl (ap (nth 7) same)
+      & same-at l m left right 43 54 refl (ap (nth 8) same)
+      & same-at l m left right 55 56 refl (ap (nth 9) same)
+      & same-at l m left right 57 58 refl (ap (nth 10) same)
+      & same-at l m left right 59 60 refl (ap (nth 11) same)
+      & tt
+      & tt
+
+  terminus : (r : Terminus) → SpellsRecord m (of.Terminus r) → AllSame l m (record_table (of.Terminus r))
+  terminus r h =
+      let here : kind_of_line m ≡ kind.Terminus = ap journey_kind (records.kind_there m (of.Terminus r) h) in
+      let there = one-kind ∙ here in
+      let same = sym (ap (map (shown Tsv)) (terminus-fields l there)) ∙ told false (ap is_change there)
+      ∙ ap (map (shown Tsv)) (terminus-fields m here) in
+      same-identity l m place
+      & same-location l m place
+      & same-suffix l m place
+      & same-at l m left right 11 15 refl (ap (nth 0) same)
+      & same-at l m left right 16 19 refl (ap (nth 3) same)
+      & same-at l m left right 20 22 refl (ap (nth 5) same)
+      & same-at l m left right 23 25 refl (ap (nth 7) same)
+      & same-at l m left right 26 37 refl (ap (nth 8) same)
+      & tt
+      & tt
+
+  change : (r : Change) → SpellsRecord m (of.Change r) → AllSame l m (record_table (of.Change r))
+  change r h =
+      let here : kind_of_line m ≡ kind.Change = ap journey_kind (records.kind_there m (of.Change r) h) in
+      let there = one-kind ∙ here in
+      let same = told true (ap is_change there) in
+      same-identity l m place
+      & same-location l m place
+      & same-suffix l m place
+      & same-at l m left right 11 12 refl (ap (nth 0) same)
+      & same-at l m left right 13 16 refl (ap (nth 1) same)
+      & same-at l m left right 17 20 refl (ap (nth 2) same)
+      & same-at l m left right 21 21 refl (ap (nth 3) same)
+      & same-at l m left right 22 29 refl (ap (nth 4) same)
+      & same-at l m left right 30 30 refl (ap (nth 5) same)
+      & same-at l m left right 31 33 refl (ap (nth 6) same)
+      & same-at l m left right 34 37 refl (ap (nth 7) same)
+      & same-at l m left right 38 40 refl (ap (nth 8) same)
+      & same-at l m left right 41 46 refl (ap (nth 9) same)
+      & same-at l m left right 47 47 refl (ap (nth 10) same)
+      & same-at l m left right 48 48 refl (ap (nth 11) same)
+      & same-at l m left right 49 49 refl (ap (nth 12) same)
+      & same-at l m left right 50 50 refl (ap (nth 13) same)
+      & same-at l m left right 51 54 refl (ap (nth 14) same)
+      & same-at l m left right 55 58 refl (ap (nth 15) same)
+      & same-at l m left right 59 62 refl (ap (nth 16) same)
+      & same-at l m left right 63 67 refl (ap (nth 17) same)
+      & same-at l m left right 68 75 refl (ap (nth 18) same)
+      & tt
+      & tt
+
+  -- what the other line spells this one does
+  same-place : (r : Record) → IsPlace r → SpellsRecord m r → AllSame l m (record_table r)
+  same-place (of.Header r) is h = absurd is
+  same-place (of.Tiploc r) is h = absurd is
+  same-place (of.Association r) is h = absurd is
+  same-place (of.Basic r) is h = absurd is
+  same-place (of.Extra r) is h = absurd is
+  same-place (of.Origin r) is h = origin r h
+  same-place (of.Stop r) is h = stop r h
+  same-place (of.Change r) is h = change r h
+  same-place (of.Terminus r) is h = terminus r h
+  same-place of.Trailer is h = absurd is
+
+-- ---- two journeys
+
+abbrev lines_of : List Record → List (List ℕ)
+lines_of rs = map plain_line (map record_table rs)
+
+module _ (head : List Field) where
+  same-journeys : (call : ℕ) (rs qs : List Record) → ArePlaces qs → AllTablesFit (map record_table rs) →
+      AllTablesFit (map record_table qs) → IsTrue (same_places (lines_of rs) (lines_of qs)) →
+      lines_rows head call (lines_of rs) (lines_of qs) ≡ [] → lines_of rs ≡ lines_of qs
+  same-journeys call [] [] are one other places none = refl
+  same-journeys call [] (q ∷ qs) are one other places none = absurd (false≢true places)
+  same-journeys call (r ∷ rs) [] are one other places none = absurd (false≢true places)
+  same-journeys call (r ∷ rs) (q ∷ qs) are one other places none =
+      let l = plain_line (record_table r) in
+      let m = plain_line (record_table q) in
+      let (first, later) = and_parts _ _ places in
+      let place = (bytes_decides (columns 1 10 l) (columns 1 10 m)).0 first in
+      let next = cond (is_call (kind_of_line l)) (call + 1) call in
+      let (here, behind) = both-none (rows_of_place head call l m) (lines_rows head next (lines_of rs) (lines_of qs)) none in
+      let left = records.line r one.0 in
+      let right = records.line q other.0 in
+      let spelled = records.spells q other.0 in
+      let same = records.one_record l r q (records.spells r one.0)
+      (all-moved l m (record_table q) (same-place head call l m left right place here q are.0 spelled) spelled) in
+      ap₂ (λ (line : List ℕ) (lines : List (List ℕ)). line ∷ lines) (ap (λ (p : Record). plain_line (record_table p)) same)
+      (same-journeys next rs qs are.1 one.1 other.1 later behind)
+
+-- the records of a journey are places
+are-behind : (calls : List Call) (t : Terminus) → ArePlaces (map call_record calls ++ (of.Terminus t ∷ []))
+are-behind [] t = (tt, tt)
+are-behind (At s ∷ calls) t = (tt, are-behind calls t)
+are-behind (Turn r ∷ calls) t = (tt, are-behind calls t)
+
+are-places : (o : Origin) (calls : List Call) (t : Terminus) → ArePlaces (journey_records o calls t)
+are-places o calls t = (tt, are-behind calls t)
+
+-- ---- two bodies
+
+keep-lines : (rs : List Record) → AllTablesFit (map record_table rs) → KeepAll (lines_of rs) (map record_table rs)
+keep-lines [] fits = tt
+keep-lines (r ∷ rs) fits = (records.spells r fits.0, refl, keep-lines rs fits.1)
+
+-- a detail that fits its line of its own
+alone-fits : (d : Detail) → AllFit (detail_rows (Some d)) → AllFit (detail_table d)
+alone-fits d fits = (tt, fits-append (detail_rows (Some d)) (row 79 80 spare ∷ []) fits (tt, tt))
+
+module _ (d : Detail) (fits : AllFit (detail_rows (Some d))) (p q : BodyParts)
+    (one : AllTablesFit (map record_table (journey_records p.origin p.calls p.terminus)))
+    (other : AllTablesFit (map record_table (journey_records q.origin q.calls q.terminus)))
+    (same : lines_of (journey_records p.origin p.calls p.terminus) ≡ lines_of (journey_records q.origin q.calls q.terminus)) where
+  -- a body with this detail, no BX, and the journey of another
+  abbrev plain : BodyParts → BodyParts
+  plain b = record { detail = d; extra = None; origin = b.origin; calls = b.calls; terminus = b.terminus }
+
+  abbrev plain_lines : List (List ℕ) → List (List ℕ)
+  plain_lines lines = plain_line (detail_table d) ∷ lines
+
+  keeps : (b : BodyParts) → AllTablesFit (map record_table (journey_records b.origin b.calls b.terminus)) →
+      KeepBody (plain_lines (lines_of (journey_records b.origin b.calls b.terminus))) (plain b)
+  keeps b all = (
+    stands-plain_line (detail_table d) refl (alone-fits d fits),
+    refl,
+    keep-lines (journey_records b.origin b.calls b.terminus) all,
+  )
+
+  one-journey : plain p ≡ plain q
+  one-journey =
+      same_parts (plain_lines (lines_of (journey_records q.origin q.calls q.terminus))) (plain p) (plain q)
+      (subst (λ lines. KeepBody (plain_lines lines) (plain p)) same (keeps p one)) (keeps q other)
+
+-- tables that fit, of a BX or none and those behind it
+first-fit : (x : Option Extra) (rs : List Record) → AllTablesFit (map record_table (extra_records x ++ rs)) →
+    AllTablesFit (map record_table (extra_records x))
+first-fit None rs fits = tt
+first-fit (Some e) rs fits = (fits.0, tt)
+
+last-fit : (x : Option Extra) (rs : List Record) → AllTablesFit (map record_table (extra_records x ++ rs)) →
+    AllTablesFit (map record_table rs)
+last-fit None rs fits = fits
+last-fit (Some e) rs fits = fits.1
+
+-- two journeys without a row have the same places
+told-places : (same : Bool) (rows row : List ℕ) → cond same rows row ≡ [] → 0 < length row → IsTrue same × (rows ≡ [])
+told-places true rows row none some = (refl, none)
+told-places false rows row none some = absurd (let long = ap length none in omega (arith, some, long))
+
+-- ---- the BX of a schedule
+
+-- the line of a BX, or one of spaces
+abbrev extra_line : Option Extra → List ℕ
+extra_line None = replicate 80 32
+extra_line (Some e) = plain_line (record_table (of.Extra e))
+
+is-extra : (line : List ℕ) → kind_in line ≡ Some Bx → is_extra line ≡ true
+is-extra line is = rw is refl
+
+is-origin : (line : List ℕ) → kind_in line ≡ Some Lo → is_extra line ≡ false
+is-origin line is = rw is refl
+
+-- what the lines behind a BS are: a BX or none, and a journey
+record AreFurther (lines : List (List ℕ)) (extra : Option Extra) (journey : List (List ℕ)) : Type 0 where
+  extra_is : extra_in lines ≡ extra_line extra
+  journey_is : without_extra lines ≡ journey
+
+are-further : (extra : Option Extra) (o : Origin) (rs : List Record) →
+    AllTablesFit (map record_table (extra_records extra ++ (of.Origin o ∷ rs))) →
+    AreFurther (lines_of (extra_records extra ++ (of.Origin o ∷ rs))) extra (lines_of (of.Origin o ∷ rs))
+are-further None o rs fits =
+    let line = plain_line (record_table (of.Origin o)) in
+    let no = is-origin line (records.kind_there line (of.Origin o) (records.spells (of.Origin o) fits.0)) in
+    record {
+      extra_is = ap (λ b. cond b line (replicate 80 32)) no;
+      journey_is = ap (λ b. cond b (lines_of rs) (line ∷ lines_of rs)) no;
+    }
+are-further (Some e) o rs fits =
+    let line = plain_line (record_table (of.Extra e)) in
+    let yes = is-extra line (records.kind_there line (of.Extra e) (records.spells (of.Extra e) fits.0)) in
+    record {
+      extra_is = ap (λ b. cond b line (replicate 80 32)) yes;
+      journey_is = ap (λ b. cond b (lines_of (of.Origin o ∷ rs)) (line ∷ lines_of (of.Origin o ∷ rs))) yes;
+    }
+
+-- what a schedule's table shows of its BX
+abbrev identity_of_extra : List ℕ → List ℕ
+identity_of_extra line = trimmed (columns 1 2 line)
+
+abbrev extra_cells : List ℕ → List (List ℕ)
+extra_cells line =
+    let schedule : NumberedSchedule = record { schedule = 0; basic = []; extra = line } in
+    map (shown Tsv) (row_fields (drop 23 schedule_fields) schedule)
+
+-- one BX and none are shown as two
+shown-extra : (e : Extra) → AllFit (record_table (of.Extra e)) →
+    identity_of_extra (extra_line (Some e)) ≡ identity_of_extra (extra_line None) → ⊥
+shown-extra e fits same =
+    let long : 2 ≡ 0 = ap length (sym (ap trimmed (records.spells (of.Extra e) fits).0) ∙ same) in
+    absurd (omega (arith, long))
+
+same-extra : (x y : Option Extra) → AllTablesFit (map record_table (extra_records x)) → AllTablesFit (map record_table (extra_records y)) →
+    identity_of_extra (extra_line x) ≡ identity_of_extra (extra_line y) → extra_cells (extra_line x) ≡ extra_cells (extra_line y) → x ≡ y
+same-extra None None one other identity same = refl
+same-extra None (Some f) one other identity same = absurd (shown-extra f other.0 (sym identity))
+same-extra (Some e) None one other identity same = absurd (shown-extra e one.0 identity)
+same-extra (Some e) (Some f) one other identity same =
+    let l = plain_line (record_table (of.Extra e)) in
+    let m = plain_line (record_table (of.Extra f)) in
+    let left = records.line (of.Extra e) one.0 in
+    let right = records.line (of.Extra f) other.0 in
+    let all : AllSame l m (record_table (of.Extra f)) =
+    same-at l m left right 1 2 refl identity
+    & same-at l m left right 3 6 refl (ap (nth 0) same)
+    & same-at l m left right 7 11 refl (ap (nth 1) same)
+    & same-at l m left right 12 13 refl (ap (nth 2) same)
+    & same-at l m left right 14 14 refl (ap (nth 3) same)
+    & same-at l m left right 15 22 refl (ap (nth 4) same)
+    & same-at l m left right 23 23 refl (ap (nth 5) same)
+    & tt
+    & tt in
+    let spelled = records.spells (of.Extra f) other.0 in
+    let record_is = records.one_record l (of.Extra e) (of.Extra f) (records.spells (of.Extra e) one.0)
+    (all-moved l m (record_table (of.Extra f)) all spelled) in
+    ap extra_of record_is
+  where
+    extra_of : Record → Option Extra
+    extra_of (of.Extra r) = Some r
+    extra_of _ = None
+
+-- ---- the detail of a schedule
+
+abbrev basic_cells : List ℕ → List (List ℕ)
+basic_cells line =
+    let schedule : NumberedSchedule = record { schedule = 0; basic = line; extra = [] } in
+    map (shown Tsv) (row_fields (take 17 (drop 5 schedule_fields)) schedule)
+
+-- a schedule's line that stands for its record
+abbrev pub basic_line : List ℕ × Permanent BodyParts → List Row
+basic_line e = basic_rows e.0 e.1.first e.1.last e.1.days P (Some e.1.body.detail)
+
+-- it fits its columns, with the lines of its body
+pub record FitsLines (e : List ℕ × Permanent BodyParts) : Type 0 where
+  pub basic : AllFit (basic_line e)
+  pub further : AllTablesFit (map record_table (body_records e.1.body))
+
+module _ (e : List ℕ × Permanent BodyParts) (fits : FitsLines e) where
+  is-line : IsLine (plain_line (basic_line e))
+  is-line = line-plain_line (basic_line e) refl fits.basic
+
+  detail-stands : AllStandIn (plain_line (basic_line e)) (detail_rows (Some e.1.body.detail))
+  detail-stands =
+      stands-front (plain_line (basic_line e)) (detail_rows (Some e.1.body.detail)) (basic_back P)
+      (stands-plain_line (basic_line e) refl fits.basic).1.1.1.1.1.1.1
+
+  detail-fits : AllFit (detail_rows (Some e.1.body.detail))
+  detail-fits = fits-front (detail_rows (Some e.1.body.detail)) (basic_back P) fits.basic.1.1.1.1.1.1.1
+
+  extra-fits : AllTablesFit (map record_table (extra_records e.1.body.extra))
+  extra-fits = first-fit e.1.body.extra _ fits.further
+
+  journey-fits : AllTablesFit (map record_table (journey_records e.1.body.origin e.1.body.calls e.1.body.terminus))
+  journey-fits = last-fit e.1.body.extra _ fits.further
+
+module _ (e g : List ℕ × Permanent BodyParts) (one : FitsLines e) (other : FitsLines g) where
+  same-detail : basic_cells (plain_line (basic_line e)) ≡ basic_cells (plain_line (basic_line g)) → e.1.body.detail ≡ g.1.body.detail
+  same-detail same =
+      let l = plain_line (basic_line e) in
+      let m = plain_line (basic_line g) in
+      let left = is-line e one in
+      let right = is-line g other in
+      let all : AllSame l m (detail_rows (Some g.1.body.detail)) =
+      same-at l m left right 30 30 refl (ap (nth 0) same)
+      & same-at l m left right 31 32 refl (ap (nth 1) same)
+      & same-at l m left right 33 36 refl (ap (nth 2) same)
+      & same-at l m left right 37 40 refl (ap (nth 3) same)
+      & same-at l m left right 41 41 refl (ap (nth 4) same)
+      & same-at l m left right 42 49 refl (ap (nth 5) same)
+      & same-at l m left right 50 50 refl (ap (nth 6) same)
+      & same-at l m left right 51 53 refl (ap (nth 7) same)
+      & same-at l m left right 54 57 refl (ap (nth 8) same)
+      & same-at l m left right 58 60 refl (ap (nth 9) same)
+      & same-at l m left right 61 66 refl (ap (nth 10) same)
+      & same-at l m left right 67 67 refl (ap (nth 11) same)
+      & same-at l m left right 68 68 refl (ap (nth 12) same)
+      & same-at l m left right 69 69 refl (ap (nth 13) same)
+      & same-at l m left right 70 70 refl (ap (nth 14) same)
+      & same-at l m left right 71 74 refl (ap (nth 15) same)
+      & same-at l m left right 75 78 refl (ap (nth 16) same)
+      & tt in
+      one_detail l e.1.body.detail g.1.body.detail (detail-stands e one)
+      (all-moved l m (detail_rows (Some g.1.body.detail)) all (detail-stands g other))
+
+  -- where a pair has no row, the bodies are the same
+  pub same-body : schedule_rows (record { side = Left; it = schedule_plain e }, Some (schedule_plain g)) ≡ [] → e.1.body ≡ g.1.body
+  same-body none =
+      let p = e.1.body in
+      let q = g.1.body in
+      let s = schedule_plain e in
+      let t = schedule_plain g in
+      let head = schedule_head changed s.basic in
+      let x = numbered_schedule (0, s) in
+      let y = numbered_schedule (0, t) in
+      let firsts = differing_rows head (in_record (codes "BS")) (take 18 (drop 5 schedule_fields)) x y in
+      let seconds = differing_rows head (in_record (codes "BX")) (drop 23 schedule_fields) x y in
+      let journeys = journey_rows head (journey_of s) (journey_of t) in
+      let (no_basic, later) = both-none firsts (seconds ++ journeys) none in
+      let (no_extra, no_journey) = both-none seconds journeys later in
+      let basic = same-cells head (in_record (codes "BS")) x y (take 18 (drop 5 schedule_fields)) no_basic in
+      let extra = same-cells head (in_record (codes "BX")) x y (drop 23 schedule_fields) no_extra in
+      let a = are-further p.extra p.origin (map call_record p.calls ++ (of.Terminus p.terminus ∷ [])) one.further in
+      let b = are-further q.extra q.origin (map call_record q.calls ++ (of.Terminus q.terminus ∷ [])) other.further in
+      let detail_is = same-detail (ap (λ (cells : List (List ℕ)). take 17 cells) basic) in
+      let extra_is = same-extra p.extra q.extra (extra-fits e one) (extra-fits g other)
+      (ap identity_of_extra (sym a.extra_is) ∙ ap (nth 17) basic ∙ ap identity_of_extra b.extra_is)
+      (ap extra_cells (sym a.extra_is) ∙ extra ∙ ap extra_cells b.extra_is) in
+      let rs = journey_records p.origin p.calls p.terminus in
+      let qs = journey_records q.origin q.calls q.terminus in
+      let by_lines : journeys_of head (lines_of rs) (lines_of qs) ≡ [] =
+      ap₂ (journeys_of head) (sym a.journey_is) (sym b.journey_is)
+      ∙ sym (journeys-by-lines head (without_extra s.further) (without_extra t.further)) ∙ no_journey in
+      let numbers : List Field =
+      nothing ∷ nothing ∷ nothing ∷ (Trimmed, codes "journey") ∷ number (count_of_calls (lines_of rs))
+      ∷ number (count_of_calls (lines_of qs)) ∷ [] in
+      let (places, rows) = told-places (same_places (lines_of rs) (lines_of qs)) (lines_rows head 1 (lines_of rs) (lines_of qs))
+      (line_of Tsv (head ++ numbers)) by_lines (some-row (head ++ numbers)) in
+      let lines = same-journeys head 1 rs qs (are-places q.origin q.calls q.terminus) (journey-fits e one) (journey-fits g other)
+      places rows in
+      let journey = one-journey p.detail (detail-fits e one) p q (journey-fits e one) (journey-fits g other) lines in
+      same_values p q detail_is extra_is (ap (λ (b : BodyParts). b.origin) journey) (ap (λ (b : BodyParts). b.calls) journey)
+      (ap (λ (b : BodyParts). b.terminus) journey)
+
+-- ---- two associations
+
+abbrev pub association_line : AssocKey × Permanent AssocBody → List Row
+association_line e = aa.association_rows e.0 e.1.first e.1.last e.1.days P (Some e.1.body)
+
+same_values-association : (p q : AssocBody) → p.category ≡ q.category → p.date_indicator ≡ q.date_indicator → p.diagram ≡ q.diagram →
+    p.kind ≡ q.kind → p ≡ q
+same_values-association p q a b c d =
+    let values : ◌≡◌ {A = List ℕ × List ℕ × List ℕ × List ℕ} (p.category, p.date_indicator, p.diagram, p.kind)
+    (q.category, q.date_indicator, q.diagram, q.kind) = cc in
+    ap (λ (v : List ℕ × List ℕ × List ℕ × List ℕ).
+    let it : AssocBody = record { category = v.0; date_indicator = v.1; diagram = v.2; kind = v.3 } in it) values
+
+module _ (e g : AssocKey × Permanent AssocBody) (one : AllFit (association_line e)) (other : AllFit (association_line g)) where
+  -- where a pair has no row, the bodies are the same
+  pub same-association :
+      association_rows (record { side = Left; it = association_plain e }, Some (association_plain g)) ≡ [] → e.1.body ≡ g.1.body
+  same-association none =
+      let p = e.1.body in
+      let q = g.1.body in
+      let l = plain_line (association_line e) in
+      let m = plain_line (association_line g) in
+      let left = line-plain_line (association_line e) refl one in
+      let right = line-plain_line (association_line g) refl other in
+      let a = (stands-plain_line (association_line e) refl one).1.1.1.1.1.1.1 in
+      let b = (stands-plain_line (association_line g) refl other).1.1.1.1.1.1.1 in
+      let same = same-cells (association_head changed l) (in_record (codes "AA")) l m
+      (take 2 (drop 5 association_fields) ++ drop 10 association_fields) none in
+      let at : (from to : ℕ) → (nat_le 1 from && (nat_le from to && nat_le to 80)) ≡ true →
+      trimmed (columns from to l) ≡ trimmed (columns from to m) → columns from to l ≡ columns from to m = same-at l m left right in
+      let both : (from to : ℕ) (v w : List ℕ) → columns from to l ≡ columns from to m → StandsIn (columns from to l) (text v) →
+      StandsIn (columns from to m) (text w) → v ≡ w =
+      λ from to v w same h k. one_text_value (columns from to l) v w h (subst (λ c. StandsIn c (text w)) (sym same) k) in
+      same_values-association p q
+      (both 35 36 p.category q.category (at 35 36 refl (ap (nth 0) same)) a.0 b.0)
+      (both 37 37 p.date_indicator q.date_indicator (at 37 37 refl (ap (nth 1) same)) a.1.0 b.1.0)
+      (both 47 47 p.diagram q.diagram (at 47 47 refl (ap (nth 2) same)) a.1.1.1.1.1.0 b.1.1.1.1.1.0)
+      (both 48 48 p.kind q.kind (at 48 48 refl (ap (nth 3) same)) a.1.1.1.1.1.1.0 b.1.1.1.1.1.1.0)

@@ -1,0 +1,333 @@
+-- Each difference has a row: the bodies of a pair differ, and where all cells are the same they don't.
+use Rattle.std.proofs.Common.{◌≡◌, ℕ, ◌<◌, ◌≤◌, Bool, List, [], ◌∷◌, ◌++◌, Option, None, Some, arith, length, map, replicate}
+use Rattle.std.proofs.Common.{◌∙◌, ap, length-append, ⊎_elim, refl, subst, sym}
+use Rattle.std.specs.Prelude.{◌↔◌, Contains}
+use Rattle.std.specs.List.{flat_map}
+use Rattle.std.specs.Cmp.Lexicographic.{slice_cmp}
+use Rattle.std.specs.Ordering.{nat_cmp}
+use Rattle.std.specs.declared.cmp.Ordering.{Ordering}
+use Rattle.std.proofs.lemmas.List.{nil_from_length}
+use Rattle.std.proofs.lemmas.List.Elements.{All-contains, Contains-append_left, Contains-append_right}
+use Rattle.cif_columns.specs.Day.{weekday_of}
+use Rattle.cif_columns.specs.DaysRun.{RunsOn}
+use Rattle.cif_columns.specs.Field.{AllFit, Row}
+use Rattle.cif_columns.specs.declared.stp.Stp.{Stp}
+use Rattle.cif_columns.specs.declared.stp.Stp.TheVariants.{P}
+use Rattle.cif_extract.specs.BodyParts.{BodyParts}
+use Rattle.cif_extract.specs.ExtractParts.{ExtractParts}
+use Rattle.cif_extract.specs.Texts.{AllTablesFit, schedule_tables, tables_of}
+use Rattle.cif_extract.specs.declared.extract.Schedule.{Schedule}
+use Rattle.cif_extract.proofs.PlainTexts.{fit-back, fit-front, spelled-fits}
+use Rattle.cif_records.specs.Association as aa
+use Rattle.cif_records.specs.AssocKey.{key_cmp}
+use Rattle.cif_records.specs.Basic.{basic_rows}
+use Rattle.cif_records.specs.Tiploc.{tiploc_table}
+use Rattle.cif_records.specs.Trailer.{trailer_table}
+use Rattle.cif_records.specs.declared.association.AssocBody.{AssocBody}
+use Rattle.cif_records.specs.declared.association.AssocKey.{AssocKey}
+use Rattle.cif_records.specs.declared.association.Association.{Association}
+use Rattle.cif_records.specs.declared.detail.Detail.{Detail}
+use Rattle.cif_records.proofs.Headers as headers
+use Rattle.cif_calendar.specs.Entries.{association_entries, association_entry, schedule_entries, schedule_entry}
+use Rattle.cif_calendar.specs.Keys.{of_key}
+use Rattle.cif_calendar.specs.Runs.{BodyRuns}
+use Rattle.cif_calendar.specs.Terms.{Terms}
+use Rattle.cif_calendar.proofs.Elements.{Contains-cases, Contains-first, Contains-rest}
+use Rattle.cif_calendar.proofs.RisingLists.{Contains-none}
+use Rattle.cif_columns.specs.Contents.{contents_of}
+use Rattle.cif_weeks.specs.Aligned.{IsAlignedTwo}
+use Rattle.cif_weeks.specs.Applies.{Applies}
+use Rattle.cif_weeks.specs.Permanent.{Permanent}
+use Rattle.cif_weeks.specs.Window.{IsWithin, Window}
+use Rattle.cif_weeks.specs.declared.form.Form.TheVariants.{Two}
+use Rattle.cif_canon.specs.Accepted.{IsAccepted}
+use Rattle.cif_canon.specs.Asked.{header_window}
+use Rattle.cif_canon.specs.Differences.{AreDifferences, AreDifferentRecords, AreNone, DifferencesParts, OnlySays, at_side, of_side}
+use Rattle.cif_canon.specs.Fields.{nothing}
+use Rattle.cif_canon.specs.Lines.{ScheduleLines, association_plain, schedule_plain}
+use Rattle.cif_canon.specs.Pairs.{ArePair, AreByPairs, Listed, association_lines, by_pairs, listed_as, parts_of, schedule_lines}
+use Rattle.cif_canon.specs.Pairs.{tiploc_lines}
+use Rattle.cif_canon.specs.declared.asked.Asked.{Asked}
+use Rattle.cif_canon.specs.declared.listed_differences.Side.{Side}
+use Rattle.cif_canon.specs.declared.listed_differences.Side.TheVariants.{Left, Right}
+use Rattle.cif_canon.specs.declared.listed_differences.Sided.{Sided}
+use Rattle.cif_canon.proofs.ByPairs.{associations-by_pairs, schedules-by_pairs}
+use Rattle.cif_canon.proofs.MadeFits.{AreTerms, HasTerms, have-terms}
+use Rattle.cif_canon.proofs.MergedSides.{side-member}
+use Rattle.cif_views.specs.DifferenceTable.{association_head, association_rows, change_of, difference_names, difference_table}
+use Rattle.cif_views.specs.DifferenceTable.{schedule_head, schedule_rows, tiploc_head, tiploc_row}
+use Rattle.cif_views.specs.RowsOfDifferences.{HasRow, HaveRows}
+use Rattle.cif_views.specs.Tables.{names_line}
+use Rattle.cif_views.proofs.DifferingCells.{both-none, some-row}
+use Rattle.cif_views.proofs.PairedBodies.{FitsLines, association_line, same-association, same-body}
+
+-- ---- elements
+
+in-flat : {A B : Type 0} (f : A → List B) (xs : List A) (x : A) (y : B) → Contains xs x → Contains (f x) y → Contains (flat_map f xs) y
+in-flat f [] x y h k = absurd (Contains-none x h)
+in-flat f (z ∷ xs) x y h k = ⊎_elim
+    (λ e. Contains-append_left (f z) (flat_map f xs) y (subst (λ w. Contains (f w) y) (sym e) k))
+    (λ later. Contains-append_right (f z) (flat_map f xs) y (in-flat f xs x y later k))
+    (Contains-cases z xs x h)
+
+record IsImage {A B : Type 0} (f : A → B) (xs : List A) (y : B) : Type 0 where
+  it : A
+  there : Contains xs it
+  is : f it ≡ y
+
+from-map : {A B : Type 0} (f : A → B) (xs : List A) (y : B) → Contains (map f xs) y → IsImage f xs y
+from-map f [] y h = absurd (Contains-none y h)
+from-map f (x ∷ xs) y h = ⊎_elim
+    (λ e. record { it = x; there = Contains-first x xs; is = e })
+    (λ later.
+    let found = from-map f xs y later in
+    record { it = found.it; there = Contains-rest x xs found.it found.there; is = found.is })
+    (Contains-cases (f x) (map f xs) y h)
+
+map-none : {A B : Type 0} (f : A → B) (xs : List A) → map f xs ≡ [] → xs ≡ []
+map-none f [] none = refl
+map-none f (x ∷ xs) none = absurd (let long = ap length none in omega (arith, long))
+
+some-if : (xs : List ℕ) → (xs ≡ [] → ⊥) → 0 < length xs
+some-if [] h = absurd (h refl)
+some-if (x ∷ xs) h = omega arith
+
+none-listed : {A : Type 0} (text : A → List ℕ) (items : List A) → ((a : A) → Contains items a → 0 < length (text a)) →
+    flat_map text items ≡ [] → items ≡ []
+none-listed text [] some none = refl
+none-listed text (a ∷ items) some none =
+    let here = some a (Contains-first a items) in
+    let empty = ap length (both-none (text a) (flat_map text items) none).0 in
+    absurd (omega (arith, here, empty))
+
+-- ---- the bodies of a pair differ
+
+module _ {K B : Type 0} (cmp : K → K → Ordering) (window : Window) (xs ys : List (K × Terms B)) (found : List (Sided (K × Permanent B)))
+    (are : AreDifferentRecords cmp window xs ys found) where
+  -- a record applies on some day of the window, and its side alone says its body there
+  record Says (side : Side) (e : K × Permanent B) : Type 0 where
+    day : ℕ
+    within : IsWithin window day
+    applies : Applies e.1 day
+    only : OnlySays (at_side xs ys side) (at_side ys xs side) e.0 day e.1.body
+
+  says-on : (side : Side) (e : K × Permanent B) → Contains (of_side side found) e → (n : ℕ) → IsWithin window n → Applies e.1 n →
+      OnlySays (at_side xs ys side) (at_side ys xs side) e.0 n e.1.body
+  says-on side e h n within applies =
+      ((are.only side).exact e.0 n e.1.body within).0 (record { it = e.1; listed = h; applies = applies; body = refl })
+
+  says : (side : Side) (e : K × Permanent B) → Contains (of_side side found) e → Says side e
+  says side e h =
+      let a : IsAlignedTwo window e.1 = ((are.only side).canonical.have_form e.0).aligned e.1 h in
+      let (n, same, applies) = a.used (weekday_of e.1.first) a.first.in_mask in
+      let from = a.first.within.from in
+      let begun = applies.begun in
+      let upto = a.last.within.upto in
+      let unfinished = applies.unfinished in
+      let within : IsWithin window n = record { from = omega (arith, from, begun); upto = omega (arith, upto, unfinished) } in
+      record { day = n; within = within; applies = applies; only = says-on side e h n within applies }
+
+  bodies-differ : (s : Sided (K × Permanent B)) (r : K × Permanent B) → Contains (of_side Left found) s.it →
+      Contains (of_side Right found) r → ArePair s (record { side = Right; it = r }) → s.it.1.body ≡ r.1.body → ⊥
+  bodies-differ s r left right pair same =
+      let mine = says Left s.it left in
+      let there : Applies r.1 mine.day = record {
+        begun = subst (λ f. f ≤ mine.day) pair.first mine.applies.begun;
+        unfinished = subst (λ l. mine.day ≤ l) pair.last mine.applies.unfinished;
+        on_weekday = subst (λ (m : List Bool). RunsOn m (weekday_of mine.day)) pair.days mine.applies.on_weekday;
+      } in
+      let theirs = says-on Right r right mine.day mine.within there in
+      mine.only.differs (subst (λ k. BodyRuns (of_key ys k) mine.day s.it.1.body) (sym pair.key)
+      (subst (λ b. BodyRuns (of_key ys r.0) mine.day b) (sym same) theirs.runs))
+
+  -- ---- so each that is listed has a row
+
+  module _ (listed : List (Listed (K × Permanent B))) (by : AreByPairs found listed) (Fits : K × Permanent B → Type 0)
+      (rows : Listed (K × Permanent B) → List ℕ) (fits : (side : Side) (e : K × Permanent B) → Contains (of_side side found) e → Fits e)
+      (alone : (s : Sided (K × Permanent B)) → 0 < length (rows (s, None)))
+      (same : (s : Sided (K × Permanent B)) (r : K × Permanent B) → Fits s.it → Fits r → rows (s, Some r) ≡ [] → s.it.1.body ≡ r.1.body)
+    where
+      there : (l : Listed (K × Permanent B)) (s : Sided (K × Permanent B)) → Contains listed l → Contains (parts_of l) s →
+          Contains (of_side s.side found) s.it
+      there l s h part = side-member found s (subst (λ (f : List (Sided (K × Permanent B))). Contains f s) by.parts
+          (in-flat parts_of listed l s h part))
+
+      has-row : (l : Listed (K × Permanent B)) → Contains listed l → 0 < length (rows l)
+      has-row (s, None) h = alone s
+      has-row (s, Some r) h =
+          let t : Sided (K × Permanent B) = record { side = Right; it = r } in
+          let pair = by.pairs s r h in
+          let left : Contains (of_side Left found) s.it =
+          subst (λ (side : Side). Contains (of_side side found) s.it) pair.left (there (s, Some r) s h (Contains-first s (t ∷ []))) in
+          let right = there (s, Some r) t h (Contains-rest s (t ∷ []) t (Contains-first t [])) in
+          some-if (rows (s, Some r)) (λ none. bodies-differ s r left right pair (same s r (fits Left s.it left) (fits Right r right) none))
+
+      none-found : listed ≡ [] → found ≡ []
+      none-found none = sym by.parts ∙ ap (flat_map parts_of) none
+
+-- ---- what is listed of accepted extracts fits its columns
+
+record FitLists (x : ExtractParts) : Type 0 where
+  associations : AllTablesFit (map aa.association_table x.associations)
+  schedules : AllTablesFit (flat_map tables_of x.schedules)
+
+accepted-fits : (asked : Asked) (input : List ℕ) (x : ExtractParts) → IsAccepted asked x input → FitLists x
+accepted-fits asked input x a =
+    let w = a.whole in
+    let locations = map tiploc_table w.tiplocs in
+    let own = map aa.association_table w.associations in
+    let trains = flat_map tables_of w.schedules in
+    let end : List (List Row) = trailer_table ∷ [] in
+    let fits = spelled-fits (contents_of input) w a.spelled.are_lines a.spelled.spelled in
+    let behind = fit-back locations (own ++ (trains ++ end)) fits.1 in
+    let back = fit-back own (trains ++ end) behind in
+    record {
+      associations = subst (λ (rs : List Association). AllTablesFit (map aa.association_table rs)) (sym a.narrowed.associations)
+          (fit-front own (trains ++ end) behind);
+      schedules = subst (λ (ss : List Schedule). AllTablesFit (flat_map tables_of ss)) (sym a.narrowed.schedules)
+          (fit-front trains end back);
+    }
+
+association-fits : (xs : List Association) (k : AssocKey) (t : Terms AssocBody) → AllTablesFit (map aa.association_table xs) →
+    Contains (association_entries xs) (k, t) → AllFit (aa.association_rows k t.first t.last t.days t.letter t.body)
+association-fits [] k t fits h = absurd (Contains-none (k, t) h)
+association-fits (a ∷ xs) k t fits h = ⊎_elim
+    (λ e. subst (λ (p : AssocKey × Terms AssocBody). AllFit (aa.association_rows p.0 p.1.first p.1.last p.1.days p.1.letter p.1.body)) e
+    fits.0)
+    (λ later. association-fits xs k t fits.1 later)
+    (Contains-cases (association_entry a) (association_entries xs) (k, t) h)
+
+schedule-fits : (xs : List Schedule) (k : List ℕ) (t : Terms BodyParts) → AllTablesFit (flat_map tables_of xs) →
+    Contains (schedule_entries xs) (k, t) → AllTablesFit (schedule_tables k t.first t.last t.days t.letter t.body)
+schedule-fits [] k t fits h = absurd (Contains-none (k, t) h)
+schedule-fits (s ∷ xs) k t fits h = ⊎_elim
+    (λ e. subst (λ (p : List ℕ × Terms BodyParts). AllTablesFit (schedule_tables p.0 p.1.first p.1.last p.1.days p.1.letter p.1.body)) e
+    (fit-front (tables_of s) (flat_map tables_of xs) fits))
+    (λ later. schedule-fits xs k t (fit-back (tables_of s) (flat_map tables_of xs) fits) later)
+    (Contains-cases (schedule_entry s) (schedule_entries xs) (k, t) h)
+
+-- with dates and a mask of its own
+dated-association : (k : AssocKey) (first last : ℕ) (days : List Bool) (letter : Stp) (body : AssocBody) (f l : ℕ) (m : List Bool) →
+    AllFit (aa.association_rows k first last days letter (Some body)) → AreTerms f l m → AllFit (aa.association_rows k f l m P (Some body))
+dated-association k first last days letter body f l m p t =
+    (p.0, (p.1.0, (p.1.1.0, (p.1.1.1.0, ((refl, t.first_is), ((refl, t.last_is), ((refl, t.week), p.1.1.1.1.1.1.1)))))))
+
+dated-basic : (uid : List ℕ) (first last : ℕ) (days : List Bool) (letter : Stp) (detail : Detail) (f l : ℕ) (m : List Bool) →
+    AllFit (basic_rows uid first last days letter (Some detail)) → AreTerms f l m → AllFit (basic_rows uid f l m P (Some detail))
+dated-basic uid first last days letter detail f l m p t =
+    (p.0, (p.1.0, (p.1.1.0, ((refl, t.first_is), ((refl, t.last_is), ((refl, t.week), p.1.1.1.1.1.1))))))
+
+module _ (x y : ExtractParts) (d : DifferencesParts) (a : FitLists x) (b : FitLists y) (are : AreDifferences x y d) where
+  abbrev window : Window
+  window = header_window x.header
+
+  association-listed : (side : Side) (k : AssocKey) (t : Terms AssocBody) →
+      Contains (at_side (association_entries x.associations) (association_entries y.associations) side) (k, t) →
+      AllFit (aa.association_rows k t.first t.last t.days t.letter t.body)
+  association-listed Left k t h = association-fits x.associations k t a.associations h
+  association-listed Right k t h = association-fits y.associations k t b.associations h
+
+  schedule-listed : (side : Side) (k : List ℕ) (t : Terms BodyParts) →
+      Contains (at_side (schedule_entries x.schedules) (schedule_entries y.schedules) side) (k, t) →
+      AllTablesFit (schedule_tables k t.first t.last t.days t.letter t.body)
+  schedule-listed Left k t h = schedule-fits x.schedules k t a.schedules h
+  schedule-listed Right k t h = schedule-fits y.schedules k t b.schedules h
+
+  association-lines-fit : (side : Side) (e : AssocKey × Permanent AssocBody) → Contains (of_side side d.associations) e →
+      AllFit (association_line e)
+  association-lines-fit side e h =
+      let said = says key_cmp window (association_entries x.associations) (association_entries y.associations) d.associations
+      are.associations side e h in
+      let runs = said.only.runs in
+      let t = runs.winner in
+      let own = subst (λ (o : Option AssocBody). AllFit (aa.association_rows e.0 t.first t.last t.days t.letter o)) runs.body
+      (association-listed side e.0 t runs.wins.listed) in
+      dated-association e.0 t.first t.last t.days t.letter e.1.body e.1.first e.1.last e.1.days own
+      (All-contains HasTerms (of_side side d.associations) e
+      (have-terms key_cmp Two window (of_side side d.associations) (are.associations.only side).canonical (headers.last_is_day x.header)) h)
+
+  schedule-lines-fit : (side : Side) (e : List ℕ × Permanent BodyParts) → Contains (of_side side d.schedules) e → FitsLines e
+  schedule-lines-fit side e h =
+      let said = says (slice_cmp nat_cmp) window (schedule_entries x.schedules) (schedule_entries y.schedules) d.schedules
+      are.schedules side e h in
+      let runs = said.only.runs in
+      let t = runs.winner in
+      let own = subst (λ (o : Option BodyParts). AllTablesFit (schedule_tables e.0 t.first t.last t.days t.letter o)) runs.body
+      (schedule-listed side e.0 t runs.wins.listed) in
+      record {
+        basic = dated-basic e.0 t.first t.last t.days t.letter e.1.body.detail e.1.first e.1.last e.1.days own.0
+            (All-contains HasTerms (of_side side d.schedules) e
+            (have-terms (slice_cmp nat_cmp) Two window (of_side side d.schedules) (are.schedules.only side).canonical
+            (headers.last_is_day x.header)) h);
+        further = own.1;
+      }
+
+  abbrev associations_listed : List (Listed (AssocKey × Permanent AssocBody))
+  associations_listed = by_pairs key_cmp d.associations
+
+  abbrev schedules_listed : List (Listed (List ℕ × Permanent BodyParts))
+  schedules_listed = by_pairs (slice_cmp nat_cmp) d.schedules
+
+  association-row : (l : Listed (AssocKey × Permanent AssocBody)) → Contains associations_listed l →
+      HasRow (association_rows (listed_as association_plain l))
+  association-row =
+      has-row key_cmp window (association_entries x.associations) (association_entries y.associations) d.associations are.associations
+      associations_listed (associations-by_pairs x y d are) (λ e. AllFit (association_line e))
+      (λ l. association_rows (listed_as association_plain l)) association-lines-fit
+      (λ s. some-row (association_head (change_of s.side) (association_plain s.it) ++ replicate 6 nothing))
+      (λ s r one other none. same-association s.it r one other none)
+
+  schedule-row : (l : Listed (List ℕ × Permanent BodyParts)) → Contains schedules_listed l →
+      HasRow (schedule_rows (listed_as schedule_plain l))
+  schedule-row =
+      has-row (slice_cmp nat_cmp) window (schedule_entries x.schedules) (schedule_entries y.schedules) d.schedules are.schedules
+      schedules_listed (schedules-by_pairs x y d are) FitsLines
+      (λ l. schedule_rows (listed_as schedule_plain l)) schedule-lines-fit
+      (λ s. some-row (schedule_head (change_of s.side) (schedule_plain s.it).basic ++ replicate 6 nothing))
+      (λ s r one other none. same-body s.it r one other none)
+
+  rows-are : HaveRows d
+  rows-are = record {
+    tiplocs = λ s h. some-row (tiploc_head (change_of s.side) s.it ++ replicate 6 nothing);
+    associations = λ l h.
+        let found = from-map (listed_as association_plain) associations_listed l h in
+        subst (λ (k : Listed (List ℕ)). HasRow (association_rows k)) found.is (association-row found.it found.there);
+    schedules = λ l h.
+        let found = from-map (listed_as schedule_plain) schedules_listed l h in
+        subst (λ (k : Listed ScheduleLines). HasRow (schedule_rows k)) found.is (schedule-row found.it found.there);
+  }
+
+  -- where no row is, nothing is listed
+  no-row : difference_table d ≡ names_line difference_names → AreNone d
+  unfolding difference_table
+  no-row same =
+      let locations = flat_map tiploc_row (tiploc_lines d) in
+      let associations = flat_map association_rows (association_lines d) in
+      let schedules = flat_map schedule_rows (schedule_lines d) in
+      let long = ap length same in
+      let rest = length-append (names_line difference_names) (locations ++ (associations ++ schedules)) in
+      let none = nil_from_length (locations ++ (associations ++ schedules)) (omega (arith, long, rest)) in
+      let (one, more) = both-none locations (associations ++ schedules) none in
+      let (two, three) = both-none associations schedules more in
+      record {
+        tiplocs = map-none _ d.tiplocs (none-listed tiploc_row (tiploc_lines d) rows-are.tiplocs one);
+        associations = sym (associations-by_pairs x y d are).parts ∙ ap (flat_map parts_of)
+            (map-none (listed_as association_plain) associations_listed
+            (none-listed association_rows (association_lines d) rows-are.associations two));
+        schedules = sym (schedules-by_pairs x y d are).parts ∙ ap (flat_map parts_of)
+            (map-none (listed_as schedule_plain) schedules_listed
+            (none-listed schedule_rows (schedule_lines d) rows-are.schedules three));
+      }
+
+-- and where nothing is listed, no row is
+row-of_none : (d : DifferencesParts) → AreNone d → difference_table d ≡ names_line difference_names
+unfolding difference_table
+row-of_none d none = rw (none.tiplocs, none.associations, none.schedules) refl
+
+module _ (asked other : Asked) (left right : List ℕ) (x y : ExtractParts) (d : DifferencesParts) (one : IsAccepted asked x left)
+    (two : IsAccepted other y right) (are : AreDifferences x y d) where
+  pub have-rows : HaveRows d
+  have-rows = rows-are x y d (accepted-fits asked left x one) (accepted-fits other right y two) are
+
+  pub no-row_for-none : (difference_table d ≡ names_line difference_names) ↔ AreNone d
+  no-row_for-none = (no-row x y d (accepted-fits asked left x one) (accepted-fits other right y two) are, row-of_none d)
