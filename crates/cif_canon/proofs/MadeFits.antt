@@ -31,12 +31,12 @@ pub record AreTerms (first last : ℕ) (days : List Bool) : Type 0 where
   pub last_is : IsDay last
   pub week : length days ≡ 7
 
-permanent-association : (key : AssocKey) (first last : ℕ) (days : List Bool) (letter : Stp) (body : AssocBody) (f l : ℕ) (m : List Bool) →
+pub permanent-association : (key : AssocKey) (first last : ℕ) (days : List Bool) (letter : Stp) (body : AssocBody) (f l : ℕ) (m : List Bool) →
     AllFit (association_rows key first last days letter (Some body)) → AreTerms f l m → AllFit (association_rows key f l m P (Some body))
 permanent-association key first last days letter body f l m p t =
     (p.0, (p.1.0, (p.1.1.0, (p.1.1.1.0, ((refl, t.first_is), ((refl, t.last_is), ((refl, t.week), p.1.1.1.1.1.1.1)))))))
 
-permanent-basic : (uid : List ℕ) (first last : ℕ) (days : List Bool) (letter : Stp) (detail : Detail) (f l : ℕ) (m : List Bool) →
+pub permanent-basic : (uid : List ℕ) (first last : ℕ) (days : List Bool) (letter : Stp) (detail : Detail) (f l : ℕ) (m : List Bool) →
     AllFit (basic_rows uid first last days letter (Some detail)) → AreTerms f l m → AllFit (basic_rows uid f l m P (Some detail))
 permanent-basic uid first last days letter detail f l m p t =
     (p.0, (p.1.0, (p.1.1.0, ((refl, t.first_is), ((refl, t.last_is), ((refl, t.week), p.1.1.1.1.1.1))))))

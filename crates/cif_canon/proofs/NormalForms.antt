@@ -26,14 +26,15 @@ use Rattle.cif_canon.specs.NormalForm.{IsNormalFormAgain, IsNormalFormOf, IsReac
 use Rattle.cif_canon.specs.declared.asked.Asked.{Asked}
 use Rattle.cif_canon.proofs.Words.{AreClear, Association, ExtractParts, Form, Header, IsWithin, Schedule, Tiploc, Window, key_cmp}
 use Rattle.cif_canon.proofs.Words.{plain_line, trailer_table}
-use Rattle.cif_canon.proofs.SameExtracts.{agree-sym, agree-trans, agree-with_header, one-window, same-parts, same-sym, same-trans}
+use Rattle.cif_extract.proofs.OneExtract.{same_extract_parts}
+use Rattle.cif_canon.proofs.SameExtracts.{agree-sym, agree-trans, agree-with_header, one-window, same-sym, same-trans}
 use Rattle.cif_canon.proofs.Unique.{extracts-unique, one-associations, one-schedules, one-tiplocs}
 
 -- ---- what is accepted is one extract
 
 pub one-narrowed : (asked : Asked) (whole x y : ExtractParts) → IsNarrowed asked whole x → IsNarrowed asked whole y → x ≡ y
 one-narrowed asked whole x y p q =
-    same-parts x y (headers.same_header x.header y.header (p.columns ∙ sym q.columns)) (p.tiplocs ∙ sym q.tiplocs)
+    same_extract_parts x y (headers.same_header x.header y.header (p.columns ∙ sym q.columns)) (p.tiplocs ∙ sym q.tiplocs)
     (p.associations ∙ sym q.associations) (p.schedules ∙ sym q.schedules)
 
 pub one-accepted : (asked : Asked) (input : List ℕ) (x y : ExtractParts) → IsAccepted asked x input → IsAccepted asked y input → x ≡ y

@@ -16,7 +16,8 @@ use Rattle.cif_canon.specs.Canonical.{AreCanonicalEntries, IsCanonicalExtract}
 use Rattle.cif_canon.specs.Meaning.{Agree, SameMeaning}
 use Rattle.cif_canon.proofs.Words.{AssocKey, EntriesSayTheSame, ExtractParts, Form, Terms, Tiploc, Window, association_entries, key_cmp}
 use Rattle.cif_canon.proofs.Words.{schedule_entries}
-use Rattle.cif_canon.proofs.SameExtracts.{one-window, same-associations, same-parts, same-schedules}
+use Rattle.cif_extract.proofs.OneExtract.{same_extract_parts}
+use Rattle.cif_canon.proofs.SameExtracts.{one-window, same-associations, same-schedules}
 
 module _ {K B : Type 0} (cmp : K → K → Ordering) (total : IsTotalOrder cmp) (form : Form) (window : Window) where
   -- canonical entries that say the same are equal
@@ -72,5 +73,5 @@ module _ (form : Form) (x y : ExtractParts) (p : IsCanonicalExtract form x) (q :
 pub extracts-unique : (form : Form) (x y : ExtractParts) → IsCanonicalExtract form x → IsCanonicalExtract form y → SameMeaning x y → x ≡ y
 extracts-unique form x y p q same =
     let window = one-window x y same in
-    same-parts x y (same_header x.header y.header same.header) (one-tiplocs form x y p q window same.agree)
+    same_extract_parts x y (same_header x.header y.header same.header) (one-tiplocs form x y p q window same.agree)
     (one-associations form x y p q window same.agree) (one-schedules form x y p q window same.agree)

@@ -52,7 +52,7 @@ use Rattle.cif_canon.specs.declared.listed_differences.Side.{Side}
 use Rattle.cif_canon.specs.declared.listed_differences.Side.TheVariants.{Left, Right}
 use Rattle.cif_canon.specs.declared.listed_differences.Sided.{Sided}
 use Rattle.cif_canon.proofs.ByPairs.{associations-by_pairs, schedules-by_pairs}
-use Rattle.cif_canon.proofs.MadeFits.{AreTerms, HasTerms, have-terms}
+use Rattle.cif_canon.proofs.MadeFits.{HasTerms, have-terms, permanent-association, permanent-basic}
 use Rattle.cif_canon.proofs.MergedSides.{side-member}
 use Rattle.cif_views.specs.DifferenceTable.{association_head, association_rows, change_of, difference_names, difference_table}
 use Rattle.cif_views.specs.DifferenceTable.{schedule_head, schedule_rows, tiploc_head, tiploc_row}
@@ -206,17 +206,6 @@ schedule-fits (s ∷ xs) k t fits h = ⊎_elim
     (λ later. schedule-fits xs k t (fit-back (tables_of s) (flat_map tables_of xs) fits) later)
     (Contains-cases (schedule_entry s) (schedule_entries xs) (k, t) h)
 
--- with dates and a mask of its own
-dated-association : (k : AssocKey) (first last : ℕ) (days : List Bool) (letter : Stp) (body : AssocBody) (f l : ℕ) (m : List Bool) →
-    AllFit (aa.association_rows k first last days letter (Some body)) → AreTerms f l m → AllFit (aa.association_rows k f l m P (Some body))
-dated-association k first last days letter body f l m p t =
-    (p.0, (p.1.0, (p.1.1.0, (p.1.1.1.0, ((refl, t.first_is), ((refl, t.last_is), ((refl, t.week), p.1.1.1.1.1.1.1)))))))
-
-dated-basic : (uid : List ℕ) (first last : ℕ) (days : List Bool) (letter : Stp) (detail : Detail) (f l : ℕ) (m : List Bool) →
-    AllFit (basic_rows uid first last days letter (Some detail)) → AreTerms f l m → AllFit (basic_rows uid f l m P (Some detail))
-dated-basic uid first last days letter detail f l m p t =
-    (p.0, (p.1.0, (p.1.1.0, ((refl, t.first_is), ((refl, t.last_is), ((refl, t.week), p.1.1.1.1.1.1))))))
-
 module _ (x y : ExtractParts) (d : DifferencesParts) (a : FitLists x) (b : FitLists y) (are : AreDifferences x y d) where
   abbrev window : Window
   window = header_window x.header
@@ -242,7 +231,7 @@ module _ (x y : ExtractParts) (d : DifferencesParts) (a : FitLists x) (b : FitLi
       let t = runs.winner in
       let own = subst (λ (o : Option AssocBody). AllFit (aa.association_rows e.0 t.first t.last t.days t.letter o)) runs.body
       (association-listed side e.0 t runs.wins.listed) in
-      dated-association e.0 t.first t.last t.days t.letter e.1.body e.1.first e.1.last e.1.days own
+      permanent-association e.0 t.first t.last t.days t.letter e.1.body e.1.first e.1.last e.1.days own
       (All-contains HasTerms (of_side side d.associations) e
       (have-terms key_cmp Two window (of_side side d.associations) (are.associations.only side).canonical (headers.last_is_day x.header)) h)
 
@@ -255,7 +244,7 @@ module _ (x y : ExtractParts) (d : DifferencesParts) (a : FitLists x) (b : FitLi
       let own = subst (λ (o : Option BodyParts). AllTablesFit (schedule_tables e.0 t.first t.last t.days t.letter o)) runs.body
       (schedule-listed side e.0 t runs.wins.listed) in
       record {
-        basic = dated-basic e.0 t.first t.last t.days t.letter e.1.body.detail e.1.first e.1.last e.1.days own.0
+        basic = permanent-basic e.0 t.first t.last t.days t.letter e.1.body.detail e.1.first e.1.last e.1.days own.0
             (All-contains HasTerms (of_side side d.schedules) e
             (have-terms (slice_cmp nat_cmp) Two window (of_side side d.schedules) (are.schedules.only side).canonical
             (headers.last_is_day x.header)) h);
