@@ -1,7 +1,6 @@
 -- The function takes the pairs of records that are in order: nothing stands between the two of a pair.
-use Rattle.std.proofs.Common.{◌≡◌, inl, inr, Bool, true, false, List, [], ◌∷◌, None, Some, ap, arith, refl, subst, sym}
-use Rattle.std.proofs.Common.{true≢false, ⊎_elim, ◌∙◌}
-use Rattle.std.proofs.Common.{ap₂, rules}
+use Rattle.std.proofs.Common.{◌≡◌, inl, inr, Bool, true, false, List, [], ◌∷◌, None, Some, ap, arith, refl, subst, sym, true≢false, ⊎_elim}
+use Rattle.std.proofs.Common.{◌∙◌, ap₂, rules}
 use Rattle.std.specs.Prelude.{◌↔◌, ℕ, ◌&&◌, AllPairs, Contains, IsTrue, if◌then◌else◌, nat_eq}
 use Rattle.std.specs.Bool.{Decides}
 use Rattle.std.specs.Cmp.{IsTotalOrder}
@@ -15,13 +14,12 @@ use Rattle.std.proofs.lemmas.Grind.{common_steps}
 use Rattle.std.proofs.lemmas.Option.{same_Some}
 use Rattle.cif_calendar.proofs.Elements.{Contains-first, Contains-rest, Contains-cases}
 use Rattle.cif_calendar.proofs.RisingLists.{Contains-none, not_less}
-use Rattle.cif_weeks.specs.Canonical.{Precedes}
 use Rattle.cif_canon.specs.Differences.{AreDifferences, ComesBefore, DifferencesParts, is_side}
 use Rattle.cif_canon.specs.Pairs.{ArePair, AreByPairs, Listed, are_pair, by_pairs, parts_of}
 use Rattle.cif_canon.specs.declared.listed_differences.Side.{Side}
 use Rattle.cif_canon.specs.declared.listed_differences.Side.TheVariants.{Left, Right}
 use Rattle.cif_canon.specs.declared.listed_differences.Sided.{Sided}
-use Rattle.cif_canon.proofs.Words.{AssocKey, ExtractParts, Permanent, key_cmp}
+use Rattle.cif_canon.proofs.Words.{AssocKey, ExtractParts, Permanent, Precedes, key_cmp}
 use Rattle.cif_canon.proofs.MergedSides.{pairs-head, pairs-tail}
 use Rattle.cif_canon.proofs.PairedRecords.{keys-decided, pair-decided}
 use Rattle.cif_canon.proofs.Unique.{keys-total}

@@ -18,11 +18,9 @@ use Rattle.cif_canon.specs.Fault.{IsCanonFault, IsFirstClashIn}
 use Rattle.cif_canon.specs.Steps.Records.{AreCanonicalRecords, IsRecordsFault, IsRunOf}
 use Rattle.cif_canon.specs.Steps.Texts.{HasRecord, canon_lines, canon_text}
 use Rattle.cif_canon.specs.Steps.Tiplocs.{AreDistinct}
-use Rattle.cif_extract.specs.Texts.{FitsColumns, extract_text}
-use Rattle.cif_extract.specs.SpellsExtract.{BytesSpell}
 use Rattle.cif_extract.proofs.PlainTexts.{text-spells}
-use Rattle.cif_canon.proofs.Words.{AreClear, ExtractParts, Fault, Form, Header, Run, Tiploc, Window, association_entries, key_cmp}
-use Rattle.cif_canon.proofs.Words.{schedule_entries, window_from}
+use Rattle.cif_canon.proofs.Words.{AreClear, BytesSpell, ExtractParts, Fault, FitsColumns, Form, Header, Run, Tiploc, Window}
+use Rattle.cif_canon.proofs.Words.{association_entries, extract_text, key_cmp, schedule_entries, window_from}
 use Rattle.cif_canon.proofs.CanonLines.{written-lines}
 use Rattle.cif_canon.proofs.CanonTexts.{have-records, number-of_associations, number-of_schedules, written-text}
 use Rattle.cif_canon.proofs.KeptExtract.{canonical_of, is-canonical, same-meaning}

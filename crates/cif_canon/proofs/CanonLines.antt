@@ -7,22 +7,12 @@ use Rattle.std.proofs.lemmas.Grind.{flat_map-append}
 use Rattle.std.proofs.lemmas.List.Concat.{flat_map_single}
 use Rattle.std.proofs.lemmas.List.Elements.{All-head, All-tail}
 use Rattle.std.proofs.lemmas.List.FromFn.{get_or-enumerate_from}
-use Rattle.cif_calendar.specs.Entries.{association_entries, schedule_entries}
-use Rattle.cif_calendar.specs.Terms.{Terms}
-use Rattle.cif_columns.specs.Field.{plain_line}
-use Rattle.cif_extract.specs.BodyParts.{BodyParts}
-use Rattle.cif_extract.specs.ExtractParts.{ExtractParts}
-use Rattle.cif_records.specs.Header.{header_table}
-use Rattle.cif_records.specs.declared.association.AssocBody.{AssocBody}
-use Rattle.cif_records.specs.declared.association.AssocKey.{AssocKey}
-use Rattle.cif_records.specs.declared.tiploc.Tiploc.{Tiploc}
-use Rattle.cif_weeks.specs.Permanent.{Permanent}
-use Rattle.cif_weeks.specs.declared.run.Run.{Run}
 use Rattle.cif_canon.specs.Lines.{ScheduleLines, association_plain, line_of_association, line_of_tiploc, lines_of, lines_of_schedule}
 use Rattle.cif_canon.specs.Lines.{schedule_plain}
 use Rattle.cif_canon.specs.Steps.Records.{IsRunOf}
-use Rattle.cif_canon.specs.Steps.Texts.{HasRecord, canon_lines, numbered_text, of_run, record_at, run_text}
-use Rattle.cif_canon.specs.Steps.Texts.{text_if}
+use Rattle.cif_canon.specs.Steps.Texts.{HasRecord, canon_lines, numbered_text, of_run, record_at, run_text, text_if}
+use Rattle.cif_canon.proofs.Words.{AssocBody, AssocKey, BodyParts, ExtractParts, Permanent, Run, Terms, Tiploc, association_entries}
+use Rattle.cif_canon.proofs.Words.{header_table, plain_line, schedule_entries}
 use Rattle.cif_canon.proofs.CanonTexts.{texts-of_runs}
 use Rattle.cif_canon.proofs.MadeExtract.{IsDated, associations_of, schedules_of}
 

@@ -6,16 +6,13 @@ use Rattle.std.proofs.lemmas.Grind.{flat_map-append}
 use Rattle.std.proofs.lemmas.List.{map-append}
 use Rattle.std.proofs.lemmas.List.Elements.{All-nil, All-cons, All-head, All-tail}
 use Rattle.cif_columns.specs.Contents.{lines_text}
-use Rattle.cif_columns.specs.Field.{Row, plain_line}
-use Rattle.cif_extract.specs.Texts.{extract_text, schedule_lines, tables_of}
 use Rattle.cif_records.specs.Association.{association_table}
-use Rattle.cif_records.specs.Header.{header_table}
-use Rattle.cif_records.specs.Tiploc.{tiploc_table}
 use Rattle.cif_canon.specs.Steps.Records.{IsRunOf}
 use Rattle.cif_canon.specs.Steps.Texts.{HasRecord, association_run_text, association_text, canon_text, record_at, schedule_run_text}
 use Rattle.cif_canon.specs.Steps.Texts.{schedule_text, text_if, tiploc_text}
-use Rattle.cif_canon.proofs.Words.{AssocBody, AssocKey, BodyParts, ExtractParts, Permanent, Run, Terms, Tiploc, association_entries}
-use Rattle.cif_canon.proofs.Words.{schedule_entries, trailer_table}
+use Rattle.cif_canon.proofs.Words.{AssocBody, AssocKey, BodyParts, ExtractParts, Permanent, Row, Run, Terms, Tiploc, association_entries}
+use Rattle.cif_canon.proofs.Words.{extract_text, header_table, plain_line, schedule_entries, schedule_lines, tables_of, tiploc_table}
+use Rattle.cif_canon.proofs.Words.{trailer_table}
 use Rattle.cif_canon.proofs.MadeExtract.{IsDated, associations_of, schedule_of, schedules_of}
 use Rattle.cif_canon.proofs.RunTexts.{record-of_entry}
 

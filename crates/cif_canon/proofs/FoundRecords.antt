@@ -1,6 +1,6 @@
 -- The differences of two lists are found key by key.
-use Rattle.std.proofs.Common.{◌≡◌, ◌≢◌, ◌⊎◌, inl, inr, ℕ, ◌<◌, ◌≤◌, List, [], ◌∷◌, ◌++◌, Option, None, Some, drop, length}
-use Rattle.std.proofs.Common.{refl, sym, ap, ◌∙◌, subst, arith, ⊎_elim, get_or}
+use Rattle.std.proofs.Common.{◌≡◌, ◌≢◌, ◌⊎◌, inl, inr, ℕ, ◌<◌, ◌≤◌, List, [], ◌∷◌, ◌++◌, Option, None, Some, drop, length, refl, sym, ap}
+use Rattle.std.proofs.Common.{◌∙◌, subst, arith, ⊎_elim, get_or}
 use Rattle.std.specs.Prelude.{AllPairs, Contains, ◌↔◌, if◌then◌else◌}
 use Rattle.std.specs.List.{AllZip}
 use Rattle.std.specs.Cmp.{IsTotalOrder}
@@ -8,12 +8,9 @@ use Rattle.std.specs.declared.cmp.Ordering.{Ordering}
 use Rattle.std.specs.declared.cmp.Ordering.TheVariants.{Less, Equal}
 use Rattle.std.proofs.lemmas.List.Elements.{Contains-append_cases, Contains-get_or}
 use Rattle.std.proofs.lemmas.Option.{same_Some}
-use Rattle.cif_calendar.specs.Clash.{IsClearFrom}
 use Rattle.cif_calendar.proofs.NoEntries.{none-clear}
 use Rattle.cif_calendar.specs.Runs.{Runs}
 use Rattle.cif_calendar.proofs.Elements.{Contains-first, Contains-cases}
-use Rattle.cif_weeks.specs.Canonical.{AreCanonical, with_key}
-use Rattle.cif_weeks.specs.WhatRuns.{HasBody}
 use Rattle.cif_weeks.proofs.AlignedDays.{tight}
 use Rattle.cif_weeks.proofs.JoinedLists.{AllPairs-append, AllZip-append, Contains-from_map, zip-back}
 use Rattle.cif_weeks.proofs.KeyByKey.{canonical-more, canonical-none}
@@ -24,11 +21,11 @@ use Rattle.cif_canon.specs.Steps.OnlySides.{AreDifferentRuns, AreMergedRuns, Are
 use Rattle.cif_canon.specs.Steps.Records.{AreRunsOf, IsRunOf}
 use Rattle.cif_canon.specs.declared.differing.Extent.{Extent}
 use Rattle.cif_canon.specs.declared.differing.Extent.TheVariants.{AllKeys, FirstKey}
-use Rattle.cif_calendar.specs.ByKey.{AreAllByKey, IsFirstOfBoth, IsFront}
 use Rattle.cif_canon.specs.declared.listed_differences.Side.{Side}
 use Rattle.cif_canon.specs.declared.listed_differences.Side.TheVariants.{Left, Right}
 use Rattle.cif_canon.specs.declared.listed_differences.Sided.{Sided}
-use Rattle.cif_canon.proofs.Words.{AreClear, EntriesSayTheSame, IsWithin, Permanent, Run, Terms, Two, Window, of_key}
+use Rattle.cif_canon.proofs.Words.{AreAllByKey, AreCanonical, AreClear, EntriesSayTheSame, HasBody, IsClearFrom, IsFirstOfBoth, IsFront}
+use Rattle.cif_canon.proofs.Words.{IsWithin, Permanent, Run, Terms, Two, Window, of_key, with_key}
 use Rattle.cif_canon.proofs.ComparedKeys.{ArePassed, IsLeft, nobody, pass, passed-nothing, turns}
 use Rattle.cif_canon.proofs.KeyRecords.{bodies-other, bodies-own, zip-keyed}
 use Rattle.cif_canon.proofs.MergedSides.{from-side, of_side-append, pairs-head, side-member}

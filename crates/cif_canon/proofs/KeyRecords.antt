@@ -3,9 +3,8 @@ use Rattle.std.proofs.Common.{◌≡◌, inl, inr, ℕ, ◌<◌, List, [], ◌�
 use Rattle.std.specs.Prelude.{Contains, IsNone, ◌↔◌}
 use Rattle.std.specs.List.{AllZip}
 use Rattle.std.specs.Option.{option_and_then}
-use Rattle.cif_columns.specs.declared.stp.Stp.TheVariants.{C}
-use Rattle.cif_calendar.specs.Terms.{SameRecords, Terms}
-use Rattle.cif_calendar.specs.Calendar.{CalendarParts, IsCalendar, IsFault, body_on}
+use Rattle.cif_calendar.specs.Terms.{SameRecords}
+use Rattle.cif_calendar.specs.Calendar.{IsFault}
 use Rattle.cif_calendar.specs.declared.key_calendar.CalendarFault.{CalendarFault}
 use Rattle.cif_calendar.specs.declared.key_calendar.CalendarFault.TheVariants.{Ambiguous, Memory}
 use Rattle.cif_calendar.specs.Runs.{BodyRuns}
@@ -14,19 +13,17 @@ use Rattle.cif_calendar.proofs.Elements.{Contains-first, Contains-rest}
 use Rattle.cif_calendar.proofs.KeyCalendar.{key-clear, key-runs, key-source, key-fault}
 use Rattle.cif_calendar.proofs.Positions.{positions-records, terms_at-keyed}
 use Rattle.cif_calendar.proofs.Sets.{IsClearFrom-same, Runs-same}
-use Rattle.cif_extract.specs.declared.fault.Clash.{Clash}
-use Rattle.cif_weeks.specs.Canonical.{with_key}
 use Rattle.cif_weeks.specs.MemberRuns.{AreRunsOfMembers, IsMembersRun}
-use Rattle.cif_weeks.specs.Permanent.{Permanent, Permanents}
+use Rattle.cif_weeks.specs.Permanent.{Permanents}
 use Rattle.cif_weeks.specs.Runs.{IsRunOf as IsCalendarRun, AreCanonicalRuns, window_of}
-use Rattle.cif_weeks.specs.WhatRuns.{HasBody}
 use Rattle.cif_weeks.proofs.AlignedDays.{tight}
 use Rattle.cif_weeks.proofs.JoinedLists.{zip-back, zip-map}
 use Rattle.cif_weeks.proofs.KeyByKey.{HasBody-more, of_key-more}
 use Rattle.cif_canon.specs.Steps.Records.{IsRunOf, AreRunsOf, AreRunsOfKey, IsKeyFault, extract_fault}
 use Rattle.cif_calendar.proofs.KeyPositions.{has-key}
 use Rattle.cif_calendar.proofs.KeyTurns.{one-key}
-use Rattle.cif_canon.proofs.Words.{ArePositionsOf, Form, IsWithin, Run, Window, keyed, of_key, window_from}
+use Rattle.cif_canon.proofs.Words.{ArePositionsOf, C, CalendarParts, Clash, Form, HasBody, IsCalendar, IsWithin, Permanent, Run, Terms}
+use Rattle.cif_canon.proofs.Words.{Window, body_on, keyed, of_key, window_from, with_key}
 
 -- sets with the same records say the same
 same-bodies : {B : Type 0} (us vs : Permanents B) → ((r : Permanent B) → us r ↔ vs r) → (d : ℕ) (b : B) → HasBody us d b ↔ HasBody vs d b

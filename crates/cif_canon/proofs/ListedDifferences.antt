@@ -7,15 +7,14 @@ use Rattle.std.specs.Ordering.{nat_cmp}
 use Rattle.std.specs.declared.cmp.Ordering.{Ordering}
 use Rattle.std.proofs.lemmas.List.Elements.{Contains-get_or}
 use Rattle.std.proofs.lemmas.Option.{same_Some, slice_get_within}
-use Rattle.cif_calendar.specs.ByKey.{HasKey}
 use Rattle.cif_calendar.proofs.KeyPositions.{within-entries}
 use Rattle.cif_calendar.proofs.KeyTurns.{one-key}
 use Rattle.cif_weeks.proofs.AlignedDays.{tight}
 use Rattle.cif_canon.specs.Accepted.{IsClearExtract}
 use Rattle.cif_canon.specs.Asked.{header_window}
 use Rattle.cif_canon.specs.Comparison.{IsFirstDifference}
-use Rattle.cif_canon.specs.Differences.{AreDifferences, AreDifferentRecords, AreDifferentTiplocs, AreNone, DifferencesParts}
-use Rattle.cif_canon.specs.Differences.{IsOnlyIn, TurnInto, TurnLeftIntoRight, at_side, of_side}
+use Rattle.cif_canon.specs.Differences.{AreDifferences, AreDifferentRecords, AreDifferentTiplocs, AreNone, DifferencesParts, IsOnlyIn}
+use Rattle.cif_canon.specs.Differences.{TurnInto, TurnLeftIntoRight, at_side, of_side}
 use Rattle.cif_canon.specs.Meaning.{Agree}
 use Rattle.cif_canon.specs.Steps.OnlySides.{AreDifferentRuns, AreSame, IsFirstFound, IsSidedRunOf}
 use Rattle.cif_canon.specs.Steps.Sides.{HasSidedRecord, sided_records}
@@ -23,7 +22,7 @@ use Rattle.cif_canon.specs.declared.differing.Extent.TheVariants.{AllKeys}
 use Rattle.cif_canon.specs.declared.listed_differences.Side.{Side}
 use Rattle.cif_canon.specs.declared.listed_differences.Side.TheVariants.{Left, Right}
 use Rattle.cif_canon.specs.declared.listed_differences.Sided.{Sided}
-use Rattle.cif_canon.proofs.Words.{AreClear, EntriesSayTheSame, ExtractParts, Permanent, Run, Terms, Tiploc, Two, Window}
+use Rattle.cif_canon.proofs.Words.{AreClear, EntriesSayTheSame, ExtractParts, HasKey, Permanent, Run, Terms, Tiploc, Two, Window}
 use Rattle.cif_canon.proofs.Words.{association_entries, key_cmp, keyed, schedule_entries}
 use Rattle.cif_canon.proofs.DifferentTiplocs.{has-or-not, no-tiploc, with_side}
 use Rattle.cif_canon.proofs.FoundRecords.{no-member}

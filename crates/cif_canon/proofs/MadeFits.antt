@@ -1,27 +1,23 @@
 -- What a canonical extract says fits the columns of lines, where what it is made of does.
-use Rattle.std.proofs.Common.{◌≡◌, ℕ, zero, suc, Bool, List, [], ◌∷◌, ◌++◌, map, length, get_or, Some, refl}
-use Rattle.std.proofs.Common.{ap, ◌∙◌, subst, arith}
+use Rattle.std.proofs.Common.{◌≡◌, ℕ, zero, suc, Bool, List, [], ◌∷◌, ◌++◌, map, length, get_or, Some, refl, ap, ◌∙◌, subst, arith}
 use Rattle.std.specs.Prelude.{All, Contains, slice_get}
 use Rattle.std.specs.List.{AllZip, flat_map}
 use Rattle.std.proofs.lemmas.List.Elements.{All-head, All-tail, Contains-get_or}
 use Rattle.std.specs.declared.cmp.Ordering.{Ordering}
 use Rattle.cif_columns.specs.Day.{IsDay}
-use Rattle.cif_columns.specs.Field.{AllFit, Row}
+use Rattle.cif_columns.specs.Field.{AllFit}
 use Rattle.cif_columns.specs.declared.stp.Stp.{Stp}
-use Rattle.cif_columns.specs.declared.stp.Stp.TheVariants.{P}
-use Rattle.cif_extract.specs.Texts.{AllTablesFit, FitsColumns, schedule_tables, tables_of}
+use Rattle.cif_extract.specs.Texts.{AllTablesFit, schedule_tables}
 use Rattle.cif_extract.proofs.PlainTexts.{fit-append, fit-back, fit-front}
 use Rattle.cif_records.specs.Association.{association_rows, association_table}
-use Rattle.cif_records.specs.Basic.{basic_rows}
-use Rattle.cif_records.specs.Tiploc.{tiploc_table}
 use Rattle.cif_records.specs.declared.detail.Detail.{Detail}
 use Rattle.cif_records.proofs.Headers as headers
 use Rattle.cif_weeks.specs.Aligned.{IsAligned}
-use Rattle.cif_weeks.specs.declared.form.Form.TheVariants.{One, Two}
+use Rattle.cif_weeks.specs.declared.form.Form.TheVariants.{One}
 use Rattle.cif_canon.specs.Steps.Records.{IsRunOf}
-use Rattle.cif_canon.proofs.Words.{AreCanonical, AssocBody, AssocKey, Association, BodyParts, ExtractParts, Form, IsWithin, Permanent, Run}
-use Rattle.cif_canon.proofs.Words.{Schedule, Terms, Tiploc, Window, association_entries, association_entry, schedule_entries}
-use Rattle.cif_canon.proofs.Words.{schedule_entry, trailer_table}
+use Rattle.cif_canon.proofs.Words.{AreCanonical, AssocBody, AssocKey, Association, BodyParts, ExtractParts, FitsColumns, Form, IsWithin, P}
+use Rattle.cif_canon.proofs.Words.{Permanent, Row, Run, Schedule, Terms, Tiploc, Two, Window, association_entries, association_entry}
+use Rattle.cif_canon.proofs.Words.{basic_rows, schedule_entries, schedule_entry, tables_of, tiploc_table, trailer_table}
 use Rattle.cif_canon.proofs.MadeExtract.{IsDated, associations_of, schedules_of}
 
 -- ---- a permanent record with dates and a mask of its own

@@ -8,14 +8,10 @@ use Rattle.std.specs.Ordering.{nat_cmp}
 use Rattle.std.proofs.lemmas.List.{drop_at}
 use Rattle.cif_columns.specs.Contents.{contents_of, lines_text}
 use Rattle.cif_columns.proofs.Parts.{length-plain_line}
-use Rattle.cif_extract.specs.SpellsExtract.{BytesSpell}
-use Rattle.cif_extract.specs.Texts.{FitsColumns, extract_text, tables_of}
 use Rattle.cif_extract.proofs.PlainTexts.{text-spells, spelled-fits}
 use Rattle.cif_extract.proofs.SpelledBytes.{one_spelled}
 use Rattle.cif_records.specs.HeaderColumns.{with_window}
 use Rattle.cif_records.specs.Association.{association_table}
-use Rattle.cif_records.specs.Header.{header_table}
-use Rattle.cif_records.specs.Tiploc.{tiploc_table}
 use Rattle.cif_records.proofs.Headers as headers
 use Rattle.cif_weeks.proofs.PermanentEntries.{canonical-clear}
 use Rattle.cif_canon.specs.Accepted.{IsAccepted, IsClearExtract}
@@ -24,9 +20,9 @@ use Rattle.cif_canon.specs.Canonical.{IsCanonicalExtract, IsCanonicalOf}
 use Rattle.cif_canon.specs.Meaning.{Agree, SameMeaning}
 use Rattle.cif_canon.specs.NormalForm.{IsNormalFormAgain, IsNormalFormOf, IsReachedFromForms, IsUnique, after_first_line}
 use Rattle.cif_canon.specs.declared.asked.Asked.{Asked}
-use Rattle.cif_canon.proofs.Words.{AreClear, Association, ExtractParts, Form, Header, IsWithin, Schedule, Tiploc, Window, key_cmp}
-use Rattle.cif_canon.proofs.Words.{plain_line, trailer_table}
 use Rattle.cif_extract.proofs.OneExtract.{same_extract_parts}
+use Rattle.cif_canon.proofs.Words.{AreClear, Association, BytesSpell, ExtractParts, FitsColumns, Form, Header, IsWithin, Schedule, Tiploc}
+use Rattle.cif_canon.proofs.Words.{Window, extract_text, header_table, key_cmp, plain_line, tables_of, tiploc_table, trailer_table}
 use Rattle.cif_canon.proofs.SameExtracts.{agree-sym, agree-trans, agree-with_header, one-window, same-sym, same-trans}
 use Rattle.cif_canon.proofs.Unique.{extracts-unique, one-associations, one-schedules, one-tiplocs}
 

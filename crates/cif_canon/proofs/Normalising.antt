@@ -4,8 +4,6 @@ use Rattle.std.specs.Prelude.{IfSome, IsErrAnd}
 use Rattle.cif_calendar.proofs.FirstClash.{first_clash-clear}
 use Rattle.cif_columns.specs.Sink.{HasFailed}
 use Rattle.cif_columns.proofs.GivenLinesLaws.{known_so}
-use Rattle.cif_columns.specs.Source.{Unread}
-use Rattle.cif_extract.specs.declared.fault.Clash.{Clash}
 use Rattle.cif_extract.specs.declared.fault.Clash.TheVariants.{Association, Train}
 use Rattle.cif_extract.specs.declared.fault.Fault.TheVariants as fault
 use Rattle.cif_extract.proofs.SpelledBytes.{one_spelled, spelled-refused}
@@ -17,9 +15,8 @@ use Rattle.cif_canon.specs.Fault.{IsOfReadNarrowed, IsReadNarrowedFault}
 use Rattle.cif_canon.specs.Normalised.{FaultWrites, IsNormalised, Normalises}
 use Rattle.cif_canon.specs.declared.asked.Asked.{Asked}
 use Rattle.cif_canon.specs.declared.canonical_form.Counts.{Counts}
-use Rattle.cif_extract.specs.SpellsExtract.{BytesSpellWithin}
 use Rattle.cif_extract.proofs.FirstRefusals.{if_error}
-use Rattle.cif_canon.proofs.Words.{ExtractParts, Fault, Form, Sink}
+use Rattle.cif_canon.proofs.Words.{BytesSpellWithin, Clash, ExtractParts, Fault, Form, Sink, Unread}
 use Rattle.cif_canon.proofs.HandedFaults.{at-fault, known-fault}
 use Rattle.cif_canon.proofs.NormalForms.{one-narrowed}
 

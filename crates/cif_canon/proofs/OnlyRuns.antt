@@ -4,12 +4,10 @@ use Rattle.std.specs.Prelude.{All, AllPairs, ◌↔◌}
 use Rattle.std.specs.List.{AllZip}
 use Rattle.std.proofs.lemmas.List.Elements.{All-nil, All-cons, All-head, All-tail}
 use Rattle.std.proofs.lemmas.List.Kept.{AllPairs-cons}
-use Rattle.cif_calendar.specs.Pieces.{source_at}
-use Rattle.cif_calendar.specs.Source.{body_at}
 use Rattle.cif_weeks.specs.Runs.{AreCanonicalRuns, AreSources, IsRunOf as IsCalendarRun, window_of}
 use Rattle.cif_calendar.proofs.RisingLists.{Contains-none}
 use Rattle.cif_canon.specs.Steps.OnlySides.{AreOnlyRuns, AreRisingRuns, IsOnlyCalendar}
-use Rattle.cif_canon.proofs.Words.{CalendarParts, IsWithin, Permanent, Run, Terms, Two, body_on, window_from}
+use Rattle.cif_canon.proofs.Words.{CalendarParts, IsWithin, Permanent, Run, Terms, Two, body_at, body_on, source_at, window_from}
 use Rattle.cif_canon.proofs.KeyRecords.{runs-as}
 
 -- what holds of the pairs of one list holds of those of another that goes with it one by one

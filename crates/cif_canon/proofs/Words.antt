@@ -1,8 +1,13 @@
 -- The words of the crates below of which many of the proofs speak.
 pub use Rattle.cif_columns.specs.Day.{weekday_of}
-pub use Rattle.cif_columns.specs.Field.{plain_line}
+pub use Rattle.cif_columns.specs.Field.{Row, plain_line}
+pub use Rattle.cif_columns.specs.Source.{Unread, unread_of}
 pub use Rattle.cif_columns.specs.declared.sink.Sink.{Sink}
+pub use Rattle.cif_columns.specs.declared.stp.Stp.TheVariants.{C, P}
 pub use Rattle.cif_records.specs.AssocKey.{key_cmp}
+pub use Rattle.cif_records.specs.Basic.{basic_rows}
+pub use Rattle.cif_records.specs.Header.{header_table}
+pub use Rattle.cif_records.specs.Tiploc.{tiploc_table}
 pub use Rattle.cif_records.specs.Trailer.{trailer_table}
 pub use Rattle.cif_records.specs.declared.association.AssocBody.{AssocBody}
 pub use Rattle.cif_records.specs.declared.association.AssocKey.{AssocKey}
@@ -11,16 +16,26 @@ pub use Rattle.cif_records.specs.declared.header.Header.{Header}
 pub use Rattle.cif_records.specs.declared.tiploc.Tiploc.{Tiploc}
 pub use Rattle.cif_extract.specs.BodyParts.{BodyParts}
 pub use Rattle.cif_extract.specs.ExtractParts.{ExtractParts, extract_parts}
+pub use Rattle.cif_extract.specs.SpellsExtract.{BytesSpell, BytesSpellWithin}
+pub use Rattle.cif_extract.specs.Texts.{FitsColumns, extract_text, schedule_lines, tables_of}
 pub use Rattle.cif_extract.specs.declared.extract.Schedule.{Schedule}
+pub use Rattle.cif_extract.specs.declared.fault.Clash.{Clash}
 pub use Rattle.cif_extract.specs.declared.fault.Fault.{Fault}
-pub use Rattle.cif_calendar.specs.Calendar.{CalendarParts, body_on}
+pub use Rattle.cif_extract.specs.declared.fault.Fault.TheVariants.{Read, Write}
+pub use Rattle.cif_calendar.specs.ByKey.{AnyHasKey, AreAllByKey, HasKey, IsFirstOfBoth, IsFront, IsRising}
+pub use Rattle.cif_calendar.specs.Calendar.{CalendarParts, IsCalendar, body_on}
+pub use Rattle.cif_calendar.specs.Clash.{IsClearFrom}
 pub use Rattle.cif_calendar.specs.Entries.{association_entries, association_entry, schedule_entries, schedule_entry}
 pub use Rattle.cif_calendar.specs.Keys.{AreClear, ArePositionsOf, keyed, of_key}
 pub use Rattle.cif_calendar.specs.Meaning.{EntriesSayTheSame}
+pub use Rattle.cif_calendar.specs.Pieces.{Tiles, source_at, winner_of}
+pub use Rattle.cif_calendar.specs.Source.{body_at}
 pub use Rattle.cif_calendar.specs.Terms.{Terms}
-pub use Rattle.cif_weeks.specs.Canonical.{AreCanonical}
-pub use Rattle.cif_weeks.specs.Permanent.{Permanent}
+pub use Rattle.cif_calendar.specs.declared.key_calendar.Piece.{Piece}
+pub use Rattle.cif_weeks.specs.Canonical.{AreCanonical, Precedes, with_key}
+pub use Rattle.cif_weeks.specs.Permanent.{Permanent, permanent_entries}
 pub use Rattle.cif_weeks.specs.Runs.{record_of}
+pub use Rattle.cif_weeks.specs.WhatRuns.{HasBody}
 pub use Rattle.cif_weeks.specs.Window.{IsWithin, Window, window_from}
 pub use Rattle.cif_weeks.specs.declared.form.Form.{Form}
 pub use Rattle.cif_weeks.specs.declared.form.Form.TheVariants.{Two}

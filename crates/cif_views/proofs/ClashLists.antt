@@ -7,26 +7,18 @@ use Rattle.std.specs.Ordering.{is_eq, nat_cmp, ordering_then}
 use Rattle.std.specs.declared.cmp.Ordering.{Ordering}
 use Rattle.std.specs.declared.cmp.Ordering.TheVariants.{Less, Equal, Greater}
 use Rattle.std.proofs.lemmas.Option.{same_Some}
-use Rattle.cif_calendar.specs.Entries.{association_entries, association_entry, schedule_entries, schedule_entry}
-use Rattle.cif_calendar.specs.Keys.{AreClear, IsFirstClashOf, of_key}
-use Rattle.cif_calendar.specs.Terms.{Terms}
+use Rattle.cif_calendar.specs.Keys.{AreClear, IsFirstClashOf}
 use Rattle.cif_calendar.proofs.Elements.{Contains-first}
 use Rattle.cif_calendar.proofs.FirstClash.{IsFirstClashOf-clear, IsFirstClashOf-day, IsFirstClashOf-key, first_clash-clear}
-use Rattle.cif_extract.specs.ExtractParts.{ExtractParts}
-use Rattle.cif_extract.specs.declared.fault.Clash.{Clash}
 use Rattle.cif_extract.specs.declared.fault.Clash.TheVariants as named
-use Rattle.cif_extract.specs.declared.extract.Schedule.{Schedule}
-use Rattle.cif_records.specs.AssocKey.{key_cmp}
-use Rattle.cif_records.specs.declared.association.AssocKey.{AssocKey}
-use Rattle.cif_records.specs.declared.association.Association.{Association}
 use Rattle.cif_records.specs.declared.header.Header.{Header}
 use Rattle.cif_calendar.proofs.RisingLists.{Contains-none, less_one_way, not_less}
-use Rattle.cif_canon.specs.Accepted.{IsClearExtract}
 use Rattle.cif_calendar.specs.AllClashes.{AreAllClashes, association_clash, train_clash}
 use Rattle.cif_calendar.specs.Clashes.{AreClashes}
-use Rattle.cif_canon.specs.Fault.{IsFirstClashIn}
 use Rattle.cif_views.specs.Steps.Clashes.{AreAdded}
 use Rattle.cif_canon.proofs.Unique.{keys-total}
+use Rattle.cif_views.proofs.Words.{AssocKey, Association, Clash, ExtractParts, IsClearExtract, IsFirstClashIn, Schedule, Terms}
+use Rattle.cif_views.proofs.Words.{association_entries, association_entry, key_cmp, of_key, schedule_entries, schedule_entry}
 
 -- bytes that compare equal are equal
 same-bytes : (xs ys : List ℕ) → slice_cmp nat_cmp xs ys ≡ Equal → xs ≡ ys

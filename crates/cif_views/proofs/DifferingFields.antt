@@ -6,11 +6,7 @@ use Rattle.std.specs.List.{flat_map}
 use Rattle.std.specs.Cmp.Lexicographic.{bytes_decides, pointwise}
 use Rattle.std.proofs.lemmas.Bool.{and_parts, false≢true}
 use Rattle.std.proofs.lemmas.List.{take-take}
-use Rattle.cif_columns.specs.Field.{columns}
 use Rattle.cif_records.specs.Kind.{is_identity, kinds}
-use Rattle.cif_canon.specs.Fields.{Field, after, line_of, nothing, shown, trimmed}
-use Rattle.cif_canon.specs.declared.rows.Format.TheVariants.{Tsv}
-use Rattle.cif_canon.specs.declared.rows.Shape.TheVariants.{Trimmed}
 use Rattle.cif_views.specs.DifferenceTable.{Stands, differing_row, differing_rows, own_fields}
 use Rattle.cif_views.specs.Steps.DifferenceRows.{are_named, field_row, fields_of_kind, head_fields, is_named, lines_rows, named_fields}
 use Rattle.cif_views.specs.Steps.DifferenceRows.{rows_of_place, same_places}
@@ -20,6 +16,7 @@ use Rattle.cif_views.specs.Tables.{row_fields, text_at}
 use Rattle.cif_views.specs.declared.difference_table.RowKind.{RowKind}
 use Rattle.cif_views.specs.declared.tables.JourneyKind.{JourneyKind}
 use Rattle.cif_views.specs.declared.tables.JourneyKind.TheVariants.{Change, Origin, Other, Stop, Terminus}
+use Rattle.cif_views.proofs.Words.{Field, Trimmed, Tsv, after, columns, line_of, nothing, shown, trimmed}
 use Rattle.cif_views.proofs.DifferenceRows.{head-row}
 use Rattle.cif_views.proofs.TableRows.{HasPushed, one-pushed, origin-fields, stop-fields, terminus-fields}
 

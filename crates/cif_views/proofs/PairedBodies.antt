@@ -4,29 +4,22 @@ use Rattle.std.proofs.Common.{◌∙◌, ap, ap₂, arith, drop, map, refl, repl
 use Rattle.std.specs.Prelude.{◌&&◌, IsTrue, nat_le, find}
 use Rattle.std.specs.Cmp.Lexicographic.{bytes_decides}
 use Rattle.std.proofs.lemmas.Bool.{and_parts, false≢true}
-use Rattle.cif_columns.specs.Field.{AllFit, AllStandIn, Row, StandsIn, columns, plain_line, row, spare, text}
-use Rattle.cif_columns.specs.Line.{IsLine}
-use Rattle.cif_columns.specs.declared.stp.Stp.TheVariants.{P}
+use Rattle.cif_columns.specs.Field.{plain_line, row}
 use Rattle.cif_columns.proofs.FieldLaws.{one_text_value}
 use Rattle.cif_columns.proofs.Parts.{fits-append, fits-front, stands-front, stands-plain_line}
 use Rattle.cif_columns.proofs.PlainLines.{line-plain_line}
 use Rattle.cif_extract.specs.Body.{KeepAll, KeepBody}
-use Rattle.cif_extract.specs.BodyParts.{BodyParts, body_records, extra_records, journey_records}
+use Rattle.cif_extract.specs.BodyParts.{body_records, extra_records, journey_records}
 use Rattle.cif_extract.specs.Call.{call_record}
 use Rattle.cif_extract.specs.Laws.SameBody.{same_values}
 use Rattle.cif_extract.specs.Texts.{AllTablesFit}
-use Rattle.cif_extract.specs.declared.call.Call.{Call}
-use Rattle.cif_extract.specs.declared.call.Call.TheVariants.{At, Turn}
 use Rattle.cif_extract.proofs.Bodies.{same_parts}
 use Rattle.cif_records.specs.Association as aa
 use Rattle.cif_records.specs.Basic.{basic_back, basic_rows}
 use Rattle.cif_records.specs.Detail.{detail_rows, detail_table}
 use Rattle.cif_records.specs.Kind.{is_identity, kind_in, kinds}
 use Rattle.cif_records.specs.Record.{SpellsRecord, record_table}
-use Rattle.cif_records.specs.declared.association.AssocBody.{AssocBody}
-use Rattle.cif_records.specs.declared.association.AssocKey.{AssocKey}
 use Rattle.cif_records.specs.declared.change.Change.{Change}
-use Rattle.cif_records.specs.declared.detail.Detail.{Detail}
 use Rattle.cif_records.specs.declared.extra.Extra.{Extra}
 use Rattle.cif_records.specs.declared.origin.Origin.{Origin}
 use Rattle.cif_records.specs.declared.record.Kind.TheVariants.{Bx, Lo}
@@ -37,20 +30,17 @@ use Rattle.cif_records.specs.declared.terminus.Terminus.{Terminus}
 use Rattle.cif_records.proofs.Details.{one_detail}
 use Rattle.cif_records.proofs.Records as records
 use Rattle.cif_records.proofs.Rows.{◌&◌}
-use Rattle.cif_weeks.specs.Permanent.{Permanent}
-use Rattle.cif_canon.specs.Fields.{Field, line_of, nothing, shown, trimmed}
-use Rattle.cif_canon.specs.Lines.{association_plain, schedule_plain}
-use Rattle.cif_canon.specs.declared.listed_differences.Side.TheVariants.{Left}
-use Rattle.cif_canon.specs.declared.rows.Format.TheVariants.{Tsv}
-use Rattle.cif_canon.specs.declared.rows.Shape.TheVariants.{Trimmed}
 use Rattle.cif_views.specs.DifferenceTable.{association_head, association_rows, changed, differing_rows, in_record, journey_of}
 use Rattle.cif_views.specs.DifferenceTable.{journey_rows, own_fields, schedule_head, schedule_rows, without_extra}
 use Rattle.cif_views.specs.Steps.DifferenceRows.{count_of_calls, journeys_of, lines_rows, rows_of_place, same_places}
 use Rattle.cif_views.specs.Tables.{Numbered, NumberedSchedule, association_fields, extra_in, is_call, is_change, is_extra, journey_kind}
 use Rattle.cif_views.specs.Tables.{kind_of_line, number, numbered_schedule, row_fields, schedule_fields}
 use Rattle.cif_views.specs.declared.tables.JourneyKind.TheVariants as kind
-use Rattle.cif_views.proofs.DifferingCells.{AllSame, SameAt, all-moved, both-none, same-at, same-cells, same-identity, same-location, same-suffix}
-use Rattle.cif_views.proofs.DifferingCells.{some-row}
+use Rattle.cif_views.proofs.Words.{AllFit, AllStandIn, AssocBody, AssocKey, At, BodyParts, Call, Detail, Field, IsLine, Left, P, Permanent}
+use Rattle.cif_views.proofs.Words.{Row, StandsIn, Trimmed, Tsv, Turn, association_plain, columns, line_of, nothing, schedule_plain, shown}
+use Rattle.cif_views.proofs.Words.{spare, text, trimmed}
+use Rattle.cif_views.proofs.DifferingCells.{AllSame, SameAt, all-moved, both-none, same-at, same-cells, same-identity, same-location}
+use Rattle.cif_views.proofs.DifferingCells.{same-suffix, some-row}
 use Rattle.cif_views.proofs.PairedJourneys.{journeys-by-lines}
 use Rattle.cif_views.proofs.TableRows.{origin-fields, stop-fields, terminus-fields}
 

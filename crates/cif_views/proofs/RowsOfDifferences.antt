@@ -1,6 +1,6 @@
 -- Each difference has a row: the bodies of a pair differ, and where all cells are the same they don't.
-use Rattle.std.proofs.Common.{◌≡◌, ℕ, ◌<◌, ◌≤◌, Bool, List, [], ◌∷◌, ◌++◌, Option, None, Some, arith, length, map, replicate}
-use Rattle.std.proofs.Common.{◌∙◌, ap, length-append, ⊎_elim, refl, subst, sym}
+use Rattle.std.proofs.Common.{◌≡◌, ℕ, ◌<◌, ◌≤◌, Bool, List, [], ◌∷◌, ◌++◌, Option, None, Some, arith, length, map, replicate, ◌∙◌, ap}
+use Rattle.std.proofs.Common.{length-append, ⊎_elim, refl, subst, sym}
 use Rattle.std.specs.Prelude.{◌↔◌, Contains}
 use Rattle.std.specs.List.{flat_map}
 use Rattle.std.specs.Cmp.Lexicographic.{slice_cmp}
@@ -10,46 +10,27 @@ use Rattle.std.proofs.lemmas.List.{nil_from_length}
 use Rattle.std.proofs.lemmas.List.Elements.{All-contains, Contains-append_left, Contains-append_right}
 use Rattle.cif_columns.specs.Day.{weekday_of}
 use Rattle.cif_columns.specs.DaysRun.{RunsOn}
-use Rattle.cif_columns.specs.Field.{AllFit, Row}
 use Rattle.cif_columns.specs.declared.stp.Stp.{Stp}
-use Rattle.cif_columns.specs.declared.stp.Stp.TheVariants.{P}
-use Rattle.cif_extract.specs.BodyParts.{BodyParts}
-use Rattle.cif_extract.specs.ExtractParts.{ExtractParts}
 use Rattle.cif_extract.specs.Texts.{AllTablesFit, schedule_tables, tables_of}
-use Rattle.cif_extract.specs.declared.extract.Schedule.{Schedule}
 use Rattle.cif_extract.proofs.PlainTexts.{fit-back, fit-front, spelled-fits}
 use Rattle.cif_records.specs.Association as aa
-use Rattle.cif_records.specs.AssocKey.{key_cmp}
 use Rattle.cif_records.specs.Basic.{basic_rows}
 use Rattle.cif_records.specs.Tiploc.{tiploc_table}
 use Rattle.cif_records.specs.Trailer.{trailer_table}
-use Rattle.cif_records.specs.declared.association.AssocBody.{AssocBody}
-use Rattle.cif_records.specs.declared.association.AssocKey.{AssocKey}
-use Rattle.cif_records.specs.declared.association.Association.{Association}
-use Rattle.cif_records.specs.declared.detail.Detail.{Detail}
 use Rattle.cif_records.proofs.Headers as headers
-use Rattle.cif_calendar.specs.Entries.{association_entries, association_entry, schedule_entries, schedule_entry}
-use Rattle.cif_calendar.specs.Keys.{of_key}
 use Rattle.cif_calendar.specs.Runs.{BodyRuns}
-use Rattle.cif_calendar.specs.Terms.{Terms}
 use Rattle.cif_calendar.proofs.Elements.{Contains-cases, Contains-first, Contains-rest}
 use Rattle.cif_calendar.proofs.RisingLists.{Contains-none}
 use Rattle.cif_columns.specs.Contents.{contents_of}
 use Rattle.cif_weeks.specs.Aligned.{IsAlignedTwo}
 use Rattle.cif_weeks.specs.Applies.{Applies}
-use Rattle.cif_weeks.specs.Permanent.{Permanent}
 use Rattle.cif_weeks.specs.Window.{IsWithin, Window}
 use Rattle.cif_weeks.specs.declared.form.Form.TheVariants.{Two}
 use Rattle.cif_canon.specs.Accepted.{IsAccepted}
-use Rattle.cif_canon.specs.Asked.{header_window}
 use Rattle.cif_canon.specs.Differences.{AreDifferences, AreDifferentRecords, AreNone, DifferencesParts, OnlySays, at_side, of_side}
-use Rattle.cif_canon.specs.Fields.{nothing}
-use Rattle.cif_canon.specs.Lines.{ScheduleLines, association_plain, schedule_plain}
 use Rattle.cif_canon.specs.Pairs.{ArePair, AreByPairs, Listed, association_lines, by_pairs, listed_as, parts_of, schedule_lines}
 use Rattle.cif_canon.specs.Pairs.{tiploc_lines}
 use Rattle.cif_canon.specs.declared.asked.Asked.{Asked}
-use Rattle.cif_canon.specs.declared.listed_differences.Side.{Side}
-use Rattle.cif_canon.specs.declared.listed_differences.Side.TheVariants.{Left, Right}
 use Rattle.cif_canon.specs.declared.listed_differences.Sided.{Sided}
 use Rattle.cif_canon.proofs.ByPairs.{associations-by_pairs, schedules-by_pairs}
 use Rattle.cif_canon.proofs.MadeFits.{HasTerms, have-terms, permanent-association, permanent-basic}
@@ -58,6 +39,9 @@ use Rattle.cif_views.specs.DifferenceTable.{association_head, association_rows, 
 use Rattle.cif_views.specs.DifferenceTable.{schedule_head, schedule_rows, tiploc_head, tiploc_row}
 use Rattle.cif_views.specs.RowsOfDifferences.{HasRow, HaveRows}
 use Rattle.cif_views.specs.Tables.{names_line}
+use Rattle.cif_views.proofs.Words.{AllFit, AssocBody, AssocKey, Association, BodyParts, Detail, ExtractParts, Left, P, Permanent, Right}
+use Rattle.cif_views.proofs.Words.{Row, Schedule, ScheduleLines, Side, Terms, association_entries, association_entry, association_plain}
+use Rattle.cif_views.proofs.Words.{header_window, key_cmp, nothing, of_key, schedule_entries, schedule_entry, schedule_plain}
 use Rattle.cif_views.proofs.DifferingCells.{both-none, some-row}
 use Rattle.cif_views.proofs.PairedBodies.{FitsLines, association_line, same-association, same-body}
 

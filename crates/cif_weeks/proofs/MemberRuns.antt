@@ -6,14 +6,10 @@ use Rattle.std.proofs.lemmas.Option.{same_Some}
 use Rattle.cif_columns.specs.Stp.{letter}
 use Rattle.cif_columns.specs.declared.stp.Stp.{Stp}
 use Rattle.cif_columns.specs.declared.stp.Stp.TheVariants.{C, N, O, P}
-use Rattle.cif_calendar.specs.Applies.{Applies}
-use Rattle.cif_calendar.specs.Runs.{BodyRuns}
-use Rattle.cif_weeks.proofs.Words.{IsChosen, body_at, Terms, Window, IsWithin, Form, Run, Span}
-use Rattle.cif_calendar.specs.Terms.{AreLawful}
-use Rattle.cif_calendar.specs.Wins.{Wins}
 use Rattle.cif_weeks.specs.MemberRuns.{AreRunsOfMembers, IsMembersRun}
 use Rattle.cif_weeks.specs.Steps.BodyRuns.{AreRunsOfSpans, HasBody}
 use Rattle.cif_weeks.specs.Steps.Spans.{AreSpansOf, IsMembersSpan, IsSourceAmong, IsSpanOf, Shows}
+use Rattle.cif_weeks.proofs.Words.{Applies, AreLawful, BodyRuns, Form, IsChosen, IsWithin, Run, Span, Terms, Window, Wins, body_at}
 use Rattle.cif_weeks.proofs.JoinedLists.{zip-with}
 use Rattle.cif_weeks.proofs.MemberClash.{leads-winner}
 use Rattle.cif_weeks.proofs.Meeting.{have_form, say}

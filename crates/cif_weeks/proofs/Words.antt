@@ -1,10 +1,17 @@
 -- The words of which most of the proofs speak.
 pub use Rattle.cif_columns.specs.Day.{week_of, weekday_of}
 pub use Rattle.cif_columns.specs.DaysRun.{RunsOn}
-pub use Rattle.cif_calendar.specs.Source.{body_at, IsChosen}
-pub use Rattle.cif_calendar.specs.Terms.{Terms}
+pub use Rattle.cif_calendar.specs.Applies.{Applies, IsDateOf}
+pub use Rattle.cif_calendar.specs.Calendar.{CalendarParts, body_on}
+pub use Rattle.cif_calendar.specs.Keys.{of_key}
+pub use Rattle.cif_calendar.specs.Pieces.{Tiles, source_at, winner_of}
+pub use Rattle.cif_calendar.specs.Runs.{BodyRuns}
+pub use Rattle.cif_calendar.specs.Source.{IsChosen, body_at}
+pub use Rattle.cif_calendar.specs.Terms.{AreLawful, Terms}
+pub use Rattle.cif_calendar.specs.Wins.{Wins}
+pub use Rattle.cif_calendar.specs.declared.key_calendar.Piece.{Piece}
 pub use Rattle.cif_weeks.specs.Permanent.{Permanent, Permanents}
-pub use Rattle.cif_weeks.specs.Window.{Window, IsWithin, window_from}
+pub use Rattle.cif_weeks.specs.Window.{IsWithin, Window, window_from}
 pub use Rattle.cif_weeks.specs.declared.form.Form.{Form}
 pub use Rattle.cif_weeks.specs.declared.form.Form.TheVariants.{One, Two}
 pub use Rattle.cif_weeks.specs.declared.run.Run.{Run}

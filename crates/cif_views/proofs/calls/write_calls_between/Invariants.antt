@@ -2,8 +2,7 @@
 use Rattle.std.proofs.Common.{◌≡◌, ◌++◌}
 use Rattle.std.specs.List.{flat_map}
 use Rattle.cif_views.specs.Calls.{call_text}
-use Rattle.cif_canon.specs.Fields.{line_of}
-use Rattle.cif_canon.specs.Appended.{IsAppended}
+use Rattle.cif_views.proofs.Words.{IsAppended, line_of}
 use Rattle.cif_views.proofs.calls.write_calls_between.Given as goal
 
 abbrev pub invariant-loop-call : goal.invariant-loop-call

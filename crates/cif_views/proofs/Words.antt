@@ -1,0 +1,40 @@
+-- The words of the crates below of which many of the proofs speak.
+pub use Rattle.cif_columns.specs.Day.{week_of}
+pub use Rattle.cif_columns.specs.Field.{AllFit, AllStandIn, Row, StandsIn, columns, spare, text}
+pub use Rattle.cif_columns.specs.Line.{IsLine}
+pub use Rattle.cif_columns.specs.declared.stp.Stp.TheVariants.{P}
+pub use Rattle.cif_records.specs.AssocKey.{key_cmp}
+pub use Rattle.cif_records.specs.declared.association.AssocBody.{AssocBody}
+pub use Rattle.cif_records.specs.declared.association.AssocKey.{AssocKey}
+pub use Rattle.cif_records.specs.declared.association.Association.{Association}
+pub use Rattle.cif_records.specs.declared.detail.Detail.{Detail}
+pub use Rattle.cif_extract.specs.BodyParts.{BodyParts}
+pub use Rattle.cif_extract.specs.ExtractParts.{ExtractParts, extract_parts}
+pub use Rattle.cif_extract.specs.declared.call.Call.{Call}
+pub use Rattle.cif_extract.specs.declared.call.Call.TheVariants.{At, Turn}
+pub use Rattle.cif_extract.specs.declared.extract.Schedule.{Schedule}
+pub use Rattle.cif_extract.specs.declared.fault.Clash.{Clash}
+pub use Rattle.cif_calendar.specs.Applies.{Applies}
+pub use Rattle.cif_calendar.specs.Clash.{IsClear}
+pub use Rattle.cif_calendar.specs.DayState.{AreDayStates}
+pub use Rattle.cif_calendar.specs.Entries.{association_entries, association_entry, association_terms, schedule_entries, schedule_entry}
+pub use Rattle.cif_calendar.specs.Entries.{schedule_terms}
+pub use Rattle.cif_calendar.specs.Keys.{keyed, of_key}
+pub use Rattle.cif_calendar.specs.Runs.{Runs}
+pub use Rattle.cif_calendar.specs.Terms.{AreLawful, Records, Terms}
+pub use Rattle.cif_calendar.specs.Wins.{Wins, precedence}
+pub use Rattle.cif_calendar.specs.declared.day_state.DayState.{DayState}
+pub use Rattle.cif_weeks.specs.Permanent.{Permanent}
+pub use Rattle.cif_canon.specs.Accepted.{IsClearExtract}
+pub use Rattle.cif_canon.specs.Appended.{IsAppended}
+pub use Rattle.cif_canon.specs.Asked.{header_window}
+pub use Rattle.cif_canon.specs.Fault.{IsFirstClashIn}
+pub use Rattle.cif_canon.specs.Fields.{Field, after, fields_text, lead, led, line_of, nothing, shown, trimmed}
+pub use Rattle.cif_canon.specs.Lines.{ScheduleLines, association_plain, line_of_tiploc, schedule_plain}
+pub use Rattle.cif_canon.specs.Normalised.{IfWritten}
+pub use Rattle.cif_canon.specs.Rows.{no_association, no_train}
+pub use Rattle.cif_canon.specs.declared.listed_differences.Side.{Side}
+pub use Rattle.cif_canon.specs.declared.listed_differences.Side.TheVariants.{Left, Right}
+pub use Rattle.cif_canon.specs.declared.rows.Format.{Format}
+pub use Rattle.cif_canon.specs.declared.rows.Format.TheVariants.{Text, Tsv}
+pub use Rattle.cif_canon.specs.declared.rows.Shape.TheVariants.{Trimmed, Whole}
