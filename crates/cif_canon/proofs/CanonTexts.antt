@@ -27,21 +27,19 @@ module _ {K B : Type 0} (entries : List (K × Terms B)) where
   pub have-records : (runs : List Run) (records : List (K × Permanent B)) → AllZip (IsRunOf entries) runs records → All IsDated records →
       All (HasRecord entries) runs
   have-records [] [] zip dated = All-nil (HasRecord entries)
-  have-records [] (e ∷ records) zip dated = absurd zip
-  have-records (run ∷ runs) [] zip dated = absurd zip
   have-records (run ∷ runs) (e ∷ records) zip dated =
       All-cons (HasRecord entries) run runs
       (record { it = e; is = record-of_run run e zip.0; in_order = All-head IsDated e records dated })
       (have-records runs records zip.1 (All-tail IsDated e records dated))
+  have-records _ _ zip _ = absurd zip
 
   pub texts-of_runs : {C : Type 0} (text : K × Permanent B → List C) (runs : List Run) (records : List (K × Permanent B)) →
       AllZip (IsRunOf entries) runs records → flat_map (λ run. text_if text (record_at entries run)) runs ≡ flat_map text records
   texts-of_runs text [] [] zip = refl
-  texts-of_runs text [] (e ∷ records) zip = absurd zip
-  texts-of_runs text (run ∷ runs) [] zip = absurd zip
   texts-of_runs {C} text (run ∷ runs) (e ∷ records) zip =
       ap (λ (l : List C). l ++ flat_map (λ run. text_if text (record_at entries run)) runs) (ap (text_if text) (record-of_run run e zip.0))
       ∙ ap (λ (l : List C). text e ++ l) (texts-of_runs text runs records zip.1)
+  texts-of_runs _ _ _ zip = absurd zip
 
 -- ---- the text of tables
 

@@ -69,12 +69,11 @@ runs-as {B} form window after is IsOf IsAs ties IsSaid IsTold same runs a = subs
   each : (runs : List Run) (records : List (Permanent B)) → ((r : Permanent B) → Contains records r → IsWithin window r.first) →
       AllZip IsOf runs records → AllZip IsAs runs records
   each [] [] within z = tt
-  each [] (r ∷ records) within z = absurd z
-  each (run ∷ runs) [] within z = absurd z
   each (run ∷ runs) (r ∷ records) within z = (
     ties run r (within r (Contains-first r records)) z.0,
     each runs records (λ s in'. within s (Contains-rest r records s in')) z.1,
   )
+  each _ _ _ z = absurd z
 
 -- each record with the key
 pub zip-keyed : {K B : Type 0} (es : List (K × Terms B)) (k : K) (runs : List Run) (records : List (Permanent B)) →

@@ -64,14 +64,13 @@ module _ {K B : Type 0} (cmp : K → K → Ordering) (window : Window) (xs ys : 
       IsFirstFound cmp window xs ys found → (o : Option (Sided Run)) → slice_get runs 0 ≡ o → IsFirstRun o
   first-run [] [] z first None is = first
   first-run [] [] z first (Some s) is = absurd (cc)
-  first-run [] (e ∷ found) z first o is = absurd z
-  first-run (s ∷ runs) [] z first o is = absurd z
   first-run (s ∷ runs) (e ∷ found) z first o is = subst IsFirstRun is (λ k has.
       let at : HasKey (at_side xs ys e.side) s.it.source k = subst (λ side. HasKey (at_side xs ys side) s.it.source k) z.0.side has in
       let key : k ≡ e.it.0 = one-key (at_side xs ys e.side) s.it.source k e.it.0 at
       (record { terms = z.0.run_of.terms; at = z.0.run_of.at }) in
       let day : s.it.first ≡ e.it.1.first = sym (ap (λ (p : Permanent B). p.first) z.0.run_of.dates) in
       rw (key, day) first)
+  first-run _ _ z _ _ _ = absurd z
 
 -- and its source is the position of an entry of its side
 pub first-within : {E K B : Type 0} (key : E → K) (terms : E → Terms B) (es fs : List E) (runs : List (Sided Run))
@@ -133,13 +132,13 @@ module _ (x y : ExtractParts) (window : header_window x.header ≡ header_window
     (aa : AreDifferentRuns key_cmp (header_window x.header) (association_entries x.associations) (association_entries y.associations)
     AllKeys associations) (schedules : List (Sided Run))
     (bs : AreDifferentRuns (slice_cmp nat_cmp) (header_window x.header) (schedule_entries x.schedules) (schedule_entries y.schedules)
-    AllKeys schedules) where
-  pub are-differences : (d : DifferencesParts) → d ≡ record {
-    tiplocs = tiplocs;
-    associations = sided_records (association_entries x.associations) (association_entries y.associations) associations;
-    schedules = sided_records (schedule_entries x.schedules) (schedule_entries y.schedules) schedules;
-  } → AreDifferences x y d
-  are-differences d is = subst (AreDifferences x y) (sym is) (record {
+    AllKeys schedules) (d : DifferencesParts) (is : d ≡ record {
+      tiplocs = tiplocs;
+      associations = sided_records (association_entries x.associations) (association_entries y.associations) associations;
+      schedules = sided_records (schedule_entries x.schedules) (schedule_entries y.schedules) schedules;
+    }) where
+  pub are-differences : AreDifferences x y d
+  are-differences = subst (AreDifferences x y) (sym is) (record {
     window = window;
     left = record { associations = aa.clear refl Left; schedules = bs.clear refl Left };
     right = clear-right x y window (aa.clear refl Right) (bs.clear refl Right);
@@ -150,12 +149,8 @@ module _ (x y : ExtractParts) (window : header_window x.header ≡ header_window
         schedules bs;
   })
 
-  pub none-agree : (d : DifferencesParts) → d ≡ record {
-    tiplocs = tiplocs;
-    associations = sided_records (association_entries x.associations) (association_entries y.associations) associations;
-    schedules = sided_records (schedule_entries x.schedules) (schedule_entries y.schedules) schedules;
-  } → AreNone d ↔ Agree (header_window x.header) x y
-  none-agree d is =
+  pub none-agree : AreNone d ↔ Agree (header_window x.header) x y
+  none-agree =
       let t = tiplocs-none x.tiplocs y.tiplocs tiplocs at in
       let a = kind-none key_cmp (header_window x.header) (association_entries x.associations) (association_entries y.associations)
       associations aa in
@@ -166,12 +161,8 @@ module _ (x y : ExtractParts) (window : header_window x.header ≡ header_window
         λ g. record { tiplocs = t.1 g.tiplocs; associations = a.1 g.associations; schedules = s.1 g.schedules },
       )
 
-  pub turn-left : (d : DifferencesParts) → d ≡ record {
-    tiplocs = tiplocs;
-    associations = sided_records (association_entries x.associations) (association_entries y.associations) associations;
-    schedules = sided_records (schedule_entries x.schedules) (schedule_entries y.schedules) schedules;
-  } → TurnLeftIntoRight x y d
-  turn-left d is = subst (TurnLeftIntoRight x y) (sym is) (record {
+  pub turn-left : TurnLeftIntoRight x y d
+  turn-left = subst (TurnLeftIntoRight x y) (sym is) (record {
     tiplocs = tiplocs-turn x.tiplocs y.tiplocs tiplocs at;
     associations = kind-turn key_cmp (header_window x.header) (association_entries x.associations) (association_entries y.associations)
         associations aa;

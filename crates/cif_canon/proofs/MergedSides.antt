@@ -181,13 +181,9 @@ module _ (lefts rights : List Run) (old : List (Sided Run)) where
     pub moved-of : (side : Side) (l r l' r' : List Run) → IsFirstSide l r (Some side) → HasMovedOf side l r l' r' new next →
         AreMerging lefts rights l r old new → AreMerging lefts rights l' r' old next
     moved-of Left l r l' r' first (moved, same) m =
-        subst (λ (z : List Run). AreMerging lefts rights l' z old next) (sym same)
-        (merging-more Left moved.item l' r (subst (λ (z : List Run). IsFirstSide z r (Some Left)) moved.items_are first)
-        (subst (λ (z : List Run). AreMerging lefts rights z r old new) moved.items_are m) moved.new_is)
+        rw same (merging-more Left moved.item l' r (rw moved.items_are at first) (rw moved.items_are at m) moved.new_is)
     moved-of Right l r l' r' first (moved, same) m =
-        subst (λ (z : List Run). AreMerging lefts rights z r' old next) (sym same)
-        (merging-more Right moved.item r' l (subst (λ (z : List Run). IsFirstSide l z (Some Right)) moved.items_are first)
-        (subst (λ (z : List Run). AreMerging lefts rights l z old new) moved.items_are m) moved.new_is)
+        rw same (merging-more Right moved.item r' l (rw moved.items_are at first) (rw moved.items_are at m) moved.new_is)
 
 -- the side of the first run has one
 pub side-there : (side : Side) (l r : List Run) → IsFirstSide l r (Some side) → 0 < length (at_side l r side)
@@ -202,26 +198,18 @@ side-there Right (x ∷ l) (y ∷ r) h = omega arith
 -- what has moved is left no more
 pub moved-smaller : {T : Type 0} (side : Side) (l r l' r' : List T) (old new : List (Sided T)) → HasMovedOf side l r l' r' old new →
     length l' + length r' < length l + length r
-moved-smaller {T = T} Left l r l' r' old new (moved, same) =
-    subst (λ (z : List T). length l' + length z < length l + length r) (sym same)
-    (subst (λ (z : List T). length l' + length r < length z + length r) (sym moved.items_are) (omega arith))
-moved-smaller {T = T} Right l r l' r' old new (moved, same) =
-    subst (λ (z : List T). length z + length r' < length l + length r) (sym same)
-    (subst (λ (z : List T). length l + length r' < length l + length z) (sym moved.items_are) (omega arith))
+moved-smaller Left l r l' r' old new (moved, same) = rw (same, moved.items_are) (omega arith)
+moved-smaller Right l r l' r' old new (moved, same) = rw (same, moved.items_are) (omega arith)
 
 pub nothing-first : (l r : List Run) → IsFirstSide l r None → (l ≡ []) × (r ≡ [])
 nothing-first [] [] h = (refl, refl)
-nothing-first [] (y ∷ r) h = absurd h
-nothing-first (x ∷ l) [] h = absurd h
-nothing-first (x ∷ l) (y ∷ r) h = absurd h
+nothing-first _ _ h = absurd h
 
 pub merging-end : (lefts rights l r : List Run) (old new : List (Sided Run)) → IsFirstSide l r None →
     AreMerging lefts rights l r old new → AreAppendedRuns lefts rights old new
 merging-end lefts rights l r old new h m =
     let (no_left, no_right) = nothing-first l r h in
-    let end : AreMerging lefts rights [] [] old new =
-    subst (λ (z : List Run). AreMerging lefts rights [] z old new) no_right
-    (subst (λ (z : List Run). AreMerging lefts rights z r old new) no_left m) in
+    let end : AreMerging lefts rights [] [] old new = rw (no_left, no_right) at m in
     record {
       merged = end.merged;
       are = record {

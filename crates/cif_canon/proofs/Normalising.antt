@@ -31,9 +31,8 @@ module _ (max : ℕ) (asked : Asked) (bytes : List ℕ) where
   -- bytes that aren't read
   pub narrowed-fault : (after : Unread) (f : Fault) → IsReadNarrowedFault max asked bytes after f →
       IsNormaliseFault max asked bytes after f
-  narrowed-fault after (fault.Ambiguous clash) h = absurd h
-  narrowed-fault after fault.Write h = absurd h
   narrowed-fault after _ h = h
+  narrowed-fault _ _ h = absurd h
 
   -- an extract without a canonical form
   pub canon-fault : (after : Unread) (x : ExtractParts) → SpellsNarrowed max asked x bytes → (f : Fault) → IsCanonFault x f →
@@ -192,7 +191,5 @@ module _ (max : ℕ) (asked : Asked) (start : Option (List ℕ)) (after : Unread
 
 -- a fault of `read_narrowed` is one of `check` and of `normalise`
 pub narrowed-of_check : (max : ℕ) (f : Fault) → IsOfReadNarrowed max f → IsOfCheck max f × IsOfNormalise max f
-narrowed-of_check max (fault.Ambiguous clash) h = absurd h
-narrowed-of_check max fault.WindowsDiffer h = absurd h
-narrowed-of_check max fault.Write h = absurd h
 narrowed-of_check max _ h = (h, h)
+narrowed-of_check _ _ h = absurd h

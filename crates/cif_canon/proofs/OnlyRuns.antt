@@ -15,18 +15,16 @@ module _ {X Y : Type 0} (R : X → Y → Type 0) (P : X → X → Type 0) (Q : Y
     (with' : (x u : X) (y v : Y) → R x y → R u v → Q y v → P x u) where
   all-zip : (x : X) (y : Y) → R x y → (us : List X) (vs : List Y) → AllZip R us vs → All (Q y) vs → All (P x) us
   all-zip x y h [] [] z a = All-nil (P x)
-  all-zip x y h [] (v ∷ vs) z a = absurd z
-  all-zip x y h (u ∷ us) [] z a = absurd z
   all-zip x y h (u ∷ us) (v ∷ vs) z a =
       All-cons (P x) u us (with' x u y v h z.0 (All-head (Q y) v vs a)) (all-zip x y h us vs z.1 (All-tail (Q y) v vs a))
+  all-zip _ _ _ _ _ z _ = absurd z
 
   pub pairs-zip : (xs : List X) (ys : List Y) → AllZip R xs ys → AllPairs Q ys → AllPairs P xs
   pairs-zip [] [] z a = λ i j d less within. absurd (omega arith)
-  pairs-zip [] (y ∷ ys) z a = absurd z
-  pairs-zip (x ∷ xs) [] z a = absurd z
   pairs-zip (x ∷ xs) (y ∷ ys) z a =
       AllPairs-cons P x xs (all-zip x y z.0 xs ys z.1 (λ k d within. a zero (suc k) d (omega arith) (omega arith)))
       (pairs-zip xs ys z.1 (λ i j d less within. a (suc i) (suc j) d (omega arith) (omega arith)))
+  pairs-zip _ _ z _ = absurd z
 
 -- the runs of records rise as these do
 pub rising-runs : {B : Type 0} (xs : List (Terms B)) (c : CalendarParts) (runs : List Run) (records : List (Permanent B)) →

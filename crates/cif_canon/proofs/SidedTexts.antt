@@ -51,18 +51,15 @@ module _ {K B : Type 0} (xs ys : List (K × Terms B)) where
   pub records-of_runs : (runs : List (Sided Run)) (found : List (Sided (K × Permanent B))) → AllZip (IsSidedRunOf xs ys) runs found →
       sided_records xs ys runs ≡ found
   records-of_runs [] [] z = refl
-  records-of_runs [] (e ∷ found) z = absurd z
-  records-of_runs (s ∷ runs) [] z = absurd z
   records-of_runs (s ∷ runs) (e ∷ found) z =
       ap (λ side. with_record side (record_at (at_side xs ys side) s.it) (sided_records xs ys runs)) z.0.side
       ∙ ap (λ o. with_record e.side o (sided_records xs ys runs)) (record-there s e z.0)
       ∙ ap (λ (l : List (Sided (K × Permanent B))). e ∷ l) (records-of_runs runs found z.1)
+  records-of_runs _ _ z = absurd z
 
   pub have-sided_records : (runs : List (Sided Run)) (found : List (Sided (K × Permanent B))) → AllZip (IsSidedRunOf xs ys) runs found →
       All (λ e. e.it.1.first ≤ e.it.1.last) found → All (HasSidedRecord xs ys) runs
   have-sided_records [] [] z dated = All-nil (HasSidedRecord xs ys)
-  have-sided_records [] (e ∷ found) z dated = absurd z
-  have-sided_records (s ∷ runs) [] z dated = absurd z
   have-sided_records (s ∷ runs) (e ∷ found) z dated =
       All-cons (HasSidedRecord xs ys) s runs
       (record {
@@ -71,6 +68,7 @@ module _ {K B : Type 0} (xs ys : List (K × Terms B)) where
         in_order = All-head (λ (e : Sided (K × Permanent B)). e.it.1.first ≤ e.it.1.last) e found dated;
       })
       (have-sided_records runs found z.1 (All-tail (λ (e : Sided (K × Permanent B)). e.it.1.first ≤ e.it.1.last) e found dated))
+  have-sided_records _ _ z _ = absurd z
 
   -- where each run has a record, there is none of the one exactly where there is none of the other
   pub records-none : (runs : List (Sided Run)) → All (HasSidedRecord xs ys) runs → sided_records xs ys runs ≡ [] → runs ≡ []

@@ -80,9 +80,7 @@ lesser side x own (z ∷ theirs) h rising y in' = ⊎_elim
 
 pub nothing-first : (l r : List Tiploc) → IsFirstOrder l r None → (l ≡ []) × (r ≡ [])
 nothing-first [] [] h = (refl, refl)
-nothing-first [] (y ∷ r) h = absurd h
-nothing-first (x ∷ l) [] h = absurd h
-nothing-first (x ∷ l) (y ∷ r) h = absurd h
+nothing-first _ _ h = absurd h
 
 -- ---- one step
 
@@ -191,9 +189,6 @@ module _ (lefts rights : List Tiploc) where
     pub passed-both : (l r : List Tiploc) → IsFirstOrder l r (Some Equal) → AreSifting lefts rights l r found →
         (l' r' : List Tiploc) → l' ≡ drop 1 l → r' ≡ drop 1 r →
         AreSifting lefts rights l' r' found × (length l' + length r' < length l + length r)
-    passed-both [] [] h a l' r' e f = absurd h
-    passed-both [] (y ∷ r) h a l' r' e f = absurd h
-    passed-both (x ∷ l) [] h a l' r' e f = absurd h
     passed-both (x ∷ l) (y ∷ r) h a l' r' e f =
         let same : x ≡ y = equal-tiplocs x y h in (
           subst (λ (z : List Tiploc). AreSifting lefts rights z r' found) (sym e)
@@ -202,6 +197,7 @@ module _ (lefts rights : List Tiploc) where
           let one : length l' ≡ length l = ap (λ (z : List Tiploc). length z) e in
               let other : length r' ≡ length r = ap (λ (z : List Tiploc). length z) f in omega (arith, one, other),
         )
+    passed-both _ _ h _ _ _ _ _ = absurd h
 
     -- in the end those that are found are all
     sifting-all : (ls rs : List Tiploc) → AreDistinct ls lefts → AreDistinct rs rights → AreSifting lefts rights [] [] found →
@@ -231,9 +227,7 @@ module _ (lefts rights : List Tiploc) where
         IsFirstOrder l r None → AreSifting lefts rights l r found → AreDifferentTiplocs ls rs found
     sifting-end l r ls rs p q h a =
         let (no_left, no_right) = nothing-first l r h in
-        sifting-all ls rs p q
-        (subst (λ (z : List Tiploc). AreSifting lefts rights [] z found) no_right
-        (subst (λ (z : List Tiploc). AreSifting lefts rights z r found) no_left a))
+        sifting-all ls rs p q (rw (no_left, no_right) at a)
 
 -- the slice behind the first
 pub behind-first : (l : List Tiploc) → take (length l - 1) (drop 1 l) ≡ drop 1 l

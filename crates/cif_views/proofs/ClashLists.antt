@@ -26,8 +26,7 @@ same-bytes xs ys e = (bytes_decides xs ys).0 (texts_ties xs ys ∙ ap is_eq e)
 
 both-equal : (o p : Ordering) → ordering_then o p ≡ Equal → (o ≡ Equal) × (p ≡ Equal)
 both-equal Equal p e = (refl, e)
-both-equal Less p e = absurd (cc)
-both-equal Greater p e = absurd (cc)
+both-equal _ p e = absurd (cc)
 
 -- so are keys
 same-keys : (j k : AssocKey) → key_cmp j k ≡ Equal → j ≡ k

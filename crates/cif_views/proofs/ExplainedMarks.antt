@@ -16,8 +16,7 @@ use Rattle.cif_views.proofs.Words.{AreLawful, IsClear, Records, Runs, Terms, Win
 -- what compares as it does the other way round compares equal
 pub equal-itself : (o : Ordering) → o ≡ ordering_reverse o → o ≡ Equal
 equal-itself Equal h = refl
-equal-itself Less h = absurd (cc)
-equal-itself Greater h = absurd (cc)
+equal-itself _ h = absurd (cc)
 
 -- winners that agree have the body that runs
 winner-runs : {B : Type 0} (records : Records B) (d : ℕ) (r : Terms B) → AreLawful records → Wins records d r → IsClear records d
