@@ -10,8 +10,7 @@ use Rattle.std.proofs.lemmas.List.{take_all, take_more}
 use Rattle.cif_columns.specs.Sink.{HasFailed, Writes, sink_failed, writer_of}
 use Rattle.cif_columns.proofs.WrittenTexts.{failed_first, failed_second, written_both, written_nothing}
 use Rattle.cif_canon.specs.Normalised.{FaultWrites}
-use Rattle.cif_canon.specs.Appended.{IsAppended}
-use Rattle.cif_canon.proofs.Words.{Fault, Sink, Write}
+use Rattle.cif_canon.proofs.Words.{Fault, IsAppended, Sink, Write}
 
 module _ {W : Type 0} (contents : W → Option (List ℕ)) (errors : W → Option ℕ) where
   -- by a call that answers whether it was

@@ -13,13 +13,11 @@ use Rattle.std.proofs.lemmas.Bool.{false≢true}
 use Rattle.std.proofs.lemmas.Grind.{common_steps}
 use Rattle.std.proofs.lemmas.Option.{same_Some}
 use Rattle.cif_calendar.proofs.Elements.{Contains-first, Contains-rest, Contains-cases}
+use Rattle.cif_calendar.proofs.FirstClash.{same_key-cmp}
 use Rattle.cif_calendar.proofs.RisingLists.{Contains-none, not_less}
-use Rattle.cif_canon.specs.Differences.{AreDifferences, ComesBefore, DifferencesParts, is_side}
-use Rattle.cif_canon.specs.Pairs.{ArePair, AreByPairs, Listed, are_pair, by_pairs, parts_of}
-use Rattle.cif_canon.specs.declared.listed_differences.Side.{Side}
-use Rattle.cif_canon.specs.declared.listed_differences.Side.TheVariants.{Left, Right}
-use Rattle.cif_canon.specs.declared.listed_differences.Sided.{Sided}
-use Rattle.cif_canon.proofs.Words.{AssocKey, ExtractParts, Permanent, Precedes, key_cmp}
+use Rattle.cif_canon.specs.Pairs.{AreByPairs, parts_of}
+use Rattle.cif_canon.proofs.Words.{AreDifferences, ArePair, AssocKey, ComesBefore, DifferencesParts, ExtractParts, Left, Listed, Permanent}
+use Rattle.cif_canon.proofs.Words.{Precedes, Right, Side, Sided, are_pair, by_pairs, is_side, key_cmp}
 use Rattle.cif_canon.proofs.MergedSides.{pairs-head, pairs-tail}
 use Rattle.cif_canon.proofs.PairedRecords.{keys-decided, pair-decided}
 use Rattle.cif_canon.proofs.Unique.{keys-total}
@@ -222,6 +220,10 @@ key-matches a b =
 
 key-same : (a b : AssocKey) → IsTrue (key_eq a b) ↔ (a ≡ b)
 key-same a b = search (rules, common_steps, pointwise_decides, bytes_decides)
+
+-- keys that compare as equal are the same
+pub same-keys : (j k : AssocKey) → key_cmp j k ≡ Equal → j ≡ k
+same-keys = same_key-cmp key_eq key_cmp key-matches key-same
 
 pub associations-by_pairs : (x y : ExtractParts) (d : DifferencesParts) → AreDifferences x y d →
     AreByPairs d.associations (by_pairs key_cmp d.associations)

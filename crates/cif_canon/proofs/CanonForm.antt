@@ -8,19 +8,13 @@ use Rattle.cif_extract.specs.declared.fault.Clash.TheVariants as named
 use Rattle.cif_extract.specs.declared.fault.Fault.TheVariants as fault
 use Rattle.cif_records.proofs.Headers as headers
 use Rattle.cif_weeks.proofs.PermanentEntries.{canonical-dated}
-use Rattle.cif_canon.specs.Asked.{header_window}
-use Rattle.cif_canon.specs.Canon.{IsCanonOf}
 use Rattle.cif_canon.specs.Canonical.{IsCanonicalOf}
 use Rattle.cif_canon.specs.Counts.{counts_of}
-use Rattle.cif_canon.specs.Lines.{lines_of}
-use Rattle.cif_canon.specs.declared.canonical_form.Counts.{Counts}
-use Rattle.cif_canon.specs.Fault.{IsCanonFault, IsFirstClashIn}
-use Rattle.cif_canon.specs.Steps.Records.{AreCanonicalRecords, IsRecordsFault, IsRunOf}
-use Rattle.cif_canon.specs.Steps.Texts.{HasRecord, canon_lines, canon_text}
-use Rattle.cif_canon.specs.Steps.Tiplocs.{AreDistinct}
 use Rattle.cif_extract.proofs.PlainTexts.{text-spells}
-use Rattle.cif_canon.proofs.Words.{AreClear, BytesSpell, ExtractParts, Fault, FitsColumns, Form, Header, Run, Tiploc, Window}
-use Rattle.cif_canon.proofs.Words.{association_entries, extract_text, key_cmp, schedule_entries, window_from}
+use Rattle.cif_canon.proofs.Words.{AreCanonicalRecords, AreClear, AreDistinct, BytesSpell, Counts, ExtractParts, Fault, FitsColumns, Form}
+use Rattle.cif_canon.proofs.Words.{HasRecord, Header, IsCanonFault, IsCanonOf, IsFirstClashIn, IsRecordsFault, IsRunOf, Run, Tiploc, Window}
+use Rattle.cif_canon.proofs.Words.{association_entries, canon_lines, canon_text, extract_text, header_window, key_cmp, lines_of}
+use Rattle.cif_canon.proofs.Words.{schedule_entries, window_from}
 use Rattle.cif_canon.proofs.CanonLines.{written-lines}
 use Rattle.cif_canon.proofs.CanonTexts.{have-records, number-of_associations, number-of_schedules, written-text}
 use Rattle.cif_canon.proofs.KeptExtract.{canonical_of, is-canonical, same-meaning}

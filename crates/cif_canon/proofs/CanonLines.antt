@@ -7,12 +7,11 @@ use Rattle.std.proofs.lemmas.Grind.{flat_map-append}
 use Rattle.std.proofs.lemmas.List.Concat.{flat_map_single}
 use Rattle.std.proofs.lemmas.List.Elements.{All-head, All-tail}
 use Rattle.std.proofs.lemmas.List.FromFn.{get_or-enumerate_from}
-use Rattle.cif_canon.specs.Lines.{ScheduleLines, association_plain, line_of_association, line_of_tiploc, lines_of, lines_of_schedule}
-use Rattle.cif_canon.specs.Lines.{schedule_plain}
-use Rattle.cif_canon.specs.Steps.Records.{IsRunOf}
-use Rattle.cif_canon.specs.Steps.Texts.{HasRecord, canon_lines, numbered_text, of_run, record_at, run_text, text_if}
-use Rattle.cif_canon.proofs.Words.{AssocBody, AssocKey, BodyParts, ExtractParts, Permanent, Run, Terms, Tiploc, association_entries}
-use Rattle.cif_canon.proofs.Words.{header_table, plain_line, schedule_entries}
+use Rattle.cif_canon.specs.Lines.{line_of_association, lines_of_schedule}
+use Rattle.cif_canon.specs.Steps.Texts.{of_run}
+use Rattle.cif_canon.proofs.Words.{AssocBody, AssocKey, BodyParts, ExtractParts, HasRecord, IsRunOf, Permanent, Run, ScheduleLines, Terms}
+use Rattle.cif_canon.proofs.Words.{Tiploc, association_entries, association_plain, canon_lines, header_table, line_of_tiploc, lines_of}
+use Rattle.cif_canon.proofs.Words.{numbered_text, plain_line, record_at, run_text, schedule_entries, schedule_plain, text_if}
 use Rattle.cif_canon.proofs.CanonTexts.{texts-of_runs}
 use Rattle.cif_canon.proofs.MadeExtract.{IsDated, associations_of, schedules_of}
 

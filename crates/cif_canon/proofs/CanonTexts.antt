@@ -7,12 +7,11 @@ use Rattle.std.proofs.lemmas.List.{map-append}
 use Rattle.std.proofs.lemmas.List.Elements.{All-nil, All-cons, All-head, All-tail}
 use Rattle.cif_columns.specs.Contents.{lines_text}
 use Rattle.cif_records.specs.Association.{association_table}
-use Rattle.cif_canon.specs.Steps.Records.{IsRunOf}
-use Rattle.cif_canon.specs.Steps.Texts.{HasRecord, association_run_text, association_text, canon_text, record_at, schedule_run_text}
-use Rattle.cif_canon.specs.Steps.Texts.{schedule_text, text_if, tiploc_text}
-use Rattle.cif_canon.proofs.Words.{AssocBody, AssocKey, BodyParts, ExtractParts, Permanent, Row, Run, Terms, Tiploc, association_entries}
-use Rattle.cif_canon.proofs.Words.{extract_text, header_table, plain_line, schedule_entries, schedule_lines, tables_of, tiploc_table}
-use Rattle.cif_canon.proofs.Words.{trailer_table}
+use Rattle.cif_canon.specs.Steps.Texts.{association_text}
+use Rattle.cif_canon.proofs.Words.{AssocBody, AssocKey, BodyParts, ExtractParts, HasRecord, IsRunOf, Permanent, Row, Run, Terms, Tiploc}
+use Rattle.cif_canon.proofs.Words.{association_entries, association_run_text, canon_text, extract_text, header_table, plain_line, record_at}
+use Rattle.cif_canon.proofs.Words.{schedule_entries, schedule_lines, schedule_run_text, schedule_text, tables_of, text_if, tiploc_table}
+use Rattle.cif_canon.proofs.Words.{tiploc_text, trailer_table}
 use Rattle.cif_canon.proofs.MadeExtract.{IsDated, associations_of, schedule_of, schedules_of}
 use Rattle.cif_canon.proofs.RunTexts.{record-of_entry}
 

@@ -3,20 +3,15 @@ use Rattle.std.proofs.Common.{◌≡◌, ◌⊎◌, inl, inr, List, [], ◌∷�
 use Rattle.std.specs.Prelude.{Contains, ◌↔◌, slice_get}
 use Rattle.std.specs.Cmp.Lexicographic.{bytes_decides, nat_list_cmp_total, slice_cmp, texts_ties}
 use Rattle.std.specs.Ordering.{is_eq, nat_cmp, ordering_reverse}
-use Rattle.std.specs.declared.cmp.Ordering.{Ordering}
 use Rattle.std.specs.declared.cmp.Ordering.TheVariants.{Less, Equal, Greater}
 use Rattle.std.proofs.lemmas.Option.{same_Some}
 use Rattle.std.proofs.lemmas.Cmp.{on_total}
 use Rattle.cif_calendar.proofs.KeyTurns.{decided}
 use Rattle.cif_calendar.proofs.Elements.{Contains-first, Contains-rest, Contains-cases}
-use Rattle.cif_records.specs.declared.tiploc.Tiploc.{Tiploc}
 use Rattle.cif_records.proofs.Tiplocs.{same_tiploc}
 use Rattle.cif_calendar.proofs.RisingLists.{Contains-none, less_one_way, not_less}
 use Rattle.cif_canon.specs.Comparison.{IsFirstTiploc}
-use Rattle.cif_canon.specs.Differences.{AreDifferentTiplocs, IsOnlyIn}
-use Rattle.cif_canon.specs.declared.listed_differences.Side.{Side}
-use Rattle.cif_canon.specs.declared.listed_differences.Side.TheVariants.{Left, Right}
-use Rattle.cif_canon.specs.declared.listed_differences.Sided.{Sided}
+use Rattle.cif_canon.proofs.Words.{AreDifferentTiplocs, IsOnlyIn, Left, Right, Side, Sided, Tiploc}
 use Rattle.cif_canon.proofs.MergedSides.{pairs-head}
 
 -- one location comes before another

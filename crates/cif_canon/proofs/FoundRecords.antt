@@ -15,17 +15,14 @@ use Rattle.cif_weeks.proofs.AlignedDays.{tight}
 use Rattle.cif_weeks.proofs.JoinedLists.{AllPairs-append, AllZip-append, Contains-from_map, zip-back}
 use Rattle.cif_weeks.proofs.KeyByKey.{canonical-more, canonical-none}
 use Rattle.cif_calendar.proofs.RisingLists.{Contains-none, less_one_way, not_less}
-use Rattle.cif_canon.specs.Differences.{ComesBefore, OnlySays, RunsApplied, SaysNothing, TurnInto, at_side, is_side, of_side}
-use Rattle.cif_canon.specs.Comparison.{IsFirstDifference}
-use Rattle.cif_canon.specs.Steps.OnlySides.{AreDifferentRuns, AreMergedRuns, AreSame, IsFirstFound, IsSidedRunOf, RunComesBefore}
-use Rattle.cif_canon.specs.Steps.Records.{AreRunsOf, IsRunOf}
+use Rattle.cif_canon.specs.Differences.{RunsApplied, SaysNothing}
+use Rattle.cif_canon.specs.Steps.OnlySides.{AreMergedRuns}
 use Rattle.cif_canon.specs.declared.differing.Extent.{Extent}
-use Rattle.cif_canon.specs.declared.differing.Extent.TheVariants.{AllKeys, FirstKey}
-use Rattle.cif_canon.specs.declared.listed_differences.Side.{Side}
-use Rattle.cif_canon.specs.declared.listed_differences.Side.TheVariants.{Left, Right}
-use Rattle.cif_canon.specs.declared.listed_differences.Sided.{Sided}
-use Rattle.cif_canon.proofs.Words.{AreAllByKey, AreCanonical, AreClear, EntriesSayTheSame, HasBody, IsClearFrom, IsFirstOfBoth, IsFront}
-use Rattle.cif_canon.proofs.Words.{IsWithin, Permanent, Run, Terms, Two, Window, of_key, with_key}
+use Rattle.cif_canon.specs.declared.differing.Extent.TheVariants.{FirstKey}
+use Rattle.cif_canon.proofs.Words.{AllKeys, AreAllByKey, AreCanonical, AreClear, AreDifferentRuns, AreRunsOf, AreSame, ComesBefore}
+use Rattle.cif_canon.proofs.Words.{EntriesSayTheSame, HasBody, IsClearFrom, IsFirstDifference, IsFirstFound, IsFirstOfBoth, IsFront}
+use Rattle.cif_canon.proofs.Words.{IsRunOf, IsSidedRunOf, IsWithin, Left, OnlySays, Permanent, Right, Run, RunComesBefore, Side, Sided}
+use Rattle.cif_canon.proofs.Words.{Terms, TurnInto, Two, Window, at_side, is_side, of_key, of_side, with_key}
 use Rattle.cif_canon.proofs.ComparedKeys.{ArePassed, IsLeft, nobody, pass, passed-nothing, turns}
 use Rattle.cif_canon.proofs.KeyRecords.{bodies-other, bodies-own, zip-keyed}
 use Rattle.cif_canon.proofs.MergedSides.{from-side, of_side-append, pairs-head, side-member}

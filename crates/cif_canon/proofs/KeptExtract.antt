@@ -4,11 +4,9 @@ use Rattle.std.specs.Prelude.{All, AllPairs, Contains, ◌↔◌}
 use Rattle.std.specs.Cmp.Lexicographic.{slice_cmp}
 use Rattle.std.specs.Ordering.{nat_cmp}
 use Rattle.std.specs.declared.cmp.Ordering.TheVariants.{Less}
-use Rattle.cif_canon.specs.Asked.{header_window}
 use Rattle.cif_canon.specs.Canonical.{IsCanonicalExtract}
-use Rattle.cif_canon.specs.Meaning.{SameMeaning}
-use Rattle.cif_canon.proofs.Words.{AreCanonical, AssocBody, AssocKey, BodyParts, EntriesSayTheSame, ExtractParts, Form, Permanent, Tiploc}
-use Rattle.cif_canon.proofs.Words.{association_entries, key_cmp, permanent_entries, schedule_entries}
+use Rattle.cif_canon.proofs.Words.{AreCanonical, AssocBody, AssocKey, BodyParts, EntriesSayTheSame, ExtractParts, Form, Permanent}
+use Rattle.cif_canon.proofs.Words.{SameMeaning, Tiploc, association_entries, header_window, key_cmp, permanent_entries, schedule_entries}
 use Rattle.cif_canon.proofs.MadeExtract.{IsDated, associations_of, schedules_of, entries-of_associations, entries-of_schedules}
 
 module _ (form : Form) (x : ExtractParts) (tiplocs : List Tiploc)

@@ -10,20 +10,12 @@ use Rattle.std.proofs.lemmas.Option.{same_Some, slice_get_within}
 use Rattle.cif_calendar.proofs.KeyPositions.{within-entries}
 use Rattle.cif_calendar.proofs.KeyTurns.{one-key}
 use Rattle.cif_weeks.proofs.AlignedDays.{tight}
-use Rattle.cif_canon.specs.Accepted.{IsClearExtract}
-use Rattle.cif_canon.specs.Asked.{header_window}
-use Rattle.cif_canon.specs.Comparison.{IsFirstDifference}
-use Rattle.cif_canon.specs.Differences.{AreDifferences, AreDifferentRecords, AreDifferentTiplocs, AreNone, DifferencesParts, IsOnlyIn}
-use Rattle.cif_canon.specs.Differences.{TurnInto, TurnLeftIntoRight, at_side, of_side}
-use Rattle.cif_canon.specs.Meaning.{Agree}
-use Rattle.cif_canon.specs.Steps.OnlySides.{AreDifferentRuns, AreSame, IsFirstFound, IsSidedRunOf}
-use Rattle.cif_canon.specs.Steps.Sides.{HasSidedRecord, sided_records}
-use Rattle.cif_canon.specs.declared.differing.Extent.TheVariants.{AllKeys}
-use Rattle.cif_canon.specs.declared.listed_differences.Side.{Side}
-use Rattle.cif_canon.specs.declared.listed_differences.Side.TheVariants.{Left, Right}
-use Rattle.cif_canon.specs.declared.listed_differences.Sided.{Sided}
-use Rattle.cif_canon.proofs.Words.{AreClear, EntriesSayTheSame, ExtractParts, HasKey, Permanent, Run, Terms, Tiploc, Two, Window}
-use Rattle.cif_canon.proofs.Words.{association_entries, key_cmp, keyed, schedule_entries}
+use Rattle.cif_canon.specs.Differences.{AreDifferentRecords, TurnLeftIntoRight}
+use Rattle.cif_canon.proofs.Words.{Agree, AllKeys, AreClear, AreDifferences, AreDifferentRuns, AreDifferentTiplocs, AreNone, AreSame}
+use Rattle.cif_canon.proofs.Words.{DifferencesParts, EntriesSayTheSame, ExtractParts, HasKey, HasSidedRecord, IsClearExtract}
+use Rattle.cif_canon.proofs.Words.{IsFirstDifference, IsFirstFound, IsOnlyIn, IsSidedRunOf, Left, Permanent, Right, Run, Side, Sided, Terms}
+use Rattle.cif_canon.proofs.Words.{Tiploc, TurnInto, Two, Window, association_entries, at_side, header_window, key_cmp, keyed, of_side}
+use Rattle.cif_canon.proofs.Words.{schedule_entries, sided_records}
 use Rattle.cif_canon.proofs.DifferentTiplocs.{has-or-not, no-tiploc, with_side}
 use Rattle.cif_canon.proofs.FoundRecords.{no-member}
 use Rattle.cif_canon.proofs.MergedSides.{from-side, side-member}

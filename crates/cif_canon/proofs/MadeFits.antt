@@ -14,10 +14,9 @@ use Rattle.cif_records.specs.declared.detail.Detail.{Detail}
 use Rattle.cif_records.proofs.Headers as headers
 use Rattle.cif_weeks.specs.Aligned.{IsAligned}
 use Rattle.cif_weeks.specs.declared.form.Form.TheVariants.{One}
-use Rattle.cif_canon.specs.Steps.Records.{IsRunOf}
-use Rattle.cif_canon.proofs.Words.{AreCanonical, AssocBody, AssocKey, Association, BodyParts, ExtractParts, FitsColumns, Form, IsWithin, P}
-use Rattle.cif_canon.proofs.Words.{Permanent, Row, Run, Schedule, Terms, Tiploc, Two, Window, association_entries, association_entry}
-use Rattle.cif_canon.proofs.Words.{basic_rows, schedule_entries, schedule_entry, tables_of, tiploc_table, trailer_table}
+use Rattle.cif_canon.proofs.Words.{AreCanonical, AssocBody, AssocKey, Association, BodyParts, ExtractParts, FitsColumns, Form, IsRunOf}
+use Rattle.cif_canon.proofs.Words.{IsWithin, P, Permanent, Row, Run, Schedule, Terms, Tiploc, Two, Window, association_entries}
+use Rattle.cif_canon.proofs.Words.{association_entry, basic_rows, schedule_entries, schedule_entry, tables_of, tiploc_table, trailer_table}
 use Rattle.cif_canon.proofs.MadeExtract.{IsDated, associations_of, schedules_of}
 
 -- ---- a permanent record with dates and a mask of its own

@@ -5,9 +5,8 @@ use Rattle.cif_extract.specs.Body.{KeepAll}
 use Rattle.cif_extract.specs.BodyParts.{body_records}
 use Rattle.cif_extract.proofs.WrittenLines.{kept_plain}
 use Rattle.cif_records.specs.Record.{record_table}
-use Rattle.cif_canon.specs.Differences.{mark, marked_text}
-use Rattle.cif_canon.specs.declared.listed_differences.Side.{Side}
-use Rattle.cif_canon.proofs.Words.{BodyParts, P, basic_rows, plain_line, schedule_lines}
+use Rattle.cif_canon.specs.Differences.{mark}
+use Rattle.cif_canon.proofs.Words.{BodyParts, P, Side, basic_rows, marked_text, plain_line, schedule_lines}
 
 -- the text of one line
 pub marked-line : (side : Side) (line : List ℕ) → mark side ++ (line ++ (10 ∷ [])) ≡ marked_text side (line ∷ [])

@@ -1,19 +1,15 @@
 -- Runs of both sides in one list.
-use Rattle.std.proofs.Common.{◌≡◌, ◌⊎◌, inl, inr, zero, suc, ◌+◌, ◌<◌, ◌≤◌, Bool, true, false, List, [], ◌∷◌, ◌++◌, Some, None}
-use Rattle.std.proofs.Common.{refl, sym, ap, ◌∙◌, subst, arith, get_or, length, ⊎_elim, append_assoc, append-nil, true≢false}
+use Rattle.std.proofs.Common.{◌≡◌, ◌⊎◌, inl, inr, zero, suc, ◌+◌, ◌<◌, ◌≤◌, Bool, true, false, List, [], ◌∷◌, ◌++◌, Some, None, refl, sym}
+use Rattle.std.proofs.Common.{ap, ◌∙◌, subst, arith, get_or, length, ⊎_elim, append_assoc, append-nil, true≢false}
 use Rattle.std.proofs.Math.Nat.{eq-or-lt_of_le}
 use Rattle.std.specs.Prelude.{AllPairs, Contains, if◌then◌else◌}
 use Rattle.std.proofs.lemmas.List.Elements.{Contains-get_or, Contains-push_cases}
 use Rattle.std.proofs.lemmas.List.Quantifiers.{all_pairs_push}
 use Rattle.cif_calendar.proofs.Elements.{Contains-first, Contains-rest, Contains-cases}
-use Rattle.cif_weeks.specs.declared.run.Run.{Run}
 use Rattle.cif_calendar.proofs.RisingLists.{Contains-none}
-use Rattle.cif_canon.specs.Differences.{at_side, is_side, of_side}
-use Rattle.cif_canon.specs.Steps.OnlySides.{AreAppendedRuns, AreMerging, AreRisingRuns, HasMovedOf}
-use Rattle.cif_canon.specs.Steps.OnlySides.{IsFirstSide, RunComesBefore}
-use Rattle.cif_canon.specs.declared.listed_differences.Side.{Side}
-use Rattle.cif_canon.specs.declared.listed_differences.Side.TheVariants.{Left, Right}
-use Rattle.cif_canon.specs.declared.listed_differences.Sided.{Sided}
+use Rattle.cif_canon.specs.Steps.OnlySides.{IsFirstSide}
+use Rattle.cif_canon.proofs.Words.{AreAppendedRuns, AreMerging, AreRisingRuns, HasMovedOf, Left, Right, Run, RunComesBefore, Side, Sided}
+use Rattle.cif_canon.proofs.Words.{at_side, is_side, of_side}
 
 -- ---- lists with sides
 
@@ -203,7 +199,9 @@ moved-smaller Right l r l' r' old new (moved, same) = rw (same, moved.items_are)
 
 pub nothing-first : (l r : List Run) → IsFirstSide l r None → (l ≡ []) × (r ≡ [])
 nothing-first [] [] h = (refl, refl)
-nothing-first _ _ h = absurd h
+nothing-first [] (y ∷ r) h = absurd h
+nothing-first (x ∷ l) [] h = absurd h
+nothing-first (x ∷ l) (y ∷ r) h = absurd h
 
 pub merging-end : (lefts rights l r : List Run) (old new : List (Sided Run)) → IsFirstSide l r None →
     AreMerging lefts rights l r old new → AreAppendedRuns lefts rights old new

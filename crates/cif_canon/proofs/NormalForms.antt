@@ -14,15 +14,14 @@ use Rattle.cif_records.specs.HeaderColumns.{with_window}
 use Rattle.cif_records.specs.Association.{association_table}
 use Rattle.cif_records.proofs.Headers as headers
 use Rattle.cif_weeks.proofs.PermanentEntries.{canonical-clear}
-use Rattle.cif_canon.specs.Accepted.{IsAccepted, IsClearExtract}
-use Rattle.cif_canon.specs.Asked.{AskedDatesAreWithin, IsNarrowed, header_window, nothing_asked, window_asked}
+use Rattle.cif_canon.specs.Accepted.{IsAccepted}
+use Rattle.cif_canon.specs.Asked.{nothing_asked}
 use Rattle.cif_canon.specs.Canonical.{IsCanonicalExtract, IsCanonicalOf}
-use Rattle.cif_canon.specs.Meaning.{Agree, SameMeaning}
 use Rattle.cif_canon.specs.NormalForm.{IsNormalFormAgain, IsNormalFormOf, IsReachedFromForms, IsUnique, after_first_line}
-use Rattle.cif_canon.specs.declared.asked.Asked.{Asked}
 use Rattle.cif_extract.proofs.OneExtract.{same_extract_parts}
-use Rattle.cif_canon.proofs.Words.{AreClear, Association, BytesSpell, ExtractParts, FitsColumns, Form, Header, IsWithin, Schedule, Tiploc}
-use Rattle.cif_canon.proofs.Words.{Window, extract_text, header_table, key_cmp, plain_line, tables_of, tiploc_table, trailer_table}
+use Rattle.cif_canon.proofs.Words.{Agree, AreClear, Asked, AskedDatesAreWithin, Association, BytesSpell, ExtractParts, FitsColumns, Form}
+use Rattle.cif_canon.proofs.Words.{Header, IsClearExtract, IsNarrowed, IsWithin, SameMeaning, Schedule, Tiploc, Window, extract_text}
+use Rattle.cif_canon.proofs.Words.{header_table, header_window, key_cmp, plain_line, tables_of, tiploc_table, trailer_table, window_asked}
 use Rattle.cif_canon.proofs.SameExtracts.{agree-sym, agree-trans, agree-with_header, one-window, same-sym, same-trans}
 use Rattle.cif_canon.proofs.Unique.{extracts-unique, one-associations, one-schedules, one-tiplocs}
 

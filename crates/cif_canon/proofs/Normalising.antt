@@ -7,16 +7,13 @@ use Rattle.cif_columns.proofs.GivenLinesLaws.{known_so}
 use Rattle.cif_extract.specs.declared.fault.Clash.TheVariants.{Association, Train}
 use Rattle.cif_extract.specs.declared.fault.Fault.TheVariants as fault
 use Rattle.cif_extract.proofs.SpelledBytes.{one_spelled, spelled-refused}
-use Rattle.cif_canon.specs.Accepted.{IsAcceptedWithin, IsClearExtract, SpellsNarrowed}
-use Rattle.cif_canon.specs.Asked.{AskedDatesAreWithin, IsNarrowed, IsNarrowingFault, window_asked}
-use Rattle.cif_canon.specs.Canon.{CanonParts, IsCanonOf}
-use Rattle.cif_canon.specs.Fault.{IsCanonFault, IsDeviceOrMemory, IsFirstClashIn, IsNormaliseFault, IsOfCheck, IsOfNormalise}
-use Rattle.cif_canon.specs.Fault.{IsOfReadNarrowed, IsReadNarrowedFault}
+use Rattle.cif_canon.specs.Accepted.{IsAcceptedWithin, SpellsNarrowed}
+use Rattle.cif_canon.specs.Fault.{IsDeviceOrMemory, IsNormaliseFault, IsReadNarrowedFault}
 use Rattle.cif_canon.specs.Normalised.{FaultWrites, IsNormalised, Normalises}
-use Rattle.cif_canon.specs.declared.asked.Asked.{Asked}
-use Rattle.cif_canon.specs.declared.canonical_form.Counts.{Counts}
 use Rattle.cif_extract.proofs.FirstRefusals.{if_error}
-use Rattle.cif_canon.proofs.Words.{BytesSpellWithin, Clash, ExtractParts, Fault, Form, Sink, Unread}
+use Rattle.cif_canon.proofs.Words.{Asked, AskedDatesAreWithin, BytesSpellWithin, CanonParts, Clash, Counts, ExtractParts, Fault, Form}
+use Rattle.cif_canon.proofs.Words.{IsCanonFault, IsCanonOf, IsClearExtract, IsFirstClashIn, IsNarrowed, IsNarrowingFault, IsOfCheck}
+use Rattle.cif_canon.proofs.Words.{IsOfNormalise, IsOfReadNarrowed, Sink, Unread, window_asked}
 use Rattle.cif_canon.proofs.HandedFaults.{at-fault, known-fault}
 use Rattle.cif_canon.proofs.NormalForms.{one-narrowed}
 
@@ -31,8 +28,9 @@ module _ (max : ℕ) (asked : Asked) (bytes : List ℕ) where
   -- bytes that aren't read
   pub narrowed-fault : (after : Unread) (f : Fault) → IsReadNarrowedFault max asked bytes after f →
       IsNormaliseFault max asked bytes after f
+  narrowed-fault after (fault.Ambiguous clash) h = absurd h
+  narrowed-fault after fault.Write h = absurd h
   narrowed-fault after _ h = h
-  narrowed-fault _ _ h = absurd h
 
   -- an extract without a canonical form
   pub canon-fault : (after : Unread) (x : ExtractParts) → SpellsNarrowed max asked x bytes → (f : Fault) → IsCanonFault x f →
@@ -191,5 +189,7 @@ module _ (max : ℕ) (asked : Asked) (start : Option (List ℕ)) (after : Unread
 
 -- a fault of `read_narrowed` is one of `check` and of `normalise`
 pub narrowed-of_check : (max : ℕ) (f : Fault) → IsOfReadNarrowed max f → IsOfCheck max f × IsOfNormalise max f
+narrowed-of_check max (fault.Ambiguous clash) h = absurd h
+narrowed-of_check max fault.WindowsDiffer h = absurd h
+narrowed-of_check max fault.Write h = absurd h
 narrowed-of_check max _ h = (h, h)
-narrowed-of_check _ _ h = absurd h

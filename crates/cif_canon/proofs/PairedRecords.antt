@@ -11,17 +11,11 @@ use Rattle.std.specs.declared.cmp.Ordering.{Ordering}
 use Rattle.std.proofs.lemmas.Bool.Decides.{Decides-and, Decides-eqb}
 use Rattle.std.proofs.lemmas.List.{take_all}
 use Rattle.std.proofs.lemmas.List.Folds.{flat_map-map}
-use Rattle.cif_canon.specs.Appended.{IsAppended}
-use Rattle.cif_canon.specs.Differences.{DifferencesParts, at_side, is_side}
-use Rattle.cif_canon.specs.Lines.{ScheduleLines, association_plain, line_of_tiploc, schedule_plain}
-use Rattle.cif_canon.specs.Pairs.{ArePair, Listed, are_pair, association_lines, by_pairs, listed_as, schedule_lines, tiploc_lines}
+use Rattle.cif_canon.specs.Pairs.{listed_as, schedule_lines}
 use Rattle.cif_canon.specs.Steps.ByPairs.{HasWrittenFirst, IsListedFirst, listed_tiploc}
-use Rattle.cif_canon.specs.Steps.Sides.{sided_records, with_record}
-use Rattle.cif_canon.specs.Steps.Texts.{record_at}
-use Rattle.cif_canon.specs.declared.listed_differences.Side.{Side}
-use Rattle.cif_canon.specs.declared.listed_differences.Side.TheVariants.{Left, Right}
-use Rattle.cif_canon.specs.declared.listed_differences.Sided.{Sided}
-use Rattle.cif_canon.proofs.Words.{Permanent, Run, Sink, Terms, Tiploc, key_cmp}
+use Rattle.cif_canon.proofs.Words.{ArePair, DifferencesParts, IsAppended, Left, Listed, Permanent, Right, Run, ScheduleLines, Side, Sided}
+use Rattle.cif_canon.proofs.Words.{Sink, Terms, Tiploc, are_pair, association_lines, association_plain, at_side, by_pairs, is_side, key_cmp}
+use Rattle.cif_canon.proofs.Words.{line_of_tiploc, record_at, schedule_plain, sided_records, tiploc_lines, with_record}
 use Rattle.cif_canon.proofs.AppendedTexts.{both, text-is}
 
 -- ---- the test of a pair

@@ -19,10 +19,9 @@ use Rattle.cif_weeks.specs.Applies.{Applies}
 use Rattle.cif_weeks.proofs.JoinedLists.{AllPairs-map, Contains-map, Contains-from_map}
 use Rattle.cif_weeks.proofs.PermanentEntries.{runs-applies}
 use Rattle.cif_calendar.proofs.RisingLists.{not_less}
-use Rattle.cif_canon.specs.Steps.Records.{AreCanonicalRecords}
-use Rattle.cif_canon.specs.Steps.Views.{applies_on}
 use Rattle.cif_canon.specs.Views.{AreRunning}
-use Rattle.cif_canon.proofs.Words.{Form, IsWithin, Permanent, Precedes, Run, Terms, Window, of_key, record_of, weekday_of}
+use Rattle.cif_canon.proofs.Words.{AreCanonicalRecords, Form, IsWithin, Permanent, Precedes, Run, Terms, Window, applies_on, of_key}
+use Rattle.cif_canon.proofs.Words.{record_of, weekday_of}
 use Rattle.cif_canon.proofs.ChosenRecords.{chosen, chosen-from}
 
 -- ---- the test of a day

@@ -1,14 +1,12 @@
 -- Extracts with equal parts, and that saying the same is an equivalence.
-use Rattle.std.proofs.Common.{◌≡◌, ℕ, List, [], ◌∷◌, map, refl, sym, ap, ◌∙◌, subst}
+use Rattle.std.proofs.Common.{◌≡◌, ℕ, List, sym, ap, ◌∙◌, subst}
 use Rattle.cif_calendar.proofs.SayTheSame.{EntriesSayTheSame-refl, EntriesSayTheSame-sym, EntriesSayTheSame-trans}
 use Rattle.cif_extract.proofs.OneExtract.{same_values}
 use Rattle.cif_extract.proofs.Schedules.{same_schedule}
 use Rattle.cif_records.proofs.Associations.{same_association}
 use Rattle.cif_records.proofs.Headers.{same_header}
-use Rattle.cif_canon.specs.Asked.{header_window}
-use Rattle.cif_canon.specs.Meaning.{Agree, SameMeaning}
-use Rattle.cif_canon.proofs.Words.{AssocBody, AssocKey, Association, BodyParts, ExtractParts, Header, Schedule, Terms, Tiploc, Window}
-use Rattle.cif_canon.proofs.Words.{association_entries, association_entry, schedule_entries, schedule_entry}
+use Rattle.cif_canon.proofs.Words.{Agree, AssocBody, AssocKey, Association, BodyParts, ExtractParts, Header, SameMeaning, Schedule, Terms}
+use Rattle.cif_canon.proofs.Words.{Window, association_entries, association_entry, header_window, schedule_entries, schedule_entry}
 
 -- ---- equal parts
 

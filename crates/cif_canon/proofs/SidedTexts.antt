@@ -4,14 +4,8 @@ use Rattle.std.specs.Prelude.{All, IsTrue, ◌↔◌}
 use Rattle.std.specs.List.{AllZip, flat_map}
 use Rattle.std.proofs.lemmas.List.Elements.{All-nil, All-cons, All-head, All-tail}
 use Rattle.std.proofs.lemmas.List.{nil_from_length}
-use Rattle.cif_canon.specs.Differences.{AreNone, at_side}
-use Rattle.cif_canon.specs.Steps.OnlySides.{IsSidedRunOf}
-use Rattle.cif_canon.specs.Steps.Sides.{HasSidedRecord, sided_records, sided_run_text, with_record}
-use Rattle.cif_canon.specs.Steps.Texts.{HasRecord, record_at, text_if}
-use Rattle.cif_canon.specs.declared.listed_differences.Side.{Side}
-use Rattle.cif_canon.specs.declared.listed_differences.Side.TheVariants.{Left, Right}
-use Rattle.cif_canon.specs.declared.listed_differences.Sided.{Sided}
-use Rattle.cif_canon.proofs.Words.{AssocBody, AssocKey, BodyParts, Permanent, Run, Terms, Tiploc}
+use Rattle.cif_canon.proofs.Words.{AreNone, AssocBody, AssocKey, BodyParts, HasRecord, HasSidedRecord, IsSidedRunOf, Left, Permanent, Right}
+use Rattle.cif_canon.proofs.Words.{Run, Side, Sided, Terms, Tiploc, at_side, record_at, sided_records, sided_run_text, text_if, with_record}
 use Rattle.cif_canon.proofs.RunTexts.{record-of_entry, record-within}
 
 module _ {K B : Type 0} (xs ys : List (K × Terms B)) where

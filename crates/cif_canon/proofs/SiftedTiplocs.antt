@@ -1,6 +1,6 @@
 -- The locations that only one of two rising lists has are found one by one.
-use Rattle.std.proofs.Common.{◌≡◌, ◌⊎◌, inl, inr, ◌+◌, ◌<◌, List, [], ◌∷◌, ◌++◌, Some, None, length, drop}
-use Rattle.std.proofs.Common.{refl, sym, ap, subst, arith, ⊎_elim, get_or, take, ◌-◌}
+use Rattle.std.proofs.Common.{◌≡◌, ◌⊎◌, inl, inr, ◌+◌, ◌<◌, List, [], ◌∷◌, ◌++◌, Some, None, length, drop, refl, sym, ap, subst, arith}
+use Rattle.std.proofs.Common.{⊎_elim, get_or, take, ◌-◌}
 use Rattle.std.proofs.lemmas.List.{length-drop, take_all}
 use Rattle.std.specs.Prelude.{AllPairs, Contains, ◌↔◌}
 use Rattle.std.specs.Cmp.Lexicographic.{nat_list_cmp_total}
@@ -8,14 +8,9 @@ use Rattle.std.specs.declared.cmp.Ordering.TheVariants.{Less, Equal, Greater}
 use Rattle.std.proofs.lemmas.List.Elements.{Contains-append_left, Contains-get_or, Contains-push, Contains-push_cases}
 use Rattle.std.proofs.lemmas.List.Quantifiers.{all_pairs_push}
 use Rattle.cif_calendar.proofs.Elements.{Contains-first, Contains-rest, Contains-cases}
-use Rattle.cif_records.specs.declared.tiploc.Tiploc.{Tiploc}
 use Rattle.cif_calendar.proofs.RisingLists.{Contains-none}
-use Rattle.cif_canon.specs.Differences.{AreDifferentTiplocs, IsOnlyIn, at_side}
-use Rattle.cif_canon.specs.Steps.OnlySides.{AreSifting, HasMovedOf, IsFirstOrder}
-use Rattle.cif_canon.specs.Steps.Tiplocs.{AreDistinct}
-use Rattle.cif_canon.specs.declared.listed_differences.Side.{Side}
-use Rattle.cif_canon.specs.declared.listed_differences.Side.TheVariants.{Left, Right}
-use Rattle.cif_canon.specs.declared.listed_differences.Sided.{Sided}
+use Rattle.cif_canon.proofs.Words.{AreDifferentTiplocs, AreDistinct, AreSifting, HasMovedOf, IsFirstOrder, IsOnlyIn, Left, Right, Side}
+use Rattle.cif_canon.proofs.Words.{Sided, Tiploc, at_side}
 use Rattle.cif_canon.proofs.DifferentTiplocs.{Before, before-greater, equal-tiplocs, not-itself, with_side}
 use Rattle.cif_canon.proofs.MergedSides.{from-sides, pairs-head, pairs-tail, to-sides}
 
@@ -80,7 +75,9 @@ lesser side x own (z ∷ theirs) h rising y in' = ⊎_elim
 
 pub nothing-first : (l r : List Tiploc) → IsFirstOrder l r None → (l ≡ []) × (r ≡ [])
 nothing-first [] [] h = (refl, refl)
-nothing-first _ _ h = absurd h
+nothing-first [] (y ∷ r) h = absurd h
+nothing-first (x ∷ l) [] h = absurd h
+nothing-first (x ∷ l) (y ∷ r) h = absurd h
 
 -- ---- one step
 
@@ -189,6 +186,9 @@ module _ (lefts rights : List Tiploc) where
     pub passed-both : (l r : List Tiploc) → IsFirstOrder l r (Some Equal) → AreSifting lefts rights l r found →
         (l' r' : List Tiploc) → l' ≡ drop 1 l → r' ≡ drop 1 r →
         AreSifting lefts rights l' r' found × (length l' + length r' < length l + length r)
+    passed-both [] [] h a l' r' e f = absurd h
+    passed-both [] (y ∷ r) h a l' r' e f = absurd h
+    passed-both (x ∷ l) [] h a l' r' e f = absurd h
     passed-both (x ∷ l) (y ∷ r) h a l' r' e f =
         let same : x ≡ y = equal-tiplocs x y h in (
           subst (λ (z : List Tiploc). AreSifting lefts rights z r' found) (sym e)
@@ -197,7 +197,6 @@ module _ (lefts rights : List Tiploc) where
           let one : length l' ≡ length l = ap (λ (z : List Tiploc). length z) e in
               let other : length r' ≡ length r = ap (λ (z : List Tiploc). length z) f in omega (arith, one, other),
         )
-    passed-both _ _ h _ _ _ _ _ = absurd h
 
     -- in the end those that are found are all
     sifting-all : (ls rs : List Tiploc) → AreDistinct ls lefts → AreDistinct rs rights → AreSifting lefts rights [] [] found →

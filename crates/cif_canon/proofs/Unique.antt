@@ -10,12 +10,10 @@ use Rattle.cif_records.proofs.Headers.{same_header}
 use Rattle.cif_weeks.proofs.PermanentEntries.{same-meaning}
 use Rattle.cif_calendar.proofs.RisingLists.{IsOneWay, same_members, less_one_way}
 use Rattle.cif_weeks.proofs.UniqueByKey.{unique_same}
-use Rattle.cif_canon.specs.Asked.{header_window}
 use Rattle.cif_canon.specs.Canonical.{AreCanonicalEntries, IsCanonicalExtract}
-use Rattle.cif_canon.specs.Meaning.{Agree, SameMeaning}
 use Rattle.cif_extract.proofs.OneExtract.{same_extract_parts}
-use Rattle.cif_canon.proofs.Words.{AssocKey, EntriesSayTheSame, ExtractParts, Form, Terms, Tiploc, Window, association_entries, key_cmp}
-use Rattle.cif_canon.proofs.Words.{permanent_entries, schedule_entries}
+use Rattle.cif_canon.proofs.Words.{Agree, AssocKey, EntriesSayTheSame, ExtractParts, Form, SameMeaning, Terms, Tiploc, Window}
+use Rattle.cif_canon.proofs.Words.{association_entries, header_window, key_cmp, permanent_entries, schedule_entries}
 use Rattle.cif_canon.proofs.SameExtracts.{one-window, same-associations, same-schedules}
 
 module _ {K B : Type 0} (cmp : K → K → Ordering) (total : IsTotalOrder cmp) (form : Form) (window : Window) where

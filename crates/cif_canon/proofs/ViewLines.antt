@@ -6,12 +6,12 @@ use Rattle.std.proofs.lemmas.Grind.{flat_map-append}
 use Rattle.std.proofs.lemmas.List.{at_drop_all, at_drop_more}
 use Rattle.std.proofs.lemmas.List.Elements.{All-cons, All-nil, All-replicate}
 use Rattle.cif_columns.specs.Line.{ArePrintable, IsPrintable}
-use Rattle.cif_canon.specs.Fields.{AreFields, CanBeShown, Field, after, century, fields_text, lead, led, line_of, long_date, nothing, separator, shown}
+use Rattle.cif_canon.specs.Fields.{AreFields, Field, after, century, fields_text, lead, led, line_of, long_date, nothing, separator, shown}
 use Rattle.cif_canon.specs.Fields.{width, width_of}
 use Rattle.cif_canon.specs.declared.rows.Format.{Format}
 use Rattle.cif_canon.specs.declared.rows.Format.TheVariants.{Text, Tsv}
 use Rattle.cif_canon.specs.declared.rows.Shape.{Shape}
-use Rattle.cif_canon.specs.declared.rows.Shape.TheVariants.{Date, Trimmed, Whole}
+use Rattle.cif_canon.specs.declared.rows.Shape.TheVariants.{Trimmed}
 
 module _ (format : Format) where
   -- fields behind fields

@@ -17,7 +17,8 @@ pub use Rattle.cif_records.specs.declared.tiploc.Tiploc.{Tiploc}
 pub use Rattle.cif_extract.specs.BodyParts.{BodyParts}
 pub use Rattle.cif_extract.specs.ExtractParts.{ExtractParts, extract_parts}
 pub use Rattle.cif_extract.specs.SpellsExtract.{BytesSpell, BytesSpellWithin}
-pub use Rattle.cif_extract.specs.Texts.{FitsColumns, extract_text, schedule_lines, tables_of}
+pub use Rattle.cif_extract.specs.Texts.{FitsColumns, extract_text, tables_of}
+unfoldable pub use Rattle.cif_extract.specs.Texts.{schedule_lines}
 pub use Rattle.cif_extract.specs.declared.extract.Schedule.{Schedule}
 pub use Rattle.cif_extract.specs.declared.fault.Clash.{Clash}
 pub use Rattle.cif_extract.specs.declared.fault.Fault.{Fault}
@@ -40,3 +41,32 @@ pub use Rattle.cif_weeks.specs.Window.{IsWithin, Window, window_from}
 pub use Rattle.cif_weeks.specs.declared.form.Form.{Form}
 pub use Rattle.cif_weeks.specs.declared.form.Form.TheVariants.{Two}
 pub use Rattle.cif_weeks.specs.declared.run.Run.{Run}
+pub use Rattle.cif_canon.specs.Accepted.{IsClearExtract}
+pub use Rattle.cif_canon.specs.Appended.{IsAppended}
+pub use Rattle.cif_canon.specs.Asked.{AskedDatesAreWithin, IsNarrowed, IsNarrowingFault, header_window, window_asked}
+pub use Rattle.cif_canon.specs.Canon.{CanonParts, IsCanonOf}
+pub use Rattle.cif_canon.specs.Comparison.{IsCompareFault, IsFirstDifference}
+pub use Rattle.cif_canon.specs.Differences.{AreDifferences, AreDifferentTiplocs, AreNone, ComesBefore, DifferencesParts, IsOnlyIn, OnlySays}
+pub use Rattle.cif_canon.specs.Differences.{TurnInto, at_side, is_side, marked_text, marked_tiploc, of_side}
+pub use Rattle.cif_canon.specs.Fault.{IsCanonFault, IsFirstClashIn, IsOfCheck, IsOfNormalise, IsOfReadNarrowed}
+pub use Rattle.cif_canon.specs.Lines.{ScheduleLines, association_plain, line_of_tiploc, lines_of, schedule_plain}
+pub use Rattle.cif_canon.specs.Meaning.{Agree, SameMeaning}
+pub use Rattle.cif_canon.specs.Pairs.{ArePair, Listed, are_pair, association_lines, by_pairs, tiploc_lines}
+pub use Rattle.cif_canon.specs.Steps.Differences.{AreAlikeBy, HoldsFrom}
+pub use Rattle.cif_canon.specs.Steps.OnlySides.{AreAppendedRuns, AreDifferentRuns, AreMerging, AreOnlyRuns, AreRisingRuns, AreSame}
+pub use Rattle.cif_canon.specs.Steps.OnlySides.{AreSifting, HasMovedOf, IsFirstFound, IsFirstOrder, IsOnlySource, IsSidedRunOf}
+pub use Rattle.cif_canon.specs.Steps.OnlySides.{RunComesBefore}
+pub use Rattle.cif_canon.specs.Steps.Records.{AreCanonicalRecords, AreRunsOf, AreRunsOfKey, IsKeyFault, IsRecordsFault, IsRunOf}
+pub use Rattle.cif_canon.specs.Steps.Sides.{HasSidedRecord, sided_records, sided_run_text, with_record}
+pub use Rattle.cif_canon.specs.Steps.Texts.{HasRecord, association_run_text, numbered_text, record_at, run_text, schedule_run_text}
+pub use Rattle.cif_canon.specs.Steps.Texts.{schedule_text, text_if, tiploc_text}
+unfoldable pub use Rattle.cif_canon.specs.Steps.Texts.{canon_lines, canon_text}
+pub use Rattle.cif_canon.specs.Steps.Tiplocs.{AreDistinct}
+pub use Rattle.cif_canon.specs.Steps.Views.{applies_on, listed_of, listed_on}
+pub use Rattle.cif_canon.specs.Views.{DayTexts, TrainTexts}
+pub use Rattle.cif_canon.specs.declared.asked.Asked.{Asked}
+pub use Rattle.cif_canon.specs.declared.canonical_form.Counts.{Counts}
+pub use Rattle.cif_canon.specs.declared.differing.Extent.TheVariants.{AllKeys}
+pub use Rattle.cif_canon.specs.declared.listed_differences.Side.{Side}
+pub use Rattle.cif_canon.specs.declared.listed_differences.Side.TheVariants.{Left, Right}
+pub use Rattle.cif_canon.specs.declared.listed_differences.Sided.{Sided}

@@ -3,8 +3,7 @@ use Rattle.std.proofs.Common.{ℕ, Bool, true, false, List, ◌∷◌, ◌++◌,
 use Rattle.cif_views.specs.AllFields.{HasAll, table_with}
 use Rattle.cif_views.specs.Explanation.{explanation_names, mark_columns, said_of_association, said_of_train, terms_fields}
 use Rattle.cif_views.specs.Listing.{association_fields_of, date_field, day_names}
-use Rattle.cif_views.specs.declared.marks.Mark.{Mark}
-use Rattle.cif_views.proofs.Words.{AssocBody, AssocKey, BodyParts, Terms, Trimmed, Tsv, led, no_association, no_train}
+use Rattle.cif_views.proofs.Words.{AssocBody, AssocKey, BodyParts, Mark, Terms, Trimmed, Tsv, led, no_association, no_train}
 
 pub all-of_association : (calls : Bool) (d : ℕ) (e : AssocKey × AssocBody) →
     HasAll (day_names (table_with calls)) (association_fields_of (table_with calls) (date_field d) e)

@@ -1,18 +1,16 @@
 -- Where no field of a pair has a row, what stands in the columns of all its fields is the same.
-use Rattle.std.proofs.Common.{◌≡◌, ℕ, zero, suc, ◌+◌, ◌-◌, ◌<◌, ◌≤◌, Bool, true, false, List, [], ◌∷◌, ◌++◌, codes, cond, drop, length, ◌∙◌}
+use Rattle.std.proofs.Common.{◌≡◌, ℕ, ◌+◌, ◌-◌, ◌<◌, ◌≤◌, Bool, true, false, List, [], ◌∷◌, ◌++◌, codes, cond, drop, length, ◌∙◌}
 use Rattle.std.proofs.Common.{ap, ap₂, arith, length-append, map, nat_eq, refl, replicate, subst, sym, take}
 use Rattle.std.specs.Prelude.{◌&&◌, nat_le}
 use Rattle.std.specs.Cmp.Lexicographic.{bytes_decides, pointwise}
-use Rattle.std.proofs.lemmas.Bool.{and_parts, eqb-true, leb-true}
+use Rattle.std.proofs.lemmas.Bool.{and_parts, leb-true}
 use Rattle.std.proofs.lemmas.List.{drop-take, length-take-le, take-take}
-use Rattle.cif_columns.specs.Field.{FieldValue, activity_codes, date, exactly, indicator, public_time, weekdays, working_time}
-use Rattle.cif_columns.specs.Lines.{is_space, used, used_with}
+use Rattle.cif_columns.specs.Field.{FieldValue}
+use Rattle.cif_columns.specs.Lines.{used}
 use Rattle.cif_columns.proofs.KeptLines.{trimmed as widened, used_few}
 use Rattle.cif_columns.proofs.PlainLines.{length-columns}
-use Rattle.cif_views.specs.DifferenceTable.{Stands, differing_row, differing_rows}
-use Rattle.cif_views.specs.Tables.{TableFields, row_fields}
-use Rattle.cif_views.proofs.Words.{AllStandIn, Field, IsLine, Row, StandsIn, Trimmed, Tsv, columns, fields_text, line_of, shown, spare}
-use Rattle.cif_views.proofs.Words.{text, trimmed}
+use Rattle.cif_views.proofs.Words.{AllStandIn, Field, IsLine, Row, Stands, StandsIn, TableFields, Trimmed, Tsv, columns, differing_row}
+use Rattle.cif_views.proofs.Words.{differing_rows, fields_text, line_of, row_fields, shown, spare, trimmed}
 
 -- ---- rows
 

@@ -7,16 +7,12 @@ use Rattle.std.specs.Cmp.Lexicographic.{bytes_decides, pointwise}
 use Rattle.std.proofs.lemmas.Bool.{and_parts, false≢true}
 use Rattle.std.proofs.lemmas.List.{take-take}
 use Rattle.cif_records.specs.Kind.{is_identity, kinds}
-use Rattle.cif_views.specs.DifferenceTable.{Stands, differing_row, differing_rows, own_fields}
-use Rattle.cif_views.specs.Steps.DifferenceRows.{are_named, field_row, fields_of_kind, head_fields, is_named, lines_rows, named_fields}
-use Rattle.cif_views.specs.Steps.DifferenceRows.{rows_of_place, same_places}
-use Rattle.cif_views.specs.Steps.TableRows.{call_fields_of}
-use Rattle.cif_views.specs.Tables.{Numbered, TableFields, call_fields, is_call, is_change, journey_kind, kind_of_line, names, number}
-use Rattle.cif_views.specs.Tables.{row_fields, text_at}
-use Rattle.cif_views.specs.declared.difference_table.RowKind.{RowKind}
-use Rattle.cif_views.specs.declared.tables.JourneyKind.{JourneyKind}
-use Rattle.cif_views.specs.declared.tables.JourneyKind.TheVariants.{Change, Origin, Other, Stop, Terminus}
-use Rattle.cif_views.proofs.Words.{Field, Trimmed, Tsv, after, columns, line_of, nothing, shown, trimmed}
+use Rattle.cif_views.specs.Steps.DifferenceRows.{are_named, field_row, fields_of_kind, is_named}
+use Rattle.cif_views.specs.Tables.{names}
+use Rattle.cif_views.proofs.Words.{Change, Field, JourneyKind, Numbered, Origin, Other, RowKind, Stands, Stop, TableFields, Terminus}
+use Rattle.cif_views.proofs.Words.{Trimmed, Tsv, after, call_fields, call_fields_of, columns, differing_row, differing_rows, head_fields}
+use Rattle.cif_views.proofs.Words.{is_call, is_change, journey_kind, kind_of_line, line_of, lines_rows, named_fields, nothing, number}
+use Rattle.cif_views.proofs.Words.{own_fields, row_fields, rows_of_place, same_places, shown, text_at, trimmed}
 use Rattle.cif_views.proofs.DifferenceRows.{head-row}
 use Rattle.cif_views.proofs.TableRows.{HasPushed, one-pushed, origin-fields, stop-fields, terminus-fields}
 

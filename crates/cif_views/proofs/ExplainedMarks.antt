@@ -9,9 +9,8 @@ use Rattle.std.proofs.lemmas.Bool.{cases_lt}
 use Rattle.cif_calendar.proofs.Elements.{Contains-cases, Contains-first, Contains-rest}
 use Rattle.cif_calendar.proofs.Positions.{at-contains, contains-at}
 use Rattle.cif_views.specs.Explanation.{AreExplained, Explained, HasWinningMark, IsMarked, SomeApplies}
-use Rattle.cif_views.specs.declared.marks.Mark.{Mark}
 use Rattle.cif_views.specs.declared.marks.Mark.TheVariants as mark
-use Rattle.cif_views.proofs.Words.{AreLawful, IsClear, Records, Runs, Terms, Wins, of_key, precedence}
+use Rattle.cif_views.proofs.Words.{AreLawful, IsClear, Mark, Records, Runs, Terms, Wins, of_key, precedence}
 
 -- what compares as it does the other way round compares equal
 pub equal-itself : (o : Ordering) → o ≡ ordering_reverse o → o ≡ Equal

@@ -6,9 +6,8 @@ use Rattle.std.specs.Ordering.{nat_cmp}
 use Rattle.cif_weeks.specs.Window.{IsWithin}
 use Rattle.cif_views.specs.Explanation.{AreExplained, Explained, IsAssociationOf, IsExplanation, IsTrain, explained_association_line}
 use Rattle.cif_views.specs.Explanation.{explained_train_line, explanation_heading}
-use Rattle.cif_views.specs.Steps.Explanation.{AreMarked, ArePlacedInOrder, Placed}
-use Rattle.cif_views.proofs.Words.{AssocBody, AssocKey, Association, BodyParts, ExtractParts, Format, Schedule, association_entries}
-use Rattle.cif_views.proofs.Words.{header_window, key_cmp, schedule_entries}
+use Rattle.cif_views.proofs.Words.{AreMarked, ArePlacedInOrder, AssocBody, AssocKey, Association, BodyParts, ExtractParts, Format, Placed}
+use Rattle.cif_views.proofs.Words.{Schedule, association_entries, header_window, key_cmp, schedule_entries}
 use Rattle.cif_views.proofs.Explaining.{explained}
 
 pub explanation : (format : Format) (x : ExtractParts) (u : List ℕ) (d : ℕ) → IsWithin (header_window x.header) d

@@ -23,12 +23,10 @@ use Rattle.std.proofs.lemmas.List.Sorted.{All-permutation, Contains-permutation,
 use Rattle.cif_calendar.proofs.Positions.{at-contains, contains-at}
 use Rattle.cif_weeks.proofs.JoinedLists.{AllPairs-map, Contains-from_map, Contains-map}
 use Rattle.cif_views.specs.Explanation.{AreExplained, Explained, IsMarked}
-use Rattle.cif_views.specs.Steps.Explanation.{AreMarked, ArePlacedBelow, ArePlacedInOrder, IsFirstOfKey, IsLeast, IsLevel, IsLike}
-use Rattle.cif_views.specs.Steps.Explanation.{IsMarkAmong, IsMarkAt, IsMarkOf, IsPlaced, IsRisingBy, Placed, marked_as, placed_at}
-use Rattle.cif_views.specs.Steps.Explanation.{placed_cmp, unmarked}
-use Rattle.cif_views.specs.declared.marks.Mark.{Mark}
+use Rattle.cif_views.specs.Steps.Explanation.{IsFirstOfKey, IsLeast, IsLevel, IsMarkAmong, IsPlaced, IsRisingBy, unmarked}
 use Rattle.cif_views.specs.declared.marks.Mark.TheVariants as mark
-use Rattle.cif_views.proofs.Words.{Applies, Terms, Wins, of_key, precedence}
+use Rattle.cif_views.proofs.Words.{Applies, AreMarked, ArePlacedBelow, ArePlacedInOrder, IsLike, IsMarkAt, IsMarkOf, Mark, Placed, Terms}
+use Rattle.cif_views.proofs.Words.{Wins, marked_as, of_key, placed_at, placed_cmp, precedence}
 
 -- ---- the records are found, one entry after another
 

@@ -1,7 +1,7 @@
 -- Where a pair of schedules has no row, their bodies are the same; and so it is with associations.
 use Rattle.std.proofs.Common.{◌≡◌, ℕ, ◌+◌, ◌<◌, Bool, true, false, List, [], ◌∷◌, ◌++◌, Option, None, Some, codes, cond, length, get_or}
 use Rattle.std.proofs.Common.{◌∙◌, ap, ap₂, arith, drop, map, refl, replicate, subst, sym, take}
-use Rattle.std.specs.Prelude.{◌&&◌, IsTrue, nat_le, find}
+use Rattle.std.specs.Prelude.{IsTrue, find}
 use Rattle.std.specs.Cmp.Lexicographic.{bytes_decides}
 use Rattle.std.proofs.lemmas.Bool.{and_parts, false≢true}
 use Rattle.cif_columns.specs.Field.{plain_line, row}

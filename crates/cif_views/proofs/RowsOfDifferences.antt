@@ -10,11 +10,9 @@ use Rattle.std.proofs.lemmas.List.{nil_from_length}
 use Rattle.std.proofs.lemmas.List.Elements.{All-contains, Contains-append_left, Contains-append_right}
 use Rattle.cif_columns.specs.Day.{weekday_of}
 use Rattle.cif_columns.specs.DaysRun.{RunsOn}
-use Rattle.cif_columns.specs.declared.stp.Stp.{Stp}
 use Rattle.cif_extract.specs.Texts.{AllTablesFit, schedule_tables, tables_of}
 use Rattle.cif_extract.proofs.PlainTexts.{fit-back, fit-front, spelled-fits}
 use Rattle.cif_records.specs.Association as aa
-use Rattle.cif_records.specs.Basic.{basic_rows}
 use Rattle.cif_records.specs.Tiploc.{tiploc_table}
 use Rattle.cif_records.specs.Trailer.{trailer_table}
 use Rattle.cif_records.proofs.Headers as headers
@@ -35,13 +33,12 @@ use Rattle.cif_canon.specs.declared.listed_differences.Sided.{Sided}
 use Rattle.cif_canon.proofs.ByPairs.{associations-by_pairs, schedules-by_pairs}
 use Rattle.cif_canon.proofs.MadeFits.{HasTerms, have-terms, permanent-association, permanent-basic}
 use Rattle.cif_canon.proofs.MergedSides.{side-member}
-use Rattle.cif_views.specs.DifferenceTable.{association_head, association_rows, change_of, difference_names, difference_table}
-use Rattle.cif_views.specs.DifferenceTable.{schedule_head, schedule_rows, tiploc_head, tiploc_row}
 use Rattle.cif_views.specs.RowsOfDifferences.{HasRow, HaveRows}
-use Rattle.cif_views.specs.Tables.{names_line}
-use Rattle.cif_views.proofs.Words.{AllFit, AssocBody, AssocKey, Association, BodyParts, Detail, ExtractParts, Left, P, Permanent, Right}
-use Rattle.cif_views.proofs.Words.{Row, Schedule, ScheduleLines, Side, Terms, association_entries, association_entry, association_plain}
-use Rattle.cif_views.proofs.Words.{header_window, key_cmp, nothing, of_key, schedule_entries, schedule_entry, schedule_plain}
+use Rattle.cif_views.proofs.Words.{AllFit, AssocBody, AssocKey, Association, BodyParts, ExtractParts, Left, Permanent, Right}
+use Rattle.cif_views.proofs.Words.{Row, Schedule, ScheduleLines, Side, Terms, association_entries, association_entry, association_head}
+use Rattle.cif_views.proofs.Words.{association_plain, association_rows, change_of, difference_names, difference_table, header_window}
+use Rattle.cif_views.proofs.Words.{key_cmp, names_line, nothing, of_key, schedule_entries, schedule_entry, schedule_head, schedule_plain}
+use Rattle.cif_views.proofs.Words.{schedule_rows, tiploc_head, tiploc_row}
 use Rattle.cif_views.proofs.DifferingCells.{both-none, some-row}
 use Rattle.cif_views.proofs.PairedBodies.{FitsLines, association_line, same-association, same-body}
 

@@ -3,10 +3,8 @@
 use Rattle.std.proofs.Common.{◌+◌, ◌∙◌, ap, arith, get_or, subst, sym}
 use Rattle.std.specs.List.{enumerate_from}
 use Rattle.std.proofs.lemmas.List.FromFn.{length-enumerate_from}
-use Rattle.cif_canon.specs.Appended.{IsAppended}
-use Rattle.cif_canon.specs.Lines.{ScheduleLines, schedule_plain}
-use Rattle.cif_canon.specs.Steps.Texts.{HasRecord, numbered_text}
-use Rattle.cif_canon.proofs.Words.{Schedule, record_of, schedule_entries}
+use Rattle.cif_canon.proofs.Words.{HasRecord, IsAppended, Schedule, ScheduleLines, numbered_text, record_of, schedule_entries}
+use Rattle.cif_canon.proofs.Words.{schedule_plain}
 use Rattle.cif_canon.proofs.AppendedTexts.{all-items, nothing, one-more, text-is}
 use Rattle.cif_canon.proofs.CanonLines.{at-number}
 use Rattle.cif_canon.proofs.RunTexts.{schedule-text}

@@ -5,11 +5,7 @@ use Rattle.std.specs.List.{flat_map}
 use Rattle.std.proofs.lemmas.Bool.Decides.{nat_tests}
 use Rattle.std.proofs.lemmas.List.{nil_from_length}
 use Rattle.std.proofs.lemmas.List.Elements.{All-drop}
-use Rattle.cif_canon.specs.Differences.{at_side}
-use Rattle.cif_canon.specs.Pairs.{by_pairs}
-use Rattle.cif_canon.specs.Steps.Sides.{HasSidedRecord, sided_records}
-use Rattle.cif_canon.specs.declared.listed_differences.Sided.{Sided}
-use Rattle.cif_canon.proofs.Words.{Run, keyed}
+use Rattle.cif_canon.proofs.Words.{HasSidedRecord, Run, Sided, at_side, by_pairs, keyed, sided_records}
 use Rattle.cif_canon.proofs.AppendedTexts.{behind, nothing, text-is}
 use Rattle.cif_canon.proofs.pairs.write_pairs.Goals as goal
 

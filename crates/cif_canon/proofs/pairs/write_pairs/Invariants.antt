@@ -2,11 +2,7 @@
 use Rattle.std.proofs.Common.{◌≡◌, ◌<◌, ◌++◌, List, length}
 use Rattle.std.specs.Prelude.{All}
 use Rattle.std.specs.List.{flat_map}
-use Rattle.cif_canon.specs.Appended.{IsAppended}
-use Rattle.cif_canon.specs.Differences.{at_side}
-use Rattle.cif_canon.specs.Pairs.{Listed, by_pairs}
-use Rattle.cif_canon.specs.Steps.Sides.{HasSidedRecord, sided_records}
-use Rattle.cif_canon.proofs.Words.{Permanent, keyed}
+use Rattle.cif_canon.proofs.Words.{HasSidedRecord, IsAppended, Listed, Permanent, at_side, by_pairs, keyed, sided_records}
 use Rattle.cif_canon.proofs.pairs.write_pairs.Given as goal
 
 abbrev pub invariant-loop-rest : goal.invariant-loop-rest

@@ -3,11 +3,7 @@ use Rattle.std.proofs.Common.{◌++◌, List, ℕ}
 use Rattle.std.specs.Cmp.Lexicographic.{slice_cmp}
 use Rattle.std.specs.List.{flat_map}
 use Rattle.std.specs.Ordering.{nat_cmp}
-use Rattle.cif_canon.specs.Asked.{header_window}
-use Rattle.cif_canon.specs.Steps.Texts.{run_text}
-use Rattle.cif_canon.specs.Steps.Views.{listed_of}
-use Rattle.cif_canon.specs.Views.{TrainTexts}
-use Rattle.cif_canon.proofs.Words.{extract_parts, schedule_entries, schedule_entry}
+use Rattle.cif_canon.proofs.Words.{TrainTexts, extract_parts, header_window, listed_of, run_text, schedule_entries, schedule_entry}
 use Rattle.cif_canon.proofs.AppendedTexts.{both, fault-answered, text-is}
 use Rattle.cif_canon.proofs.RunTexts.{sources-within}
 use Rattle.cif_canon.proofs.ViewTexts.{have-lines, sliced, train-listed, written-so}

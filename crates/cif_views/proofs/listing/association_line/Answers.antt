@@ -4,8 +4,7 @@ use Rattle.std.proofs.Common.{codes, ◌++◌, ◌∙◌}
 use Rattle.cif_canon.specs.Rows.{association_fields}
 use Rattle.cif_canon.proofs.ViewLines.{led-line, row-behind}
 use Rattle.cif_views.specs.Listing.{association_line, no_call}
-use Rattle.cif_views.specs.Steps.Rows.{first_field}
-use Rattle.cif_views.proofs.Words.{Trimmed, lead, no_train}
+use Rattle.cif_views.proofs.Words.{Trimmed, first_field, lead, no_train}
 use Rattle.cif_views.proofs.listing.association_line.Goals as goal
 
 pub returns : goal.returns

@@ -7,8 +7,7 @@ use Rattle.std.proofs.lemmas.List.{length-map, map-append}
 use Rattle.std.proofs.lemmas.List.Sorted.{ranks_by}
 use Rattle.std.proofs.lemmas.Option.{some_pair_parts}
 use Rattle.cif_calendar.proofs.Winning.{terms_at}
-use Rattle.cif_views.specs.Steps.Explanation.{ArePlacedBelow, placed_at, placed_cmp, placed_of}
-use Rattle.cif_views.proofs.Words.{Applies, keyed}
+use Rattle.cif_views.proofs.Words.{Applies, ArePlacedBelow, keyed, placed_at, placed_cmp, placed_of}
 use Rattle.cif_views.proofs.Explaining.{placed-more, placed-no_more, placed-nothing, placed-sorted, placed_total}
 use Rattle.cif_views.proofs.marks.records_on.Goals as goal
 use Rattle.cif_views.proofs.marks.records_on.Goals.{then-is_applying+in_ok-push, else-is_applying}

@@ -2,8 +2,7 @@
 use Rattle.std.proofs.Common.{◌∙◌, ◌++◌, List, ℕ, ap, codes}
 use Rattle.cif_canon.specs.Rows.{train_fields, train_row}
 use Rattle.cif_canon.proofs.AppendedTexts.{text-is}
-use Rattle.cif_views.specs.Steps.Rows.{first_field, row_lines}
-use Rattle.cif_views.proofs.Words.{BodyParts, Trimmed, fields_text, no_association}
+use Rattle.cif_views.proofs.Words.{BodyParts, Trimmed, fields_text, first_field, no_association, row_lines}
 use Rattle.cif_views.proofs.CallTexts.{led-lines}
 use Rattle.cif_views.proofs.listing.LedDayLines.write_train.Goals as goal
 
