@@ -5,15 +5,18 @@ use Rattle.std.specs.List.{AllZip, flat_map}
 use Rattle.std.proofs.lemmas.Grind.{flat_map-append}
 use Rattle.std.proofs.lemmas.List.{map-append}
 use Rattle.std.proofs.lemmas.List.Elements.{All-nil, All-cons, All-head, All-tail}
+use Rattle.std.specs.Cmp.Lexicographic.{slice_cmp}
+use Rattle.std.specs.Ordering.{nat_cmp}
 use Rattle.cif_columns.specs.Contents.{lines_text}
 use Rattle.cif_records.specs.Association.{association_table}
 use Rattle.cif_canon.specs.Steps.Texts.{association_text}
-use Rattle.cif_canon.proofs.Words.{AssocBody, AssocKey, BodyParts, ExtractParts, HasRecord, IsRunOf, Permanent, Row, Run, Terms, Tiploc}
-use Rattle.cif_canon.proofs.Words.{association_entries, association_run_text, canon_text, extract_text, header_table, plain_line, record_at}
-use Rattle.cif_canon.proofs.Words.{schedule_entries, schedule_lines, schedule_run_text, schedule_text, tables_of, text_if, tiploc_table}
-use Rattle.cif_canon.proofs.Words.{tiploc_text, trailer_table}
+use Rattle.cif_canon.proofs.Words.{AreCanonicalRecords, AreDistinct, AssocBody, AssocKey, BodyParts, ExtractParts, Form, HasRecord, IsRunOf}
+use Rattle.cif_canon.proofs.Words.{Permanent, Row, Run, Terms, Tiploc, association_entries, association_run_text, canon_text, extract_text}
+use Rattle.cif_canon.proofs.Words.{header_table, header_window, key_cmp, plain_line, record_at, schedule_entries, schedule_lines}
+use Rattle.cif_canon.proofs.Words.{schedule_run_text, schedule_text, tables_of, text_if, tiploc_table, tiploc_text, trailer_table}
 use Rattle.cif_canon.proofs.MadeExtract.{IsDated, associations_of, schedule_of, schedules_of}
 use Rattle.cif_canon.proofs.RunTexts.{record-of_entry}
+use Rattle.cif_canon.proofs.KeptExtract.{canonical_of, dated-associations, dated-schedules}
 
 -- ---- the runs of records
 
@@ -85,29 +88,25 @@ number-of_schedules (e ∷ es) h = ap suc (number-of_schedules es (All-tail IsDa
 
 -- ---- the whole text
 
-module _ (x : ExtractParts) (tiplocs : List Tiploc) (associations : List Run) (associated : List (AssocKey × Permanent AssocBody))
-    (dated_associations : All IsDated associated)
-    (zip_associations : AllZip (IsRunOf (association_entries x.associations)) associations associated)
-    (schedules : List Run) (scheduled : List (List ℕ × Permanent BodyParts)) (dated_schedules : All IsDated scheduled)
-    (zip_schedules : AllZip (IsRunOf (schedule_entries x.schedules)) schedules scheduled) where
-  pub written-text : canon_text x tiplocs associations schedules ≡ extract_text (record {
-    header = x.header;
-    tiplocs = tiplocs;
-    associations = associations_of associated dated_associations;
-    schedules = schedules_of scheduled dated_schedules;
-  })
+module _ (form : Form) (x : ExtractParts) (tiplocs : List Tiploc) (distinct : AreDistinct x.tiplocs tiplocs) (associations : List Run)
+    (a : AreCanonicalRecords key_cmp form (header_window x.header) (association_entries x.associations) associations) (schedules : List Run)
+    (s : AreCanonicalRecords (slice_cmp nat_cmp) form (header_window x.header) (schedule_entries x.schedules) schedules) where
+  pub written-text : canon_text x tiplocs associations schedules ≡
+      extract_text (canonical_of form x tiplocs distinct associations a schedules s)
   unfolding canon_text
   written-text =
+      let dated_a = dated-associations form x associations a in
+      let dated_s = dated-schedules form x schedules s in
       let head : List ℕ = plain_line (header_table x.header) ++ (10 ∷ []) in
       let end : List ℕ = plain_line trailer_table ++ (10 ∷ []) in
       let first = map tiploc_table tiplocs in
-      let second = map association_table (associations_of associated dated_associations) in
-      let third = flat_map tables_of (schedules_of scheduled dated_schedules) in
+      let second = map association_table (associations_of a.records dated_a) in
+      let third = flat_map tables_of (schedules_of s.records dated_s) in
       let last : List (List Row) = trailer_table ∷ [] in
-      let associations_are = texts-of_runs (association_entries x.associations) association_text associations associated zip_associations
-      ∙ associations-text associated dated_associations in
-      let schedules_are = texts-of_runs (schedule_entries x.schedules) schedule_text schedules scheduled zip_schedules
-      ∙ schedules-text scheduled dated_schedules in
+      let associations_are = texts-of_runs (association_entries x.associations) association_text associations a.records a.runs_of
+      ∙ associations-text a.records dated_a in
+      let schedules_are = texts-of_runs (schedule_entries x.schedules) schedule_text schedules s.records s.runs_of
+      ∙ schedules-text s.records dated_s in
       ap (λ (l : List ℕ). head ++ l)
       (ap (λ (l : List ℕ). l ++ (flat_map (association_run_text (association_entries x.associations)) associations
       ++ (flat_map (schedule_run_text (schedule_entries x.schedules)) schedules ++ end))) (tiplocs-text tiplocs)
