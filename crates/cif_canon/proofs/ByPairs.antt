@@ -1,14 +1,7 @@
 -- The function takes the pairs of records that are in order: nothing stands between the two of a pair.
 use Rattle.std.proofs.Common.{◌≡◌, inl, inr, Bool, true, false, List, [], ◌∷◌, None, Some, ap, arith, refl, subst, sym, true≢false, ⊎_elim}
 use Rattle.std.proofs.Common.{◌∙◌, ap₂, rules}
-use Rattle.std.specs.Prelude.{◌↔◌, ℕ, ◌&&◌, AllPairs, Contains, IsTrue, if◌then◌else◌, nat_eq}
-use Rattle.std.specs.Bool.{Decides}
-use Rattle.std.specs.Cmp.{IsTotalOrder}
-use Rattle.std.specs.Cmp.Lexicographic.{bytes_decides, nat_list_cmp_total, pointwise, pointwise_decides, slice_cmp, texts_ties}
-use Rattle.std.specs.List.{flat_map}
-use Rattle.std.specs.Ordering.{is_eq, nat_cmp, ordering_then}
-use Rattle.std.specs.declared.cmp.Ordering.{Ordering}
-use Rattle.std.specs.declared.cmp.Ordering.TheVariants.{Equal, Greater, Less}
+use Rattle.std.specs.Ordering.{ordering_then}
 use Rattle.std.proofs.lemmas.Bool.{false≢true}
 use Rattle.std.proofs.lemmas.Grind.{common_steps}
 use Rattle.std.proofs.lemmas.Option.{same_Some}
@@ -16,8 +9,10 @@ use Rattle.cif_calendar.proofs.Elements.{Contains-first, Contains-rest, Contains
 use Rattle.cif_calendar.proofs.FirstClash.{same_key-cmp}
 use Rattle.cif_calendar.proofs.RisingLists.{Contains-none, not_less}
 use Rattle.cif_canon.specs.Pairs.{AreByPairs, parts_of}
-use Rattle.cif_canon.proofs.Words.{AreDifferences, ArePair, AssocKey, ComesBefore, DifferencesParts, ExtractParts, Left, Listed, Permanent}
-use Rattle.cif_canon.proofs.Words.{Precedes, Right, Side, Sided, are_pair, by_pairs, is_side, key_cmp}
+use Rattle.cif_canon.proofs.Words.{AllPairs, AreDifferences, ArePair, AssocKey, ComesBefore, Contains, Decides, DifferencesParts, Equal}
+use Rattle.cif_canon.proofs.Words.{ExtractParts, Greater, IsTotalOrder, IsTrue, Left, Less, Listed, Ordering, Permanent, Precedes, Right}
+use Rattle.cif_canon.proofs.Words.{Side, Sided, are_pair, by_pairs, bytes_decides, flat_map, if◌then◌else◌, is_eq, is_side, key_cmp}
+use Rattle.cif_canon.proofs.Words.{nat_cmp, nat_eq, nat_list_cmp_total, pointwise, pointwise_decides, slice_cmp, texts_ties, ℕ, ◌&&◌, ◌↔◌}
 use Rattle.cif_canon.proofs.MergedSides.{pairs-head, pairs-tail}
 use Rattle.cif_canon.proofs.PairedRecords.{keys-decided, pair-decided}
 use Rattle.cif_canon.proofs.Unique.{keys-total}

@@ -1,19 +1,15 @@
 -- The runs of an extract's canonical records, and its locations, make its canonical form.
 use Rattle.std.proofs.Common.{◌≡◌, ℕ, List, length, sym, ap₂, ◌∙◌, subst}
-use Rattle.std.specs.Prelude.{All}
-use Rattle.std.specs.Cmp.Lexicographic.{slice_cmp}
 use Rattle.std.proofs.lemmas.Slice.Zip.{AllZip-long}
-use Rattle.std.specs.Ordering.{nat_cmp}
 use Rattle.cif_extract.specs.declared.fault.Clash.TheVariants as named
 use Rattle.cif_extract.specs.declared.fault.Fault.TheVariants as fault
 use Rattle.cif_records.proofs.Headers as headers
-use Rattle.cif_canon.specs.Canonical.{IsCanonicalOf}
 use Rattle.cif_canon.specs.Counts.{counts_of}
 use Rattle.cif_extract.proofs.PlainTexts.{text-spells}
-use Rattle.cif_canon.proofs.Words.{AreCanonicalRecords, AreClear, AreDistinct, BytesSpell, Counts, ExtractParts, Fault, FitsColumns, Form}
-use Rattle.cif_canon.proofs.Words.{HasRecord, Header, IsCanonFault, IsCanonOf, IsFirstClashIn, IsRecordsFault, IsRunOf, Run, Tiploc, Window}
-use Rattle.cif_canon.proofs.Words.{association_entries, canon_lines, canon_text, extract_text, header_window, key_cmp, lines_of}
-use Rattle.cif_canon.proofs.Words.{schedule_entries, window_from}
+use Rattle.cif_canon.proofs.Words.{All, AreCanonicalRecords, AreClear, AreDistinct, BytesSpell, Counts, ExtractParts, Fault, FitsColumns}
+use Rattle.cif_canon.proofs.Words.{Form, HasRecord, Header, IsCanonFault, IsCanonOf, IsCanonicalOf, IsFirstClashIn, IsRecordsFault, IsRunOf}
+use Rattle.cif_canon.proofs.Words.{Run, Tiploc, Window, association_entries, canon_lines, canon_text, extract_text, header_window, key_cmp}
+use Rattle.cif_canon.proofs.Words.{lines_of, nat_cmp, schedule_entries, slice_cmp, window_from}
 use Rattle.cif_canon.proofs.CanonLines.{written-lines}
 use Rattle.cif_canon.proofs.CanonTexts.{have-records, number-of_associations, number-of_schedules, written-text}
 use Rattle.cif_canon.proofs.KeptExtract.{canonical_of, dated-associations, dated-schedules, is-canonical, same-meaning}

@@ -1,19 +1,15 @@
 -- The text that is written of an extract's runs is that of the canonical extract.
 use Rattle.std.proofs.Common.{◌≡◌, ℕ, suc, List, [], ◌∷◌, ◌++◌, map, length, Some, refl, sym, ap, ◌∙◌}
-use Rattle.std.specs.Prelude.{All}
-use Rattle.std.specs.List.{AllZip, flat_map}
 use Rattle.std.proofs.lemmas.Grind.{flat_map-append}
 use Rattle.std.proofs.lemmas.List.{map-append}
 use Rattle.std.proofs.lemmas.List.Elements.{All-nil, All-cons, All-head, All-tail}
-use Rattle.std.specs.Cmp.Lexicographic.{slice_cmp}
-use Rattle.std.specs.Ordering.{nat_cmp}
 use Rattle.cif_columns.specs.Contents.{lines_text}
-use Rattle.cif_records.specs.Association.{association_table}
 use Rattle.cif_canon.specs.Steps.Texts.{association_text}
-use Rattle.cif_canon.proofs.Words.{AreCanonicalRecords, AreDistinct, AssocBody, AssocKey, BodyParts, ExtractParts, Form, HasRecord, IsRunOf}
-use Rattle.cif_canon.proofs.Words.{Permanent, Row, Run, Terms, Tiploc, association_entries, association_run_text, canon_text, extract_text}
-use Rattle.cif_canon.proofs.Words.{header_table, header_window, key_cmp, plain_line, record_at, schedule_entries, schedule_lines}
-use Rattle.cif_canon.proofs.Words.{schedule_run_text, schedule_text, tables_of, text_if, tiploc_table, tiploc_text, trailer_table}
+use Rattle.cif_canon.proofs.Words.{All, AllZip, AreCanonicalRecords, AreDistinct, AssocBody, AssocKey, BodyParts, ExtractParts, Form}
+use Rattle.cif_canon.proofs.Words.{HasRecord, IsRunOf, Permanent, Row, Run, Terms, Tiploc, association_entries, association_run_text}
+use Rattle.cif_canon.proofs.Words.{association_table, canon_text, extract_text, flat_map, header_table, header_window, key_cmp, nat_cmp}
+use Rattle.cif_canon.proofs.Words.{plain_line, record_at, schedule_entries, schedule_lines, schedule_run_text, schedule_text, slice_cmp}
+use Rattle.cif_canon.proofs.Words.{tables_of, text_if, tiploc_table, tiploc_text, trailer_table}
 use Rattle.cif_canon.proofs.MadeExtract.{IsDated, associations_of, schedule_of, schedules_of}
 use Rattle.cif_canon.proofs.RunTexts.{record-of_entry}
 use Rattle.cif_canon.proofs.KeptExtract.{canonical_of, dated-associations, dated-schedules}

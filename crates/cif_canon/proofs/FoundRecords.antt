@@ -1,11 +1,6 @@
 -- The differences of two lists are found key by key.
 use Rattle.std.proofs.Common.{◌≡◌, ◌≢◌, ◌⊎◌, inl, inr, ℕ, ◌<◌, ◌≤◌, List, [], ◌∷◌, ◌++◌, Option, None, Some, drop, length, refl, sym, ap}
 use Rattle.std.proofs.Common.{◌∙◌, subst, arith, ⊎_elim, get_or}
-use Rattle.std.specs.Prelude.{AllPairs, Contains, ◌↔◌, if◌then◌else◌}
-use Rattle.std.specs.List.{AllZip}
-use Rattle.std.specs.Cmp.{IsTotalOrder}
-use Rattle.std.specs.declared.cmp.Ordering.{Ordering}
-use Rattle.std.specs.declared.cmp.Ordering.TheVariants.{Less, Equal}
 use Rattle.std.proofs.lemmas.List.Elements.{Contains-append_cases, Contains-get_or}
 use Rattle.std.proofs.lemmas.Option.{same_Some}
 use Rattle.cif_calendar.proofs.NoEntries.{none-clear}
@@ -19,10 +14,11 @@ use Rattle.cif_canon.specs.Differences.{RunsApplied, SaysNothing}
 use Rattle.cif_canon.specs.Steps.OnlySides.{AreMergedRuns}
 use Rattle.cif_canon.specs.declared.differing.Extent.{Extent}
 use Rattle.cif_canon.specs.declared.differing.Extent.TheVariants.{FirstKey}
-use Rattle.cif_canon.proofs.Words.{AllKeys, AreAllByKey, AreCanonical, AreClear, AreDifferentRuns, AreRunsOf, AreSame, ComesBefore}
-use Rattle.cif_canon.proofs.Words.{EntriesSayTheSame, HasBody, IsClearFrom, IsFirstDifference, IsFirstFound, IsFirstOfBoth, IsFront}
-use Rattle.cif_canon.proofs.Words.{IsRunOf, IsSidedRunOf, IsWithin, Left, OnlySays, Permanent, Right, Run, RunComesBefore, Side, Sided}
-use Rattle.cif_canon.proofs.Words.{Terms, TurnInto, Two, Window, at_side, is_side, of_key, of_side, with_key}
+use Rattle.cif_canon.proofs.Words.{AllKeys, AllPairs, AllZip, AreAllByKey, AreCanonical, AreClear, AreDifferentRuns, AreRunsOf, AreSame}
+use Rattle.cif_canon.proofs.Words.{ComesBefore, Contains, EntriesSayTheSame, Equal, HasBody, IsClearFrom, IsFirstDifference, IsFirstFound}
+use Rattle.cif_canon.proofs.Words.{IsFirstOfBoth, IsFront, IsRunOf, IsSidedRunOf, IsTotalOrder, IsWithin, Left, Less, OnlySays, Ordering}
+use Rattle.cif_canon.proofs.Words.{Permanent, Right, Run, RunComesBefore, Side, Sided, Terms, TurnInto, Two, Window, at_side, if◌then◌else◌}
+use Rattle.cif_canon.proofs.Words.{is_side, of_key, of_side, with_key, ◌↔◌}
 use Rattle.cif_canon.proofs.ComparedKeys.{ArePassed, IsLeft, nobody, pass, passed-nothing, turns}
 use Rattle.cif_canon.proofs.KeyRecords.{bodies-other, bodies-own, zip-keyed}
 use Rattle.cif_canon.proofs.MergedSides.{from-side, of_side-append, pairs-head, side-member}

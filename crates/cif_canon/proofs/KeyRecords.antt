@@ -1,8 +1,5 @@
 -- The runs of a key's calendar are those of the key's canonical records.
 use Rattle.std.proofs.Common.{◌≡◌, inl, inr, ℕ, ◌<◌, List, [], ◌∷◌, ◌++◌, Some, map, length, get_or, refl, sym, ◌∙◌, ap, subst, ⊎_elim}
-use Rattle.std.specs.Prelude.{Contains, IsNone, ◌↔◌}
-use Rattle.std.specs.List.{AllZip}
-use Rattle.std.specs.Option.{option_and_then}
 use Rattle.cif_calendar.specs.Terms.{SameRecords}
 use Rattle.cif_calendar.specs.Calendar.{IsFault}
 use Rattle.cif_calendar.specs.declared.key_calendar.CalendarFault.{CalendarFault}
@@ -15,15 +12,16 @@ use Rattle.cif_calendar.proofs.Positions.{positions-records, terms_at-keyed}
 use Rattle.cif_calendar.proofs.Sets.{IsClearFrom-same, Runs-same}
 use Rattle.cif_weeks.specs.MemberRuns.{AreRunsOfMembers, IsMembersRun}
 use Rattle.cif_weeks.specs.Permanent.{Permanents}
-use Rattle.cif_weeks.specs.Runs.{IsRunOf as IsCalendarRun, AreCanonicalRuns, window_of}
+use Rattle.cif_weeks.specs.Runs.{IsRunOf as IsCalendarRun}
 use Rattle.cif_weeks.proofs.AlignedDays.{tight}
 use Rattle.cif_weeks.proofs.JoinedLists.{zip-back, zip-map}
 use Rattle.cif_weeks.proofs.KeyByKey.{HasBody-more, of_key-more}
-use Rattle.cif_canon.specs.Steps.Records.{IsRunOf, AreRunsOf, AreRunsOfKey, IsKeyFault, extract_fault}
+use Rattle.cif_canon.specs.Steps.Records.{extract_fault}
 use Rattle.cif_calendar.proofs.KeyPositions.{has-key}
 use Rattle.cif_calendar.proofs.KeyTurns.{one-key}
-use Rattle.cif_canon.proofs.Words.{ArePositionsOf, C, CalendarParts, Clash, Form, HasBody, IsCalendar, IsWithin, Permanent, Run, Terms}
-use Rattle.cif_canon.proofs.Words.{Window, body_on, keyed, of_key, window_from, with_key}
+use Rattle.cif_canon.proofs.Words.{AllZip, AreCanonicalRuns, ArePositionsOf, AreRunsOf, AreRunsOfKey, C, CalendarParts, Clash, Contains}
+use Rattle.cif_canon.proofs.Words.{Form, HasBody, IsCalendar, IsKeyFault, IsNone, IsRunOf, IsWithin, Permanent, Run, Terms, Window, body_on}
+use Rattle.cif_canon.proofs.Words.{keyed, of_key, option_and_then, window_from, window_of, with_key, ◌↔◌}
 
 -- sets with the same records say the same
 same-bodies : {B : Type 0} (us vs : Permanents B) → ((r : Permanent B) → us r ↔ vs r) → (d : ℕ) (b : B) → HasBody us d b ↔ HasBody vs d b

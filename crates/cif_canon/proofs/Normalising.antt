@@ -1,6 +1,5 @@
 -- What an input that is read and narrowed comes to.
 use Rattle.std.proofs.Common.{◌≡◌, ◌≢◌, ◌≤◌, ℕ, List, [], Option, Some, None, Result, Ok, Err, IfErr, refl, sym, ap, ◌∙◌, subst, arith}
-use Rattle.std.specs.Prelude.{IfSome, IsErrAnd}
 use Rattle.cif_calendar.proofs.FirstClash.{first_clash-clear}
 use Rattle.cif_columns.specs.Sink.{HasFailed}
 use Rattle.cif_columns.proofs.GivenLinesLaws.{known_so}
@@ -12,8 +11,8 @@ use Rattle.cif_canon.specs.Fault.{IsDeviceOrMemory, IsNormaliseFault, IsReadNarr
 use Rattle.cif_canon.specs.Normalised.{FaultWrites, IsNormalised, Normalises}
 use Rattle.cif_extract.proofs.FirstRefusals.{if_error}
 use Rattle.cif_canon.proofs.Words.{Asked, AskedDatesAreWithin, BytesSpellWithin, CanonParts, Clash, Counts, ExtractParts, Fault, Form}
-use Rattle.cif_canon.proofs.Words.{IsCanonFault, IsCanonOf, IsClearExtract, IsFirstClashIn, IsNarrowed, IsNarrowingFault, IsOfCheck}
-use Rattle.cif_canon.proofs.Words.{IsOfNormalise, IsOfReadNarrowed, Sink, Unread, window_asked}
+use Rattle.cif_canon.proofs.Words.{IfSome, IsCanonFault, IsCanonOf, IsClearExtract, IsErrAnd, IsFirstClashIn, IsNarrowed, IsNarrowingFault}
+use Rattle.cif_canon.proofs.Words.{IsOfCheck, IsOfNormalise, IsOfReadNarrowed, Sink, Unread, window_asked}
 use Rattle.cif_canon.proofs.HandedFaults.{at-fault, known-fault}
 use Rattle.cif_canon.proofs.NormalForms.{one-narrowed}
 

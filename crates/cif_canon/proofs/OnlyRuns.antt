@@ -1,13 +1,12 @@
 -- The runs of what is left of a calendar are those of what only it says.
 use Rattle.std.proofs.Common.{◌≡◌, ◌≢◌, ◌≤◌, ◌<◌, ℕ, zero, suc, List, [], ◌∷◌, None, Some, sym, ◌∙◌, ap, subst, arith, ⊎_elim}
-use Rattle.std.specs.Prelude.{All, AllPairs, ◌↔◌}
-use Rattle.std.specs.List.{AllZip}
 use Rattle.std.proofs.lemmas.List.Elements.{All-nil, All-cons, All-head, All-tail}
 use Rattle.std.proofs.lemmas.List.Kept.{AllPairs-cons}
-use Rattle.cif_weeks.specs.Runs.{AreCanonicalRuns, AreSources, IsRunOf as IsCalendarRun, window_of}
+use Rattle.cif_weeks.specs.Runs.{IsRunOf as IsCalendarRun}
 use Rattle.cif_calendar.proofs.RisingLists.{Contains-none}
-use Rattle.cif_canon.specs.Steps.OnlySides.{AreOnlyRuns, AreRisingRuns, IsOnlyCalendar}
-use Rattle.cif_canon.proofs.Words.{CalendarParts, IsWithin, Permanent, Run, Terms, Two, body_at, body_on, source_at, window_from}
+use Rattle.cif_canon.specs.Steps.OnlySides.{IsOnlyCalendar}
+use Rattle.cif_canon.proofs.Words.{All, AllPairs, AllZip, AreCanonicalRuns, AreOnlyRuns, AreRisingRuns, AreSources, CalendarParts, IsWithin}
+use Rattle.cif_canon.proofs.Words.{Permanent, Run, Terms, Two, body_at, body_on, source_at, window_from, window_of, ◌↔◌}
 use Rattle.cif_canon.proofs.KeyRecords.{runs-as}
 
 -- what holds of the pairs of one list holds of those of another that goes with it one by one

@@ -1,11 +1,10 @@
 -- The records of runs with their sides, and their text.
 use Rattle.std.proofs.Common.{◌≡◌, ℕ, ◌<◌, ◌≤◌, Bool, get_or, length, map, List, [], ◌∷◌, ◌++◌, Option, None, Some, refl, sym, ap, ◌∙◌}
-use Rattle.std.specs.Prelude.{All, IsTrue, ◌↔◌}
-use Rattle.std.specs.List.{AllZip, flat_map}
 use Rattle.std.proofs.lemmas.List.Elements.{All-nil, All-cons, All-head, All-tail}
 use Rattle.std.proofs.lemmas.List.{nil_from_length}
-use Rattle.cif_canon.proofs.Words.{AreNone, AssocBody, AssocKey, BodyParts, HasRecord, HasSidedRecord, IsSidedRunOf, Left, Permanent, Right}
-use Rattle.cif_canon.proofs.Words.{Run, Side, Sided, Terms, Tiploc, at_side, record_at, sided_records, sided_run_text, text_if, with_record}
+use Rattle.cif_canon.proofs.Words.{All, AllZip, AreNone, AssocBody, AssocKey, BodyParts, HasRecord, HasSidedRecord, IsSidedRunOf, IsTrue}
+use Rattle.cif_canon.proofs.Words.{Left, Permanent, Right, Run, Side, Sided, Terms, Tiploc, at_side, flat_map, record_at, sided_records}
+use Rattle.cif_canon.proofs.Words.{sided_run_text, text_if, with_record, ◌↔◌}
 use Rattle.cif_canon.proofs.RunTexts.{record-of_entry, record-within}
 
 module _ {K B : Type 0} (xs ys : List (K × Terms B)) where

@@ -1,10 +1,20 @@
 -- The words of the crates below of which many of the proofs speak.
+pub use Rattle.std.specs.Bool.{Decides}
+pub use Rattle.std.specs.Cmp.{IsTotalOrder}
+pub use Rattle.std.specs.Cmp.Lexicographic.{bytes_decides, nat_list_cmp_total, pointwise, pointwise_decides, slice_cmp, texts_ties}
+pub use Rattle.std.specs.List.{AllZip, enumerate_from, filter, flat_map}
+pub use Rattle.std.specs.Option.{option_and_then, option_copied}
+pub use Rattle.std.specs.Ordering.{is_eq, nat_cmp}
+pub use Rattle.std.specs.Prelude.{All, AllPairs, Contains, IfSome, IsErrAnd, IsNone, IsTrue, if◌then◌else◌, nat_eq, slice_get, ℕ, ◌&&◌, ◌↔◌}
+pub use Rattle.std.specs.declared.cmp.Ordering.{Ordering}
+pub use Rattle.std.specs.declared.cmp.Ordering.TheVariants.{Equal, Greater, Less}
 pub use Rattle.cif_columns.specs.Day.{weekday_of}
 pub use Rattle.cif_columns.specs.Field.{Row, plain_line}
 pub use Rattle.cif_columns.specs.Source.{Unread, unread_of}
 pub use Rattle.cif_columns.specs.declared.sink.Sink.{Sink}
 pub use Rattle.cif_columns.specs.declared.stp.Stp.TheVariants.{C, P}
 pub use Rattle.cif_records.specs.AssocKey.{key_cmp}
+pub use Rattle.cif_records.specs.Association.{association_table}
 pub use Rattle.cif_records.specs.Basic.{basic_rows}
 pub use Rattle.cif_records.specs.Header.{header_table}
 pub use Rattle.cif_records.specs.Tiploc.{tiploc_table}
@@ -35,7 +45,7 @@ pub use Rattle.cif_calendar.specs.Terms.{Terms}
 pub use Rattle.cif_calendar.specs.declared.key_calendar.Piece.{Piece}
 pub use Rattle.cif_weeks.specs.Canonical.{AreCanonical, Precedes, with_key}
 pub use Rattle.cif_weeks.specs.Permanent.{Permanent, permanent_entries}
-pub use Rattle.cif_weeks.specs.Runs.{record_of}
+pub use Rattle.cif_weeks.specs.Runs.{AreCanonicalRuns, AreSources, record_of, window_of}
 pub use Rattle.cif_weeks.specs.WhatRuns.{HasBody}
 pub use Rattle.cif_weeks.specs.Window.{IsWithin, Window, window_from}
 pub use Rattle.cif_weeks.specs.declared.form.Form.{Form}
@@ -45,6 +55,7 @@ pub use Rattle.cif_canon.specs.Accepted.{IsClearExtract}
 pub use Rattle.cif_canon.specs.Appended.{IsAppended}
 pub use Rattle.cif_canon.specs.Asked.{AskedDatesAreWithin, IsNarrowed, IsNarrowingFault, header_window, window_asked}
 pub use Rattle.cif_canon.specs.Canon.{CanonParts, IsCanonOf}
+pub use Rattle.cif_canon.specs.Canonical.{IsCanonicalExtract, IsCanonicalOf}
 pub use Rattle.cif_canon.specs.Comparison.{IsCompareFault, IsFirstDifference}
 pub use Rattle.cif_canon.specs.Differences.{AreDifferences, AreDifferentTiplocs, AreNone, ComesBefore, DifferencesParts, IsOnlyIn, OnlySays}
 pub use Rattle.cif_canon.specs.Differences.{TurnInto, at_side, is_side, marked_text, marked_tiploc, of_side}

@@ -1,11 +1,8 @@
 -- There are no clashes exactly where the extract is clear, and the first of them is the first clash.
 use Rattle.std.proofs.Common.{◌≡◌, zero, suc, ℕ, List, [], ◌∷◌, ◌++◌, Some, map, arith, refl, sym, ◌∙◌, ap, subst}
-use Rattle.std.specs.Prelude.{Contains, slice_get, ◌↔◌}
 use Rattle.std.specs.Cmp.{IsTotalOrder}
-use Rattle.std.specs.Cmp.Lexicographic.{bytes_decides, nat_list_cmp_total, slice_cmp, texts_ties}
-use Rattle.std.specs.Ordering.{is_eq, nat_cmp}
-use Rattle.std.specs.declared.cmp.Ordering.{Ordering}
-use Rattle.std.specs.declared.cmp.Ordering.TheVariants.{Less, Equal}
+use Rattle.std.specs.Cmp.Lexicographic.{nat_list_cmp_total, texts_ties}
+use Rattle.std.specs.Ordering.{is_eq}
 use Rattle.std.proofs.lemmas.Option.{same_Some}
 use Rattle.cif_calendar.specs.Keys.{AreClear, IsFirstClashOf}
 use Rattle.cif_calendar.proofs.Elements.{Contains-first}
@@ -18,8 +15,9 @@ use Rattle.cif_calendar.specs.Clashes.{AreClashes}
 use Rattle.cif_views.specs.Steps.Clashes.{AreAdded}
 use Rattle.cif_canon.proofs.ByPairs.{same-keys}
 use Rattle.cif_canon.proofs.Unique.{keys-total}
-use Rattle.cif_views.proofs.Words.{AssocKey, Association, Clash, ExtractParts, IsClearExtract, IsFirstClashIn, Schedule, Terms}
-use Rattle.cif_views.proofs.Words.{association_entries, association_entry, key_cmp, of_key, schedule_entries, schedule_entry}
+use Rattle.cif_views.proofs.Words.{AssocKey, Association, Clash, Contains, Equal, ExtractParts, IsClearExtract, IsFirstClashIn, Less}
+use Rattle.cif_views.proofs.Words.{Ordering, Schedule, Terms, association_entries, association_entry, bytes_decides, key_cmp, nat_cmp}
+use Rattle.cif_views.proofs.Words.{of_key, schedule_entries, schedule_entry, slice_cmp, slice_get, ◌↔◌}
 
 -- bytes that compare equal are equal
 same-bytes : (xs ys : List ℕ) → slice_cmp nat_cmp xs ys ≡ Equal → xs ≡ ys

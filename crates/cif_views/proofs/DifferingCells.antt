@@ -1,16 +1,15 @@
 -- Where no field of a pair has a row, what stands in the columns of all its fields is the same.
-use Rattle.std.proofs.Common.{◌≡◌, ℕ, ◌+◌, ◌-◌, ◌<◌, ◌≤◌, Bool, true, false, List, [], ◌∷◌, ◌++◌, codes, cond, drop, length, ◌∙◌}
-use Rattle.std.proofs.Common.{ap, ap₂, arith, length-append, map, nat_eq, refl, replicate, subst, sym, take}
+use Rattle.std.proofs.Common.{◌≡◌, ℕ, ◌+◌, ◌-◌, ◌<◌, ◌≤◌, Bool, true, false, List, [], ◌∷◌, ◌++◌, codes, cond, drop, length, ◌∙◌, ap, ap₂}
+use Rattle.std.proofs.Common.{arith, length-append, map, nat_eq, refl, replicate, subst, sym, take}
 use Rattle.std.specs.Prelude.{◌&&◌, nat_le}
-use Rattle.std.specs.Cmp.Lexicographic.{bytes_decides, pointwise}
 use Rattle.std.proofs.lemmas.Bool.{and_parts, leb-true}
 use Rattle.std.proofs.lemmas.List.{drop-take, length-take-le, take-take}
 use Rattle.cif_columns.specs.Field.{FieldValue}
 use Rattle.cif_columns.specs.Lines.{used}
 use Rattle.cif_columns.proofs.KeptLines.{trimmed as widened, used_few}
 use Rattle.cif_columns.proofs.PlainLines.{length-columns}
-use Rattle.cif_views.proofs.Words.{AllStandIn, Field, IsLine, Row, Stands, StandsIn, TableFields, Trimmed, Tsv, columns, differing_row}
-use Rattle.cif_views.proofs.Words.{differing_rows, fields_text, line_of, row_fields, shown, spare, trimmed}
+use Rattle.cif_views.proofs.Words.{AllStandIn, Field, IsLine, Row, Stands, StandsIn, TableFields, Trimmed, Tsv, bytes_decides, columns}
+use Rattle.cif_views.proofs.Words.{differing_row, differing_rows, fields_text, line_of, pointwise, row_fields, shown, spare, trimmed}
 
 -- ---- rows
 

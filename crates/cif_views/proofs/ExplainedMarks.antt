@@ -1,16 +1,13 @@
 -- What the marks of explained records say of what runs.
 use Rattle.std.proofs.Common.{◌≡◌, ℕ, ◌≤◌, ◌<◌, List, [], ◌∷◌, ◌⊎◌, Option, None, Some, refl, sym, ◌∙◌, ap, subst, arith, inl, inr, ⊎_elim}
-use Rattle.std.specs.Prelude.{◌↔◌, Contains}
 use Rattle.std.specs.Option.{is_some}
-use Rattle.std.specs.Ordering.{ordering_reverse}
-use Rattle.std.specs.declared.cmp.Ordering.{Ordering}
-use Rattle.std.specs.declared.cmp.Ordering.TheVariants.{Less, Equal, Greater}
 use Rattle.std.proofs.lemmas.Bool.{cases_lt}
 use Rattle.cif_calendar.proofs.Elements.{Contains-cases, Contains-first, Contains-rest}
 use Rattle.cif_calendar.proofs.Positions.{at-contains, contains-at}
 use Rattle.cif_views.specs.Explanation.{AreExplained, Explained, HasWinningMark, IsMarked, SomeApplies}
 use Rattle.cif_views.specs.declared.marks.Mark.TheVariants as mark
-use Rattle.cif_views.proofs.Words.{AreLawful, IsClear, Mark, Records, Runs, Terms, Wins, of_key, precedence}
+use Rattle.cif_views.proofs.Words.{AreLawful, Contains, Equal, Greater, IsClear, Less, Mark, Ordering, Records, Runs, Terms, Wins, of_key}
+use Rattle.cif_views.proofs.Words.{ordering_reverse, precedence, ◌↔◌}
 
 -- what compares as it does the other way round compares equal
 pub equal-itself : (o : Ordering) → o ≡ ordering_reverse o → o ≡ Equal

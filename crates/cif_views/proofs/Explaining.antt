@@ -1,13 +1,11 @@
 -- The records of a train that apply on a day are found, put in order and marked one by one.
 use Rattle.std.proofs.Common.{◌≡◌, ◌≢◌, ℕ, ◌+◌, ◌<◌, ◌≤◌, List, [], ◌∷◌, ◌++◌, Some, false, map, drop, take, length, get_or, ◌⊎◌, ◌==◌, ◌-◌}
 use Rattle.std.proofs.Common.{refl, sym, ◌∙◌, ap, ap₂, subst, arith, inl, inr, ⊎_elim}
-use Rattle.std.specs.Prelude.{AllPairs, Contains, slice_get}
-use Rattle.std.specs.List.{AllWithin, slice_range}
+use Rattle.std.specs.Prelude.{AllPairs}
+use Rattle.std.specs.List.{slice_range}
 use Rattle.std.specs.Cmp.{IsTotalOrder, tied_itself}
 use Rattle.std.specs.List.Sorted.{IsPermutation, IsSortedBy}
-use Rattle.std.specs.Ordering.{is_lt, nat_cmp, ordering_then, ordering_reverse}
-use Rattle.std.specs.declared.cmp.Ordering.{Ordering}
-use Rattle.std.specs.declared.cmp.Ordering.TheVariants.{Less, Equal, Greater}
+use Rattle.std.specs.Ordering.{ordering_then}
 use Rattle.std.proofs.lemmas.Bool.{cases_lt}
 use Rattle.std.proofs.lemmas.Bool.Decides.{Decides-eqb, nat_tests}
 use Rattle.std.proofs.lemmas.Cmp.{nat_cmp_total, on_total, then_total}
@@ -25,8 +23,9 @@ use Rattle.cif_weeks.proofs.JoinedLists.{AllPairs-map, Contains-from_map, Contai
 use Rattle.cif_views.specs.Explanation.{AreExplained, Explained, IsMarked}
 use Rattle.cif_views.specs.Steps.Explanation.{IsFirstOfKey, IsLeast, IsLevel, IsMarkAmong, IsPlaced, IsRisingBy, unmarked}
 use Rattle.cif_views.specs.declared.marks.Mark.TheVariants as mark
-use Rattle.cif_views.proofs.Words.{Applies, AreMarked, ArePlacedBelow, ArePlacedInOrder, IsLike, IsMarkAt, IsMarkOf, Mark, Placed, Terms}
-use Rattle.cif_views.proofs.Words.{Wins, marked_as, of_key, placed_at, placed_cmp, precedence}
+use Rattle.cif_views.proofs.Words.{AllWithin, Applies, AreMarked, ArePlacedBelow, ArePlacedInOrder, Contains, Equal, Greater, IsLike}
+use Rattle.cif_views.proofs.Words.{IsMarkAt, IsMarkOf, Less, Mark, Ordering, Placed, Terms, Wins, is_lt, marked_as, nat_cmp, of_key}
+use Rattle.cif_views.proofs.Words.{ordering_reverse, placed_at, placed_cmp, precedence, slice_get}
 
 -- ---- the records are found, one entry after another
 

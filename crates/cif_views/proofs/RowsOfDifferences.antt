@@ -1,11 +1,6 @@
 -- Each difference has a row: the bodies of a pair differ, and where all cells are the same they don't.
 use Rattle.std.proofs.Common.{◌≡◌, ℕ, ◌<◌, ◌≤◌, Bool, List, [], ◌∷◌, ◌++◌, Option, None, Some, arith, length, map, replicate, ◌∙◌, ap}
 use Rattle.std.proofs.Common.{length-append, ⊎_elim, refl, subst, sym}
-use Rattle.std.specs.Prelude.{◌↔◌, Contains}
-use Rattle.std.specs.List.{flat_map}
-use Rattle.std.specs.Cmp.Lexicographic.{slice_cmp}
-use Rattle.std.specs.Ordering.{nat_cmp}
-use Rattle.std.specs.declared.cmp.Ordering.{Ordering}
 use Rattle.std.proofs.lemmas.List.{nil_from_length}
 use Rattle.std.proofs.lemmas.List.Elements.{All-contains, Contains-append_left, Contains-append_right}
 use Rattle.cif_columns.specs.Day.{weekday_of}
@@ -34,11 +29,11 @@ use Rattle.cif_canon.proofs.ByPairs.{associations-by_pairs, schedules-by_pairs}
 use Rattle.cif_canon.proofs.MadeFits.{HasTerms, have-terms, permanent-association, permanent-basic}
 use Rattle.cif_canon.proofs.MergedSides.{side-member}
 use Rattle.cif_views.specs.RowsOfDifferences.{HasRow, HaveRows}
-use Rattle.cif_views.proofs.Words.{AllFit, AssocBody, AssocKey, Association, BodyParts, ExtractParts, Left, Permanent, Right}
-use Rattle.cif_views.proofs.Words.{Row, Schedule, ScheduleLines, Side, Terms, association_entries, association_entry, association_head}
-use Rattle.cif_views.proofs.Words.{association_plain, association_rows, change_of, difference_names, difference_table, header_window}
-use Rattle.cif_views.proofs.Words.{key_cmp, names_line, nothing, of_key, schedule_entries, schedule_entry, schedule_head, schedule_plain}
-use Rattle.cif_views.proofs.Words.{schedule_rows, tiploc_head, tiploc_row}
+use Rattle.cif_views.proofs.Words.{AllFit, AssocBody, AssocKey, Association, BodyParts, Contains, ExtractParts, Left, Ordering, Permanent}
+use Rattle.cif_views.proofs.Words.{Right, Row, Schedule, ScheduleLines, Side, Terms, association_entries, association_entry}
+use Rattle.cif_views.proofs.Words.{association_head, association_plain, association_rows, change_of, difference_names, difference_table}
+use Rattle.cif_views.proofs.Words.{flat_map, header_window, key_cmp, names_line, nat_cmp, nothing, of_key, schedule_entries, schedule_entry}
+use Rattle.cif_views.proofs.Words.{schedule_head, schedule_plain, schedule_rows, slice_cmp, tiploc_head, tiploc_row, ◌↔◌}
 use Rattle.cif_views.proofs.DifferingCells.{both-none, some-row}
 use Rattle.cif_views.proofs.PairedBodies.{FitsLines, association_line, same-association, same-body}
 

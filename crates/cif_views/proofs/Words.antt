@@ -1,4 +1,10 @@
 -- The words of the crates below of which many of the proofs speak.
+pub use Rattle.std.specs.Cmp.Lexicographic.{bytes_decides, pointwise, slice_cmp}
+pub use Rattle.std.specs.List.{AllWithin, flat_map, range_with_len}
+pub use Rattle.std.specs.Ordering.{is_lt, nat_cmp, ordering_reverse}
+pub use Rattle.std.specs.Prelude.{All, Contains, codes, find, replicate, slice_get, ◌↔◌}
+pub use Rattle.std.specs.declared.cmp.Ordering.{Ordering}
+pub use Rattle.std.specs.declared.cmp.Ordering.TheVariants.{Equal, Greater, Less}
 pub use Rattle.cif_columns.specs.Day.{week_of}
 pub use Rattle.cif_columns.specs.Field.{AllFit, AllStandIn, Row, StandsIn, columns, spare, text}
 pub use Rattle.cif_columns.specs.Line.{IsLine}
