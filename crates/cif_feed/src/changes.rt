@@ -171,7 +171,7 @@ fn refused_changes<R: Keyed>(
     Ok(refused)
 }
 
-/// Takes out the records that are changed.
+/// Takes out the records that are changed. There is a flag for each.
 fn take_out<R: Drop>(records: &mut Vec<R>, changed: &[bool])
     ensures { (test : R → Bool) → changed.now ≡ map test records.old.items
         → records.new.items ≡ filter (λ r. not (test r)) records.old.items }

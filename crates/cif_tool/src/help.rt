@@ -88,7 +88,8 @@ if that is LEFT, and with `> ` if it is RIGHT. Locations come first, then
 associations, then schedules. If there is no difference, prints nothing.
 --format tsv prints a table instead: field names in the first line, tabs between
 fields. Two records of one train or association with the same dates and days
-have a row for each field that differs, and any other record has one row.
+have a row for each field that differs. If their journeys have other places, one
+row says how many calls each has. Any other record has one row.
 With --common, the common window goes from the later of the two first dates
 to the earlier of the two last dates. Extracts of different days need it.
 

@@ -136,7 +136,7 @@ fn answered<R: ReadDevice, W: WriteDevice + Drop>(
 ) -> Result<u8, Fault> {
     let mut output = buffered(alloc, output)?;
     let answer = answer(alloc, job, left, right, &mut output, kept);
-    // One that is dropped writes what it holds, also after a failure.
+    // A buffer that is dropped writes what it holds, also after a failure.
     mem::forget(output);
     answer
 }

@@ -5,7 +5,7 @@
 //! it returns:
 //!
 //! - `read_extract`: the plain lines of what was read.
-//! - `normalise`: the line of the counts.
+//! - `normalise`, `check`: the line of the counts.
 //! - `canon`: the canonical text, and the line of the counts.
 //! - `compare`: the line that says so. The second extract stands behind a line `==`.
 //! - `day_view YYMMDD`, `train_view UID`: nothing more.
@@ -69,6 +69,7 @@ fn call_of_source<'a>(name: &str, bytes: &'a [u8]) -> Option<Call<'a>> {
     match name {
         "read_extract" => Some(Call::ReadExtract(bytes)),
         "normalise" => Some(Call::Normalise(bytes)),
+        "check" => Some(Call::Check(bytes)),
         _ => None,
     }
 }

@@ -3,7 +3,7 @@ use crate::calls::calendars::{write_calendar, write_runs};
 use crate::calls::checksum::Checksum;
 use crate::calls::records::write_records;
 use cif_canon::{
-    Asked, canon, compare, day_view, normalise, train_view, write_comparison, write_counts,
+    Asked, canon, check, compare, day_view, normalise, train_view, write_comparison, write_counts,
 };
 use cif_columns::{Day, MAX_LINES, Sink, Source, Uid, WriteDevice, WriteFault};
 use cif_extract::{Extract, Fault, read_extract};
@@ -15,6 +15,7 @@ use std::alloc::Global;
 pub(crate) enum Call<'a> {
     ReadExtract(&'a [u8]),
     Normalise(&'a [u8]),
+    Check(&'a [u8]),
     Canon(&'a Extract),
     Compare(&'a Extract, &'a Extract),
     DayView(&'a Extract, Day),
@@ -39,6 +40,7 @@ impl Call<'_> {
         match self {
             Call::ReadExtract(bytes) => write_extract(alloc, *bytes, sink),
             Call::Normalise(bytes) => write_normalised(alloc, *bytes, sink),
+            Call::Check(bytes) => write_checked(alloc, *bytes, sink),
             Call::Canon(extract) => write_canon(alloc, *extract, sink),
             Call::Compare(left, right) => write_compared(alloc, *left, *right, sink),
             Call::DayView(extract, day) => day_view(alloc, *extract, *day, sink),
@@ -52,7 +54,9 @@ impl Call<'_> {
     pub(crate) fn checksum(&self) -> Result<Checksum, WriteFault> {
         let mut sink = Sink::new(Checksum::new());
         match self {
-            Call::ReadExtract(bytes) | Call::Normalise(bytes) => sink.write_all(*bytes)?,
+            Call::ReadExtract(bytes) | Call::Normalise(bytes) | Call::Check(bytes) => {
+                sink.write_all(*bytes)?
+            }
             Call::Compare(left, right) => {
                 write_records(*left, &mut sink)?;
                 write_records(*right, &mut sink)?;
@@ -91,6 +95,17 @@ fn write_normalised<W: WriteDevice>(
         &NOTHING_ASKED,
         Form::Two,
     )?;
+    write_counts(&counts, sink)?;
+    Ok(())
+}
+
+fn write_checked<W: WriteDevice>(
+    alloc: Global,
+    bytes: &[u8],
+    sink: &mut Sink<W>,
+) -> Result<(), Fault> {
+    let mut source = Source::new(bytes);
+    let counts = check(alloc, &mut source, MAX_LINES, &NOTHING_ASKED, Form::Two)?;
     write_counts(&counts, sink)?;
     Ok(())
 }

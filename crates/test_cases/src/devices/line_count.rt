@@ -9,7 +9,10 @@ use cif_columns::{LineFault, LineReader, ReadDevice, Source};
 
 /// How many lines the source has, of which at most `max_lines` may come, or why it has no further
 /// line.
-pub(crate) fn count_lines<R: ReadDevice>(source: &mut Source<R>, max_lines: u64) -> Result<u64, LineFault>
+pub(crate) fn count_lines<R: ReadDevice>(
+    source: &mut Source<R>,
+    max_lines: u64,
+) -> Result<u64, LineFault>
     requires { max_lines ≤ MAX_LINES }
     ensures all { IfSome (R.remaining (reader_of source.old)) (λ bytes. IfOk result (λ count.
         (lines : List (List ℕ)) × (count ≡ length lines) × AreAllLines max_lines bytes lines)) }
