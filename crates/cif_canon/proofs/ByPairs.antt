@@ -1,27 +1,18 @@
 -- The function takes the pairs of records that are in order: nothing stands between the two of a pair.
-use Rattle.std.proofs.Common.{◌≡◌, inl, inr, Bool, true, false, List, [], ◌∷◌, None, Some, ap, arith, refl, subst, sym}
-use Rattle.std.proofs.Common.{true≢false, ⊎_elim, ◌∙◌}
-use Rattle.std.proofs.Common.{ap₂, rules}
-use Rattle.std.specs.Prelude.{◌↔◌, ℕ, ◌&&◌, AllPairs, Contains, IsTrue, if◌then◌else◌, nat_eq}
-use Rattle.std.specs.Bool.{Decides}
-use Rattle.std.specs.Cmp.{IsTotalOrder}
-use Rattle.std.specs.Cmp.Lexicographic.{bytes_decides, nat_list_cmp_total, pointwise, pointwise_decides, slice_cmp, texts_ties}
-use Rattle.std.specs.List.{flat_map}
-use Rattle.std.specs.Ordering.{is_eq, nat_cmp, ordering_then}
-use Rattle.std.specs.declared.cmp.Ordering.{Ordering}
-use Rattle.std.specs.declared.cmp.Ordering.TheVariants.{Equal, Greater, Less}
+use Rattle.std.proofs.Common.{◌≡◌, inl, inr, Bool, true, false, List, [], ◌∷◌, None, Some, ap, arith, refl, subst, sym, true≢false, ⊎_elim}
+use Rattle.std.proofs.Common.{◌∙◌, ap₂, rules}
+use Rattle.std.specs.Ordering.{ordering_then}
 use Rattle.std.proofs.lemmas.Bool.{false≢true}
 use Rattle.std.proofs.lemmas.Grind.{common_steps}
 use Rattle.std.proofs.lemmas.Option.{same_Some}
 use Rattle.cif_calendar.proofs.Elements.{Contains-first, Contains-rest, Contains-cases}
+use Rattle.cif_calendar.proofs.FirstClash.{same_key-cmp}
 use Rattle.cif_calendar.proofs.RisingLists.{Contains-none, not_less}
-use Rattle.cif_weeks.specs.Canonical.{Precedes}
-use Rattle.cif_canon.specs.Differences.{AreDifferences, ComesBefore, DifferencesParts, is_side}
-use Rattle.cif_canon.specs.Pairs.{ArePair, AreByPairs, Listed, are_pair, by_pairs, parts_of}
-use Rattle.cif_canon.specs.declared.listed_differences.Side.{Side}
-use Rattle.cif_canon.specs.declared.listed_differences.Side.TheVariants.{Left, Right}
-use Rattle.cif_canon.specs.declared.listed_differences.Sided.{Sided}
-use Rattle.cif_canon.proofs.Words.{AssocKey, ExtractParts, Permanent, key_cmp}
+use Rattle.cif_canon.specs.Pairs.{AreByPairs, parts_of}
+use Rattle.cif_canon.proofs.Words.{AllPairs, AreDifferences, ArePair, AssocKey, ComesBefore, Contains, Decides, DifferencesParts, Equal}
+use Rattle.cif_canon.proofs.Words.{ExtractParts, Greater, IsTotalOrder, IsTrue, Left, Less, Listed, Ordering, Permanent, Precedes, Right}
+use Rattle.cif_canon.proofs.Words.{Side, Sided, are_pair, by_pairs, bytes_decides, flat_map, if◌then◌else◌, is_eq, is_side, key_cmp}
+use Rattle.cif_canon.proofs.Words.{nat_cmp, nat_eq, nat_list_cmp_total, pointwise, pointwise_decides, slice_cmp, texts_ties, ℕ, ◌&&◌, ◌↔◌}
 use Rattle.cif_canon.proofs.MergedSides.{pairs-head, pairs-tail}
 use Rattle.cif_canon.proofs.PairedRecords.{keys-decided, pair-decided}
 use Rattle.cif_canon.proofs.Unique.{keys-total}
@@ -224,6 +215,10 @@ key-matches a b =
 
 key-same : (a b : AssocKey) → IsTrue (key_eq a b) ↔ (a ≡ b)
 key-same a b = search (rules, common_steps, pointwise_decides, bytes_decides)
+
+-- keys that compare as equal are the same
+pub same-keys : (j k : AssocKey) → key_cmp j k ≡ Equal → j ≡ k
+same-keys = same_key-cmp key_eq key_cmp key-matches key-same
 
 pub associations-by_pairs : (x y : ExtractParts) (d : DifferencesParts) → AreDifferences x y d →
     AreByPairs d.associations (by_pairs key_cmp d.associations)

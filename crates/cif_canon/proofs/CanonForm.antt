@@ -1,33 +1,19 @@
 -- The runs of an extract's canonical records, and its locations, make its canonical form.
-use Rattle.std.proofs.Common.{◌≡◌, ℕ, List, length, sym, ap, ◌∙◌, subst}
-use Rattle.std.specs.Prelude.{All}
-use Rattle.std.specs.Cmp.Lexicographic.{slice_cmp}
+use Rattle.std.proofs.Common.{◌≡◌, ℕ, List, length, sym, ap₂, ◌∙◌, subst}
 use Rattle.std.proofs.lemmas.Slice.Zip.{AllZip-long}
-use Rattle.std.specs.Ordering.{nat_cmp}
 use Rattle.cif_extract.specs.declared.fault.Clash.TheVariants as named
 use Rattle.cif_extract.specs.declared.fault.Fault.TheVariants as fault
 use Rattle.cif_records.proofs.Headers as headers
-use Rattle.cif_weeks.proofs.PermanentEntries.{canonical-dated}
-use Rattle.cif_canon.specs.Asked.{header_window}
-use Rattle.cif_canon.specs.Canon.{IsCanonOf}
-use Rattle.cif_canon.specs.Canonical.{IsCanonicalOf}
 use Rattle.cif_canon.specs.Counts.{counts_of}
-use Rattle.cif_canon.specs.Lines.{lines_of}
-use Rattle.cif_canon.specs.declared.canonical_form.Counts.{Counts}
-use Rattle.cif_canon.specs.Fault.{IsCanonFault, IsFirstClashIn}
-use Rattle.cif_canon.specs.Steps.Records.{AreCanonicalRecords, IsRecordsFault, IsRunOf}
-use Rattle.cif_canon.specs.Steps.Texts.{HasRecord, canon_lines, canon_text}
-use Rattle.cif_canon.specs.Steps.Tiplocs.{AreDistinct}
-use Rattle.cif_extract.specs.Texts.{FitsColumns, extract_text}
-use Rattle.cif_extract.specs.SpellsExtract.{BytesSpell}
 use Rattle.cif_extract.proofs.PlainTexts.{text-spells}
-use Rattle.cif_canon.proofs.Words.{AreClear, ExtractParts, Fault, Form, Header, Run, Tiploc, Window, association_entries, key_cmp}
-use Rattle.cif_canon.proofs.Words.{schedule_entries, window_from}
+use Rattle.cif_canon.proofs.Words.{All, AreCanonicalRecords, AreClear, AreDistinct, BytesSpell, Counts, ExtractParts, Fault, FitsColumns}
+use Rattle.cif_canon.proofs.Words.{Form, HasRecord, Header, IsCanonFault, IsCanonOf, IsCanonicalOf, IsFirstClashIn, IsRecordsFault, IsRunOf}
+use Rattle.cif_canon.proofs.Words.{Run, Tiploc, Window, association_entries, canon_lines, canon_text, extract_text, header_window, key_cmp}
+use Rattle.cif_canon.proofs.Words.{lines_of, nat_cmp, schedule_entries, slice_cmp, window_from}
 use Rattle.cif_canon.proofs.CanonLines.{written-lines}
 use Rattle.cif_canon.proofs.CanonTexts.{have-records, number-of_associations, number-of_schedules, written-text}
-use Rattle.cif_canon.proofs.KeptExtract.{canonical_of, is-canonical, same-meaning}
-use Rattle.cif_canon.proofs.MadeExtract.{IsDated, associations_of}
-use Rattle.cif_canon.proofs.MadeFits.{have-terms, made-fits}
+use Rattle.cif_canon.proofs.KeptExtract.{canonical_of, dated-associations, dated-schedules, is-canonical, same-meaning}
+use Rattle.cif_canon.proofs.MadeFits.{made-fits}
 use Rattle.cif_canon.proofs.NormalForms.{its-own, normal-unique, reached}
 
 -- what is said of a slice's entries, in the window of these dates, is said of those of a list, in the header's window
@@ -53,18 +39,13 @@ schedules-fault x clear _ h = absurd h
 module _ (form : Form) (x : ExtractParts) (tiplocs : List Tiploc) (distinct : AreDistinct x.tiplocs tiplocs) (associations : List Run)
     (a : AreCanonicalRecords key_cmp form (header_window x.header) (association_entries x.associations) associations) (schedules : List Run)
     (s : AreCanonicalRecords (slice_cmp nat_cmp) form (header_window x.header) (schedule_entries x.schedules) schedules) where
-  dated-associations : All IsDated a.records
-  dated-associations = canonical-dated key_cmp form (header_window x.header) a.records a.canonical
-
-  dated-schedules : All IsDated s.records
-  dated-schedules = canonical-dated (slice_cmp nat_cmp) form (header_window x.header) s.records s.canonical
-
   -- each run has a record
   pub associations-have : All (HasRecord (association_entries x.associations)) associations
-  associations-have = have-records (association_entries x.associations) associations a.records a.runs_of dated-associations
+  associations-have =
+      have-records (association_entries x.associations) associations a.records a.runs_of (dated-associations form x associations a)
 
   pub schedules-have : All (HasRecord (schedule_entries x.schedules)) schedules
-  schedules-have = have-records (schedule_entries x.schedules) schedules s.records s.runs_of dated-schedules
+  schedules-have = have-records (schedule_entries x.schedules) schedules s.records s.runs_of (dated-schedules form x schedules s)
 
   -- what is written, and how many records it has
   text : List ℕ
@@ -74,40 +55,30 @@ module _ (form : Form) (x : ExtractParts) (tiplocs : List Tiploc) (distinct : Ar
   counts = record { tiplocs = length tiplocs; associations = length associations; schedules = length schedules }
 
   made : ExtractParts
-  made =
-      canonical_of form x tiplocs distinct.rising distinct.members a.records a.canonical dated-associations a.same_meaning
-      s.records s.canonical dated-schedules s.same_meaning
+  made = canonical_of form x tiplocs distinct associations a schedules s
 
   made-text : text ≡ extract_text made
   unfolding text made
-  made-text = written-text x tiplocs associations a.records dated-associations a.runs_of schedules s.records dated-schedules s.runs_of
+  made-text = written-text form x tiplocs distinct associations a schedules s
 
   made-lines : canon_lines x tiplocs associations schedules ≡ lines_of made
   unfolding made
-  made-lines = written-lines x tiplocs associations a.records dated-associations a.runs_of schedules s.records dated-schedules s.runs_of
+  made-lines = written-lines form x tiplocs distinct associations a schedules s
 
   made-counts : counts ≡ counts_of made
   unfolding made
   made-counts =
-      ap (λ n. record { tiplocs = length tiplocs; associations = n; schedules = length schedules })
+      ap₂ (λ (n m : ℕ). record { tiplocs = length tiplocs; associations = n; schedules = m })
       (sym (AllZip-long (IsRunOf (association_entries x.associations)) associations a.records a.runs_of)
-      ∙ number-of_associations a.records dated-associations)
-      ∙ ap (λ n. record {
-        tiplocs = length tiplocs;
-        associations = length (associations_of a.records dated-associations);
-        schedules = n;
-      })
-      (sym (AllZip-long (IsRunOf (schedule_entries x.schedules)) schedules s.records s.runs_of) ∙ number-of_schedules s.records dated-schedules)
+      ∙ number-of_associations a.records (dated-associations form x associations a))
+      (sym (AllZip-long (IsRunOf (schedule_entries x.schedules)) schedules s.records s.runs_of)
+      ∙ number-of_schedules s.records (dated-schedules form x schedules s))
 
   -- where what x says fits the columns of lines, so does what is made
   module _ (fits : FitsColumns x) where
     made-fit : FitsColumns made
     unfolding made
-    made-fit =
-        made-fits x fits tiplocs (λ t. (distinct.members t).1) associations a.records dated-associations
-        (have-terms key_cmp form (header_window x.header) a.records a.canonical (headers.last_is_day x.header)) a.runs_of
-        schedules s.records dated-schedules
-        (have-terms (slice_cmp nat_cmp) form (header_window x.header) s.records s.canonical (headers.last_is_day x.header)) s.runs_of
+    made-fit = made-fits form x tiplocs distinct associations a schedules s fits
 
     abbrev canonical : IsCanonicalOf form x text
     unfolding made
@@ -116,11 +87,9 @@ module _ (form : Form) (x : ExtractParts) (tiplocs : List Tiploc) (distinct : Ar
       canonical = record {
         spelled = subst (λ t. BytesSpell t made) (sym made-text) (text-spells made made-fit);
         text = made-text;
-        canonical = is-canonical form x tiplocs distinct.rising distinct.members a.records a.canonical dated-associations a.same_meaning
-            s.records s.canonical dated-schedules s.same_meaning;
+        canonical = is-canonical form x tiplocs distinct associations a schedules s;
       };
-      same = same-meaning form x tiplocs distinct.rising distinct.members a.records a.canonical dated-associations a.same_meaning
-          s.records s.canonical dated-schedules s.same_meaning;
+      same = same-meaning form x tiplocs distinct associations a schedules s;
     }
 
     pub is-canon : IsCanonOf form x (record {

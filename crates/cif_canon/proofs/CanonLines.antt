@@ -1,30 +1,19 @@
 -- The lines of a canonical form's runs are those of the canonical extract, and what is listed of them.
-use Rattle.std.proofs.Common.{◌≡◌, ℕ, ◌+◌, ◌<◌, List, [], ◌∷◌, ◌++◌, Option, None, Some, map, refl, sym, ap, ◌∙◌, append-nil, arith, get_or}
-use Rattle.std.proofs.Common.{length}
-use Rattle.std.specs.Prelude.{All}
-use Rattle.std.specs.List.{AllZip, enumerate_from, flat_map}
+use Rattle.std.proofs.Common.{◌≡◌, ℕ, ◌+◌, ◌<◌, List, [], ◌∷◌, ◌++◌, Option, None, Some, map, refl, sym, ap, ap₂, ◌∙◌, append-nil, arith}
+use Rattle.std.proofs.Common.{get_or, length}
 use Rattle.std.proofs.lemmas.Grind.{flat_map-append}
 use Rattle.std.proofs.lemmas.List.Concat.{flat_map_single}
 use Rattle.std.proofs.lemmas.List.Elements.{All-head, All-tail}
 use Rattle.std.proofs.lemmas.List.FromFn.{get_or-enumerate_from}
-use Rattle.cif_calendar.specs.Entries.{association_entries, schedule_entries}
-use Rattle.cif_calendar.specs.Terms.{Terms}
-use Rattle.cif_columns.specs.Field.{plain_line}
-use Rattle.cif_extract.specs.BodyParts.{BodyParts}
-use Rattle.cif_extract.specs.ExtractParts.{ExtractParts}
-use Rattle.cif_records.specs.Header.{header_table}
-use Rattle.cif_records.specs.declared.association.AssocBody.{AssocBody}
-use Rattle.cif_records.specs.declared.association.AssocKey.{AssocKey}
-use Rattle.cif_records.specs.declared.tiploc.Tiploc.{Tiploc}
-use Rattle.cif_weeks.specs.Permanent.{Permanent}
-use Rattle.cif_weeks.specs.declared.run.Run.{Run}
-use Rattle.cif_canon.specs.Lines.{ScheduleLines, association_plain, line_of_association, line_of_tiploc, lines_of, lines_of_schedule}
-use Rattle.cif_canon.specs.Lines.{schedule_plain}
-use Rattle.cif_canon.specs.Steps.Records.{IsRunOf}
-use Rattle.cif_canon.specs.Steps.Texts.{HasRecord, canon_lines, numbered_text, of_run, record_at, run_text}
-use Rattle.cif_canon.specs.Steps.Texts.{text_if}
+use Rattle.cif_canon.specs.Lines.{line_of_association, lines_of_schedule}
+use Rattle.cif_canon.specs.Steps.Texts.{of_run}
+use Rattle.cif_canon.proofs.Words.{All, AreCanonicalRecords, AreDistinct, AssocBody, AssocKey, BodyParts, ExtractParts, Form, HasRecord}
+use Rattle.cif_canon.proofs.Words.{Permanent, Run, ScheduleLines, Terms, Tiploc, association_entries, association_plain, canon_lines}
+use Rattle.cif_canon.proofs.Words.{enumerate_from, flat_map, header_table, header_window, key_cmp, line_of_tiploc, lines_of, nat_cmp}
+use Rattle.cif_canon.proofs.Words.{numbered_text, plain_line, record_at, run_text, schedule_entries, schedule_plain, slice_cmp, text_if}
 use Rattle.cif_canon.proofs.CanonTexts.{texts-of_runs}
 use Rattle.cif_canon.proofs.MadeExtract.{IsDated, associations_of, schedules_of}
+use Rattle.cif_canon.proofs.KeptExtract.{canonical_of, dated-associations, dated-schedules}
 
 -- the lines of associations, and of schedules
 lines-of_associations : (es : List (AssocKey × Permanent AssocBody)) (h : All IsDated es) →
@@ -39,41 +28,31 @@ lines-of_schedules [] h = refl
 lines-of_schedules ((uid, r) ∷ es) h =
     ap (λ (ls : List ScheduleLines). schedule_plain (uid, r) ∷ ls) (lines-of_schedules es (All-tail IsDated (uid, r) es h))
 
-module _ (x : ExtractParts) (tiplocs : List Tiploc) (associations : List Run) (associated : List (AssocKey × Permanent AssocBody))
-    (dated_associations : All IsDated associated)
-    (zip_associations : AllZip (IsRunOf (association_entries x.associations)) associations associated)
-    (schedules : List Run) (scheduled : List (List ℕ × Permanent BodyParts)) (dated_schedules : All IsDated scheduled)
-    (zip_schedules : AllZip (IsRunOf (schedule_entries x.schedules)) schedules scheduled) where
-  pub written-lines : canon_lines x tiplocs associations schedules ≡ lines_of (record {
-    header = x.header;
-    tiplocs = tiplocs;
-    associations = associations_of associated dated_associations;
-    schedules = schedules_of scheduled dated_schedules;
-  })
+module _ (form : Form) (x : ExtractParts) (tiplocs : List Tiploc) (distinct : AreDistinct x.tiplocs tiplocs) (associations : List Run)
+    (a : AreCanonicalRecords key_cmp form (header_window x.header) (association_entries x.associations) associations) (schedules : List Run)
+    (s : AreCanonicalRecords (slice_cmp nat_cmp) form (header_window x.header) (schedule_entries x.schedules) schedules) where
+  pub written-lines : canon_lines x tiplocs associations schedules ≡
+      lines_of (canonical_of form x tiplocs distinct associations a schedules s)
   unfolding canon_lines
   written-lines =
+      let dated_a = dated-associations form x associations a in
+      let dated_s = dated-schedules form x schedules s in
       let first = flat_map (of_run association_plain (association_entries x.associations)) associations in
       let second = flat_map (of_run schedule_plain (schedule_entries x.schedules)) schedules in
-      let associations_are : first ≡ map line_of_association (associations_of associated dated_associations) =
-      texts-of_runs (association_entries x.associations) (λ e. association_plain e ∷ []) associations associated zip_associations
-      ∙ flat_map_single association_plain associated
-      ∙ lines-of_associations associated dated_associations in
-      let schedules_are : second ≡ map lines_of_schedule (schedules_of scheduled dated_schedules) =
-      texts-of_runs (schedule_entries x.schedules) (λ e. schedule_plain e ∷ []) schedules scheduled zip_schedules
-      ∙ flat_map_single schedule_plain scheduled
-      ∙ lines-of_schedules scheduled dated_schedules in
-      ap (λ (ls : List (List ℕ)). record {
+      let associations_are : first ≡ map line_of_association (associations_of a.records dated_a) =
+      texts-of_runs (association_entries x.associations) (λ e. association_plain e ∷ []) associations a.records a.runs_of
+      ∙ flat_map_single association_plain a.records
+      ∙ lines-of_associations a.records dated_a in
+      let schedules_are : second ≡ map lines_of_schedule (schedules_of s.records dated_s) =
+      texts-of_runs (schedule_entries x.schedules) (λ e. schedule_plain e ∷ []) schedules s.records s.runs_of
+      ∙ flat_map_single schedule_plain s.records
+      ∙ lines-of_schedules s.records dated_s in
+      ap₂ (λ (ls : List (List ℕ)) (ss : List ScheduleLines). record {
         header = plain_line (header_table x.header);
         tiplocs = map line_of_tiploc tiplocs;
         associations = ls;
-        schedules = second;
-      }) associations_are
-      ∙ ap (λ (ls : List ScheduleLines). record {
-        header = plain_line (header_table x.header);
-        tiplocs = map line_of_tiploc tiplocs;
-        associations = map line_of_association (associations_of associated dated_associations);
-        schedules = ls;
-      }) schedules_are
+        schedules = ss;
+      }) associations_are schedules_are
 
 -- what is listed of runs, by what their records have
 module _ {K B C : Type 0} (text : C → List ℕ) (part : K × Permanent B → C) (entries : List (K × Terms B)) where

@@ -1,23 +1,18 @@
 -- The text that is written of an extract's runs is that of the canonical extract.
 use Rattle.std.proofs.Common.{◌≡◌, ℕ, suc, List, [], ◌∷◌, ◌++◌, map, length, Some, refl, sym, ap, ◌∙◌}
-use Rattle.std.specs.Prelude.{All}
-use Rattle.std.specs.List.{AllZip, flat_map}
 use Rattle.std.proofs.lemmas.Grind.{flat_map-append}
 use Rattle.std.proofs.lemmas.List.{map-append}
 use Rattle.std.proofs.lemmas.List.Elements.{All-nil, All-cons, All-head, All-tail}
 use Rattle.cif_columns.specs.Contents.{lines_text}
-use Rattle.cif_columns.specs.Field.{Row, plain_line}
-use Rattle.cif_extract.specs.Texts.{extract_text, schedule_lines, tables_of}
-use Rattle.cif_records.specs.Association.{association_table}
-use Rattle.cif_records.specs.Header.{header_table}
-use Rattle.cif_records.specs.Tiploc.{tiploc_table}
-use Rattle.cif_canon.specs.Steps.Records.{IsRunOf}
-use Rattle.cif_canon.specs.Steps.Texts.{HasRecord, association_run_text, association_text, canon_text, record_at, schedule_run_text}
-use Rattle.cif_canon.specs.Steps.Texts.{schedule_text, text_if, tiploc_text}
-use Rattle.cif_canon.proofs.Words.{AssocBody, AssocKey, BodyParts, ExtractParts, Permanent, Run, Terms, Tiploc, association_entries}
-use Rattle.cif_canon.proofs.Words.{schedule_entries, trailer_table}
+use Rattle.cif_canon.specs.Steps.Texts.{association_text}
+use Rattle.cif_canon.proofs.Words.{All, AllZip, AreCanonicalRecords, AreDistinct, AssocBody, AssocKey, BodyParts, ExtractParts, Form}
+use Rattle.cif_canon.proofs.Words.{HasRecord, IsRunOf, Permanent, Row, Run, Terms, Tiploc, association_entries, association_run_text}
+use Rattle.cif_canon.proofs.Words.{association_table, canon_text, extract_text, flat_map, header_table, header_window, key_cmp, nat_cmp}
+use Rattle.cif_canon.proofs.Words.{plain_line, record_at, schedule_entries, schedule_lines, schedule_run_text, schedule_text, slice_cmp}
+use Rattle.cif_canon.proofs.Words.{tables_of, text_if, tiploc_table, tiploc_text, trailer_table}
 use Rattle.cif_canon.proofs.MadeExtract.{IsDated, associations_of, schedule_of, schedules_of}
 use Rattle.cif_canon.proofs.RunTexts.{record-of_entry}
+use Rattle.cif_canon.proofs.KeptExtract.{canonical_of, dated-associations, dated-schedules}
 
 -- ---- the runs of records
 
@@ -30,21 +25,19 @@ module _ {K B : Type 0} (entries : List (K × Terms B)) where
   pub have-records : (runs : List Run) (records : List (K × Permanent B)) → AllZip (IsRunOf entries) runs records → All IsDated records →
       All (HasRecord entries) runs
   have-records [] [] zip dated = All-nil (HasRecord entries)
-  have-records [] (e ∷ records) zip dated = absurd zip
-  have-records (run ∷ runs) [] zip dated = absurd zip
   have-records (run ∷ runs) (e ∷ records) zip dated =
       All-cons (HasRecord entries) run runs
       (record { it = e; is = record-of_run run e zip.0; in_order = All-head IsDated e records dated })
       (have-records runs records zip.1 (All-tail IsDated e records dated))
+  have-records _ _ zip _ = absurd zip
 
   pub texts-of_runs : {C : Type 0} (text : K × Permanent B → List C) (runs : List Run) (records : List (K × Permanent B)) →
       AllZip (IsRunOf entries) runs records → flat_map (λ run. text_if text (record_at entries run)) runs ≡ flat_map text records
   texts-of_runs text [] [] zip = refl
-  texts-of_runs text [] (e ∷ records) zip = absurd zip
-  texts-of_runs text (run ∷ runs) [] zip = absurd zip
   texts-of_runs {C} text (run ∷ runs) (e ∷ records) zip =
       ap (λ (l : List C). l ++ flat_map (λ run. text_if text (record_at entries run)) runs) (ap (text_if text) (record-of_run run e zip.0))
       ∙ ap (λ (l : List C). text e ++ l) (texts-of_runs text runs records zip.1)
+  texts-of_runs _ _ _ zip = absurd zip
 
 -- ---- the text of tables
 
@@ -91,29 +84,25 @@ number-of_schedules (e ∷ es) h = ap suc (number-of_schedules es (All-tail IsDa
 
 -- ---- the whole text
 
-module _ (x : ExtractParts) (tiplocs : List Tiploc) (associations : List Run) (associated : List (AssocKey × Permanent AssocBody))
-    (dated_associations : All IsDated associated)
-    (zip_associations : AllZip (IsRunOf (association_entries x.associations)) associations associated)
-    (schedules : List Run) (scheduled : List (List ℕ × Permanent BodyParts)) (dated_schedules : All IsDated scheduled)
-    (zip_schedules : AllZip (IsRunOf (schedule_entries x.schedules)) schedules scheduled) where
-  pub written-text : canon_text x tiplocs associations schedules ≡ extract_text (record {
-    header = x.header;
-    tiplocs = tiplocs;
-    associations = associations_of associated dated_associations;
-    schedules = schedules_of scheduled dated_schedules;
-  })
+module _ (form : Form) (x : ExtractParts) (tiplocs : List Tiploc) (distinct : AreDistinct x.tiplocs tiplocs) (associations : List Run)
+    (a : AreCanonicalRecords key_cmp form (header_window x.header) (association_entries x.associations) associations) (schedules : List Run)
+    (s : AreCanonicalRecords (slice_cmp nat_cmp) form (header_window x.header) (schedule_entries x.schedules) schedules) where
+  pub written-text : canon_text x tiplocs associations schedules ≡
+      extract_text (canonical_of form x tiplocs distinct associations a schedules s)
   unfolding canon_text
   written-text =
+      let dated_a = dated-associations form x associations a in
+      let dated_s = dated-schedules form x schedules s in
       let head : List ℕ = plain_line (header_table x.header) ++ (10 ∷ []) in
       let end : List ℕ = plain_line trailer_table ++ (10 ∷ []) in
       let first = map tiploc_table tiplocs in
-      let second = map association_table (associations_of associated dated_associations) in
-      let third = flat_map tables_of (schedules_of scheduled dated_schedules) in
+      let second = map association_table (associations_of a.records dated_a) in
+      let third = flat_map tables_of (schedules_of s.records dated_s) in
       let last : List (List Row) = trailer_table ∷ [] in
-      let associations_are = texts-of_runs (association_entries x.associations) association_text associations associated zip_associations
-      ∙ associations-text associated dated_associations in
-      let schedules_are = texts-of_runs (schedule_entries x.schedules) schedule_text schedules scheduled zip_schedules
-      ∙ schedules-text scheduled dated_schedules in
+      let associations_are = texts-of_runs (association_entries x.associations) association_text associations a.records a.runs_of
+      ∙ associations-text a.records dated_a in
+      let schedules_are = texts-of_runs (schedule_entries x.schedules) schedule_text schedules s.records s.runs_of
+      ∙ schedules-text s.records dated_s in
       ap (λ (l : List ℕ). head ++ l)
       (ap (λ (l : List ℕ). l ++ (flat_map (association_run_text (association_entries x.associations)) associations
       ++ (flat_map (schedule_run_text (schedule_entries x.schedules)) schedules ++ end))) (tiplocs-text tiplocs)

@@ -1,10 +1,9 @@
 -- The elements that a test chooses, and their lines.
 use Rattle.std.proofs.Common.{◌≡◌, Bool, true, false, cond, List, [], ◌∷◌, ◌++◌, map, refl, sym, ap, ◌∙◌, subst, ⊎_elim, inl, inr, ◌⊎◌}
-use Rattle.std.specs.Prelude.{ℕ, Contains, if◌then◌else◌}
-use Rattle.std.specs.List.{filter, flat_map}
 use Rattle.std.proofs.lemmas.Bool.{false≢true}
 use Rattle.cif_calendar.proofs.Elements.{Contains-first, Contains-rest, Contains-cases}
 use Rattle.cif_calendar.proofs.RisingLists.{Contains-none}
+use Rattle.cif_canon.proofs.Words.{Contains, filter, flat_map, if◌then◌else◌, ℕ}
 
 -- an element and others, if it is chosen, and else the others
 abbrev kept : {X : Type 0} → Bool → X → List X → List X

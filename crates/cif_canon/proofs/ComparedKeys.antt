@@ -1,18 +1,14 @@
 -- Two lists are compared key by key, over their positions in the order of their keys.
-use Rattle.std.proofs.Common.{◌≡◌, ◌⊎◌, inl, inr, ℕ, zero, suc, ◌+◌, ◌-◌, ◌<◌, List, [], take, drop, length, refl, sym}
-use Rattle.std.proofs.Common.{⊎_elim, arith, subst}
-use Rattle.std.specs.Cmp.{IsTotalOrder}
-use Rattle.std.specs.declared.cmp.Ordering.{Ordering}
-use Rattle.std.specs.declared.cmp.Ordering.TheVariants.{Less, Equal}
+use Rattle.std.proofs.Common.{◌≡◌, ◌⊎◌, inl, inr, ℕ, zero, suc, ◌+◌, ◌-◌, ◌<◌, List, [], take, drop, length, refl, sym, ⊎_elim, arith}
+use Rattle.std.proofs.Common.{subst}
 use Rattle.std.proofs.lemmas.Option.{slice_get_within}
 use Rattle.std.proofs.lemmas.List.{length-drop}
 use Rattle.std.proofs.lemmas.List.Elements.{All-contains}
-use Rattle.cif_calendar.specs.Terms.{Terms}
-use Rattle.cif_calendar.specs.Keys.{of_key, ArePositionsOf}
 use Rattle.cif_calendar.proofs.PassedKeys.{HasPassed, key-or-later, later-less, left-before, passed-more, turn}
 use Rattle.cif_calendar.proofs.RisingLists.{Contains-none, not_less}
-use Rattle.cif_calendar.specs.ByKey.{AnyHasKey, AreAllByKey, HasKey, IsFirstOfBoth, IsFront, IsRising}
 use Rattle.cif_calendar.proofs.KeyTurns.{decided, no-entry, rising-after}
+use Rattle.cif_canon.proofs.Words.{AnyHasKey, AreAllByKey, ArePositionsOf, Equal, HasKey, IsFirstOfBoth, IsFront, IsRising, IsTotalOrder}
+use Rattle.cif_canon.proofs.Words.{Less, Ordering, Terms, of_key}
 
 module _ {K B : Type 0} (cmp : K → K → Ordering) where
   -- one of the keys at these positions of a list, or of those of another

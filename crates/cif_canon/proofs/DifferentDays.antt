@@ -1,19 +1,15 @@
 -- The days on which two calendars have the same bodies.
-use Rattle.std.proofs.Common.{◌≡◌, ℕ, ◌+◌, ◌-◌, ◌%◌, ◌<◌, ◌≤◌, List, Option, Some, None, map, refl, sym, ap, ◌∙◌, subst}
-use Rattle.std.proofs.Common.{arith, ⊎_elim, get_or, length}
-use Rattle.std.specs.Prelude.{◌↔◌, Bool, Contains, IsSome, IsTrue, slice_get}
-use Rattle.std.specs.Option.{option_and_then}
+use Rattle.std.proofs.Common.{◌≡◌, ℕ, ◌+◌, ◌-◌, ◌%◌, ◌<◌, ◌≤◌, List, Option, Some, None, map, refl, sym, ap, ◌∙◌, subst, arith, ⊎_elim}
+use Rattle.std.proofs.Common.{get_or, length}
+use Rattle.std.specs.Prelude.{Bool, IsSome}
 use Rattle.std.proofs.lemmas.Bool.{cases_lt, false≢true}
 use Rattle.std.proofs.lemmas.List.{length-map}
 use Rattle.std.proofs.lemmas.Option.{slice_get_within}
 use Rattle.cif_calendar.proofs.Winning.{terms_at}
-use Rattle.cif_calendar.specs.Pieces.{Tiles, winner_of}
-use Rattle.cif_calendar.specs.Source.{body_at}
-use Rattle.cif_calendar.specs.declared.key_calendar.Piece.{Piece}
 use Rattle.cif_calendar.proofs.PieceLists.{source_at-piece, tiles-ends}
-use Rattle.cif_weeks.specs.Runs.{AreSources}
-use Rattle.cif_canon.specs.Steps.Differences.{AreAlikeBy, HasBodies, HoldsFrom}
-use Rattle.cif_canon.proofs.Words.{CalendarParts, Terms, body_on, weekday_of}
+use Rattle.cif_canon.specs.Steps.Differences.{HasBodies}
+use Rattle.cif_canon.proofs.Words.{AreAlikeBy, AreSources, CalendarParts, Contains, HoldsFrom, IsTrue, Piece, Terms, Tiles, body_at}
+use Rattle.cif_canon.proofs.Words.{body_on, option_and_then, slice_get, weekday_of, winner_of, ◌↔◌}
 
 -- a day and the one of its weekday in the seven days from another
 pub in-week : (first d : ℕ) → first ≤ d → (e : ℕ) × (first ≤ e) × (e < first + 7) × (e ≤ d) × (weekday_of e ≡ weekday_of d)

@@ -1,20 +1,15 @@
 -- Locations by their columns, and the first that only one of two lists has.
 use Rattle.std.proofs.Common.{◌≡◌, ◌⊎◌, inl, inr, List, [], ◌∷◌, Some, None, refl, ap, subst, ◌∙◌, ⊎_elim}
-use Rattle.std.specs.Prelude.{Contains, ◌↔◌, slice_get}
-use Rattle.std.specs.Cmp.Lexicographic.{bytes_decides, nat_list_cmp_total, slice_cmp, texts_ties}
-use Rattle.std.specs.Ordering.{is_eq, nat_cmp, ordering_reverse}
-use Rattle.std.specs.declared.cmp.Ordering.{Ordering}
-use Rattle.std.specs.declared.cmp.Ordering.TheVariants.{Less, Equal, Greater}
+use Rattle.std.specs.Ordering.{ordering_reverse}
 use Rattle.std.proofs.lemmas.Option.{same_Some}
+use Rattle.std.proofs.lemmas.Cmp.{on_total}
+use Rattle.cif_calendar.proofs.KeyTurns.{decided}
 use Rattle.cif_calendar.proofs.Elements.{Contains-first, Contains-rest, Contains-cases}
-use Rattle.cif_records.specs.declared.tiploc.Tiploc.{Tiploc}
 use Rattle.cif_records.proofs.Tiplocs.{same_tiploc}
 use Rattle.cif_calendar.proofs.RisingLists.{Contains-none, less_one_way, not_less}
 use Rattle.cif_canon.specs.Comparison.{IsFirstTiploc}
-use Rattle.cif_canon.specs.Differences.{AreDifferentTiplocs, IsOnlyIn}
-use Rattle.cif_canon.specs.declared.listed_differences.Side.{Side}
-use Rattle.cif_canon.specs.declared.listed_differences.Side.TheVariants.{Left, Right}
-use Rattle.cif_canon.specs.declared.listed_differences.Sided.{Sided}
+use Rattle.cif_canon.proofs.Words.{AreDifferentTiplocs, Contains, Equal, Greater, IsOnlyIn, Left, Less, Right, Side, Sided, Tiploc}
+use Rattle.cif_canon.proofs.Words.{bytes_decides, is_eq, nat_cmp, nat_list_cmp_total, slice_cmp, slice_get, texts_ties, ◌↔◌}
 use Rattle.cif_canon.proofs.MergedSides.{pairs-head}
 
 -- one location comes before another
@@ -35,12 +30,6 @@ equal-tiplocs s t e = same_tiploc s t ((bytes_decides s.columns t.columns).0 (te
 pub before-greater : (s t : Tiploc) → slice_cmp nat_cmp s.columns t.columns ≡ Greater → Before t s
 before-greater s t e = nat_list_cmp_total.antisymm t.columns s.columns ∙ ap ordering_reverse e
 
-same-or-not : (s t : Tiploc) (o : Ordering) → slice_cmp nat_cmp s.columns t.columns ≡ o → (s ≡ t) ⊎ (s ≡ t → ⊥)
-same-or-not s t Equal e = inl (equal-tiplocs s t e)
-same-or-not s t Less e = inr (λ is. not-itself t (subst (λ u. Before u t) is e))
-same-or-not s t Greater e =
-    inr (λ is. not-itself t (before-greater t t (subst (λ u. slice_cmp nat_cmp u.columns t.columns ≡ Greater) is e)))
-
 pub has-or-not : (xs : List Tiploc) (t : Tiploc) → Contains xs t ⊎ (Contains xs t → ⊥)
 has-or-not [] t = inr (λ h. Contains-none t h)
 has-or-not (x ∷ xs) t = ⊎_elim
@@ -49,7 +38,8 @@ has-or-not (x ∷ xs) t = ⊎_elim
     (λ later. inl (Contains-rest x xs t later))
     (λ none. inr (λ h. ⊎_elim (λ is. apart is) (λ later. none later) (Contains-cases x xs t h)))
     (has-or-not xs t))
-    (same-or-not x t (slice_cmp nat_cmp x.columns t.columns) refl)
+    (decided (λ (u v : Tiploc). slice_cmp nat_cmp u.columns v.columns) (on_total (λ (u : Tiploc). u.columns) nat_list_cmp_total)
+    equal-tiplocs x t (slice_cmp nat_cmp x.columns t.columns) refl)
 
 -- a location with a side
 abbrev pub with_side : Side → Tiploc → Sided Tiploc

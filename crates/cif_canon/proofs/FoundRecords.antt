@@ -1,34 +1,24 @@
 -- The differences of two lists are found key by key.
-use Rattle.std.proofs.Common.{◌≡◌, ◌≢◌, ◌⊎◌, inl, inr, ℕ, ◌<◌, ◌≤◌, List, [], ◌∷◌, ◌++◌, Option, None, Some, drop, length}
-use Rattle.std.proofs.Common.{refl, sym, ap, ◌∙◌, subst, arith, ⊎_elim, get_or}
-use Rattle.std.specs.Prelude.{AllPairs, Contains, ◌↔◌, if◌then◌else◌}
-use Rattle.std.specs.List.{AllZip}
-use Rattle.std.specs.Cmp.{IsTotalOrder}
-use Rattle.std.specs.declared.cmp.Ordering.{Ordering}
-use Rattle.std.specs.declared.cmp.Ordering.TheVariants.{Less, Equal}
+use Rattle.std.proofs.Common.{◌≡◌, ◌≢◌, ◌⊎◌, inl, inr, ℕ, ◌<◌, ◌≤◌, List, [], ◌∷◌, ◌++◌, Option, None, Some, drop, length, refl, sym, ap}
+use Rattle.std.proofs.Common.{◌∙◌, subst, arith, ⊎_elim, get_or}
 use Rattle.std.proofs.lemmas.List.Elements.{Contains-append_cases, Contains-get_or}
 use Rattle.std.proofs.lemmas.Option.{same_Some}
-use Rattle.cif_calendar.specs.Clash.{IsClearFrom}
 use Rattle.cif_calendar.proofs.NoEntries.{none-clear}
 use Rattle.cif_calendar.specs.Runs.{Runs}
 use Rattle.cif_calendar.proofs.Elements.{Contains-first, Contains-cases}
-use Rattle.cif_weeks.specs.Canonical.{AreCanonical, with_key}
-use Rattle.cif_weeks.specs.WhatRuns.{HasBody}
 use Rattle.cif_weeks.proofs.AlignedDays.{tight}
 use Rattle.cif_weeks.proofs.JoinedLists.{AllPairs-append, AllZip-append, Contains-from_map, zip-back}
 use Rattle.cif_weeks.proofs.KeyByKey.{canonical-more, canonical-none}
 use Rattle.cif_calendar.proofs.RisingLists.{Contains-none, less_one_way, not_less}
-use Rattle.cif_canon.specs.Differences.{ComesBefore, OnlySays, RunsApplied, SaysNothing, TurnInto, at_side, is_side, of_side}
-use Rattle.cif_canon.specs.Comparison.{IsFirstDifference}
-use Rattle.cif_canon.specs.Steps.OnlySides.{AreDifferentRuns, AreMergedRuns, AreSame, IsFirstFound, IsSidedRunOf, RunComesBefore}
-use Rattle.cif_canon.specs.Steps.Records.{AreRunsOf, IsRunOf}
+use Rattle.cif_canon.specs.Differences.{RunsApplied, SaysNothing}
+use Rattle.cif_canon.specs.Steps.OnlySides.{AreMergedRuns}
 use Rattle.cif_canon.specs.declared.differing.Extent.{Extent}
-use Rattle.cif_canon.specs.declared.differing.Extent.TheVariants.{AllKeys, FirstKey}
-use Rattle.cif_calendar.specs.ByKey.{AreAllByKey, IsFirstOfBoth, IsFront}
-use Rattle.cif_canon.specs.declared.listed_differences.Side.{Side}
-use Rattle.cif_canon.specs.declared.listed_differences.Side.TheVariants.{Left, Right}
-use Rattle.cif_canon.specs.declared.listed_differences.Sided.{Sided}
-use Rattle.cif_canon.proofs.Words.{AreClear, EntriesSayTheSame, IsWithin, Permanent, Run, Terms, Two, Window, of_key}
+use Rattle.cif_canon.specs.declared.differing.Extent.TheVariants.{FirstKey}
+use Rattle.cif_canon.proofs.Words.{AllKeys, AllPairs, AllZip, AreAllByKey, AreCanonical, AreClear, AreDifferentRuns, AreRunsOf, AreSame}
+use Rattle.cif_canon.proofs.Words.{ComesBefore, Contains, EntriesSayTheSame, Equal, HasBody, IsClearFrom, IsFirstDifference, IsFirstFound}
+use Rattle.cif_canon.proofs.Words.{IsFirstOfBoth, IsFront, IsRunOf, IsSidedRunOf, IsTotalOrder, IsWithin, Left, Less, OnlySays, Ordering}
+use Rattle.cif_canon.proofs.Words.{Permanent, Right, Run, RunComesBefore, Side, Sided, Terms, TurnInto, Two, Window, at_side, if◌then◌else◌}
+use Rattle.cif_canon.proofs.Words.{is_side, of_key, of_side, with_key, ◌↔◌}
 use Rattle.cif_canon.proofs.ComparedKeys.{ArePassed, IsLeft, nobody, pass, passed-nothing, turns}
 use Rattle.cif_canon.proofs.KeyRecords.{bodies-other, bodies-own, zip-keyed}
 use Rattle.cif_canon.proofs.MergedSides.{from-side, of_side-append, pairs-head, side-member}

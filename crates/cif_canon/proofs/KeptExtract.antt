@@ -1,50 +1,43 @@
 -- Canonical records make a canonical extract that says what the extract says.
-use Rattle.std.proofs.Common.{◌≡◌, ℕ, List, refl, sym, subst}
-use Rattle.std.specs.Prelude.{All, AllPairs, Contains, ◌↔◌}
-use Rattle.std.specs.Cmp.Lexicographic.{slice_cmp}
-use Rattle.std.specs.Ordering.{nat_cmp}
-use Rattle.std.specs.declared.cmp.Ordering.TheVariants.{Less}
-use Rattle.cif_weeks.specs.Permanent.{Permanent, permanent_entries}
-use Rattle.cif_canon.specs.Asked.{header_window}
-use Rattle.cif_canon.specs.Canonical.{IsCanonicalExtract}
-use Rattle.cif_canon.specs.Meaning.{SameMeaning}
-use Rattle.cif_canon.proofs.Words.{AreCanonical, AssocBody, AssocKey, BodyParts, EntriesSayTheSame, ExtractParts, Form, Tiploc}
-use Rattle.cif_canon.proofs.Words.{association_entries, key_cmp, schedule_entries}
+use Rattle.std.proofs.Common.{List, refl, sym, subst}
+use Rattle.cif_weeks.proofs.PermanentEntries.{canonical-dated}
+use Rattle.cif_canon.proofs.Words.{All, AreCanonicalRecords, AreDistinct, EntriesSayTheSame, ExtractParts, Form, IsCanonicalExtract, Run}
+use Rattle.cif_canon.proofs.Words.{SameMeaning, Tiploc, association_entries, header_window, key_cmp, nat_cmp, schedule_entries, slice_cmp}
 use Rattle.cif_canon.proofs.MadeExtract.{IsDated, associations_of, schedules_of, entries-of_associations, entries-of_schedules}
 
-module _ (form : Form) (x : ExtractParts) (tiplocs : List Tiploc)
-    (rising : AllPairs (λ s t. slice_cmp nat_cmp s.columns t.columns ≡ Less) tiplocs)
-    (members : (t : Tiploc) → Contains x.tiplocs t ↔ Contains tiplocs t)
-    (associations : List (AssocKey × Permanent AssocBody))
-    (canonical_associations : AreCanonical key_cmp form (header_window x.header) associations)
-    (dated_associations : All IsDated associations)
-    (meant_associations : EntriesSayTheSame (association_entries x.associations) (permanent_entries associations)
-    x.header.first x.header.last)
-    (schedules : List (List ℕ × Permanent BodyParts))
-    (canonical_schedules : AreCanonical (slice_cmp nat_cmp) form (header_window x.header) schedules)
-    (dated_schedules : All IsDated schedules)
-    (meant_schedules : EntriesSayTheSame (schedule_entries x.schedules) (permanent_entries schedules) x.header.first x.header.last) where
+-- the records don't end before they begin
+pub dated-associations : (form : Form) (x : ExtractParts) (runs : List Run)
+    (a : AreCanonicalRecords key_cmp form (header_window x.header) (association_entries x.associations) runs) → All IsDated a.records
+dated-associations form x runs a = canonical-dated key_cmp form (header_window x.header) a.records a.canonical
+
+pub dated-schedules : (form : Form) (x : ExtractParts) (runs : List Run)
+    (s : AreCanonicalRecords (slice_cmp nat_cmp) form (header_window x.header) (schedule_entries x.schedules) runs) → All IsDated s.records
+dated-schedules form x runs s = canonical-dated (slice_cmp nat_cmp) form (header_window x.header) s.records s.canonical
+
+module _ (form : Form) (x : ExtractParts) (tiplocs : List Tiploc) (distinct : AreDistinct x.tiplocs tiplocs) (associations : List Run)
+    (a : AreCanonicalRecords key_cmp form (header_window x.header) (association_entries x.associations) associations) (schedules : List Run)
+    (s : AreCanonicalRecords (slice_cmp nat_cmp) form (header_window x.header) (schedule_entries x.schedules) schedules) where
   -- the canonical extract
   abbrev pub canonical_of : ExtractParts
   canonical_of = record {
     header = x.header;
     tiplocs = tiplocs;
-    associations = associations_of associations dated_associations;
-    schedules = schedules_of schedules dated_schedules;
+    associations = associations_of a.records (dated-associations form x associations a);
+    schedules = schedules_of s.records (dated-schedules form x schedules s);
   }
 
   pub is-canonical : IsCanonicalExtract form canonical_of
   is-canonical = record {
-    tiplocs = rising;
+    tiplocs = distinct.rising;
     associations = record {
-      records = associations;
-      are = entries-of_associations associations dated_associations;
-      canonical = canonical_associations;
+      records = a.records;
+      are = entries-of_associations a.records (dated-associations form x associations a);
+      canonical = a.canonical;
     };
     schedules = record {
-      records = schedules;
-      are = entries-of_schedules schedules dated_schedules;
-      canonical = canonical_schedules;
+      records = s.records;
+      are = entries-of_schedules s.records (dated-schedules form x schedules s);
+      canonical = s.canonical;
     };
   }
 
@@ -52,10 +45,10 @@ module _ (form : Form) (x : ExtractParts) (tiplocs : List Tiploc)
   same-meaning = record {
     header = refl;
     agree = record {
-      tiplocs = members;
+      tiplocs = distinct.members;
       associations = subst (λ es. EntriesSayTheSame (association_entries x.associations) es x.header.first x.header.last)
-          (sym (entries-of_associations associations dated_associations)) meant_associations;
+          (sym (entries-of_associations a.records (dated-associations form x associations a))) a.same_meaning;
       schedules = subst (λ es. EntriesSayTheSame (schedule_entries x.schedules) es x.header.first x.header.last)
-          (sym (entries-of_schedules schedules dated_schedules)) meant_schedules;
+          (sym (entries-of_schedules s.records (dated-schedules form x schedules s))) s.same_meaning;
     };
   }

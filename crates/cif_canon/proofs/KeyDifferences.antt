@@ -3,17 +3,10 @@ use Rattle.std.proofs.Common.{◌≡◌, ◌≢◌, ◌⊎◌, inl, inr, ℕ, Bo
 use Rattle.std.specs.Prelude.{IsNone, IsTrue, ◌↔◌}
 use Rattle.std.proofs.lemmas.Bool.{false≢true}
 use Rattle.std.proofs.lemmas.Option.{same_Some}
-use Rattle.cif_columns.specs.declared.stp.Stp.TheVariants.{C}
-use Rattle.cif_calendar.specs.Calendar.{CalendarParts, IsCalendar, body_on}
-use Rattle.cif_calendar.specs.Clash.{IsClearFrom}
 use Rattle.cif_calendar.proofs.KeyCalendar.{key-clear, key-runs}
 use Rattle.cif_weeks.specs.Runs.{IsRunOf as IsCalendarRun, window_of}
-use Rattle.cif_canon.specs.Differences.{OnlySays, at_side}
-use Rattle.cif_canon.specs.Steps.OnlySides.{AreOnlyRuns}
-use Rattle.cif_canon.specs.Steps.Records.{IsRunOf}
-use Rattle.cif_canon.specs.declared.listed_differences.Side.{Side}
-use Rattle.cif_canon.specs.declared.listed_differences.Side.TheVariants.{Left, Right}
-use Rattle.cif_canon.proofs.Words.{ArePositionsOf, IsWithin, Run, Terms, Two, keyed, of_key, window_from}
+use Rattle.cif_canon.proofs.Words.{AreOnlyRuns, ArePositionsOf, C, CalendarParts, IsCalendar, IsClearFrom, IsRunOf, IsWithin, Left}
+use Rattle.cif_canon.proofs.Words.{OnlySays, Right, Run, Side, Terms, Two, at_side, body_on, keyed, of_key, window_from}
 use Rattle.cif_canon.proofs.FoundRecords.{AreOnlyOfKey, AreRuns}
 use Rattle.cif_canon.proofs.KeyRecords.{key-run, runs-as, window-is}
 

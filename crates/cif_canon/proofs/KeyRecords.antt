@@ -1,11 +1,7 @@
 -- The runs of a key's calendar are those of the key's canonical records.
 use Rattle.std.proofs.Common.{◌≡◌, inl, inr, ℕ, ◌<◌, List, [], ◌∷◌, ◌++◌, Some, map, length, get_or, refl, sym, ◌∙◌, ap, subst, ⊎_elim}
-use Rattle.std.specs.Prelude.{Contains, IsNone, ◌↔◌}
-use Rattle.std.specs.List.{AllZip}
-use Rattle.std.specs.Option.{option_and_then}
-use Rattle.cif_columns.specs.declared.stp.Stp.TheVariants.{C}
-use Rattle.cif_calendar.specs.Terms.{SameRecords, Terms}
-use Rattle.cif_calendar.specs.Calendar.{CalendarParts, IsCalendar, IsFault, body_on}
+use Rattle.cif_calendar.specs.Terms.{SameRecords}
+use Rattle.cif_calendar.specs.Calendar.{IsFault}
 use Rattle.cif_calendar.specs.declared.key_calendar.CalendarFault.{CalendarFault}
 use Rattle.cif_calendar.specs.declared.key_calendar.CalendarFault.TheVariants.{Ambiguous, Memory}
 use Rattle.cif_calendar.specs.Runs.{BodyRuns}
@@ -14,19 +10,18 @@ use Rattle.cif_calendar.proofs.Elements.{Contains-first, Contains-rest}
 use Rattle.cif_calendar.proofs.KeyCalendar.{key-clear, key-runs, key-source, key-fault}
 use Rattle.cif_calendar.proofs.Positions.{positions-records, terms_at-keyed}
 use Rattle.cif_calendar.proofs.Sets.{IsClearFrom-same, Runs-same}
-use Rattle.cif_extract.specs.declared.fault.Clash.{Clash}
-use Rattle.cif_weeks.specs.Canonical.{with_key}
 use Rattle.cif_weeks.specs.MemberRuns.{AreRunsOfMembers, IsMembersRun}
-use Rattle.cif_weeks.specs.Permanent.{Permanent, Permanents}
-use Rattle.cif_weeks.specs.Runs.{IsRunOf as IsCalendarRun, AreCanonicalRuns, window_of}
-use Rattle.cif_weeks.specs.WhatRuns.{HasBody}
+use Rattle.cif_weeks.specs.Permanent.{Permanents}
+use Rattle.cif_weeks.specs.Runs.{IsRunOf as IsCalendarRun}
 use Rattle.cif_weeks.proofs.AlignedDays.{tight}
 use Rattle.cif_weeks.proofs.JoinedLists.{zip-back, zip-map}
 use Rattle.cif_weeks.proofs.KeyByKey.{HasBody-more, of_key-more}
-use Rattle.cif_canon.specs.Steps.Records.{IsRunOf, AreRunsOf, AreRunsOfKey, IsKeyFault, extract_fault}
+use Rattle.cif_canon.specs.Steps.Records.{extract_fault}
 use Rattle.cif_calendar.proofs.KeyPositions.{has-key}
 use Rattle.cif_calendar.proofs.KeyTurns.{one-key}
-use Rattle.cif_canon.proofs.Words.{ArePositionsOf, Form, IsWithin, Run, Window, keyed, of_key, window_from}
+use Rattle.cif_canon.proofs.Words.{AllZip, AreCanonicalRuns, ArePositionsOf, AreRunsOf, AreRunsOfKey, C, CalendarParts, Clash, Contains}
+use Rattle.cif_canon.proofs.Words.{Form, HasBody, IsCalendar, IsKeyFault, IsNone, IsRunOf, IsWithin, Permanent, Run, Terms, Window, body_on}
+use Rattle.cif_canon.proofs.Words.{keyed, of_key, option_and_then, window_from, window_of, with_key, ◌↔◌}
 
 -- sets with the same records say the same
 same-bodies : {B : Type 0} (us vs : Permanents B) → ((r : Permanent B) → us r ↔ vs r) → (d : ℕ) (b : B) → HasBody us d b ↔ HasBody vs d b
@@ -72,12 +67,11 @@ runs-as {B} form window after is IsOf IsAs ties IsSaid IsTold same runs a = subs
   each : (runs : List Run) (records : List (Permanent B)) → ((r : Permanent B) → Contains records r → IsWithin window r.first) →
       AllZip IsOf runs records → AllZip IsAs runs records
   each [] [] within z = tt
-  each [] (r ∷ records) within z = absurd z
-  each (run ∷ runs) [] within z = absurd z
   each (run ∷ runs) (r ∷ records) within z = (
     ties run r (within r (Contains-first r records)) z.0,
     each runs records (λ s in'. within s (Contains-rest r records s in')) z.1,
   )
+  each _ _ _ z = absurd z
 
 -- each record with the key
 pub zip-keyed : {K B : Type 0} (es : List (K × Terms B)) (k : K) (runs : List Run) (records : List (Permanent B)) →

@@ -1,30 +1,17 @@
 -- The differences of two extracts, from those of their locations, their associations and their schedules.
 use Rattle.std.proofs.Common.{◌≡◌, ◌⊎◌, inl, inr, ◌≤◌, ◌<◌, List, [], ◌∷◌, Option, None, Some, length, refl, sym, ap, ◌∙◌, subst, ⊎_elim}
-use Rattle.std.specs.Prelude.{All, Contains, ◌↔◌, slice_get}
-use Rattle.std.specs.List.{AllZip}
-use Rattle.std.specs.Cmp.Lexicographic.{slice_cmp}
-use Rattle.std.specs.Ordering.{nat_cmp}
-use Rattle.std.specs.declared.cmp.Ordering.{Ordering}
 use Rattle.std.proofs.lemmas.List.Elements.{Contains-get_or}
 use Rattle.std.proofs.lemmas.Option.{same_Some, slice_get_within}
-use Rattle.cif_calendar.specs.ByKey.{HasKey}
 use Rattle.cif_calendar.proofs.KeyPositions.{within-entries}
 use Rattle.cif_calendar.proofs.KeyTurns.{one-key}
 use Rattle.cif_weeks.proofs.AlignedDays.{tight}
-use Rattle.cif_canon.specs.Accepted.{IsClearExtract}
-use Rattle.cif_canon.specs.Asked.{header_window}
-use Rattle.cif_canon.specs.Comparison.{IsFirstDifference}
-use Rattle.cif_canon.specs.Differences.{AreDifferences, AreDifferentRecords, AreDifferentTiplocs, AreNone, DifferencesParts}
-use Rattle.cif_canon.specs.Differences.{IsOnlyIn, TurnInto, TurnLeftIntoRight, at_side, of_side}
-use Rattle.cif_canon.specs.Meaning.{Agree}
-use Rattle.cif_canon.specs.Steps.OnlySides.{AreDifferentRuns, AreSame, IsFirstFound, IsSidedRunOf}
-use Rattle.cif_canon.specs.Steps.Sides.{HasSidedRecord, sided_records}
-use Rattle.cif_canon.specs.declared.differing.Extent.TheVariants.{AllKeys}
-use Rattle.cif_canon.specs.declared.listed_differences.Side.{Side}
-use Rattle.cif_canon.specs.declared.listed_differences.Side.TheVariants.{Left, Right}
-use Rattle.cif_canon.specs.declared.listed_differences.Sided.{Sided}
-use Rattle.cif_canon.proofs.Words.{AreClear, EntriesSayTheSame, ExtractParts, Permanent, Run, Terms, Tiploc, Two, Window}
-use Rattle.cif_canon.proofs.Words.{association_entries, key_cmp, keyed, schedule_entries}
+use Rattle.cif_canon.specs.Differences.{AreDifferentRecords, TurnLeftIntoRight}
+use Rattle.cif_canon.proofs.Words.{Agree, All, AllKeys, AllZip, AreClear, AreDifferences, AreDifferentRuns, AreDifferentTiplocs, AreNone}
+use Rattle.cif_canon.proofs.Words.{AreSame, Contains, DifferencesParts, EntriesSayTheSame, ExtractParts, HasKey, HasSidedRecord}
+use Rattle.cif_canon.proofs.Words.{IsClearExtract, IsFirstDifference, IsFirstFound, IsOnlyIn, IsSidedRunOf, Left, Ordering, Permanent}
+use Rattle.cif_canon.proofs.Words.{Right, Run, Side, Sided, Terms, Tiploc, TurnInto, Two, Window, association_entries, at_side}
+use Rattle.cif_canon.proofs.Words.{header_window, key_cmp, keyed, nat_cmp, of_side, schedule_entries, sided_records, slice_cmp, slice_get}
+use Rattle.cif_canon.proofs.Words.{◌↔◌}
 use Rattle.cif_canon.proofs.DifferentTiplocs.{has-or-not, no-tiploc, with_side}
 use Rattle.cif_canon.proofs.FoundRecords.{no-member}
 use Rattle.cif_canon.proofs.MergedSides.{from-side, side-member}
@@ -65,14 +52,13 @@ module _ {K B : Type 0} (cmp : K → K → Ordering) (window : Window) (xs ys : 
       IsFirstFound cmp window xs ys found → (o : Option (Sided Run)) → slice_get runs 0 ≡ o → IsFirstRun o
   first-run [] [] z first None is = first
   first-run [] [] z first (Some s) is = absurd (cc)
-  first-run [] (e ∷ found) z first o is = absurd z
-  first-run (s ∷ runs) [] z first o is = absurd z
   first-run (s ∷ runs) (e ∷ found) z first o is = subst IsFirstRun is (λ k has.
       let at : HasKey (at_side xs ys e.side) s.it.source k = subst (λ side. HasKey (at_side xs ys side) s.it.source k) z.0.side has in
       let key : k ≡ e.it.0 = one-key (at_side xs ys e.side) s.it.source k e.it.0 at
       (record { terms = z.0.run_of.terms; at = z.0.run_of.at }) in
       let day : s.it.first ≡ e.it.1.first = sym (ap (λ (p : Permanent B). p.first) z.0.run_of.dates) in
       rw (key, day) first)
+  first-run _ _ z _ _ _ = absurd z
 
 -- and its source is the position of an entry of its side
 pub first-within : {E K B : Type 0} (key : E → K) (terms : E → Terms B) (es fs : List E) (runs : List (Sided Run))
@@ -134,13 +120,13 @@ module _ (x y : ExtractParts) (window : header_window x.header ≡ header_window
     (aa : AreDifferentRuns key_cmp (header_window x.header) (association_entries x.associations) (association_entries y.associations)
     AllKeys associations) (schedules : List (Sided Run))
     (bs : AreDifferentRuns (slice_cmp nat_cmp) (header_window x.header) (schedule_entries x.schedules) (schedule_entries y.schedules)
-    AllKeys schedules) where
-  pub are-differences : (d : DifferencesParts) → d ≡ record {
-    tiplocs = tiplocs;
-    associations = sided_records (association_entries x.associations) (association_entries y.associations) associations;
-    schedules = sided_records (schedule_entries x.schedules) (schedule_entries y.schedules) schedules;
-  } → AreDifferences x y d
-  are-differences d is = subst (AreDifferences x y) (sym is) (record {
+    AllKeys schedules) (d : DifferencesParts) (is : d ≡ record {
+      tiplocs = tiplocs;
+      associations = sided_records (association_entries x.associations) (association_entries y.associations) associations;
+      schedules = sided_records (schedule_entries x.schedules) (schedule_entries y.schedules) schedules;
+    }) where
+  pub are-differences : AreDifferences x y d
+  are-differences = subst (AreDifferences x y) (sym is) (record {
     window = window;
     left = record { associations = aa.clear refl Left; schedules = bs.clear refl Left };
     right = clear-right x y window (aa.clear refl Right) (bs.clear refl Right);
@@ -151,12 +137,8 @@ module _ (x y : ExtractParts) (window : header_window x.header ≡ header_window
         schedules bs;
   })
 
-  pub none-agree : (d : DifferencesParts) → d ≡ record {
-    tiplocs = tiplocs;
-    associations = sided_records (association_entries x.associations) (association_entries y.associations) associations;
-    schedules = sided_records (schedule_entries x.schedules) (schedule_entries y.schedules) schedules;
-  } → AreNone d ↔ Agree (header_window x.header) x y
-  none-agree d is =
+  pub none-agree : AreNone d ↔ Agree (header_window x.header) x y
+  none-agree =
       let t = tiplocs-none x.tiplocs y.tiplocs tiplocs at in
       let a = kind-none key_cmp (header_window x.header) (association_entries x.associations) (association_entries y.associations)
       associations aa in
@@ -167,12 +149,8 @@ module _ (x y : ExtractParts) (window : header_window x.header ≡ header_window
         λ g. record { tiplocs = t.1 g.tiplocs; associations = a.1 g.associations; schedules = s.1 g.schedules },
       )
 
-  pub turn-left : (d : DifferencesParts) → d ≡ record {
-    tiplocs = tiplocs;
-    associations = sided_records (association_entries x.associations) (association_entries y.associations) associations;
-    schedules = sided_records (schedule_entries x.schedules) (schedule_entries y.schedules) schedules;
-  } → TurnLeftIntoRight x y d
-  turn-left d is = subst (TurnLeftIntoRight x y) (sym is) (record {
+  pub turn-left : TurnLeftIntoRight x y d
+  turn-left = subst (TurnLeftIntoRight x y) (sym is) (record {
     tiplocs = tiplocs-turn x.tiplocs y.tiplocs tiplocs at;
     associations = kind-turn key_cmp (header_window x.header) (association_entries x.associations) (association_entries y.associations)
         associations aa;

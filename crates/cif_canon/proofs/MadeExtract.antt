@@ -1,10 +1,9 @@
 -- The extract of canonical records.
 use Rattle.std.proofs.Common.{◌≡◌, ℕ, ◌≤◌, List, [], ◌∷◌, Some, refl, ap}
-use Rattle.std.specs.Prelude.{All}
 use Rattle.std.proofs.lemmas.List.Elements.{All-head, All-tail}
-use Rattle.cif_columns.specs.declared.stp.Stp.TheVariants.{P}
-use Rattle.cif_weeks.specs.Permanent.{Permanent, terms_of, permanent_entries}
-use Rattle.cif_canon.proofs.Words.{AssocBody, AssocKey, Association, BodyParts, Schedule, association_entries, schedule_entries}
+use Rattle.cif_weeks.specs.Permanent.{terms_of}
+use Rattle.cif_canon.proofs.Words.{All, AssocBody, AssocKey, Association, BodyParts, P, Permanent, Schedule, association_entries}
+use Rattle.cif_canon.proofs.Words.{permanent_entries, schedule_entries}
 
 -- a record that doesn't end before it begins
 abbrev pub IsDated : {K B : Type 0} → K × Permanent B → Type 0

@@ -1,28 +1,23 @@
 -- What a canonical extract says fits the columns of lines, where what it is made of does.
-use Rattle.std.proofs.Common.{◌≡◌, ℕ, zero, suc, Bool, List, [], ◌∷◌, ◌++◌, map, length, get_or, Some, refl}
-use Rattle.std.proofs.Common.{ap, ◌∙◌, subst, arith}
-use Rattle.std.specs.Prelude.{All, Contains, slice_get}
-use Rattle.std.specs.List.{AllZip, flat_map}
+use Rattle.std.proofs.Common.{◌≡◌, ℕ, zero, suc, Bool, List, [], ◌∷◌, ◌++◌, map, length, get_or, Some, refl, ap, ◌∙◌, subst, arith}
 use Rattle.std.proofs.lemmas.List.Elements.{All-head, All-tail, Contains-get_or}
-use Rattle.std.specs.declared.cmp.Ordering.{Ordering}
 use Rattle.cif_columns.specs.Day.{IsDay}
-use Rattle.cif_columns.specs.Field.{AllFit, Row}
+use Rattle.cif_columns.specs.Field.{AllFit}
 use Rattle.cif_columns.specs.declared.stp.Stp.{Stp}
-use Rattle.cif_columns.specs.declared.stp.Stp.TheVariants.{P}
-use Rattle.cif_extract.specs.Texts.{AllTablesFit, FitsColumns, schedule_tables, tables_of}
+use Rattle.cif_extract.specs.Texts.{AllTablesFit, schedule_tables}
 use Rattle.cif_extract.proofs.PlainTexts.{fit-append, fit-back, fit-front}
-use Rattle.cif_records.specs.Association.{association_rows, association_table}
-use Rattle.cif_records.specs.Basic.{basic_rows}
-use Rattle.cif_records.specs.Tiploc.{tiploc_table}
+use Rattle.cif_records.specs.Association.{association_rows}
 use Rattle.cif_records.specs.declared.detail.Detail.{Detail}
 use Rattle.cif_records.proofs.Headers as headers
 use Rattle.cif_weeks.specs.Aligned.{IsAligned}
-use Rattle.cif_weeks.specs.declared.form.Form.TheVariants.{One, Two}
-use Rattle.cif_canon.specs.Steps.Records.{IsRunOf}
-use Rattle.cif_canon.proofs.Words.{AreCanonical, AssocBody, AssocKey, Association, BodyParts, ExtractParts, Form, IsWithin, Permanent, Run}
-use Rattle.cif_canon.proofs.Words.{Schedule, Terms, Tiploc, Window, association_entries, association_entry, schedule_entries}
-use Rattle.cif_canon.proofs.Words.{schedule_entry, trailer_table}
+use Rattle.cif_weeks.specs.declared.form.Form.TheVariants.{One}
+use Rattle.cif_canon.proofs.Words.{All, AllZip, AreCanonical, AreCanonicalRecords, AreDistinct, AssocBody, AssocKey, Association, BodyParts}
+use Rattle.cif_canon.proofs.Words.{Contains, ExtractParts, FitsColumns, Form, IsRunOf, IsWithin, Ordering, P, Permanent, Row, Run, Schedule}
+use Rattle.cif_canon.proofs.Words.{Terms, Tiploc, Two, Window, association_entries, association_entry, association_table, basic_rows}
+use Rattle.cif_canon.proofs.Words.{flat_map, header_window, key_cmp, nat_cmp, schedule_entries, schedule_entry, slice_cmp, slice_get}
+use Rattle.cif_canon.proofs.Words.{tables_of, tiploc_table, trailer_table}
 use Rattle.cif_canon.proofs.MadeExtract.{IsDated, associations_of, schedules_of}
+use Rattle.cif_canon.proofs.KeptExtract.{canonical_of, dated-associations, dated-schedules}
 
 -- ---- a permanent record with dates and a mask of its own
 
@@ -31,12 +26,13 @@ pub record AreTerms (first last : ℕ) (days : List Bool) : Type 0 where
   pub last_is : IsDay last
   pub week : length days ≡ 7
 
-permanent-association : (key : AssocKey) (first last : ℕ) (days : List Bool) (letter : Stp) (body : AssocBody) (f l : ℕ) (m : List Bool) →
-    AllFit (association_rows key first last days letter (Some body)) → AreTerms f l m → AllFit (association_rows key f l m P (Some body))
+pub permanent-association : (key : AssocKey) (first last : ℕ) (days : List Bool) (letter : Stp) (body : AssocBody)
+    (f l : ℕ) (m : List Bool) → AllFit (association_rows key first last days letter (Some body)) →
+    AreTerms f l m → AllFit (association_rows key f l m P (Some body))
 permanent-association key first last days letter body f l m p t =
     (p.0, (p.1.0, (p.1.1.0, (p.1.1.1.0, ((refl, t.first_is), ((refl, t.last_is), ((refl, t.week), p.1.1.1.1.1.1.1)))))))
 
-permanent-basic : (uid : List ℕ) (first last : ℕ) (days : List Bool) (letter : Stp) (detail : Detail) (f l : ℕ) (m : List Bool) →
+pub permanent-basic : (uid : List ℕ) (first last : ℕ) (days : List Bool) (letter : Stp) (detail : Detail) (f l : ℕ) (m : List Bool) →
     AllFit (basic_rows uid first last days letter (Some detail)) → AreTerms f l m → AllFit (basic_rows uid f l m P (Some detail))
 permanent-basic uid first last days letter detail f l m p t =
     (p.0, (p.1.0, (p.1.1.0, ((refl, t.first_is), ((refl, t.last_is), ((refl, t.week), p.1.1.1.1.1.1))))))
@@ -135,21 +131,16 @@ schedules-fit xs (run ∷ runs) ((uid, r) ∷ es) dated terms zip fits =
     )
     (schedules-fit xs runs es (All-tail IsDated (uid, r) es dated) (All-tail HasTerms (uid, r) es terms) zip.1 fits)
 
-module _ (x : ExtractParts) (fits : FitsColumns x) (tiplocs : List Tiploc) (members : (t : Tiploc) → Contains tiplocs t →
-    Contains x.tiplocs t)
-    (associations : List Run) (associated : List (AssocKey × Permanent AssocBody)) (dated_associations : All IsDated associated)
-    (terms_associations : All HasTerms associated)
-    (zip_associations : AllZip (IsRunOf (association_entries x.associations)) associations associated)
-    (schedules : List Run) (scheduled : List (List ℕ × Permanent BodyParts)) (dated_schedules : All IsDated scheduled)
-    (terms_schedules : All HasTerms scheduled)
-    (zip_schedules : AllZip (IsRunOf (schedule_entries x.schedules)) schedules scheduled) where
-  pub made-fits : FitsColumns (record {
-    header = x.header;
-    tiplocs = tiplocs;
-    associations = associations_of associated dated_associations;
-    schedules = schedules_of scheduled dated_schedules;
-  })
+module _ (form : Form) (x : ExtractParts) (tiplocs : List Tiploc) (distinct : AreDistinct x.tiplocs tiplocs) (associations : List Run)
+    (a : AreCanonicalRecords key_cmp form (header_window x.header) (association_entries x.associations) associations) (schedules : List Run)
+    (s : AreCanonicalRecords (slice_cmp nat_cmp) form (header_window x.header) (schedule_entries x.schedules) schedules)
+    (fits : FitsColumns x) where
+  pub made-fits : FitsColumns (canonical_of form x tiplocs distinct associations a schedules s)
   made-fits =
+      let dated_a = dated-associations form x associations a in
+      let dated_s = dated-schedules form x schedules s in
+      let terms_a = have-terms key_cmp form (header_window x.header) a.records a.canonical (headers.last_is_day x.header) in
+      let terms_s = have-terms (slice_cmp nat_cmp) form (header_window x.header) s.records s.canonical (headers.last_is_day x.header) in
       let locations = map tiploc_table x.tiplocs in
       let own = map association_table x.associations in
       let trains = flat_map tables_of x.schedules in
@@ -158,16 +149,16 @@ module _ (x : ExtractParts) (fits : FitsColumns x) (tiplocs : List Tiploc) (memb
       let back = fit-back own (trains ++ end) behind in (
         headers.fits x.header,
         fit-append (map tiploc_table tiplocs)
-            (map association_table (associations_of associated dated_associations)
-            ++ (flat_map tables_of (schedules_of scheduled dated_schedules) ++ end))
+            (map association_table (associations_of a.records dated_a)
+            ++ (flat_map tables_of (schedules_of s.records dated_s) ++ end))
             (fit-members tiploc_table tiplocs (λ t h.
             fits-member tiploc_table x.tiplocs t (fit-front locations (own ++ (trains ++ end)) fits.1)
-            (members t h)))
-            (fit-append (map association_table (associations_of associated dated_associations))
-            (flat_map tables_of (schedules_of scheduled dated_schedules) ++ end)
-            (associations-fit x.associations associations associated dated_associations terms_associations zip_associations
+            ((distinct.members t).1 h)))
+            (fit-append (map association_table (associations_of a.records dated_a))
+            (flat_map tables_of (schedules_of s.records dated_s) ++ end)
+            (associations-fit x.associations associations a.records dated_a terms_a a.runs_of
             (fit-front own (trains ++ end) behind))
-            (fit-append (flat_map tables_of (schedules_of scheduled dated_schedules)) end
-            (schedules-fit x.schedules schedules scheduled dated_schedules terms_schedules zip_schedules (fit-front trains end back))
+            (fit-append (flat_map tables_of (schedules_of s.records dated_s)) end
+            (schedules-fit x.schedules schedules s.records dated_s terms_s s.runs_of (fit-front trains end back))
             (fit-back trains end back))),
       )

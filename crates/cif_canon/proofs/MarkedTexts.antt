@@ -1,16 +1,11 @@
 -- Lines behind a mark.
 use Rattle.std.proofs.Common.{◌≡◌, ℕ, Bool, List, [], ◌∷◌, ◌++◌, Some, map, sym, ◌∙◌, append_assoc, append-nil, refl, ap}
-use Rattle.std.specs.List.{flat_map}
-use Rattle.cif_columns.specs.Field.{plain_line}
-use Rattle.cif_columns.specs.declared.stp.Stp.TheVariants.{P}
 use Rattle.cif_extract.specs.Body.{KeepAll}
-use Rattle.cif_extract.specs.BodyParts.{BodyParts, body_records}
-use Rattle.cif_extract.specs.Texts.{schedule_lines}
+use Rattle.cif_extract.specs.BodyParts.{body_records}
 use Rattle.cif_extract.proofs.WrittenLines.{kept_plain}
-use Rattle.cif_records.specs.Basic.{basic_rows}
 use Rattle.cif_records.specs.Record.{record_table}
-use Rattle.cif_canon.specs.Differences.{mark, marked_text}
-use Rattle.cif_canon.specs.declared.listed_differences.Side.{Side}
+use Rattle.cif_canon.specs.Differences.{mark}
+use Rattle.cif_canon.proofs.Words.{BodyParts, P, Side, basic_rows, flat_map, marked_text, plain_line, schedule_lines}
 
 -- the text of one line
 pub marked-line : (side : Side) (line : List ℕ) → mark side ++ (line ++ (10 ∷ [])) ≡ marked_text side (line ∷ [])

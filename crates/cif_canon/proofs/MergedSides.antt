@@ -1,19 +1,14 @@
 -- Runs of both sides in one list.
-use Rattle.std.proofs.Common.{◌≡◌, ◌⊎◌, inl, inr, zero, suc, ◌+◌, ◌<◌, ◌≤◌, Bool, true, false, List, [], ◌∷◌, ◌++◌, Some, None}
-use Rattle.std.proofs.Common.{refl, sym, ap, ◌∙◌, subst, arith, get_or, length, ⊎_elim, append_assoc, append-nil, true≢false}
+use Rattle.std.proofs.Common.{◌≡◌, ◌⊎◌, inl, inr, zero, suc, ◌+◌, ◌<◌, ◌≤◌, Bool, true, false, List, [], ◌∷◌, ◌++◌, Some, None, refl, sym}
+use Rattle.std.proofs.Common.{ap, ◌∙◌, subst, arith, get_or, length, ⊎_elim, append_assoc, append-nil, true≢false}
 use Rattle.std.proofs.Math.Nat.{eq-or-lt_of_le}
-use Rattle.std.specs.Prelude.{AllPairs, Contains, if◌then◌else◌}
 use Rattle.std.proofs.lemmas.List.Elements.{Contains-get_or, Contains-push_cases}
 use Rattle.std.proofs.lemmas.List.Quantifiers.{all_pairs_push}
 use Rattle.cif_calendar.proofs.Elements.{Contains-first, Contains-rest, Contains-cases}
-use Rattle.cif_weeks.specs.declared.run.Run.{Run}
 use Rattle.cif_calendar.proofs.RisingLists.{Contains-none}
-use Rattle.cif_canon.specs.Differences.{at_side, is_side, of_side}
-use Rattle.cif_canon.specs.Steps.OnlySides.{AreAppendedRuns, AreMerging, AreRisingRuns, HasMovedOf}
-use Rattle.cif_canon.specs.Steps.OnlySides.{IsFirstSide, RunComesBefore}
-use Rattle.cif_canon.specs.declared.listed_differences.Side.{Side}
-use Rattle.cif_canon.specs.declared.listed_differences.Side.TheVariants.{Left, Right}
-use Rattle.cif_canon.specs.declared.listed_differences.Sided.{Sided}
+use Rattle.cif_canon.specs.Steps.OnlySides.{IsFirstSide}
+use Rattle.cif_canon.proofs.Words.{AllPairs, AreAppendedRuns, AreMerging, AreRisingRuns, Contains, HasMovedOf, Left, Right, Run}
+use Rattle.cif_canon.proofs.Words.{RunComesBefore, Side, Sided, at_side, if◌then◌else◌, is_side, of_side}
 
 -- ---- lists with sides
 
@@ -181,13 +176,9 @@ module _ (lefts rights : List Run) (old : List (Sided Run)) where
     pub moved-of : (side : Side) (l r l' r' : List Run) → IsFirstSide l r (Some side) → HasMovedOf side l r l' r' new next →
         AreMerging lefts rights l r old new → AreMerging lefts rights l' r' old next
     moved-of Left l r l' r' first (moved, same) m =
-        subst (λ (z : List Run). AreMerging lefts rights l' z old next) (sym same)
-        (merging-more Left moved.item l' r (subst (λ (z : List Run). IsFirstSide z r (Some Left)) moved.items_are first)
-        (subst (λ (z : List Run). AreMerging lefts rights z r old new) moved.items_are m) moved.new_is)
+        rw same (merging-more Left moved.item l' r (rw moved.items_are at first) (rw moved.items_are at m) moved.new_is)
     moved-of Right l r l' r' first (moved, same) m =
-        subst (λ (z : List Run). AreMerging lefts rights z r' old next) (sym same)
-        (merging-more Right moved.item r' l (subst (λ (z : List Run). IsFirstSide l z (Some Right)) moved.items_are first)
-        (subst (λ (z : List Run). AreMerging lefts rights l z old new) moved.items_are m) moved.new_is)
+        rw same (merging-more Right moved.item r' l (rw moved.items_are at first) (rw moved.items_are at m) moved.new_is)
 
 -- the side of the first run has one
 pub side-there : (side : Side) (l r : List Run) → IsFirstSide l r (Some side) → 0 < length (at_side l r side)
@@ -202,12 +193,8 @@ side-there Right (x ∷ l) (y ∷ r) h = omega arith
 -- what has moved is left no more
 pub moved-smaller : {T : Type 0} (side : Side) (l r l' r' : List T) (old new : List (Sided T)) → HasMovedOf side l r l' r' old new →
     length l' + length r' < length l + length r
-moved-smaller {T = T} Left l r l' r' old new (moved, same) =
-    subst (λ (z : List T). length l' + length z < length l + length r) (sym same)
-    (subst (λ (z : List T). length l' + length r < length z + length r) (sym moved.items_are) (omega arith))
-moved-smaller {T = T} Right l r l' r' old new (moved, same) =
-    subst (λ (z : List T). length z + length r' < length l + length r) (sym same)
-    (subst (λ (z : List T). length l + length r' < length l + length z) (sym moved.items_are) (omega arith))
+moved-smaller Left l r l' r' old new (moved, same) = rw (same, moved.items_are) (omega arith)
+moved-smaller Right l r l' r' old new (moved, same) = rw (same, moved.items_are) (omega arith)
 
 pub nothing-first : (l r : List Run) → IsFirstSide l r None → (l ≡ []) × (r ≡ [])
 nothing-first [] [] h = (refl, refl)
@@ -219,9 +206,7 @@ pub merging-end : (lefts rights l r : List Run) (old new : List (Sided Run)) →
     AreMerging lefts rights l r old new → AreAppendedRuns lefts rights old new
 merging-end lefts rights l r old new h m =
     let (no_left, no_right) = nothing-first l r h in
-    let end : AreMerging lefts rights [] [] old new =
-    subst (λ (z : List Run). AreMerging lefts rights [] z old new) no_right
-    (subst (λ (z : List Run). AreMerging lefts rights z r old new) no_left m) in
+    let end : AreMerging lefts rights [] [] old new = rw (no_left, no_right) at m in
     record {
       merged = end.merged;
       are = record {

@@ -2,38 +2,30 @@
 use Rattle.std.proofs.Common.{◌≡◌, ℕ, ◌≤◌, List, [], ◌∷◌, ◌++◌, map, length, Option, None, Some, IfSome, refl, sym, ap, ◌∙◌, subst, arith}
 use Rattle.std.proofs.Common.{length-append}
 use Rattle.std.specs.Prelude.{unwrap_or}
-use Rattle.std.specs.List.{flat_map}
-use Rattle.std.specs.Cmp.Lexicographic.{slice_cmp}
-use Rattle.std.specs.Ordering.{nat_cmp}
 use Rattle.std.proofs.lemmas.List.{drop_at}
 use Rattle.cif_columns.specs.Contents.{contents_of, lines_text}
 use Rattle.cif_columns.proofs.Parts.{length-plain_line}
-use Rattle.cif_extract.specs.SpellsExtract.{BytesSpell}
-use Rattle.cif_extract.specs.Texts.{FitsColumns, extract_text, tables_of}
 use Rattle.cif_extract.proofs.PlainTexts.{text-spells, spelled-fits}
 use Rattle.cif_extract.proofs.SpelledBytes.{one_spelled}
 use Rattle.cif_records.specs.HeaderColumns.{with_window}
-use Rattle.cif_records.specs.Association.{association_table}
-use Rattle.cif_records.specs.Header.{header_table}
-use Rattle.cif_records.specs.Tiploc.{tiploc_table}
 use Rattle.cif_records.proofs.Headers as headers
 use Rattle.cif_weeks.proofs.PermanentEntries.{canonical-clear}
-use Rattle.cif_canon.specs.Accepted.{IsAccepted, IsClearExtract}
-use Rattle.cif_canon.specs.Asked.{AskedDatesAreWithin, IsNarrowed, header_window, nothing_asked, window_asked}
-use Rattle.cif_canon.specs.Canonical.{IsCanonicalExtract, IsCanonicalOf}
-use Rattle.cif_canon.specs.Meaning.{Agree, SameMeaning}
+use Rattle.cif_canon.specs.Accepted.{IsAccepted}
+use Rattle.cif_canon.specs.Asked.{nothing_asked}
 use Rattle.cif_canon.specs.NormalForm.{IsNormalFormAgain, IsNormalFormOf, IsReachedFromForms, IsUnique, after_first_line}
-use Rattle.cif_canon.specs.declared.asked.Asked.{Asked}
-use Rattle.cif_canon.proofs.Words.{AreClear, Association, ExtractParts, Form, Header, IsWithin, Schedule, Tiploc, Window, key_cmp}
-use Rattle.cif_canon.proofs.Words.{plain_line, trailer_table}
-use Rattle.cif_canon.proofs.SameExtracts.{agree-sym, agree-trans, agree-with_header, one-window, same-parts, same-sym, same-trans}
+use Rattle.cif_extract.proofs.OneExtract.{same_extract_parts}
+use Rattle.cif_canon.proofs.Words.{Agree, AreClear, Asked, AskedDatesAreWithin, Association, BytesSpell, ExtractParts, FitsColumns, Form}
+use Rattle.cif_canon.proofs.Words.{Header, IsCanonicalExtract, IsCanonicalOf, IsClearExtract, IsNarrowed, IsWithin, SameMeaning, Schedule}
+use Rattle.cif_canon.proofs.Words.{Tiploc, Window, association_table, extract_text, flat_map, header_table, header_window, key_cmp, nat_cmp}
+use Rattle.cif_canon.proofs.Words.{plain_line, slice_cmp, tables_of, tiploc_table, trailer_table, window_asked}
+use Rattle.cif_canon.proofs.SameExtracts.{agree-sym, agree-trans, agree-with_header, one-window, same-sym, same-trans}
 use Rattle.cif_canon.proofs.Unique.{extracts-unique, one-associations, one-schedules, one-tiplocs}
 
 -- ---- what is accepted is one extract
 
 pub one-narrowed : (asked : Asked) (whole x y : ExtractParts) → IsNarrowed asked whole x → IsNarrowed asked whole y → x ≡ y
 one-narrowed asked whole x y p q =
-    same-parts x y (headers.same_header x.header y.header (p.columns ∙ sym q.columns)) (p.tiplocs ∙ sym q.tiplocs)
+    same_extract_parts x y (headers.same_header x.header y.header (p.columns ∙ sym q.columns)) (p.tiplocs ∙ sym q.tiplocs)
     (p.associations ∙ sym q.associations) (p.schedules ∙ sym q.schedules)
 
 pub one-accepted : (asked : Asked) (input : List ℕ) (x y : ExtractParts) → IsAccepted asked x input → IsAccepted asked y input → x ≡ y

@@ -1,25 +1,18 @@
 -- What an input that is read and narrowed comes to.
 use Rattle.std.proofs.Common.{◌≡◌, ◌≢◌, ◌≤◌, ℕ, List, [], Option, Some, None, Result, Ok, Err, IfErr, refl, sym, ap, ◌∙◌, subst, arith}
-use Rattle.std.specs.Prelude.{IfSome, IsErrAnd}
 use Rattle.cif_calendar.proofs.FirstClash.{first_clash-clear}
 use Rattle.cif_columns.specs.Sink.{HasFailed}
 use Rattle.cif_columns.proofs.GivenLinesLaws.{known_so}
-use Rattle.cif_columns.specs.Source.{Unread}
-use Rattle.cif_extract.specs.declared.fault.Clash.{Clash}
 use Rattle.cif_extract.specs.declared.fault.Clash.TheVariants.{Association, Train}
 use Rattle.cif_extract.specs.declared.fault.Fault.TheVariants as fault
 use Rattle.cif_extract.proofs.SpelledBytes.{one_spelled, spelled-refused}
-use Rattle.cif_canon.specs.Accepted.{IsAcceptedWithin, IsClearExtract, SpellsNarrowed}
-use Rattle.cif_canon.specs.Asked.{AskedDatesAreWithin, IsNarrowed, IsNarrowingFault, window_asked}
-use Rattle.cif_canon.specs.Canon.{CanonParts, IsCanonOf}
-use Rattle.cif_canon.specs.Fault.{IsCanonFault, IsDeviceOrMemory, IsFirstClashIn, IsNormaliseFault, IsOfCheck, IsOfNormalise}
-use Rattle.cif_canon.specs.Fault.{IsOfReadNarrowed, IsReadNarrowedFault}
+use Rattle.cif_canon.specs.Accepted.{IsAcceptedWithin, SpellsNarrowed}
+use Rattle.cif_canon.specs.Fault.{IsDeviceOrMemory, IsNormaliseFault, IsReadNarrowedFault}
 use Rattle.cif_canon.specs.Normalised.{FaultWrites, IsNormalised, Normalises}
-use Rattle.cif_canon.specs.declared.asked.Asked.{Asked}
-use Rattle.cif_canon.specs.declared.canonical_form.Counts.{Counts}
-use Rattle.cif_extract.specs.SpellsExtract.{BytesSpellWithin}
 use Rattle.cif_extract.proofs.FirstRefusals.{if_error}
-use Rattle.cif_canon.proofs.Words.{ExtractParts, Fault, Form, Sink}
+use Rattle.cif_canon.proofs.Words.{Asked, AskedDatesAreWithin, BytesSpellWithin, CanonParts, Clash, Counts, ExtractParts, Fault, Form}
+use Rattle.cif_canon.proofs.Words.{IfSome, IsCanonFault, IsCanonOf, IsClearExtract, IsErrAnd, IsFirstClashIn, IsNarrowed, IsNarrowingFault}
+use Rattle.cif_canon.proofs.Words.{IsOfCheck, IsOfNormalise, IsOfReadNarrowed, Sink, Unread, window_asked}
 use Rattle.cif_canon.proofs.HandedFaults.{at-fault, known-fault}
 use Rattle.cif_canon.proofs.NormalForms.{one-narrowed}
 

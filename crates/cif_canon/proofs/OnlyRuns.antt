@@ -1,15 +1,12 @@
 -- The runs of what is left of a calendar are those of what only it says.
 use Rattle.std.proofs.Common.{◌≡◌, ◌≢◌, ◌≤◌, ◌<◌, ℕ, zero, suc, List, [], ◌∷◌, None, Some, sym, ◌∙◌, ap, subst, arith, ⊎_elim}
-use Rattle.std.specs.Prelude.{All, AllPairs, ◌↔◌}
-use Rattle.std.specs.List.{AllZip}
 use Rattle.std.proofs.lemmas.List.Elements.{All-nil, All-cons, All-head, All-tail}
 use Rattle.std.proofs.lemmas.List.Kept.{AllPairs-cons}
-use Rattle.cif_calendar.specs.Pieces.{source_at}
-use Rattle.cif_calendar.specs.Source.{body_at}
-use Rattle.cif_weeks.specs.Runs.{AreCanonicalRuns, AreSources, IsRunOf as IsCalendarRun, window_of}
+use Rattle.cif_weeks.specs.Runs.{IsRunOf as IsCalendarRun}
 use Rattle.cif_calendar.proofs.RisingLists.{Contains-none}
-use Rattle.cif_canon.specs.Steps.OnlySides.{AreOnlyRuns, AreRisingRuns, IsOnlyCalendar}
-use Rattle.cif_canon.proofs.Words.{CalendarParts, IsWithin, Permanent, Run, Terms, Two, body_on, window_from}
+use Rattle.cif_canon.specs.Steps.OnlySides.{IsOnlyCalendar}
+use Rattle.cif_canon.proofs.Words.{All, AllPairs, AllZip, AreCanonicalRuns, AreOnlyRuns, AreRisingRuns, AreSources, CalendarParts, IsWithin}
+use Rattle.cif_canon.proofs.Words.{Permanent, Run, Terms, Two, body_at, body_on, source_at, window_from, window_of, ◌↔◌}
 use Rattle.cif_canon.proofs.KeyRecords.{runs-as}
 
 -- what holds of the pairs of one list holds of those of another that goes with it one by one
@@ -17,18 +14,16 @@ module _ {X Y : Type 0} (R : X → Y → Type 0) (P : X → X → Type 0) (Q : Y
     (with' : (x u : X) (y v : Y) → R x y → R u v → Q y v → P x u) where
   all-zip : (x : X) (y : Y) → R x y → (us : List X) (vs : List Y) → AllZip R us vs → All (Q y) vs → All (P x) us
   all-zip x y h [] [] z a = All-nil (P x)
-  all-zip x y h [] (v ∷ vs) z a = absurd z
-  all-zip x y h (u ∷ us) [] z a = absurd z
   all-zip x y h (u ∷ us) (v ∷ vs) z a =
       All-cons (P x) u us (with' x u y v h z.0 (All-head (Q y) v vs a)) (all-zip x y h us vs z.1 (All-tail (Q y) v vs a))
+  all-zip _ _ _ _ _ z _ = absurd z
 
   pub pairs-zip : (xs : List X) (ys : List Y) → AllZip R xs ys → AllPairs Q ys → AllPairs P xs
   pairs-zip [] [] z a = λ i j d less within. absurd (omega arith)
-  pairs-zip [] (y ∷ ys) z a = absurd z
-  pairs-zip (x ∷ xs) [] z a = absurd z
   pairs-zip (x ∷ xs) (y ∷ ys) z a =
       AllPairs-cons P x xs (all-zip x y z.0 xs ys z.1 (λ k d within. a zero (suc k) d (omega arith) (omega arith)))
       (pairs-zip xs ys z.1 (λ i j d less within. a (suc i) (suc j) d (omega arith) (omega arith)))
+  pairs-zip _ _ z _ = absurd z
 
 -- the runs of records rise as these do
 pub rising-runs : {B : Type 0} (xs : List (Terms B)) (c : CalendarParts) (runs : List Run) (records : List (Permanent B)) →

@@ -1,27 +1,16 @@
 -- Records by pairs: the first one is listed by itself, or with the next one if they are a pair.
 use Rattle.std.proofs.Common.{◌≡◌, ℕ, ◌-◌, ◌<◌, Bool, true, false, List, [], ◌∷◌, ◌++◌, Option, None, Some, ap, arith, drop, get_or, length}
 use Rattle.std.proofs.Common.{refl, subst, sym, take, true≢false, ◌∙◌}
-use Rattle.std.specs.Prelude.{IsTrue, ◌↔◌, if◌then◌else◌}
-use Rattle.std.specs.Bool.{Decides}
 use Rattle.std.specs.Cmp.{booleans_Decides}
-use Rattle.std.specs.Cmp.Lexicographic.{pointwise_decides, slice_cmp}
-use Rattle.std.specs.List.{flat_map}
-use Rattle.std.specs.Ordering.{is_eq, nat_cmp}
-use Rattle.std.specs.declared.cmp.Ordering.{Ordering}
 use Rattle.std.proofs.lemmas.Bool.Decides.{Decides-and, Decides-eqb}
 use Rattle.std.proofs.lemmas.List.{take_all}
 use Rattle.std.proofs.lemmas.List.Folds.{flat_map-map}
-use Rattle.cif_canon.specs.Appended.{IsAppended}
-use Rattle.cif_canon.specs.Differences.{DifferencesParts, at_side, is_side}
-use Rattle.cif_canon.specs.Lines.{ScheduleLines, association_plain, line_of_tiploc, schedule_plain}
-use Rattle.cif_canon.specs.Pairs.{ArePair, Listed, are_pair, association_lines, by_pairs, listed_as, schedule_lines, tiploc_lines}
+use Rattle.cif_canon.specs.Pairs.{listed_as, schedule_lines}
 use Rattle.cif_canon.specs.Steps.ByPairs.{HasWrittenFirst, IsListedFirst, listed_tiploc}
-use Rattle.cif_canon.specs.Steps.Sides.{sided_records, with_record}
-use Rattle.cif_canon.specs.Steps.Texts.{record_at}
-use Rattle.cif_canon.specs.declared.listed_differences.Side.{Side}
-use Rattle.cif_canon.specs.declared.listed_differences.Side.TheVariants.{Left, Right}
-use Rattle.cif_canon.specs.declared.listed_differences.Sided.{Sided}
-use Rattle.cif_canon.proofs.Words.{Permanent, Run, Sink, Terms, Tiploc, key_cmp}
+use Rattle.cif_canon.proofs.Words.{ArePair, Decides, DifferencesParts, IsAppended, IsTrue, Left, Listed, Ordering, Permanent, Right, Run}
+use Rattle.cif_canon.proofs.Words.{ScheduleLines, Side, Sided, Sink, Terms, Tiploc, are_pair, association_lines, association_plain, at_side}
+use Rattle.cif_canon.proofs.Words.{by_pairs, flat_map, if◌then◌else◌, is_eq, is_side, key_cmp, line_of_tiploc, nat_cmp, pointwise_decides}
+use Rattle.cif_canon.proofs.Words.{record_at, schedule_plain, sided_records, slice_cmp, tiploc_lines, with_record, ◌↔◌}
 use Rattle.cif_canon.proofs.AppendedTexts.{both, text-is}
 
 -- ---- the test of a pair

@@ -1,15 +1,9 @@
 -- Two inputs that spell extracts, narrowed to what is asked for of both.
 use Rattle.std.proofs.Common.{◌≡◌, ℕ, Bool, List, Option, inr, subst}
-use Rattle.std.specs.Prelude.{IfSome}
 use Rattle.cif_columns.specs.declared.line_reader.TheConstants.{MAX_LINES}
 use Rattle.cif_columns.proofs.GivenLinesLaws.{known_so}
-use Rattle.cif_columns.specs.Source.{Unread}
-use Rattle.cif_extract.specs.ExtractParts.{ExtractParts}
-use Rattle.cif_extract.specs.SpellsExtract.{BytesSpellWithin}
-use Rattle.cif_extract.specs.declared.fault.Fault.{Fault}
-use Rattle.cif_canon.specs.Asked.{IsNarrowed}
 use Rattle.cif_canon.specs.Pair.{AreNarrowed, IsPairFault, IsPairRefusal, IsRightRefusal, asked_of_both}
-use Rattle.cif_canon.specs.declared.asked.Asked.{Asked}
+use Rattle.cif_canon.proofs.Words.{Asked, BytesSpellWithin, ExtractParts, Fault, IfSome, IsNarrowed, Unread}
 
 -- a left input that spells an extract, and a reader that gives one, aren't read where the two extracts aren't narrowed
 pub spelled-refused : (asked : Asked) (common : Bool) (right : Option (List ℕ)) (bytes : List ℕ) (after right_after : Unread)

@@ -1,29 +1,22 @@
 -- Which canonical records apply on a day, and which are those of one key.
-use Rattle.std.proofs.Common.{◌≡◌, ◌<◌, ℕ, zero, suc, Bool, true, false, List, [], ◌∷◌, map, get_or, refl, sym, ap, ◌∙◌, subst}
-use Rattle.std.proofs.Common.{⊎_elim, arith}
-use Rattle.std.specs.Prelude.{◌↔◌, ◌&&◌, AllPairs, Contains, IsTrue, Some, nat_eq, nat_le, slice_index_or}
-use Rattle.std.specs.Bool.{Decides}
+use Rattle.std.proofs.Common.{◌≡◌, ◌<◌, ℕ, zero, suc, Bool, true, false, List, [], ◌∷◌, map, get_or, refl, sym, ap, ◌∙◌, subst, ⊎_elim}
+use Rattle.std.proofs.Common.{arith}
+use Rattle.std.specs.Prelude.{Some, nat_le, slice_index_or}
 use Rattle.std.proofs.lemmas.Bool.{false_from_ne_true, false≢true, le-leb, leb-true}
 use Rattle.std.proofs.lemmas.Bool.Decides.{Decides-and, Decides-like}
 use Rattle.std.proofs.lemmas.Option.{same_Some}
 use Rattle.cif_columns.specs.DaysRun.{RunsOn}
-use Rattle.std.specs.Cmp.{IsTotalOrder}
-use Rattle.std.specs.Cmp.Lexicographic.{pointwise, bytes_decides}
-use Rattle.std.specs.List.{filter}
-use Rattle.std.specs.declared.cmp.Ordering.{Ordering}
-use Rattle.std.specs.declared.cmp.Ordering.TheVariants.{Less}
 use Rattle.std.proofs.lemmas.List.Elements.{Contains-get_or}
 use Rattle.std.proofs.lemmas.List.Kept.{AllPairs-filter}
 use Rattle.cif_calendar.specs.Applies.{IsDateOf}
 use Rattle.cif_weeks.specs.Applies.{Applies}
-use Rattle.cif_weeks.specs.Canonical.{Precedes}
 use Rattle.cif_weeks.proofs.JoinedLists.{AllPairs-map, Contains-map, Contains-from_map}
 use Rattle.cif_weeks.proofs.PermanentEntries.{runs-applies}
 use Rattle.cif_calendar.proofs.RisingLists.{not_less}
-use Rattle.cif_canon.specs.Steps.Records.{AreCanonicalRecords}
-use Rattle.cif_canon.specs.Steps.Views.{applies_on}
 use Rattle.cif_canon.specs.Views.{AreRunning}
-use Rattle.cif_canon.proofs.Words.{Form, IsWithin, Permanent, Run, Terms, Window, of_key, record_of, weekday_of}
+use Rattle.cif_canon.proofs.Words.{AllPairs, AreCanonicalRecords, Contains, Decides, Form, IsTotalOrder, IsTrue, IsWithin, Less, Ordering}
+use Rattle.cif_canon.proofs.Words.{Permanent, Precedes, Run, Terms, Window, applies_on, bytes_decides, filter, nat_eq, of_key, pointwise}
+use Rattle.cif_canon.proofs.Words.{record_of, weekday_of, ◌&&◌, ◌↔◌}
 use Rattle.cif_canon.proofs.ChosenRecords.{chosen, chosen-from}
 
 -- ---- the test of a day

@@ -1,13 +1,12 @@
 -- Extracts with equal parts, and that saying the same is an equivalence.
-use Rattle.std.proofs.Common.{◌≡◌, ℕ, List, [], ◌∷◌, map, refl, sym, ap, ◌∙◌, subst}
+use Rattle.std.proofs.Common.{◌≡◌, ℕ, List, sym, ap, ◌∙◌, subst}
 use Rattle.cif_calendar.proofs.SayTheSame.{EntriesSayTheSame-refl, EntriesSayTheSame-sym, EntriesSayTheSame-trans}
+use Rattle.cif_extract.proofs.OneExtract.{same_values}
 use Rattle.cif_extract.proofs.Schedules.{same_schedule}
 use Rattle.cif_records.proofs.Associations.{same_association}
 use Rattle.cif_records.proofs.Headers.{same_header}
-use Rattle.cif_canon.specs.Asked.{header_window}
-use Rattle.cif_canon.specs.Meaning.{Agree, SameMeaning}
-use Rattle.cif_canon.proofs.Words.{AssocBody, AssocKey, Association, BodyParts, ExtractParts, Header, Schedule, Terms, Tiploc, Window}
-use Rattle.cif_canon.proofs.Words.{association_entries, association_entry, schedule_entries, schedule_entry}
+use Rattle.cif_canon.proofs.Words.{Agree, AssocBody, AssocKey, Association, BodyParts, ExtractParts, Header, SameMeaning, Schedule, Terms}
+use Rattle.cif_canon.proofs.Words.{Window, association_entries, association_entry, header_window, schedule_entries, schedule_entry}
 
 -- ---- equal parts
 
@@ -25,28 +24,11 @@ one-schedule s t e =
     (ap (λ (u : Terms BodyParts). u.last) terms) (ap (λ (u : Terms BodyParts). u.days) terms)
     (ap (λ (u : Terms BodyParts). u.letter) terms) (ap (λ (u : Terms BodyParts). u.body) terms)
 
--- values whose images are equal, where the images of two are equal only where they are
-same-mapped : {X Y : Type 0} (f : X → Y) → ((a b : X) → f a ≡ f b → a ≡ b) → (xs ys : List X) → map f xs ≡ map f ys → xs ≡ ys
-same-mapped f one [] [] e = refl
-same-mapped f one [] (y ∷ ys) e = absurd (cc)
-same-mapped f one (x ∷ xs) [] e = absurd (cc)
-same-mapped f one (x ∷ xs) (y ∷ ys) e =
-    let head : f x ≡ f y = cc in
-    let tail : map f xs ≡ map f ys = cc in
-    ap (λ z. z ∷ xs) (one x y head) ∙ ap (λ zs. y ∷ zs) (same-mapped f one xs ys tail)
-
 pub same-associations : (xs ys : List Association) → association_entries xs ≡ association_entries ys → xs ≡ ys
-same-associations xs ys e = same-mapped association_entry one-association xs ys e
+same-associations xs ys e = same_values association_entry one-association xs ys e
 
 pub same-schedules : (ss ts : List Schedule) → schedule_entries ss ≡ schedule_entries ts → ss ≡ ts
-same-schedules ss ts e = same-mapped schedule_entry one-schedule ss ts e
-
-pub same-parts : (x y : ExtractParts) → x.header ≡ y.header → x.tiplocs ≡ y.tiplocs → x.associations ≡ y.associations →
-    x.schedules ≡ y.schedules → x ≡ y
-same-parts x y a b c d =
-    let parts : ◌≡◌ {A = Header × List Tiploc × List Association × List Schedule}
-    (x.header, x.tiplocs, x.associations, x.schedules) (y.header, y.tiplocs, y.associations, y.schedules) = cc in
-    ap (λ v. record { header = v.0; tiplocs = v.1; associations = v.2; schedules = v.3 }) parts
+same-schedules ss ts e = same_values schedule_entry one-schedule ss ts e
 
 -- ---- saying the same
 

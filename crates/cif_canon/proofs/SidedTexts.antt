@@ -1,17 +1,10 @@
 -- The records of runs with their sides, and their text.
 use Rattle.std.proofs.Common.{◌≡◌, ℕ, ◌<◌, ◌≤◌, Bool, get_or, length, map, List, [], ◌∷◌, ◌++◌, Option, None, Some, refl, sym, ap, ◌∙◌}
-use Rattle.std.specs.Prelude.{All, IsTrue, ◌↔◌}
-use Rattle.std.specs.List.{AllZip, flat_map}
 use Rattle.std.proofs.lemmas.List.Elements.{All-nil, All-cons, All-head, All-tail}
 use Rattle.std.proofs.lemmas.List.{nil_from_length}
-use Rattle.cif_canon.specs.Differences.{AreNone, at_side}
-use Rattle.cif_canon.specs.Steps.OnlySides.{IsSidedRunOf}
-use Rattle.cif_canon.specs.Steps.Sides.{HasSidedRecord, sided_records, sided_run_text, with_record}
-use Rattle.cif_canon.specs.Steps.Texts.{HasRecord, record_at, text_if}
-use Rattle.cif_canon.specs.declared.listed_differences.Side.{Side}
-use Rattle.cif_canon.specs.declared.listed_differences.Side.TheVariants.{Left, Right}
-use Rattle.cif_canon.specs.declared.listed_differences.Sided.{Sided}
-use Rattle.cif_canon.proofs.Words.{AssocBody, AssocKey, BodyParts, Permanent, Run, Terms, Tiploc}
+use Rattle.cif_canon.proofs.Words.{All, AllZip, AreNone, AssocBody, AssocKey, BodyParts, HasRecord, HasSidedRecord, IsSidedRunOf, IsTrue}
+use Rattle.cif_canon.proofs.Words.{Left, Permanent, Right, Run, Side, Sided, Terms, Tiploc, at_side, flat_map, record_at, sided_records}
+use Rattle.cif_canon.proofs.Words.{sided_run_text, text_if, with_record, ◌↔◌}
 use Rattle.cif_canon.proofs.RunTexts.{record-of_entry, record-within}
 
 module _ {K B : Type 0} (xs ys : List (K × Terms B)) where
@@ -51,18 +44,15 @@ module _ {K B : Type 0} (xs ys : List (K × Terms B)) where
   pub records-of_runs : (runs : List (Sided Run)) (found : List (Sided (K × Permanent B))) → AllZip (IsSidedRunOf xs ys) runs found →
       sided_records xs ys runs ≡ found
   records-of_runs [] [] z = refl
-  records-of_runs [] (e ∷ found) z = absurd z
-  records-of_runs (s ∷ runs) [] z = absurd z
   records-of_runs (s ∷ runs) (e ∷ found) z =
       ap (λ side. with_record side (record_at (at_side xs ys side) s.it) (sided_records xs ys runs)) z.0.side
       ∙ ap (λ o. with_record e.side o (sided_records xs ys runs)) (record-there s e z.0)
       ∙ ap (λ (l : List (Sided (K × Permanent B))). e ∷ l) (records-of_runs runs found z.1)
+  records-of_runs _ _ z = absurd z
 
   pub have-sided_records : (runs : List (Sided Run)) (found : List (Sided (K × Permanent B))) → AllZip (IsSidedRunOf xs ys) runs found →
       All (λ e. e.it.1.first ≤ e.it.1.last) found → All (HasSidedRecord xs ys) runs
   have-sided_records [] [] z dated = All-nil (HasSidedRecord xs ys)
-  have-sided_records [] (e ∷ found) z dated = absurd z
-  have-sided_records (s ∷ runs) [] z dated = absurd z
   have-sided_records (s ∷ runs) (e ∷ found) z dated =
       All-cons (HasSidedRecord xs ys) s runs
       (record {
@@ -71,6 +61,7 @@ module _ {K B : Type 0} (xs ys : List (K × Terms B)) where
         in_order = All-head (λ (e : Sided (K × Permanent B)). e.it.1.first ≤ e.it.1.last) e found dated;
       })
       (have-sided_records runs found z.1 (All-tail (λ (e : Sided (K × Permanent B)). e.it.1.first ≤ e.it.1.last) e found dated))
+  have-sided_records _ _ z _ = absurd z
 
   -- where each run has a record, there is none of the one exactly where there is none of the other
   pub records-none : (runs : List (Sided Run)) → All (HasSidedRecord xs ys) runs → sided_records xs ys runs ≡ [] → runs ≡ []

@@ -1,21 +1,13 @@
 -- The locations that only one of two rising lists has are found one by one.
-use Rattle.std.proofs.Common.{◌≡◌, ◌⊎◌, inl, inr, ◌+◌, ◌<◌, List, [], ◌∷◌, ◌++◌, Some, None, length, drop}
-use Rattle.std.proofs.Common.{refl, sym, ap, subst, arith, ⊎_elim, get_or, take, ◌-◌}
+use Rattle.std.proofs.Common.{◌≡◌, ◌⊎◌, inl, inr, ◌+◌, ◌<◌, List, [], ◌∷◌, ◌++◌, Some, None, length, drop, refl, sym, ap, subst, arith}
+use Rattle.std.proofs.Common.{⊎_elim, get_or, take, ◌-◌}
 use Rattle.std.proofs.lemmas.List.{length-drop, take_all}
-use Rattle.std.specs.Prelude.{AllPairs, Contains, ◌↔◌}
-use Rattle.std.specs.Cmp.Lexicographic.{nat_list_cmp_total}
-use Rattle.std.specs.declared.cmp.Ordering.TheVariants.{Less, Equal, Greater}
 use Rattle.std.proofs.lemmas.List.Elements.{Contains-append_left, Contains-get_or, Contains-push, Contains-push_cases}
 use Rattle.std.proofs.lemmas.List.Quantifiers.{all_pairs_push}
 use Rattle.cif_calendar.proofs.Elements.{Contains-first, Contains-rest, Contains-cases}
-use Rattle.cif_records.specs.declared.tiploc.Tiploc.{Tiploc}
 use Rattle.cif_calendar.proofs.RisingLists.{Contains-none}
-use Rattle.cif_canon.specs.Differences.{AreDifferentTiplocs, IsOnlyIn, at_side}
-use Rattle.cif_canon.specs.Steps.OnlySides.{AreSifting, HasMovedOf, IsFirstOrder}
-use Rattle.cif_canon.specs.Steps.Tiplocs.{AreDistinct}
-use Rattle.cif_canon.specs.declared.listed_differences.Side.{Side}
-use Rattle.cif_canon.specs.declared.listed_differences.Side.TheVariants.{Left, Right}
-use Rattle.cif_canon.specs.declared.listed_differences.Sided.{Sided}
+use Rattle.cif_canon.proofs.Words.{AllPairs, AreDifferentTiplocs, AreDistinct, AreSifting, Contains, Equal, Greater, HasMovedOf}
+use Rattle.cif_canon.proofs.Words.{IsFirstOrder, IsOnlyIn, Left, Less, Right, Side, Sided, Tiploc, at_side, nat_list_cmp_total, ◌↔◌}
 use Rattle.cif_canon.proofs.DifferentTiplocs.{Before, before-greater, equal-tiplocs, not-itself, with_side}
 use Rattle.cif_canon.proofs.MergedSides.{from-sides, pairs-head, pairs-tail, to-sides}
 
@@ -231,9 +223,7 @@ module _ (lefts rights : List Tiploc) where
         IsFirstOrder l r None → AreSifting lefts rights l r found → AreDifferentTiplocs ls rs found
     sifting-end l r ls rs p q h a =
         let (no_left, no_right) = nothing-first l r h in
-        sifting-all ls rs p q
-        (subst (λ (z : List Tiploc). AreSifting lefts rights [] z found) no_right
-        (subst (λ (z : List Tiploc). AreSifting lefts rights z r found) no_left a))
+        sifting-all ls rs p q (rw (no_left, no_right) at a)
 
 -- the slice behind the first
 pub behind-first : (l : List Tiploc) → take (length l - 1) (drop 1 l) ≡ drop 1 l

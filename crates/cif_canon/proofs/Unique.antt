@@ -1,22 +1,16 @@
 -- Canonical extracts that say the same are equal.
 use Rattle.std.proofs.Common.{◌≡◌, List, sym, ◌∙◌, ap, subst}
-use Rattle.std.specs.declared.cmp.Ordering.{Ordering}
-use Rattle.std.specs.declared.cmp.Ordering.TheVariants.{Less}
-use Rattle.std.specs.Cmp.{IsTotalOrder}
-use Rattle.std.specs.Cmp.Lexicographic.{slice_cmp, nat_list_cmp_total}
-use Rattle.std.specs.Ordering.{nat_cmp}
 use Rattle.std.proofs.lemmas.Cmp.{on_total, then_total}
 use Rattle.cif_records.proofs.Headers.{same_header}
-use Rattle.cif_weeks.specs.Permanent.{permanent_entries}
 use Rattle.cif_weeks.proofs.PermanentEntries.{same-meaning}
 use Rattle.cif_calendar.proofs.RisingLists.{IsOneWay, same_members, less_one_way}
 use Rattle.cif_weeks.proofs.UniqueByKey.{unique_same}
-use Rattle.cif_canon.specs.Asked.{header_window}
-use Rattle.cif_canon.specs.Canonical.{AreCanonicalEntries, IsCanonicalExtract}
-use Rattle.cif_canon.specs.Meaning.{Agree, SameMeaning}
-use Rattle.cif_canon.proofs.Words.{AssocKey, EntriesSayTheSame, ExtractParts, Form, Terms, Tiploc, Window, association_entries, key_cmp}
-use Rattle.cif_canon.proofs.Words.{schedule_entries}
-use Rattle.cif_canon.proofs.SameExtracts.{one-window, same-associations, same-parts, same-schedules}
+use Rattle.cif_canon.specs.Canonical.{AreCanonicalEntries}
+use Rattle.cif_extract.proofs.OneExtract.{same_extract_parts}
+use Rattle.cif_canon.proofs.Words.{Agree, AssocKey, EntriesSayTheSame, ExtractParts, Form, IsCanonicalExtract, IsTotalOrder, Less, Ordering}
+use Rattle.cif_canon.proofs.Words.{SameMeaning, Terms, Tiploc, Window, association_entries, header_window, key_cmp, nat_cmp}
+use Rattle.cif_canon.proofs.Words.{nat_list_cmp_total, permanent_entries, schedule_entries, slice_cmp}
+use Rattle.cif_canon.proofs.SameExtracts.{one-window, same-associations, same-schedules}
 
 module _ {K B : Type 0} (cmp : K → K → Ordering) (total : IsTotalOrder cmp) (form : Form) (window : Window) where
   -- canonical entries that say the same are equal
@@ -72,5 +66,5 @@ module _ (form : Form) (x y : ExtractParts) (p : IsCanonicalExtract form x) (q :
 pub extracts-unique : (form : Form) (x y : ExtractParts) → IsCanonicalExtract form x → IsCanonicalExtract form y → SameMeaning x y → x ≡ y
 extracts-unique form x y p q same =
     let window = one-window x y same in
-    same-parts x y (same_header x.header y.header same.header) (one-tiplocs form x y p q window same.agree)
+    same_extract_parts x y (same_header x.header y.header same.header) (one-tiplocs form x y p q window same.agree)
     (one-associations form x y p q window same.agree) (one-schedules form x y p q window same.agree)

@@ -6,12 +6,12 @@ use Rattle.std.proofs.lemmas.Grind.{flat_map-append}
 use Rattle.std.proofs.lemmas.List.{at_drop_all, at_drop_more}
 use Rattle.std.proofs.lemmas.List.Elements.{All-cons, All-nil, All-replicate}
 use Rattle.cif_columns.specs.Line.{ArePrintable, IsPrintable}
-use Rattle.cif_canon.specs.Fields.{AreFields, CanBeShown, Field, after, century, fields_text, lead, led, line_of, long_date, nothing, separator, shown}
+use Rattle.cif_canon.specs.Fields.{AreFields, Field, after, century, fields_text, lead, led, line_of, long_date, nothing, separator, shown}
 use Rattle.cif_canon.specs.Fields.{width, width_of}
 use Rattle.cif_canon.specs.declared.rows.Format.{Format}
 use Rattle.cif_canon.specs.declared.rows.Format.TheVariants.{Text, Tsv}
 use Rattle.cif_canon.specs.declared.rows.Shape.{Shape}
-use Rattle.cif_canon.specs.declared.rows.Shape.TheVariants.{Date, Trimmed, Whole}
+use Rattle.cif_canon.specs.declared.rows.Shape.TheVariants.{Trimmed}
 
 module _ (format : Format) where
   -- fields behind fields
@@ -105,21 +105,6 @@ tabs-after zero = refl
 tabs-after (suc count) = ap (λ (l : List ℕ). 9 ∷ l) (tabs-after count)
 
 -- a field that can be shown has printable columns, no more than it takes
-pub printable-field : (shape : Shape) (columns : List ℕ) → CanBeShown shape columns → ArePrintable columns
-printable-field Trimmed columns h = h
-printable-field Whole columns h = h
-printable-field Date columns h = h.0
-
-pub fits-shape : (shape : Shape) (columns : List ℕ) → CanBeShown shape columns → length columns ≤ width_of shape columns
-fits-shape Trimmed columns h = omega arith
-fits-shape Whole columns h = omega arith
-fits-shape Date columns h = let six = h.1 in omega (arith, six)
-
-pub ten-at-most : (shape : Shape) (columns : List ℕ) → length columns ≡ 6 → width_of shape columns ≤ 10
-ten-at-most Trimmed columns six = omega (arith, six)
-ten-at-most Whole columns six = omega (arith, six)
-ten-at-most Date columns six = omega arith
-
 -- with the fields that are left, the line is whole, and no longer than it may be
 pub record IsGrowing (format : Format) (whole : List ℕ) (most : ℕ) (line : List ℕ) (size : ℕ) (left : List Field) : Type 0 where
   pub text : line ++ after format left ≡ whole

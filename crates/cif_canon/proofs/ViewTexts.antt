@@ -1,20 +1,12 @@
 -- What is listed of records is the text of a view.
 use Rattle.std.proofs.Common.{◌≡◌, ℕ, List, ◌++◌, map, Result, Ok, Err, sym, ap, ◌∙◌, subst}
-use Rattle.std.specs.Cmp.Lexicographic.{nat_list_cmp_total, pointwise, slice_cmp}
-use Rattle.std.specs.List.{flat_map}
-use Rattle.std.specs.Ordering.{nat_cmp}
-use Rattle.std.specs.Prelude.{All, nat_eq}
-use Rattle.std.specs.declared.cmp.Ordering.{Ordering}
 use Rattle.cif_weeks.proofs.PermanentEntries.{canonical-dated}
-use Rattle.cif_extract.specs.declared.fault.Fault.TheVariants.{Write}
-use Rattle.cif_canon.specs.Asked.{header_window}
 use Rattle.cif_canon.specs.Normalised.{IfWritten}
-use Rattle.cif_canon.specs.Steps.Records.{AreCanonicalRecords}
-use Rattle.cif_canon.specs.Steps.Texts.{HasRecord, run_text}
-use Rattle.cif_canon.specs.Steps.Views.{applies_on, listed_of, listed_on}
-use Rattle.cif_canon.specs.Views.{DayTexts, IsDayListed, IsTrainListed, TrainTexts}
-use Rattle.cif_canon.proofs.Words.{AssocBody, AssocKey, BodyParts, ExtractParts, Fault, Form, IsWithin, Permanent, Run, Terms, Window}
-use Rattle.cif_canon.proofs.Words.{association_entries, key_cmp, schedule_entries}
+use Rattle.cif_canon.specs.Views.{IsDayListed, IsTrainListed}
+use Rattle.cif_canon.proofs.Words.{All, AreCanonicalRecords, AssocBody, AssocKey, BodyParts, DayTexts, ExtractParts, Fault, Form, HasRecord}
+use Rattle.cif_canon.proofs.Words.{IsWithin, Ordering, Permanent, Run, Terms, TrainTexts, Window, Write, applies_on, association_entries}
+use Rattle.cif_canon.proofs.Words.{flat_map, header_window, key_cmp, listed_of, listed_on, nat_cmp, nat_eq, nat_list_cmp_total, pointwise}
+use Rattle.cif_canon.proofs.Words.{run_text, schedule_entries, slice_cmp}
 use Rattle.cif_canon.proofs.CanonTexts.{have-records, texts-of_runs}
 use Rattle.cif_canon.proofs.ChosenRecords.{chosen-text}
 use Rattle.cif_canon.proofs.RunningRecords.{applying, bodied, own, own-are, own-rising, running}

@@ -1,10 +1,7 @@
 -- The parts of a canonical text, appended one after another.
 use Rattle.std.proofs.Common.{ℕ, List, [], ◌∷◌, ◌++◌, Option}
-use Rattle.std.specs.List.{flat_map}
-use Rattle.cif_records.specs.Header.{header_table}
-use Rattle.cif_canon.specs.Steps.Texts.{association_run_text, canon_text, schedule_run_text, tiploc_text}
-use Rattle.cif_canon.specs.Appended.{IsAppended}
-use Rattle.cif_canon.proofs.Words.{ExtractParts, Run, Sink, Tiploc, association_entries, plain_line, schedule_entries, trailer_table}
+use Rattle.cif_canon.proofs.Words.{ExtractParts, IsAppended, Run, Sink, Tiploc, association_entries, association_run_text, canon_text}
+use Rattle.cif_canon.proofs.Words.{flat_map, header_table, plain_line, schedule_entries, schedule_run_text, tiploc_text, trailer_table}
 use Rattle.cif_canon.proofs.AppendedTexts.{both}
 
 module _ {W : Type 0} (contents : W → Option (List ℕ)) (errors : W → Option ℕ) (x : ExtractParts) (tiplocs : List Tiploc)

@@ -1,13 +1,9 @@
 -- The parts of the text of differences, appended one after another.
 use Rattle.std.proofs.Common.{ℕ, List, ◌++◌, Option}
 use Rattle.std.specs.List.{flat_map}
-use Rattle.cif_canon.specs.Differences.{marked_association, marked_schedule, marked_tiploc}
-use Rattle.cif_canon.specs.Steps.Sides.{sided_records, sided_run_text}
-use Rattle.cif_canon.specs.Appended.{IsAppended}
-use Rattle.cif_canon.specs.declared.listed_differences.Side.TheVariants.{Left, Right}
-use Rattle.cif_canon.specs.declared.listed_differences.Sided.{Sided}
-use Rattle.cif_canon.proofs.Words.{AssocBody, AssocKey, Association, BodyParts, Permanent, Run, Schedule, Sink, Tiploc, association_entries}
-use Rattle.cif_canon.proofs.Words.{schedule_entries}
+use Rattle.cif_canon.specs.Differences.{marked_association, marked_schedule}
+use Rattle.cif_canon.proofs.Words.{AssocBody, AssocKey, Association, BodyParts, IsAppended, Left, Permanent, Right, Run, Schedule, Sided}
+use Rattle.cif_canon.proofs.Words.{Sink, Tiploc, association_entries, marked_tiploc, schedule_entries, sided_records, sided_run_text}
 use Rattle.cif_canon.proofs.AppendedTexts.{both, text-is}
 use Rattle.cif_canon.proofs.SidedTexts.{sided-text}
 

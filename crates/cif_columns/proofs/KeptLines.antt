@@ -49,7 +49,7 @@ module _ (columns : List ℕ) (i count end : ℕ) (below : i < length columns) (
   used_more = more_at (is_space (get_or columns i 0)) refl
 
 -- columns are those that are used, and then spaces
-trimmed : (columns : List ℕ) → take (used columns) columns ++ replicate (length columns - used columns) 32 ≡ columns
+pub trimmed : (columns : List ℕ) → take (used columns) columns ++ replicate (length columns - used columns) 32 ≡ columns
 trimmed [] = refl
 trimmed (b ∷ columns) = at (is_space b) refl (used columns) (trimmed columns)
   where

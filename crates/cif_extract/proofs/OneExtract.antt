@@ -56,7 +56,8 @@ each_map : {A : Type 0} (P : Record → Type 0) (f : A → Record) → ((x : A) 
 each_map P f h [] = tt
 each_map P f h (x ∷ xs) = (h x, each_map P f h xs)
 
-same_values : {A : Type 0} (f : A → Record) → ((x y : A) → f x ≡ f y → x ≡ y) → (xs ys : List A) → map f xs ≡ map f ys → xs ≡ ys
+-- values whose images are equal, where the images of two are equal only where they are
+pub same_values : {A R : Type 0} (f : A → R) → ((x y : A) → f x ≡ f y → x ≡ y) → (xs ys : List A) → map f xs ≡ map f ys → xs ≡ ys
 same_values f one [] [] e = refl
 same_values f one [] (y ∷ ys) e = cc
 same_values f one (x ∷ xs) [] e = cc
@@ -277,7 +278,7 @@ associations_begin : (xs : List Association) (groups : List Record) (schedules :
 associations_begin [] groups schedules are = tail_begins Ti (λ e. cc) (λ e. cc) groups schedules are
 associations_begin (x ∷ xs) groups schedules are = λ e. cc
 
-same_extract_parts : (x y : ExtractParts) → x.header ≡ y.header → x.tiplocs ≡ y.tiplocs → x.associations ≡ y.associations →
+pub same_extract_parts : (x y : ExtractParts) → x.header ≡ y.header → x.tiplocs ≡ y.tiplocs → x.associations ≡ y.associations →
     x.schedules ≡ y.schedules → x ≡ y
 same_extract_parts x y h t a s =
     ap (λ header. record { header = header; tiplocs = x.tiplocs; associations = x.associations; schedules = x.schedules }) h

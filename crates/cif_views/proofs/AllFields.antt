@@ -1,17 +1,9 @@
 -- The rows of associations, and of what is explained, have all fields.
 use Rattle.std.proofs.Common.{ℕ, Bool, true, false, List, ◌∷◌, ◌++◌, Option, None, Some, codes, refl}
-use Rattle.cif_calendar.specs.Terms.{Terms}
-use Rattle.cif_extract.specs.BodyParts.{BodyParts}
-use Rattle.cif_records.specs.declared.association.AssocBody.{AssocBody}
-use Rattle.cif_records.specs.declared.association.AssocKey.{AssocKey}
-use Rattle.cif_canon.specs.Fields.{led}
-use Rattle.cif_canon.specs.Rows.{no_association, no_train}
-use Rattle.cif_canon.specs.declared.rows.Format.TheVariants.{Tsv}
-use Rattle.cif_canon.specs.declared.rows.Shape.TheVariants.{Trimmed}
 use Rattle.cif_views.specs.AllFields.{HasAll, table_with}
 use Rattle.cif_views.specs.Explanation.{explanation_names, mark_columns, said_of_association, said_of_train, terms_fields}
 use Rattle.cif_views.specs.Listing.{association_fields_of, date_field, day_names}
-use Rattle.cif_views.specs.declared.marks.Mark.{Mark}
+use Rattle.cif_views.proofs.Words.{AssocBody, AssocKey, BodyParts, Mark, Terms, Trimmed, Tsv, led, no_association, no_train}
 
 pub all-of_association : (calls : Bool) (d : ℕ) (e : AssocKey × AssocBody) →
     HasAll (day_names (table_with calls)) (association_fields_of (table_with calls) (date_field d) e)

@@ -1,20 +1,13 @@
 -- The text of calls that are written one after another, and of the rows of a table that has them.
 use Rattle.std.proofs.Common.{◌≡◌, ℕ, ◌<◌, Bool, true, false, List, [], ◌∷◌, ◌++◌, codes, length, refl, sym, ap, ap₂, ◌∙◌, append-nil}
 use Rattle.std.proofs.Common.{append_assoc, arith, if◌then◌else◌}
-use Rattle.std.specs.List.{flat_map}
-use Rattle.cif_extract.specs.BodyParts.{BodyParts}
-use Rattle.cif_extract.specs.declared.call.Call.{Call}
-use Rattle.cif_extract.specs.declared.call.Call.TheVariants.{At, Turn}
-use Rattle.cif_views.specs.Calls.{call_text, calls_text}
-use Rattle.cif_canon.specs.Fields.{Field, fields_text, lead, led, line_of, shown}
 use Rattle.cif_views.specs.Explanation.{explanation_heading}
-use Rattle.cif_views.specs.Steps.Rows.{heading_text, names_behind, row_and_calls, row_lines}
-use Rattle.cif_views.specs.Listing.{association_names, day_names, if_table, lines_of_row, train_names, with_calls}
-use Rattle.cif_views.specs.Tables.{names_line}
-use Rattle.cif_canon.specs.declared.rows.Format.{Format}
-use Rattle.cif_canon.specs.declared.rows.Format.TheVariants.{Text, Tsv}
+use Rattle.cif_views.specs.Steps.Rows.{heading_text, row_and_calls}
+use Rattle.cif_views.specs.Listing.{association_names, if_table, lines_of_row, train_names, with_calls}
 use Rattle.cif_views.specs.declared.listing.Listing.{Listing}
 use Rattle.cif_canon.proofs.ViewLines.{joined-rows}
+use Rattle.cif_views.proofs.Words.{At, BodyParts, Call, Field, Format, Text, Tsv, Turn, call_text, calls_text, day_names, fields_text}
+use Rattle.cif_views.proofs.Words.{flat_map, lead, led, line_of, names_behind, names_line, row_lines, shown}
 
 -- one more of all is done, or none is left
 module _ {X : Type 0} (all done left : List X) (split : done ++ left ≡ all) where

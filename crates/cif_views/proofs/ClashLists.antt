@@ -1,58 +1,27 @@
 -- There are no clashes exactly where the extract is clear, and the first of them is the first clash.
 use Rattle.std.proofs.Common.{◌≡◌, zero, suc, ℕ, List, [], ◌∷◌, ◌++◌, Some, map, arith, refl, sym, ◌∙◌, ap, subst}
-use Rattle.std.specs.Prelude.{Contains, slice_get, ◌↔◌}
 use Rattle.std.specs.Cmp.{IsTotalOrder}
-use Rattle.std.specs.Cmp.Lexicographic.{bytes_decides, nat_list_cmp_total, slice_cmp, texts_ties}
-use Rattle.std.specs.Ordering.{is_eq, nat_cmp, ordering_then}
-use Rattle.std.specs.declared.cmp.Ordering.{Ordering}
-use Rattle.std.specs.declared.cmp.Ordering.TheVariants.{Less, Equal, Greater}
+use Rattle.std.specs.Cmp.Lexicographic.{nat_list_cmp_total, texts_ties}
+use Rattle.std.specs.Ordering.{is_eq}
 use Rattle.std.proofs.lemmas.Option.{same_Some}
-use Rattle.cif_calendar.specs.Entries.{association_entries, association_entry, schedule_entries, schedule_entry}
-use Rattle.cif_calendar.specs.Keys.{AreClear, IsFirstClashOf, of_key}
-use Rattle.cif_calendar.specs.Terms.{Terms}
+use Rattle.cif_calendar.specs.Keys.{AreClear, IsFirstClashOf}
 use Rattle.cif_calendar.proofs.Elements.{Contains-first}
 use Rattle.cif_calendar.proofs.FirstClash.{IsFirstClashOf-clear, IsFirstClashOf-day, IsFirstClashOf-key, first_clash-clear}
-use Rattle.cif_extract.specs.ExtractParts.{ExtractParts}
-use Rattle.cif_extract.specs.declared.fault.Clash.{Clash}
 use Rattle.cif_extract.specs.declared.fault.Clash.TheVariants as named
-use Rattle.cif_extract.specs.declared.extract.Schedule.{Schedule}
-use Rattle.cif_records.specs.AssocKey.{key_cmp}
-use Rattle.cif_records.specs.declared.association.AssocKey.{AssocKey}
-use Rattle.cif_records.specs.declared.association.Association.{Association}
 use Rattle.cif_records.specs.declared.header.Header.{Header}
 use Rattle.cif_calendar.proofs.RisingLists.{Contains-none, less_one_way, not_less}
-use Rattle.cif_canon.specs.Accepted.{IsClearExtract}
 use Rattle.cif_calendar.specs.AllClashes.{AreAllClashes, association_clash, train_clash}
 use Rattle.cif_calendar.specs.Clashes.{AreClashes}
-use Rattle.cif_canon.specs.Fault.{IsFirstClashIn}
 use Rattle.cif_views.specs.Steps.Clashes.{AreAdded}
+use Rattle.cif_canon.proofs.ByPairs.{same-keys}
 use Rattle.cif_canon.proofs.Unique.{keys-total}
+use Rattle.cif_views.proofs.Words.{AssocKey, Association, Clash, Contains, Equal, ExtractParts, IsClearExtract, IsFirstClashIn, Less}
+use Rattle.cif_views.proofs.Words.{Ordering, Schedule, Terms, association_entries, association_entry, bytes_decides, key_cmp, nat_cmp}
+use Rattle.cif_views.proofs.Words.{of_key, schedule_entries, schedule_entry, slice_cmp, slice_get, ◌↔◌}
 
 -- bytes that compare equal are equal
 same-bytes : (xs ys : List ℕ) → slice_cmp nat_cmp xs ys ≡ Equal → xs ≡ ys
 same-bytes xs ys e = (bytes_decides xs ys).0 (texts_ties xs ys ∙ ap is_eq e)
-
-both-equal : (o p : Ordering) → ordering_then o p ≡ Equal → (o ≡ Equal) × (p ≡ Equal)
-both-equal Equal p e = (refl, e)
-both-equal Less p e = absurd (cc)
-both-equal Greater p e = absurd (cc)
-
--- so are keys
-same-keys : (j k : AssocKey) → key_cmp j k ≡ Equal → j ≡ k
-same-keys j k e =
-    let base = both-equal _ _ e in
-    let associated = both-equal _ _ base.1 in
-    let location = both-equal _ _ associated.1 in
-    let suffixes = both-equal _ _ location.1 in
-    let a = same-bytes j.base k.base base.0 in
-    let b = same-bytes j.associated k.associated associated.0 in
-    let c = same-bytes j.location k.location location.0 in
-    let d = same-bytes j.base_suffix k.base_suffix suffixes.0 in
-    let f = same-bytes j.associated_suffix k.associated_suffix suffixes.1 in
-    let parts : ◌≡◌ {A = List ℕ × List ℕ × List ℕ × List ℕ × List ℕ}
-    (j.base, j.associated, j.location, j.base_suffix, j.associated_suffix)
-    (k.base, k.associated, k.location, k.base_suffix, k.associated_suffix) = cc in
-    ap (λ v. record { base = v.0; associated = v.1; location = v.2; base_suffix = v.3; associated_suffix = v.4 }) parts
 
 module _ {K B : Type 0} (cmp : K → K → Ordering) (es : List (K × Terms B)) (first last : ℕ) where
   -- no clashes: all is clear

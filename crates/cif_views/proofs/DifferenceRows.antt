@@ -2,12 +2,9 @@
 use Rattle.std.proofs.Common.{◌≡◌, ℕ, List, ◌++◌, ◌∷◌, ap, drop, sym, ◌∙◌}
 use Rattle.std.specs.Prelude.{codes}
 use Rattle.std.proofs.lemmas.Grind.{flat_map-append}
-use Rattle.cif_canon.specs.Fields.{Field, after, line_of, separator, shown}
-use Rattle.cif_canon.specs.declared.rows.Format.TheVariants.{Tsv}
-use Rattle.cif_views.specs.DifferenceTable.{association_head, schedule_head, tiploc_head}
-use Rattle.cif_views.specs.Steps.DifferenceRows.{head_fields}
-use Rattle.cif_views.specs.declared.difference_table.RowKind.{RowKind}
+use Rattle.cif_canon.specs.Fields.{separator}
 use Rattle.cif_views.specs.declared.difference_table.RowKind.TheVariants.{Association, Schedule, Tiploc}
+use Rattle.cif_views.proofs.Words.{Field, RowKind, Tsv, after, association_head, head_fields, line_of, schedule_head, shown, tiploc_head}
 use Rattle.cif_views.proofs.TableRows.{row-text}
 
 -- what a row begins with and what follows are a line

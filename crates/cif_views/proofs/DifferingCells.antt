@@ -1,21 +1,15 @@
 -- Where no field of a pair has a row, what stands in the columns of all its fields is the same.
-use Rattle.std.proofs.Common.{◌≡◌, ℕ, zero, suc, ◌+◌, ◌-◌, ◌<◌, ◌≤◌, Bool, true, false, List, [], ◌∷◌, ◌++◌, codes, cond, drop, length}
-use Rattle.std.proofs.Common.{◌∙◌, ap, ap₂, arith, length-append, map, nat_eq, refl, replicate, subst, sym, take}
+use Rattle.std.proofs.Common.{◌≡◌, ℕ, ◌+◌, ◌-◌, ◌<◌, ◌≤◌, Bool, true, false, List, [], ◌∷◌, ◌++◌, codes, cond, drop, length, ◌∙◌, ap, ap₂}
+use Rattle.std.proofs.Common.{arith, length-append, map, nat_eq, refl, replicate, subst, sym, take}
 use Rattle.std.specs.Prelude.{◌&&◌, nat_le}
-use Rattle.std.specs.Cmp.Lexicographic.{bytes_decides, pointwise}
-use Rattle.std.proofs.lemmas.Bool.{and_parts, eqb-true, leb-true}
+use Rattle.std.proofs.lemmas.Bool.{and_parts, leb-true}
 use Rattle.std.proofs.lemmas.List.{drop-take, length-take-le, take-take}
-use Rattle.cif_columns.specs.Field.{AllStandIn, FieldValue, Row, StandsIn, columns}
-use Rattle.cif_columns.specs.Field.{activity_codes, date, exactly, indicator, public_time, spare, text, weekdays, working_time}
-use Rattle.cif_columns.specs.Line.{IsLine}
-use Rattle.cif_columns.specs.Lines.{is_space, used, used_with}
-use Rattle.cif_columns.proofs.KeptLines.{used_few}
+use Rattle.cif_columns.specs.Field.{FieldValue}
+use Rattle.cif_columns.specs.Lines.{used}
+use Rattle.cif_columns.proofs.KeptLines.{trimmed as widened, used_few}
 use Rattle.cif_columns.proofs.PlainLines.{length-columns}
-use Rattle.cif_canon.specs.Fields.{Field, fields_text, line_of, shown, trimmed}
-use Rattle.cif_canon.specs.declared.rows.Format.TheVariants.{Tsv}
-use Rattle.cif_canon.specs.declared.rows.Shape.TheVariants.{Trimmed}
-use Rattle.cif_views.specs.DifferenceTable.{Stands, differing_row, differing_rows}
-use Rattle.cif_views.specs.Tables.{TableFields, row_fields}
+use Rattle.cif_views.proofs.Words.{AllStandIn, Field, IsLine, Row, Stands, StandsIn, TableFields, Trimmed, Tsv, bytes_decides, columns}
+use Rattle.cif_views.proofs.Words.{differing_row, differing_rows, fields_text, line_of, pointwise, row_fields, shown, spare, trimmed}
 
 -- ---- rows
 
@@ -49,25 +43,6 @@ module _ {R : Type 0} (head : List Field) (at : Stands) (left right : R) where
 
 -- ---- columns
 
--- columns are those up to the last that is no space, and then spaces
-widened : (columns : List ℕ) → trimmed columns ++ replicate (length columns - used columns) 32 ≡ columns
-widened [] = refl
-widened (b ∷ columns) = by (is_space b) refl (used columns) (widened columns)
-  where
-    by : (space : Bool) → is_space b ≡ space → (count : ℕ) → take count columns ++ replicate (length columns - count) 32 ≡ columns →
-        take (used_with space count) (b ∷ columns) ++ replicate (suc (length columns) - used_with space count) 32 ≡ b ∷ columns
-    by true e zero so =
-        let less : suc (length columns) - 0 ≡ suc (length columns) = omega arith in
-        let all : length columns ≡ length columns - 0 = omega arith in
-        ap (λ n. replicate n 32) less ∙ ap (λ n. 32 ∷ replicate n 32) all ∙ ap (λ l. 32 ∷ l) so
-        ∙ ap (λ c. c ∷ columns) (sym (eqb-true b 32 e))
-    by true e (suc count) so =
-        let less : suc (length columns) - suc (suc count) ≡ length columns - suc count = omega arith in
-        ap (λ n. b ∷ (take (suc count) columns ++ replicate n 32)) less ∙ ap (λ l. b ∷ l) so
-    by false e count so =
-        let less : suc (length columns) - suc count ≡ length columns - count = omega arith in
-        ap (λ n. b ∷ (take count columns ++ replicate n 32)) less ∙ ap (λ l. b ∷ l) so
-
 -- as many columns are the same where they are without the spaces at their end
 same-columns : (a b : List ℕ) → length a ≡ length b → trimmed a ≡ trimmed b → a ≡ b
 same-columns a b long same =
@@ -78,9 +53,13 @@ same-columns a b long same =
     sym (widened a) ∙ ap₂ (λ (c : List ℕ) n. c ++ replicate n 32) same rest ∙ widened b
 
 module _ (l m : List ℕ) where
+  -- columns of both are the same where they are without the spaces at their end
+  abbrev pub SameAt : Type 0
+  SameAt = (from to : ℕ) → (nat_le 1 from && (nat_le from to && nat_le to 80)) ≡ true →
+      trimmed (columns from to l) ≡ trimmed (columns from to m) → columns from to l ≡ columns from to m
+
   module _ (left : IsLine l) (right : IsLine m) where
-    pub same-at : (from to : ℕ) → (nat_le 1 from && (nat_le from to && nat_le to 80)) ≡ true →
-        trimmed (columns from to l) ≡ trimmed (columns from to m) → columns from to l ≡ columns from to m
+    pub same-at : SameAt
     same-at from to within same =
         let (a, more) = and_parts _ _ within in
         let (b, c) = and_parts _ _ more in
@@ -114,30 +93,16 @@ module _ (l m : List ℕ) where
   -- ---- what stands in one line stands in another with the same columns, but for spare ones
 
   abbrev pub AreSame : FieldValue → List ℕ → List ℕ → Type 0
-  AreSame (exactly value) c d = c ≡ d
-  AreSame (text value) c d = c ≡ d
-  AreSame (activity_codes codes) c d = c ≡ d
-  AreSame (working_time time) c d = c ≡ d
-  AreSame (public_time time) c d = c ≡ d
-  AreSame (date day) c d = c ≡ d
-  AreSame (weekdays days) c d = c ≡ d
-  AreSame (indicator stp) c d = c ≡ d
   AreSame spare c d = Unit {0}
+  AreSame _ c d = c ≡ d
 
   abbrev pub AllSame : List Row → Type 0
   AllSame [] = Unit {0}
   AllSame (r ∷ rows) = AreSame r.value (columns r.from r.to l) (columns r.from r.to m) × AllSame rows
 
   moved : (value : FieldValue) (c d : List ℕ) → AreSame value c d → StandsIn d value → StandsIn c value
-  moved (exactly value) c d same h = subst (λ e. StandsIn e (exactly value)) (sym same) h
-  moved (text value) c d same h = subst (λ e. StandsIn e (text value)) (sym same) h
-  moved (activity_codes codes) c d same h = subst (λ e. StandsIn e (activity_codes codes)) (sym same) h
-  moved (working_time time) c d same h = subst (λ e. StandsIn e (working_time time)) (sym same) h
-  moved (public_time time) c d same h = subst (λ e. StandsIn e (public_time time)) (sym same) h
-  moved (date day) c d same h = subst (λ e. StandsIn e (date day)) (sym same) h
-  moved (weekdays days) c d same h = subst (λ e. StandsIn e (weekdays days)) (sym same) h
-  moved (indicator stp) c d same h = subst (λ e. StandsIn e (indicator stp)) (sym same) h
   moved spare c d same h = tt
+  moved value c d same h = subst (λ e. StandsIn e value) (sym same) h
 
   pub all-moved : (rows : List Row) → AllSame rows → AllStandIn m rows → AllStandIn l rows
   all-moved [] same h = tt

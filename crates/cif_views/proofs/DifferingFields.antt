@@ -1,25 +1,17 @@
 -- The rows of fields that differ.
 use Rattle.std.proofs.Common.{◌≡◌, ℕ, ◌+◌, ◌<◌, zero, suc, Bool, true, false, Bor, IsTrue, List, [], ◌∷◌, ◌++◌, cond, codes, if◌then◌else◌}
 use Rattle.std.proofs.Common.{◌∙◌, append-nil, append_assoc, ap, arith, drop, get_or, length, refl, slice_index_or, sym, take}
-use Rattle.std.specs.Prelude.{find, nat_eq, replicate}
-use Rattle.std.specs.List.{flat_map}
-use Rattle.std.specs.Cmp.Lexicographic.{bytes_decides, pointwise}
+use Rattle.std.specs.Prelude.{nat_eq}
 use Rattle.std.proofs.lemmas.Bool.{and_parts, false≢true}
 use Rattle.std.proofs.lemmas.List.{take-take}
-use Rattle.cif_columns.specs.Field.{columns}
 use Rattle.cif_records.specs.Kind.{is_identity, kinds}
-use Rattle.cif_canon.specs.Fields.{Field, after, line_of, nothing, shown, trimmed}
-use Rattle.cif_canon.specs.declared.rows.Format.TheVariants.{Tsv}
-use Rattle.cif_canon.specs.declared.rows.Shape.TheVariants.{Trimmed}
-use Rattle.cif_views.specs.DifferenceTable.{Stands, differing_row, differing_rows, own_fields}
-use Rattle.cif_views.specs.Steps.DifferenceRows.{are_named, field_row, fields_of_kind, head_fields, is_named, lines_rows, named_fields}
-use Rattle.cif_views.specs.Steps.DifferenceRows.{rows_of_place, same_places}
-use Rattle.cif_views.specs.Steps.TableRows.{call_fields_of}
-use Rattle.cif_views.specs.Tables.{Numbered, TableFields, call_fields, is_call, is_change, journey_kind, kind_of_line, names, number}
-use Rattle.cif_views.specs.Tables.{row_fields, text_at}
-use Rattle.cif_views.specs.declared.difference_table.RowKind.{RowKind}
-use Rattle.cif_views.specs.declared.tables.JourneyKind.{JourneyKind}
-use Rattle.cif_views.specs.declared.tables.JourneyKind.TheVariants.{Change, Origin, Other, Stop, Terminus}
+use Rattle.cif_views.specs.Steps.DifferenceRows.{are_named, field_row, fields_of_kind, is_named}
+use Rattle.cif_views.specs.Tables.{names}
+use Rattle.cif_views.proofs.Words.{Change, Field, JourneyKind, Numbered, Origin, Other, RowKind, Stands, Stop, TableFields, Terminus}
+use Rattle.cif_views.proofs.Words.{Trimmed, Tsv, after, bytes_decides, call_fields, call_fields_of, columns, differing_row, differing_rows}
+use Rattle.cif_views.proofs.Words.{find, flat_map, head_fields, is_call, is_change, journey_kind, kind_of_line, line_of, lines_rows}
+use Rattle.cif_views.proofs.Words.{named_fields, nothing, number, own_fields, pointwise, replicate, row_fields, rows_of_place, same_places}
+use Rattle.cif_views.proofs.Words.{shown, text_at, trimmed}
 use Rattle.cif_views.proofs.DifferenceRows.{head-row}
 use Rattle.cif_views.proofs.TableRows.{HasPushed, one-pushed, origin-fields, stop-fields, terminus-fields}
 

@@ -1,27 +1,18 @@
 -- What the marks of explained records say of what runs.
 use Rattle.std.proofs.Common.{◌≡◌, ℕ, ◌≤◌, ◌<◌, List, [], ◌∷◌, ◌⊎◌, Option, None, Some, refl, sym, ◌∙◌, ap, subst, arith, inl, inr, ⊎_elim}
-use Rattle.std.specs.Prelude.{◌↔◌, Contains}
 use Rattle.std.specs.Option.{is_some}
-use Rattle.std.specs.Ordering.{ordering_reverse}
-use Rattle.std.specs.declared.cmp.Ordering.{Ordering}
-use Rattle.std.specs.declared.cmp.Ordering.TheVariants.{Less, Equal, Greater}
 use Rattle.std.proofs.lemmas.Bool.{cases_lt}
-use Rattle.cif_calendar.specs.Clash.{IsClear}
-use Rattle.cif_calendar.specs.Keys.{of_key}
-use Rattle.cif_calendar.specs.Runs.{Runs}
-use Rattle.cif_calendar.specs.Terms.{AreLawful, Records, Terms}
-use Rattle.cif_calendar.specs.Wins.{Wins, precedence}
 use Rattle.cif_calendar.proofs.Elements.{Contains-cases, Contains-first, Contains-rest}
 use Rattle.cif_calendar.proofs.Positions.{at-contains, contains-at}
 use Rattle.cif_views.specs.Explanation.{AreExplained, Explained, HasWinningMark, IsMarked, SomeApplies}
-use Rattle.cif_views.specs.declared.marks.Mark.{Mark}
 use Rattle.cif_views.specs.declared.marks.Mark.TheVariants as mark
+use Rattle.cif_views.proofs.Words.{AreLawful, Contains, Equal, Greater, IsClear, Less, Mark, Ordering, Records, Runs, Terms, Wins, of_key}
+use Rattle.cif_views.proofs.Words.{ordering_reverse, precedence, ◌↔◌}
 
 -- what compares as it does the other way round compares equal
 pub equal-itself : (o : Ordering) → o ≡ ordering_reverse o → o ≡ Equal
 equal-itself Equal h = refl
-equal-itself Less h = absurd (cc)
-equal-itself Greater h = absurd (cc)
+equal-itself _ h = absurd (cc)
 
 -- winners that agree have the body that runs
 winner-runs : {B : Type 0} (records : Records B) (d : ℕ) (r : Terms B) → AreLawful records → Wins records d r → IsClear records d

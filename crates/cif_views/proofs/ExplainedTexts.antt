@@ -1,22 +1,10 @@
 -- The records that apply, with their marks, are the explanation.
 use Rattle.std.proofs.Common.{◌≡◌, ℕ, List, ◌++◌, refl, subst}
-use Rattle.std.specs.Cmp.Lexicographic.{slice_cmp}
-use Rattle.std.specs.List.{flat_map}
-use Rattle.std.specs.Ordering.{nat_cmp}
-use Rattle.cif_calendar.specs.Entries.{association_entries, schedule_entries}
-use Rattle.cif_extract.specs.BodyParts.{BodyParts}
-use Rattle.cif_extract.specs.ExtractParts.{ExtractParts}
-use Rattle.cif_extract.specs.declared.extract.Schedule.{Schedule}
-use Rattle.cif_records.specs.AssocKey.{key_cmp}
-use Rattle.cif_records.specs.declared.association.AssocBody.{AssocBody}
-use Rattle.cif_records.specs.declared.association.AssocKey.{AssocKey}
-use Rattle.cif_records.specs.declared.association.Association.{Association}
 use Rattle.cif_weeks.specs.Window.{IsWithin}
-use Rattle.cif_canon.specs.Asked.{header_window}
-use Rattle.cif_views.specs.Explanation.{AreExplained, Explained, IsAssociationOf, IsExplanation, IsTrain}
-use Rattle.cif_views.specs.Explanation.{explained_association_line, explained_train_line, explanation_heading}
-use Rattle.cif_views.specs.Steps.Explanation.{AreMarked, ArePlacedInOrder, Placed}
-use Rattle.cif_canon.specs.declared.rows.Format.{Format}
+use Rattle.cif_views.specs.Explanation.{AreExplained, Explained, IsAssociationOf, IsExplanation, IsTrain, explained_association_line}
+use Rattle.cif_views.specs.Explanation.{explained_train_line, explanation_heading}
+use Rattle.cif_views.proofs.Words.{AreMarked, ArePlacedInOrder, AssocBody, AssocKey, Association, BodyParts, ExtractParts, Format, Placed}
+use Rattle.cif_views.proofs.Words.{Schedule, association_entries, flat_map, header_window, key_cmp, nat_cmp, schedule_entries, slice_cmp}
 use Rattle.cif_views.proofs.Explaining.{explained}
 
 pub explanation : (format : Format) (x : ExtractParts) (u : List ℕ) (d : ℕ) → IsWithin (header_window x.header) d

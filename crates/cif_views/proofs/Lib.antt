@@ -12,3 +12,4 @@ mod PairedJourneys
 mod RowsOfDifferences
 pub mod TableRows
 pub mod WeekLines
+pub mod Words

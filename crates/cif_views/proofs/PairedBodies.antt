@@ -1,32 +1,25 @@
 -- Where a pair of schedules has no row, their bodies are the same; and so it is with associations.
 use Rattle.std.proofs.Common.{◌≡◌, ℕ, ◌+◌, ◌<◌, Bool, true, false, List, [], ◌∷◌, ◌++◌, Option, None, Some, codes, cond, length, get_or}
 use Rattle.std.proofs.Common.{◌∙◌, ap, ap₂, arith, drop, map, refl, replicate, subst, sym, take}
-use Rattle.std.specs.Prelude.{◌&&◌, IsTrue, nat_le, find}
+use Rattle.std.specs.Prelude.{IsTrue, find}
 use Rattle.std.specs.Cmp.Lexicographic.{bytes_decides}
 use Rattle.std.proofs.lemmas.Bool.{and_parts, false≢true}
-use Rattle.cif_columns.specs.Field.{AllFit, AllStandIn, Row, StandsIn, columns, plain_line, row, spare, text}
-use Rattle.cif_columns.specs.Line.{IsLine}
-use Rattle.cif_columns.specs.declared.stp.Stp.TheVariants.{P}
+use Rattle.cif_columns.specs.Field.{plain_line, row}
 use Rattle.cif_columns.proofs.FieldLaws.{one_text_value}
 use Rattle.cif_columns.proofs.Parts.{fits-append, fits-front, stands-front, stands-plain_line}
 use Rattle.cif_columns.proofs.PlainLines.{line-plain_line}
 use Rattle.cif_extract.specs.Body.{KeepAll, KeepBody}
-use Rattle.cif_extract.specs.BodyParts.{BodyParts, body_records, extra_records, journey_records}
+use Rattle.cif_extract.specs.BodyParts.{body_records, extra_records, journey_records}
 use Rattle.cif_extract.specs.Call.{call_record}
 use Rattle.cif_extract.specs.Laws.SameBody.{same_values}
 use Rattle.cif_extract.specs.Texts.{AllTablesFit}
-use Rattle.cif_extract.specs.declared.call.Call.{Call}
-use Rattle.cif_extract.specs.declared.call.Call.TheVariants.{At, Turn}
 use Rattle.cif_extract.proofs.Bodies.{same_parts}
 use Rattle.cif_records.specs.Association as aa
 use Rattle.cif_records.specs.Basic.{basic_back, basic_rows}
 use Rattle.cif_records.specs.Detail.{detail_rows, detail_table}
 use Rattle.cif_records.specs.Kind.{is_identity, kind_in, kinds}
 use Rattle.cif_records.specs.Record.{SpellsRecord, record_table}
-use Rattle.cif_records.specs.declared.association.AssocBody.{AssocBody}
-use Rattle.cif_records.specs.declared.association.AssocKey.{AssocKey}
 use Rattle.cif_records.specs.declared.change.Change.{Change}
-use Rattle.cif_records.specs.declared.detail.Detail.{Detail}
 use Rattle.cif_records.specs.declared.extra.Extra.{Extra}
 use Rattle.cif_records.specs.declared.origin.Origin.{Origin}
 use Rattle.cif_records.specs.declared.record.Kind.TheVariants.{Bx, Lo}
@@ -37,20 +30,17 @@ use Rattle.cif_records.specs.declared.terminus.Terminus.{Terminus}
 use Rattle.cif_records.proofs.Details.{one_detail}
 use Rattle.cif_records.proofs.Records as records
 use Rattle.cif_records.proofs.Rows.{◌&◌}
-use Rattle.cif_weeks.specs.Permanent.{Permanent}
-use Rattle.cif_canon.specs.Fields.{Field, line_of, nothing, shown, trimmed}
-use Rattle.cif_canon.specs.Lines.{association_plain, schedule_plain}
-use Rattle.cif_canon.specs.declared.listed_differences.Side.TheVariants.{Left}
-use Rattle.cif_canon.specs.declared.rows.Format.TheVariants.{Tsv}
-use Rattle.cif_canon.specs.declared.rows.Shape.TheVariants.{Trimmed}
 use Rattle.cif_views.specs.DifferenceTable.{association_head, association_rows, changed, differing_rows, in_record, journey_of}
 use Rattle.cif_views.specs.DifferenceTable.{journey_rows, own_fields, schedule_head, schedule_rows, without_extra}
 use Rattle.cif_views.specs.Steps.DifferenceRows.{count_of_calls, journeys_of, lines_rows, rows_of_place, same_places}
 use Rattle.cif_views.specs.Tables.{Numbered, NumberedSchedule, association_fields, extra_in, is_call, is_change, is_extra, journey_kind}
 use Rattle.cif_views.specs.Tables.{kind_of_line, number, numbered_schedule, row_fields, schedule_fields}
 use Rattle.cif_views.specs.declared.tables.JourneyKind.TheVariants as kind
-use Rattle.cif_views.proofs.DifferingCells.{AllSame, all-moved, both-none, same-at, same-cells, same-identity, same-location, same-suffix}
-use Rattle.cif_views.proofs.DifferingCells.{some-row}
+use Rattle.cif_views.proofs.Words.{AllFit, AllStandIn, AssocBody, AssocKey, At, BodyParts, Call, Detail, Field, IsLine, Left, P, Permanent}
+use Rattle.cif_views.proofs.Words.{Row, StandsIn, Trimmed, Tsv, Turn, association_plain, columns, line_of, nothing, schedule_plain, shown}
+use Rattle.cif_views.proofs.Words.{spare, text, trimmed}
+use Rattle.cif_views.proofs.DifferingCells.{AllSame, SameAt, all-moved, both-none, same-at, same-cells, same-identity, same-location}
+use Rattle.cif_views.proofs.DifferingCells.{same-suffix, some-row}
 use Rattle.cif_views.proofs.PairedJourneys.{journeys-by-lines}
 use Rattle.cif_views.proofs.TableRows.{origin-fields, stop-fields, terminus-fields}
 
@@ -84,6 +74,9 @@ module _ (head : List Field) (call : ℕ) (l m : List ℕ) (left : IsLine l) (ri
       subst (λ c. cells c l ≡ cells c m) is
       (same-cells head _ (numbered l) (numbered m) (own_fields (is_change (kind_of_line l))) none)
 
+  at : SameAt l m
+  at = same-at l m left right
+
   -- both lines are of one kind
   one-kind : kind_of_line l ≡ kind_of_line m
   one-kind = ap (λ (c : List ℕ). journey_kind (find (is_identity c) kinds)) (same-identity l m place)
@@ -94,19 +87,10 @@ module _ (head : List Field) (call : ℕ) (l m : List ℕ) (left : IsLine l) (ri
       let there = one-kind ∙ here in
       let same = sym (ap (map (shown Tsv)) (origin-fields l there)) ∙ told false (ap is_change there)
       ∙ ap (map (shown Tsv)) (origin-fields m here) in
-      same-identity l m place
-      & same-location l m place
-      & same-suffix l m place
-      & same-at l m left right 11 15 refl (ap (nth 1) same)
-      & same-at l m left right 16 19 refl (ap (nth 4) same)
-      & same-at l m left right 20 22 refl (ap (nth 5) same)
-      & same-at l m left right 23 25 refl (ap (nth 6) same)
-      & same-at l m left right 26 27 refl (ap (nth 9) same)
-      & same-at l m left right 28 29 refl (ap (nth 10) same)
-      & same-at l m left right 30 41 refl (ap (nth 8) same)
-      & same-at l m left right 42 43 refl (ap (nth 11) same)
-      & tt
-      & tt
+      same-identity l m place & same-location l m place & same-suffix l m place & at 11 15 refl (ap (nth 1) same)
+      & at 16 19 refl (ap (nth 4) same) & at 20 22 refl (ap (nth 5) same) & at 23 25 refl (ap (nth 6) same)
+      & at 26 27 refl (ap (nth 9) same) & at 28 29 refl (ap (nth 10) same) & at 30 41 refl (ap (nth 8) same)
+      & at 42 43 refl (ap (nth 11) same) & tt & tt
 
   stop : (r : Stop) → SpellsRecord m (of.Stop r) → AllSame l m (record_table (of.Stop r))
   stop r h =
@@ -114,23 +98,11 @@ module _ (head : List Field) (call : ℕ) (l m : List ℕ) (left : IsLine l) (ri
       let there = one-kind ∙ here in
       let same = sym (ap (map (shown Tsv)) (stop-fields l there)) ∙ told false (ap is_change there)
       ∙ ap (map (shown Tsv)) (stop-fields m here) in
-      same-identity l m place
-      & same-location l m place
-      & same-suffix l m place
-      & same-at l m left right 11 15 refl (ap (nth 0) same)
-      & same-at l m left right 16 20 refl (ap (nth 1) same)
-      & same-at l m left right 21 25 refl (ap (nth 2) same)
-      & same-at l m left right 26 29 refl (ap (nth 3) same)
-      & same-at l m left right 30 33 refl (ap (nth 4) same)
-      & same-at l m left right 34 36 refl (ap (nth 5) same)
-      & same-at l m left right 37 39 refl (ap (nth 6) same)
-      & same-at l m left right 40 42 refl (ap (nth 7) same)
-      & same-at l m left right 43 54 refl (ap (nth 8) same)
-      & same-at l m left right 55 56 refl (ap (nth 9) same)
-      & same-at l m left right 57 58 refl (ap (nth 10) same)
-      & same-at l m left right 59 60 refl (ap (nth 11) same)
-      & tt
-      & tt
+      same-identity l m place & same-location l m place & same-suffix l m place & at 11 15 refl (ap (nth 0) same)
+      & at 16 20 refl (ap (nth 1) same) & at 21 25 refl (ap (nth 2) same) & at 26 29 refl (ap (nth 3) same)
+      & at 30 33 refl (ap (nth 4) same) & at 34 36 refl (ap (nth 5) same) & at 37 39 refl (ap (nth 6) same)
+      & at 40 42 refl (ap (nth 7) same) & at 43 54 refl (ap (nth 8) same) & at 55 56 refl (ap (nth 9) same)
+      & at 57 58 refl (ap (nth 10) same) & at 59 60 refl (ap (nth 11) same) & tt & tt
 
   terminus : (r : Terminus) → SpellsRecord m (of.Terminus r) → AllSame l m (record_table (of.Terminus r))
   terminus r h =
@@ -138,59 +110,30 @@ module _ (head : List Field) (call : ℕ) (l m : List ℕ) (left : IsLine l) (ri
       let there = one-kind ∙ here in
       let same = sym (ap (map (shown Tsv)) (terminus-fields l there)) ∙ told false (ap is_change there)
       ∙ ap (map (shown Tsv)) (terminus-fields m here) in
-      same-identity l m place
-      & same-location l m place
-      & same-suffix l m place
-      & same-at l m left right 11 15 refl (ap (nth 0) same)
-      & same-at l m left right 16 19 refl (ap (nth 3) same)
-      & same-at l m left right 20 22 refl (ap (nth 5) same)
-      & same-at l m left right 23 25 refl (ap (nth 7) same)
-      & same-at l m left right 26 37 refl (ap (nth 8) same)
-      & tt
-      & tt
+      same-identity l m place & same-location l m place & same-suffix l m place & at 11 15 refl (ap (nth 0) same)
+      & at 16 19 refl (ap (nth 3) same) & at 20 22 refl (ap (nth 5) same) & at 23 25 refl (ap (nth 7) same)
+      & at 26 37 refl (ap (nth 8) same) & tt & tt
 
   change : (r : Change) → SpellsRecord m (of.Change r) → AllSame l m (record_table (of.Change r))
   change r h =
       let here : kind_of_line m ≡ kind.Change = ap journey_kind (records.kind_there m (of.Change r) h) in
       let there = one-kind ∙ here in
       let same = told true (ap is_change there) in
-      same-identity l m place
-      & same-location l m place
-      & same-suffix l m place
-      & same-at l m left right 11 12 refl (ap (nth 0) same)
-      & same-at l m left right 13 16 refl (ap (nth 1) same)
-      & same-at l m left right 17 20 refl (ap (nth 2) same)
-      & same-at l m left right 21 21 refl (ap (nth 3) same)
-      & same-at l m left right 22 29 refl (ap (nth 4) same)
-      & same-at l m left right 30 30 refl (ap (nth 5) same)
-      & same-at l m left right 31 33 refl (ap (nth 6) same)
-      & same-at l m left right 34 37 refl (ap (nth 7) same)
-      & same-at l m left right 38 40 refl (ap (nth 8) same)
-      & same-at l m left right 41 46 refl (ap (nth 9) same)
-      & same-at l m left right 47 47 refl (ap (nth 10) same)
-      & same-at l m left right 48 48 refl (ap (nth 11) same)
-      & same-at l m left right 49 49 refl (ap (nth 12) same)
-      & same-at l m left right 50 50 refl (ap (nth 13) same)
-      & same-at l m left right 51 54 refl (ap (nth 14) same)
-      & same-at l m left right 55 58 refl (ap (nth 15) same)
-      & same-at l m left right 59 62 refl (ap (nth 16) same)
-      & same-at l m left right 63 67 refl (ap (nth 17) same)
-      & same-at l m left right 68 75 refl (ap (nth 18) same)
-      & tt
-      & tt
+      same-identity l m place & same-location l m place & same-suffix l m place & at 11 12 refl (ap (nth 0) same)
+      & at 13 16 refl (ap (nth 1) same) & at 17 20 refl (ap (nth 2) same) & at 21 21 refl (ap (nth 3) same)
+      & at 22 29 refl (ap (nth 4) same) & at 30 30 refl (ap (nth 5) same) & at 31 33 refl (ap (nth 6) same)
+      & at 34 37 refl (ap (nth 7) same) & at 38 40 refl (ap (nth 8) same) & at 41 46 refl (ap (nth 9) same)
+      & at 47 47 refl (ap (nth 10) same) & at 48 48 refl (ap (nth 11) same) & at 49 49 refl (ap (nth 12) same)
+      & at 50 50 refl (ap (nth 13) same) & at 51 54 refl (ap (nth 14) same) & at 55 58 refl (ap (nth 15) same)
+      & at 59 62 refl (ap (nth 16) same) & at 63 67 refl (ap (nth 17) same) & at 68 75 refl (ap (nth 18) same) & tt & tt
 
   -- what the other line spells this one does
   same-place : (r : Record) → IsPlace r → SpellsRecord m r → AllSame l m (record_table r)
-  same-place (of.Header r) is h = absurd is
-  same-place (of.Tiploc r) is h = absurd is
-  same-place (of.Association r) is h = absurd is
-  same-place (of.Basic r) is h = absurd is
-  same-place (of.Extra r) is h = absurd is
   same-place (of.Origin r) is h = origin r h
   same-place (of.Stop r) is h = stop r h
   same-place (of.Change r) is h = change r h
   same-place (of.Terminus r) is h = terminus r h
-  same-place of.Trailer is h = absurd is
+  same-place _ is h = absurd is
 
 -- ---- two journeys
 
@@ -338,18 +281,10 @@ same-extra (Some e) None one other identity same = absurd (shown-extra e one.0 i
 same-extra (Some e) (Some f) one other identity same =
     let l = plain_line (record_table (of.Extra e)) in
     let m = plain_line (record_table (of.Extra f)) in
-    let left = records.line (of.Extra e) one.0 in
-    let right = records.line (of.Extra f) other.0 in
+    let at : SameAt l m = same-at l m (records.line (of.Extra e) one.0) (records.line (of.Extra f) other.0) in
     let all : AllSame l m (record_table (of.Extra f)) =
-    same-at l m left right 1 2 refl identity
-    & same-at l m left right 3 6 refl (ap (nth 0) same)
-    & same-at l m left right 7 11 refl (ap (nth 1) same)
-    & same-at l m left right 12 13 refl (ap (nth 2) same)
-    & same-at l m left right 14 14 refl (ap (nth 3) same)
-    & same-at l m left right 15 22 refl (ap (nth 4) same)
-    & same-at l m left right 23 23 refl (ap (nth 5) same)
-    & tt
-    & tt in
+    at 1 2 refl identity & at 3 6 refl (ap (nth 0) same) & at 7 11 refl (ap (nth 1) same) & at 12 13 refl (ap (nth 2) same)
+    & at 14 14 refl (ap (nth 3) same) & at 15 22 refl (ap (nth 4) same) & at 23 23 refl (ap (nth 5) same) & tt & tt in
     let spelled = records.spells (of.Extra f) other.0 in
     let record_is = records.one_record l (of.Extra e) (of.Extra f) (records.spells (of.Extra e) one.0)
     (all-moved l m (record_table (of.Extra f)) all spelled) in
@@ -398,27 +333,14 @@ module _ (e g : List ℕ × Permanent BodyParts) (one : FitsLines e) (other : Fi
   same-detail same =
       let l = plain_line (basic_line e) in
       let m = plain_line (basic_line g) in
-      let left = is-line e one in
-      let right = is-line g other in
+      let at : SameAt l m = same-at l m (is-line e one) (is-line g other) in
       let all : AllSame l m (detail_rows (Some g.1.body.detail)) =
-      same-at l m left right 30 30 refl (ap (nth 0) same)
-      & same-at l m left right 31 32 refl (ap (nth 1) same)
-      & same-at l m left right 33 36 refl (ap (nth 2) same)
-      & same-at l m left right 37 40 refl (ap (nth 3) same)
-      & same-at l m left right 41 41 refl (ap (nth 4) same)
-      & same-at l m left right 42 49 refl (ap (nth 5) same)
-      & same-at l m left right 50 50 refl (ap (nth 6) same)
-      & same-at l m left right 51 53 refl (ap (nth 7) same)
-      & same-at l m left right 54 57 refl (ap (nth 8) same)
-      & same-at l m left right 58 60 refl (ap (nth 9) same)
-      & same-at l m left right 61 66 refl (ap (nth 10) same)
-      & same-at l m left right 67 67 refl (ap (nth 11) same)
-      & same-at l m left right 68 68 refl (ap (nth 12) same)
-      & same-at l m left right 69 69 refl (ap (nth 13) same)
-      & same-at l m left right 70 70 refl (ap (nth 14) same)
-      & same-at l m left right 71 74 refl (ap (nth 15) same)
-      & same-at l m left right 75 78 refl (ap (nth 16) same)
-      & tt in
+      at 30 30 refl (ap (nth 0) same) & at 31 32 refl (ap (nth 1) same) & at 33 36 refl (ap (nth 2) same)
+      & at 37 40 refl (ap (nth 3) same) & at 41 41 refl (ap (nth 4) same) & at 42 49 refl (ap (nth 5) same)
+      & at 50 50 refl (ap (nth 6) same) & at 51 53 refl (ap (nth 7) same) & at 54 57 refl (ap (nth 8) same)
+      & at 58 60 refl (ap (nth 9) same) & at 61 66 refl (ap (nth 10) same) & at 67 67 refl (ap (nth 11) same)
+      & at 68 68 refl (ap (nth 12) same) & at 69 69 refl (ap (nth 13) same) & at 70 70 refl (ap (nth 14) same)
+      & at 71 74 refl (ap (nth 15) same) & at 75 78 refl (ap (nth 16) same) & tt in
       one_detail l e.1.body.detail g.1.body.detail (detail-stands e one)
       (all-moved l m (detail_rows (Some g.1.body.detail)) all (detail-stands g other))
 
@@ -489,8 +411,7 @@ module _ (e g : AssocKey × Permanent AssocBody) (one : AllFit (association_line
       let b = (stands-plain_line (association_line g) refl other).1.1.1.1.1.1.1 in
       let same = same-cells (association_head changed l) (in_record (codes "AA")) l m
       (take 2 (drop 5 association_fields) ++ drop 10 association_fields) none in
-      let at : (from to : ℕ) → (nat_le 1 from && (nat_le from to && nat_le to 80)) ≡ true →
-      trimmed (columns from to l) ≡ trimmed (columns from to m) → columns from to l ≡ columns from to m = same-at l m left right in
+      let at : SameAt l m = same-at l m left right in
       let both : (from to : ℕ) (v w : List ℕ) → columns from to l ≡ columns from to m → StandsIn (columns from to l) (text v) →
       StandsIn (columns from to m) (text w) → v ≡ w =
       λ from to v w same h k. one_text_value (columns from to l) v w h (subst (λ c. StandsIn c (text w)) (sym same) k) in

@@ -1,17 +1,9 @@
 -- The rows of pairs of schedules, as they are written: of their fields, and of their journeys by lines.
-use Rattle.std.proofs.Common.{◌≡◌, ℕ, ◌+◌, Bool, true, false, List, [], ◌∷◌, ◌++◌, Option, Some, codes, cond, drop, length, map, take}
-use Rattle.std.proofs.Common.{◌∙◌, ap, ap₂, append_assoc, arith, if◌then◌else◌, nat_eq, refl, sym}
+use Rattle.std.proofs.Common.{◌≡◌, ℕ, ◌+◌, Bool, true, false, List, [], ◌∷◌, ◌++◌, Option, Some, codes, cond, drop, length, map, take, ◌∙◌}
+use Rattle.std.proofs.Common.{ap, ap₂, append_assoc, arith, if◌then◌else◌, nat_eq, refl, sym}
 use Rattle.std.specs.Cmp.Lexicographic.{pointwise}
 use Rattle.std.proofs.lemmas.Grind.{flat_map-append}
-use Rattle.cif_columns.specs.Field.{columns}
 use Rattle.cif_columns.specs.declared.sink.Sink.{Sink}
-use Rattle.cif_canon.specs.Appended.{IsAppended}
-use Rattle.cif_canon.specs.Fields.{Field, nothing, shown}
-use Rattle.cif_canon.specs.Lines.{ScheduleLines}
-use Rattle.cif_canon.specs.declared.listed_differences.Side.{Side}
-use Rattle.cif_canon.specs.declared.listed_differences.Side.TheVariants.{Left, Right}
-use Rattle.cif_canon.specs.declared.rows.Format.TheVariants.{Tsv}
-use Rattle.cif_canon.specs.declared.rows.Shape.TheVariants.{Trimmed}
 use Rattle.cif_canon.proofs.AppendedTexts.{both, text-is}
 use Rattle.cif_views.specs.DifferenceTable.{Stands, call_count, change_of, changed, differing_row, differing_rows, in_record, journey_rows}
 use Rattle.cif_views.specs.DifferenceTable.{own_fields, place_columns, place_rows, schedule_head, schedule_rows, without_extra}
@@ -19,6 +11,7 @@ use Rattle.cif_views.specs.Steps.DifferenceRows.{count_of_calls, journeys_of, li
 use Rattle.cif_views.specs.Tables.{Numbered, NumberedSchedule, TableFields, extra_in, is_call, is_change, kind_of_line, number}
 use Rattle.cif_views.specs.Tables.{numbered_from, numbered_schedule, schedule_fields, text_at}
 use Rattle.cif_views.specs.declared.difference_table.TheConstants.{BASIC, EXTRA, WITH_EXTRA}
+use Rattle.cif_views.proofs.Words.{Field, IsAppended, Left, Right, ScheduleLines, Side, Trimmed, Tsv, columns, nothing, shown}
 
 -- what says which side has it
 pub shown-change : (side : Side) (change : List ℕ) → change ≡ (change_of side).1 → (Trimmed, change) ≡ change_of side

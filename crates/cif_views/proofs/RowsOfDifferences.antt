@@ -1,63 +1,39 @@
 -- Each difference has a row: the bodies of a pair differ, and where all cells are the same they don't.
-use Rattle.std.proofs.Common.{◌≡◌, ℕ, ◌<◌, ◌≤◌, Bool, List, [], ◌∷◌, ◌++◌, Option, None, Some, arith, length, map, replicate}
-use Rattle.std.proofs.Common.{◌∙◌, ap, length-append, ⊎_elim, refl, subst, sym}
-use Rattle.std.specs.Prelude.{◌↔◌, Contains}
-use Rattle.std.specs.List.{flat_map}
-use Rattle.std.specs.Cmp.Lexicographic.{slice_cmp}
-use Rattle.std.specs.Ordering.{nat_cmp}
-use Rattle.std.specs.declared.cmp.Ordering.{Ordering}
+use Rattle.std.proofs.Common.{◌≡◌, ℕ, ◌<◌, ◌≤◌, Bool, List, [], ◌∷◌, ◌++◌, Option, None, Some, arith, length, map, replicate, ◌∙◌, ap}
+use Rattle.std.proofs.Common.{length-append, ⊎_elim, refl, subst, sym}
 use Rattle.std.proofs.lemmas.List.{nil_from_length}
 use Rattle.std.proofs.lemmas.List.Elements.{All-contains, Contains-append_left, Contains-append_right}
 use Rattle.cif_columns.specs.Day.{weekday_of}
 use Rattle.cif_columns.specs.DaysRun.{RunsOn}
-use Rattle.cif_columns.specs.Field.{AllFit, Row}
-use Rattle.cif_columns.specs.declared.stp.Stp.{Stp}
-use Rattle.cif_columns.specs.declared.stp.Stp.TheVariants.{P}
-use Rattle.cif_extract.specs.BodyParts.{BodyParts}
-use Rattle.cif_extract.specs.ExtractParts.{ExtractParts}
 use Rattle.cif_extract.specs.Texts.{AllTablesFit, schedule_tables, tables_of}
-use Rattle.cif_extract.specs.declared.extract.Schedule.{Schedule}
 use Rattle.cif_extract.proofs.PlainTexts.{fit-back, fit-front, spelled-fits}
 use Rattle.cif_records.specs.Association as aa
-use Rattle.cif_records.specs.AssocKey.{key_cmp}
-use Rattle.cif_records.specs.Basic.{basic_rows}
 use Rattle.cif_records.specs.Tiploc.{tiploc_table}
 use Rattle.cif_records.specs.Trailer.{trailer_table}
-use Rattle.cif_records.specs.declared.association.AssocBody.{AssocBody}
-use Rattle.cif_records.specs.declared.association.AssocKey.{AssocKey}
-use Rattle.cif_records.specs.declared.association.Association.{Association}
-use Rattle.cif_records.specs.declared.detail.Detail.{Detail}
 use Rattle.cif_records.proofs.Headers as headers
-use Rattle.cif_calendar.specs.Entries.{association_entries, association_entry, schedule_entries, schedule_entry}
-use Rattle.cif_calendar.specs.Keys.{of_key}
 use Rattle.cif_calendar.specs.Runs.{BodyRuns}
-use Rattle.cif_calendar.specs.Terms.{Terms}
 use Rattle.cif_calendar.proofs.Elements.{Contains-cases, Contains-first, Contains-rest}
 use Rattle.cif_calendar.proofs.RisingLists.{Contains-none}
 use Rattle.cif_columns.specs.Contents.{contents_of}
 use Rattle.cif_weeks.specs.Aligned.{IsAlignedTwo}
 use Rattle.cif_weeks.specs.Applies.{Applies}
-use Rattle.cif_weeks.specs.Permanent.{Permanent}
 use Rattle.cif_weeks.specs.Window.{IsWithin, Window}
 use Rattle.cif_weeks.specs.declared.form.Form.TheVariants.{Two}
 use Rattle.cif_canon.specs.Accepted.{IsAccepted}
-use Rattle.cif_canon.specs.Asked.{header_window}
 use Rattle.cif_canon.specs.Differences.{AreDifferences, AreDifferentRecords, AreNone, DifferencesParts, OnlySays, at_side, of_side}
-use Rattle.cif_canon.specs.Fields.{nothing}
-use Rattle.cif_canon.specs.Lines.{ScheduleLines, association_plain, schedule_plain}
 use Rattle.cif_canon.specs.Pairs.{ArePair, AreByPairs, Listed, association_lines, by_pairs, listed_as, parts_of, schedule_lines}
 use Rattle.cif_canon.specs.Pairs.{tiploc_lines}
 use Rattle.cif_canon.specs.declared.asked.Asked.{Asked}
-use Rattle.cif_canon.specs.declared.listed_differences.Side.{Side}
-use Rattle.cif_canon.specs.declared.listed_differences.Side.TheVariants.{Left, Right}
 use Rattle.cif_canon.specs.declared.listed_differences.Sided.{Sided}
 use Rattle.cif_canon.proofs.ByPairs.{associations-by_pairs, schedules-by_pairs}
-use Rattle.cif_canon.proofs.MadeFits.{AreTerms, HasTerms, have-terms}
+use Rattle.cif_canon.proofs.MadeFits.{HasTerms, have-terms, permanent-association, permanent-basic}
 use Rattle.cif_canon.proofs.MergedSides.{side-member}
-use Rattle.cif_views.specs.DifferenceTable.{association_head, association_rows, change_of, difference_names, difference_table}
-use Rattle.cif_views.specs.DifferenceTable.{schedule_head, schedule_rows, tiploc_head, tiploc_row}
 use Rattle.cif_views.specs.RowsOfDifferences.{HasRow, HaveRows}
-use Rattle.cif_views.specs.Tables.{names_line}
+use Rattle.cif_views.proofs.Words.{AllFit, AssocBody, AssocKey, Association, BodyParts, Contains, ExtractParts, Left, Ordering, Permanent}
+use Rattle.cif_views.proofs.Words.{Right, Row, Schedule, ScheduleLines, Side, Terms, association_entries, association_entry}
+use Rattle.cif_views.proofs.Words.{association_head, association_plain, association_rows, change_of, difference_names, difference_table}
+use Rattle.cif_views.proofs.Words.{flat_map, header_window, key_cmp, names_line, nat_cmp, nothing, of_key, schedule_entries, schedule_entry}
+use Rattle.cif_views.proofs.Words.{schedule_head, schedule_plain, schedule_rows, slice_cmp, tiploc_head, tiploc_row, ◌↔◌}
 use Rattle.cif_views.proofs.DifferingCells.{both-none, some-row}
 use Rattle.cif_views.proofs.PairedBodies.{FitsLines, association_line, same-association, same-body}
 
@@ -206,17 +182,6 @@ schedule-fits (s ∷ xs) k t fits h = ⊎_elim
     (λ later. schedule-fits xs k t (fit-back (tables_of s) (flat_map tables_of xs) fits) later)
     (Contains-cases (schedule_entry s) (schedule_entries xs) (k, t) h)
 
--- with dates and a mask of its own
-dated-association : (k : AssocKey) (first last : ℕ) (days : List Bool) (letter : Stp) (body : AssocBody) (f l : ℕ) (m : List Bool) →
-    AllFit (aa.association_rows k first last days letter (Some body)) → AreTerms f l m → AllFit (aa.association_rows k f l m P (Some body))
-dated-association k first last days letter body f l m p t =
-    (p.0, (p.1.0, (p.1.1.0, (p.1.1.1.0, ((refl, t.first_is), ((refl, t.last_is), ((refl, t.week), p.1.1.1.1.1.1.1)))))))
-
-dated-basic : (uid : List ℕ) (first last : ℕ) (days : List Bool) (letter : Stp) (detail : Detail) (f l : ℕ) (m : List Bool) →
-    AllFit (basic_rows uid first last days letter (Some detail)) → AreTerms f l m → AllFit (basic_rows uid f l m P (Some detail))
-dated-basic uid first last days letter detail f l m p t =
-    (p.0, (p.1.0, (p.1.1.0, ((refl, t.first_is), ((refl, t.last_is), ((refl, t.week), p.1.1.1.1.1.1))))))
-
 module _ (x y : ExtractParts) (d : DifferencesParts) (a : FitLists x) (b : FitLists y) (are : AreDifferences x y d) where
   abbrev window : Window
   window = header_window x.header
@@ -242,7 +207,7 @@ module _ (x y : ExtractParts) (d : DifferencesParts) (a : FitLists x) (b : FitLi
       let t = runs.winner in
       let own = subst (λ (o : Option AssocBody). AllFit (aa.association_rows e.0 t.first t.last t.days t.letter o)) runs.body
       (association-listed side e.0 t runs.wins.listed) in
-      dated-association e.0 t.first t.last t.days t.letter e.1.body e.1.first e.1.last e.1.days own
+      permanent-association e.0 t.first t.last t.days t.letter e.1.body e.1.first e.1.last e.1.days own
       (All-contains HasTerms (of_side side d.associations) e
       (have-terms key_cmp Two window (of_side side d.associations) (are.associations.only side).canonical (headers.last_is_day x.header)) h)
 
@@ -255,7 +220,7 @@ module _ (x y : ExtractParts) (d : DifferencesParts) (a : FitLists x) (b : FitLi
       let own = subst (λ (o : Option BodyParts). AllTablesFit (schedule_tables e.0 t.first t.last t.days t.letter o)) runs.body
       (schedule-listed side e.0 t runs.wins.listed) in
       record {
-        basic = dated-basic e.0 t.first t.last t.days t.letter e.1.body.detail e.1.first e.1.last e.1.days own.0
+        basic = permanent-basic e.0 t.first t.last t.days t.letter e.1.body.detail e.1.first e.1.last e.1.days own.0
             (All-contains HasTerms (of_side side d.schedules) e
             (have-terms (slice_cmp nat_cmp) Two window (of_side side d.schedules) (are.schedules.only side).canonical
             (headers.last_is_day x.header)) h);

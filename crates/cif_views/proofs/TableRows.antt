@@ -1,6 +1,6 @@
 -- The rows of tables, as they are made field by field.
-use Rattle.std.proofs.Common.{◌≡◌, ℕ, ◌+◌, ◌<◌, ◌≤◌, Bool, true, false, List, [], ◌∷◌, ◌++◌, codes, cond, drop, length}
-use Rattle.std.proofs.Common.{◌∙◌, append-nil, append_assoc, ap, arith, inl, inr, length-append, refl, subst, sym, take}
+use Rattle.std.proofs.Common.{◌≡◌, ℕ, ◌+◌, ◌<◌, ◌≤◌, Bool, true, false, List, [], ◌∷◌, ◌++◌, codes, cond, drop, length, ◌∙◌, append-nil}
+use Rattle.std.proofs.Common.{append_assoc, ap, arith, inl, inr, length-append, refl, subst, sym, take}
 use borrow.Rule.Slice.PartMut.{put_mid}
 use Rattle.std.specs.Prelude.{◌⊎◌, slice_index_or, slice_set}
 use Rattle.std.specs.List.{enumerate_from, filter, flat_map}
@@ -9,21 +9,18 @@ use Rattle.std.proofs.lemmas.List.{at_drop_all, length-set, length-take-le, take
 use Rattle.std.proofs.lemmas.List.Folds.{flat_map-map}
 use Rattle.std.proofs.lemmas.Slice.{take-put_mid}
 use Rattle.std.proofs.Math.Seq.{take-append-add}
-use Rattle.cif_columns.specs.Field.{columns}
-use Rattle.cif_canon.specs.Fields.{Field, after, in_table, line_of, nothing}
-use Rattle.cif_canon.specs.Lines.{ExtractLines, ScheduleLines}
-use Rattle.cif_canon.specs.declared.rows.Format.TheVariants.{Tsv}
+use Rattle.cif_canon.specs.Fields.{in_table}
+use Rattle.cif_canon.specs.Lines.{ExtractLines}
 use Rattle.cif_canon.specs.declared.rows.Shape.{Shape}
 use Rattle.cif_canon.proofs.ViewLines.{both-after, joined}
-use Rattle.cif_views.specs.Steps.TableRows.{Place, are_within, call_fields_of, call_rows, change_rows, field_at, fields_at, journey_rows, room_for}
-use Rattle.cif_views.specs.Steps.TableRows.{place_fields, schedule_rows}
-use Rattle.cif_views.specs.Tables.{Numbered, call_fields, calls_of, change_fields, changes_of, is_call, is_change}
-use Rattle.cif_views.specs.Tables.{kind_of_line, number, numbered_from, numbered_schedule, row_line, schedule_fields, table_rows, text_at}
-use Rattle.cif_views.specs.declared.tables.TheConstants.{CHANGE}
-use Rattle.cif_views.specs.declared.tables.JourneyKind.{JourneyKind}
-use Rattle.cif_views.specs.declared.tables.JourneyKind.TheVariants.{Change, Origin, Stop, Terminus}
+use Rattle.cif_views.specs.Steps.TableRows.{Place, are_within, field_at, schedule_rows}
+use Rattle.cif_views.specs.Tables.{calls_of, change_fields, changes_of}
 use Rattle.cif_views.specs.declared.tables.Table.{Table}
 use Rattle.cif_views.specs.declared.tables.Table.TheVariants.{Calls, Changes, Schedules}
+use Rattle.cif_views.proofs.Words.{CHANGE, Change, Field, JourneyKind, Numbered, Origin, ScheduleLines, Stop, Terminus, Tsv, after}
+use Rattle.cif_views.proofs.Words.{call_fields, call_fields_of, call_rows, change_rows, columns, fields_at, is_call, is_change}
+use Rattle.cif_views.proofs.Words.{journey_rows, kind_of_line, line_of, nothing, number, numbered_from, numbered_schedule, place_fields}
+use Rattle.cif_views.proofs.Words.{room_for, row_line, schedule_fields, table_rows, text_at}
 
 -- fields with a tab before each are a row without the first tab
 pub row-text : (first : Field) (fields : List Field) → drop 1 (after Tsv (first ∷ fields)) ++ codes "\n" ≡ line_of Tsv (first ∷ fields)

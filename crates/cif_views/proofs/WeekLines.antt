@@ -1,24 +1,17 @@
 -- The lines of weeks, and what the letters in them say.
-use Rattle.std.proofs.Common.{◌≡◌, ◌↔◌, ℕ, ◌+◌, ◌-◌, ◌*◌, ◌/◌, ◌%◌, ◌<◌, ◌≤◌, Bool, true, false, cond, List, [], ◌∷◌, ◌++◌, Option, None, Some, IsNone}
-use Rattle.std.proofs.Common.{length, arith, codes, refl, sym, ◌∙◌, ap, subst}
+use Rattle.std.proofs.Common.{◌≡◌, ◌↔◌, ℕ, ◌+◌, ◌-◌, ◌*◌, ◌/◌, ◌%◌, ◌<◌, ◌≤◌, Bool, true, false, cond, List, [], ◌∷◌, ◌++◌, Option, None}
+use Rattle.std.proofs.Common.{Some, IsNone, length, arith, codes, refl, sym, ◌∙◌, ap, subst}
 use Rattle.std.specs.Prelude.{nat_lt}
-use Rattle.std.specs.List.{range_with_len}
 use Rattle.std.proofs.lemmas.Bool.{false≢true, le-ltb, lt-ltb, ltb-false, ltb-true}
 use Rattle.std.proofs.lemmas.List.{map-id}
 use Rattle.std.proofs.lemmas.List.FromFn.{map-range_with_len_more}
-use Rattle.cif_calendar.specs.Clash.{IsClear}
-use Rattle.cif_calendar.specs.DayState.{AreDayStates, IsDayState}
-use Rattle.cif_calendar.specs.Entries.{schedule_entries}
-use Rattle.cif_calendar.specs.Keys.{of_key}
-use Rattle.cif_calendar.specs.Runs.{Runs}
-use Rattle.cif_calendar.specs.Terms.{AreLawful, Records, Terms}
-use Rattle.cif_calendar.specs.declared.day_state.DayState.{DayState}
+use Rattle.cif_calendar.specs.DayState.{IsDayState}
 use Rattle.cif_calendar.specs.declared.day_state.DayState.TheVariants as state
 use Rattle.cif_columns.specs.DayDigits.{yymmdd_of}
 use Rattle.cif_columns.specs.declared.stp.Stp.TheVariants.{C}
-use Rattle.cif_extract.specs.ExtractParts.{ExtractParts}
-use Rattle.cif_views.specs.Steps.WeekCalendar.{state_in}
-use Rattle.cif_views.specs.WeekCalendar.{IsRunningLetter, IsWeekCalendar, calendar_text, cell, character, monday_columns, space}
+use Rattle.cif_views.specs.WeekCalendar.{IsRunningLetter, IsWeekCalendar, cell, character, monday_columns, space}
+use Rattle.cif_views.proofs.Words.{AreDayStates, AreLawful, DayState, ExtractParts, IsClear, Records, Runs, Terms, calendar_text, of_key}
+use Rattle.cif_views.proofs.Words.{range_with_len, schedule_entries, state_in}
 
 -- ---- Mondays
 

@@ -5,10 +5,9 @@ use Rattle.std.specs.List.Sorted.{IsNonDecreasingBy}
 use Rattle.std.proofs.lemmas.Bool.{cases_lt}
 use Rattle.std.proofs.lemmas.List.{get_or_read_under, take_all}
 use Rattle.std.proofs.lemmas.List.Sorted.{IsNonDecreasingBy-drop}
+use Rattle.cif_weeks.proofs.Words.{AgreeOn, HasDay, HaveOneMask, IsAgreed, IsDisputed, Leads, Shows, Span, Weeks, week_of}
 use Rattle.cif_weeks.proofs.Masks.{mask-over}
-use Rattle.cif_weeks.proofs.Words.{week_of, Span, Weeks}
 use Rattle.cif_calendar.proofs.Elements.{Contains-cases, Contains-rest}
-use Rattle.cif_weeks.specs.Steps.Spans.{AgreeOn, HasDay, HaveOneMask, IsAgreed, IsDisputed, Leads, Shows}
 
 -- the spans of p are some of those of q: all that have day n
 pub record SameOn (p q : List Span) (n : ℕ) : Type 0 where

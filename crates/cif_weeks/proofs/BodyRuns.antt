@@ -4,13 +4,12 @@ use Rattle.std.proofs.Common.{◌∙◌, ap, subst, arith, ⊎_elim, append_asso
 use Rattle.std.proofs.lemmas.List.{append-nil, reverse-append, reverse-reverse}
 use Rattle.std.proofs.Math.Seq.{get_or-append_seam, set-append_seam}
 use Rattle.std.proofs.lemmas.Bool.{cases_lt}
-use Rattle.cif_weeks.proofs.Words.{week_of, weekday_of, RunsOn, Form, Run, Span, Weeks, Permanent, Window, IsWithin}
 use Rattle.cif_columns.specs.Day.{IsDay}
 use Rattle.cif_columns.specs.DaysRun.{IsFirstOf, IsLastOf}
-use Rattle.cif_weeks.specs.Steps.BodyRuns.{AreBodyRuns, AreGrownTo, AreRunsOfBody, BreaksBefore, IsLatest, dates_of}
-use Rattle.cif_weeks.specs.Steps.Growing.{IsGrown}
-use Rattle.cif_weeks.specs.Steps.Spans.{HaveOneMask, IsAgreed, Shows}
-use Rattle.cif_weeks.specs.Steps.WeekMasks.{IsLastDay, IsMask, MasksAgree, MasksDiffer}
+use Rattle.cif_weeks.specs.Steps.BodyRuns.{BreaksBefore}
+use Rattle.cif_weeks.proofs.Words.{AreBodyRuns, AreGrownTo, AreRunsOfBody, Form, HaveOneMask, IsAgreed, IsGrown, IsLastDay, IsLatest}
+use Rattle.cif_weeks.proofs.Words.{IsMask, IsWithin, MasksAgree, MasksDiffer, Permanent, Run, RunsOn, Shows, Span, Weeks, Window, dates_of}
+use Rattle.cif_weeks.proofs.Words.{week_of, weekday_of}
 use Rattle.cif_weeks.proofs.Ended.{breaks_differ}
 use Rattle.cif_weeks.proofs.Growing.{grown_start, grown_more}
 use Rattle.cif_weeks.proofs.Jump.{grown_jump}

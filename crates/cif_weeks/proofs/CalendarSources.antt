@@ -2,12 +2,10 @@
 use Rattle.std.proofs.Common.{◌≡◌, ◌≤◌, ℕ, Option, Some, List, [], ◌∷◌, IsSome, get_or, sym, subst, All, option_and_then}
 use Rattle.std.specs.List.{AllZip}
 use Rattle.std.proofs.lemmas.List.Elements.{All-nil, All-cons, All-head, All-tail, Contains-get_or}
-use Rattle.cif_weeks.proofs.Words.{Terms, Form, Run, Window, IsWithin, Permanent}
 use Rattle.cif_calendar.specs.Source.{IsSource, IsWinnerAt}
-use Rattle.cif_calendar.specs.Pieces.{source_at}
-use Rattle.cif_calendar.specs.Calendar.{CalendarParts, IsCalendar, body_on}
-use Rattle.cif_weeks.specs.Meets.{Meets}
-use Rattle.cif_weeks.specs.Runs.{AreSources, IsRunOf, AreCanonicalRuns, window_of}
+use Rattle.cif_calendar.specs.Calendar.{IsCalendar}
+use Rattle.cif_weeks.proofs.Words.{AreCanonicalRuns, AreSources, CalendarParts, Form, IsRunOf, IsWithin, Meets, Permanent, Run, Terms}
+use Rattle.cif_weeks.proofs.Words.{Window, body_on, source_at, window_of}
 use Rattle.cif_weeks.proofs.AlignedDays.{tight}
 
 -- the records of a list that meets a form begin in the window

@@ -1,9 +1,7 @@
 -- When the week after a record's last doesn't join it.
 use Rattle.std.proofs.Common.{◌≡◌, inl, inr, ℕ, ◌+◌, List, Bool, arith, sym, ◌∙◌, subst}
-use Rattle.cif_weeks.proofs.Words.{week_of, weekday_of, RunsOn, Form, One, Two, Window, IsWithin, Permanent}
-use Rattle.cif_weeks.specs.Separate.{ExactlyOne}
-use Rattle.cif_weeks.specs.Steps.WeekMasks.{IsMask, MasksDiffer}
-use Rattle.cif_weeks.specs.Steps.Growing.{Breaks, IsGrown}
+use Rattle.cif_weeks.proofs.Words.{Breaks, ExactlyOne, Form, IsGrown, IsMask, IsWithin, MasksDiffer, One, Permanent, RunsOn, Two, Window}
+use Rattle.cif_weeks.proofs.Words.{week_of, weekday_of}
 use Rattle.cif_weeks.proofs.WeekDays.{week_of-next, weekday_of-next}
 use Rattle.cif_weeks.proofs.Masks.{mask_runs, one_mask}
 use Rattle.cif_weeks.proofs.Grown.{fits_last}

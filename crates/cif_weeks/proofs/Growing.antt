@@ -1,9 +1,8 @@
 -- A record starts with one week, and grows by the next week where the two agree.
 use Rattle.std.proofs.Common.{◌≡◌, ◌⊎◌, inl, inr, ◌↔◌, ℕ, ◌+◌, ◌-◌, ◌≤◌, List, Bool, length, arith, refl, sym, ◌∙◌, ap, subst}
 use Rattle.std.proofs.lemmas.Bool.{cases_lt}
-use Rattle.cif_weeks.proofs.Words.{week_of, weekday_of, RunsOn, Form, One, Two, Window, IsWithin, Permanent}
-use Rattle.cif_weeks.specs.Steps.WeekMasks.{IsLastDay, IsMask, MasksAgree}
-use Rattle.cif_weeks.specs.Steps.Growing.{Fits, IsGrown}
+use Rattle.cif_weeks.proofs.Words.{Fits, Form, IsGrown, IsLastDay, IsMask, IsWithin, MasksAgree, One, Permanent, RunsOn, Two, Window}
+use Rattle.cif_weeks.proofs.Words.{week_of, weekday_of}
 use Rattle.cif_weeks.proofs.WeekDays.{day_rises, week_of-next, weekday_of-next, RunsOn-below}
 use Rattle.cif_weeks.proofs.Masks.{mask_runs, last_runs, last_latest}
 

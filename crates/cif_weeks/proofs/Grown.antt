@@ -1,12 +1,9 @@
 -- Records that have grown: on which days they apply, that they are aligned, and the change where one ends and another begins.
 use Rattle.std.proofs.Common.{◌≡◌, inl, inr, ⊎_elim, ℕ, ◌+◌, ◌-◌, ◌*◌, ◌<◌, ◌≤◌, Bool, List, arith, refl, sym, subst}
 use Rattle.std.proofs.lemmas.Bool.{cases_lt}
-use Rattle.cif_weeks.proofs.Words.{week_of, weekday_of, RunsOn, Form, One, Two, Window, IsWithin, Permanent}
 use Rattle.cif_weeks.specs.Applies.{Applies}
-use Rattle.cif_weeks.specs.Aligned.{IsAligned}
-use Rattle.cif_weeks.specs.Separate.{Change}
-use Rattle.cif_weeks.specs.Steps.WeekMasks.{IsMask}
-use Rattle.cif_weeks.specs.Steps.Growing.{Breaks, Fits, IsGrown}
+use Rattle.cif_weeks.proofs.Words.{Breaks, Change, Fits, Form, IsAligned, IsGrown, IsMask, IsWithin, One, Permanent, RunsOn, Two, Window}
+use Rattle.cif_weeks.proofs.Words.{week_of, weekday_of}
 use Rattle.cif_weeks.proofs.WeekDays.{week_of-rises, day_rises_week, week_of-next, week_later, weekday_later}
 use Rattle.cif_weeks.proofs.Masks.{mask_runs}
 use Rattle.cif_weeks.proofs.Separate.{change-seven_days}

@@ -1,11 +1,8 @@
 -- The sources of a calendar, and their bodies.
 use Rattle.std.proofs.Common.{◌≡◌, ℕ, ◌<◌, List, length, Option, None, Some, refl, sym, ◌∙◌, slice_get, option_and_then}
 use Rattle.std.proofs.lemmas.Option.{slice_get_within}
-use Rattle.cif_weeks.proofs.Words.{Terms, body_at, IsWithin}
-use Rattle.cif_calendar.specs.Calendar.{CalendarParts}
-use Rattle.cif_weeks.specs.Runs.{AreSources, window_of}
-use Rattle.cif_weeks.specs.Steps.PieceSpans.{source_in, body_in}
 use Rattle.cif_calendar.proofs.Meaning.{some-body}
+use Rattle.cif_weeks.proofs.Words.{AreSources, CalendarParts, IsWithin, Terms, body_at, body_in, source_in, window_of}
 use Rattle.cif_weeks.proofs.SourcesIn.{source_in-within, source_in-inside}
 
 module _ {B : Type 0} (xs : List (Terms B)) (c : CalendarParts) (sources : AreSources xs c) where

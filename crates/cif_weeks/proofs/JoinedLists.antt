@@ -42,16 +42,14 @@ AllPairs-append R (x ∷ xs) ys p q cross =
 pub AllZip-append : {X Y : Type 0} (R : X → Y → Type 0) (xs us : List X) (ys vs : List Y) → AllZip R xs ys → AllZip R us vs →
     AllZip R (xs ++ us) (ys ++ vs)
 AllZip-append R [] us [] vs h k = k
-AllZip-append R [] us (y ∷ ys) vs h k = absurd h
-AllZip-append R (x ∷ xs) us [] vs h k = absurd h
 AllZip-append R (x ∷ xs) us (y ∷ ys) vs h k = (h.0, AllZip-append R xs us ys vs h.1 k)
+AllZip-append _ _ _ _ _ h _ = absurd h
 
 -- lists that go together, the other way round
 pub zip-back : {X Y : Type 0} (R : X → Y → Type 0) (us : List X) (vs : List Y) → AllZip R us vs → AllZip (λ v u. R u v) vs us
 zip-back R [] [] z = tt
-zip-back R [] (v ∷ vs) z = absurd z
-zip-back R (u ∷ us) [] z = absurd z
 zip-back R (u ∷ us) (v ∷ vs) z = (z.0, zip-back R us vs z.1)
+zip-back _ _ _ z = absurd z
 
 -- what goes with the item at a place
 pub zip-at : {X Y : Type 0} (R : X → Y → Type 0) (us : List X) (vs : List Y) → AllZip R us vs → (k : ℕ) (u : X) →
@@ -65,15 +63,13 @@ zip-at R (w ∷ us) (v ∷ vs) z (suc k) u at = zip-at R us vs z.1 k u at
 pub zip-with : {X Y : Type 0} (R S : X → Y → Type 0) (us : List X) (vs : List Y) → ((u : X) (v : Y) → Contains us u → R u v → S u v) →
     AllZip R us vs → AllZip S us vs
 zip-with R S [] [] also z = tt
-zip-with R S [] (v ∷ vs) also z = absurd z
-zip-with R S (u ∷ us) [] also z = absurd z
 zip-with R S (u ∷ us) (v ∷ vs) also z =
     (also u v (Contains-first u us) z.0, zip-with R S us vs (λ w x listed. also w x (Contains-rest u us w listed)) z.1)
+zip-with _ _ _ _ _ z = absurd z
 
 -- the items of one list are mapped
 pub zip-map : {X Y Z : Type 0} (f : X → Z) (R : Z → Y → Type 0) (us : List X) (vs : List Y) → AllZip (λ u v. R (f u) v) us vs →
     AllZip R (map f us) vs
 zip-map f R [] [] z = tt
-zip-map f R [] (v ∷ vs) z = absurd z
-zip-map f R (u ∷ us) [] z = absurd z
 zip-map f R (u ∷ us) (v ∷ vs) z = (z.0, zip-map f R us vs z.1)
+zip-map _ _ _ _ z = absurd z

@@ -1,8 +1,6 @@
 -- Weeks with one mask: a record grows by all of them at once.
 use Rattle.std.proofs.Common.{◌≡◌, inl, zero, suc, ℕ, ◌+◌, ◌*◌, ◌≤◌, List, Bool, arith, refl, sym, subst, ⊎_elim}
-use Rattle.cif_weeks.proofs.Words.{week_of, weekday_of, RunsOn, Form, One, Two, Window, IsWithin, Permanent}
-use Rattle.cif_weeks.specs.Steps.WeekMasks.{IsMask, MasksAgree}
-use Rattle.cif_weeks.specs.Steps.Growing.{IsGrown}
+use Rattle.cif_weeks.proofs.Words.{Form, IsGrown, IsMask, IsWithin, MasksAgree, One, Permanent, RunsOn, Two, Window, week_of, weekday_of}
 use Rattle.cif_weeks.proofs.WeekDays.{week_later, week_of-next, weekday_of-next}
 use Rattle.cif_weeks.proofs.Growing.{grown_more}
 use Rattle.cif_weeks.proofs.Grown.{fits_last, fits_shows}

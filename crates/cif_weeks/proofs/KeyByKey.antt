@@ -4,11 +4,9 @@ use Rattle.std.specs.Cmp.{IsTotalOrder}
 use Rattle.std.specs.declared.cmp.Ordering.{Ordering}
 use Rattle.std.specs.declared.cmp.Ordering.TheVariants.{Less}
 use Rattle.std.proofs.lemmas.List.Elements.{Contains-append_left, Contains-append_right, Contains-append_cases}
-use Rattle.cif_calendar.specs.Keys.{of_key}
-use Rattle.cif_weeks.proofs.Words.{Form, Window, Permanent, Permanents}
 use Rattle.cif_weeks.specs.WhatRuns.{HasBody}
-use Rattle.cif_weeks.specs.HaveForm.{HaveForm}
 use Rattle.cif_weeks.specs.Canonical.{AreCanonical, Precedes, with_key}
+use Rattle.cif_weeks.proofs.Words.{Form, HaveForm, Permanent, Permanents, Window, of_key}
 use Rattle.cif_weeks.proofs.JoinedLists.{Contains-map, Contains-from_map, AllPairs-map, AllPairs-append}
 use Rattle.cif_calendar.proofs.RisingLists.{Contains-none, not_less}
 

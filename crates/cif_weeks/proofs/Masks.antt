@@ -1,7 +1,6 @@
 -- Masks of a set of days in a week, and the last day of a week that is in a mask.
 use Rattle.std.proofs.Common.{◌≡◌, ℕ, ◌≤◌, List, Bool, sym, ◌∙◌, subst}
-use Rattle.cif_weeks.proofs.Words.{week_of, weekday_of, RunsOn}
-use Rattle.cif_weeks.specs.Steps.WeekMasks.{IsMask, IsLastDay}
+use Rattle.cif_weeks.proofs.Words.{IsLastDay, IsMask, RunsOn, week_of, weekday_of}
 use Rattle.cif_weeks.proofs.WeekDays.{same_day, masks_equal}
 
 module _ (on : ℕ → Type 0) (week : ℕ) where

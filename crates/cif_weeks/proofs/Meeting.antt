@@ -1,13 +1,9 @@
 -- What suffices for a list to meet a form: conditions on its records in their order.
 use Rattle.std.proofs.Common.{◌≡◌, ◌⊎◌, inl, inr, ℕ, ◌≤◌, ◌↔◌, List, sym, subst, AllPairs, Contains}
-use Rattle.cif_weeks.proofs.Words.{week_of, Form, Window, IsWithin, Permanent}
 use Rattle.cif_weeks.specs.Applies.{Applies}
-use Rattle.cif_weeks.specs.Aligned.{IsAligned}
-use Rattle.cif_weeks.specs.Separate.{AreSeparate}
-use Rattle.cif_weeks.specs.HaveForm.{HaveForm}
 use Rattle.cif_weeks.specs.WhatRuns.{HasBody}
-use Rattle.cif_weeks.specs.Steps.Growing.{IsApartFrom}
 use Rattle.cif_calendar.proofs.RisingLists.{AllPairs-members}
+use Rattle.cif_weeks.proofs.Words.{AreSeparate, Form, HaveForm, IsAligned, IsApartFrom, IsWithin, Permanent, Window, week_of}
 use Rattle.cif_weeks.proofs.AlignedDays.{IsTight, tight, week_of-applies}
 use Rattle.cif_weeks.proofs.Separate.{AreSeparate-sym, separate-from_before}
 

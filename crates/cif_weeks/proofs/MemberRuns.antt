@@ -3,17 +3,12 @@ use Rattle.std.proofs.Common.{◌≡◌, ◌⊎◌, inl, inr, ℕ, false, true, 
 use Rattle.std.proofs.Common.{⊎_elim, Contains, slice_get, is_some, option_and_then}
 use Rattle.std.proofs.lemmas.List.Elements.{Contains-append_left, Contains-push, Contains-push_cases}
 use Rattle.std.proofs.lemmas.Option.{same_Some}
-use Rattle.cif_columns.specs.Stp.{letter}
 use Rattle.cif_columns.specs.declared.stp.Stp.{Stp}
-use Rattle.cif_columns.specs.declared.stp.Stp.TheVariants.{C, N, O, P}
-use Rattle.cif_calendar.specs.Applies.{Applies}
-use Rattle.cif_calendar.specs.Runs.{BodyRuns}
-use Rattle.cif_weeks.proofs.Words.{IsChosen, body_at, Terms, Window, IsWithin, Form, Run, Span}
-use Rattle.cif_calendar.specs.Terms.{AreLawful}
-use Rattle.cif_calendar.specs.Wins.{Wins}
+use Rattle.cif_columns.specs.declared.stp.Stp.TheVariants.{C, N, O}
 use Rattle.cif_weeks.specs.MemberRuns.{AreRunsOfMembers, IsMembersRun}
-use Rattle.cif_weeks.specs.Steps.BodyRuns.{AreRunsOfSpans, HasBody}
-use Rattle.cif_weeks.specs.Steps.Spans.{AreSpansOf, IsMembersSpan, IsSourceAmong, IsSpanOf, Shows}
+use Rattle.cif_weeks.specs.Steps.Spans.{IsMembersSpan}
+use Rattle.cif_weeks.proofs.Words.{Applies, AreLawful, AreRunsOfSpans, AreSpansOf, BodyRuns, Form, HasBody, IsChosen, IsSourceAmong}
+use Rattle.cif_weeks.proofs.Words.{IsSpanOf, IsWithin, P, Run, Shows, Span, Terms, Window, Wins, body_at, letter}
 use Rattle.cif_weeks.proofs.JoinedLists.{zip-with}
 use Rattle.cif_weeks.proofs.MemberClash.{leads-winner}
 use Rattle.cif_weeks.proofs.Meeting.{have_form, say}

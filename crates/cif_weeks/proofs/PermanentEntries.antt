@@ -3,20 +3,17 @@ use Rattle.std.proofs.Common.{◌≡◌, ℕ, ◌≤◌, List, Some, get_or, sym
 use Rattle.std.specs.declared.cmp.Ordering.{Ordering}
 use Rattle.std.proofs.lemmas.List.Elements.{Contains-get_or}
 use Rattle.std.proofs.lemmas.Option.{same_Some}
-use Rattle.cif_columns.specs.declared.stp.Stp.TheVariants.{P}
-use Rattle.cif_weeks.proofs.Words.{Terms, Form, Window, IsWithin, Permanent}
-use Rattle.cif_calendar.specs.Terms.{AreLawful}
 use Rattle.cif_calendar.specs.Applies as entry
 use Rattle.cif_calendar.specs.Clash.{IsClearFrom}
-use Rattle.cif_calendar.specs.Keys.{of_key, AreClear}
+use Rattle.cif_calendar.specs.Keys.{AreClear}
 use Rattle.cif_calendar.specs.Meaning.{EntriesSayTheSame}
-use Rattle.cif_calendar.specs.Runs.{BodyRuns}
 use Rattle.cif_calendar.proofs.PermanentRecords.{Wins-permanent, AreLawful-permanent}
 use Rattle.cif_calendar.proofs.SayTheSame.{EntriesSayTheSame-from_bodies}
 use Rattle.cif_weeks.specs.Permanent.{terms_of, permanent_entries}
 use Rattle.cif_weeks.specs.Applies.{Applies}
 use Rattle.cif_weeks.specs.WhatRuns.{HasBody}
 use Rattle.cif_weeks.specs.Canonical.{AreCanonical, SayTheSameByKey}
+use Rattle.cif_weeks.proofs.Words.{AreLawful, BodyRuns, Form, IsWithin, P, Permanent, Terms, Window, of_key}
 use Rattle.cif_weeks.proofs.AlignedDays.{tight}
 use Rattle.cif_weeks.proofs.JoinedLists.{Contains-map, Contains-from_map}
 

@@ -1,13 +1,9 @@
 -- The runs of the spans of a calendar's pieces are the calendar's canonical records.
 use Rattle.std.proofs.Common.{◌≡◌, ℕ, ◌+◌, ◌<◌, List, Option, None, Some, map, get_or, arith, refl, sym, ◌∙◌, ap, All, Contains, unwrap_or}
 use Rattle.std.proofs.lemmas.List.Elements.{Contains-get_or}
-use Rattle.cif_calendar.specs.Calendar.{CalendarParts, body_on}
-use Rattle.cif_calendar.specs.Pieces.{source_at}
-use Rattle.cif_weeks.proofs.Words.{body_at, Terms, Permanent, IsWithin, Form, Run, Span}
-use Rattle.cif_weeks.specs.Runs.{AreCanonicalRuns, AreSources, IsRunOf, window_of}
-use Rattle.cif_weeks.specs.Steps.BodyRuns.{AreRunsOfSpans, HasBody}
-use Rattle.cif_weeks.specs.Steps.PieceSpans.{AreSpansOn, body_in, named}
-use Rattle.cif_weeks.specs.Steps.Spans.{HasDay, IsAgreed, Shows}
+use Rattle.cif_weeks.proofs.Words.{AreCanonicalRuns, AreRunsOfSpans, AreSources, AreSpansOn, CalendarParts, Form, HasBody, HasDay, IsAgreed}
+use Rattle.cif_weeks.proofs.Words.{IsRunOf, IsWithin, Permanent, Run, Shows, Span, Terms, body_at, body_in, body_on, named, source_at}
+use Rattle.cif_weeks.proofs.Words.{window_of}
 use Rattle.cif_weeks.proofs.Growth.{inside}
 use Rattle.cif_weeks.proofs.JoinedLists.{zip-map, zip-with}
 use Rattle.cif_weeks.proofs.Meeting.{have_form, say}

@@ -6,18 +6,11 @@ use Rattle.std.proofs.lemmas.List.Elements.{Contains-append_left, Contains-get_o
 use Rattle.std.proofs.lemmas.List.Sorted.{Contains-permutation, IsNonDecreasingBy-push, IsNonDecreasingBy-short, IsPermutation-sym}
 use Rattle.std.proofs.lemmas.Option.{get_or_from_slice_get, slice_get-get_or, slice_get_within}
 use Rattle.std.proofs.lemmas.List.{drop_more}
-use Rattle.cif_weeks.proofs.Words.{week_of, weekday_of, RunsOn, body_at, Terms, Span}
-use Rattle.cif_columns.specs.Stp.{letter}
-use Rattle.cif_columns.specs.declared.stp.Stp.TheVariants.{P}
-use Rattle.cif_calendar.specs.Applies.{IsDateOf}
-use Rattle.cif_calendar.specs.Calendar.{CalendarParts}
-use Rattle.cif_calendar.specs.Pieces.{Tiles, winner_of}
-use Rattle.cif_calendar.specs.declared.key_calendar.Piece.{Piece}
 use Rattle.cif_calendar.proofs.PieceLists.{tiles-ends}
-use Rattle.cif_weeks.specs.Runs.{AreSources}
-use Rattle.cif_weeks.specs.Steps.PieceSpans.{AreInOrder, AreNear, AreSpansBefore, AreSpansOn, HasBodyOn, IsPieceSpan, IsWinnerOn, body_in}
-use Rattle.cif_weeks.specs.Steps.PieceSpans.{source_in}
-use Rattle.cif_weeks.specs.Steps.Spans.{HasDay, IsSourceAmong}
+use Rattle.cif_weeks.specs.Steps.PieceSpans.{AreInOrder, IsPieceSpan, IsWinnerOn}
+use Rattle.cif_weeks.proofs.Words.{AreNear, AreSources, AreSpansBefore, AreSpansOn, CalendarParts, HasBodyOn, HasDay, IsDateOf}
+use Rattle.cif_weeks.proofs.Words.{IsSourceAmong, P, Piece, RunsOn, Span, Terms, Tiles, body_at, body_in, letter, source_in, week_of}
+use Rattle.cif_weeks.proofs.Words.{weekday_of, winner_of}
 use Rattle.cif_weeks.proofs.Growth.{body-source, has-below, inside, source-body}
 use Rattle.cif_weeks.proofs.SourcesIn.{source_in-piece}
 use Rattle.cif_calendar.proofs.RisingLists.{Contains-none}

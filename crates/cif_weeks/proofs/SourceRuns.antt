@@ -8,10 +8,7 @@ use Rattle.std.proofs.lemmas.Bool.Decides.{nat_tests}
 use Rattle.std.proofs.lemmas.List.{get_or-drop, get_or-take, get_or_default}
 use Rattle.std.proofs.lemmas.List.Elements.{All-contains}
 use Rattle.std.proofs.lemmas.List.Sorted.{IsNonDecreasingBy-drop, IsNonDecreasingBy-from_all_adjacent}
-use Rattle.cif_weeks.proofs.Words.{Form, Run, Span, Window}
-use Rattle.cif_weeks.specs.Steps.BodyRuns.{AreRunsOfBody, HasBody, HasSource}
-use Rattle.cif_weeks.specs.Steps.PieceSpans.{AreBySource}
-use Rattle.cif_weeks.specs.Steps.Spans.{IsAgreed, IsDisputed, Shows}
+use Rattle.cif_weeks.proofs.Words.{AreBySource, AreRunsOfBody, Form, HasBody, HasSource, IsAgreed, IsDisputed, Run, Shows, Span, Window}
 use Rattle.cif_weeks.proofs.Cuts.{Contains-take, cut-cases, cut-first, cut-rest, take-contains}
 use Rattle.cif_calendar.proofs.RisingLists.{Contains-none}
 use Rattle.cif_weeks.proofs.SpanRuns.{AreRunsOf, runs-joined, runs-of_body, runs-over}

@@ -1,13 +1,8 @@
 -- The source of a day, and none outside the window.
 use Rattle.std.proofs.Common.{◌≡◌, ℕ, ◌+◌, ◌<◌, ◌≤◌, Some, None, leb, sym, ◌∙◌, ⊎_elim, arith, Contains}
 use Rattle.std.proofs.lemmas.Bool.{cond-true, cond-false, cases_lt, le-leb, lt-leb}
-use Rattle.cif_calendar.specs.Pieces.{Tiles, source_at, winner_of}
-use Rattle.cif_calendar.specs.Calendar.{CalendarParts}
-use Rattle.cif_calendar.specs.declared.key_calendar.Piece.{Piece}
 use Rattle.cif_calendar.proofs.PieceLists.{source_at-piece, tiles-ends, tiles-from}
-use Rattle.cif_weeks.proofs.Words.{IsWithin}
-use Rattle.cif_weeks.specs.Runs.{window_of}
-use Rattle.cif_weeks.specs.Steps.PieceSpans.{source_in}
+use Rattle.cif_weeks.proofs.Words.{CalendarParts, IsWithin, Piece, Tiles, source_at, source_in, window_of, winner_of}
 
 module _ (c : CalendarParts) (n : ℕ) where
   pub source_in-within : c.first ≤ n → n ≤ c.last → source_in c n ≡ source_at c.pieces n

@@ -4,14 +4,12 @@ use Rattle.std.proofs.Common.{Contains, slice_get}
 use Rattle.std.specs.List.{AllZip}
 use Rattle.std.proofs.lemmas.Bool.{cases_lt}
 use Rattle.std.proofs.lemmas.Option.{same_Some, slice_get_within, slice_get-get_or, get_or_from_slice_get}
-use Rattle.cif_weeks.proofs.Words.{week_of, body_at, Terms, Permanent, Window, IsWithin, Form, Run, Span}
 use Rattle.cif_calendar.proofs.Elements.{Contains-first, Contains-rest}
 use Rattle.cif_calendar.proofs.Positions.{at-contains, contains-at}
 use Rattle.cif_weeks.specs.Runs.{record_of}
-use Rattle.cif_weeks.specs.Steps.BodyRuns.{AreRunsOfSpans, HasBody, IsSpansRun, dates_of}
-use Rattle.cif_weeks.specs.Steps.Growing.{Breaks, IsApartFrom, IsGrown}
-use Rattle.cif_weeks.specs.Steps.PieceSpans.{AreNear}
-use Rattle.cif_weeks.specs.Steps.Spans.{Leads, Shows}
+use Rattle.cif_weeks.specs.Steps.BodyRuns.{IsSpansRun}
+use Rattle.cif_weeks.proofs.Words.{AreNear, AreRunsOfSpans, Breaks, Form, HasBody, IsApartFrom, IsGrown, IsWithin, Leads, Permanent, Run}
+use Rattle.cif_weeks.proofs.Words.{Shows, Span, Terms, Window, body_at, dates_of, week_of}
 use Rattle.cif_weeks.proofs.Grown.{grown_aligned, grown_applies, grown_change, grown_near, grown_runs}
 use Rattle.cif_weeks.proofs.JoinedLists.{zip-at, zip-back}
 use Rattle.cif_weeks.proofs.Meeting.{MeetsInOrder}

@@ -9,12 +9,10 @@ use Rattle.std.proofs.lemmas.List.Elements.{Contains-get_or, Contains-push, Cont
 use Rattle.std.proofs.lemmas.List.Kept.{AllPairs-cons}
 use Rattle.std.proofs.lemmas.List.Sorted.{Contains-permutation, IsPermutation-reverse, IsPermutation-sym}
 use Rattle.std.proofs.lemmas.Map.Keys.{IsDistinct-IsPermutation, IsDistinct-from_apart, apart_from_distinct}
-use Rattle.cif_weeks.proofs.Words.{week_of, Form, Run, Span, Window}
 use Rattle.cif_calendar.proofs.Elements.{Contains-cases, Contains-first, Contains-rest}
-use Rattle.cif_weeks.specs.Steps.BodyRuns.{AreBodyRuns, AreRunsOfBody, AreRunsOfSpans, EndsBefore, HasBody, HasSource, HasWeekOf, IsLatest}
-use Rattle.cif_weeks.specs.Steps.BodyRuns.{dates_of}
-use Rattle.cif_weeks.specs.Steps.Growing.{IsGrown}
-use Rattle.cif_weeks.specs.Steps.Spans.{IsAgreed, Shows}
+use Rattle.cif_weeks.specs.Steps.BodyRuns.{EndsBefore, HasWeekOf}
+use Rattle.cif_weeks.proofs.Words.{AreBodyRuns, AreRunsOfBody, AreRunsOfSpans, Form, HasBody, HasSource, IsAgreed, IsGrown, IsLatest, Run}
+use Rattle.cif_weeks.proofs.Words.{Shows, Span, Window, dates_of, week_of}
 use Rattle.cif_weeks.proofs.JoinedLists.{AllPairs-append}
 use Rattle.cif_calendar.proofs.RisingLists.{AllPairs-members, Contains-none}
 use Rattle.cif_weeks.proofs.SameDays.{breaks-over, grown-over}

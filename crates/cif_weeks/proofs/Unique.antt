@@ -1,13 +1,10 @@
 -- Two sets of records that have one form and say the same have the same records.
 use Rattle.std.proofs.Common.{◌≡◌, ◌≢◌, inl, inr, ℕ, ◌+◌, ◌-◌, ◌<◌, ◌≤◌, List, Bool, Option, arith, refl, sym, ◌∙◌, ap, subst, Contains}
 use Rattle.std.proofs.lemmas.Bool.{cases_lt, cases_eq}
-use Rattle.cif_weeks.proofs.Words.{week_of, RunsOn, Form, One, Two, Window, Permanent, Permanents}
 use Rattle.cif_weeks.specs.Applies.{Applies, IsWeekOf}
-use Rattle.cif_weeks.specs.Aligned.{IsAlignedOne, IsAlignedTwo, IsAligned}
-use Rattle.cif_weeks.specs.Separate.{EitherApplies, ChangeBetween, Change, AreSeparate}
-use Rattle.cif_weeks.specs.HaveForm.{HaveForm}
 use Rattle.cif_weeks.specs.WhatRuns.{HasBody, SayWhatRuns, SayTheSame}
-use Rattle.cif_weeks.specs.Meets.{Meets}
+use Rattle.cif_weeks.proofs.Words.{AreSeparate, Change, ChangeBetween, EitherApplies, Form, HaveForm, IsAligned, IsAlignedOne, IsAlignedTwo}
+use Rattle.cif_weeks.proofs.Words.{Meets, One, Permanent, Permanents, RunsOn, Two, Window, week_of}
 use Rattle.cif_weeks.proofs.WeekDays.{masks_equal}
 use Rattle.cif_calendar.proofs.RisingLists.{same_members}
 use Rattle.cif_weeks.proofs.AlignedDays.{DayOfWeek, IsTight, tight, within-tight, week_of-applies, day_in_week, full_week, full_two}

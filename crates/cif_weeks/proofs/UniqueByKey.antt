@@ -2,11 +2,10 @@
 use Rattle.std.proofs.Common.{◌≡◌, inl, inr, ℕ, ◌<◌, List, Option, arith, sym, Contains}
 use Rattle.std.specs.declared.cmp.Ordering.{Ordering}
 use Rattle.std.specs.Cmp.{IsTotalOrder}
-use Rattle.cif_weeks.proofs.Words.{Form, Window, Permanent}
 use Rattle.cif_weeks.specs.WhatRuns.{SayTheSame}
-use Rattle.cif_calendar.specs.Keys.{of_key}
 use Rattle.cif_weeks.specs.Canonical.{Precedes, AreCanonical, SayWhatRunsByKey, SayTheSameByKey}
 use Rattle.cif_calendar.proofs.RisingLists.{IsOneWay, same_members, less_one_way, not_less}
+use Rattle.cif_weeks.proofs.Words.{Form, Permanent, Window, of_key}
 use Rattle.cif_weeks.proofs.Unique.{member, SayTheSame-sym, SayTheSame-from_runs}
 
 module _ {K B : Type 0} (cmp : K → K → Ordering) (total : IsTotalOrder cmp) where

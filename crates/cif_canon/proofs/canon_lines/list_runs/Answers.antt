@@ -1,14 +1,9 @@
 -- The text is a fold over runs with their numbers: one more goes behind it (`one-more`). Each run has a record, and its lines are those
 -- of the schedule at its source (`schedule-text`).
 use Rattle.std.proofs.Common.{◌+◌, ◌∙◌, ap, arith, get_or, subst, sym}
-use Rattle.std.specs.List.{enumerate_from}
 use Rattle.std.proofs.lemmas.List.FromFn.{length-enumerate_from}
-use Rattle.cif_calendar.specs.Entries.{schedule_entries}
-use Rattle.cif_extract.specs.declared.extract.Schedule.{Schedule}
-use Rattle.cif_weeks.specs.Runs.{record_of}
-use Rattle.cif_canon.specs.Appended.{IsAppended}
-use Rattle.cif_canon.specs.Lines.{ScheduleLines, schedule_plain}
-use Rattle.cif_canon.specs.Steps.Texts.{HasRecord, numbered_text}
+use Rattle.cif_canon.proofs.Words.{HasRecord, IsAppended, Schedule, ScheduleLines, enumerate_from, numbered_text, record_of}
+use Rattle.cif_canon.proofs.Words.{schedule_entries, schedule_plain}
 use Rattle.cif_canon.proofs.AppendedTexts.{all-items, nothing, one-more, text-is}
 use Rattle.cif_canon.proofs.CanonLines.{at-number}
 use Rattle.cif_canon.proofs.RunTexts.{schedule-text}

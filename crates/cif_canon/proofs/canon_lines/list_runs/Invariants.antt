@@ -1,9 +1,6 @@
 -- What is written is the text of the schedules so far, with their numbers.
 use Rattle.std.proofs.Common.{take}
-use Rattle.std.specs.List.{enumerate_from, flat_map}
-use Rattle.cif_calendar.specs.Entries.{schedule_entries}
-use Rattle.cif_canon.specs.Appended.{IsAppended}
-use Rattle.cif_canon.specs.Steps.Texts.{numbered_text}
+use Rattle.cif_canon.proofs.Words.{IsAppended, enumerate_from, flat_map, numbered_text, schedule_entries}
 use Rattle.cif_canon.proofs.canon_lines.list_runs.Given as goal
 
 abbrev pub invariant-loop-at : goal.invariant-loop-at

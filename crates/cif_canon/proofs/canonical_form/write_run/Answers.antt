@@ -1,8 +1,6 @@
 -- A run names its entry by position: `run-text` has the run's text from the key and the body of the entry that was looked up.
 use Rattle.std.proofs.Common.{◌∙◌, ap, sym}
-use Rattle.std.specs.Option.{option_copied}
-use Rattle.cif_calendar.specs.Keys.{keyed}
-use Rattle.cif_weeks.specs.Runs.{record_of}
+use Rattle.cif_canon.proofs.Words.{keyed, option_copied, record_of}
 use Rattle.cif_canon.proofs.AppendedTexts.{text-is}
 use Rattle.cif_canon.proofs.RunTexts.{dates-in_order, has-body, run-text}
 use Rattle.cif_canon.proofs.canonical_form.write_run.Goals as goal

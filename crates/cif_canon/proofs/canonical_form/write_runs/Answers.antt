@@ -1,8 +1,6 @@
 -- The text is a fold over runs: one more goes behind it (`one-more`); each run has a record.
 use Rattle.std.proofs.Common.{◌<◌, length, sym, subst}
-use Rattle.cif_calendar.specs.Keys.{keyed}
-use Rattle.cif_weeks.specs.declared.run.Run.{Run}
-use Rattle.cif_canon.specs.Steps.Texts.{HasRecord, run_text}
+use Rattle.cif_canon.proofs.Words.{HasRecord, Run, keyed, run_text}
 use Rattle.cif_canon.proofs.AppendedTexts.{all-items, nothing, one-more}
 use Rattle.cif_canon.proofs.canonical_form.write_runs.Goals as goal
 

@@ -1,9 +1,6 @@
 -- What is written is the text of the runs so far.
 use Rattle.std.proofs.Common.{take}
-use Rattle.std.specs.List.{flat_map}
-use Rattle.cif_calendar.specs.Keys.{keyed}
-use Rattle.cif_canon.specs.Steps.Texts.{run_text}
-use Rattle.cif_canon.specs.Appended.{IsAppended}
+use Rattle.cif_canon.proofs.Words.{IsAppended, flat_map, keyed, run_text}
 use Rattle.cif_canon.proofs.canonical_form.write_runs.Given as goal
 
 abbrev pub invariant-loop-run : goal.invariant-loop-run

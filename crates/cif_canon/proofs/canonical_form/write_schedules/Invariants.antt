@@ -1,9 +1,7 @@
 -- What is written is the text of the runs so far, and the writer has the body of the schedule at `source`.
 use Rattle.std.proofs.Common.{◌≡◌, Some, take}
-use Rattle.std.specs.List.{flat_map}
-use Rattle.cif_calendar.specs.Entries.{schedule_entries}
-use Rattle.cif_canon.specs.Steps.Texts.{body_at, schedule_run_text}
-use Rattle.cif_canon.specs.Appended.{IsAppended}
+use Rattle.cif_canon.specs.Steps.Texts.{body_at}
+use Rattle.cif_canon.proofs.Words.{IsAppended, flat_map, schedule_entries, schedule_run_text}
 use Rattle.cif_canon.proofs.canonical_form.write_schedules.Given as goal
 
 abbrev pub invariant-loop-at : goal.invariant-loop-at

@@ -1,8 +1,6 @@
 -- What is written is the text of the locations so far.
 use Rattle.std.proofs.Common.{take}
-use Rattle.std.specs.List.{flat_map}
-use Rattle.cif_canon.specs.Steps.Texts.{tiploc_text}
-use Rattle.cif_canon.specs.Appended.{IsAppended}
+use Rattle.cif_canon.proofs.Words.{IsAppended, flat_map, tiploc_text}
 use Rattle.cif_canon.proofs.canonical_form.write_tiplocs.Given as goal
 
 abbrev pub invariant-loop-tiploc : goal.invariant-loop-tiploc

@@ -1,9 +1,6 @@
 -- The first run is at the first difference (`first-run`).
 use Rattle.std.proofs.Common.{◌≡◌, ◌∙◌, List, None, Some, ap, sym}
-use Rattle.std.specs.Prelude.{slice_get}
-use Rattle.std.specs.Option.{option_copied}
-use Rattle.cif_weeks.specs.declared.run.Run.{Run}
-use Rattle.cif_canon.specs.declared.listed_differences.Sided.{Sided}
+use Rattle.cif_canon.proofs.Words.{Run, Sided, option_copied, slice_get}
 use Rattle.cif_canon.proofs.ListedDifferences.{first-run, first-within}
 use Rattle.cif_canon.proofs.comparison.first_difference.Given.{Over}
 use Rattle.cif_canon.proofs.comparison.first_difference.Goals as goal

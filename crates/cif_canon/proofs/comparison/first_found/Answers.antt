@@ -1,11 +1,7 @@
 -- What was found is said of slices and of the left window: the extracts' own lists and windows are put in by equations.
 use Rattle.std.proofs.Common.{◌∙◌, ap, sym}
-use Rattle.std.specs.Option.{option_copied}
-use Rattle.std.specs.Prelude.{Contains, ◌↔◌}
-use Rattle.cif_canon.specs.Asked.{header_window}
-use Rattle.cif_canon.specs.Steps.OnlySides.{AreSame}
-use Rattle.cif_canon.specs.declared.listed_differences.Side.TheVariants.{Left, Right}
-use Rattle.cif_canon.proofs.Words.{Tiploc, association_entries, extract_parts, schedule_entries}
+use Rattle.cif_canon.proofs.Words.{AreSame, Contains, Left, Right, Tiploc, association_entries, extract_parts, header_window, option_copied}
+use Rattle.cif_canon.proofs.Words.{schedule_entries, ◌↔◌}
 use Rattle.cif_canon.proofs.DifferentTiplocs.{first-tiploc, no-tiploc}
 use Rattle.cif_canon.proofs.ListedDifferences.{clear-right}
 use Rattle.cif_canon.proofs.comparison.first_found.Goals as goal

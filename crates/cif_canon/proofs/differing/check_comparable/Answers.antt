@@ -1,8 +1,6 @@
 -- A fault of either extract is one of both (`compare-fault`).
 use Rattle.std.proofs.Common.{inl, inr}
-use Rattle.cif_extract.specs.ExtractParts.{extract_parts}
-use Rattle.cif_canon.specs.Accepted.{IsClearExtract}
-use Rattle.cif_canon.specs.Comparison.{IsCompareFault}
+use Rattle.cif_canon.proofs.Words.{IsClearExtract, IsCompareFault, extract_parts}
 use Rattle.cif_canon.proofs.CompareFaults.{compare-fault}
 use Rattle.cif_canon.proofs.HandedFaults.{hands}
 use Rattle.cif_canon.proofs.differing.check_comparable.Goals as goal

@@ -1,11 +1,6 @@
 -- What was found is said of slices and of the left window: the extracts' own lists and windows are put in by equations.
-use Rattle.std.specs.Cmp.Lexicographic.{slice_cmp}
-use Rattle.std.specs.Ordering.{nat_cmp}
-use Rattle.cif_canon.specs.Asked.{header_window}
-use Rattle.cif_canon.specs.Differences.{AreDifferentTiplocs}
-use Rattle.cif_canon.specs.Steps.OnlySides.{AreDifferentRuns}
-use Rattle.cif_canon.specs.declared.differing.Extent.TheVariants.{AllKeys}
-use Rattle.cif_canon.proofs.Words.{association_entries, extract_parts, key_cmp, schedule_entries}
+use Rattle.cif_canon.proofs.Words.{AllKeys, AreDifferentRuns, AreDifferentTiplocs, association_entries, extract_parts, header_window}
+use Rattle.cif_canon.proofs.Words.{key_cmp, nat_cmp, schedule_entries, slice_cmp}
 use Rattle.cif_canon.proofs.ListedDifferences.{are-differences, kind-records, none-agree, turn-left}
 use Rattle.cif_canon.proofs.differing.differences.Goals as goal
 use Rattle.cif_canon.proofs.differing.differences.Goals.{In-Ok-different_records, In-Ok-different_records-2, In-Ok}

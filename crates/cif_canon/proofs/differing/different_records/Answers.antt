@@ -1,14 +1,11 @@
 -- The fronts of both rests are the positions of one key (`ComparedKeys`), whose differences go behind the others (`found-key`).
 use Rattle.std.proofs.Common.{◌<◌, ◌∙◌, ℕ, List, [], length, refl, sym, subst}
-use Rattle.std.specs.Prelude.{All}
 use Rattle.std.proofs.lemmas.List.{nil_from_length}
 use Rattle.std.proofs.lemmas.Result.{IfOk-from_err}
 use Rattle.std.proofs.lemmas.List.Elements.{All-drop, All-take}
 use Rattle.cif_calendar.proofs.FirstClash.{same_key-cmp}
 use Rattle.cif_weeks.proofs.CalendarSources.{calendar_sources}
-use Rattle.cif_calendar.specs.ByKey.{AreAllByKey}
-use Rattle.cif_canon.specs.declared.listed_differences.Sided.{Sided}
-use Rattle.cif_canon.proofs.Words.{ArePositionsOf, Run, keyed, window_from}
+use Rattle.cif_canon.proofs.Words.{All, AreAllByKey, ArePositionsOf, Run, Sided, keyed, window_from}
 use Rattle.cif_canon.proofs.ComparedKeys.{AreTurns, turns}
 use Rattle.cif_canon.proofs.FoundRecords.{AreFound, AreTold, found-all, found-enough, found-first, found-key}
 use Rattle.cif_canon.proofs.KeyDifferences.{key-clears, key-only, key-told}

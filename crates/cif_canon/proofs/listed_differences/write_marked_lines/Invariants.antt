@@ -1,8 +1,6 @@
 -- What is written is the text of the lines so far, and with those to come they are all.
 use Rattle.std.proofs.Common.{◌≡◌, ◌∷◌, ◌++◌, [], ℕ, List, length}
-use Rattle.std.specs.List.{flat_map}
-use Rattle.cif_canon.specs.Differences.{marked_text}
-use Rattle.cif_canon.specs.Appended.{IsAppended}
+use Rattle.cif_canon.proofs.Words.{IsAppended, flat_map, marked_text}
 use Rattle.cif_canon.proofs.listed_differences.write_marked_lines.Given as goal
 
 abbrev pub invariant-loop-rest : goal.invariant-loop-rest

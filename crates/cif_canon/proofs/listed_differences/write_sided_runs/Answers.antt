@@ -1,10 +1,6 @@
 -- The text is a fold over runs: one more goes behind it (`one-more`); each run has a record on its side.
 use Rattle.std.proofs.Common.{◌<◌, length, sym, subst}
-use Rattle.cif_calendar.specs.Keys.{keyed}
-use Rattle.cif_weeks.specs.declared.run.Run.{Run}
-use Rattle.cif_canon.specs.Differences.{at_side}
-use Rattle.cif_canon.specs.Steps.Sides.{HasSidedRecord, sided_run_text}
-use Rattle.cif_canon.specs.declared.listed_differences.Sided.{Sided}
+use Rattle.cif_canon.proofs.Words.{HasSidedRecord, Run, Sided, at_side, keyed, sided_run_text}
 use Rattle.cif_canon.proofs.AppendedTexts.{all-items, nothing, one-more}
 use Rattle.cif_canon.proofs.listed_differences.write_sided_runs.Goals as goal
 

@@ -1,9 +1,6 @@
 -- What is written is the text of the runs so far.
 use Rattle.std.proofs.Common.{take}
-use Rattle.std.specs.List.{flat_map}
-use Rattle.cif_calendar.specs.Keys.{keyed}
-use Rattle.cif_canon.specs.Steps.Sides.{sided_run_text}
-use Rattle.cif_canon.specs.Appended.{IsAppended}
+use Rattle.cif_canon.proofs.Words.{IsAppended, flat_map, keyed, sided_run_text}
 use Rattle.cif_canon.proofs.listed_differences.write_sided_runs.Given as goal
 
 abbrev pub invariant-loop-run : goal.invariant-loop-run

@@ -1,15 +1,11 @@
 -- Of known bytes (`known_so`): what they spell, narrowed, has a form to count (`counted-text`), or is to blame (`known-canon_fault`).
 use Rattle.std.proofs.Common.{Err, refl, subst}
 use Rattle.cif_columns.proofs.GivenLinesLaws.{known_so}
-use Rattle.cif_columns.specs.Source.{unread_of}
-use Rattle.cif_extract.specs.ExtractParts.{extract_parts}
-use Rattle.cif_canon.specs.Fault.{IsCanonFault, IsOfCheck}
-use Rattle.cif_canon.specs.declared.canonical_form.Counts.{Counts}
+use Rattle.cif_canon.proofs.Words.{Counts, IsCanonFault, IsOfCheck, extract_parts, unread_of}
 use Rattle.cif_canon.proofs.BothRead.{read-on}
 use Rattle.cif_canon.proofs.HandedFaults.{at-fault, hands, no-ok}
-use Rattle.cif_canon.proofs.Normalising.{canon-of_check, narrowed-of_check, unsaid, whatever}
-use Rattle.cif_canon.proofs.Normalising.{counted-text, known-canon_accepted, known-canon_fault}
-use Rattle.cif_canon.proofs.Normalising.{known-read_accepted, known-read_fault}
+use Rattle.cif_canon.proofs.Normalising.{canon-of_check, narrowed-of_check, unsaid, whatever, counted-text, known-canon_accepted}
+use Rattle.cif_canon.proofs.Normalising.{known-canon_fault, known-read_accepted, known-read_fault}
 use Rattle.cif_canon.proofs.normal_form.check_keeping.Goals as goal
 
 pub returns-in_err-extract-clause-accepted : goal.returns-in_err-extract-clause-accepted

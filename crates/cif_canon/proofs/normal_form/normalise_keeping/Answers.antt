@@ -1,16 +1,12 @@
 -- The text has to be named, the canonical form's: of known bytes `Normalising` says it is that, written whole or as a prefix.
 use Rattle.std.proofs.Common.{◌≢◌, ◌∙◌, Err, None, ap, subst, sym}
 use Rattle.cif_columns.proofs.GivenLinesLaws.{known_so}
-use Rattle.cif_columns.specs.Source.{unread_of}
-use Rattle.cif_extract.specs.ExtractParts.{extract_parts}
-use Rattle.cif_extract.specs.declared.fault.Fault.TheVariants.{Read}
+use Rattle.cif_canon.proofs.Words.{IsCanonFault, IsOfNormalise, IsOfReadNarrowed, Read, extract_parts, unread_of}
 use Rattle.cif_canon.proofs.BothRead.{read-on}
 use Rattle.cif_canon.proofs.HandedFaults.{at-fault, hands}
-use Rattle.cif_canon.specs.Fault.{IsCanonFault, IsOfNormalise, IsOfReadNarrowed}
-use Rattle.cif_canon.proofs.Normalising.{canon-of_check, narrowed-of_check, unsaid, whatever}
-use Rattle.cif_canon.proofs.Normalising.{fails-silently, fault-writes, known-canon_accepted, known-canon_fault}
-use Rattle.cif_canon.proofs.Normalising.{known-read_accepted, known-read_fault}
-use Rattle.cif_canon.proofs.Normalising.{normalises-prefix, normalises-whole, write-accepted, write-answers, write-fault}
+use Rattle.cif_canon.proofs.Normalising.{canon-of_check, narrowed-of_check, unsaid, whatever, fails-silently, fault-writes}
+use Rattle.cif_canon.proofs.Normalising.{known-canon_accepted, known-canon_fault, known-read_accepted, known-read_fault, normalises-prefix}
+use Rattle.cif_canon.proofs.Normalising.{normalises-whole, write-accepted, write-answers, write-fault}
 use Rattle.cif_canon.proofs.normal_form.normalise_keeping.Goals as goal
 
 pub returns-in_err-extract-clause-normal : goal.returns-in_err-extract-clause-normal

@@ -1,10 +1,7 @@
 -- Of known bytes (`known_so`): what they spell is narrowed, or the window that was asked for is to blame (`known-narrowing`).
 use Rattle.std.proofs.Common.{◌≢◌, subst}
 use Rattle.cif_columns.proofs.GivenLinesLaws.{known_so}
-use Rattle.cif_columns.specs.Source.{unread_of}
-use Rattle.cif_extract.specs.ExtractParts.{extract_parts}
-use Rattle.cif_extract.specs.declared.fault.Fault.TheVariants.{Read}
-use Rattle.cif_canon.specs.Asked.{IsNarrowingFault}
+use Rattle.cif_canon.proofs.Words.{IsNarrowingFault, Read, extract_parts, unread_of}
 use Rattle.cif_canon.proofs.BothRead.{read-on}
 use Rattle.cif_canon.proofs.HandedFaults.{at-fault, hands, no-ok}
 use Rattle.cif_canon.proofs.Normalising.{known-narrowing, spells-narrowed, unsaid}

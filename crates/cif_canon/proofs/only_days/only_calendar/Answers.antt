@@ -1,7 +1,6 @@
 -- One piece more: up to the earlier end it has what is left of both calendars' pieces (`only-more`).
 use Rattle.std.proofs.Common.{◌+◌, List, map, refl, sym, subst, arith}
-use Rattle.cif_calendar.specs.Pieces.{Tiles}
-use Rattle.cif_calendar.specs.declared.key_calendar.Piece.{Piece}
+use Rattle.cif_canon.proofs.Words.{Piece, Tiles}
 use Rattle.cif_canon.proofs.DifferentDays.{not-below, piece-bodies, piece-ends}
 use Rattle.cif_canon.proofs.OnlyDays.{only-more, tiles-more}
 use Rattle.cif_canon.proofs.only_days.only_calendar.Goals as goal

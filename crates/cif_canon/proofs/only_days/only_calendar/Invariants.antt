@@ -1,7 +1,6 @@
 -- The pieces so far cover the days before `first`, and have what is left of them; what is left of the window gets shorter.
 use Rattle.std.proofs.Common.{◌≤◌, ◌<◌, ◌-◌, ℕ, map}
-use Rattle.cif_calendar.specs.Pieces.{Tiles, source_at}
-use Rattle.cif_canon.specs.Steps.OnlySides.{IsOnlySource}
+use Rattle.cif_canon.proofs.Words.{IsOnlySource, Tiles, source_at}
 use Rattle.cif_canon.proofs.only_days.only_calendar.Given as goal
 
 abbrev pub invariant-loop-pieces : goal.invariant-loop-pieces

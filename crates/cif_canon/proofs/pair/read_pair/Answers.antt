@@ -1,9 +1,7 @@
 -- Each fault is told of known bytes of the left input, and then of the right (`spelled-refused`).
 use Rattle.std.proofs.Common.{◌≢◌, IfErr, inl, inr, refl, subst}
 use Rattle.cif_columns.proofs.GivenLinesLaws.{known_so}
-use Rattle.cif_extract.specs.ExtractParts.{extract_parts}
-use Rattle.cif_extract.specs.declared.fault.Fault.TheVariants.{Read}
-use Rattle.cif_canon.specs.Asked.{IsNarrowingFault}
+use Rattle.cif_canon.proofs.Words.{IsNarrowingFault, Read, extract_parts}
 use Rattle.cif_canon.proofs.BothRead.{both-read}
 use Rattle.cif_canon.proofs.HandedFaults.{at-fault, hands}
 use Rattle.cif_canon.specs.Pair.{IsPairFault}

@@ -1,10 +1,8 @@
 -- Three parts are appended one behind another (`lists-appended`).
 use Rattle.std.proofs.Common.{◌++◌, ap}
 use Rattle.std.specs.List.{flat_map}
-use Rattle.cif_calendar.specs.Entries.{association_entries, schedule_entries}
-use Rattle.cif_canon.specs.Differences.{DifferencesParts}
-use Rattle.cif_canon.specs.Pairs.{association_lines, schedule_lines, tiploc_lines}
-use Rattle.cif_canon.specs.Steps.Sides.{sided_records}
+use Rattle.cif_canon.specs.Pairs.{schedule_lines}
+use Rattle.cif_canon.proofs.Words.{DifferencesParts, association_entries, association_lines, schedule_entries, sided_records, tiploc_lines}
 use Rattle.cif_canon.proofs.AppendedTexts.{text-is}
 use Rattle.cif_canon.proofs.PairedRecords.{lists-appended}
 use Rattle.cif_canon.proofs.pairs.list_differences.Goals as goal

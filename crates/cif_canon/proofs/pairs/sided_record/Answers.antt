@@ -1,7 +1,6 @@
 -- The run's record is that of its side.
 use Rattle.std.proofs.Common.{◌≤◌, ◌∙◌, Some, ap, subst, sym}
-use Rattle.cif_calendar.specs.Keys.{keyed}
-use Rattle.cif_canon.proofs.Words.{Run, record_of}
+use Rattle.cif_canon.proofs.Words.{Run, keyed, record_of}
 use Rattle.cif_canon.proofs.RunTexts.{dates-in_order}
 use Rattle.cif_canon.proofs.pairs.sided_record.Goals as goal
 

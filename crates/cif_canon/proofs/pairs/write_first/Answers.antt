@@ -1,12 +1,7 @@
 -- The first run's record is listed with its partner or without one (`written-pair`, `written-one`).
 use Rattle.std.proofs.Common.{◌<◌, length, subst, sym}
-use Rattle.std.specs.Prelude.{All}
 use Rattle.std.proofs.lemmas.List.Elements.{All-drop}
-use Rattle.cif_calendar.specs.Keys.{keyed}
-use Rattle.cif_canon.specs.Differences.{at_side}
-use Rattle.cif_canon.specs.Steps.Sides.{HasSidedRecord}
-use Rattle.cif_canon.specs.declared.listed_differences.Sided.{Sided}
-use Rattle.cif_canon.proofs.Words.{Run, record_of}
+use Rattle.cif_canon.proofs.Words.{All, HasSidedRecord, Run, Sided, at_side, keyed, record_of}
 use Rattle.cif_canon.proofs.PairedRecords.{tail-is, written-one, written-pair}
 use Rattle.cif_canon.proofs.pairs.write_first.Goals as goal
 

@@ -1,16 +1,9 @@
 -- What is listed first of the rest goes behind what was listed (`behind`).
 use Rattle.std.proofs.Common.{◌≡◌, ◌<◌, ◌∷◌, ◌++◌, [], append-nil, append_assoc, ap, arith, length, refl, subst, sym, ◌∙◌}
-use Rattle.std.specs.Prelude.{All}
-use Rattle.std.specs.List.{flat_map}
 use Rattle.std.proofs.lemmas.Bool.Decides.{nat_tests}
 use Rattle.std.proofs.lemmas.List.{nil_from_length}
 use Rattle.std.proofs.lemmas.List.Elements.{All-drop}
-use Rattle.cif_calendar.specs.Keys.{keyed}
-use Rattle.cif_canon.specs.Differences.{at_side}
-use Rattle.cif_canon.specs.Pairs.{by_pairs}
-use Rattle.cif_canon.specs.Steps.Sides.{HasSidedRecord, sided_records}
-use Rattle.cif_canon.specs.declared.listed_differences.Sided.{Sided}
-use Rattle.cif_canon.proofs.Words.{Run}
+use Rattle.cif_canon.proofs.Words.{All, HasSidedRecord, Run, Sided, at_side, by_pairs, flat_map, keyed, sided_records}
 use Rattle.cif_canon.proofs.AppendedTexts.{behind, nothing, text-is}
 use Rattle.cif_canon.proofs.pairs.write_pairs.Goals as goal
 

@@ -1,13 +1,6 @@
 -- What is written is the text of what was listed so far, and with what the rest is listed as it is all; each run that is left has a record.
 use Rattle.std.proofs.Common.{◌≡◌, ◌<◌, ◌++◌, List, length}
-use Rattle.std.specs.Prelude.{All}
-use Rattle.std.specs.List.{flat_map}
-use Rattle.cif_calendar.specs.Keys.{keyed}
-use Rattle.cif_weeks.specs.Permanent.{Permanent}
-use Rattle.cif_canon.specs.Appended.{IsAppended}
-use Rattle.cif_canon.specs.Differences.{at_side}
-use Rattle.cif_canon.specs.Pairs.{Listed, by_pairs}
-use Rattle.cif_canon.specs.Steps.Sides.{HasSidedRecord, sided_records}
+use Rattle.cif_canon.proofs.Words.{All, HasSidedRecord, IsAppended, Listed, Permanent, at_side, by_pairs, flat_map, keyed, sided_records}
 use Rattle.cif_canon.proofs.pairs.write_pairs.Given as goal
 
 abbrev pub invariant-loop-rest : goal.invariant-loop-rest

@@ -1,8 +1,6 @@
 -- The runs are those of all keys but the ones with entries at `rest`, and these are greater.
 use Rattle.std.proofs.Common.{◌<◌, length}
-use Rattle.std.specs.Prelude.{All}
-use Rattle.cif_calendar.specs.Keys.{keyed}
-use Rattle.cif_weeks.specs.Window.{window_from}
+use Rattle.cif_canon.proofs.Words.{All, keyed, window_from}
 use Rattle.cif_canon.proofs.MadeRecords.{IsMade}
 use Rattle.cif_canon.proofs.records.canonical_records.Given as goal
 

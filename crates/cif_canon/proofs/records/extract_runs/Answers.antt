@@ -1,11 +1,7 @@
 -- What is said of slices, in the window of two dates, is said of the extract's entries and header (`of_slice`).
-use Rattle.std.specs.Cmp.Lexicographic.{slice_cmp}
-use Rattle.std.specs.Ordering.{nat_cmp}
 use Rattle.cif_extract.specs.declared.fault.Clash.TheVariants.{Association, Train}
-use Rattle.cif_canon.specs.Asked.{header_window}
-use Rattle.cif_canon.specs.Fault.{IsCanonFault}
-use Rattle.cif_canon.specs.Steps.Records.{AreCanonicalRecords, IsRecordsFault}
-use Rattle.cif_canon.proofs.Words.{association_entries, extract_parts, key_cmp, schedule_entries}
+use Rattle.cif_canon.proofs.Words.{AreCanonicalRecords, IsCanonFault, IsRecordsFault, association_entries, extract_parts, header_window}
+use Rattle.cif_canon.proofs.Words.{key_cmp, nat_cmp, schedule_entries, slice_cmp}
 use Rattle.cif_canon.proofs.CanonForm.{associations-fault, of_slice, schedules-fault}
 use Rattle.cif_canon.proofs.HandedFaults.{hands}
 use Rattle.cif_canon.proofs.records.extract_runs.Goals as goal

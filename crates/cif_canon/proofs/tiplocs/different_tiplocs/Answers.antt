@@ -1,9 +1,6 @@
 -- At first all locations are left, and in the end none is (`sifting-end`).
 use Rattle.std.proofs.Common.{List, subst, sym}
-use Rattle.cif_records.specs.declared.tiploc.Tiploc.{Tiploc}
-use Rattle.cif_canon.specs.Steps.OnlySides.{AreSifting}
-use Rattle.cif_canon.specs.Steps.Tiplocs.{AreDistinct}
-use Rattle.cif_canon.specs.declared.listed_differences.Sided.{Sided}
+use Rattle.cif_canon.proofs.Words.{AreDistinct, AreSifting, Sided, Tiploc}
 use Rattle.cif_canon.proofs.SiftedTiplocs.{sifting-end, sifting-nothing}
 use Rattle.cif_canon.proofs.tiplocs.different_tiplocs.Goals as goal
 

@@ -1,8 +1,7 @@
 -- The lesser of the first locations has moved behind the others, or both are passed (`moved`, `passed-both`).
 use Rattle.std.proofs.Common.{Some, subst}
 use Rattle.std.proofs.lemmas.Result.{IfOk-weaker}
-use Rattle.cif_canon.specs.Steps.OnlySides.{IsFirstOrder}
-use Rattle.cif_canon.specs.declared.listed_differences.Side.TheVariants.{Left, Right}
+use Rattle.cif_canon.proofs.Words.{IsFirstOrder, Left, Right}
 use Rattle.cif_canon.proofs.MergedSides.{moved-smaller}
 use Rattle.cif_canon.proofs.SiftedTiplocs.{behind-first, moved, passed-both}
 use Rattle.cif_canon.proofs.tiplocs.pass_first.Goals as goal

@@ -1,11 +1,7 @@
 -- The text has to be named: heading, associations, trains; `day-listed` says it is the listing.
 use Rattle.std.proofs.Common.{◌++◌}
-use Rattle.std.specs.Cmp.Lexicographic.{slice_cmp}
-use Rattle.std.specs.Ordering.{nat_cmp}
-use Rattle.cif_canon.specs.Asked.{header_window}
-use Rattle.cif_canon.specs.Steps.Views.{listed_on}
-use Rattle.cif_canon.specs.Views.{DayTexts}
-use Rattle.cif_canon.proofs.Words.{Two, association_entry, extract_parts, key_cmp, schedule_entry}
+use Rattle.cif_canon.proofs.Words.{DayTexts, Two, association_entry, extract_parts, header_window, key_cmp, listed_on, nat_cmp}
+use Rattle.cif_canon.proofs.Words.{schedule_entry, slice_cmp}
 use Rattle.cif_canon.proofs.AppendedTexts.{both, fault-answered, text-is}
 use Rattle.cif_canon.proofs.RunTexts.{sources-within}
 use Rattle.cif_canon.proofs.ViewTexts.{associations-text, day-listed, have-lines, sliced, trains-text, written-so}

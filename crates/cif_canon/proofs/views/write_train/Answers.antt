@@ -1,14 +1,7 @@
 -- The text has to be named: heading and one train's records; `train-listed` says it is the listing.
 use Rattle.std.proofs.Common.{◌++◌, List, ℕ}
-use Rattle.std.specs.Cmp.Lexicographic.{slice_cmp}
-use Rattle.std.specs.List.{flat_map}
-use Rattle.std.specs.Ordering.{nat_cmp}
-use Rattle.cif_calendar.specs.Entries.{schedule_entries, schedule_entry}
-use Rattle.cif_extract.specs.ExtractParts.{extract_parts}
-use Rattle.cif_canon.specs.Asked.{header_window}
-use Rattle.cif_canon.specs.Steps.Texts.{run_text}
-use Rattle.cif_canon.specs.Steps.Views.{listed_of}
-use Rattle.cif_canon.specs.Views.{TrainTexts}
+use Rattle.cif_canon.proofs.Words.{TrainTexts, extract_parts, flat_map, header_window, listed_of, nat_cmp, run_text, schedule_entries}
+use Rattle.cif_canon.proofs.Words.{schedule_entry, slice_cmp}
 use Rattle.cif_canon.proofs.AppendedTexts.{both, fault-answered, text-is}
 use Rattle.cif_canon.proofs.RunTexts.{sources-within}
 use Rattle.cif_canon.proofs.ViewTexts.{have-lines, sliced, train-listed, written-so}

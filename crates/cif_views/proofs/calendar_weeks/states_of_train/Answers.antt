@@ -1,13 +1,10 @@
 -- The records at the positions of the train are its records.
 use Rattle.std.proofs.Common.{◌+◌, ◌<◌, length, subst, sym}
-use Rattle.std.specs.Prelude.{All}
 use Rattle.std.proofs.lemmas.Result.{IfOk-weaker}
-use Rattle.cif_calendar.specs.DayState.{AreDayStates}
-use Rattle.cif_calendar.specs.Entries.{schedule_entries, schedule_terms}
-use Rattle.cif_calendar.specs.Keys.{ArePositionsOf, of_key}
+use Rattle.cif_calendar.specs.Keys.{ArePositionsOf}
 use Rattle.cif_calendar.proofs.DayStates.{AreDayStates-same}
 use Rattle.cif_calendar.proofs.Positions.{positions-records}
-use Rattle.cif_extract.specs.declared.extract.Schedule.{Schedule}
+use Rattle.cif_views.proofs.Words.{All, AreDayStates, Schedule, of_key, schedule_entries, schedule_terms}
 use Rattle.cif_views.proofs.calendar_weeks.states_of_train.Goals as goal
 
 pub day_states-requires : goal.day_states-requires

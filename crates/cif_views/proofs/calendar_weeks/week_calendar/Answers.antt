@@ -1,16 +1,10 @@
 -- The heading and the lines of the weeks are the calendar (`is-calendar`).
 use Rattle.std.proofs.Common.{◌+◌, List, codes, subst, sym}
 use Rattle.std.specs.List.{flat_map}
-use Rattle.cif_calendar.specs.DayState.{AreDayStates}
-use Rattle.cif_calendar.specs.Entries.{schedule_entries}
-use Rattle.cif_calendar.specs.Keys.{of_key}
-use Rattle.cif_calendar.specs.declared.day_state.DayState.{DayState}
-use Rattle.cif_extract.specs.ExtractParts.{extract_parts}
-use Rattle.cif_extract.specs.declared.extract.Schedule.{Schedule}
 use Rattle.cif_canon.proofs.AppendedTexts.{both, fault-answered}
 use Rattle.cif_canon.proofs.ViewTexts.{written-so}
-use Rattle.cif_views.specs.Steps.WeekCalendar.{state_in}
 use Rattle.cif_views.specs.WeekCalendar.{calendar_text, week_line, weeks_between}
+use Rattle.cif_views.proofs.Words.{AreDayStates, DayState, Schedule, extract_parts, of_key, schedule_entries, state_in}
 use Rattle.cif_views.proofs.WeekLines.{is-calendar}
 use Rattle.cif_views.proofs.calendar_weeks.week_calendar.Goals as goal
 

@@ -1,11 +1,7 @@
 -- One week more goes behind the others (`range-push`).
 use Rattle.std.proofs.Common.{◌≡◌, ◌+◌, ◌-◌, ◌∙◌, ℕ, List, [], ap, arith, subst, sym}
-use Rattle.std.specs.List.{flat_map, range_with_len}
-use Rattle.cif_columns.specs.Day.{week_of}
-use Rattle.cif_canon.specs.Appended.{IsAppended}
 use Rattle.cif_canon.proofs.AppendedTexts.{behind, nothing, text-is}
-use Rattle.cif_views.specs.Steps.WeekCalendar.{state_in}
-use Rattle.cif_views.specs.WeekCalendar.{week_line}
+use Rattle.cif_views.proofs.Words.{IsAppended, flat_map, range_with_len, state_in, week_line, week_of}
 use Rattle.cif_views.proofs.WeekLines.{range-push}
 use Rattle.cif_views.proofs.calendar_weeks.write_weeks.Goals as goal
 

@@ -1,10 +1,6 @@
 -- The lines of the weeks so far are appended.
 use Rattle.std.proofs.Common.{◌-◌}
-use Rattle.std.specs.List.{flat_map, range_with_len}
-use Rattle.cif_columns.specs.Day.{week_of}
-use Rattle.cif_canon.specs.Appended.{IsAppended}
-use Rattle.cif_views.specs.Steps.WeekCalendar.{state_in}
-use Rattle.cif_views.specs.WeekCalendar.{week_line}
+use Rattle.cif_views.proofs.Words.{IsAppended, flat_map, range_with_len, state_in, week_line, week_of}
 use Rattle.cif_views.proofs.calendar_weeks.write_weeks.Given as goal
 
 abbrev pub invariant-loop-week : goal.invariant-loop-week

@@ -1,9 +1,8 @@
 -- The origin's line goes first, then those on the way, then the terminus's.
 use Rattle.std.proofs.Common.{ℕ, List, ap, ◌∙◌, ◌++◌}
-use Rattle.std.specs.List.{flat_map}
-use Rattle.cif_views.specs.Calls.{call_text, origin_fields, terminus_fields}
-use Rattle.cif_canon.specs.Fields.{Field, line_of}
+use Rattle.cif_views.specs.Calls.{origin_fields, terminus_fields}
 use Rattle.cif_canon.proofs.AppendedTexts.{both, text-is}
+use Rattle.cif_views.proofs.Words.{Field, call_text, flat_map, line_of}
 use Rattle.cif_views.proofs.calls.write_calls.Goals as goal
 
 pub returns : goal.returns

@@ -1,10 +1,7 @@
 -- One call more goes behind the text (`behind`).
 use Rattle.std.proofs.Common.{◌++◌, refl, subst}
-use Rattle.std.specs.List.{flat_map}
-use Rattle.cif_views.specs.Calls.{call_text}
-use Rattle.cif_canon.specs.Fields.{line_of}
-use Rattle.cif_canon.specs.Appended.{IsAppended}
 use Rattle.cif_canon.proofs.AppendedTexts.{behind, nothing}
+use Rattle.cif_views.proofs.Words.{IsAppended, call_text, flat_map, line_of}
 use Rattle.cif_views.proofs.CallTexts.{all-done, one-done}
 use Rattle.cif_views.proofs.calls.write_calls_between.Goals as goal
 

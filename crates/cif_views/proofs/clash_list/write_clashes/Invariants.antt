@@ -1,8 +1,7 @@
 -- What is written is the text of the clashes so far.
 use Rattle.std.proofs.Common.{take}
-use Rattle.std.specs.List.{flat_map}
 use Rattle.cif_views.specs.Clashes.{clash_line}
-use Rattle.cif_canon.specs.Appended.{IsAppended}
+use Rattle.cif_views.proofs.Words.{IsAppended, flat_map}
 use Rattle.cif_views.proofs.clash_list.write_clashes.Given as goal
 
 abbrev pub invariant-loop-clash : goal.invariant-loop-clash

@@ -1,8 +1,6 @@
 -- So many empty fields are behind the row.
 use Rattle.std.proofs.Common.{◌≡◌, ◌+◌, ◌++◌, length}
-use Rattle.std.specs.Prelude.{replicate}
-use Rattle.cif_canon.specs.Fields.{after, nothing}
-use Rattle.cif_canon.specs.declared.rows.Format.TheVariants.{Tsv}
+use Rattle.cif_views.proofs.Words.{Tsv, after, nothing, replicate}
 use Rattle.cif_views.proofs.difference_table.push_nothing.Given as goal
 
 abbrev pub invariant-loop : goal.invariant-loop

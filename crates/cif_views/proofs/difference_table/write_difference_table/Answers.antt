@@ -1,10 +1,8 @@
 -- The line of the names goes first, and then what is listed.
 use Rattle.std.proofs.Common.{◌++◌}
-use Rattle.std.specs.List.{flat_map}
 use Rattle.cif_canon.specs.Pairs.{association_lines, schedule_lines, tiploc_lines}
 use Rattle.cif_canon.proofs.AppendedTexts.{answered, both}
-use Rattle.cif_views.specs.DifferenceTable.{association_rows, difference_names, difference_table, schedule_rows, tiploc_row}
-use Rattle.cif_views.specs.Tables.{names_line}
+use Rattle.cif_views.proofs.Words.{association_rows, difference_names, difference_table, flat_map, names_line, schedule_rows, tiploc_row}
 use Rattle.cif_views.proofs.difference_table.write_difference_table.Goals as goal
 
 pub returns-clause-writes : goal.returns-clause-writes

@@ -1,8 +1,7 @@
 -- The text is a fold over fields: one more goes behind it (`one-more`).
 use Rattle.std.proofs.lemmas.List.{get_or_default}
 use Rattle.cif_canon.proofs.AppendedTexts.{all-items, nothing, one-more, text-is}
-use Rattle.cif_views.specs.DifferenceTable.{changed}
-use Rattle.cif_views.specs.Steps.DifferenceRows.{head_fields, stands_of}
+use Rattle.cif_views.proofs.Words.{changed, head_fields, stands_of}
 use Rattle.cif_views.proofs.DifferingFields.{named-at, named-rows, row_of_named}
 use Rattle.cif_views.proofs.difference_table.write_differing.Goals as goal
 

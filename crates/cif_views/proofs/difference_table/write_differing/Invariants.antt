@@ -1,9 +1,6 @@
 -- What is written are the rows of the fields so far, and the row is empty.
 use Rattle.std.proofs.Common.{◌≡◌, [], take}
-use Rattle.std.specs.List.{flat_map}
-use Rattle.cif_canon.specs.Appended.{IsAppended}
-use Rattle.cif_views.specs.DifferenceTable.{changed}
-use Rattle.cif_views.specs.Steps.DifferenceRows.{head_fields, stands_of}
+use Rattle.cif_views.proofs.Words.{IsAppended, changed, flat_map, head_fields, stands_of}
 use Rattle.cif_views.proofs.DifferingFields.{row_of_named}
 use Rattle.cif_views.proofs.difference_table.write_differing.Given as goal
 

@@ -1,10 +1,7 @@
 -- The cells are as one (`same-cells`), or the fields are pushed one behind another and are the row (`pushed-line`, `other-cells`).
 use Rattle.std.proofs.Common.{[], ◌∷◌, ◌∙◌}
-use Rattle.cif_columns.specs.Field.{columns}
-use Rattle.cif_canon.specs.declared.rows.Shape.TheVariants.{Trimmed}
 use Rattle.cif_canon.proofs.AppendedTexts.{nothing, text-is}
-use Rattle.cif_views.specs.DifferenceTable.{changed}
-use Rattle.cif_views.specs.Steps.DifferenceRows.{head_fields, stands_of}
+use Rattle.cif_views.proofs.Words.{Trimmed, changed, columns, head_fields, stands_of}
 use Rattle.cif_views.proofs.DifferingFields.{other-cells, pushed-line, same-cells, shown-pushed, tested}
 use Rattle.cif_views.proofs.TableRows.{more-pushed, none-pushed, one-pushed}
 use Rattle.cif_views.proofs.difference_table.write_field.Goals as goal

@@ -1,11 +1,7 @@
 -- Journeys with other places have one row, with the numbers of their calls (`other-places`).
 use Rattle.std.proofs.Common.{◌≡◌, [], ◌∷◌, ◌++◌, ◌∙◌, ap, codes, decimal, false, refl, sym}
-use Rattle.cif_canon.specs.Fields.{after, nothing}
-use Rattle.cif_canon.specs.declared.rows.Format.TheVariants.{Tsv}
-use Rattle.cif_canon.specs.declared.rows.Shape.TheVariants.{Trimmed, Whole}
 use Rattle.cif_canon.proofs.AppendedTexts.{text-is}
-use Rattle.cif_views.specs.DifferenceTable.{Stands, changed, schedule_head}
-use Rattle.cif_views.specs.Steps.DifferenceRows.{count_of_calls, same_places}
+use Rattle.cif_views.proofs.Words.{Stands, Trimmed, Tsv, Whole, after, changed, count_of_calls, nothing, same_places, schedule_head}
 use Rattle.cif_views.proofs.PairedJourneys.{other-places}
 use Rattle.cif_views.proofs.TableRows.{HasPushed, more-pushed, one-pushed, row-pushed}
 use Rattle.cif_views.proofs.difference_table.write_journeys.Goals as goal

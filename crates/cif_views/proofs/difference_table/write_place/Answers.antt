@@ -1,10 +1,8 @@
 -- The fields stand at the place (`stands-there`), and are those of the kind of the lines (`place-rows`).
 use Rattle.std.proofs.Common.{List, ℕ, ◌∙◌, ap, sym}
 use Rattle.cif_canon.proofs.AppendedTexts.{text-is}
-use Rattle.cif_views.specs.DifferenceTable.{Stands, changed, differing_rows}
-use Rattle.cif_views.specs.Steps.DifferenceRows.{head_fields, named_fields}
-use Rattle.cif_views.specs.Tables.{TableFields}
 use Rattle.cif_views.specs.declared.difference_table.RowKind.TheVariants.{Schedule}
+use Rattle.cif_views.proofs.Words.{Stands, TableFields, changed, differing_rows, head_fields, named_fields}
 use Rattle.cif_views.proofs.DifferingFields.{at_place, place-rows, same-kind, stands-there}
 use Rattle.cif_views.proofs.difference_table.write_place.Goals as goal
 

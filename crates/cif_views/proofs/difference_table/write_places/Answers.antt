@@ -2,10 +2,8 @@
 use Rattle.std.proofs.Common.{◌≡◌, ◌<◌, ◌++◌, [], ap, arith, length, refl}
 use Rattle.std.proofs.lemmas.Bool.Decides.{nat_tests}
 use Rattle.cif_canon.proofs.AppendedTexts.{both, nothing, text-is}
-use Rattle.cif_views.specs.DifferenceTable.{changed}
-use Rattle.cif_views.specs.Steps.DifferenceRows.{head_fields, lines_rows, rows_of_place}
-use Rattle.cif_views.specs.Tables.{is_call}
 use Rattle.cif_views.specs.declared.difference_table.RowKind.TheVariants.{Schedule}
+use Rattle.cif_views.proofs.Words.{changed, head_fields, is_call, lines_rows, rows_of_place}
 use Rattle.cif_views.proofs.DifferingFields.{as-many, first-places, no-place, one-place, rest-places}
 use Rattle.cif_views.proofs.TableRows.{first-and-rest, next-call}
 use Rattle.cif_views.proofs.difference_table.write_places.Goals as goal

@@ -1,9 +1,7 @@
 -- What is written, and the rows of the lines that are left, are all; these have the same places, and the calls aren't more than the lines.
 use Rattle.std.proofs.Common.{◌≤◌, ◌+◌, IsTrue, List, ℕ, length}
-use Rattle.cif_canon.specs.Appended.{IsAppended}
-use Rattle.cif_views.specs.DifferenceTable.{changed}
-use Rattle.cif_views.specs.Steps.DifferenceRows.{head_fields, lines_rows, same_places}
 use Rattle.cif_views.specs.declared.difference_table.RowKind.TheVariants.{Schedule}
+use Rattle.cif_views.proofs.Words.{IsAppended, changed, head_fields, lines_rows, same_places}
 use Rattle.cif_views.proofs.DifferingFields.{PlacesAreLeft}
 use Rattle.cif_views.proofs.difference_table.write_places.Given as goal
 

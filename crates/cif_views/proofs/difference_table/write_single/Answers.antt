@@ -1,10 +1,7 @@
 -- The first fields and the empty ones are the row (`head-row`).
 use Rattle.std.proofs.Common.{List, ℕ, ◌++◌, ◌∙◌, ap, drop}
-use Rattle.std.specs.Prelude.{codes, replicate}
-use Rattle.cif_canon.specs.Fields.{after, nothing}
-use Rattle.cif_canon.specs.declared.rows.Format.TheVariants.{Tsv}
-use Rattle.cif_canon.specs.declared.rows.Shape.TheVariants.{Trimmed}
 use Rattle.cif_canon.proofs.AppendedTexts.{text-is}
+use Rattle.cif_views.proofs.Words.{Trimmed, Tsv, after, codes, nothing, replicate}
 use Rattle.cif_views.proofs.DifferenceRows.{head-row}
 use Rattle.cif_views.proofs.difference_table.write_single.Goals as goal
 

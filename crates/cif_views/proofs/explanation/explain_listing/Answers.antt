@@ -1,16 +1,9 @@
 -- Heading, associations and trains are the explanation (`explanation`).
 use Rattle.std.proofs.Common.{◌∙◌, ◌++◌, map, sym, subst}
-use Rattle.std.specs.Cmp.Lexicographic.{slice_cmp}
-use Rattle.std.specs.List.{flat_map}
-use Rattle.std.specs.Ordering.{nat_cmp}
-use Rattle.cif_calendar.specs.Entries.{association_entries, association_terms, schedule_entries, schedule_terms}
-use Rattle.cif_extract.specs.ExtractParts.{extract_parts}
-use Rattle.cif_extract.specs.declared.extract.Schedule.{Schedule}
-use Rattle.cif_records.specs.AssocKey.{key_cmp}
-use Rattle.cif_records.specs.declared.association.Association.{Association}
 use Rattle.cif_views.specs.Explanation.{IsAssociationOf, explained_association_line, explained_train_line, explanation_heading, IsTrain}
-use Rattle.cif_views.specs.Steps.Explanation.{ArePlacedInOrder, placed_of}
 use Rattle.cif_canon.proofs.AppendedTexts.{both, fault-answered, text-is}
+use Rattle.cif_views.proofs.Words.{ArePlacedInOrder, Association, Schedule, association_entries, association_terms, extract_parts, flat_map}
+use Rattle.cif_views.proofs.Words.{key_cmp, nat_cmp, placed_of, schedule_entries, schedule_terms, slice_cmp}
 use Rattle.cif_views.proofs.CallTexts.{explained-heading}
 use Rattle.cif_views.proofs.ExplainedTexts.{explanation}
 use Rattle.cif_canon.proofs.ViewTexts.{written-so}

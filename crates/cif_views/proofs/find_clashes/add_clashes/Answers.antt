@@ -1,9 +1,8 @@
 -- What is found are the clashes, and each goes behind by its name.
 use Rattle.std.proofs.Common.{List, ◌≡◌, ◌<◌, Some, length, map, subst, sym}
-use Rattle.std.specs.Prelude.{All}
 use Rattle.cif_calendar.specs.Clashes.{told}
-use Rattle.cif_calendar.specs.Keys.{keyed}
 use Rattle.cif_calendar.specs.declared.key_clashes.KeyClash.{KeyClash}
+use Rattle.cif_views.proofs.Words.{All, keyed}
 use Rattle.cif_views.proofs.find_clashes.add_clashes.Goals as goal
 
 pub add_named-requires : goal.add_named-requires

@@ -1,11 +1,7 @@
 -- What is said of the list is said of the clashes, which are seen as it.
 use Rattle.std.proofs.Common.{◌≡◌, List, [], Some, sym, subst}
-use Rattle.std.specs.Prelude.{◌↔◌, slice_get}
-use Rattle.cif_extract.specs.ExtractParts.{extract_parts}
-use Rattle.cif_extract.specs.declared.fault.Clash.{Clash}
-use Rattle.cif_canon.specs.Accepted.{IsClearExtract}
-use Rattle.cif_canon.specs.Fault.{IsFirstClashIn}
 use Rattle.cif_calendar.specs.AllClashes.{AreAllClashes}
+use Rattle.cif_views.proofs.Words.{Clash, IsClearExtract, IsFirstClashIn, extract_parts, slice_get, ◌↔◌}
 use Rattle.cif_views.proofs.ClashLists.{all-found, clashes-clear, clashes-first}
 use Rattle.cif_views.proofs.find_clashes.clashes.Goals as goal
 use Rattle.cif_views.proofs.find_clashes.clashes.Goals.{In-Ok-add_clashes}

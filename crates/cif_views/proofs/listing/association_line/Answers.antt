@@ -1,12 +1,10 @@
 -- The fields of a call go behind the row (`row-behind`), and the line begins with its first field (`led-line`): they are rewritten from the
 -- last on.
 use Rattle.std.proofs.Common.{codes, ◌++◌, ◌∙◌}
-use Rattle.cif_canon.specs.Fields.{lead}
-use Rattle.cif_canon.specs.Rows.{association_fields, no_train}
-use Rattle.cif_canon.specs.declared.rows.Shape.TheVariants.{Trimmed}
+use Rattle.cif_canon.specs.Rows.{association_fields}
 use Rattle.cif_canon.proofs.ViewLines.{led-line, row-behind}
 use Rattle.cif_views.specs.Listing.{association_line, no_call}
-use Rattle.cif_views.specs.Steps.Rows.{first_field}
+use Rattle.cif_views.proofs.Words.{Trimmed, first_field, lead, no_train}
 use Rattle.cif_views.proofs.listing.association_line.Goals as goal
 
 pub returns : goal.returns

@@ -1,9 +1,8 @@
 -- The first line is that of the names (`day-heading`).
 use Rattle.std.proofs.Common.{ℕ, List, subst, ◌∙◌}
-use Rattle.cif_extract.specs.ExtractParts.{extract_parts}
-use Rattle.cif_canon.specs.Normalised.{IfWritten}
 use Rattle.cif_canon.specs.Views.{IsDayListed}
 use Rattle.cif_views.specs.Listing.{association_line, date_field, train_text}
+use Rattle.cif_views.proofs.Words.{IfWritten, extract_parts}
 use Rattle.cif_views.proofs.CallTexts.{day-heading}
 use Rattle.cif_views.proofs.listing.day_listing.Goals as goal
 

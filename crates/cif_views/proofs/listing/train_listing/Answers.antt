@@ -1,9 +1,8 @@
 -- The first line is that of the names (`train-heading`).
 use Rattle.std.proofs.Common.{ℕ, List, subst, ◌∙◌}
-use Rattle.cif_extract.specs.ExtractParts.{extract_parts}
-use Rattle.cif_canon.specs.Normalised.{IfWritten}
 use Rattle.cif_canon.specs.Views.{IsTrainListed}
 use Rattle.cif_views.specs.Listing.{schedule_text, uid_field}
+use Rattle.cif_views.proofs.Words.{IfWritten, extract_parts}
 use Rattle.cif_views.proofs.CallTexts.{train-heading}
 use Rattle.cif_views.proofs.listing.train_listing.Goals as goal
 

@@ -1,7 +1,6 @@
 -- The records behind that were looked at have the key, and the body if they have the letter.
 use Rattle.std.proofs.Common.{◌+◌, map}
-use Rattle.std.specs.List.{AllWithin}
-use Rattle.cif_views.specs.Steps.Explanation.{IsLike, placed_at, placed_of}
+use Rattle.cif_views.proofs.Words.{AllWithin, IsLike, placed_at, placed_of}
 use Rattle.cif_views.proofs.marks.mark_of_first.Given as goal
 
 abbrev pub invariant-loop-other : goal.invariant-loop-other

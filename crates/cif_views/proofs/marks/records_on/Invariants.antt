@@ -1,7 +1,6 @@
 -- The records are those at the places so far.
 use Rattle.std.proofs.Common.{map}
-use Rattle.cif_calendar.specs.Keys.{keyed}
-use Rattle.cif_views.specs.Steps.Explanation.{ArePlacedBelow, placed_of}
+use Rattle.cif_views.proofs.Words.{ArePlacedBelow, keyed, placed_of}
 use Rattle.cif_views.proofs.marks.records_on.Given as goal
 
 abbrev pub invariant-loop-place : goal.invariant-loop-place

@@ -1,9 +1,6 @@
 -- One field goes behind another (`one-pushed`).
 use Rattle.std.proofs.Common.{[], ◌++◌, ◌∙◌, List, ap, refl, sym}
-use Rattle.cif_columns.specs.Field.{columns}
-use Rattle.cif_canon.specs.Fields.{Field, after}
-use Rattle.cif_canon.specs.declared.rows.Format.TheVariants.{Tsv}
-use Rattle.cif_canon.specs.declared.rows.Shape.TheVariants.{Trimmed}
+use Rattle.cif_views.proofs.Words.{Field, Trimmed, Tsv, after, columns}
 use Rattle.cif_views.proofs.TableRows.{none-pushed, one-pushed, origin-fields}
 use Rattle.cif_views.proofs.tables.push_origin.Goals as goal
 

@@ -1,8 +1,7 @@
 -- The fields behind those of the place are the row of a call (`call-row`); other lines have none (`no-call-row`).
 use Rattle.std.proofs.Common.{[], ◌∙◌, refl, sym}
 use Rattle.cif_canon.proofs.AppendedTexts.{nothing, text-is}
-use Rattle.cif_views.specs.Steps.TableRows.{call_fields_of, place_fields}
-use Rattle.cif_views.specs.declared.tables.JourneyKind.TheVariants.{Change, Origin, Other, Stop, Terminus}
+use Rattle.cif_views.proofs.Words.{Change, Origin, Other, Stop, Terminus, call_fields_of, place_fields}
 use Rattle.cif_views.proofs.TableRows.{HasPushed, call-row, more-pushed, no-call-row}
 use Rattle.cif_views.proofs.tables.write_call.Goals as goal
 

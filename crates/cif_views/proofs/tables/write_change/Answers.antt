@@ -1,10 +1,7 @@
 -- The numbers and the fields of the line are the row of a change (`change-row`); other lines have none (`no-change-row`).
 use Rattle.std.proofs.Common.{◌∙◌, decimal, refl, sym}
-use Rattle.cif_canon.specs.declared.rows.Shape.TheVariants.{Whole}
 use Rattle.cif_canon.proofs.AppendedTexts.{nothing, text-is}
-use Rattle.cif_views.specs.Steps.TableRows.{fields_at}
-use Rattle.cif_views.specs.declared.tables.JourneyKind.TheVariants.{Origin, Other, Stop, Terminus}
-use Rattle.cif_views.specs.declared.tables.TheConstants.{CHANGE}
+use Rattle.cif_views.proofs.Words.{CHANGE, Origin, Other, Stop, Terminus, Whole, fields_at}
 use Rattle.cif_views.proofs.TableRows.{begun-row, change-row, more-pushed, no-change-row, one-pushed}
 use Rattle.cif_views.proofs.tables.write_change.Goals as goal
 

@@ -2,9 +2,8 @@
 use Rattle.cif_columns.specs.Field.{columns_from}
 use Rattle.cif_canon.specs.declared.rows.Shape.TheVariants.{Date}
 use Rattle.cif_canon.proofs.AppendedTexts.{text-is}
-use Rattle.cif_views.specs.Steps.TableRows.{fields_at}
-use Rattle.cif_views.specs.Tables.{text_at, yymmdd_from}
 use Rattle.cif_views.specs.declared.tables.TheConstants.{HEADER}
+use Rattle.cif_views.proofs.Words.{fields_at, text_at, yymmdd_from}
 use Rattle.cif_views.proofs.TableRows.{begun-row, more-pushed, one-pushed, row-pushed}
 use Rattle.cif_views.proofs.tables.write_header.Goals as goal
 

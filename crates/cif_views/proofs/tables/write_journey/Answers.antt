@@ -2,8 +2,7 @@
 use Rattle.std.proofs.Common.{◌≡◌, ◌+◌, ◌<◌, ◌++◌, ◌∙◌, [], ap, arith, cond, length, refl}
 use Rattle.std.proofs.lemmas.Bool.Decides.{nat_tests}
 use Rattle.cif_canon.proofs.AppendedTexts.{both, nothing, text-is}
-use Rattle.cif_views.specs.Steps.TableRows.{rows_of}
-use Rattle.cif_views.specs.Tables.{is_call}
+use Rattle.cif_views.proofs.Words.{is_call, rows_of}
 use Rattle.cif_views.proofs.TableRows.{first-and-rest, next-call, none-left, one-line}
 use Rattle.cif_views.proofs.tables.write_journey.Goals as goal
 

@@ -1,7 +1,6 @@
 -- What is written, and the rows of the lines that are left, are all; the row is empty, and the calls aren't more than the lines.
 use Rattle.std.proofs.Common.{◌≡◌, ◌+◌, ◌≤◌, ℕ, List, [], length}
-use Rattle.cif_canon.specs.Appended.{IsAppended}
-use Rattle.cif_views.specs.Steps.TableRows.{journey_rows, rows_of}
+use Rattle.cif_views.proofs.Words.{IsAppended, journey_rows, rows_of}
 use Rattle.cif_views.proofs.TableRows.{AreLeft}
 use Rattle.cif_views.proofs.tables.write_journey.Given as goal
 

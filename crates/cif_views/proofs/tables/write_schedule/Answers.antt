@@ -1,12 +1,8 @@
 -- The number, the fields of the BS and those of the BX are the row of a schedule (`row-pushed`).
 use Rattle.std.proofs.Common.{◌++◌, ◌∙◌, List, ℕ, ap, decimal, refl}
-use Rattle.cif_canon.specs.Fields.{after}
-use Rattle.cif_canon.specs.declared.rows.Format.TheVariants.{Tsv}
-use Rattle.cif_canon.specs.declared.rows.Shape.TheVariants.{Whole}
 use Rattle.cif_canon.proofs.AppendedTexts.{text-is}
-use Rattle.cif_views.specs.Steps.TableRows.{fields_at}
-use Rattle.cif_views.specs.Tables.{extra_in, number}
 use Rattle.cif_views.specs.declared.tables.TheConstants.{BASIC, EXTRA}
+use Rattle.cif_views.proofs.Words.{Tsv, Whole, after, extra_in, fields_at, number}
 use Rattle.cif_views.proofs.TableRows.{begun-row, more-pushed, one-pushed, row-pushed}
 use Rattle.cif_views.proofs.tables.write_schedule.Goals as goal
 

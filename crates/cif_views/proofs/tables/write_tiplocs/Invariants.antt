@@ -1,9 +1,6 @@
 -- What is written is the rows of the locations so far.
 use Rattle.std.proofs.Common.{take}
-use Rattle.std.specs.List.{flat_map}
-use Rattle.cif_canon.specs.Appended.{IsAppended}
-use Rattle.cif_canon.specs.Lines.{line_of_tiploc}
-use Rattle.cif_views.specs.Tables.{row_line, tiploc_fields}
+use Rattle.cif_views.proofs.Words.{IsAppended, flat_map, line_of_tiploc, row_line, tiploc_fields}
 use Rattle.cif_views.proofs.tables.write_tiplocs.Given as goal
 
 abbrev pub invariant-loop-tiploc : goal.invariant-loop-tiploc

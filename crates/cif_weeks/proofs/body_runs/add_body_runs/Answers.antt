@@ -2,10 +2,9 @@
 -- the runs are made (`body-made`).
 use Rattle.std.proofs.Common.{inl, [], sym, ◌∙◌, ◌+◌, ◌<◌, ◌≤◌, ℕ, arith, ⊎_elim}
 use Rattle.std.proofs.lemmas.Bool.{cases_lt}
-use Rattle.cif_weeks.proofs.Words.{week_of, window_from}
-use Rattle.cif_weeks.specs.Steps.Spans.{Shows}
-use Rattle.cif_weeks.proofs.ActiveSpans.{SameOn, agree-all, disputed-all, left-fewer, left-later, left-same, mask-all}
-use Rattle.cif_weeks.proofs.ActiveSpans.{none-after, none-before}
+use Rattle.cif_weeks.proofs.Words.{Shows, week_of, window_from}
+use Rattle.cif_weeks.proofs.ActiveSpans.{SameOn, agree-all, disputed-all, left-fewer, left-later, left-same, mask-all, none-after}
+use Rattle.cif_weeks.proofs.ActiveSpans.{none-before}
 use Rattle.std.proofs.lemmas.List.{append-nil}
 use Rattle.cif_weeks.proofs.BodyRuns.{body-idle, body-made}
 use Rattle.cif_weeks.proofs.body_runs.add_body_runs.Goals as goal

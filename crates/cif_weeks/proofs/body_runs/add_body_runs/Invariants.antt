@@ -1,9 +1,7 @@
 -- The runs of the body in the weeks before `week` are made, and where it is shown in these weeks the spans agree. The spans that
 -- aren't left have ended.
 use Rattle.std.proofs.Common.{◌+◌, ◌-◌, ◌<◌, ℕ, length}
-use Rattle.cif_weeks.proofs.Words.{week_of, window_from}
-use Rattle.cif_weeks.specs.Steps.BodyRuns.{AreGrownTo}
-use Rattle.cif_weeks.specs.Steps.Spans.{IsAgreed, Shows}
+use Rattle.cif_weeks.proofs.Words.{AreGrownTo, IsAgreed, Shows, week_of, window_from}
 use Rattle.cif_weeks.proofs.ActiveSpans.{AreLeft}
 use Rattle.cif_weeks.proofs.body_runs.add_body_runs.Given as goal
 

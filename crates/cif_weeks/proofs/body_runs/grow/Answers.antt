@@ -1,9 +1,7 @@
 -- Weeks without a day change nothing (`body-idle`); else the run goes on in them (`grow-longer`), or one begins (`grow-first`,
 -- `grow-next`).
 use Rattle.std.proofs.Common.{◌≡◌, ◌+◌, ◌-◌, ◌<◌, [], ◌∷◌, length, sym, ◌∙◌, ap, subst, arith, refl}
-use Rattle.cif_weeks.proofs.Words.{week_of, weekday_of, window_from, Run}
-use Rattle.cif_weeks.specs.Steps.BodyRuns.{AreBodyRuns}
-use Rattle.cif_weeks.specs.Steps.Spans.{Shows}
+use Rattle.cif_weeks.proofs.Words.{AreBodyRuns, Run, Shows, week_of, weekday_of, window_from}
 use Rattle.cif_weeks.proofs.BodyRuns.{body-idle, first-date, grow-first, grow-longer, grow-next, last-date, last-made, last-set, made-more}
 use Rattle.cif_weeks.proofs.BodyRuns.{none-made}
 use Rattle.cif_weeks.proofs.body_runs.grow.Goals as goal

@@ -2,9 +2,7 @@
 use Rattle.std.proofs.Common.{◌≡◌, ◌+◌, None, Some, map, refl, sym, ◌∙◌, subst, arith, ⊎_elim}
 use Rattle.std.proofs.lemmas.List.{length-map}
 use Rattle.std.proofs.lemmas.Option.{same_Some}
-use Rattle.cif_weeks.proofs.Words.{week_of, weekday_of}
-use Rattle.cif_calendar.specs.declared.key_calendar.Piece.{Piece}
-use Rattle.cif_weeks.specs.Steps.PieceSpans.{AreSpansBefore}
+use Rattle.cif_weeks.proofs.Words.{AreSpansBefore, Piece, week_of, weekday_of}
 use Rattle.cif_weeks.proofs.PieceSpans.{order-later, piece-at, source-below, spans-all, spans-below, spans-known, taken-more, taken-same}
 use Rattle.cif_weeks.proofs.calendar_runs.add_piece.Goals as goal
 use Rattle.cif_weeks.proofs.calendar_runs.add_piece.Goals.{in-Some+then-not-has+in_ok-push, in-Some+else-not-has, in_default}

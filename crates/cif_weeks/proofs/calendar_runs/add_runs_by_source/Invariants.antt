@@ -1,7 +1,6 @@
 -- The runs of the sources that no span that is left has. What is left has all spans of its sources.
 use Rattle.std.proofs.Common.{◌≡◌, ◌≢◌, length, Contains}
-use Rattle.cif_weeks.specs.Steps.PieceSpans.{AreBySource}
-use Rattle.cif_weeks.proofs.Words.{window_from, Span}
+use Rattle.cif_weeks.proofs.Words.{AreBySource, Span, window_from}
 use Rattle.cif_weeks.proofs.SpanRuns.{AreRunsOf}
 use Rattle.cif_weeks.proofs.calendar_runs.add_runs_by_source.Given as goal
 

@@ -1,7 +1,6 @@
 -- The weekdays so far whose winners have the body.
 use Rattle.std.proofs.Common.{◌↔◌, ℕ, ◌<◌, map}
-use Rattle.cif_weeks.proofs.Words.{RunsOn}
-use Rattle.cif_weeks.specs.Steps.PieceSpans.{HasBodyOn}
+use Rattle.cif_weeks.proofs.Words.{HasBodyOn, RunsOn}
 use Rattle.cif_weeks.proofs.calendar_runs.days_of.Given as goal
 
 abbrev pub invariant-loop-weekday : goal.invariant-loop-weekday

@@ -5,8 +5,7 @@ use Rattle.std.proofs.lemmas.List.{drop_all, length-map}
 use Rattle.std.proofs.lemmas.List.Sorted.{answers_always}
 use Rattle.std.proofs.lemmas.Option.{slice_get-get_or}
 use Rattle.std.proofs.Math.Seq.{take-append_seam}
-use Rattle.cif_weeks.specs.Steps.PieceSpans.{AreSpansBefore, AreSpansOn, named}
-use Rattle.cif_weeks.proofs.Words.{Span}
+use Rattle.cif_weeks.proofs.Words.{AreSpansBefore, AreSpansOn, Span, named}
 use Rattle.cif_weeks.proofs.PieceRuns.{firsts-inside, pieces-agreed, pieces-bodied, pieces-canonical, pieces-inside, pieces-level}
 use Rattle.cif_weeks.proofs.PieceSpans.{no-piece, spans-before_first, spans-done, tiles-next}
 use Rattle.cif_weeks.proofs.SourceRuns.{by-source}

@@ -10,8 +10,7 @@ use Rattle.std.proofs.lemmas.Result.{IfOk-weaker}
 use Rattle.std.proofs.Math.Seq.{take-append_seam}
 use Rattle.cif_calendar.proofs.Positions.{AreLawful-chosen}
 use Rattle.cif_calendar.proofs.Winning.{terms_at}
-use Rattle.cif_weeks.specs.Steps.Spans.{AreSpansOf}
-use Rattle.cif_weeks.proofs.Words.{window_from, Span}
+use Rattle.cif_weeks.proofs.Words.{AreSpansOf, Span, window_from}
 use Rattle.cif_weeks.proofs.MemberClash.{disputed-clash, spans-permuted}
 use Rattle.cif_weeks.proofs.MemberRuns.{runs-of_members, shown-inside, spans-more, spans-same}
 use Rattle.cif_weeks.proofs.few.runs_of_few.Given.{Over}

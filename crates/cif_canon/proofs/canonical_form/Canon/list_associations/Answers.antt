@@ -1,10 +1,6 @@
 -- What is listed of the runs is what is listed of their lines (`parts-text`).
 use Rattle.std.proofs.Common.{ap, ◌∙◌}
-use Rattle.std.specs.List.{flat_map}
-use Rattle.cif_calendar.specs.Entries.{association_entries}
-use Rattle.cif_canon.specs.Canon.{CanonParts}
-use Rattle.cif_canon.specs.Lines.{association_plain}
-use Rattle.cif_canon.specs.Steps.Texts.{canon_lines}
+use Rattle.cif_canon.proofs.Words.{CanonParts, association_entries, association_plain, canon_lines, flat_map}
 use Rattle.cif_canon.proofs.AppendedTexts.{text-is}
 use Rattle.cif_canon.proofs.CanonLines.{parts-text}
 use Rattle.cif_canon.proofs.canonical_form.Canon.list_associations.Goals as goal

@@ -1,10 +1,6 @@
 -- What is listed of the runs is what is listed of their lines, with their numbers (`numbered-texts`).
 use Rattle.std.proofs.Common.{ap, ◌∙◌, ℕ}
-use Rattle.std.specs.List.{enumerate_from, flat_map}
-use Rattle.cif_calendar.specs.Entries.{schedule_entries}
-use Rattle.cif_canon.specs.Canon.{CanonParts}
-use Rattle.cif_canon.specs.Lines.{ScheduleLines}
-use Rattle.cif_canon.specs.Steps.Texts.{canon_lines}
+use Rattle.cif_canon.proofs.Words.{CanonParts, ScheduleLines, canon_lines, enumerate_from, flat_map, schedule_entries}
 use Rattle.cif_canon.proofs.AppendedTexts.{text-is}
 use Rattle.cif_canon.proofs.CanonLines.{numbered-texts}
 use Rattle.cif_canon.proofs.canonical_form.Canon.list_schedules.Goals as goal

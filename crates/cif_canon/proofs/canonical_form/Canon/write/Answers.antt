@@ -1,8 +1,6 @@
 -- Five parts are appended one behind another (`canon-appended`).
 use Rattle.std.proofs.Common.{ap}
-use Rattle.cif_calendar.specs.Entries.{association_entry, schedule_entry}
-use Rattle.cif_extract.specs.ExtractParts.{extract_parts}
-use Rattle.cif_canon.specs.Canon.{CanonParts}
+use Rattle.cif_canon.proofs.Words.{CanonParts, association_entry, extract_parts, schedule_entry}
 use Rattle.cif_canon.proofs.AppendedTexts.{answered, appended, text-is}
 use Rattle.cif_canon.proofs.RunTexts.{sources-within}
 use Rattle.cif_canon.proofs.WrittenCanon.{canon-appended}

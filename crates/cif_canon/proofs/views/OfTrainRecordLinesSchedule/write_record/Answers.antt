@@ -1,7 +1,6 @@
 -- What is listed of a schedule is its text if its UID is the train's, else nothing: the comparison of the two is put in for that test.
 use Rattle.std.proofs.Common.{◌∙◌, [], Bool, ap, sym}
-use Rattle.std.specs.Prelude.{if◌then◌else◌}
-use Rattle.cif_weeks.specs.Runs.{record_of}
+use Rattle.cif_canon.proofs.Words.{if◌then◌else◌, record_of}
 use Rattle.cif_canon.proofs.AppendedTexts.{nothing, text-is}
 use Rattle.cif_canon.proofs.views.OfTrainRecordLinesSchedule.write_record.Goals as goal
 

@@ -1,8 +1,7 @@
 -- The side is shown by its sign (`shown-change`).
 use Rattle.std.proofs.Common.{ap}
-use Rattle.cif_canon.specs.Fields.{Field}
 use Rattle.cif_canon.proofs.AppendedTexts.{text-is}
-use Rattle.cif_views.specs.DifferenceTable.{association_head, single_row}
+use Rattle.cif_views.proofs.Words.{Field, association_head, single_row}
 use Rattle.cif_views.proofs.PairedJourneys.{shown-change}
 use Rattle.cif_views.proofs.difference_table.DifferenceTableDifferenceListing.write_association.Goals as goal
 

@@ -1,8 +1,7 @@
 -- The side is shown by its sign (`shown-change`), and the line is that of the BS.
 use Rattle.std.proofs.Common.{◌∙◌, List, ap, ℕ}
-use Rattle.cif_canon.specs.Fields.{Field}
 use Rattle.cif_canon.proofs.AppendedTexts.{text-is}
-use Rattle.cif_views.specs.DifferenceTable.{change_of, schedule_head, single_row}
+use Rattle.cif_views.proofs.Words.{Field, change_of, schedule_head, single_row}
 use Rattle.cif_views.proofs.PairedJourneys.{shown-change}
 use Rattle.cif_views.proofs.difference_table.DifferenceTableDifferenceListing.write_schedule.Goals as goal
 

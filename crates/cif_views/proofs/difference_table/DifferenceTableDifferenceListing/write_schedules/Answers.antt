@@ -1,7 +1,6 @@
 -- The rows of the fields and those of the journeys are those of the pair (`schedule-written`).
 use Rattle.std.proofs.Common.{◌∙◌, ap}
-use Rattle.cif_views.specs.DifferenceTable.{without_extra}
-use Rattle.cif_views.specs.Tables.{extra_in}
+use Rattle.cif_views.proofs.Words.{extra_in, without_extra}
 use Rattle.cif_views.proofs.PairedJourneys.{schedule-written}
 use Rattle.cif_views.proofs.difference_table.DifferenceTableDifferenceListing.write_schedules.Goals as goal
 

@@ -1,12 +1,8 @@
 -- Fields are appended group by group, and the line joins them (`explained-groups`): they are rewritten from the last on.
 use Rattle.std.proofs.Common.{codes, ◌∙◌}
-use Rattle.cif_calendar.specs.Entries.{association_terms}
 use Rattle.cif_views.specs.Explanation.{explained_association_line, mark_columns, said_of_association, terms_fields}
-use Rattle.cif_canon.specs.Rows.{no_train}
-use Rattle.cif_canon.specs.Fields.{lead}
-use Rattle.cif_canon.specs.declared.rows.Shape.TheVariants.{Trimmed}
 use Rattle.cif_canon.proofs.ViewLines.{explained-groups, led-line}
-use Rattle.cif_views.specs.Listing.{date_field}
+use Rattle.cif_views.proofs.Words.{Trimmed, association_terms, date_field, lead, no_train}
 use Rattle.cif_views.proofs.explanation.AssociationExplainedEntry.line.Goals as goal
 
 pub returns : goal.returns

@@ -1,12 +1,8 @@
 -- Fields are appended group by group, and the line joins them (`explained-groups`): they are rewritten from the last on.
 use Rattle.std.proofs.Common.{codes, ◌∙◌}
-use Rattle.cif_calendar.specs.Entries.{schedule_terms}
 use Rattle.cif_views.specs.Explanation.{explained_train_line, mark_columns, said_of_train, terms_fields}
-use Rattle.cif_canon.specs.Rows.{no_association}
-use Rattle.cif_canon.specs.Fields.{lead}
-use Rattle.cif_canon.specs.declared.rows.Shape.TheVariants.{Trimmed}
 use Rattle.cif_canon.proofs.ViewLines.{explained-groups, led-line}
-use Rattle.cif_views.specs.Listing.{date_field}
+use Rattle.cif_views.proofs.Words.{Trimmed, date_field, lead, no_association, schedule_terms}
 use Rattle.cif_views.proofs.explanation.ScheduleExplainedEntry.line.Goals as goal
 
 pub returns : goal.returns

@@ -1,11 +1,8 @@
 -- The row's fields and the calls are what is listed of the train (`led-lines`).
 use Rattle.std.proofs.Common.{◌∙◌, ◌++◌, List, ℕ, ap, codes}
-use Rattle.cif_extract.specs.BodyParts.{BodyParts}
-use Rattle.cif_canon.specs.Fields.{fields_text}
-use Rattle.cif_canon.specs.Rows.{no_association, train_fields, train_row}
-use Rattle.cif_canon.specs.declared.rows.Shape.TheVariants.{Trimmed}
+use Rattle.cif_canon.specs.Rows.{train_fields, train_row}
 use Rattle.cif_canon.proofs.AppendedTexts.{text-is}
-use Rattle.cif_views.specs.Steps.Rows.{first_field, row_lines}
+use Rattle.cif_views.proofs.Words.{BodyParts, Trimmed, fields_text, first_field, no_association, row_lines}
 use Rattle.cif_views.proofs.CallTexts.{led-lines}
 use Rattle.cif_views.proofs.listing.LedDayLines.write_train.Goals as goal
 

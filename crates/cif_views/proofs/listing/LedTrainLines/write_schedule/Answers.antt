@@ -1,10 +1,9 @@
 -- The row's fields and the calls are what is listed of the schedule (`led-lines`).
 use Rattle.std.proofs.Common.{◌∙◌, ◌++◌, List, ℕ, ap}
-use Rattle.cif_canon.specs.Fields.{fields_text}
 use Rattle.cif_canon.specs.Rows.{schedule_row}
 use Rattle.cif_canon.proofs.AppendedTexts.{text-is}
 use Rattle.cif_weeks.specs.Runs.{record_of}
-use Rattle.cif_views.specs.Steps.Rows.{first_field, row_lines}
+use Rattle.cif_views.proofs.Words.{fields_text, first_field, row_lines}
 use Rattle.cif_views.proofs.CallTexts.{led-lines}
 use Rattle.cif_views.proofs.listing.LedTrainLines.write_schedule.Goals as goal
 

@@ -1,8 +1,6 @@
 -- With the fields of the places that are left, the row has them all.
 use Rattle.std.proofs.Common.{◌+◌, ◌++◌, drop, length}
-use Rattle.cif_canon.specs.Fields.{after}
-use Rattle.cif_canon.specs.declared.rows.Format.TheVariants.{Tsv}
-use Rattle.cif_views.specs.Steps.TableRows.{fields_at, room_for}
+use Rattle.cif_views.proofs.Words.{Tsv, after, fields_at, room_for}
 use Rattle.cif_views.proofs.TableRows.{IsGrowing}
 use Rattle.cif_views.proofs.table_row.TableRow.push_each.Given as goal
 
