@@ -1,6 +1,6 @@
 //! When a record applies, and which of those that apply win.
 ghost use Rattle.std.specs.Prelude.{◌≡◌, ◌↔◌, IsTrue};
-ghost use Rattle.cif_calendar.specs.Applies.{IsDateOf};
+ghost use Rattle.cif_calendar.specs.Applies.{IsAmongDates};
 ghost use Rattle.cif_calendar.specs.Wins.{precedence};
 
 use crate::entry::Entry;
@@ -34,7 +34,7 @@ impl Dates {
 
     /// Whether the day is one of them.
     pub fn has(self, day: Day) -> bool
-        ensures { IsTrue result ↔ IsDateOf self.first self.last self.days day }
+        ensures { IsTrue result ↔ IsAmongDates self.first self.last self.days day }
     {
         self.first <= day && day <= self.last && self.days.has(day.weekday())
     }

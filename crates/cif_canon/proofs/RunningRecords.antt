@@ -8,7 +8,7 @@ use Rattle.std.proofs.lemmas.Option.{same_Some}
 use Rattle.cif_columns.specs.DaysRun.{RunsOn}
 use Rattle.std.proofs.lemmas.List.Elements.{Contains-get_or}
 use Rattle.std.proofs.lemmas.List.Kept.{AllPairs-filter}
-use Rattle.cif_calendar.specs.Applies.{IsDateOf}
+use Rattle.cif_calendar.specs.Applies.{IsAmongDates}
 use Rattle.cif_weeks.specs.Applies.{Applies}
 use Rattle.cif_weeks.proofs.JoinedLists.{AllPairs-map, Contains-map, Contains-from_map}
 use Rattle.cif_weeks.proofs.PermanentEntries.{runs-applies}
@@ -41,7 +41,7 @@ applies-decided r d = Decides-like (applies_on r d)
     (runs r.days (weekday_of d), runs-true r.days (weekday_of d))))
 
 -- an answer whether a run applies is that of the test
-pub tested : {B : Type 0} (run : Run) (b : B) (d : ℕ) (answer : Bool) → IsTrue answer ↔ IsDateOf run.first run.last run.days d →
+pub tested : {B : Type 0} (run : Run) (b : B) (d : ℕ) (answer : Bool) → IsTrue answer ↔ IsAmongDates run.first run.last run.days d →
     answer ≡ applies_on (record_of run b) d
 tested run b d true h = sym ((applies-decided (record_of run b) d).1 (h.0 refl))
 tested run b d false h =

@@ -2,7 +2,7 @@
 ghost use Rattle.std.specs.Prelude.{◌≡◌, ◌↔◌, ◌+◌, ◌++◌, ◌≤◌, ℕ, List, IfErr, IsTrue, codes};
 ghost use Rattle.arrayvec.specs.ArrayString.{array_string_len};
 ghost use Rattle.cif_extract.specs.ExtractParts.{extract_parts};
-ghost use Rattle.cif_calendar.specs.Applies.{IsDateOf};
+ghost use Rattle.cif_calendar.specs.Applies.{IsAmongDates};
 ghost use Rattle.cif_weeks.specs.Runs.{record_of};
 ghost use Rattle.cif_canon.specs.Appended.{IsAppended};
 ghost use Rattle.cif_canon.specs.Normalised.{FaultWrites, IfWritten};
@@ -171,7 +171,7 @@ pub fn write_day<L: DayLines, W: WriteDevice>(
 
 /// Whether the run applies on the day.
 fn applies_on(run: &Run, day: Day) -> bool
-    ensures { IsTrue result ↔ IsDateOf run.now.first run.now.last run.now.days day }
+    ensures { IsTrue result ↔ IsAmongDates run.now.first run.now.last run.now.days day }
 {
     let dates = Dates {
         first: run.first,

@@ -7,7 +7,7 @@ use Rattle.std.specs.List.Sorted.{IsNonDecreasingBy}
 use Rattle.std.proofs.lemmas.List.{get_or-take, get_or_default, get_or_read_under, length-take, take-append-drop, take_all, take_more}
 use Rattle.std.proofs.lemmas.List.Elements.{Contains-append_left, Contains-push, Contains-push_cases}
 use Rattle.cif_calendar.specs.Wins.{precedence}
-use Rattle.cif_weeks.proofs.Words.{AgreeOn, Applies, HasDay, HaveOneMask, IsAgreed, IsDateOf, IsDisputed, IsMask, IsSpanOf, IsWithin, Leads}
+use Rattle.cif_weeks.proofs.Words.{AgreeOn, Applies, HasDay, HaveOneMask, IsAgreed, IsAmongDates, IsDisputed, IsMask, IsSpanOf, IsWithin, Leads}
 use Rattle.cif_weeks.proofs.Words.{RunsOn, Shows, SomeOf, Span, Terms, Weeks, Window, week_of, weekday_of}
 use Rattle.cif_weeks.proofs.Masks.{mask-over, mask_runs}
 use Rattle.cif_weeks.proofs.WeekDays.{RunsOn-below}
@@ -25,7 +25,7 @@ module _ {B : Type 0} (window : Window) (r : Terms B) (first last : ℕ) (begins
   upto-both : (last ≤ r.last) × (last ≤ window.last) × ((last ≡ r.last) ⊎ (last ≡ window.last))
   upto-both = (search rules, search rules, search rules)
 
-  pub span-of : (s : Span) → s.letter ≡ precedence r → ((n : ℕ) → HasDay s n ↔ IsDateOf first last r.days n) → IsSpanOf window r s
+  pub span-of : (s : Span) → s.letter ≡ precedence r → ((n : ℕ) → HasDay s n ↔ IsAmongDates first last r.days n) → IsSpanOf window r s
   span-of s is days = let f = from-both in let l = upto-both in record {
     letter = is;
     days = λ n. (

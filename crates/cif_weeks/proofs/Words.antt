@@ -3,7 +3,7 @@ pub use Rattle.cif_columns.specs.Day.{week_of, weekday_of}
 pub use Rattle.cif_columns.specs.DaysRun.{RunsOn}
 pub use Rattle.cif_columns.specs.Stp.{letter}
 pub use Rattle.cif_columns.specs.declared.stp.Stp.TheVariants.{P}
-pub use Rattle.cif_calendar.specs.Applies.{Applies, IsDateOf}
+pub use Rattle.cif_calendar.specs.Applies.{Applies, IsAmongDates}
 pub use Rattle.cif_calendar.specs.Calendar.{CalendarParts, body_on}
 pub use Rattle.cif_calendar.specs.Keys.{of_key}
 pub use Rattle.cif_calendar.specs.Pieces.{Tiles, source_at, winner_of}

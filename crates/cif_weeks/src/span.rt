@@ -55,7 +55,7 @@ pub(crate) struct Weeks {
 }
 
 impl Span {
-    ghost use Rattle.cif_calendar.specs.Applies.{Applies, IsDateOf};
+    ghost use Rattle.cif_calendar.specs.Applies.{Applies, IsAmongDates};
     ghost use Rattle.cif_columns.specs.Day.{week_of};
     ghost use Rattle.cif_weeks.specs.Steps.Spans.{HasDay, HaveOneMask, IsSpanOf};
     ghost use Rattle.cif_weeks.specs.Window.{IsWithin, window_from};
@@ -64,7 +64,7 @@ impl Span {
     /// letter.
     pub(crate) fn between(first: Day, last: Day, days: DaysRun, letter: u8, source: usize) -> Span
         requires { first ≤ last }
-        ensures days { (n : ℕ) → HasDay result n ↔ IsDateOf first last days n }
+        ensures days { (n : ℕ) → HasDay result n ↔ IsAmongDates first last days n }
         ensures first_week { result.first_week ≡ week_of first }
         ensures last_week { result.last_week ≡ week_of last }
         ensures letter { result.letter ≡ letter }
