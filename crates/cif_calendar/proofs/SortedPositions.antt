@@ -35,7 +35,8 @@ module _ {K B R : Type 0} (stands_for : R → K → Type 0) (entries : List (K �
   pub ranked-more : (n : ℕ) (ranked : List (R × ℕ)) (r : R) → AreRanked stands_for entries n ranked
       → ((k : K) → HasKey entries n k → stands_for r k) → AreRanked stands_for entries (n + 1) (ranked ++ (r, n) ∷ [])
   ranked-more n ranked r h stands = record {
-    positions = map-append (λ (p : R × ℕ). p.1) ranked ((r, n) ∷ []) ∙ ap (λ l. l ++ n ∷ []) h.positions ∙ sym (range-more 0 n n (omega arith));
+    positions = map-append (λ (p : R × ℕ). p.1) ranked ((r, n) ∷ []) ∙ ap (λ l. l ++ n ∷ []) h.positions ∙ sym
+        (range-more 0 n n (omega arith));
     ranks = All-push Stands ranked (r, n) h.ranks stands;
   }
 

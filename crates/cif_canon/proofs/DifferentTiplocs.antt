@@ -47,7 +47,8 @@ with_side side t = record { side = side; it = t }
 
 -- the first of the locations that only one of two lists has
 module _ (xs ys : List Tiploc) (s : Sided Tiploc) (found : List (Sided Tiploc)) (a : AreDifferentTiplocs xs ys (s ∷ found)) where
-  in-one : (side : Side) (t : Tiploc) → IsOnlyIn xs ys (with_side side t) → (Contains xs t × ¬ Contains ys t) ⊎ (Contains ys t × ¬ Contains xs t)
+  in-one : (side : Side) (t : Tiploc) → IsOnlyIn xs ys (with_side side t) → (Contains xs t × ¬ Contains ys t) ⊎
+      (Contains ys t × ¬ Contains xs t)
   in-one Left t only = inl only
   in-one Right t only = inr only
 

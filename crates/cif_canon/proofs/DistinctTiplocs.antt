@@ -35,7 +35,8 @@ distinct tiplocs sorted kept same rises filtered =
     let is : kept ≡ dedup E sorted = dedup_is E sorted kept filtered in
     let ties = λ (s t : Tiploc). texts_ties s.columns t.columns in
     subst (AreDistinct tiplocs) (sym is) (record {
-      rising = pairs-from by_columns (dedup E sorted) (IsStrictlySortedBy-dedup (on_total (λ (t : Tiploc). t.columns) nat_list_cmp_total) ties sorted rises);
+      rising = pairs-from by_columns (dedup E sorted)
+          (IsStrictlySortedBy-dedup (on_total (λ (t : Tiploc). t.columns) nat_list_cmp_total) ties sorted rises);
       members = λ t. (
         λ h. Contains-dedup (on_texts_equal (λ (s : Tiploc). s.columns))
             (λ s u e. same_tiploc s u ((bytes_decides s.columns u.columns).0 e)) sorted t

@@ -119,11 +119,14 @@ module _ {K B : Type 0} (cmp : K → K → Ordering) (total : IsTotalOrder cmp) 
     (runs : List (Sided Run)) (a : AreFound cmp window xs ys l r runs) (k : K) (here : IsLeft cmp xs l ys r k) (lefts rights : List Run)
     (left : AreOnlyOfKey window xs ys k lefts) (right : AreOnlyOfKey window ys xs k rights) (merged : List (Sided Run))
     (are : AreMergedRuns lefts rights merged)
-    (clears : (side : Side) → IsClearFrom (of_key (at_side xs ys side) k) window.first window.last) (says : (d : ℕ) → IsWithin window d → AreRuns xs ys k d) where
+    (clears : (side : Side) → IsClearFrom (of_key (at_side xs ys side) k) window.first window.last)
+    (says : (d : ℕ) → IsWithin window d → AreRuns xs ys k d) where
   zipped : AreZipped xs ys merged (with_key k left.records) (with_key k right.records)
   zipped = zip-sides xs ys merged (with_key k left.records) (with_key k right.records)
-      (subst (λ (z : List Run). AllZip (IsRunOf xs) z (with_key k left.records)) (sym (are.sides Left)) (zip-keyed xs k lefts left.records left.runs_of))
-      (subst (λ (z : List Run). AllZip (IsRunOf ys) z (with_key k right.records)) (sym (are.sides Right)) (zip-keyed ys k rights right.records right.runs_of))
+      (subst (λ (z : List Run). AllZip (IsRunOf xs) z (with_key k left.records)) (sym (are.sides Left))
+      (zip-keyed xs k lefts left.records left.runs_of))
+      (subst (λ (z : List Run). AllZip (IsRunOf ys) z (with_key k right.records)) (sym (are.sides Right))
+      (zip-keyed ys k rights right.records right.runs_of))
 
   -- the records of one side
   own : (side : Side) → AreOnlyOfKey window (at_side xs ys side) (at_side ys xs side) k (at_side lefts rights side)

@@ -115,7 +115,8 @@ clear-right x y window associations schedules = record {
   schedules = subst (λ (w : Window). AreClear (schedule_entries y.schedules) w.first w.last) window schedules;
 }
 
-module _ (x y : ExtractParts) (window : header_window x.header ≡ header_window y.header) (tiplocs : List (Sided Tiploc)) (at : AreDifferentTiplocs x.tiplocs y.tiplocs tiplocs)
+module _ (x y : ExtractParts) (window : header_window x.header ≡ header_window y.header) (tiplocs : List (Sided Tiploc))
+    (at : AreDifferentTiplocs x.tiplocs y.tiplocs tiplocs)
     (associations : List (Sided Run))
     (aa : AreDifferentRuns key_cmp (header_window x.header) (association_entries x.associations) (association_entries y.associations)
     AllKeys associations) (schedules : List (Sided Run))

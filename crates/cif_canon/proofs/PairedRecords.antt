@@ -162,7 +162,8 @@ module _ {W : Type 0} (contents : W → Option (List ℕ)) (errors : W → Optio
 
   pub lists-appended : (s t u v : Sink W) → IsAppended contents errors (flat_map (listed_tiploc tiploc_text) d.tiplocs) s t →
       IsAppended contents errors (flat_map (λ e. association_text (listed_as association_plain e)) (by_pairs key_cmp d.associations)) t u →
-      IsAppended contents errors (flat_map (λ e. schedule_text (listed_as schedule_plain e)) (by_pairs (slice_cmp nat_cmp) d.schedules)) u v →
+      IsAppended contents errors (flat_map (λ e. schedule_text (listed_as schedule_plain e)) (by_pairs (slice_cmp nat_cmp) d.schedules)) u
+      v →
       IsAppended contents errors (first ++ (second ++ third)) s v
   lists-appended s t u v a b c =
       both contents errors first (second ++ third) s t v

@@ -1,5 +1,6 @@
 -- Fields, and the lines that they make: of text, or of a table whose fields have tabs between them.
-use Rattle.std.specs.Prelude.{◌≡◌, ⊤, ℕ, ◌+◌, List, [], ◌∷◌, ◌++◌, length, map, codes, nat_lt, replicate, slice_index_or, take, if◌then◌else◌}
+use Rattle.std.specs.Prelude.{◌≡◌, ⊤, ℕ, ◌+◌, List, [], ◌∷◌, ◌++◌, length, map, codes, nat_lt, replicate, slice_index_or, take}
+use Rattle.std.specs.Prelude.{if◌then◌else◌}
 use Rattle.std.specs.List.{flat_map, join_with_byte}
 use Rattle.cif_columns.specs.Line.{ArePrintable}
 use Rattle.cif_columns.specs.Lines.{used}

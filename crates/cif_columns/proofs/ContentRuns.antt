@@ -86,7 +86,8 @@ module _ {R : Type 0} (remaining : R → Option (List ℕ)) where
           },
         )
       where
-        at : (s rest after : Option (List ℕ)) → KnownRest s cs rest → IfSome rest (λ bytes. AnswersContent bytes (Ok (Content content)) after)
+        at : (s rest after : Option (List ℕ)) → KnownRest s cs rest → IfSome rest
+            (λ bytes. AnswersContent bytes (Ok (Content content)) after)
             → (c : List ℕ) × (content ≡ line_of c) × KnownRest s (cs ++ c ∷ []) after
         at None rest after known answer = (next.holds.2.0, next.holds.2.1, tt)
         at (Some bytes) None after known answer = absurd known
@@ -160,7 +161,8 @@ module _ {R : Type 0} (remaining : R → Option (List ℕ)) where
         at (Some bytes) None known is = absurd known
         at (Some bytes) (Some rest) known is =
             let (unread, has, parts) = held_front (held reader') rest (remaining (reader_of source')) is in
-            let far : 10000 ≤ before_feed rest = subst (λ l. 10000 ≤ before_feed l) (sym parts) (far_more (held reader') unread next.holds.1) in
+            let far : 10000 ≤ before_feed rest = subst (λ l. 10000 ≤ before_feed l) (sym parts)
+            (far_more (held reader') unread next.holds.1) in
             let (long, wide, last) = overlong_last rest far in
             let behind = known.behind rest [] (sym (append-nil rest)) in (
               long,

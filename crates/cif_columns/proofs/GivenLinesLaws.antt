@@ -1,5 +1,6 @@
 -- A run of `next`: one step for each answer.
-use Rattle.std.proofs.Common.{◌≡◌, ℕ, ◌+◌, ◌≤◌, false, List, [], ◌∷◌, ◌++◌, length, Option, None, Some, IfSome, IsSomeAnd, Ok, Err, refl, sym, ap}
+use Rattle.std.proofs.Common.{◌≡◌, ℕ, ◌+◌, ◌≤◌, false, List, [], ◌∷◌, ◌++◌, length, Option, None, Some, IfSome, IsSomeAnd, Ok, Err, refl}
+use Rattle.std.proofs.Common.{sym, ap}
 use Rattle.std.proofs.Common.{◌∙◌, arith, subst, append_assoc, append-nil, length-append}
 use Rattle.std.proofs.lemmas.List.Elements.{All-push}
 use Rattle.std.specs.Io.KnownBytes.{prepend_known}
@@ -76,7 +77,8 @@ known_so None P Q f h = tt
 known_so (Some bytes) P Q f h = f bytes h
 
 -- two facts of bytes that may be known
-pub known_both : (start : Option (List ℕ)) (P Q : List ℕ → Type 0) → IfSome start P → IfSome start Q → IfSome start (λ bytes. P bytes × Q bytes)
+pub known_both : (start : Option (List ℕ)) (P Q : List ℕ → Type 0) → IfSome start P → IfSome start Q → IfSome start
+    (λ bytes. P bytes × Q bytes)
 known_both None P Q p q = tt
 known_both (Some bytes) P Q p q = (p, q)
 
@@ -90,7 +92,8 @@ all_given (b ∷ held) (Some bytes) e = cc
 
 module _ {R : Type 0} (remaining : R → Option (List ℕ)) where
   -- a new reader
-  pub reading_starts : {P : List ℕ → Type 0} (max : ℕ) (reader : LineReader) (source : Source R) → held reader ≡ [] → given reader ≡ 0 → limit reader ≡ max
+  pub reading_starts : {P : List ℕ → Type 0} (max : ℕ) (reader : LineReader) (source : Source R) → held reader ≡ [] → given reader ≡ 0 →
+      limit reader ≡ max
       → past reader ≡ Reading
       → IsReadingContents P remaining (remaining source.reader) max reader source []
   reading_starts {P} max reader source empty zero same going = record {

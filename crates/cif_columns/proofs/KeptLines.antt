@@ -91,7 +91,8 @@ no_more [] = omega arith
 no_more (line ∷ lines) = omega (arith, no_more lines, length-append (take (used line) line) (kept_text lines))
 
 -- so they are found again
-found : (more : List ℕ) (lines : List (List ℕ)) → All IsLine lines → length lines ≤ length more → first_lines_in more (kept_text lines) ≡ lines
+found : (more : List ℕ) (lines : List (List ℕ)) → All IsLine lines → length lines ≤ length more → first_lines_in more
+    (kept_text lines) ≡ lines
 found [] [] h within = refl
 found (_ ∷ more) [] h within = refl
 found [] (line ∷ lines) h within = absurd (omega (arith, within))
@@ -99,7 +100,8 @@ found (_ ∷ more) (line ∷ lines) h within =
     let first = All-head IsLine line lines h in
     let columns = take (used line) line in
     let width = kept_width line first in
-    ap (λ l. wide l ∷ first_lines_in more (drop (used line) (columns ++ kept_text lines))) (take_at columns (kept_text lines) (used line) width)
+    ap (λ l. wide l ∷ first_lines_in more (drop (used line) (columns ++ kept_text lines)))
+    (take_at columns (kept_text lines) (used line) width)
     ∙ ap (λ l. l ∷ first_lines_in more (drop (used line) (columns ++ kept_text lines))) (widened line first)
     ∙ ap (λ l. line ∷ first_lines_in more l) (drop_at columns (kept_text lines) (used line) width)
     ∙ ap (λ l. line ∷ l) (found more lines (All-tail IsLine line lines h) (omega (arith, within)))

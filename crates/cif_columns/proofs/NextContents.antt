@@ -59,7 +59,8 @@ first_more held more content rest (first, feed) =
       after = ap (λ l. l ++ more) first.after ∙ sym (after_more held more feed);
     }
 
-pub content_left : (bytes remaining : Option (List ℕ)) (held rest : List ℕ) (next : NextContent) → Keeps bytes (prepend_known held remaining)
+pub content_left : (bytes remaining : Option (List ℕ)) (held rest : List ℕ) (next : NextContent) → Keeps bytes
+    (prepend_known held remaining)
     → PassesFirst held next rest → IfSome bytes (λ all. AnswersContent all (Ok next) (prepend_known rest remaining))
 content_left None remaining held rest next keeps passes = tt
 content_left (Some all) None held rest next keeps passes = absurd keeps

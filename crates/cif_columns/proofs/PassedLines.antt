@@ -150,8 +150,9 @@ module _ {R : Type 0} (remaining : R → Option (List ℕ)) (errors : R → Opti
       ))
 
   pub next_passed : IsNext remaining errors old source (Ok (Some line)) new source
-  next_passed = gives_line ahead.reading (passed.past_now ∙ ahead.reading) passed.limit_now passed.counted found (search rules) (λ _. record {
-    given = held old;
-    parts = Keeps-refl _;
-    decided = rw not_full (decided (held old) ahead.within first_printable ahead.feed);
-  })
+  next_passed = gives_line ahead.reading (passed.past_now ∙ ahead.reading) passed.limit_now passed.counted found (search rules)
+      (λ _. record {
+        given = held old;
+        parts = Keeps-refl _;
+        decided = rw not_full (decided (held old) ahead.within first_printable ahead.feed);
+      })

@@ -69,7 +69,8 @@ IfRefused Failed P = Unit {0}
 
 -- what the held bytes decide of a comment that may stand first, whatever follows them, and what is held after it
 abbrev pub DecidesComment : List ℕ → First → List ℕ → Type 0
-DecidesComment held first.Comment rest = (has_line_feed held ≡ true) × (is_comment (first_content held) ≡ true) × (rest ≡ after_content held)
+DecidesComment held first.Comment rest = (has_line_feed held ≡ true) × (is_comment (first_content held) ≡ true) ×
+    (rest ≡ after_content held)
 DecidesComment held first.End rest = ⊥
 DecidesComment held first.Other rest =
     (0 < length held) × (rest ≡ held) × ((more : List ℕ) → is_comment (first_content (held ++ more)) ≡ false)

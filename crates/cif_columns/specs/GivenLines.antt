@@ -28,7 +28,8 @@ abbrev pub KnownContents : (List ℕ → Type 0) → Option (List ℕ) → List 
 KnownContents P start lines rest = IfSome start (λ bytes. IsSomeAnd rest (λ others. AreWholeContentsAndRest P bytes lines others))
 
 -- The reader reads on within this limit. These are the contents that it has given so far of the bytes that were left at the start.
-pub record IsReadingContents (P : List ℕ → Type 0) {R : Type 0} (remaining : R → Option (List ℕ)) (start : Option (List ℕ)) (max : ℕ) (reader : LineReader)
+pub record IsReadingContents (P : List ℕ → Type 0) {R : Type 0} (remaining : R → Option (List ℕ)) (start : Option (List ℕ)) (max : ℕ)
+    (reader : LineReader)
     (source : Source R) (lines : List (List ℕ)) : Type 0 where
   pub reads_on : past reader ≡ Reading
   pub same_limit : limit reader ≡ max
@@ -42,7 +43,8 @@ pub record AreAllContents (P : List ℕ → Type 0) (max : ℕ) (bytes : List �
   pub within : length lines ≤ max
 
 -- the contents of the bytes begin with these, at most max, and the next is refused, with its number and the reason
-pub record AreContentsToRefusal (P : List ℕ → Type 0) (max : ℕ) (bytes : List ℕ) (lines : List (List ℕ)) (number : ℕ) (why : Refusal) : Type 0 where
+pub record AreContentsToRefusal (P : List ℕ → Type 0) (max : ℕ) (bytes : List ℕ) (lines : List (List ℕ)) (number : ℕ)
+    (why : Refusal) : Type 0 where
   pub content : List ℕ
   pub others : List (List ℕ)
   pub contents : contents_of bytes ≡ lines ++ content ∷ others
@@ -74,7 +76,8 @@ pub record IsContentDecided (P : List ℕ → Type 0) (max : ℕ) (bytes unread 
 
 -- The content of this number is decided, whatever follows: by what the source gave of the bytes, or else by the end that it told.
 abbrev pub IsContentDecidedOrLast : (List ℕ → Type 0) → ℕ → List ℕ → Unread → ℕ → Type 0
-IsContentDecidedOrLast P max bytes after number = after.ended ≡ false → IsSomeAnd after.bytes (λ unread. IsContentDecided P max bytes unread number)
+IsContentDecidedOrLast P max bytes after number = after.ended ≡ false → IsSomeAnd after.bytes
+    (λ unread. IsContentDecided P max bytes unread number)
 
 -- the contents that were given of the bytes before this fault, where `after` is left then
 abbrev pub AreContentsToFault : (List ℕ → Type 0) → ℕ → List ℕ → Unread → List (List ℕ) → LineFault → Type 0

@@ -196,7 +196,8 @@ whole_result start max lines p (Err f) all so_far held = known_so start _ _ (λ 
 
 -- and where it isn't
 pub unfinished_result : (start : Option (List ℕ)) (after : Unread) (max : ℕ) (lines : List (List ℕ)) (p : Progress) (number : ℕ)
-    (result : Result Extract Fault) → after.ended ≡ true → IfSome start (λ bytes. AreAllLines max bytes lines) → HasCome max lines p → number ≡ length lines →
+    (result : Result Extract Fault) → after.ended ≡ true → IfSome start (λ bytes. AreAllLines max bytes lines) → HasCome max lines p →
+    number ≡ length lines →
     IfErr result (λ f. (f ≡ fault.Refused (number + 1) refusal.Truncated) × IsUnfinished p) →
     IfSome start (λ bytes. IfErr result (IsReadFault max bytes after))
 unfinished_result start after max lines p number (Ok extract) told all so_far is err = known_so start _ _ (λ bytes a. tt) all
@@ -213,7 +214,8 @@ unfinished_result start after max lines p number (Err f) told all so_far is err 
 
 -- why a line is not taken, as the result at that line
 pub untaken_result : (start : Option (List ℕ)) (after : Unread) (max number : ℕ) (s : TakeFault) →
-    ((why : Refusal) → s ≡ untaken.Refused why → IfSome start (λ bytes. IsFirstRefusal max bytes number why × IsDecided max bytes after number)) →
+    ((why : Refusal) → s ≡ untaken.Refused why → IfSome start
+    (λ bytes. IsFirstRefusal max bytes number why × IsDecided max bytes after number)) →
     IfSome start (λ bytes. IsReadFault max bytes after (fault_at_line number s))
 untaken_result start after max number (untaken.Refused why) h = h why refl
 untaken_result None after max number untaken.Memory h = tt

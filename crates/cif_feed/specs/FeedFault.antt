@@ -16,7 +16,8 @@ use Rattle.cif_feed.specs.declared.holiday_code.HolidayCodes.{HolidayCodes}
 -- of the source before one was. No contract foretells that memory runs out.
 abbrev pub IsFeedFault : Feed → HolidayCodes → ℕ → List ℕ → Unread → FeedFault → Type 0
 IsFeedFault feed allowed max bytes after (Extract (Refused line why)) =
-    IsFirstOfFeed feed allowed max (contents_of bytes) (Extract (Refused line why)) × IsContentDecidedOrLast IsFeedContent max bytes after line
+    IsFirstOfFeed feed allowed max (contents_of bytes) (Extract (Refused line why)) ×
+    IsContentDecidedOrLast IsFeedContent max bytes after line
 IsFeedFault feed allowed max bytes after (Extract Read) = IsSomeAnd after.bytes (IsFeedCut feed allowed max bytes)
 IsFeedFault feed allowed max bytes after (Extract Memory) = Unit {0}
 IsFeedFault feed allowed max bytes after (Extract _) = ⊥

@@ -86,7 +86,8 @@ pub record IsFeedTruncated (feed : Feed) (allowed : HolidayCodes) (max : ℕ) (c
 
 -- the first refusal of contents, as a fault
 abbrev pub IsFirstOfFeed : Feed → HolidayCodes → ℕ → List (List ℕ) → FeedFault → Type 0
-IsFirstOfFeed feed allowed max contents fault = IsRefusedContent feed allowed max contents fault ⊎ IsFeedTruncated feed allowed max contents fault
+IsFirstOfFeed feed allowed max contents fault = IsRefusedContent feed allowed max contents fault ⊎
+    IsFeedTruncated feed allowed max contents fault
 
 -- A source failed before a refused content was decided: of these bytes it gave all but those unread. What it gave are whole contents,
 -- none of them refused, and then a rest, which decides no line.

@@ -21,7 +21,8 @@ monday-some n w week weekday =
     let late : 4 ≤ w * 7 = omega arith in
     ap yymmdd_of day ∙ sym (ap (λ b. cond b (codes "      ") (yymmdd_of (w * 7 - 4))) (le-ltb (w * 7) 4 late))
 
-pub monday-none : (w : ℕ) → w * 7 < 36529 → ((n : ℕ) → (n + 4) / 7 ≡ w → (n + 4) % 7 ≡ 0 → n < 36525 → ⊥) → codes "      " ≡ monday_columns w
+pub monday-none : (w : ℕ) → w * 7 < 36529 → ((n : ℕ) → (n + 4) / 7 ≡ w → (n + 4) % 7 ≡ 0 → n < 36525 → ⊥) →
+    codes "      " ≡ monday_columns w
 monday-none w within none =
     let early : w * 7 < 4 = elim (nat_lt (w * 7) 4) as (λ b. nat_lt (w * 7) 4 ≡ b → w * 7 < 4) [
       | true ↦ λ e. ltb-true (w * 7) 4 e
@@ -58,7 +59,8 @@ range-push a n b is =
 
 module _ {B : Type 0} (records : Records B) (lawful : AreLawful records) (d : ℕ) where
   body-none : (r : Terms B) → records r → r.letter ≡ C → (b : B) → r.body ≡ Some b → ⊥
-  body-none r has is b some = let none = (lawful.cancelled r has).1 is in subst (λ o. IsNone o → ⊥) (sym some) (λ h. false≢true (sym h)) none
+  body-none r has is b some = let none = (lawful.cancelled r has).1 is in subst (λ o. IsNone o → ⊥) (sym some)
+      (λ h. false≢true (sym h)) none
 
   some-body : (r : Terms B) → records r → (r.letter ≡ C → ⊥) → (o : Option B) → r.body ≡ o → (b : B) × (r.body ≡ Some b)
   some-body r has other None is = absurd (other ((lawful.cancelled r has).0 (subst (λ o. IsNone o) (sym is) refl)))

@@ -7,7 +7,8 @@ use Rattle.std.specs.List.Sorted.{IsNonDecreasingBy}
 use Rattle.std.proofs.lemmas.List.{get_or-take, get_or_default, get_or_read_under, length-take, take-append-drop, take_all, take_more}
 use Rattle.std.proofs.lemmas.List.Elements.{Contains-append_left, Contains-push, Contains-push_cases}
 use Rattle.cif_calendar.specs.Wins.{precedence}
-use Rattle.cif_weeks.proofs.Words.{AgreeOn, Applies, HasDay, HaveOneMask, IsAgreed, IsAmongDates, IsDisputed, IsMask, IsSpanOf, IsWithin, Leads}
+use Rattle.cif_weeks.proofs.Words.{AgreeOn, Applies, HasDay, HaveOneMask, IsAgreed, IsAmongDates, IsDisputed, IsMask, IsSpanOf, IsWithin}
+use Rattle.cif_weeks.proofs.Words.{Leads}
 use Rattle.cif_weeks.proofs.Words.{RunsOn, Shows, SomeOf, Span, Terms, Weeks, Window, week_of, weekday_of}
 use Rattle.cif_weeks.proofs.Masks.{mask-over, mask_runs}
 use Rattle.cif_weeks.proofs.WeekDays.{RunsOn-below}

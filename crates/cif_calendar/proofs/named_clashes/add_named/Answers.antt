@@ -24,5 +24,6 @@ loop-clash-preserved g c =
 
 pub returns : goal.returns
 returns g c = λ keys tell.
-    named-all g.E.NamedEntry.clash_of (keyed g.E.Entry.key g.E.Entry.terms c.args.entries.now) c.args.clashes.now.items c.args.found.now keys
+    named-all g.E.NamedEntry.clash_of (keyed g.E.Entry.key g.E.Entry.terms c.args.entries.now) c.args.clashes.now.items c.args.found.now
+    keys
     tell c.loop-clash.clash-index c.loop-clash-test.false c.loop-clash.clashes.items c.loop-clash.invariant

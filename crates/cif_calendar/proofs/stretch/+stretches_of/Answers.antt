@@ -73,7 +73,11 @@ loop-left-smaller g t c = let at = goal.at.loop-left-smaller g t c in
     c.behind-right.ensures
 
 pub returns-then-part-le-MOST_DIRECT : goal.returns-then-part-le-MOST_DIRECT
-returns-then-part-le-MOST_DIRECT g t c = record { alike = c.stretches_of_few.ensures.alike; stretches = c.stretches_of_few.ensures.stretches }
+returns-then-part-le-MOST_DIRECT g t c = record {
+  alike = c.stretches_of_few.ensures.alike;
+  stretches =
+      c.stretches_of_few.ensures.stretches;
+}
 
 pub returns-in_err-lefts : goal.returns-in_err-lefts
 returns-in_err-lefts g t c = record { alike = c.in_err-lefts.ensures.alike; stretches = IfOk-from_err _ _ c.from_residual.ensures.0 }

@@ -30,7 +30,8 @@ loop-at-preserved g c =
     c.write_schedule.ensures in
     let uid = ap (λ (s : Schedule). listed (n + 1) (lines s)) (sym c.index-schedules-run.is) in
     one-more _ _ (numbered_text listed (schedule_entries schedules))
-    (enumerate_from 1 runs) n _ _ c.loop-at.invariant (n + 1, run) _ (omega (arith, within, many)) (at-number runs n run within c.index-runs-at.is)
+    (enumerate_from 1 runs) n _ _ c.loop-at.invariant (n + 1, run) _ (omega (arith, within, many))
+    (at-number runs n run within c.index-runs-at.is)
     (text-is _ _ _ _ _ _ (uid ∙ sym text) written)
 
 pub returns : goal.returns

@@ -34,7 +34,8 @@ loop-at-preserved g c =
     let text = schedule-text schedule_text schedules run c.index-schedules-run.result c.set_body.new.writer
     (has g (goal.at.loop-at-preserved g c).After-index-runs-at) c.index-schedules-run.is here in (
       one-more _ _ (schedule_run_text (schedule_entries schedules)) c.args.runs.now c.loop-at.at _ _ c.loop-at.invariant.0 run _
-          c.loop-at-test.true c.index-runs-at.is (text-is _ _ _ _ _ _ (uid ∙ sym text) (appended _ _ _ _ _ c.write.result c.write.ensures.writes)),
+          c.loop-at-test.true c.index-runs-at.is (text-is _ _ _ _ _ _ (uid ∙ sym text)
+          (appended _ _ _ _ _ c.write.result c.write.ensures.writes)),
       body ∙ ap Some (sym c.write.ensures.body),
     )
 

@@ -20,7 +20,8 @@ head g c = ap (λ (runs : List (Sided Run)). slice_get runs 0) (sym c.as_slice.e
 pub entry_of-requires : goal.entry_of-requires
 entry_of-requires g c =
     let a = c.in_ok-runs.ensures in
-    first-within g.E.Entry.key g.E.Entry.terms c.args.left.now c.args.right.now c.in_ok-runs.runs.items a.found a.runs_of c.in-Some.first.now
+    first-within g.E.Entry.key g.E.Entry.terms c.args.left.now c.args.right.now c.in_ok-runs.runs.items a.found a.runs_of
+    c.in-Some.first.now
     (head g (goal.at.entry_of-requires g c).In-Some)
 
 pub returns : goal.returns

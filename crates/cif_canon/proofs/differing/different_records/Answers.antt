@@ -63,7 +63,8 @@ fronts g c =
     let s = c.in-Some.ensures in
     rw (s.left_split.front_is, s.left_split.later_is, s.right_split.front_is, s.right_split.later_is)
     (turns cmp g.met.E.Key.Ord.total
-    (same_key-cmp g.E.Key.PartialEq.eq cmp g.met.E.Key.Ord.matches_eq g.met.E.Entry.same_key) xs ys l r (AreTold window xs ys found.found) found.passed (g.E.Entry.key c.in-Some.first.entry.now)
+    (same_key-cmp g.E.Key.PartialEq.eq cmp g.met.E.Key.Ord.matches_eq g.met.E.Entry.same_key) xs ys l r
+    (AreTold window xs ys found.found) found.passed (g.E.Entry.key c.in-Some.first.entry.now)
     s.first _ _
     s.left_split.is_front s.right_split.is_front)
 

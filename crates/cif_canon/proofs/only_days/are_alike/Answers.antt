@@ -82,7 +82,8 @@ loop-window-preserved g c =
       upto = omega (arith, next, below, c.window-window.ensures.last);
       alike = λ d a b. ⊎_elim
           (λ early. c.loop-window.invariant.alike d a early)
-          (λ late. (by_pieces g (goal.at.loop-window-preserved g c).After-are_pieces_alike).0 c.if-not-are_pieces_alike.false d late (omega (arith, b, next)))
+          (λ late. (by_pieces g (goal.at.loop-window-preserved g c).After-are_pieces_alike).0 c.if-not-are_pieces_alike.false d late
+          (omega (arith, b, next)))
           (cases_lt d c.loop-window.first);
     }
 

@@ -21,7 +21,8 @@ pub partner-requires-clause-records : goal.partner-requires-clause-records
 partner-requires-clause-records g c =
     let xs = keyed g.E.Entry.key g.E.Entry.terms c.args.left.now in
     let ys = keyed g.E.Entry.key g.E.Entry.terms c.args.right.now in
-    subst (All (HasSidedRecord xs ys)) (sym (tail-is c.args.runs.now)) (All-drop (HasSidedRecord xs ys) 1 c.args.runs.now c.requires.records)
+    subst (All (HasSidedRecord xs ys)) (sym (tail-is c.args.runs.now))
+    (All-drop (HasSidedRecord xs ys) 1 c.args.runs.now c.requires.records)
 
 pub returns-in-Some : goal.returns-in-Some
 returns-in-Some g c =

@@ -7,4 +7,5 @@ use Rattle.cif_canon.proofs.rows.association_row.Goals as goal
 
 pub returns-clause-text : goal.returns-clause-text
 returns-clause-text c = rw (c.push_association.ensures.text, c.push_left_out.ensures.text, c.started-row.ensures.text)
-    (two-groups c.args.format c.args.before.now (Trimmed, codes "AA") (no_train c.args.format) (association_fields (c.args.key.now, c.args.body.now)))
+    (two-groups c.args.format c.args.before.now (Trimmed, codes "AA") (no_train c.args.format)
+    (association_fields (c.args.key.now, c.args.body.now)))

@@ -146,7 +146,8 @@ returns-in-Ok-false-clause-fault g c =
     let next = rw c.in-Ok-false.field-0-test at c.in-Ok-false.ensures in
     let all = reading_ends g.R.Read.remaining _ _ _ _ ls so_far c.read_line.new.self c.read_line.new.source next.answer in
     let number : c.line_number-in-Ok-false.result ≡ length ls = c.line_number-in-Ok-false.ensures ∙ next.ended refl ∙ so_far.counted in
-    unfinished_result (g.R.Read.remaining c.args.source.now.reader) (unread_of g.R.Read.remaining c.read_line.new.source) c.args.max_lines ls
+    unfinished_result (g.R.Read.remaining c.args.source.now.reader)
+    (unread_of g.R.Read.remaining c.read_line.new.source) c.args.max_lines ls
     (progress_of c.loop-columns.reading) c.line_number-in-Ok-false.result c.finish.result (next.told so_far.reads_on refl) all come number
     c.finish.ensures.truncated
 

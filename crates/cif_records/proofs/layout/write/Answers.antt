@@ -5,7 +5,8 @@ use Rattle.cif_records.proofs.layout.write.Goals as goal
 
 pub finish-requires : goal.finish-requires
 finish-requires g c =
-    finished_width (g.R.Layout.table c.args.value.now) (g.met.R.Layout.whole c.args.value.now) c.put_rows.ensures.fits _ c.put_rows.ensures.columns
+    finished_width (g.R.Layout.table c.args.value.now)
+    (g.met.R.Layout.whole c.args.value.now) c.put_rows.ensures.fits _ c.put_rows.ensures.columns
 
 pub returns-clause-plain : goal.returns-clause-plain
 returns-clause-plain g c =

@@ -22,6 +22,7 @@ loop-week-preserved g c =
     let n = c.loop-week.week - a in
     let here : a + n ≡ c.loop-week.week = omega arith in
     let next : n + 1 ≡ c.loop-week.week + 1 - a = omega arith in
-    subst (λ (l : List ℕ). IsAppended g.W.Write.contents g.W.WriteDevice.write_errors (flat_map line l) c.args.sink.now c.write_week.new.sink)
+    subst (λ (l : List ℕ). IsAppended g.W.Write.contents g.W.WriteDevice.write_errors
+    (flat_map line l) c.args.sink.now c.write_week.new.sink)
     (sym (range-push a n c.loop-week.week here) ∙ ap (range_with_len a) next)
     (behind _ _ line (range_with_len a n) c.loop-week.week _ _ _ c.loop-week.invariant c.write_week.ensures)

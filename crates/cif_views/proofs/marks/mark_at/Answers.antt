@@ -16,7 +16,8 @@ returns-then-precedence g c known =
     (member-map of xs c.args.i c.index-applying-i.result c.requires.within) _
     (member-map of xs (c.args.i - 1) c.index-applying-i-then-i-gt0.result (omega (arith, c.requires.within)))
     (omega (arith, c.if-i-gt0.true))
-    (sym c.key-then-i-gt0.ensures ∙ sym ((g.met.E.Entry.same_key c.key.result.now c.key-then-i-gt0.result.now).0 (sym c.eq.ensures ∙ c.if-eq.true))
+    (sym c.key-then-i-gt0.ensures ∙ sym ((g.met.E.Entry.same_key c.key.result.now c.key-then-i-gt0.result.now).0
+    (sym c.eq.ensures ∙ c.if-eq.true))
     ∙ c.key.ensures)
     (sym c.precedence-then-eq.ensures ∙ sym c.if-precedence.true ∙ c.precedence.ensures)
     c.args.before (known (c.args.i - 1) (omega (arith, c.if-i-gt0.true)))
@@ -30,7 +31,8 @@ returns-then-eq g c known =
     (member-map of xs c.args.i c.index-applying-i.result c.requires.within) _
     (member-map of xs (c.args.i - 1) c.index-applying-i-then-i-gt0.result (omega (arith, c.requires.within)))
     (omega (arith, c.if-i-gt0.true))
-    (sym c.key-then-i-gt0.ensures ∙ sym ((g.met.E.Entry.same_key c.key.result.now c.key-then-i-gt0.result.now).0 (sym c.eq.ensures ∙ c.if-eq.true))
+    (sym c.key-then-i-gt0.ensures ∙ sym ((g.met.E.Entry.same_key c.key.result.now c.key-then-i-gt0.result.now).0
+    (sym c.eq.ensures ∙ c.if-eq.true))
     ∙ c.key.ensures)
     (λ is. c.if-precedence.false (c.precedence.ensures ∙ sym is ∙ sym c.precedence-then-eq.ensures))
 

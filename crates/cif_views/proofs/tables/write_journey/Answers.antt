@@ -22,7 +22,8 @@ loop-lines-preserved g c =
       text ++ rows (record { schedule = c.args.schedule; call = c.loop-lines.call; line = line }),
       both _ _ text _ _ _ _ written c.write_numbered.ensures.text,
       one-line rows c.args.schedule _ text c.loop-lines.call _ lines line _ is
-          (c.call_after-call.ensures ∙ ap (λ kind. cond (is_call kind) (c.loop-lines.call + 1) c.loop-lines.call) c.kind_of_line-kind.ensures) left,
+          (c.call_after-call.ensures ∙ ap (λ kind. cond (is_call kind) (c.loop-lines.call + 1) c.loop-lines.call)
+          c.kind_of_line-kind.ensures) left,
       c.write_numbered.ensures.empty,
       next-call (is_call c.kind_of_line-kind.result) c.loop-lines.call _ _ lines _ line is c.call_after-call.ensures few,
     )

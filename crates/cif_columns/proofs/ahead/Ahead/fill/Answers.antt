@@ -1,5 +1,6 @@
 -- Moving and reading change the buffer: by `held_grown` what is held is what was held, and then the piece that was read.
-use Rattle.std.proofs.Common.{◌≡◌, ◌-◌, ◌<◌, Bool, Result, length, [], drop, ltb-false, arith, ap, sym, ◌∙◌, true, false, append-nil, length-drop}
+use Rattle.std.proofs.Common.{◌≡◌, ◌-◌, ◌<◌, Bool, Result, length, [], drop, ltb-false, arith, ap, sym, ◌∙◌, true, false, append-nil}
+use Rattle.std.proofs.Common.{length-drop}
 use Rattle.std.proofs.Common.{length-take}
 use Rattle.std.proofs.KnownBytes.{Consumes-kept, Consumes-nil}
 use Rattle.std.proofs.lemmas.Bool.{ltb-true}

@@ -20,7 +20,8 @@ pub returns-in-Some : goal.returns-in-Some
 returns-in-Some g c =
     let so_far = c.loop-answer.invariant in
     decided_next g.R.Read.remaining g.R.ReadDevice.read_errors c.args.self.now c.loop-answer.self c.decided.new.self c.args.source.now
-    c.loop-answer.source so_far.same_bytes so_far.same_given so_far.same_limit so_far.read_on so_far.begun c.in-Some.answer c.in-Some.ensures.found
+    c.loop-answer.source so_far.same_bytes so_far.same_given so_far.same_limit so_far.read_on so_far.begun c.in-Some.answer
+    c.in-Some.ensures.found
 
 pub fill-requires : goal.fill-requires
 fill-requires g c = omega (arith, c.in_default.ensures.none.short, ap length c.in_default.ensures.kept.held_now)

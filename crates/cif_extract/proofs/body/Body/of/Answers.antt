@@ -31,4 +31,5 @@ pub returns : goal.returns
 unfolding parts
 returns c =
     let d = (goal.at.returns c).In_ok-push_parts in
-    subst (λ (p : BodyParts). IfOk c.of_lines.result (λ b. b ≡ p)) (parts_in-keeps c.push_parts.new.lines (parts d) (kept d)) c.of_lines.ensures
+    subst (λ (p : BodyParts). IfOk c.of_lines.result (λ b. b ≡ p))
+    (parts_in-keeps c.push_parts.new.lines (parts d) (kept d)) c.of_lines.ensures

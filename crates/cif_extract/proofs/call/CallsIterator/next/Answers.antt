@@ -13,7 +13,8 @@ apart c =
     let told = c.is_empty.ensures in
     let test-2 = c.if-is_empty-2.false in
     let told-2 = c.is_empty-2.ensures in
-    first_before_last c.self.inside.lines c.rest-rest.result c.first-first.result (grind (arith, nat_tests, test, told)) c.first-first.ensures
+    first_before_last c.self.inside.lines c.rest-rest.result c.first-first.result
+    (grind (arith, nat_tests, test, told)) c.first-first.ensures
     c.rest-rest.ensures (grind (arith, nat_tests, test-2, told-2))
 
 pub read-requires : goal.read-requires

@@ -14,7 +14,8 @@ returns c place = rw (
   c.push_terms.ensures.text,
   c.begun-line.ensures.text,
 )
-    (explained-groups c.args.format (lead c.args.format (date_field c.args.day)) (Trimmed, mark_columns c.args.mark) (Trimmed, codes "AA") (terms_fields (association_terms c.args.self.now))
+    (explained-groups c.args.format (lead c.args.format (date_field c.args.day)) (Trimmed, mark_columns c.args.mark) (Trimmed, codes "AA")
+    (terms_fields (association_terms c.args.self.now))
     (no_train c.args.format)
     (said_of_association c.args.format c.args.self.now.key c.args.self.now.body)
     ∙ led-line c.args.format (date_field c.args.day) (Trimmed, mark_columns c.args.mark) _)

@@ -14,7 +14,8 @@ returns c place = rw (
   c.push_terms.ensures.text,
   c.begun-line.ensures.text,
 )
-    (explained-groups c.args.format (lead c.args.format (date_field c.args.day)) (Trimmed, mark_columns c.args.mark) (Trimmed, codes "BS") (terms_fields (schedule_terms c.args.self.now))
+    (explained-groups c.args.format (lead c.args.format (date_field c.args.day)) (Trimmed, mark_columns c.args.mark) (Trimmed, codes "BS")
+    (terms_fields (schedule_terms c.args.self.now))
     (said_of_train c.args.format c.args.self.now.uid c.args.self.now.body)
     (no_association c.args.format)
     ∙ led-line c.args.format (date_field c.args.day) (Trimmed, mark_columns c.args.mark) _)
