@@ -3,7 +3,6 @@ use Rattle.std.proofs.Common.{◌≡◌, ℕ, List, length, sym, ap₂, ◌∙�
 use Rattle.std.proofs.lemmas.Slice.Zip.{AllZip-long}
 use Rattle.cif_extract.specs.declared.fault.Clash.TheVariants as named
 use Rattle.cif_extract.specs.declared.fault.Fault.TheVariants as fault
-use Rattle.cif_records.proofs.Headers as headers
 use Rattle.cif_canon.specs.Counts.{counts_of}
 use Rattle.cif_extract.proofs.PlainTexts.{text-spells}
 use Rattle.cif_canon.proofs.Words.{All, AreCanonicalRecords, AreClear, AreDistinct, BytesSpell, Counts, ExtractParts, Fault, FitsColumns}
