@@ -2,7 +2,7 @@
 use Rattle.std.proofs.Common.{◌≡◌, ◌≢◌, ℕ, zero, suc, ◌-◌, ◌<◌, ◌≤◌, Bool, true, false, cond, nat_eq, nat_le, min, List, [], ◌++◌, length}
 use Rattle.std.proofs.Common.{take, Option, None, Some, IfSome, Ok, Err, refl, sym, ap, ◌∙◌, subst, arith, get_or, codes}
 use Rattle.std.proofs.Common.{append-nil, length-append, length-take, ⊎_elim}
-use Rattle.std.proofs.lemmas.Bool.{and_parts, cases_lt}
+use Rattle.std.proofs.lemmas.Bool.{and_parts, cases_lt, false_from_ne_true}
 use Rattle.std.proofs.lemmas.Bool.Decides.{nat_tests}
 use Rattle.std.proofs.lemmas.List.{get_or-take, get_or_append_left, take-take}
 use Rattle.std.proofs.lemmas.Slice.Eq.{bytes_eq-Decides}
@@ -18,10 +18,6 @@ use Rattle.cif_columns.specs.declared.source.ReadFault.{ReadFault}
 use Rattle.cif_columns.proofs.DecidedLines.{after_more, content_feed, content_more, decided_feed, decided_some, long_content}
 use Rattle.cif_columns.proofs.FeedPlaces.{place, place-append_in, place-append_out}
 
-unless_true : (b : Bool) → (b ≡ true → ⊥) → b ≡ false
-unless_true true h = absurd (h refl)
-unless_true false h = refl
-
 -- ---- what a comment begins with, and how long it is
 
 starts : (content : List ℕ) → is_comment content ≡ true → get_or content 0 0 ≡ 47
@@ -33,7 +29,7 @@ starts content is =
 
 long_no_comment : (content : List ℕ) → 80 < length content → is_comment content ≡ false
 unfolding is_comment
-long_no_comment content long = unless_true _ (λ is. too_long (and_parts _ _ (and_parts _ _ is).0).1)
+long_no_comment content long = false_from_ne_true _ (λ is. too_long (and_parts _ _ (and_parts _ _ is).0).1)
   where
     too_long : nat_le (length content) 80 ≡ true → ⊥
     too_long short = grind (arith, nat_tests)
@@ -65,7 +61,7 @@ content_starts bytes = at (has_line_feed bytes)
 
 -- bytes that begin with another byte
 pub no_comment : (held more : List ℕ) → 0 < length held → get_or held 0 0 ≢ 47 → is_comment (first_content (held ++ more)) ≡ false
-no_comment held more some other = unless_true _ (λ is.
+no_comment held more some other = false_from_ne_true _ (λ is.
     other (sym (get_or_append_left held more 0 0 some) ∙ content_starts (held ++ more) (starts (first_content (held ++ more)) is)))
 
 -- ---- what the held bytes decide

@@ -65,8 +65,7 @@ content_left None remaining held rest next keeps passes = tt
 content_left (Some all) None held rest next keeps passes = absurd keeps
 content_left (Some all) (Some more) held rest (Content content) keeps passes =
     rw (← keeps) (rest ++ more, refl, first_more held more content rest passes)
-content_left (Some all) (Some more) held rest Overlong keeps passes =
-    ap (λ l. Some (l ++ more)) passes.1 ∙ ap Some keeps
+content_left (Some all) (Some more) held rest Overlong keeps passes = ap (λ l. Some (l ++ more)) passes.1 ∙ ap Some keeps
 content_left (Some all) (Some more) held rest End keeps passes = absurd passes
 
 pub kept_left : (bytes left : Option (List ℕ)) → Keeps bytes left → IfSome bytes (λ all. left ≡ Some all)

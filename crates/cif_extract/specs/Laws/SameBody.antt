@@ -1,8 +1,8 @@
 -- A law: bodies are equal where their values are. A ghost member may cite it, so it stands here.
-use Rattle.std.proofs.Common.{◌≡◌, ◌↔◌, ℕ, nat_eq, Bool, true, false, ◌&&◌, IsTrue, Option, Some, None, List, [], ◌∷◌, get_or}
+use Rattle.std.proofs.Common.{◌≡◌, ◌↔◌, ℕ, nat_eq, Bool, true, ◌&&◌, IsTrue, Option, Some, None, List, [], ◌∷◌, get_or}
 use Rattle.std.proofs.Common.{refl, sym, ◌∙◌, ap, subst, rules}
 use Rattle.std.proofs.Math.Bool.{and-true}
-use Rattle.std.proofs.lemmas.Bool.{false≢true}
+use Rattle.std.proofs.lemmas.Bool.{and_parts}
 use Rattle.std.proofs.lemmas.Bool.Decides.{same_from_decides}
 use Rattle.std.proofs.lemmas.Grind.{common_steps}
 use Rattle.std.specs.Cmp.Lexicographic.{pointwise, pointwise_decides, bytes_decides}
@@ -156,19 +156,14 @@ same_extras None (Some y) = (λ e. cc, λ e. cc)
 same_extras (Some x) None = (λ e. cc, λ e. cc)
 same_extras (Some x) (Some y) = (λ e. ap Some ((same_extra x y).0 e), λ e. (same_extra x y).1 cc)
 
--- each of two tests that hold together
-both : (s t : Bool) → (s && t) ≡ true → (s ≡ true) × (t ≡ true)
-both true t h = (refl, h)
-both false t h = absurd (false≢true h)
-
--- and each of five
+-- each of five tests that hold together
 all_five : (u v w x y : Bool) → (u && v && w && x && y) ≡ true
     → (u ≡ true) × (v ≡ true) × (w ≡ true) × (x ≡ true) × (y ≡ true)
 all_five u v w x y h =
-    let a = both (u && v && w && x) y h in
-    let b = both (u && v && w) x a.0 in
-    let c = both (u && v) w b.0 in
-    let d = both u v c.0 in
+    let a = and_parts (u && v && w && x) y h in
+    let b = and_parts (u && v && w) x a.0 in
+    let c = and_parts (u && v) w b.0 in
+    let d = and_parts u v c.0 in
     (d.0, d.1, c.1, b.1, a.1)
 
 -- bodies with the same parts are the same
