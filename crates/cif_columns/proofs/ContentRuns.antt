@@ -168,7 +168,7 @@ module _ {R : Type 0} (remaining : R → Option (List ℕ)) where
       next.holds.0 ∙ ap (λ n. n + 1) (next.holds.2 ∙ so_far.same_limit),
       next.holds.1,
       with_answer (λ bytes. AreContentsAndRest bytes cs) start (left remaining reader source) _ _ so_far.known
-      next.answer (λ bytes rest known is.
+          next.answer (λ bytes rest known is.
           let (unread, has, parts) = held_front (held reader') rest (remaining (reader_of source')) is in
           let some : rest ≢ [] = λ none. next.holds.3 (no_front (held reader') unread (sym parts ∙ none)) in
           let behind = known.behind rest [] (sym (append-nil rest)) in

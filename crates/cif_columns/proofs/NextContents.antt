@@ -13,8 +13,7 @@ use Rattle.cif_columns.specs.declared.content_reader.NextContent.{NextContent}
 use Rattle.cif_columns.specs.declared.content_reader.NextContent.TheVariants.{Content, Overlong, End}
 use Rattle.cif_columns.specs.declared.refusal.Refusal.{Refusal}
 use Rattle.cif_columns.proofs.DecidedLines.{after_more, content_feed, content_more}
-use Rattle.cif_columns.proofs.FeedPlaces.{place, place-append_in}
-use Rattle.cif_columns.proofs.JudgedContents.{place-le}
+use Rattle.cif_columns.proofs.FeedPlaces.{place, place-append_in, place-le}
 
 -- ---- what held bytes are
 
