@@ -9,8 +9,7 @@ use Rattle.cif_columns.specs.PlainTest.{are}
 
 -- a read of columns is one of the line
 pub read : (line : List ℕ) (from to k : ℕ) → k < to - (from - 1) → get_or (columns from to line) k 0 ≡ get_or line (from - 1 + k) 0
-read line from to k h =
-    get_or-take (to - (from - 1)) (drop (from - 1) line) k 0 h ∙ get_or-drop (from - 1) line k 0
+read line from to k h = get_or-take (to - (from - 1)) (drop (from - 1) line) k 0 h ∙ get_or-drop (from - 1) line k 0
 
 -- how many columns there are
 pub width : (line : List ℕ) (from to : ℕ) → length line ≡ 80 → 1 ≤ from → from ≤ to → to ≤ 80

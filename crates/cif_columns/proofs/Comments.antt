@@ -1,12 +1,11 @@
 -- Where no comment stands first, and what is found of one in the held bytes.
-use Rattle.std.proofs.Common.{◌≡◌, ◌≢◌, ℕ, zero, suc, ◌-◌, ◌<◌, ◌≤◌, Bool, true, false, cond, nat_eq, nat_le, min, List, [], ◌++◌, length}
-use Rattle.std.proofs.Common.{take, Option, None, Some, IfSome, Ok, Err, refl, sym, ap, ◌∙◌, subst, arith, get_or, codes}
-use Rattle.std.proofs.Common.{append-nil, length-append, length-take, ⊎_elim}
-use Rattle.std.proofs.lemmas.Bool.{and_parts, cases_lt}
+use Rattle.std.proofs.Common.{◌≡◌, ◌≢◌, ℕ, zero, suc, ◌-◌, ◌<◌, ◌≤◌, Bool, true, false, cond, nat_eq, nat_le, min, List, ◌++◌, length, take}
+use Rattle.std.proofs.Common.{Option, None, Some, IfSome, Ok, refl, sym, ap, ◌∙◌, arith, get_or, codes, length-append, length-take}
+use Rattle.std.proofs.lemmas.Bool.{and_parts, false_from_ne_true}
 use Rattle.std.proofs.lemmas.Bool.Decides.{nat_tests}
 use Rattle.std.proofs.lemmas.List.{get_or-take, get_or_append_left, take-take}
 use Rattle.std.proofs.lemmas.Slice.Eq.{bytes_eq-Decides}
-use Rattle.std.specs.Io.KnownBytes.{IsAtEnd, Keeps, prepend_known}
+use Rattle.std.specs.Io.KnownBytes.{Keeps, prepend_known}
 use Rattle.std.specs.List.{slice_index}
 use Rattle.std.specs.Str.Lines.{strip_carriage_return}
 use Rattle.cif_columns.specs.Ahead.{DecidesComment, FindsComment}
@@ -14,13 +13,8 @@ use Rattle.cif_columns.specs.Comment.{is_comment}
 use Rattle.cif_columns.specs.FirstLine.{after_content, first_content, has_line_feed}
 use Rattle.cif_columns.specs.declared.ahead.First.{First}
 use Rattle.cif_columns.specs.declared.ahead.First.TheVariants.{Comment, End, Other}
-use Rattle.cif_columns.specs.declared.source.ReadFault.{ReadFault}
 use Rattle.cif_columns.proofs.DecidedLines.{after_more, content_feed, content_more, decided_feed, decided_some, long_content}
-use Rattle.cif_columns.proofs.FeedPlaces.{place, place-append_in, place-append_out}
-
-unless_true : (b : Bool) → (b ≡ true → ⊥) → b ≡ false
-unless_true true h = absurd (h refl)
-unless_true false h = refl
+use Rattle.cif_columns.proofs.FeedPlaces.{place, place-more}
 
 -- ---- what a comment begins with, and how long it is
 
@@ -33,7 +27,7 @@ starts content is =
 
 long_no_comment : (content : List ℕ) → 80 < length content → is_comment content ≡ false
 unfolding is_comment
-long_no_comment content long = unless_true _ (λ is. too_long (and_parts _ _ (and_parts _ _ is).0).1)
+long_no_comment content long = false_from_ne_true _ (λ is. too_long (and_parts _ _ (and_parts _ _ is).0).1)
   where
     too_long : nat_le (length content) 80 ≡ true → ⊥
     too_long short = grind (arith, nat_tests)
@@ -65,7 +59,7 @@ content_starts bytes = at (has_line_feed bytes)
 
 -- bytes that begin with another byte
 pub no_comment : (held more : List ℕ) → 0 < length held → get_or held 0 0 ≢ 47 → is_comment (first_content (held ++ more)) ≡ false
-no_comment held more some other = unless_true _ (λ is.
+no_comment held more some other = false_from_ne_true _ (λ is.
     other (sym (get_or_append_left held more 0 0 some) ∙ content_starts (held ++ more) (starts (first_content (held ++ more)) is)))
 
 -- ---- what the held bytes decide
@@ -84,13 +78,6 @@ pub comment_by_feed : (held rest : List ℕ) (at : ℕ) → at ≡ place held �
 comment_by_feed held rest at is within comment after =
     let feed = content_feed held at is within in (feed.0, ap is_comment feed.1 ∙ comment, after)
 
-far_more : (held more : List ℕ) → 82 ≤ length held → 82 ≤ place held → 82 ≤ place (held ++ more)
-far_more held more long far =
-    ⊎_elim
-    (λ (below : place held < length held). omega (arith, far, place-append_in held more below))
-    (λ from. omega (arith, long, place-append_out held more from))
-    (cases_lt (place held) (length held))
-
 pub other_by_length : (held : List ℕ) → 82 ≤ length held → min 82 (length held) ≤ place held → DecidesComment held Other held
 other_by_length held long far = (
   omega (arith, long),
@@ -98,7 +85,7 @@ other_by_length held long far = (
   λ more.
       let more_long : 82 ≤ length (held ++ more) = omega (arith, long, length-append held more) in
       long_no_comment (first_content (held ++ more))
-      (long_content held more (held ++ more) more_long (far_more held more long (omega arith))),
+      (long_content held more (held ++ more) more_long (omega (arith, place-more held more))),
 )
 
 -- ---- what is found in all that is left
@@ -119,24 +106,6 @@ comment_more (Some x) (Some y) held rest Other k d = (
   ap (λ l. is_comment (first_content l)) (sym k) ∙ d.2 y,
   ap Some (ap (λ l. l ++ y) d.1 ∙ k),
 )
-
--- where no others follow them
-pub comment_last : (a rem : Option (List ℕ)) (held rest : List ℕ) (first : First) → Keeps a (prepend_known held rem) → IsAtEnd rem
-    → FindsComment held (Ok first) (Some rest) → IfSome a (λ bytes. FindsComment bytes (Ok first) (prepend_known rest rem))
-comment_last None rem held rest first k end f = tt
-comment_last (Some x) None held rest first k end f = absurd k
-comment_last (Some x) (Some y) held rest first k end f =
-    let none : y ≡ [] = cc in
-    let all : held ≡ x = sym (append-nil held) ∙ ap (λ l. held ++ l) (sym none) ∙ k in
-    let left : ◌≡◌ {A = Option (List ℕ)} (Some rest) (Some (rest ++ y)) =
-    ap Some (sym (append-nil rest) ∙ ap (λ l. rest ++ l) (sym none)) in
-    subst (λ b. FindsComment b (Ok first) (Some (rest ++ y))) all (subst (λ r. FindsComment held (Ok first) r) left f)
-
--- after a failure
-pub comment_failed : (a b : Option (List ℕ)) (fault : ReadFault) → Keeps a b → IfSome a (λ bytes. FindsComment bytes (Err fault) b)
-comment_failed None b fault k = tt
-comment_failed (Some x) None fault k = absurd k
-comment_failed (Some x) (Some y) fault k = ap Some k
 
 -- what is left is kept, where it isn't known to be a comment
 pub known_other : (held : List ℕ) (rem : Option (List ℕ)) → 0 < length held → get_or held 0 0 ≢ 47

@@ -1,7 +1,6 @@
 -- The contents that a `ContentReader` has given so far, and how that ends.
 use Rattle.std.proofs.Common.{◌≡◌, ◌≢◌, ℕ, ◌+◌, ◌<◌, ◌≤◌, true, false, List, [], ◌∷◌, ◌++◌, length, Option, None, Some, IfSome, IsSomeAnd}
-use Rattle.std.proofs.Common.{Result, Ok, Err, refl, sym, ap, ◌∙◌, arith, append_assoc, append-nil, length-append, subst}
-use Rattle.std.proofs.Common.{Bool, nat_eq}
+use Rattle.std.proofs.Common.{Result, Ok, Err, refl, sym, ap, ◌∙◌, arith, append_assoc, append-nil, length-append, subst, Bool, nat_eq}
 use Rattle.std.proofs.lemmas.Bool.{eqb-true}
 use Rattle.std.proofs.lemmas.Bool.Decides.{nat_tests}
 use Rattle.std.specs.Io.KnownBytes.{prepend_known}
@@ -17,7 +16,7 @@ use Rattle.cif_columns.specs.declared.refusal.LineFault.TheVariants.{Refused, Re
 use Rattle.cif_columns.specs.declared.refusal.Refusal.{Refusal}
 use Rattle.cif_columns.specs.declared.refusal.Refusal.TheVariants.{TooManyLines}
 use Rattle.cif_columns.specs.declared.source.Source.{Source}
-use Rattle.cif_columns.proofs.GivenLinesLaws.{all_given, held_front}
+use Rattle.cif_columns.proofs.GivenLinesLaws.{all_given, held_front, known_so, with_answer}
 use Rattle.cif_columns.proofs.JudgedContents.{AreContentsAndRest, content_more, far_more, no_contents, none_judged, none_overlong}
 use Rattle.cif_columns.proofs.JudgedContents.{not_none_contents, overlong_last, overlong_there, undecided_contents}
 
@@ -102,14 +101,11 @@ module _ {R : Type 0} (remaining : R → Option (List ℕ)) where
     -- the end of the input
     pub given_all : IsNextOf remaining errors reader source (Ok End) reader' source'
         → IfSome start (λ bytes. AreAll bytes cs) × IfSome start (λ bytes. remaining (reader_of source') ≡ Some [])
-    given_all next = at start (left remaining reader source) so_far.known next.answer
+    given_all next = (known_so start _ _ (λ bytes both. both.0) all, known_so start _ _ (λ bytes both. both.1) all)
       where
-        at : (s rest : Option (List ℕ)) → KnownRest s cs rest
-            → IfSome rest (λ bytes. AnswersContent bytes (Ok End) (left remaining reader' source'))
-            → IfSome s (λ bytes. AreAll bytes cs) × IfSome s (λ bytes. remaining (reader_of source') ≡ Some [])
-        at None rest known answer = (tt, tt)
-        at (Some bytes) None known answer = absurd known
-        at (Some bytes) (Some rest) known answer =
+        all : IfSome start (λ bytes. AreAll bytes cs × (remaining (reader_of source') ≡ Some []))
+        all = with_answer (λ bytes. AreContentsAndRest bytes cs) start (left remaining reader source) _ _ so_far.known
+            next.answer (λ bytes rest known answer.
             let all = known.behind [] [] answer.0 in
             let whole : bytes ≡ known.whole ++ [] = known.parts ∙ ap (λ l. known.whole ++ l) answer.0 in (
               record {
@@ -118,31 +114,27 @@ module _ {R : Type 0} (remaining : R → Option (List ℕ)) where
                 overlong_is = ap has_overlong whole ∙ all.overlong_is ∙ none_overlong;
               },
               all_given (held reader') (remaining (reader_of source')) answer.1,
-            )
+            ))
 
     -- the bytes that the source has given so far, where nothing was passed
     given_front : (P : List ℕ → Type 0) → IfSome (left remaining reader source) (λ bytes. left remaining reader' source' ≡ Some bytes)
         → ((bytes : List ℕ) → (known : AreContentsAndRest bytes cs (held reader')) → P (known.whole ++ held reader'))
         → IfSome start (λ bytes. IsSomeAnd (remaining (reader_of source')) (IsGiven P bytes))
-    given_front P kept so = at start (left remaining reader source) so_far.known kept
-      where
-        at : (s rest : Option (List ℕ)) → KnownRest s cs rest → IfSome rest (λ bytes. left remaining reader' source' ≡ Some bytes)
-            → IfSome s (λ bytes. IsSomeAnd (remaining (reader_of source')) (IsGiven P bytes))
-        at None rest known is = tt
-        at (Some bytes) None known is = absurd known
-        at (Some bytes) (Some rest) known is =
-            let (unread, has, parts) = held_front (held reader') rest (remaining (reader_of source')) is in
-            let front : AreContentsAndRest (known.whole ++ held reader') cs (held reader') = record {
-              whole = known.whole;
-              parts = refl;
-              behind = λ more others same. known.behind more (others ++ unread)
-                  (parts ∙ ap (λ l. l ++ unread) same ∙ append_assoc more others unread);
-            } in
-            subst (λ r. IsSomeAnd r (IsGiven P bytes)) (sym has) (record {
-              before = known.whole ++ held reader';
-              parts = known.parts ∙ ap (λ l. known.whole ++ l) parts ∙ sym (append_assoc known.whole (held reader') unread);
-              fact = so (known.whole ++ held reader') front;
-            })
+    given_front P kept so =
+        with_answer (λ bytes. AreContentsAndRest bytes cs) start (left remaining reader source) _ _ so_far.known
+        kept (λ bytes rest known is.
+        let (unread, has, parts) = held_front (held reader') rest (remaining (reader_of source')) is in
+        let front : AreContentsAndRest (known.whole ++ held reader') cs (held reader') = record {
+          whole = known.whole;
+          parts = refl;
+          behind = λ more others same. known.behind more (others ++ unread)
+              (parts ∙ ap (λ l. l ++ unread) same ∙ append_assoc more others unread);
+        } in
+        subst (λ r. IsSomeAnd r (IsGiven P bytes)) (sym has) (record {
+          before = known.whole ++ held reader';
+          parts = known.parts ∙ ap (λ l. known.whole ++ l) parts ∙ sym (append_assoc known.whole (held reader') unread);
+          fact = so (known.whole ++ held reader') front;
+        }))
 
     -- a content that is overlong
     pub given_overlong : IsNextOf remaining errors reader source (Ok Overlong) reader' source'
@@ -177,7 +169,18 @@ module _ {R : Type 0} (remaining : R → Option (List ℕ)) where
     given_too_many number why next = (
       next.holds.0 ∙ ap (λ n. n + 1) (next.holds.2 ∙ so_far.same_limit),
       next.holds.1,
-      at start (left remaining reader source) so_far.known next.answer,
+      with_answer (λ bytes. AreContentsAndRest bytes cs) start (left remaining reader source) _ _ so_far.known
+          next.answer (λ bytes rest known is.
+          let (unread, has, parts) = held_front (held reader') rest (remaining (reader_of source')) is in
+          let some : rest ≢ [] = λ none. next.holds.3 (no_front (held reader') unread (sym parts ∙ none)) in
+          let behind = known.behind rest [] (sym (append-nil rest)) in
+          omega (
+            arith,
+            ap length (ap judged_contents known.parts ∙ behind.judged_are),
+            length-append cs (judged_contents rest),
+            (not_none_contents rest some).1,
+            full,
+          )),
       given_front (λ before. max < length (contents_of before)) next.answer (λ bytes known.
           let behind = known.behind (held reader') [] (sym (append-nil (held reader'))) in
           omega (
@@ -191,22 +194,6 @@ module _ {R : Type 0} (remaining : R → Option (List ℕ)) where
       where
         full : length cs ≡ max
         full = sym so_far.counted ∙ next.holds.2 ∙ so_far.same_limit
-
-        at : (s rest : Option (List ℕ)) → KnownRest s cs rest → IfSome rest (λ bytes. left remaining reader' source' ≡ Some bytes)
-            → IfSome s (λ bytes. max < length (judged_contents bytes))
-        at None rest known is = tt
-        at (Some bytes) None known is = absurd known
-        at (Some bytes) (Some rest) known is =
-            let (unread, has, parts) = held_front (held reader') rest (remaining (reader_of source')) is in
-            let some : rest ≢ [] = λ none. next.holds.3 (no_front (held reader') unread (sym parts ∙ none)) in
-            let behind = known.behind rest [] (sym (append-nil rest)) in
-            omega (
-              arith,
-              ap length (ap judged_contents known.parts ∙ behind.judged_are),
-              length-append cs (judged_contents rest),
-              (not_none_contents rest some).1,
-              full,
-            )
 
     -- a failure of the source
     pub given_failed : IsNextOf remaining errors reader source (Err Read) reader' source'

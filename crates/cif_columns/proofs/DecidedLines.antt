@@ -1,9 +1,11 @@
 -- When the first line of bytes is known, whatever follows them.
 use Rattle.std.proofs.Common.{◌≡◌, ℕ, ◌+◌, ◌-◌, ◌<◌, ◌≤◌, Bool, true, false, not, cond, nat_eq, List, [], ◌∷◌, ◌++◌, length, take, drop, Ok}
 use Rattle.std.proofs.Common.{Err, refl, sym, ap, ◌∙◌, arith, length-append, length-take, ltb-false, drop_of_length-le, ne_eqb, ◌≢◌, min}
+use Rattle.std.proofs.Common.{get_or}
 use Rattle.std.proofs.lemmas.Bool.Decides.{nat_tests}
-use Rattle.std.proofs.lemmas.Bool.{ltb-true}
+use Rattle.std.proofs.lemmas.Bool.{eqb-true, ltb-true}
 use Rattle.std.proofs.lemmas.List.{take-append-le, drop-append-le}
+use Rattle.std.proofs.lemmas.List.Sums.{passes_at_first, split_at_first}
 use Rattle.std.specs.List.{slice_index, list_all, slice_split, onto_first, before_first, after_first}
 use Rattle.std.specs.Str.Lines.{strip_carriage_return, lines, lines_of_parts}
 use Rattle.std.proofs.lemmas.List.Splits.{slice_split_first}
@@ -54,17 +56,25 @@ pub undecided_part : (f : Bool) (p : List ℕ) → f ≡ false → length p < 82
 unfolding is_decided
 undecided_part f p room short far = grind (arith, nat_tests)
 
+-- bytes that have a line feed, around it
+pub around_feed : (bytes : List ℕ) → has_line_feed bytes ≡ true → bytes ≡ before_first is_line_feed bytes ++ 10 ∷ after_content bytes
+around_feed bytes feed =
+    let below : place bytes < length bytes = ltb-true (place bytes) (length bytes) feed in
+    let here : get_or bytes (place bytes) 0 ≡ 10 = eqb-true _ 10 (passes_at_first is_line_feed bytes 0 below) in
+    split_at_first is_line_feed bytes 0 below ∙ ap (λ x. before_first is_line_feed bytes ++ (x ∷ after_content bytes)) here
+
 -- ---- the last content
 
-pub last_line : (f : Bool) (p : List ℕ) → is_decided f p ≡ false → 0 < length p → first_line f p ≡ line_of p
+-- a line that isn't one too many is what the first content is
+pub with_room : (f : Bool) (bytes : List ℕ) → f ≡ false → first_line f bytes ≡ line_of (first_content bytes)
 unfolding first_line
-last_line f p d some =
-    ap (λ b. cond b (Err TooManyLines) (line_of (cond (has_line_feed p) (strip_carriage_return (take (place p) p)) p)))
-    (undecided_not_full f p d some)
-    ∙ ap (λ b. line_of (cond b (strip_carriage_return (take (place p) p)) p)) (undecided_no_feed f p d)
+with_room f bytes e = ap (λ b. cond b (Err TooManyLines) (line_of (first_content bytes))) e
 
 pub last_content : (f : Bool) (p : List ℕ) → is_decided f p ≡ false → first_content p ≡ p
 last_content f p d = ap (λ b. cond b (strip_carriage_return (take (place p) p)) p) (undecided_no_feed f p d)
+
+pub last_line : (f : Bool) (p : List ℕ) → is_decided f p ≡ false → 0 < length p → first_line f p ≡ line_of p
+last_line f p d some = with_room f p (undecided_not_full f p d some) ∙ ap line_of (last_content f p d)
 
 pub last_after : (f : Bool) (p : List ℕ) → is_decided f p ≡ false → after_content p ≡ []
 last_after f p d =
@@ -127,16 +137,6 @@ module _ (p more : List ℕ) where
           ∙ sym (bad_length (first_content p) (long_content p long (omega arith)))
 
 -- bytes with a line feed, and such as are too long for one
-pub feed_line : (f : Bool) (held : List ℕ) (at : ℕ) → f ≡ false → at ≡ place held → at < length held
-    → (has_line_feed held ≡ true) × (first_line f held ≡ line_of (strip_carriage_return (take at held)))
-unfolding first_line
-feed_line f held at room is within =
-    let feed : has_line_feed held ≡ true = grind (arith, nat_tests) in (
-      feed,
-      rw room (ap (λ b. line_of (cond b (strip_carriage_return (take (place held) held)) held)) feed
-          ∙ ap (λ n. line_of (strip_carriage_return (take n held))) (sym is)),
-    )
-
 pub content_feed : (held : List ℕ) (at : ℕ) → at ≡ place held → at < length held
     → (has_line_feed held ≡ true) × (first_content held ≡ strip_carriage_return (take at held))
 content_feed held at is within =
@@ -144,6 +144,11 @@ content_feed held at is within =
       feed,
       ap (λ b. cond b (strip_carriage_return (take (place held) held)) held) feed ∙ ap (λ n. strip_carriage_return (take n held)) (sym is),
     )
+
+pub feed_line : (f : Bool) (held : List ℕ) (at : ℕ) → f ≡ false → at ≡ place held → at < length held
+    → (has_line_feed held ≡ true) × (first_line f held ≡ line_of (strip_carriage_return (take at held)))
+feed_line f held at room is within =
+    let feed = content_feed held at is within in (feed.0, with_room f held room ∙ ap line_of feed.1)
 
 pub far_line : (f : Bool) (held : List ℕ) → f ≡ false → 82 ≤ length held → min 82 (length held) ≤ place held
     → first_line f held ≡ Err BadLength

@@ -1,5 +1,5 @@
 -- What holds of the column with one number in each fifth of a line, for each of sixteen numbers, holds of each column.
-use Rattle.std.proofs.Common.{◌≡◌, ℕ, ◌+◌, ◌-◌, ◌<◌, ◌≤◌, ◌↔◌, ◌⊎◌, inl, inr, Bool, true, ◌&&◌, subst, arith}
+use Rattle.std.proofs.Common.{◌≡◌, ℕ, ◌+◌, ◌-◌, ◌<◌, ◌≤◌, ◌↔◌, ◌⊎◌, inl, inr, Bool, true, ◌&&◌, subst, arith, below_more}
 use Rattle.std.proofs.lemmas.Bool.{and_from, and_parts, cases_lt}
 
 pub record InFifths (P : ℕ → Type 0) (k : ℕ) : Type 0 where
@@ -47,10 +47,6 @@ pub all_more : (so_far this : Bool) (P : ℕ → Type 0) (i : ℕ) → ((so_far 
 all_more so_far this P i before here = (
   (λ yes.
       let y = and_parts so_far this yes in
-      λ k lt. at y.0 y.1 k lt (cases_lt k i)),
+      below_more P i (before.0 y.0) (here.0 y.1)),
   (λ all. and_from so_far this (before.1 (λ k lt. all k (omega (arith, lt)))) (here.1 (all i (omega arith)))),
 )
-  where
-    at : so_far ≡ true → this ≡ true → (k : ℕ) → k < i + 1 → (k < i) ⊎ (i ≤ k) → P k
-    at all now k lt (inl below) = before.0 all k below
-    at all now k lt (inr above) = let same : i ≡ k = omega (arith, lt, above) in subst P same (here.0 now)

@@ -28,6 +28,22 @@ place-append_out (x ∷ xs) ys h = at (not (is_line_feed x)) (place-append_out x
     at true more h = omega (arith, more (omega arith))
     at false more h = absurd (omega arith)
 
+pub place-le : (xs : List ℕ) → place xs ≤ length xs
+place-le [] = omega arith
+place-le (x ∷ xs) = at (not (is_line_feed x)) (place-le xs)
+  where
+    at : (b : Bool) → place xs ≤ length xs → cond b (1 + place xs) 0 ≤ length (x ∷ xs)
+    at true h = omega (arith, h)
+    at false h = omega arith
+
+-- more bytes have none sooner
+pub place-more : (xs ys : List ℕ) → place xs ≤ place (xs ++ ys)
+place-more xs ys =
+    ⊎_elim
+    (λ (below : place xs < length xs). omega (arith, place-append_in xs ys below))
+    (λ from. omega (arith, place-le xs, place-append_out xs ys from))
+    (cases_lt (place xs) (length xs))
+
 -- no printable byte is a line feed
 printable_no_feed : (x : ℕ) → is_printable x ≡ true → not (is_line_feed x) ≡ true
 printable_no_feed x h = grind (arith, nat_tests)

@@ -50,13 +50,9 @@ line_not_full true bytes line e = absurd (cc)
 
 pub decided_not_full : (f : Bool) (held rest : List ℕ) (found : Found) → Decides f held found rest → IfNext found (f ≡ false)
 decided_not_full f held rest (Next line) d = line_not_full f held line d.0
-decided_not_full f held rest End d = tt
-decided_not_full f held rest (Refused why) d = tt
-decided_not_full f held rest Failed d = tt
+decided_not_full f held rest _ d = tt
 
 pub found_not_full : (f : Bool) (bytes : List ℕ) (rest : Option (List ℕ)) (found : Found) → Finds f bytes found rest
     → IfNext found (f ≡ false)
 found_not_full f bytes rest (Next line) d = line_not_full f bytes line d.1
-found_not_full f bytes rest End d = tt
-found_not_full f bytes rest (Refused why) d = tt
-found_not_full f bytes rest Failed d = tt
+found_not_full f bytes rest _ d = tt

@@ -76,6 +76,22 @@ pub known_so : (start : Option (List ℕ)) (P Q : List ℕ → Type 0) → ((byt
 known_so None P Q f h = tt
 known_so (Some bytes) P Q f h = f bytes h
 
+-- what is said of known bytes follows from what is known of them and of their rest
+pub with_rest : (K : List ℕ → List ℕ → Type 0) (start rest : Option (List ℕ)) (Q : List ℕ → Type 0)
+    → IfSome start (λ bytes. IsSomeAnd rest (K bytes))
+    → ((bytes others : List ℕ) → rest ≡ Some others → K bytes others → Q bytes) → IfSome start Q
+with_rest K None rest Q known f = tt
+with_rest K (Some bytes) None Q known f = absurd known
+with_rest K (Some bytes) (Some others) Q known f = f bytes others refl known
+
+-- and with it from what a call says of that rest
+pub with_answer : (K : List ℕ → List ℕ → Type 0) (start rest : Option (List ℕ)) (Next Q : List ℕ → Type 0)
+    → IfSome start (λ bytes. IsSomeAnd rest (K bytes)) → IfSome rest Next
+    → ((bytes others : List ℕ) → K bytes others → Next others → Q bytes)
+    → IfSome start Q
+with_answer K start rest Next Q known next f =
+    with_rest K start rest Q known (λ bytes others e k. f bytes others k (subst (λ r. IfSome r Next) e next))
+
 -- two facts of bytes that may be known
 pub known_both : (start : Option (List ℕ)) (P Q : List ℕ → Type 0) → IfSome start P → IfSome start Q → IfSome start
     (λ bytes. P bytes × Q bytes)
@@ -112,6 +128,13 @@ module _ {R : Type 0} (remaining : R → Option (List ℕ)) where
     within : length ls ≤ max
     within = omega (arith, so_far.counted, so_far.same_limit, reader.counted)
 
+    -- what a call answers where the reader reads on, beside what is known of its bytes
+    answered : (Next Q : List ℕ → Type 0) → (past reader ≡ Reading → IfSome (left remaining reader source) Next)
+        → ((bytes rest : List ℕ) → AreWholeContentsAndRest P bytes ls rest → Next rest → Q bytes) → IfSome start Q
+    answered Next Q answer f =
+        with_answer (λ bytes rest. AreWholeContentsAndRest P bytes ls rest) start (left remaining reader source) Next Q so_far.known
+        (answer so_far.reads_on) f
+
     module _ (reader' : LineReader) (source' : Source R) where
       -- a content more
       pub reading_content : (content : List ℕ)
@@ -123,96 +146,59 @@ module _ {R : Type 0} (remaining : R → Option (List ℕ)) where
         reads_on = going;
         same_limit = same ∙ so_far.same_limit;
         counted = omega (arith, more, so_far.counted, length-append ls (content ∷ []));
-        known = at start (left remaining reader source) so_far.known (answer so_far.reads_on);
+        known = answered _ _ answer (λ bytes rest known next.
+            subst (λ r. IsSomeAnd r (λ others. AreWholeContentsAndRest P bytes (ls ++ content ∷ []) others)) (sym next.1.1)
+            (one_more bytes ls rest content next.1.0 known next.0 next.1.2));
       }
-        where
-          at : (start rest : Option (List ℕ)) → KnownContents P start ls rest
-              → IfSome rest
-              (λ bytes. P content × ((rest : List ℕ) × (left remaining reader' source' ≡ Some rest) × IsFirstContent bytes content rest))
-              → KnownContents P start (ls ++ content ∷ []) (left remaining reader' source')
-          at None rest known next = tt
-          at (Some bytes) None known next = absurd known
-          at (Some bytes) (Some rest) known next =
-              subst (λ r. IsSomeAnd r (λ others. AreWholeContentsAndRest P bytes (ls ++ content ∷ []) others)) (sym next.1.1)
-              (one_more bytes ls rest content next.1.0 known next.0 next.1.2)
 
       -- at the end of the input nothing is left, where the bytes were known
       pub nothing_left : (past reader ≡ Reading → IfSome (left remaining reader source)
           (λ bytes. Answers (limit reader) (given reader) bytes (Ok None) (left remaining reader' source')))
           → IfSome start (λ bytes. remaining source'.reader ≡ Some [])
-      nothing_left answer = at start (left remaining reader source) so_far.known (answer so_far.reads_on)
-        where
-          at : (start rest : Option (List ℕ)) → KnownContents P start ls rest
-              → IfSome rest (λ bytes. Answers (limit reader) (given reader) bytes (Ok None) (left remaining reader' source'))
-              → IfSome start (λ bytes. remaining source'.reader ≡ Some [])
-          at None rest known next = tt
-          at (Some bytes) None known next = absurd known
-          at (Some bytes) (Some rest) known next = all_given (held reader') (remaining source'.reader) next.1
+      nothing_left answer = answered _ _ answer (λ bytes rest known next. all_given (held reader') (remaining source'.reader) next.1)
 
       -- the end of the input
       pub reading_ends : (past reader ≡ Reading → IfSome (left remaining reader source)
           (λ bytes. Answers (limit reader) (given reader) bytes (Ok None) (left remaining reader' source')))
           → IfSome start (λ bytes. AreAllContents P max bytes ls)
-      reading_ends answer = at start (left remaining reader source) so_far.known (answer so_far.reads_on)
-        where
-          at : (start rest : Option (List ℕ)) → KnownContents P start ls rest
-              → IfSome rest (λ bytes. Answers (limit reader) (given reader) bytes (Ok None) (left remaining reader' source'))
-              → IfSome start (λ bytes. AreAllContents P max bytes ls)
-          at None rest known next = tt
-          at (Some bytes) None known next = absurd known
-          at (Some bytes) (Some rest) known next = record {
-            contents = contents_given bytes ls rest known ∙ ap (λ l. ls ++ lines l) next.0 ∙ append-nil ls;
-            are_lines = known.are_lines;
-            within = within;
-          }
+      reading_ends answer = answered _ _ answer (λ bytes rest known next. record {
+        contents = contents_given bytes ls rest known ∙ ap (λ l. ls ++ lines l) next.0 ∙ append-nil ls;
+        are_lines = known.are_lines;
+        within = within;
+      })
 
       -- a refusal
       pub reading_refuses : (number : ℕ) (why : Refusal)
           → (past reader ≡ Reading → IfSome (left remaining reader source)
           (λ bytes. Answers (limit reader) (given reader) bytes (Err (Refused number why)) (left remaining reader' source')))
           → IfSome start (λ bytes. AreContentsToRefusal P max bytes ls number why)
-      reading_refuses number why answer = at start (left remaining reader source) so_far.known (answer so_far.reads_on)
-        where
-          at : (start rest : Option (List ℕ)) → KnownContents P start ls rest
-              → IfSome rest (λ bytes. Answers (limit reader) (given reader) bytes (Err (Refused number why))
-              (left remaining reader' source'))
-              → IfSome start (λ bytes. AreContentsToRefusal P max bytes ls number why)
-          at None rest known next = tt
-          at (Some bytes) None known next = absurd known
-          at (Some bytes) (Some rest) known next = record {
-            content = next.content;
-            others = next.others;
-            contents = contents_given bytes ls rest known ∙ ap (λ l. ls ++ l) next.contents;
-            are_lines = known.are_lines;
-            within = within;
-            next = next.next ∙ ap (λ n. n + 1) so_far.counted;
-            reason = subst (λ m. HasLineReason m number next.content why) so_far.same_limit next.reason;
-          }
+      reading_refuses number why answer = answered _ _ answer (λ bytes rest known next. record {
+        content = next.content;
+        others = next.others;
+        contents = contents_given bytes ls rest known ∙ ap (λ l. ls ++ l) next.contents;
+        are_lines = known.are_lines;
+        within = within;
+        next = next.next ∙ ap (λ n. n + 1) so_far.counted;
+        reason = subst (λ m. HasLineReason m number next.content why) so_far.same_limit next.reason;
+      })
 
       -- a failure of the source
       pub reading_fails : (past reader ≡ Reading → IfSome (left remaining reader source)
           (λ bytes. Answers (limit reader) (given reader) bytes (Err Read) (left remaining reader' source')))
           → DecidesNothing (limit reader) (given reader) (held reader')
           → IfSome start (λ bytes. IsSomeAnd (remaining source'.reader) (λ unread. AreContentsToFailure P max bytes unread ls))
-      reading_fails answer undecided = at start (left remaining reader source) so_far.known (answer so_far.reads_on)
-        where
-          at : (start rest : Option (List ℕ)) → KnownContents P start ls rest
-              → IfSome rest (λ bytes. Answers (limit reader) (given reader) bytes (Err Read) (left remaining reader' source'))
-              → IfSome start (λ bytes. IsSomeAnd (remaining source'.reader) (λ unread. AreContentsToFailure P max bytes unread ls))
-          at None rest known next = tt
-          at (Some bytes) None known next = absurd known
-          at (Some bytes) (Some rest) known next =
-              let (unread, is, parts) = held_front (held reader') rest (remaining source'.reader) next in
-              let gave = given_front bytes ls rest (held reader') unread parts known in
-              subst (λ r. IsSomeAnd r (λ others. AreContentsToFailure P max bytes others ls)) (sym is) (record {
-                before = known.whole ++ held reader';
-                rest = held reader';
-                parts = gave.0;
-                whole_lines_and_rest = gave.1;
-                within = within;
-                undecided = subst (λ m. DecidesNothing m (length ls) (held reader')) so_far.same_limit
-                    (subst (λ n. DecidesNothing (limit reader) n (held reader')) so_far.counted undecided);
-              })
+      reading_fails answer undecided = answered _ _ answer (λ bytes rest known next.
+          let (unread, is, parts) = held_front (held reader') rest (remaining source'.reader) next in
+          let gave = given_front bytes ls rest (held reader') unread parts known in
+          subst (λ r. IsSomeAnd r (λ others. AreContentsToFailure P max bytes others ls)) (sym is) (record {
+            before = known.whole ++ held reader';
+            rest = held reader';
+            parts = gave.0;
+            whole_lines_and_rest = gave.1;
+            within = within;
+            undecided = subst (λ m. DecidesNothing m (length ls) (held reader')) so_far.same_limit
+                (subst (λ n. DecidesNothing (limit reader) n (held reader')) so_far.counted undecided);
+          }))
 
       -- the next line is decided, unless the source told its end
       pub reading_decides : (number : ℕ) → number ≡ given reader + 1
@@ -220,7 +206,10 @@ module _ {R : Type 0} (remaining : R → Option (List ℕ)) where
           → GivenDecide (limit reader) (given reader) (left remaining reader source) (remaining source'.reader))
           → IfSome start (λ bytes. source_ended source' ≡ false
           → IsSomeAnd (remaining source'.reader) (λ unread. IsContentDecided P max bytes unread number))
-      reading_decides number is decides = at start (left remaining reader source) so_far.known decides
+      reading_decides number is decides =
+          with_rest (λ bytes rest. AreWholeContentsAndRest P bytes ls rest) start (left remaining reader source) _ so_far.known
+          (λ bytes rest e known not. by bytes rest (remaining source'.reader) known
+          (subst (λ r. GivenDecide (limit reader) (given reader) r (remaining source'.reader)) e (decides not)))
         where
           by : (bytes rest : List ℕ) (unread : Option (List ℕ)) → AreWholeContentsAndRest P bytes ls rest
               → GivenDecide (limit reader) (given reader) (Some rest) unread
@@ -238,14 +227,6 @@ module _ {R : Type 0} (remaining : R → Option (List ℕ)) where
                 decided = subst (λ m. ¬ DecidesNothing m (length ls) gave.given) so_far.same_limit
                     (subst (λ n. ¬ DecidesNothing (limit reader) n gave.given) so_far.counted gave.decided);
               }
-
-          at : (start rest : Option (List ℕ)) → KnownContents P start ls rest
-              → (source_ended source' ≡ false → GivenDecide (limit reader) (given reader) rest (remaining source'.reader))
-              → IfSome start (λ bytes. source_ended source' ≡ false
-              → IsSomeAnd (remaining source'.reader) (λ unread. IsContentDecided P max bytes unread number))
-          at None rest known decides = tt
-          at (Some bytes) None known decides = absurd known
-          at (Some bytes) (Some rest) known decides = λ not. by bytes rest (remaining source'.reader) known (decides not)
 
       -- either fault
       pub reading_faults : (errors : R → Option ℕ) (fault : LineFault)

@@ -1,27 +1,17 @@
 -- The contents of bytes that are judged, one after another.
-use Rattle.std.proofs.Common.{◌≡◌, ℕ, ◌+◌, ◌<◌, ◌≤◌, Bool, true, false, not, cond, nat_le, List, [], ◌∷◌, ◌++◌, ◌||◌, length}
-use Rattle.std.proofs.Common.{refl, sym, ap, ◌∙◌, arith, get_or, append_assoc, append-nil, length-take, ltb-false}
-use Rattle.std.proofs.Common.{drop_of_length-le, ne_eqb, ◌≢◌, All, ⊎_elim}
-use Rattle.std.proofs.lemmas.Bool.{cases_lt, eqb-true, ltb-true}
+use Rattle.std.proofs.Common.{◌≡◌, ℕ, ◌+◌, ◌<◌, ◌≤◌, Bool, true, false, cond, nat_le, List, [], ◌∷◌, ◌++◌, ◌||◌, length, refl, sym, ap, ◌∙◌}
+use Rattle.std.proofs.Common.{arith, append_assoc, append-nil, length-take, ltb-false, drop_of_length-le, ne_eqb, ◌≢◌, All}
 use Rattle.std.proofs.lemmas.Bool.Decides.{nat_tests}
 use Rattle.std.proofs.lemmas.List.{get_or-take}
 use Rattle.std.proofs.lemmas.List.Splits.{slice_split_at}
-use Rattle.std.proofs.lemmas.List.Sums.{fails_before_first, passes_at_first, split_at_first}
+use Rattle.std.proofs.lemmas.List.Sums.{fails_before_first}
 use Rattle.std.specs.List.{before_first, list_any}
 use Rattle.std.specs.Str.Lines.{lines_of_parts, strip_carriage_return}
 use Rattle.cif_columns.specs.Contents.{contents_of}
 use Rattle.cif_columns.specs.FirstLine.{after_content, first_content, has_line_feed, is_line_feed}
 use Rattle.cif_columns.specs.JudgedContents.{has_overlong, is_overlong, judged_contents, parts_of, up_to_overlong}
-use Rattle.cif_columns.proofs.DecidedLines.{one_part, parts_some}
-use Rattle.cif_columns.proofs.FeedPlaces.{place, place-append_in, place-append_out}
-
-pub place-le : (xs : List ℕ) → place xs ≤ length xs
-place-le [] = omega arith
-place-le (x ∷ xs) = at (not (is_line_feed x)) (place-le xs)
-  where
-    at : (b : Bool) → place xs ≤ length xs → cond b (1 + place xs) 0 ≤ length (x ∷ xs)
-    at true h = omega (arith, h)
-    at false h = omega arith
+use Rattle.cif_columns.proofs.DecidedLines.{around_feed, one_part, parts_some}
+use Rattle.cif_columns.proofs.FeedPlaces.{place, place-le, place-more}
 
 -- ---- the parts of bytes
 
@@ -36,13 +26,6 @@ before_none : (bytes : List ℕ) → All (λ b. is_line_feed b ≡ false) (befor
 before_none bytes = λ k d below.
     let before : k < place bytes = omega (arith, below, length-take (place bytes) bytes) in
     ap is_line_feed (get_or-take (place bytes) bytes k d before) ∙ fails_before_first is_line_feed bytes k d before
-
--- bytes that have a line feed, around it
-pub around_feed : (bytes : List ℕ) → has_line_feed bytes ≡ true → bytes ≡ before_first is_line_feed bytes ++ 10 ∷ after_content bytes
-around_feed bytes feed =
-    let below : place bytes < length bytes = ltb-true (place bytes) (length bytes) feed in
-    let here : get_or bytes (place bytes) 0 ≡ 10 = eqb-true _ 10 (passes_at_first is_line_feed bytes 0 below) in
-    split_at_first is_line_feed bytes 0 below ∙ ap (λ x. before_first is_line_feed bytes ++ (x ∷ after_content bytes)) here
 
 -- the parts of what stands before a line feed, and of more behind it
 parts_feed : (front more : List ℕ) → All (λ b. is_line_feed b ≡ false) front → parts_of (front ++ 10 ∷ more) ≡ front ∷ parts_of more
@@ -204,58 +187,45 @@ content_more bytes contents rest so_far some short =
 
 -- ---- a content that is overlong
 
+-- the first part of bytes that have no line feed among their first
+far_part : (bytes : List ℕ) → 10000 ≤ place bytes
+    → (part : List ℕ) × (others : List (List ℕ)) × (10000 ≤ length part) × (parts_of bytes ≡ part ∷ others)
+far_part bytes far = at (has_line_feed bytes) refl
+  where
+    at : (b : Bool) → b ≡ has_line_feed bytes
+        → (part : List ℕ) × (others : List (List ℕ)) × (10000 ≤ length part) × (parts_of bytes ≡ part ∷ others)
+    at true e =
+        let part = before_first is_line_feed bytes in
+        let long : 10000 ≤ length part = omega (arith, far, place-le bytes, length-take (place bytes) bytes) in
+        let is = ap parts_of (around_feed bytes (sym e)) ∙ parts_feed part (after_content bytes) (before_none bytes) in
+        (part, parts_of (after_content bytes), long, is)
+    at false e =
+        let none : length bytes ≤ place bytes = ltb-false (place bytes) (length bytes) (sym e) in
+        let long : 10000 ≤ length bytes = omega (arith, far, place-le bytes) in
+        (bytes, [], long, one_part bytes none)
+
 pub overlong_last : (bytes : List ℕ) → 10000 ≤ place bytes
     → (long : List ℕ) × (10000 ≤ length long) × (judged_contents bytes ≡ long ∷ [])
 unfolding judged_contents
-overlong_last bytes far = at (has_line_feed bytes) refl
-  where
-    alone : (part : List ℕ) (others : List (List ℕ)) → 10000 ≤ length part → parts_of bytes ≡ part ∷ others
-        → lines_of_parts (up_to_overlong (parts_of bytes)) ≡ part ∷ []
-    alone part others long is =
-        let ne : length part ≢ 0 = omega arith in
-        ap (λ l. lines_of_parts (up_to_overlong l)) is
-        ∙ ap (λ b. lines_of_parts (part ∷ cond b [] (up_to_overlong others))) (overlong_yes part long)
-        ∙ ap (λ b. cond b [] (part ∷ [])) (ne_eqb (length part) 0 ne)
-
-    at : (b : Bool) → b ≡ has_line_feed bytes
-        → (long : List ℕ) × (10000 ≤ length long) × (lines_of_parts (up_to_overlong (parts_of bytes)) ≡ long ∷ [])
-    at true e =
-        let part = before_first is_line_feed bytes in
-        let long : 10000 ≤ length part = omega (arith, far, place-le bytes, length-take (place bytes) bytes) in
-        let is = ap parts_of (around_feed bytes (sym e)) ∙ parts_feed part (after_content bytes) (before_none bytes) in
-        (part, long, alone part (parts_of (after_content bytes)) long is)
-    at false e =
-        let none : length bytes ≤ place bytes = ltb-false (place bytes) (length bytes) (sym e) in
-        let long : 10000 ≤ length bytes = omega (arith, far, place-le bytes) in
-        (bytes, long, alone bytes [] long (one_part bytes none))
+overlong_last bytes far =
+    let (part, others, long, is) = far_part bytes far in
+    let ne : length part ≢ 0 = omega (arith, long) in (
+      part,
+      long,
+      ap (λ l. lines_of_parts (up_to_overlong l)) is
+          ∙ ap (λ b. lines_of_parts (part ∷ cond b [] (up_to_overlong others))) (overlong_yes part long)
+          ∙ ap (λ b. cond b [] (part ∷ [])) (ne_eqb (length part) 0 ne),
+    )
 
 pub overlong_there : (bytes : List ℕ) → 10000 ≤ place bytes → has_overlong bytes ≡ true
 unfolding has_overlong
-overlong_there bytes far = at (has_line_feed bytes) refl
-  where
-    alone : (part : List ℕ) (others : List (List ℕ)) → 10000 ≤ length part → parts_of bytes ≡ part ∷ others
-        → list_any is_overlong (parts_of bytes) ≡ true
-    alone part others long is =
-        ap (list_any is_overlong) is ∙ ap (λ b. b || list_any is_overlong others) (overlong_yes part long)
-
-    at : (b : Bool) → b ≡ has_line_feed bytes → list_any is_overlong (parts_of bytes) ≡ true
-    at true e =
-        let part = before_first is_line_feed bytes in
-        let long : 10000 ≤ length part = omega (arith, far, place-le bytes, length-take (place bytes) bytes) in
-        let is = ap parts_of (around_feed bytes (sym e)) ∙ parts_feed part (after_content bytes) (before_none bytes) in
-        alone part (parts_of (after_content bytes)) long is
-    at false e =
-        let none : length bytes ≤ place bytes = ltb-false (place bytes) (length bytes) (sym e) in
-        let long : 10000 ≤ length bytes = omega (arith, far, place-le bytes) in
-        alone bytes [] long (one_part bytes none)
+overlong_there bytes far =
+    let (part, others, long, is) = far_part bytes far in
+    ap (list_any is_overlong) is ∙ ap (λ b. b || list_any is_overlong others) (overlong_yes part long)
 
 -- more bytes behind those that have no line feed among their first
 pub far_more : (held more : List ℕ) → 10000 ≤ place held → 10000 ≤ place (held ++ more)
-far_more held more far =
-    ⊎_elim
-    (λ (below : place held < length held). omega (arith, far, place-append_in held more below))
-    (λ from. omega (arith, far, place-le held, place-append_out held more from))
-    (cases_lt (place held) (length held))
+far_more held more far = omega (arith, far, place-more held more)
 
 -- ---- bytes that decide no content
 
@@ -272,25 +242,22 @@ undecided_contents (x ∷ held) feed short =
 -- bytes that aren't none have a content
 module _ (bytes : List ℕ) (some : 0 < length bytes) where
   feed_contents : has_line_feed bytes ≡ true → (0 < length (contents_of bytes)) × (0 < length (judged_contents bytes))
-  feed_contents feed = at (nat_le 10000 (place bytes)) refl
+  feed_contents feed = (
+    omega (arith, ap length (one_content bytes (before_first is_line_feed bytes) (after_content bytes) parts)),
+    at (nat_le 10000 (place bytes)) refl,
+  )
     where
-      at : (b : Bool) → b ≡ nat_le 10000 (place bytes) → (0 < length (contents_of bytes)) × (0 < length (judged_contents bytes))
+      parts : parts_of bytes ≡ before_first is_line_feed bytes ∷ parts_of (after_content bytes)
+      parts = ap parts_of (around_feed bytes feed) ∙ parts_feed (before_first is_line_feed bytes) (after_content bytes) (before_none bytes)
+
+      at : (b : Bool) → b ≡ nat_le 10000 (place bytes) → 0 < length (judged_contents bytes)
       at true e =
           let far : 10000 ≤ place bytes = grind (arith, nat_tests) in
-          let (long, wide, is) = overlong_last bytes far in
-          let front = before_first is_line_feed bytes in
-          let parts = ap parts_of (around_feed bytes feed) ∙ parts_feed front (after_content bytes) (before_none bytes) in (
-            omega (arith, ap length (one_content bytes front (after_content bytes) parts)),
-            omega (arith, ap length is),
-          )
+          let (long, wide, is) = overlong_last bytes far in omega (arith, ap length is)
       at false e =
           let near : place bytes < 10000 = grind (arith, nat_tests) in
-          let front = before_first is_line_feed bytes in
-          let few : length front < 10000 = omega (arith, near, length-take (place bytes) bytes) in
-          let parts = ap parts_of (around_feed bytes feed) ∙ parts_feed front (after_content bytes) (before_none bytes) in (
-            omega (arith, ap length (one_content bytes front (after_content bytes) parts)),
-            omega (arith, ap length (one_judged bytes front (after_content bytes) parts few)),
-          )
+          let few : length (before_first is_line_feed bytes) < 10000 = omega (arith, near, length-take (place bytes) bytes) in
+          omega (arith, ap length (one_judged bytes (before_first is_line_feed bytes) (after_content bytes) parts few))
 
   some_contents : (0 < length (contents_of bytes)) × (0 < length (judged_contents bytes))
   some_contents = at (has_line_feed bytes) refl

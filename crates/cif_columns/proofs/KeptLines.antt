@@ -19,8 +19,7 @@ used_push : (columns : List ℕ) (b : ℕ) (space : Bool) → is_space b ≡ spa
 used_push [] b true e = ap (λ s. used_with s 0) e
 used_push [] b false e = ap (λ s. used_with s 0) e
 used_push (c ∷ columns) b true e = ap (used_with (is_space c)) (used_push columns b true e)
-used_push (c ∷ columns) b false e =
-    ap (used_with (is_space c)) (used_push columns b false e) ∙ some_used (is_space c) (length columns)
+used_push (c ∷ columns) b false e = ap (used_with (is_space c)) (used_push columns b false e) ∙ some_used (is_space c) (length columns)
 
 pub used_few : (columns : List ℕ) → used columns ≤ length columns
 used_few [] = omega arith
@@ -107,8 +106,7 @@ found (_ ∷ more) (line ∷ lines) h within =
     ∙ ap (λ l. line ∷ l) (found more lines (All-tail IsLine line lines h) (omega (arith, within)))
 
 pub lines_kept : (bytes : List ℕ) (lines : List (List ℕ)) → Keep bytes lines → lines_in bytes ≡ lines
-lines_kept bytes lines k =
-    subst (λ b. lines_in b ≡ lines) (sym k.is) (found (kept_text lines) lines k.are_lines (no_more lines))
+lines_kept bytes lines k = subst (λ b. lines_in b ≡ lines) (sym k.is) (found (kept_text lines) lines k.are_lines (no_more lines))
 
 -- what bytes that keep lines keep
 pub keep_view : (bytes : List ℕ) (now : List (List ℕ)) → AreKept bytes → lines_in bytes ≡ now → Keep bytes now

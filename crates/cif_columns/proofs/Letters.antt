@@ -1,15 +1,13 @@
 -- Letters of short-term planning and the indicators that they stand for.
 use Rattle.std.proofs.Common.{◌≡◌, ℕ, Some, sym, ◌∙◌}
 use Rattle.cif_columns.specs.declared.stp.Stp.{Stp}
-use Rattle.cif_columns.specs.declared.stp.Stp.TheVariants.{P, N, O, C}
+use Rattle.cif_columns.specs.declared.stp.Stp.TheVariants.{P}
 use Rattle.cif_columns.specs.Stp.{StandsIn, stp_in}
 
 -- what stands in the column is found there
 pub stp_in-stands : (column : ℕ) (stp : Stp) → StandsIn column stp → stp_in column ≡ Some stp
 stp_in-stands column P e = rw e
-stp_in-stands column N e = rw e
-stp_in-stands column O e = rw e
-stp_in-stands column C e = rw e
+stp_in-stands column _ e = rw e
 
 -- one indicator stands in a column
 pub one_indicator : (column : ℕ) (a b : Stp) → StandsIn column a → StandsIn column b → a ≡ b

@@ -5,7 +5,7 @@ use Rattle.std.proofs.Common.{take-append-drop, ltb-false, drop_of_length-le, dr
 use Rattle.std.proofs.lemmas.Bool.Decides.{nat_tests}
 use Rattle.std.proofs.lemmas.Bool.{eqb-true, ltb-true}
 use Rattle.std.proofs.lemmas.List.{nil_from_length}
-use Rattle.std.proofs.lemmas.List.Sums.{fails_before_first, passes_at_first, split_at_first}
+use Rattle.std.proofs.lemmas.List.Sums.{fails_before_first, passes_at_first}
 use Rattle.std.specs.List.{slice_index, list_all, before_first, after_first}
 use Rattle.std.specs.Str.Lines.{strip_carriage_return, lines}
 use Rattle.cif_columns.specs.declared.ahead.Found.TheVariants.{Next, Refused}
@@ -20,7 +20,7 @@ use Rattle.cif_columns.specs.FirstLine.{is_decided}
 use Rattle.cif_columns.specs.LineReader.{IsNextLine, IsNextRefusal, Answers, GivenDecide}
 use Rattle.cif_columns.proofs.FeedPlaces.{place}
 use Rattle.cif_columns.proofs.PrintableBytes.{printable_fact, printable_true}
-use Rattle.cif_columns.proofs.DecidedLines.{contents_first, undecided_no_feed, undecided_short, undecided_not_full}
+use Rattle.cif_columns.proofs.DecidedLines.{around_feed, contents_first, undecided_no_feed, undecided_short, undecided_not_full, with_room}
 use Rattle.cif_columns.proofs.FoundInHeld.{line_not_full}
 use mathlib.Core.Logic.{◌⊎◌, inl, inr, ⊎_elim}
 
@@ -57,9 +57,7 @@ stands bytes line is = at (has_line_feed bytes) refl is
     at true e is =
         let before = before_first is_line_feed bytes in
         let after = after_first is_line_feed bytes in
-        let below : place bytes < length bytes = ltb-true (place bytes) (length bytes) (sym e) in
-        let feed : get_or bytes (place bytes) 0 ≡ 10 = eqb-true _ 10 (passes_at_first is_line_feed bytes 0 below) in
-        let parts : bytes ≡ before ++ 10 ∷ after = split_at_first is_line_feed bytes 0 below ∙ ap (λ x. before ++ (x ∷ after)) feed in
+        let parts : bytes ≡ before ++ 10 ∷ after = around_feed bytes (sym e) in
         ⊎_elim
         (λ alone. inl (parts ∙ ap (λ l. l ++ 10 ∷ after) alone))
         (λ returned. inr (inl (parts ∙ ap (λ l. l ++ 10 ∷ after) returned ∙ append_assoc line (13 ∷ []) (10 ∷ after))))
@@ -100,11 +98,6 @@ line_err max number within content why is = at (nat_eq (length content) 80) (lis
         subst (HasLineReason max number content) same (within, grind (arith, nat_tests))
 
 -- ---- the answers
-
--- a line that isn't one too many is what the first content is
-with_room : (f : Bool) (bytes : List ℕ) → f ≡ false → first_line f bytes ≡ line_of (first_content bytes)
-unfolding first_line
-with_room f bytes e = ap (λ b. cond b (Err TooManyLines) (line_of (first_content bytes))) e
 
 one_too_many : (f : Bool) (bytes : List ℕ) (why : Refusal) → f ≡ true → first_line f bytes ≡ Err why → TooManyLines ≡ why
 unfolding first_line

@@ -1,5 +1,5 @@
 -- A test of a line that takes one column of each fifth in a step.
-use Rattle.std.proofs.Common.{◌≡◌, ℕ, ◌+◌, ◌<◌, ◌≤◌, ◌↔◌, ◌⊎◌, inl, inr, Bool, false, ◌||◌, List, subst, arith}
+use Rattle.std.proofs.Common.{◌≡◌, ℕ, ◌+◌, ◌<◌, ◌≤◌, ◌↔◌, ◌⊎◌, inl, inr, Bool, false, ◌||◌, List, subst, arith, below_more}
 use Rattle.std.proofs.lemmas.Bool.{cases_lt, or_from, or_parts}
 use Rattle.cif_columns.proofs.EachOfFifths.{each_of_fifths, from_column}
 use Rattle.cif_columns.specs.PlainTest.{IsFollowed, IsFollowedOver, IsInRange, IsTimed, Passes}
@@ -72,15 +72,11 @@ none_of_eight a b c d e f g h t line k p q r s u v w x = (
 pub none_more : (found this : Bool) (P : ℕ → Type 0) (i : ℕ) → ((found ≡ false) ↔ ((k : ℕ) → k < i → P k)) → ((this ≡ false) ↔ P i)
     → (found || this ≡ false) ↔ ((k : ℕ) → k < i + 1 → P k)
 none_more found this P i before here = (
-  (λ none k lt.
+  (λ none.
       let n = or_parts found this none in
-      at n.0 n.1 k lt (cases_lt k i)),
+      below_more P i (before.0 n.0) (here.0 n.1)),
   (λ all. or_from found this (before.1 (λ k lt. all k (omega (arith, lt)))) (here.1 (all i (omega arith)))),
 )
-  where
-    at : found ≡ false → this ≡ false → (k : ℕ) → k < i + 1 → (k < i) ⊎ (i ≤ k) → P k
-    at none now k lt (inl below) = before.0 none k below
-    at none now k lt (inr above) = let same : i ≡ k = omega (arith, lt, above) in subst P same (here.0 now)
 
 module _ (t : PlainTest) (line : List ℕ) (met : (k : ℕ) → k < 16 → AreMet t line k) where
   in_range : (k : ℕ) → k < 80 → IsInRange t line k
@@ -89,23 +85,19 @@ module _ (t : PlainTest) (line : List ℕ) (met : (k : ℕ) → k < 16 → AreMe
       record { first = m.first.0; second = m.second.0; third = m.third.0; fourth = m.fourth.0; fifth = m.fifth })
 
   followed : (k : ℕ) → k < 79 → IsFollowed t line k
-  followed k lt = at (cases_lt k 16) (cases_lt k 32) (cases_lt k 48) (cases_lt k 63)
-    where
-      at : (k < 16) ⊎ (16 ≤ k) → (k < 32) ⊎ (32 ≤ k) → (k < 48) ⊎ (48 ≤ k) → (k < 63) ⊎ (63 ≤ k) → IsFollowed t line k
-      at (inl a) b c d = (met k a).first.1
-      at (inr z) (inl a) c d = from_column (λ n. IsFollowed t line n) 16 (λ n l. (met n l).second.1) k z (omega (arith, a))
-      at (inr y) (inr z) (inl a) d = from_column (λ n. IsFollowed t line n) 32 (λ n l. (met n l).third.1) k z (omega (arith, a))
-      at (inr x) (inr y) (inr z) (inl a) = from_column (λ n. IsFollowed t line n) 48 (λ n l. (met n l).fourth.1) k z (omega (arith, a))
-      at (inr w) (inr x) (inr y) (inr z) = from_column (λ n. IsFollowed t line n) 63 (λ n l. (met n l).before_fifth) k z (omega (arith, lt))
+  followed k lt = each_of_fifths (λ n. n < 79 → IsFollowed t line n) (λ n l.
+      let m = met n l in
+      let last : 64 + n < 79 → IsFollowed t line (64 + n) = λ b.
+      let next : 63 + (n + 1) ≡ 64 + n = omega arith in subst (IsFollowed t line) next (met (n + 1) (omega (arith, b))).before_fifth in
+      record { first = λ b. m.first.1; second = λ b. m.second.1; third = λ b. m.third.1; fourth = λ b. m.fourth.1; fifth = last })
+      k (omega (arith, lt)) lt
 
   followed_over : (k : ℕ) → k < 64 → IsFollowedOver t line k
-  followed_over k lt = at (cases_lt k 16) (cases_lt k 32) (cases_lt k 48)
-    where
-      at : (k < 16) ⊎ (16 ≤ k) → (k < 32) ⊎ (32 ≤ k) → (k < 48) ⊎ (48 ≤ k) → IsFollowedOver t line k
-      at (inl a) b c = (met k a).first.2
-      at (inr z) (inl a) c = from_column (λ n. IsFollowedOver t line n) 16 (λ n l. (met n l).second.2) k z (omega (arith, a))
-      at (inr y) (inr z) (inl a) = from_column (λ n. IsFollowedOver t line n) 32 (λ n l. (met n l).third.2) k z (omega (arith, a))
-      at (inr x) (inr y) (inr z) = from_column (λ n. IsFollowedOver t line n) 48 (λ n l. (met n l).fourth.2) k z (omega (arith, lt))
+  followed_over k lt = each_of_fifths (λ n. n < 64 → IsFollowedOver t line n) (λ n l.
+      let m = met n l in
+      let last : 64 + n < 64 → IsFollowedOver t line (64 + n) = λ b. absurd (omega (arith, b)) in
+      record { first = λ b. m.first.2; second = λ b. m.second.2; third = λ b. m.third.2; fourth = λ b. m.fourth.2; fifth = last })
+      k (omega (arith, lt)) lt
 
   timed : (k : ℕ) → k < 32 → IsTimed t line k
   timed k lt = at (cases_lt k 16)

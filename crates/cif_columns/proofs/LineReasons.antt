@@ -5,7 +5,7 @@ use Rattle.cif_columns.specs.Ahead.{Decides, Finds, IfRefused}
 use Rattle.cif_columns.specs.Contents.{IsLineReason}
 use Rattle.cif_columns.specs.FirstLine.{first_content, first_line, is_printable}
 use Rattle.cif_columns.specs.declared.ahead.Found.{Found}
-use Rattle.cif_columns.specs.declared.ahead.Found.TheVariants.{Next, End, Refused, Failed}
+use Rattle.cif_columns.specs.declared.ahead.Found.TheVariants.{Refused}
 use Rattle.cif_columns.specs.declared.refusal.Refusal.{Refusal}
 use Rattle.cif_columns.specs.declared.refusal.Refusal.TheVariants.{BadLength, BadByte, TooManyLines}
 
@@ -26,15 +26,11 @@ first_reason false bytes why e =
 
 -- of what the held bytes decide
 pub reason_decided : (is_full : Bool) (held rest : List ℕ) (found : Found) → Decides is_full held found rest → IfRefused found IsLineReason
-reason_decided is_full held rest (Next line) h = tt
-reason_decided is_full held rest End h = tt
 reason_decided is_full held rest (Refused why) h = first_reason is_full held why h
-reason_decided is_full held rest Failed h = tt
+reason_decided is_full held rest _ h = tt
 
 -- and of what stands first in bytes
 pub reason_found : (is_full : Bool) (bytes : List ℕ) (rest : Option (List ℕ)) (found : Found) → Finds is_full bytes found rest
     → IfRefused found IsLineReason
-reason_found is_full bytes rest (Next line) h = tt
-reason_found is_full bytes rest End h = tt
 reason_found is_full bytes rest (Refused why) h = first_reason is_full bytes why h.1
-reason_found is_full bytes rest Failed h = tt
+reason_found is_full bytes rest _ h = tt

@@ -13,8 +13,7 @@ use Rattle.cif_columns.specs.declared.content_reader.NextContent.{NextContent}
 use Rattle.cif_columns.specs.declared.content_reader.NextContent.TheVariants.{Content, Overlong, End}
 use Rattle.cif_columns.specs.declared.refusal.Refusal.{Refusal}
 use Rattle.cif_columns.proofs.DecidedLines.{after_more, content_feed, content_more}
-use Rattle.cif_columns.proofs.FeedPlaces.{place, place-append_in}
-use Rattle.cif_columns.proofs.JudgedContents.{place-le}
+use Rattle.cif_columns.proofs.FeedPlaces.{place, place-append_in, place-le}
 
 -- ---- what held bytes are
 
@@ -66,8 +65,7 @@ content_left None remaining held rest next keeps passes = tt
 content_left (Some all) None held rest next keeps passes = absurd keeps
 content_left (Some all) (Some more) held rest (Content content) keeps passes =
     rw (← keeps) (rest ++ more, refl, first_more held more content rest passes)
-content_left (Some all) (Some more) held rest Overlong keeps passes =
-    ap (λ l. Some (l ++ more)) passes.1 ∙ ap Some keeps
+content_left (Some all) (Some more) held rest Overlong keeps passes = ap (λ l. Some (l ++ more)) passes.1 ∙ ap Some keeps
 content_left (Some all) (Some more) held rest End keeps passes = absurd passes
 
 pub kept_left : (bytes left : Option (List ℕ)) → Keeps bytes left → IfSome bytes (λ all. left ≡ Some all)

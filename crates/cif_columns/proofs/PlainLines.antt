@@ -18,7 +18,7 @@ use Rattle.cif_columns.specs.Field.{exactly, text, activity_codes, working_time,
 use Rattle.cif_columns.specs.FirstLine.{is_line_feed}
 use Rattle.cif_columns.specs.Line.{IsPrintable, ArePrintable, IsLine}
 use Rattle.cif_columns.specs.declared.stp.Stp.{Stp}
-use Rattle.cif_columns.specs.declared.stp.Stp.TheVariants.{P, N, O, C}
+use Rattle.cif_columns.specs.declared.stp.Stp.TheVariants.{P}
 use Rattle.cif_columns.specs.Stp.{letter}
 use Rattle.cif_columns.proofs.Codes.{printable-packed}
 use Rattle.cif_columns.proofs.DayDigits.{counted}
@@ -50,9 +50,7 @@ days_printable (false ∷ days) = All-cons IsPrintable 48 (days_columns days) (o
 
 letter_printable : (stp : Stp) → IsPrintable (letter stp)
 letter_printable P = (omega arith, omega arith)
-letter_printable N = (omega arith, omega arith)
-letter_printable O = (omega arith, omega arith)
-letter_printable C = (omega arith, omega arith)
+letter_printable _ = (omega arith, omega arith)
 
 -- plain columns may stand in a line
 pub printable-plain_columns : (width : ℕ) (value : FieldValue) → Fits width value → ArePrintable (plain_columns width value)

@@ -53,14 +53,7 @@ kind_of spare = spare
 
 reads-kind : (c : List ℕ) (value : FieldValue) → read_as value c ≡ read_as (kind_of value) c
 reads-kind c (exactly value) = refl
-reads-kind c (text value) = refl
-reads-kind c (activity_codes codes) = refl
-reads-kind c (working_time time) = refl
-reads-kind c (public_time time) = refl
-reads-kind c (date day) = refl
-reads-kind c (weekdays days) = refl
-reads-kind c (indicator stp) = refl
-reads-kind c spare = refl
+reads-kind c _ = refl
 
 -- the rows' columns and kinds
 abbrev pub form : List Row → List Row

@@ -6,7 +6,7 @@ use Rattle.std.proofs.lemmas.List.{ext_get_or, length-replicate}
 use Rattle.std.proofs.lemmas.Slice.Eq.{text_from_reads}
 use Rattle.cif_columns.specs.Activities.{codes_in, packed}
 use Rattle.cif_columns.specs.Field.{AllStandIn, FieldValue, Row, StandsIn, columns, is_whole_from}
-use Rattle.cif_columns.specs.Field.{exactly, text, activity_codes, working_time, public_time, date, weekdays, indicator, spare}
+use Rattle.cif_columns.specs.Field.{exactly, text, activity_codes, working_time, public_time, spare}
 use Rattle.cif_columns.specs.Line.{IsLine}
 use Rattle.cif_columns.specs.PlainTest.{IsPlainLineOf, Passes, are, asks, asks_all, asks_bytes, asks_clock, asks_left, asks_rows}
 use Rattle.cif_columns.specs.PlainTest.{asks_spaces, read_off, read_value}
@@ -60,8 +60,7 @@ module _ (t : PlainTest) (line : List ℕ) (wide : length line ≡ 80) (fits : P
   over_at j i lt place asks space = subst (λ n. get_or line n 0 ≡ 32) place (fits.followed_over j lt asks space)
 
   back_at : (j i : ℕ) → j < 32 → j + 1 ≡ i → get_or t.back j 0 ≡ 32 → get_or line i 0 ≡ 32 → get_or line j 0 ≡ 32
-  back_at j i lt place asks space =
-      (fits.timed j lt).0 asks (ap (λ n. get_or line n 0) place ∙ space)
+  back_at j i lt place asks space = (fits.timed j lt).0 asks (ap (λ n. get_or line n 0) place ∙ space)
 
   hour_at : (j i : ℕ) → j < 32 → j + 1 ≡ i → get_or t.hour j 0 ≡ 50 → get_or line j 0 ≡ 50 → get_or line i 0 ≤ 51
   hour_at j i lt place asks two = subst (λ n. get_or line n 0 ≤ 51) place ((fits.timed j lt).1 asks two)
@@ -196,8 +195,7 @@ module _ (t : PlainTest) (line : List ℕ) (wide : length line ≡ 80) (fits : P
   -- the text in these columns is at their left, or they are blank
   text_at : (from to : ℕ) → 1 ≤ from → from ≤ to → to ≤ 80 → (asks_left t from to ≡ true) ⊎ (asks_spaces t from to ≡ true)
       → IsPlainText from to line
-  text_at from to start some within (inl left) =
-      text_part t line wide fits from to start some within left
+  text_at from to start some within (inl left) = text_part t line wide fits from to start some within left
   text_at from to start some within (inr spaces) =
       let blank = blank_part from to start some within spaces in
       let c = columns from to line in
@@ -233,10 +231,8 @@ module _ (t : PlainTest) (line : List ℕ) (wide : length line ≡ 80) (fits : P
       let a1 = and_parts _ _ h in
       let a0 = and_parts _ _ a1.0 in
       (public_part from to start (eqb-true to (from + 3) a0.0) (leb-true to 33 a0.1) a1.1, tt)
-  value_there from to (date day) start some within h = absurd (false≢true h)
-  value_there from to (weekdays days) start some within h = absurd (false≢true h)
-  value_there from to (indicator stp) start some within h = absurd (false≢true h)
   value_there from to spare start some within h = (tt, sym (blank_part from to start some within h))
+  value_there from to _ start some within h = absurd (false≢true h)
 
   -- the rows of a table from this column on
   rows_there : (column : ℕ) (rows : List Row) → 1 ≤ column → is_whole_from column rows ≡ true → asks_rows t rows ≡ true

@@ -16,8 +16,7 @@ use Rattle.cif_columns.specs.End.{bytes_left}
 module _ {E : Type 0} (rest left piece more : List ℕ) (room : 0 < length (piece ++ more) → 0 < length piece) where
   known : (r : Result ℕ E) → ReadsAtMost r piece → ReadConsumes (Some rest) (Some left) r piece
       → ReadConsumes (Some rest) (Some left) r (piece ++ more)
-  known (Ok n) few gave =
-      (gave.0 ∙ ap (λ l. l ++ left) (sym (take-append-le n piece more few.0)), λ zero some. gave.1 zero (room some))
+  known (Ok n) few gave = (gave.0 ∙ ap (λ l. l ++ left) (sym (take-append-le n piece more few.0)), λ zero some. gave.1 zero (room some))
   known (Err e) few gave = gave
 
   pub piece_consumed : (r : Result ℕ E) (end : End) → ReadsAtMost r piece → ReadConsumes (Some rest) (Some left) r piece

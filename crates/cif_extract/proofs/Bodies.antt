@@ -1,7 +1,6 @@
 -- The lines that keep a body and its parts determine each other.
-use Rattle.std.proofs.Common.{◌≡◌, ℕ, suc, ◌-◌, ◌<◌, Bool, true, false, cond, Option, None, Some, IfSome, is_some, Result, Ok, All}
-use Rattle.std.proofs.Common.{List, [], ◌∷◌, ◌++◌, length, map, take, drop, get_or, length-append}
-use Rattle.std.proofs.Common.{Err, refl, sym, ◌∙◌, ap, subst, arith}
+use Rattle.std.proofs.Common.{◌≡◌, ℕ, suc, ◌-◌, ◌<◌, true, false, cond, Option, None, Some, IfSome, is_some, Result, Ok, All, List}
+use Rattle.std.proofs.Common.{[], ◌∷◌, ◌++◌, length, map, take, drop, get_or, length-append, Err, refl, sym, ◌∙◌, ap, subst, arith}
 use Rattle.std.specs.List.{slice_range}
 use Rattle.std.specs.Result.{result_ok}
 use Rattle.std.proofs.lemmas.List.Elements.{All-nil, All-cons}
@@ -172,11 +171,6 @@ keeps_view lines p h e = subst (KeepBody lines) e (keeps_parts_in lines h)
 
 pub kept_view : (lines : List (List ℕ)) (p : BodyParts) → KeepSomeBody lines → parts_in lines ≡ p → Kept lines p
 kept_view lines p h e = kept lines p (keeps_view lines p h e)
-
--- where the journey begins
-pub journey_at : (lines : List (List ℕ)) (p : BodyParts) (some : Bool) → Kept lines p → some ≡ is_some p.extra
-    → KeepJourney (drop (cond some 2 1) lines) p
-journey_at lines p some h e = subst (λ b. KeepJourney (drop (cond b 2 1) lines) p) (h.marked ∙ sym e) h.way
 
 -- the journey's first line spells LO
 pub spells_origin : (lines : List (List ℕ)) (p : BodyParts) (line : List ℕ) → KeepJourney lines p → line ≡ get_or lines 0 []

@@ -1,8 +1,8 @@
 -- Why a line is refused first.
-use Rattle.std.proofs.Common.{◌≡◌, ℕ, ◌+◌, ◌<◌, ◌≤◌, Bool, true, false, nat_eq, nat_lt, List, [], ◌∷◌, ◌++◌, length, take, Option}
-use Rattle.std.proofs.Common.{Some, None}
-use Rattle.std.proofs.Common.{IfErr, IfSome, IsSomeAnd, Result, Err, refl, sym, ap, ◌∙◌, subst, arith, append_assoc, below_more}
+use Rattle.std.proofs.Common.{◌≡◌, ℕ, ◌+◌, ◌<◌, ◌≤◌, true, false, nat_eq, nat_lt, List, [], ◌∷◌, ◌++◌, length, take, Option, Some}
+use Rattle.std.proofs.Common.{None, IfErr, IfSome, IsSomeAnd, Result, Err, refl, sym, ap, ◌∙◌, subst, arith, append_assoc, below_more}
 use Rattle.std.proofs.Common.{get_or, inl, length-append, ne_eqb}
+pub use Rattle.std.proofs.lemmas.Bool.{false_from_ne_true as not_true}
 use Rattle.std.proofs.lemmas.Bool.Decides.{nat_tests}
 use Rattle.std.proofs.lemmas.List.{get_or_append_left, take-append-le}
 use Rattle.std.proofs.Math.Seq.{get_or-append_seam, take-append_seam}
@@ -10,7 +10,7 @@ use Rattle.std.specs.List.{list_all}
 use Rattle.std.specs.Option.{option_or}
 use Rattle.cif_columns.specs.Contents.{contents_of, HasLineReason}
 use Rattle.cif_columns.specs.FirstLine.{is_printable}
-use Rattle.cif_columns.specs.GivenLines.{AreLinesToFailure, AreLinesToFault, IsReading, KnownGiven}
+use Rattle.cif_columns.specs.GivenLines.{AreLinesToFailure, AreLinesToFault, AreWholeLinesAndRest, IsReading}
 use Rattle.cif_columns.specs.Line.{IsLine}
 use Rattle.cif_columns.specs.LineReader.{IsNextFault, LineReads, left}
 use Rattle.cif_columns.specs.Source.{HasReadOn, Unread}
@@ -21,12 +21,11 @@ use Rattle.cif_columns.specs.declared.line_reader.LineReader.{LineReader}
 use Rattle.cif_columns.specs.declared.refusal.Refusal.{Refusal}
 use Rattle.cif_columns.specs.declared.refusal.Refusal.TheVariants as refusal
 use Rattle.cif_columns.specs.declared.source.Source.{Source}
-use Rattle.cif_columns.proofs.GivenLinesLaws.{contents_given, known_so}
+use Rattle.cif_columns.proofs.GivenLinesLaws.{contents_given, known_so, with_rest}
 use Rattle.cif_columns.proofs.ReadSources.{failed_after, read_on_both}
 use Rattle.cif_columns.proofs.PrintableBytes.{printable_fact, printable_true}
 use Rattle.cif_extract.specs.Fault.{of_line_fault}
-use Rattle.cif_extract.specs.FirstRefusal.{NoneRefused, IsCutBeforeRefusal, IsFirstRefusal, IsRefusedLine, order_refusal}
-use Rattle.cif_extract.specs.FirstRefusal.{refusal_of}
+use Rattle.cif_extract.specs.FirstRefusal.{NoneRefused, IsCutBeforeRefusal, IsFirstRefusal, IsRefusedLine, order_refusal, refusal_of}
 use Rattle.cif_extract.specs.OrderOfRecords.{place_behind}
 use Rattle.cif_extract.specs.ReadFault.{FaultReads, IsOfReading, IsReadFault}
 use Rattle.cif_extract.specs.declared.fault.Fault.{Fault}
@@ -38,11 +37,6 @@ use Rattle.cif_records.proofs.Judging.{none-some}
 pub or_none : {A : Type 0} (o : Option A) → option_or o None ≡ o
 or_none None = refl
 or_none (Some x) = refl
-
--- what doesn't hold is false
-pub not_true : (b : Bool) → (b ≡ true → ⊥) → b ≡ false
-not_true true h = absurd (h refl)
-not_true false h = refl
 
 module _ (max : ℕ) where
   -- a line that isn't one too many is refused for the order or its fields alone
@@ -129,13 +123,9 @@ module _ (max : ℕ) where
         (why : Refusal)
         → IsReading remaining start max reader source (ls ++ line ∷ []) → number ≡ length ls + 1 → refusal_of max ls line ≡ Some why
         → IfSome start (λ bytes. IsFirstRefusal max bytes number why)
-    at_line remaining reader source line number why so_far is reason = at start (left remaining reader source) so_far.known
-      where
-        at : (s rest : Option (List ℕ)) → KnownGiven s (ls ++ line ∷ []) rest →
-            IfSome s (λ bytes. IsFirstRefusal max bytes number why)
-        at None rest known = tt
-        at (Some bytes) None known = absurd known
-        at (Some bytes) (Some rest) known = inl (record {
+    at_line remaining reader source line number why so_far is reason =
+        with_rest (λ bytes rest. AreWholeLinesAndRest bytes (ls ++ line ∷ []) rest) start (left remaining reader source) _ so_far.known
+        (λ bytes rest e known. inl (record {
           before = ls;
           content = line;
           after = contents_of rest;
@@ -143,7 +133,7 @@ module _ (max : ℕ) where
           fine = fine;
           numbered = is;
           reason = reason;
-        })
+        }))
 
 -- what a call that hands a fault of the lines on owes its source
 pub fault_handed_on : {R A : Type 0} (errors : R → Option ℕ) (s t u : Source R) (l : LineFault) (result : Result A Fault)

@@ -106,15 +106,11 @@ module _ (records : List Record) (p : Progress) where
   begins_where : (place : Place) → place ≡ p.place → HasReadAt place records p → HasRead records p → (place ≡ at.Start → ⊥) →
       BeginExtract records
   begins_where at.Start e there h going = absurd (going refl)
-  begins_where at.Tiplocs e there h going = closed_begins records p h (ap (λ q. may_stand q Bs) (sym e))
-  begins_where at.Associations e there h going = closed_begins records p h (ap (λ q. may_stand q Bs) (sym e))
   begins_where at.Basic e there h going = origin_begins records p h (ap (λ q. may_stand q Lo) (sym e))
   begins_where at.Extra e there h going = origin_begins records p h (ap (λ q. may_stand q Lo) (sym e))
-  begins_where at.Cancelled e there h going = closed_begins records p h (ap (λ q. may_stand q Bs) (sym e))
-  begins_where at.CancelledExtra e there h going = closed_begins records p h (ap (λ q. may_stand q Bs) (sym e))
   begins_where at.Journey e there h going = journey_begins records p h (ap (λ q. may_stand q Lt) (sym e))
-  begins_where at.Schedules e there h going = closed_begins records p h (ap (λ q. may_stand q Bs) (sym e))
   begins_where at.Ended e there h going = whole_begins records p there
+  begins_where _ e there h going = closed_begins records p h (ap (λ q. may_stand q Bs) (sym e))
 
   pub read_begins : HasRead records p → (p.place ≡ at.Start → ⊥) → BeginExtract records
   read_begins h going = begins_where p.place refl h h going

@@ -27,10 +27,10 @@ use Rattle.cif_records.specs.declared.terminus.Terminus.{Terminus}
 use Rattle.cif_extract.proofs.Bodies.{parts_in-keeps}
 use Rattle.cif_extract.proofs.GrammarLists.{behind_schedules, schedules_more}
 use Rattle.cif_extract.proofs.KeptLines.{journey-whole, keep_body}
-use Rattle.cif_extract.proofs.ReadingSteps.{association_step, header_step, own_at, tiploc_step, trailer_step}
+use Rattle.cif_extract.proofs.ReadingSteps.{association_where, header_where, own_at, tiploc_where, trailer_step}
 use Rattle.cif_records.proofs.Records.{kind_of as record_kind}
 use Rattle.cif_extract.proofs.Schedules.{closed_some}
-use Rattle.cif_extract.proofs.ScheduleSteps.{Again, basic_step, call_step, extra_step, origin_step}
+use Rattle.cif_extract.proofs.ScheduleSteps.{Again, basic_step, call_where, extra_where, origin_where}
 
 module _ (records : List Record) (p : Progress) (t : Terminus) where
   -- the schedules then, where they were these
@@ -129,13 +129,13 @@ change_where _ = refl
 -- any record more, where it may stand
 pub has_read_more : (records : List Record) (p : Progress) (r : Record) → IsKeepable r → HasRead records p →
     may_stand p.place (record_kind r) ≡ true → HasRead (records ++ (r ∷ [])) (step p r)
-has_read_more records p (of.Header x) again h may = header_step records p x h may
-has_read_more records p (of.Tiploc x) again h may = tiploc_step records p x h may
-has_read_more records p (of.Association x) again h may = association_step records p x h may
+has_read_more records p (of.Header x) again h may = header_where records p x p.place h may
+has_read_more records p (of.Tiploc x) again h may = tiploc_where records p x p.place refl h may
+has_read_more records p (of.Association x) again h may = association_where records p x p.place refl h may
 has_read_more records p (of.Basic x) again h may = basic_step records p x again h may
-has_read_more records p (of.Extra x) again h may = extra_step records p x again h may
-has_read_more records p (of.Origin x) again h may = origin_step records p x again h may
-has_read_more records p (of.Stop x) again h may = call_step records p (At x) again h may
-has_read_more records p (of.Change x) again h may = call_step records p (Turn x) again h (change_where p.place ∙ may)
+has_read_more records p (of.Extra x) again h may = extra_where records p x p.place refl again h may
+has_read_more records p (of.Origin x) again h may = origin_where records p x p.place refl again h may
+has_read_more records p (of.Stop x) again h may = call_where records p (At x) p.place refl again h may
+has_read_more records p (of.Change x) again h may = call_where records p (Turn x) p.place refl again h (change_where p.place ∙ may)
 has_read_more records p (of.Terminus x) again h may = terminus_where records p x p.place refl again h may
 has_read_more records p of.Trailer again h may = trailer_step records p h may

@@ -1,6 +1,5 @@
 -- Records are at most one extract.
-use Rattle.std.proofs.Common.{◌≡◌, ◌⊎◌, ℕ, List, [], ◌∷◌, ◌++◌, map, Option, Some, None, refl, sym, ap, ◌∙◌, subst, append_assoc, inl, inr}
-use Rattle.std.proofs.Common.{⊎_elim}
+use Rattle.std.proofs.Common.{◌≡◌, ℕ, List, [], ◌∷◌, ◌++◌, map, Option, Some, None, refl, sym, ap, ◌∙◌, subst, append_assoc, ⊎_elim}
 use Rattle.cif_extract.specs.BodyParts.{BodyParts, extra_records, journey_records}
 use Rattle.cif_extract.specs.Call.{call_record}
 use Rattle.cif_extract.specs.ExtractParts.{ExtractParts}
@@ -51,6 +50,10 @@ each_append : (P : Record → Type 0) (a b : List Record) → Each P a → Each 
 each_append P [] b p q = q
 each_append P (r ∷ a) b p q = (p.0, each_append P a b p.1 q)
 
+each_so : (P Q : Record → Type 0) → ((r : Record) → P r → Q r) → (rs : List Record) → Each P rs → Each Q rs
+each_so P Q f [] h = tt
+each_so P Q f (r ∷ rs) h = (f r h.0, each_so P Q f rs h.1)
+
 -- records made of values, of which P holds
 each_map : {A : Type 0} (P : Record → Type 0) (f : A → Record) → ((x : A) → P (f x)) → (xs : List A) → Each P (map f xs)
 each_map P f h [] = tt
@@ -85,9 +88,19 @@ one_call (At x) (Turn y) e = cc
 one_call (Turn x) (At y) e = cc
 one_call (Turn x) (Turn y) e = cc
 
-call_isnt : (kind : Kind) → (kind ≡ Bs ⊎ kind ≡ Lt) → (c : Call) → Isnt kind (call_record c)
-call_isnt kind or (At s) = λ e. ⊎_elim (λ (b : kind ≡ Bs). cc) (λ (l : kind ≡ Lt). cc) or
-call_isnt kind or (Turn s) = λ e. ⊎_elim (λ (b : kind ≡ Bs). cc) (λ (l : kind ≡ Lt). cc) or
+-- neither a BS nor the trailer
+abbrev Inside : Record → Type 0
+Inside (of.Basic b) = ⊥
+Inside of.Trailer = ⊥
+Inside _ = Unit {0}
+
+call_isnt : (c : Call) → Isnt Lt (call_record c)
+call_isnt (At s) = λ e. cc
+call_isnt (Turn s) = λ e. cc
+
+call_inside : (c : Call) → Inside (call_record c)
+call_inside (At s) = tt
+call_inside (Turn s) = tt
 
 -- a journey is one
 record SameJourney (o p : Origin) (calls others : List Call) (t u : Terminus) : Type 0 where
@@ -100,8 +113,8 @@ one_journey : (o p : Origin) (calls others : List Call) (t u : Terminus) → jou
 one_journey o p calls others t u e =
     let rests : map call_record calls ++ (of.Terminus t ∷ []) ≡ map call_record others ++ (of.Terminus u ∷ []) = cc in
     let two = parted (Isnt Lt) (map call_record calls) (of.Terminus t ∷ []) (map call_record others) (of.Terminus u ∷ [])
-    (each_map (Isnt Lt) call_record (call_isnt Lt (inr refl)) calls) (λ h. h refl)
-    (each_map (Isnt Lt) call_record (call_isnt Lt (inr refl)) others) (λ h. h refl) rests in
+    (each_map (Isnt Lt) call_record call_isnt calls) (λ h. h refl)
+    (each_map (Isnt Lt) call_record call_isnt others) (λ h. h refl) rests in
     let last = two.1 in
     record { origins = cc; calls_same = same_values call_record one_call calls others two.0; termini = cc }
 
@@ -159,37 +172,34 @@ one_schedule records s t p q =
     (sym p.terms.letter ∙ ap (λ (b : Basic). b.letter) basics ∙ q.terms.letter)
     (one_body q.basic.detail q.extra q.journey s.body t.body body q.body)
 
--- a schedule has one BS, at its front
-further_isnt : (d : Option Detail) (x : Option Extra) (journey : List Record) (body : Option BodyParts) → HaveBody d x journey body →
-    Each (Isnt Bs) (extra_records x ++ journey)
-further_isnt d x journey body h = each_append (Isnt Bs) (extra_records x) journey (extra_isnt x) (journey_isnt d body h)
+-- a schedule has one BS, at its front, and no trailer
+further_inside : (d : Option Detail) (x : Option Extra) (journey : List Record) (body : Option BodyParts) → HaveBody d x journey body →
+    Each Inside (extra_records x ++ journey)
+further_inside d x journey body h = each_append Inside (extra_records x) journey (extra_inside x) (journey_inside d body h)
   where
-    extra_isnt : (x : Option Extra) → Each (Isnt Bs) (extra_records x)
-    extra_isnt None = tt
-    extra_isnt (Some y) = (λ e. cc, tt)
+    extra_inside : (x : Option Extra) → Each Inside (extra_records x)
+    extra_inside None = tt
+    extra_inside (Some y) = (tt, tt)
 
-    whole_isnt : (o : Origin) (calls : List Call) (t : Terminus) → Each (Isnt Bs) (journey_records o calls t)
-    whole_isnt o calls t = (
-      λ e. cc,
-      each_append (Isnt Bs) (map call_record calls) (of.Terminus t ∷ [])
-          (each_map (Isnt Bs) call_record (call_isnt Bs (inl refl)) calls) (λ e. cc, tt),
-    )
+    whole_inside : (o : Origin) (calls : List Call) (t : Terminus) → Each Inside (journey_records o calls t)
+    whole_inside o calls t =
+        (tt, each_append Inside (map call_record calls) (of.Terminus t ∷ []) (each_map Inside call_record call_inside calls) (tt, tt))
 
-    journey_isnt : (d : Option Detail) (body : Option BodyParts) → HaveBody d x journey body → Each (Isnt Bs) journey
-    journey_isnt (Some d) (Some body) h =
-        let (detail, extra, is) = h in subst (Each (Isnt Bs)) (sym is) (whole_isnt body.origin body.calls body.terminus)
-    journey_isnt None None h =
-        ⊎_elim (λ (none : journey ≡ []). subst (Each (Isnt Bs)) (sym none) tt)
-        (λ (j : AreJourney journey). subst (Each (Isnt Bs)) (sym j.are) (whole_isnt j.origin j.calls j.terminus)) h
-    journey_isnt (Some d) None h = absurd h
-    journey_isnt None (Some body) h = absurd h
+    journey_inside : (d : Option Detail) (body : Option BodyParts) → HaveBody d x journey body → Each Inside journey
+    journey_inside (Some d) (Some body) h =
+        let (detail, extra, is) = h in subst (Each Inside) (sym is) (whole_inside body.origin body.calls body.terminus)
+    journey_inside None None h =
+        ⊎_elim (λ (none : journey ≡ []). subst (Each Inside) (sym none) tt)
+        (λ (j : AreJourney journey). subst (Each Inside) (sym j.are) (whole_inside j.origin j.calls j.terminus)) h
+    journey_inside (Some d) None h = absurd h
+    journey_inside None (Some body) h = absurd h
 
 -- schedules begin with a BS
-begin_so : (records : List Record) (schedules : List Schedule) → AreSchedules records schedules → Stops (Isnt Bs) records
-begin_so records [] none = subst (Stops (Isnt Bs)) (sym none) tt
+begin_so : (records : List Record) (schedules : List Schedule) → AreSchedules records schedules → Stops Inside records
+begin_so records [] none = subst (Stops Inside) (sym none) tt
 begin_so records (s ∷ schedules) are =
     let (own, others, parts, one, rest) = are in
-    subst (Stops (Isnt Bs)) (sym (parts ∙ ap (λ rs. rs ++ others) one.parts)) (λ h. h refl)
+    subst (Stops Inside) (sym (parts ∙ ap (λ rs. rs ++ others) one.parts)) (λ h. h)
 
 one_schedules : (records : List Record) (xs ys : List Schedule) → AreSchedules records xs → AreSchedules records ys → xs ≡ ys
 one_schedules records [] [] p q = refl
@@ -211,9 +221,9 @@ one_schedules records (x ∷ xs) (y ∷ ys) p q =
     sym (parts ∙ ap (λ rs. rs ++ others) one.parts) ∙ (cut ∙ ap (λ rs. rs ++ more) other.parts) in
     let basics : one.basic ≡ other.basic = cc in
     let behind : (extra_records one.extra ++ one.journey) ++ others ≡ (extra_records other.extra ++ other.journey) ++ more = cc in
-    let two = parted (Isnt Bs) (extra_records one.extra ++ one.journey) others (extra_records other.extra ++ other.journey) more
-    (further_isnt one.basic.detail one.extra one.journey x.body one.body) (begin_so others xs rest)
-    (further_isnt other.basic.detail other.extra other.journey y.body other.body) (begin_so more ys last) behind in
+    let two = parted Inside (extra_records one.extra ++ one.journey) others (extra_records other.extra ++ other.journey) more
+    (further_inside one.basic.detail one.extra one.journey x.body one.body) (begin_so others xs rest)
+    (further_inside other.basic.detail other.extra other.journey y.body other.body) (begin_so more ys last) behind in
     let same : own ≡ its = one.parts ∙ ap (λ (b : Basic). of.Basic b ∷ (extra_records one.extra ++ one.journey)) basics
     ∙ ap (λ rs. of.Basic other.basic ∷ rs) two.0 ∙ sym other.parts in
     ap (λ s. s ∷ xs) (one_schedule its x y (subst (λ rs. AreSchedule rs x) same one) other)
@@ -233,37 +243,15 @@ schedules_isnt records [] none = subst (Each (Isnt Zz)) (sym none) tt
 schedules_isnt records (s ∷ schedules) are =
     let (own, others, parts, one, rest) = are in
     subst (Each (Isnt Zz)) (sym parts)
-    (each_append (Isnt Zz) own others (subst (Each (Isnt Zz)) (sym one.parts) (λ e. cc, further one))
-    (schedules_isnt others schedules rest))
-  where
-    calls_isnt : (c : Call) → Isnt Zz (call_record c)
-    calls_isnt (At x) = λ e. cc
-    calls_isnt (Turn x) = λ e. cc
-
-    whole_isnt : (o : Origin) (calls : List Call) (t : Terminus) → Each (Isnt Zz) (journey_records o calls t)
-    whole_isnt o calls t = (
+    (each_append (Isnt Zz) own others (subst (Each (Isnt Zz)) (sym one.parts) (
       λ e. cc,
-      each_append (Isnt Zz) (map call_record calls) (of.Terminus t ∷ []) (each_map (Isnt Zz) call_record calls_isnt calls)
-          (λ e. cc, tt),
-    )
-
-    journey_isnt : (d : Option Detail) (x : Option Extra) (journey : List Record) (body : Option BodyParts) → HaveBody d x journey body →
-        Each (Isnt Zz) journey
-    journey_isnt (Some d) x journey (Some body) h =
-        let (detail, extra, is) = h in subst (Each (Isnt Zz)) (sym is) (whole_isnt body.origin body.calls body.terminus)
-    journey_isnt None x journey None h =
-        ⊎_elim (λ (none : journey ≡ []). subst (Each (Isnt Zz)) (sym none) tt)
-        (λ (j : AreJourney journey). subst (Each (Isnt Zz)) (sym j.are) (whole_isnt j.origin j.calls j.terminus)) h
-    journey_isnt (Some d) x journey None h = absurd h
-    journey_isnt None x journey (Some body) h = absurd h
-
-    extra_isnt : (x : Option Extra) → Each (Isnt Zz) (extra_records x)
-    extra_isnt None = tt
-    extra_isnt (Some y) = (λ e. cc, tt)
-
-    further : {own : List Record} (one : AreSchedule own s) → Each (Isnt Zz) (extra_records one.extra ++ one.journey)
-    further one = each_append (Isnt Zz) (extra_records one.extra) one.journey (extra_isnt one.extra)
-        (journey_isnt one.basic.detail one.extra one.journey s.body one.body)
+      each_so Inside (Isnt Zz) inside_isnt (extra_records one.extra ++ one.journey)
+          (further_inside one.basic.detail one.extra one.journey s.body one.body),
+    )) (schedules_isnt others schedules rest))
+  where
+    inside_isnt : (r : Record) → Inside r → Isnt Zz r
+    inside_isnt of.Trailer h = absurd h
+    inside_isnt _ h = λ e. cc
 
 -- what begins with a schedule or the trailer begins with no other kind
 tail_begins : (kind : Kind) → (Bs ≡ kind → ⊥) → (Zz ≡ kind → ⊥) → (groups : List Record) (schedules : List Schedule) →

@@ -1,7 +1,6 @@
 -- The order of records is that of the grammar: no line of an extract is refused.
-use Rattle.std.proofs.Common.{◌≡◌, ℕ, ◌+◌, ◌<◌, ◌≤◌, Bool, true, false, List, [], ◌∷◌, ◌++◌, is_some, length, map, Option, Some}
-use Rattle.std.proofs.Common.{None, refl, sym}
-use Rattle.std.proofs.Common.{ap, ◌∙◌, subst, arith, cond, append_assoc, append-nil, length-append, ⊎_elim}
+use Rattle.std.proofs.Common.{◌≡◌, ℕ, ◌+◌, ◌<◌, ◌≤◌, Bool, true, false, List, [], ◌∷◌, ◌++◌, is_some, length, map, Option, Some, None, refl}
+use Rattle.std.proofs.Common.{sym, ap, ◌∙◌, subst, arith, cond, append_assoc, append-nil, length-append, ⊎_elim}
 use Rattle.std.proofs.lemmas.List.Elements.{All-head, All-tail}
 use Rattle.std.specs.Prelude.{All}
 use Rattle.cif_columns.specs.Line.{IsLine}

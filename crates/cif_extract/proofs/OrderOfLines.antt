@@ -1,11 +1,10 @@
 -- The lines of an extract are in the order of the table, and lines that spell records in that order begin an extract.
 use Rattle.std.proofs.Common.{◌≡◌, ℕ, Bool, true, false, List, [], ◌∷◌, ◌++◌, All, Option, Some, None, IfSome, cond, refl, sym, ap, ◌∙◌}
-use Rattle.std.proofs.Common.{subst}
-use Rattle.std.proofs.Common.{append_assoc, append-nil}
+use Rattle.std.proofs.Common.{subst, append_assoc, append-nil}
 use Rattle.std.proofs.lemmas.List.Elements.{All-head, All-tail}
 use Rattle.cif_columns.specs.Field.{AllFit, AllStandIn, Row, plain_line, row, spare}
 use Rattle.cif_columns.specs.Line.{IsLine}
-use Rattle.cif_columns.proofs.Parts.{fits-append, stands-plain_line}
+use Rattle.cif_columns.proofs.Parts.{fits-append, fits-front, stands-plain_line}
 use Rattle.cif_extract.specs.ExtractParts.{ExtractParts}
 use Rattle.cif_extract.specs.Grammar.{BeginExtract}
 use Rattle.cif_extract.specs.OrderOfRecords.{AreInOrder, MayComeAfter, may_stand, place_behind}
@@ -52,10 +51,6 @@ pub spelled-in_order : (lines : List (List ℕ)) (x : ExtractParts) → SpellExt
 spelled-in_order lines x s = in-order [] at.Start lines s.records at.Ended refl s.spelled (stand_extract s.records x s.are)
 
 -- ---- from the table to the grammar
-
-fits-front : (a b : List Row) → AllFit (a ++ b) → AllFit a
-fits-front [] b p = tt
-fits-front (r ∷ a) b p = (p.0, fits-front a b p.1)
 
 fits-back : (a b : List Row) → AllFit (a ++ b) → AllFit b
 fits-back [] b p = p

@@ -5,7 +5,7 @@ use Rattle.std.specs.Str.{bytes_eq}
 use Rattle.cif_columns.specs.Line.{IsLine}
 use Rattle.cif_columns.specs.Stp.{letter}
 use Rattle.cif_columns.specs.declared.stp.Stp.{Stp}
-use Rattle.cif_columns.specs.declared.stp.Stp.TheVariants.{C, N, O, P}
+use Rattle.cif_columns.specs.declared.stp.Stp.TheVariants.{C}
 use Rattle.cif_columns.proofs.Parts.{stands-back}
 use Rattle.cif_extract.specs.FirstRefusal.{refusal_of}
 use Rattle.cif_extract.specs.OrderOfRecords.{after_extra, place_after, place_behind}
@@ -53,9 +53,7 @@ past_basic place line b s =
   where
     by_letter : (l : Stp) → cond (bytes_eq (letter l ∷ []) (codes "C")) at.Cancelled at.Basic ≡ cond (has_body l) at.Basic at.Cancelled
     by_letter C = refl
-    by_letter N = refl
-    by_letter O = refl
-    by_letter P = refl
+    by_letter _ = refl
 
 past_record : (place : Place) (line : List ℕ) (r : Record) → SpellsRecord line r →
     place_after place (Some (record_kind r)) line ≡ place_past place r

@@ -1,7 +1,6 @@
 -- What the lines so far have come to, line by line.
-use Rattle.std.proofs.Common.{◌≡◌, ◌≤◌, ℕ, ◌<◌, Bool, true, false, List, [], ◌∷◌, ◌++◌, length, Option, Some, None, Result, Ok, Err}
-use Rattle.std.proofs.Common.{arith, refl, sym}
-use Rattle.std.proofs.Common.{ap, ◌∙◌, subst, is_some, cond, IfSome, IfErr, IfOk, inr, ⊎_elim, ◌+◌, true≢false}
+use Rattle.std.proofs.Common.{◌≡◌, ◌≤◌, ℕ, ◌<◌, Bool, true, false, List, [], ◌∷◌, ◌++◌, length, Option, Some, None, Result, Ok, Err, arith}
+use Rattle.std.proofs.Common.{refl, sym, ap, ◌∙◌, subst, is_some, cond, IfSome, IfErr, IfOk, inr, ⊎_elim, ◌+◌, true≢false}
 use Rattle.std.proofs.lemmas.List.Elements.{All-cons, All-nil, All-append}
 use Rattle.std.specs.Prelude.{All}
 use Rattle.cif_columns.specs.GivenLines.{AreAllLines, IsDecided}
@@ -15,8 +14,7 @@ use Rattle.cif_extract.specs.FirstRefusal.{NoneRefused, IsFirstRefusal, refusal_
 use Rattle.cif_extract.specs.Grammar.{AreExtract}
 use Rattle.cif_extract.specs.OrderOfRecords.{may_stand}
 use Rattle.cif_extract.specs.ReadFault.{IsLineNumber, IsOfReading, IsReadFault}
-use Rattle.cif_extract.specs.Steps.Reading.{GoesOnPlainly, HasReadAt, IsHeld, IsTaken, IsUnfinished, Progress, begun}
-use Rattle.cif_extract.specs.Steps.Reading.{no_progress}
+use Rattle.cif_extract.specs.Steps.Reading.{GoesOnPlainly, HasReadAt, IsHeld, IsTaken, IsUnfinished, Progress, begun, no_progress}
 use Rattle.cif_extract.specs.Steps.Reading.{fault_at_line, parts_with_header, refusal_here, step}
 use Rattle.cif_extract.specs.SpellsExtract.{BytesSpellWithin, SpellAll, SpellExtract}
 use Rattle.cif_extract.specs.Taken.{HasTaken, IsNoTrailer, IsTakenBehind, IsTakenPlainly, refusal_behind}

@@ -5,8 +5,7 @@ use Rattle.std.proofs.lemmas.List.{map-append}
 use Rattle.cif_extract.specs.BodyParts.{extra_records}
 use Rattle.cif_extract.specs.Grammar.{AreSchedule, AreSchedules, records_before_trailer}
 use Rattle.cif_extract.specs.OrderOfRecords.{may_stand}
-use Rattle.cif_extract.specs.Steps.Reading.{HasOwn, HasRead, HasReadAt, IsCancelled, IsWithin}
-use Rattle.cif_extract.specs.Steps.Reading.{Progress, parts_with_header, step}
+use Rattle.cif_extract.specs.Steps.Reading.{HasOwn, HasRead, HasReadAt, IsCancelled, IsWithin, Progress, parts_with_header, step}
 use Rattle.cif_extract.specs.declared.place.Place.{Place}
 use Rattle.cif_extract.specs.declared.place.Place.TheVariants as at
 use Rattle.cif_extract.specs.declared.extract.Schedule.{Schedule}
@@ -79,9 +78,6 @@ module _ (records : List Record) (p : Progress) where
   closed_where at.Schedules e h may = let (none, all) = own_at at.Schedules e h in with_none h none (sym all)
   closed_where _ e h may = absurd (true≢false (sym may))
 
-  pub closed_here : HasRead records p → may_stand p.place Bs ≡ true → AreClosed records p
-  closed_here h may = closed_where p.place refl h may
-
   -- a trailer may stand where a schedule may
   pub trailer_where : (place : Place) → may_stand place Zz ≡ may_stand place Bs
   trailer_where at.Start = refl
@@ -89,7 +85,7 @@ module _ (records : List Record) (p : Progress) where
 
   pub trailer_step : HasRead records p → may_stand p.place Zz ≡ true → HasRead (records ++ (of.Trailer ∷ [])) (step p of.Trailer)
   trailer_step h may =
-      let c = closed_here h (sym (trailer_where p.place) ∙ may) in
+      let c = closed_where p.place refl h (sym (trailer_where p.place) ∙ may) in
       record {
         header = c.header;
         is_header = c.is_header;
@@ -97,7 +93,7 @@ module _ (records : List Record) (p : Progress) where
       }
 
   -- a header, where nothing stands before it
-  header_where : (h : Header) (place : Place) → HasReadAt place records p → may_stand place Hd ≡ true →
+  pub header_where : (h : Header) (place : Place) → HasReadAt place records p → may_stand place Hd ≡ true →
       HasRead (records ++ (of.Header h ∷ [])) (step p (of.Header h))
   header_where header at.Start n may = record {
     header = header;
@@ -142,7 +138,7 @@ module _ (records : List Record) (p : Progress) where
       (sym (map-append of.Association p.associations (a ∷ [])) ∙ sym (append-nil (map of.Association (p.associations ++ (a ∷ [])))))
       ∙ sym (append-nil (map of.Tiploc p.tiplocs ++ (map of.Association (p.associations ++ (a ∷ [])) ++ [])))))
 
-  tiploc_where : (t : Tiploc) (place : Place) → place ≡ p.place → HasReadAt place records p → may_stand place Ti ≡ true →
+  pub tiploc_where : (t : Tiploc) (place : Place) → place ≡ p.place → HasReadAt place records p → may_stand place Ti ≡ true →
       HasRead (records ++ (of.Tiploc t ∷ [])) (step p (of.Tiploc t))
   tiploc_where t at.Tiplocs e h may =
       let (none, earlier, schedules, associations) = own_at at.Tiplocs e h in
@@ -171,22 +167,10 @@ module _ (records : List Record) (p : Progress) where
     here = (refl, refl, schedules);
   }
 
-  association_where : (a : Association) (place : Place) → place ≡ p.place → HasReadAt place records p → may_stand place Aa ≡ true →
+  pub association_where : (a : Association) (place : Place) → place ≡ p.place → HasReadAt place records p → may_stand place Aa ≡ true →
       HasRead (records ++ (of.Association a ∷ [])) (step p (of.Association a))
   association_where a at.Tiplocs e h may =
       let (none, earlier, schedules, associations) = own_at at.Tiplocs e h in association_here a h none earlier schedules
   association_where a at.Associations e h may =
       let (none, earlier, schedules) = own_at at.Associations e h in association_here a h none earlier schedules
   association_where a _ e h may = absurd (true≢false (sym may))
-
-  pub header_step : (x : Header) → HasRead records p → may_stand p.place Hd ≡ true →
-      HasRead (records ++ (of.Header x ∷ [])) (step p (of.Header x))
-  header_step x h may = header_where x p.place h may
-
-  pub tiploc_step : (x : Tiploc) → HasRead records p → may_stand p.place Ti ≡ true →
-      HasRead (records ++ (of.Tiploc x ∷ [])) (step p (of.Tiploc x))
-  tiploc_step x h may = tiploc_where x p.place refl h may
-
-  pub association_step : (x : Association) → HasRead records p → may_stand p.place Aa ≡ true →
-      HasRead (records ++ (of.Association x ∷ [])) (step p (of.Association x))
-  association_step x h may = association_where x p.place refl h may

@@ -3,8 +3,7 @@ use Rattle.std.proofs.Common.{◌≡◌, ℕ, Bool, List, sym, ◌∙◌, ap, su
 use Rattle.std.specs.Prelude.{◌↔◌, IsTrue}
 use Rattle.std.proofs.lemmas.Bool.Decides.{same_from_decides}
 use Rattle.cif_extract.specs.Body.{KeepBody, KeepSomeBody, parts_in}
-use Rattle.cif_extract.specs.BodyParts.{BodyParts}
-use Rattle.cif_extract.specs.BodyParts.{parts_eq}
+use Rattle.cif_extract.specs.BodyParts.{BodyParts, parts_eq}
 use Rattle.cif_extract.specs.Laws.SameBody.{same_body}
 use Rattle.cif_extract.proofs.Bodies.{keeps_view, same_lines}
 

@@ -25,7 +25,7 @@ use Rattle.cif_records.specs.declared.origin.Origin.{Origin}
 use Rattle.cif_records.specs.declared.record.Record.{Record}
 use Rattle.cif_records.specs.declared.record.Record.TheVariants as of
 use Rattle.cif_extract.proofs.KeptLines.{journey-more, kept-more}
-use Rattle.cif_extract.proofs.ReadingSteps.{AreClosed, closed_here, own_at}
+use Rattle.cif_extract.proofs.ReadingSteps.{AreClosed, closed_where, own_at}
 
 -- the plain line of the record spells it
 abbrev pub Again : Record → Type 0
@@ -81,7 +81,7 @@ module _ (records : List Record) (p : Progress) where
 
   pub basic_step : (b : Basic) → IsKeepable (of.Basic b) → HasRead records p → may_stand p.place Bs ≡ true →
       HasRead (records ++ (of.Basic b ∷ [])) (step p (of.Basic b))
-  basic_step b again h may = begun_here b b.detail b.bodied refl again (closed_here records p h may)
+  basic_step b again h may = begun_here b b.detail b.bodied refl again (closed_where records p p.place refl h may)
 
   -- the line of a record more is kept
   opened_more : (earlier : List Schedule) (b : Basic) (further : List Record) (place : Place) (r : Record) → Again r →
@@ -123,8 +123,9 @@ module _ (records : List Record) (p : Progress) where
     here = here;
   }
 
-  extra_where : (x : Extra) (place : Place) → place ≡ p.place → Again (of.Extra x) → HasReadAt place records p → may_stand place Bx ≡ true →
-      HasReadAt (after_extra place) (records ++ (of.Extra x ∷ [])) (with_line p (after_extra place) (of.Extra x))
+  pub extra_where : (x : Extra) (place : Place) → place ≡ p.place → Again (of.Extra x) → HasReadAt place records p →
+      may_stand place Bx ≡ true → HasReadAt (after_extra place)
+      (records ++ (of.Extra x ∷ [])) (with_line p (after_extra place) (of.Extra x))
   extra_where x at.Basic e again h may =
       let (b, own, o) = own_at records p at.Basic e h in
       within_more at.Extra (of.Extra x) (of.Basic b ∷ of.Extra x ∷ []) h (ap (λ rs. rs ++ (of.Extra x ∷ [])) own)
@@ -151,7 +152,7 @@ module _ (records : List Record) (p : Progress) where
             (λ cancelled. inr (cancelled_more w.earlier b at.Journey (of.Origin o) cancelled)) or,
       )
 
-  origin_where : (o : Origin) (place : Place) → place ≡ p.place → Again (of.Origin o) → HasReadAt place records p →
+  pub origin_where : (o : Origin) (place : Place) → place ≡ p.place → Again (of.Origin o) → HasReadAt place records p →
       may_stand place Lo ≡ true → HasRead (records ++ (of.Origin o ∷ [])) (step p (of.Origin o))
   origin_where o at.Basic e again h may =
       let (b, own, opened) = own_at records p at.Basic e h in origin_opened o h b None own again (inl opened)
@@ -164,7 +165,7 @@ module _ (records : List Record) (p : Progress) where
   origin_where o _ e again h may = absurd (true≢false (sym may))
 
   -- LI and CR
-  call_where : (call : Call) (place : Place) → place ≡ p.place → Again (call_record call) → HasReadAt place records p →
+  pub call_where : (call : Call) (place : Place) → place ≡ p.place → Again (call_record call) → HasReadAt place records p →
       may_stand place Li ≡ true → IsWithin (records ++ (call_record call ∷ [])) (with_line p at.Journey (call_record call))
   call_where call at.Journey e again h may =
       let (b, x, o, calls, own, or) = own_at records p at.Journey e h in
@@ -181,15 +182,3 @@ module _ (records : List Record) (p : Progress) where
             (λ cancelled. inr (cancelled_more h.earlier b at.Journey (call_record call) cancelled)) or,
       )
   call_where call _ e again h may = absurd (true≢false (sym may))
-
-  pub extra_step : (x : Extra) → Again (of.Extra x) → HasRead records p → may_stand p.place Bx ≡ true →
-      HasReadAt (after_extra p.place) (records ++ (of.Extra x ∷ [])) (step p (of.Extra x))
-  extra_step x again h may = extra_where x p.place refl again h may
-
-  pub origin_step : (o : Origin) → Again (of.Origin o) → HasRead records p → may_stand p.place Lo ≡ true →
-      HasRead (records ++ (of.Origin o ∷ [])) (step p (of.Origin o))
-  origin_step o again h may = origin_where o p.place refl again h may
-
-  pub call_step : (call : Call) → Again (call_record call) → HasRead records p → may_stand p.place Li ≡ true →
-      IsWithin (records ++ (call_record call ∷ [])) (with_line p at.Journey (call_record call))
-  call_step call again h may = call_where call p.place refl again h may

@@ -1,6 +1,5 @@
 -- Bytes that spell an extract aren't refused, and spell no other.
-use Rattle.std.proofs.Common.{◌≡◌, ℕ, List, [], ◌∷◌, ◌++◌, Option, Some, None, Result, Ok, Err, IfErr, IfOk, IfSome}
-use Rattle.std.proofs.Common.{subst, arith, ⊎_elim}
+use Rattle.std.proofs.Common.{◌≡◌, ℕ, List, [], ◌∷◌, ◌++◌, Option, Some, None, Result, Ok, Err, IfErr, IfOk, IfSome, subst, arith, ⊎_elim}
 use Rattle.std.proofs.lemmas.List.Elements.{All-tail}
 use Rattle.std.specs.Prelude.{All}
 use Rattle.cif_columns.specs.Contents.{contents_of}
@@ -51,16 +50,11 @@ module _ (max : ℕ) (bytes : List ℕ) (x : ExtractParts) (spells : BytesSpellW
   pub read_as : (after : Unread) (result : Result Extract Fault) →
       IfOk result (λ extract. BytesSpellWithin max bytes (extract_parts extract)) → IfErr result (IsReadFault max bytes after) →
       IsReadAs x result
-  read_as after (Ok extract) ok err =
-      one_spelled bytes (extract_parts extract) x ok.spell spells.spell
+  read_as after (Ok extract) ok err = one_spelled bytes (extract_parts extract) x ok.spell spells.spell
   read_as after (Err (fault.Refused number why)) ok err = absurd (spelled-refused number why err.0)
-  read_as after (Err (fault.Ambiguous clash)) ok err = absurd err
-  read_as after (Err fault.WindowsDiffer) ok err = absurd err
-  read_as after (Err fault.OutsideWindow) ok err = absurd err
-  read_as after (Err fault.WindowReversed) ok err = absurd err
   read_as after (Err fault.Read) ok err = tt
-  read_as after (Err fault.Write) ok err = absurd err
   read_as after (Err fault.Memory) ok err = tt
+  read_as after (Err _) ok err = absurd err
 
 -- the same of bytes that may be known
 pub only_read : (start : Option (List ℕ)) (max : ℕ) (after : Unread) (result : Result Extract Fault) →

@@ -16,8 +16,7 @@ pub kept_plain : (lines : List (List ℕ)) (tables : List (List Row)) → KeepAl
 kept_plain [] [] kept = refl
 kept_plain [] (t ∷ tables) kept = absurd kept
 kept_plain (line ∷ lines) [] kept = absurd kept
-kept_plain (line ∷ lines) (t ∷ tables) kept =
-    ap (λ l. l ∷ lines) kept.1 ∙ ap (λ ls. plain_line t ∷ ls) (kept_plain lines tables kept.2)
+kept_plain (line ∷ lines) (t ∷ tables) kept = ap (λ l. l ∷ lines) kept.1 ∙ ap (λ ls. plain_line t ∷ ls) (kept_plain lines tables kept.2)
 
 -- the text of a line and of others that follow it is that of the line and some of the others, and of the rest
 module _ (line texts : List ℕ) (lines rest : List (List ℕ)) (others : texts ++ lines_text rest ≡ lines_text lines) where

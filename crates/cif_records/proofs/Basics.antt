@@ -20,8 +20,7 @@ same_detail : (line : List ℕ) (a b : Option Detail) → is_some a ≡ is_some 
 same_detail line None None e p q = refl
 same_detail line None (Some y) e p q = cc
 same_detail line (Some x) None e p q = cc
-same_detail line (Some x) (Some y) e p q =
-    ap Some (one_detail line x y p q)
+same_detail line (Some x) (Some y) e p q = ap Some (one_detail line x y p q)
 
 -- what the type keeps of its fields
 abbrev Facts : List ℕ × ℕ × ℕ × List Bool × Stp × Option Detail → Type 0

@@ -10,7 +10,7 @@ use Rattle.cif_columns.specs.Field.{AllFit, AllStandIn, FieldValue, Row, StandsI
 use Rattle.cif_columns.specs.Field.{width_of}
 use Rattle.cif_columns.specs.Text.{text_of}
 use Rattle.cif_columns.specs.declared.stp.Stp.{Stp}
-use Rattle.cif_columns.specs.declared.stp.Stp.TheVariants.{C, N, O, P}
+use Rattle.cif_columns.specs.declared.stp.Stp.TheVariants.{C}
 use Rattle.cif_columns.specs.Line.{IsLine}
 use Rattle.cif_columns.proofs.ColumnReads.{read, width}
 use Rattle.cif_columns.proofs.Parts.{fits-front, stands-append, stands-front}
@@ -144,9 +144,7 @@ detail_columns d line wide is =
 -- the detail of a basic schedule with this letter
 abbrev pub detail_by : Stp → List ℕ → Option Detail
 detail_by C line = None
-detail_by N line = Some (detail_in line)
-detail_by O line = Some (detail_in line)
-detail_by P line = Some (detail_in line)
+detail_by _ line = Some (detail_in line)
 
 bodied_by : (letter : Stp) (line : List ℕ) → is_some (detail_by letter line) ≡ has_body letter
 bodied_by C line = refl
@@ -157,9 +155,7 @@ no_detail line = (tt, (tt, (tt, (tt, (tt, (tt, (tt, (tt, (tt, (tt, (tt, (tt, (tt
 
 stands_by : (letter : Stp) (line : List ℕ) → AllStandIn line (detail_rows (detail_by letter line))
 stands_by C line = no_detail line
-stands_by N line = detail_stands line
-stands_by O line = detail_stands line
-stands_by P line = detail_stands line
+stands_by _ line = detail_stands line
 
 -- a line with these terms spells a basic schedule with them
 pub terms_spell : (line : List ℕ) (t : BasicTerms) → AllStandIn line (basic_front t.uid t.first t.last t.days)

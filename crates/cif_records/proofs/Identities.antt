@@ -3,7 +3,7 @@ use Rattle.std.proofs.Common.{◌≡◌, ℕ, Bool, true, false, cond, List, [],
 use Rattle.std.specs.Cmp.Lexicographic.{bytes_decides}
 use Rattle.cif_records.specs.Kind.{identity, kinds, is_identity}
 use Rattle.cif_records.specs.declared.record.Kind.{Kind}
-use Rattle.cif_records.specs.declared.record.Kind.TheVariants.{Hd, Ti, Ta, Td, Aa, Bs, Bx, Lo, Li, Cr, Lt, Zz}
+use Rattle.cif_records.specs.declared.record.Kind.TheVariants.{Hd}
 
 -- the kind that is found has these letters
 pub found_kind : (letters : List ℕ) (among : List Kind) → IfSome (find (is_identity letters) among) (λ kind. letters ≡ identity kind)
@@ -19,14 +19,4 @@ found_kind letters (kind ∷ others) = at (is_identity letters kind) refl (found
 -- the kind with these letters is found
 pub only_kind : (letters : List ℕ) (kind : Kind) → letters ≡ identity kind → find (is_identity letters) kinds ≡ Some kind
 only_kind letters Hd e = rw e
-only_kind letters Ti e = rw e
-only_kind letters Ta e = rw e
-only_kind letters Td e = rw e
-only_kind letters Aa e = rw e
-only_kind letters Bs e = rw e
-only_kind letters Bx e = rw e
-only_kind letters Lo e = rw e
-only_kind letters Li e = rw e
-only_kind letters Cr e = rw e
-only_kind letters Lt e = rw e
-only_kind letters Zz e = rw e
+only_kind letters _ e = rw e

@@ -21,7 +21,7 @@ use Rattle.cif_records.specs.declared.detail.Detail.{Detail}
 use Rattle.cif_records.specs.declared.extra.Extra.{Extra}
 use Rattle.cif_records.specs.declared.header.Header.{Header}
 use Rattle.cif_records.specs.declared.record.Kind.{Kind}
-use Rattle.cif_records.specs.declared.record.Kind.TheVariants.{Hd, Ti, Ta, Td, Aa, Bs, Bx, Lo, Li, Cr, Lt, Zz}
+use Rattle.cif_records.specs.declared.record.Kind.TheVariants.{Hd, Ti, Aa, Bs, Bx, Lo, Li, Cr, Lt, Zz}
 use Rattle.cif_records.specs.declared.origin.Origin.{Origin}
 use Rattle.cif_records.specs.declared.record.Record.{Record}
 use Rattle.cif_records.specs.declared.record.Record.TheVariants as a
@@ -45,8 +45,6 @@ use Rattle.cif_records.proofs.Trailers as trailers
 abbrev Held : Kind → Type 0
 Held Hd = Header
 Held Ti = Tiploc
-Held Ta = ⊥
-Held Td = ⊥
 Held Aa = Association
 Held Bs = Basic
 Held Bx = Extra
@@ -55,12 +53,11 @@ Held Li = Stop
 Held Cr = Change
 Held Lt = Terminus
 Held Zz = Unit {0}
+Held _ = ⊥
 
 abbrev record_with : (k : Kind) → Held k → Record
 record_with Hd h = a.Header h
 record_with Ti h = a.Tiploc h
-record_with Ta h = absurd h
-record_with Td h = absurd h
 record_with Aa h = a.Association h
 record_with Bs h = a.Basic h
 record_with Bx h = a.Extra h
@@ -69,6 +66,7 @@ record_with Li h = a.Stop h
 record_with Cr h = a.Change h
 record_with Lt h = a.Terminus h
 record_with Zz h = a.Trailer
+record_with _ h = absurd h
 
 -- the kind of a record
 abbrev pub kind_of : Record → Kind
@@ -102,15 +100,7 @@ record_with-held _ = refl
 
 identity_there : (line : List ℕ) (r : Record) → SpellsRecord line r → columns 1 2 line ≡ identity (kind_of r)
 identity_there line (a.Header h) s = s.0
-identity_there line (a.Tiploc h) s = s.0
-identity_there line (a.Association h) s = s.0
-identity_there line (a.Basic h) s = s.0
-identity_there line (a.Extra h) s = s.0
-identity_there line (a.Origin h) s = s.0
-identity_there line (a.Stop h) s = s.0
-identity_there line (a.Change h) s = s.0
-identity_there line (a.Terminus h) s = s.0
-identity_there line a.Trailer s = s.0
+identity_there line _ s = s.0
 
 -- a line that spells a record names its kind
 pub kind_there : (line : List ℕ) (r : Record) → SpellsRecord line r → kind_in line ≡ Some (kind_of r)
@@ -120,8 +110,6 @@ kind_there line r s = only_kind (columns 1 2 line) (kind_of r) (identity_there l
 one_of_kind : (line : List ℕ) (k : Kind) (p q : Held k) → SpellsRecord line (record_with k p) → SpellsRecord line (record_with k q) → p ≡ q
 one_of_kind line Hd p q m n = headers.one_header line p q m n
 one_of_kind line Ti p q m n = tiplocs.one_tiploc line p q m n
-one_of_kind line Ta p q m n = absurd p
-one_of_kind line Td p q m n = absurd p
 one_of_kind line Aa p q m n = associations.one_association line p q m n
 one_of_kind line Bs p q m n = basics.one_basic line p q m n
 one_of_kind line Bx p q m n = extras.one_extra line p q m n
@@ -130,6 +118,7 @@ one_of_kind line Li p q m n = stops.one_stop line p q m n
 one_of_kind line Cr p q m n = changes.one_change line p q m n
 one_of_kind line Lt p q m n = termini.one_terminus line p q m n
 one_of_kind line Zz p q m n = refl
+one_of_kind line _ p q m n = absurd p
 
 -- two records that a line spells are one
 pub one_record : (line : List ℕ) (r q : Record) → SpellsRecord line r → SpellsRecord line q → r ≡ q
@@ -205,13 +194,7 @@ fit line is_line (a.Association h) s = stood.fit line is_line (record_table (a.A
     (with_body h.key h.first h.last h.days h.letter h.body) s
 fit line is_line (a.Basic h) s = stood.fit line is_line (record_table (a.Basic h)) refl
     (with_detail h.uid h.first h.last h.days h.letter h.detail) s
-fit line is_line (a.Tiploc h) s = stood.fit line is_line (record_table (a.Tiploc h)) refl refl s
-fit line is_line (a.Extra h) s = stood.fit line is_line (record_table (a.Extra h)) refl refl s
-fit line is_line (a.Origin h) s = stood.fit line is_line (record_table (a.Origin h)) refl refl s
-fit line is_line (a.Stop h) s = stood.fit line is_line (record_table (a.Stop h)) refl refl s
-fit line is_line (a.Change h) s = stood.fit line is_line (record_table (a.Change h)) refl refl s
-fit line is_line (a.Terminus h) s = stood.fit line is_line (record_table (a.Terminus h)) refl refl s
-fit line is_line a.Trailer s = stood.fit line is_line (record_table a.Trailer) refl refl s
+fit line is_line other s = stood.fit line is_line (record_table other) refl refl s
 
 -- a record's table has each column once
 whole : (r : Record) → is_whole_from 1 (record_table r) ≡ true

@@ -1,8 +1,8 @@
 -- A law: bodies are equal where their values are. A ghost member may cite it, so it stands here.
-use Rattle.std.proofs.Common.{◌≡◌, ◌↔◌, ℕ, nat_eq, Bool, true, false, ◌&&◌, IsTrue, Option, Some, None, List, [], ◌∷◌, get_or}
+use Rattle.std.proofs.Common.{◌≡◌, ◌↔◌, ℕ, nat_eq, Bool, true, ◌&&◌, IsTrue, Option, Some, None, List, [], ◌∷◌, get_or}
 use Rattle.std.proofs.Common.{refl, sym, ◌∙◌, ap, subst, rules}
 use Rattle.std.proofs.Math.Bool.{and-true}
-use Rattle.std.proofs.lemmas.Bool.{false≢true}
+use Rattle.std.proofs.lemmas.Bool.{and_parts}
 use Rattle.std.proofs.lemmas.Bool.Decides.{same_from_decides}
 use Rattle.std.proofs.lemmas.Grind.{common_steps}
 use Rattle.std.specs.Cmp.Lexicographic.{pointwise, pointwise_decides, bytes_decides}
@@ -27,21 +27,13 @@ use Rattle.cif_records.specs.declared.stop.Stop.{Stop}
 use Rattle.cif_records.specs.declared.terminus.Terminus.{Terminus}
 
 -- an equality that compares the parts of a record, each a text or codes, decides whether two are one
-module _ {R : Type 0} (parts : R → List (List (List ℕ))) (whole : List (List (List ℕ)) → R) (eq : R → R → Bool)
+module _ {R : Type 0} (parts : R → List (List ℕ)) (whole : List (List ℕ) → R) (eq : R → R → Bool)
     (undoes : (r : R) → whole (parts r) ≡ r)
-    (is : (a b : R) → eq a b ≡ pointwise (pointwise (pointwise nat_eq)) (parts a) (parts b)) where
+    (is : (a b : R) → eq a b ≡ pointwise (pointwise nat_eq) (parts a) (parts b)) where
   same_by_parts : (a b : R) → IsTrue (eq a b) ↔ (a ≡ b)
   same_by_parts a b =
-      let told = pointwise_decides (pointwise_decides bytes_decides) (parts a) (parts b) in
+      let told = pointwise_decides bytes_decides (parts a) (parts b) in
       (λ e. sym (undoes a) ∙ ap whole (told.0 (sym (is a b) ∙ e)) ∙ undoes b, λ e. is a b ∙ told.1 (ap parts e))
-
--- a text as a part
-abbrev one : List ℕ → List (List ℕ)
-one text = text ∷ []
-
--- the text of a part
-abbrev only : List (List ℕ) → List ℕ
-only texts = get_or texts 0 []
 
 pub same_terminus : (a b : Terminus) → IsTrue ((terminus.ghosts).eq a b) ↔ (a ≡ b)
 same_terminus a b = search (rules, common_steps, pointwise_decides, bytes_decides)
@@ -52,93 +44,69 @@ same_extra a b = search (rules, common_steps, pointwise_decides, bytes_decides)
 pub same_origin : (a b : Origin) → IsTrue ((origin.ghosts).eq a b) ↔ (a ≡ b)
 same_origin a b = search (rules, common_steps, pointwise_decides, bytes_decides)
 
-abbrev parts_of_detail : Detail → List (List (List ℕ))
+abbrev parts_of_detail : Detail → List (List ℕ)
 parts_of_detail r =
-    one r.status ∷ one r.category ∷ one r.identity ∷ one r.headcode ∷ one r.course ∷ one r.service_code ∷ one r.sector
-    ∷ one r.power ∷ one r.timing_load ∷ one r.speed ∷ one r.characteristics ∷ one r.class ∷ one r.sleepers
-    ∷ one r.reservations ∷ one r.connection ∷ one r.catering ∷ one r.branding ∷ []
+    r.status ∷ r.category ∷ r.identity ∷ r.headcode ∷ r.course ∷ r.service_code ∷ r.sector
+    ∷ r.power ∷ r.timing_load ∷ r.speed ∷ r.characteristics ∷ r.class ∷ r.sleepers
+    ∷ r.reservations ∷ r.connection ∷ r.catering ∷ r.branding ∷ []
 
-abbrev detail_of : List (List (List ℕ)) → Detail
+abbrev detail_of : List (List ℕ) → Detail
 detail_of vs = record {
-  status = only (get_or vs 0 []);
-  category = only (get_or vs 1 []);
-  identity = only (get_or vs 2 []);
-  headcode = only (get_or vs 3 []);
-  course = only (get_or vs 4 []);
-  service_code = only (get_or vs 5 []);
-  sector = only (get_or vs 6 []);
-  power = only (get_or vs 7 []);
-  timing_load = only (get_or vs 8 []);
-  speed = only (get_or vs 9 []);
-  characteristics = only (get_or vs 10 []);
-  class = only (get_or vs 11 []);
-  sleepers = only (get_or vs 12 []);
-  reservations = only (get_or vs 13 []);
-  connection = only (get_or vs 14 []);
-  catering = only (get_or vs 15 []);
-  branding = only (get_or vs 16 []);
+  status = get_or vs 0 [];
+  category = get_or vs 1 [];
+  identity = get_or vs 2 [];
+  headcode = get_or vs 3 [];
+  course = get_or vs 4 [];
+  service_code = get_or vs 5 [];
+  sector = get_or vs 6 [];
+  power = get_or vs 7 [];
+  timing_load = get_or vs 8 [];
+  speed = get_or vs 9 [];
+  characteristics = get_or vs 10 [];
+  class = get_or vs 11 [];
+  sleepers = get_or vs 12 [];
+  reservations = get_or vs 13 [];
+  connection = get_or vs 14 [];
+  catering = get_or vs 15 [];
+  branding = get_or vs 16 [];
 }
 
 pub same_detail : (a b : Detail) → IsTrue ((detail.ghosts).eq a b) ↔ (a ≡ b)
 same_detail a b = same_by_parts parts_of_detail detail_of (detail.ghosts).eq (λ r. refl) (λ x y. simp and-true) a b
 
-abbrev parts_of_stop : Stop → List (List (List ℕ))
-parts_of_stop r =
-    one r.location ∷ one r.suffix ∷ one r.arrival ∷ one r.departure ∷ one r.pass ∷ one r.public_arrival
-    ∷ one r.public_departure ∷ one r.platform ∷ one r.line ∷ one r.path ∷ r.activities ∷ one r.engineering
-    ∷ one r.pathing ∷ one r.performance ∷ []
-
-abbrev stop_of : List (List (List ℕ)) → Stop
-stop_of vs = record {
-  location = only (get_or vs 0 []);
-  suffix = only (get_or vs 1 []);
-  arrival = only (get_or vs 2 []);
-  departure = only (get_or vs 3 []);
-  pass = only (get_or vs 4 []);
-  public_arrival = only (get_or vs 5 []);
-  public_departure = only (get_or vs 6 []);
-  platform = only (get_or vs 7 []);
-  line = only (get_or vs 8 []);
-  path = only (get_or vs 9 []);
-  activities = get_or vs 10 [];
-  engineering = only (get_or vs 11 []);
-  pathing = only (get_or vs 12 []);
-  performance = only (get_or vs 13 []);
-}
-
 pub same_stop : (a b : Stop) → IsTrue ((stop.ghosts).eq a b) ↔ (a ≡ b)
-same_stop a b = same_by_parts parts_of_stop stop_of (stop.ghosts).eq (λ r. refl) (λ x y. simp and-true) a b
+same_stop a b = search (rules, common_steps, pointwise_decides, bytes_decides)
 
-abbrev parts_of_change : Change → List (List (List ℕ))
+abbrev parts_of_change : Change → List (List ℕ)
 parts_of_change r =
-    one r.location ∷ one r.suffix ∷ one r.category ∷ one r.identity ∷ one r.headcode ∷ one r.course ∷ one r.service_code
-    ∷ one r.sector ∷ one r.power ∷ one r.timing_load ∷ one r.speed ∷ one r.characteristics ∷ one r.class
-    ∷ one r.sleepers ∷ one r.reservations ∷ one r.connection ∷ one r.catering ∷ one r.branding ∷ one r.traction
-    ∷ one r.uic ∷ one r.reserved_a ∷ []
+    r.location ∷ r.suffix ∷ r.category ∷ r.identity ∷ r.headcode ∷ r.course ∷ r.service_code
+    ∷ r.sector ∷ r.power ∷ r.timing_load ∷ r.speed ∷ r.characteristics ∷ r.class
+    ∷ r.sleepers ∷ r.reservations ∷ r.connection ∷ r.catering ∷ r.branding ∷ r.traction
+    ∷ r.uic ∷ r.reserved_a ∷ []
 
-abbrev change_of : List (List (List ℕ)) → Change
+abbrev change_of : List (List ℕ) → Change
 change_of vs = record {
-  location = only (get_or vs 0 []);
-  suffix = only (get_or vs 1 []);
-  category = only (get_or vs 2 []);
-  identity = only (get_or vs 3 []);
-  headcode = only (get_or vs 4 []);
-  course = only (get_or vs 5 []);
-  service_code = only (get_or vs 6 []);
-  sector = only (get_or vs 7 []);
-  power = only (get_or vs 8 []);
-  timing_load = only (get_or vs 9 []);
-  speed = only (get_or vs 10 []);
-  characteristics = only (get_or vs 11 []);
-  class = only (get_or vs 12 []);
-  sleepers = only (get_or vs 13 []);
-  reservations = only (get_or vs 14 []);
-  connection = only (get_or vs 15 []);
-  catering = only (get_or vs 16 []);
-  branding = only (get_or vs 17 []);
-  traction = only (get_or vs 18 []);
-  uic = only (get_or vs 19 []);
-  reserved_a = only (get_or vs 20 []);
+  location = get_or vs 0 [];
+  suffix = get_or vs 1 [];
+  category = get_or vs 2 [];
+  identity = get_or vs 3 [];
+  headcode = get_or vs 4 [];
+  course = get_or vs 5 [];
+  service_code = get_or vs 6 [];
+  sector = get_or vs 7 [];
+  power = get_or vs 8 [];
+  timing_load = get_or vs 9 [];
+  speed = get_or vs 10 [];
+  characteristics = get_or vs 11 [];
+  class = get_or vs 12 [];
+  sleepers = get_or vs 13 [];
+  reservations = get_or vs 14 [];
+  connection = get_or vs 15 [];
+  catering = get_or vs 16 [];
+  branding = get_or vs 17 [];
+  traction = get_or vs 18 [];
+  uic = get_or vs 19 [];
+  reserved_a = get_or vs 20 [];
 }
 
 pub same_change : (a b : Change) → IsTrue ((change.ghosts).eq a b) ↔ (a ≡ b)
@@ -156,19 +124,14 @@ same_extras None (Some y) = (λ e. cc, λ e. cc)
 same_extras (Some x) None = (λ e. cc, λ e. cc)
 same_extras (Some x) (Some y) = (λ e. ap Some ((same_extra x y).0 e), λ e. (same_extra x y).1 cc)
 
--- each of two tests that hold together
-both : (s t : Bool) → (s && t) ≡ true → (s ≡ true) × (t ≡ true)
-both true t h = (refl, h)
-both false t h = absurd (false≢true h)
-
--- and each of five
+-- each of five tests that hold together
 all_five : (u v w x y : Bool) → (u && v && w && x && y) ≡ true
     → (u ≡ true) × (v ≡ true) × (w ≡ true) × (x ≡ true) × (y ≡ true)
 all_five u v w x y h =
-    let a = both (u && v && w && x) y h in
-    let b = both (u && v && w) x a.0 in
-    let c = both (u && v) w b.0 in
-    let d = both u v c.0 in
+    let a = and_parts (u && v && w && x) y h in
+    let b = and_parts (u && v && w) x a.0 in
+    let c = and_parts (u && v) w b.0 in
+    let d = and_parts u v c.0 in
     (d.0, d.1, c.1, b.1, a.1)
 
 -- bodies with the same parts are the same

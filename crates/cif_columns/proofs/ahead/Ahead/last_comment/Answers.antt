@@ -1,7 +1,6 @@
 -- Undecided bytes have no line feed: all of them are the first content, and nothing is after it.
-use Rattle.std.proofs.Common.{◌<◌, ◌∙◌, Some, ap, length, refl, sym}
+use Rattle.std.proofs.Common.{◌<◌, ◌∙◌, Some, ap, length, refl, sym, arith}
 use Rattle.std.proofs.lemmas.Grind.{common_steps}
-use Rattle.std.proofs.Common.{arith}
 use Rattle.cif_columns.specs.Ahead.{held_bytes}
 use Rattle.cif_columns.specs.Comment.{is_comment}
 use Rattle.cif_columns.proofs.DecidedLines.{last_after, last_content}

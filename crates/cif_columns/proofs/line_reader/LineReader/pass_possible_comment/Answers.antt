@@ -1,7 +1,6 @@
 -- What was found is told in the words of the subject by these lemmas.
-use Rattle.std.proofs.Common.{arith, refl, sym}
+use Rattle.std.proofs.Common.{arith, refl, sym, ◌≡◌, false, nat_eq, subst}
 use Rattle.std.proofs.lemmas.Bool.Decides.{nat_tests}
-use Rattle.std.proofs.Common.{◌≡◌, false, nat_eq, subst}
 use Rattle.cif_columns.specs.Ahead.{held_bytes}
 use Rattle.cif_columns.specs.FirstLine.{is_decided}
 use Rattle.cif_columns.proofs.ContentReads.{comment_passed}

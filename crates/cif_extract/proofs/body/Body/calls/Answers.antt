@@ -16,8 +16,7 @@ pub rest-requires : goal.rest-requires
 rest-requires c = omega (arith, (journey c.journey.result c.args.self.now c.journey.ensures).longer)
 
 pub of_lines-requires : goal.of_lines-requires
-of_lines-requires c =
-    subst (All SpellsSomeCall) (sym (between c)) (journey c.journey.result c.args.self.now c.journey.ensures).spelled
+of_lines-requires c = subst (All SpellsSomeCall) (sym (between c)) (journey c.journey.result c.args.self.now c.journey.ensures).spelled
 
 pub returns : goal.returns
 returns c =

@@ -20,9 +20,7 @@ returns-then-passes-clause-again c =
     subst (λ d. AllStandIn alone (detail_table d)) same passed.0
 
 pub returns-else-passes-clause-plain : goal.returns-else-passes-clause-plain
-returns-else-passes-clause-plain c =
-    c.write.ensures.plain ∙ ap (λ d. plain_line (detail_table d)) c.read.ensures.exact
+returns-else-passes-clause-plain c = c.write.ensures.plain ∙ ap (λ d. plain_line (detail_table d)) c.read.ensures.exact
 
 pub returns-else-passes-clause-again : goal.returns-else-passes-clause-again
-returns-else-passes-clause-again c =
-    subst (λ d. AllStandIn c.write.result (detail_table d)) c.read.ensures.exact c.write.ensures.again
+returns-else-passes-clause-again c = subst (λ d. AllStandIn c.write.result (detail_table d)) c.read.ensures.exact c.write.ensures.again
