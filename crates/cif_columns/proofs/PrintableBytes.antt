@@ -1,5 +1,5 @@
 -- Printable bytes by the test and by the fact.
-use Rattle.std.proofs.Common.{◌≡◌, ℕ, true, List, length, cond, Option, Some, None, IsSome, IsTrue, ◌↔◌, Ok, Err, sym, ap, ◌∙◌, arith}
+use Rattle.std.proofs.Common.{◌≡◌, ℕ, true, List, length, cond, Option, Some, None, IsTrue, ◌↔◌, Ok, Err, sym, ap, ◌∙◌, arith}
 use Rattle.std.proofs.Common.{refl, eq-eqb, false, Bool}
 use Rattle.std.proofs.lemmas.Bool.Decides.{nat_tests}
 use Rattle.std.proofs.lemmas.List.Sums.{AllPass-from_list_all, list_all-from_AllPass}
@@ -37,11 +37,6 @@ all_printable false xs h = at (list_all is_printable xs) refl
     at : (t : Bool) → t ≡ list_all is_printable xs → false ≡ t
     at true e = h.1 (printable_fact xs (sym e))
     at false e = refl
-
--- what a line that was found tells of the test
-pub tested : (line : Option (List ℕ)) (xs : List ℕ) → SomeIff line (ArePrintable xs) xs → IsSome line → list_all is_printable xs ≡ true
-tested (Some line) xs h found = printable_true xs h.0
-tested None xs h found = absurd (cc)
 
 -- eighty bytes as a line
 pub line_of-eighty : (line : Option (List ℕ)) (xs : List ℕ) → length xs ≡ 80 → SomeIff line (ArePrintable xs) xs

@@ -1,7 +1,7 @@
 -- What the form of a time says of its columns, and that the tests of it are right.
 use Rattle.std.proofs.Common.{Bool, ◌&&◌, ◌||◌, ◌≡◌, ℕ, ◌+◌, ◌-◌, ◌*◌, ◌/◌, ◌%◌, ◌<◌, ◌≤◌, ◌⊎◌, inl, inr, true, false, nat_eq, nat_lt}
-use Rattle.std.proofs.Common.{List, [], ◌∷◌, length, get_or, replicate, Some, None, refl, sym, ap, arith, rules, cond, subst}
-use Rattle.std.proofs.lemmas.Bool.{and_from, and_parts, eqb-true, ltb-true, or_right}
+use Rattle.std.proofs.Common.{List, [], ◌∷◌, length, get_or, replicate, Some, None, refl, sym, ap, arith, rules, cond, subst, ⊎_elim}
+use Rattle.std.proofs.lemmas.Bool.{and_from, and_parts, eqb-true, ltb-true, or_cases, or_right}
 use Rattle.std.proofs.lemmas.Bool.Decides.{nat_tests}
 use Rattle.std.proofs.lemmas.List.Elements.{All-nil, All-cons, All-append, All-replicate}
 use Rattle.std.proofs.lemmas.Slice.Eq.{text_from_reads}
@@ -81,16 +81,9 @@ chosen_at : (b : Bool) (columns time : List ℕ) → b ≡ true → columns ≡ 
 chosen_at true columns time h same = ap Some same
 chosen_at false columns time h same = cc
 
-found_at : (b : Bool) (columns time : List ℕ) → cond b (Some columns) None ≡ Some time → (b ≡ true) × (columns ≡ time)
-found_at true columns time h = (refl, cc)
-found_at false columns time h = cc
-
 mark_is : (half : ℕ) → nat_eq half 32 || nat_eq half 72 ≡ true → (half ≡ 32) ⊎ (half ≡ 72)
-mark_is half h = mark_at (nat_eq half 32) half refl h
-  where
-    mark_at : (b : Bool) (half : ℕ) → nat_eq half 32 ≡ b → b || nat_eq half 72 ≡ true → (half ≡ 32) ⊎ (half ≡ 72)
-    mark_at true half test h = inl (grind (arith, nat_tests))
-    mark_at false half test h = inr (grind (arith, nat_tests))
+mark_is half h =
+    ⊎_elim (λ (space : nat_eq half 32 ≡ true). inl (eqb-true half 32 space)) (λ late. inr (eqb-true half 72 late)) (or_cases _ _ h)
 
 mark_passes : (half : ℕ) → (half ≡ 32) ⊎ (half ≡ 72) → nat_eq half 32 || nat_eq half 72 ≡ true
 mark_passes half (inl e) = rw e
@@ -101,8 +94,7 @@ mark_passes half (inr e) = rw e
 public_form : (b t : Bool) (columns : List ℕ) → length columns ≡ 4 → is_blank columns ≡ b
     → is_clock (get_or columns 0 0) (get_or columns 1 0) (get_or columns 2 0) (get_or columns 3 0) ≡ t → b || t ≡ true
     → public.IsPublicTime columns
-public_form true t columns width blank clock h =
-    inl (rw width at (blank_is columns blank))
+public_form true t columns width blank clock h = inl (rw width at (blank_is columns blank))
 public_form false true columns width blank clock h =
     let P : List ℕ → Type 0 = IsHourMinute in
     inr (subst P (sym (four columns width)) (hour_minute _ _ _ _ clock))
@@ -110,13 +102,11 @@ public_form false false columns width blank clock h = cc
 
 -- what passes the test stands in its four columns
 pub public-stands : (columns : List ℕ) → length columns ≡ 4 → public.is_public_time columns ≡ true → public.StandsIn columns columns
-public-stands columns width h =
-    record { same = refl; form = public_form (is_blank columns) _ columns width refl refl h }
+public-stands columns width h = record { same = refl; form = public_form (is_blank columns) _ columns width refl refl h }
 
 public_passes : (columns : List ℕ) → public.IsPublicTime columns → public.is_public_time columns ≡ true
 public_passes columns (inl blank) = rw blank
-public_passes columns (inr clock) =
-    rw clock.spelled (or_right _ _ (is_clock-digits clock.hour clock.minute clock.hour_in clock.minute_in))
+public_passes columns (inr clock) = rw clock.spelled (or_right _ _ (is_clock-digits clock.hour clock.minute clock.hour_in clock.minute_in))
 
 -- what stands in columns is found there
 pub public_time_in-stands : (columns time : List ℕ) → public.StandsIn columns time → public.public_time_in columns ≡ Some time
@@ -127,8 +117,7 @@ public_time_in-stands columns time s = chosen_at _ columns time (public_passes c
 work_form : (b t m : Bool) (columns : List ℕ) → length columns ≡ 5 → is_blank columns ≡ b
     → is_clock (get_or columns 0 0) (get_or columns 1 0) (get_or columns 2 0) (get_or columns 3 0) ≡ t
     → nat_eq (get_or columns 4 0) 32 || nat_eq (get_or columns 4 0) 72 ≡ m → b || (t && m) ≡ true → work.IsWorkTime columns
-work_form true t m columns width blank clock mark h =
-    inl (rw width at (blank_is columns blank))
+work_form true t m columns width blank clock mark h = inl (rw width at (blank_is columns blank))
 work_form false true true columns width blank clock mark h =
     inr (record {
       clock = get_or columns 0 0 ∷ get_or columns 1 0 ∷ get_or columns 2 0 ∷ get_or columns 3 0 ∷ [];
@@ -142,8 +131,7 @@ work_form false false m columns width blank clock mark h = cc
 
 -- what passes the test stands in its five columns
 pub work-stands : (columns : List ℕ) → length columns ≡ 5 → work.is_work_time columns ≡ true → work.StandsIn columns columns
-work-stands columns width h =
-    record { same = refl; form = work_form (is_blank columns) _ _ columns width refl refl refl h }
+work-stands columns width h = record { same = refl; form = work_form (is_blank columns) _ _ columns width refl refl refl h }
 
 work_passes : (columns : List ℕ) → work.IsWorkTime columns → work.is_work_time columns ≡ true
 work_passes columns (inl blank) = rw blank

@@ -57,6 +57,3 @@ module _ (now : List Call) (lines others : List (List ℕ)) (first : List ℕ) (
     (is : lines ≡ first ∷ others) (read : call ≡ call_in first) where
   pub first_call : now ≡ call ∷ map call_in others
   first_call = sym view_is ∙ ap (map call_in) is ∙ ap (λ c. c ∷ map call_in others) (sym read)
-
-  pub fewer_calls : length (map call_in others) < length now
-  fewer_calls = omega (arith, ap length first_call)

@@ -1,7 +1,7 @@
 -- What a chain of checks says.
-use Rattle.std.proofs.Common.{◌≡◌, ◌≤◌, ◌<◌, ℕ, Bool, List, Option, Some, None, Result, Ok, Err, nat_le, true, false, arith}
-use Rattle.std.proofs.Common.{refl, sym, ap, ◌∙◌, codes}
+use Rattle.std.proofs.Common.{◌≡◌, ◌≤◌, ◌<◌, ℕ, List, Option, Some, None, Result, Ok, Err, nat_le, true, false, arith, sym, ap, ◌∙◌, codes}
 use Rattle.std.specs.Cmp.Lexicographic.{bytes_decides}
+use Rattle.std.proofs.lemmas.Bool.{false_from_ne_true}
 use Rattle.std.proofs.lemmas.Bool.Decides.{nat_tests}
 use Rattle.cif_columns.specs.declared.refusal.Refusal.{Refusal}
 use Rattle.cif_columns.specs.declared.refusal.Refusal.TheVariants.{DatesReversed}
@@ -13,12 +13,6 @@ use Rattle.cif_records.specs.Checks.{IsJudged, are, last_date_refusal, dates_ref
 pub judged_err : {T : Type 0} (P : T → Type 0) (refusal : Option Refusal) (result : Result T Refusal) (why : Refusal)
     → result ≡ Err why → refusal ≡ Some why → IsJudged refusal P result
 judged_err P refusal result why e h = rw e h
-
--- what is found says more
-pub judged_so : {T : Type 0} (P Q : T → Type 0) (refusal : Option Refusal) (result : Result T Refusal) → ((x : T) → P x → Q x)
-    → IsJudged refusal P result → IsJudged refusal Q result
-judged_so P Q refusal (Ok x) so h = (h.0, so x h.1)
-judged_so P Q refusal (Err why) so h = h
 
 -- a reason is there or not
 pub none-some : (refusal : Option Refusal) (why : Refusal) → refusal ≡ None → refusal ≡ Some why → ⊥
@@ -51,11 +45,8 @@ no_day columns n e h = let none : ◌≡◌ {A = Option ℕ} None (Some n) = ap 
 
 -- columns in which a day stands are no open end
 pub no_open_end : (columns : List ℕ) (n : ℕ) → StandsInYymmdd columns n → are columns (codes "999999") ≡ false
-no_open_end columns n h = at (are columns (codes "999999")) refl
-  where
-    at : (b : Bool) → b ≡ are columns (codes "999999") → b ≡ false
-    at false e = refl
-    at true e = absurd (no_day columns n ((bytes_decides columns (codes "999999")).0 (sym e)) (yymmdd_in-stands columns n h))
+no_open_end columns n h =
+    false_from_ne_true _ (λ is. no_day columns n ((bytes_decides columns (codes "999999")).0 is) (yymmdd_in-stands columns n h))
 
 -- two dates that stand there, the second not before the first
 pub dates_fine : (first last : List ℕ) (m n : ℕ) → StandsInYymmdd first m → StandsInYymmdd last n → m ≤ n → dates_refusal first last ≡ None

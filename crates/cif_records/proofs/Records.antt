@@ -1,6 +1,6 @@
 -- A line spells one record at most, of the kind that it names, and there is no reason to refuse a line that spells one.
 use Rattle.std.proofs.Common.{◌≡◌, ℕ, Bool, true, List, Option, Some, None, Result, Ok, Err, refl, sym, ap, ◌∙◌, subst}
-use Rattle.cif_columns.specs.Field.{AllFit, AllStandIn, Row, columns, is_whole_from, plain_line}
+use Rattle.cif_columns.specs.Field.{AllFit, columns, is_whole_from, plain_line}
 use Rattle.cif_columns.specs.Line.{IsLine}
 use Rattle.cif_columns.specs.declared.refusal.Refusal.{Refusal}
 use Rattle.cif_columns.specs.declared.stp.Stp.{Stp}
@@ -153,21 +153,6 @@ refusal-kind line k e = ap (λ found. refusal_as found line) e
 -- there is no reason to refuse a line that spells a record
 pub no_refusal : (line : List ℕ) (r : Record) → SpellsRecord line r → record_refusal line ≡ None
 no_refusal line r s = refusal-kind line (kind_of r) (kind_there line r s) ∙ no_refusal_as line r s
-
--- the plain line of a record of one kind is that of a record
-module _ {R : Type 0} (table : R → List Row) (of_kind : R → Record) (same : (r : R) → table r ≡ record_table (of_kind r)) where
-  pub plain_as : (line : List ℕ) (refusal : Option Refusal) (result : Result (List ℕ) Refusal) → record_refusal line ≡ refusal
-      → IsJudged refusal (IsPlainOf R table line) result → IsJudged (record_refusal line) (IsPlainOf Record record_table line) result
-  plain_as line refusal (Ok plain) e h = (
-    e ∙ h.0,
-    record {
-      value = of_kind h.1.value;
-      stands = subst (AllStandIn line) (same h.1.value) h.1.stands;
-      same = h.1.same ∙ ap plain_line (same h.1.value);
-      again = subst (AllStandIn plain) (same h.1.value) h.1.again;
-    },
-  )
-  plain_as line refusal (Err why) e h = e ∙ h
 
 -- a line that spells a record has one plain line
 pub only_plain : (line : List ℕ) (result : Result (List ℕ) Refusal)

@@ -1,5 +1,4 @@
--- The view is a map over the lines but for the last: of the first and the others (`first_before_last`) `first_and_rest`, `first_call` and
--- `fewer_calls` tell it.
+-- Of the first of the lines and the others (`first_before_last`) `first_and_rest` and `first_call` tell what the view is.
 use Rattle.std.proofs.Common.{◌≡◌, ◌∷◌, arith}
 use Rattle.std.proofs.lemmas.Bool.Decides.{nat_tests}
 use Rattle.cif_extract.specs.Call.{before_last}
