@@ -1,1 +1,0 @@
--- A look for a comment, and then the next line, are one call (`next_looked`).
