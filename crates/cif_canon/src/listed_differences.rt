@@ -64,7 +64,7 @@ pub(crate) fn push_next<'x, T: Copy + Drop>(
 }
 
 /// What is before each line of a side.
-fn mark_of(side: Side) -> &'static str
+fn prefix_of(side: Side) -> &'static str
     ensures { result.now ≡ mark side }
 {
     match side {
@@ -78,7 +78,7 @@ fn write_marked<W: WriteDevice>(side: Side, line: &Line, sink: &mut Sink<W>)
     ensures { IsAppended W.contents W.write_errors (marked_text side (line.now ∷ []))
         sink.old sink.new }
 {
-    append(mark_of(side), sink);
+    append(prefix_of(side), sink);
     let _ = sink.write_line(line);
 }
 

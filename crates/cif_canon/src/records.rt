@@ -44,8 +44,8 @@ pub(crate) fn extract_runs(
     ensures fault { IfErr result (IsCanonFault (extract_parts extract.now)) }
 {
     let window = Window::of(&extract.header);
-    let associations = canonical_records(alloc, extract.associations.as_slice(), &window, form)?;
-    let schedules = canonical_records(alloc, extract.schedules.as_slice(), &window, form)?;
+    let associations = canonical_runs(alloc, extract.associations.as_slice(), &window, form)?;
+    let schedules = canonical_runs(alloc, extract.schedules.as_slice(), &window, form)?;
     Ok(ExtractRuns {
         associations,
         schedules,
@@ -124,7 +124,7 @@ fn look_ahead<E: Entry>(entries: &[E], positions: &[usize])
 ///
 /// Ambiguous comes only where on some date two winners of a key have different bodies, and names the
 /// first such key and its first such date; Memory where memory ran out.
-pub(crate) fn canonical_records<E: NamedEntry>(
+pub(crate) fn canonical_runs<E: NamedEntry>(
     alloc: Global,
     entries: &[E],
     window: &Window,

@@ -357,7 +357,7 @@ fn add_refusal<R: Files + Input>(
 ) {
     add_input(input, message);
     let format = if number == 1 {
-        format_of(input.start.as_slice())
+        other_format(input.start.as_slice())
     } else {
         None
     };
@@ -444,7 +444,7 @@ static BEGINNINGS: [(&[u8], &str); 7] = [
 ];
 
 /// What an input that begins so looks like, where that is no extract.
-fn format_of(start: &[u8]) -> Option<&'static str> {
+fn other_format(start: &[u8]) -> Option<&'static str> {
     for (beginning, format) in &BEGINNINGS {
         if start.starts_with(beginning) {
             return Some(format);

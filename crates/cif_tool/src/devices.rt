@@ -46,7 +46,7 @@ impl<'a, R: Files + Input> ExtractInput<'a, R> {
                 Some(name) if !is_standard(name) => name,
                 _ => "standard input",
             },
-            // Made where it stays: it is some kilobytes large, and stands in the frame of main.
+            // Made in place: it is some kilobytes large, and lives in the frame of `main`.
             device: match file {
                 Some(name) if !is_standard(name) => Device::Named { files: rt, name },
                 _ => Device::Unlocked(rt),

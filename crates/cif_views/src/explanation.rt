@@ -82,13 +82,13 @@ pub fn explain_listing<W: WriteDevice>(
         ASSOCIATION,
     );
     append(names.as_str(), sink);
-    write_marked(format, day, associations.as_slice(), sink);
-    write_marked(format, day, trains.as_slice(), sink);
+    write_explained(format, day, associations.as_slice(), sink);
+    write_explained(format, day, trains.as_slice(), sink);
     answer(sink)
 }
 
 /// Appends the lines of the records that apply, with their marks.
-fn write_marked<E: ExplainedEntry, W: WriteDevice>(
+fn write_explained<E: ExplainedEntry, W: WriteDevice>(
     format: Format,
     day: Day,
     applying: &[Applying<'_, E>],

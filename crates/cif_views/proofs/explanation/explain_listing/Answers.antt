@@ -11,8 +11,8 @@ use Rattle.cif_views.proofs.explanation.explain_listing.Goals as goal
 
 pub returns-clause-view : goal.returns-clause-view
 returns-clause-view g c =
-    let ones = c.write_marked.ensures in
-    let others = c.write_marked-2.ensures in
+    let ones = c.write_explained.ensures in
+    let others = c.write_explained-2.ensures in
     let head = explanation_heading c.args.format in
     let one = flat_map (explained_association_line c.args.format c.args.day) ones.0 in
     let other = flat_map (explained_train_line c.args.format c.args.day) others.0 in (
@@ -31,8 +31,8 @@ returns-clause-view g c =
           others.1),
     )
 
-pub write_marked-requires : goal.write_marked-requires
-write_marked-requires g c = record { rising = rw c.as_slice-3.ensures.value c.in-Ok.ensures.rising }
+pub write_explained-requires : goal.write_explained-requires
+write_explained-requires g c = record { rising = rw c.as_slice-3.ensures.value c.in-Ok.ensures.rising }
 
-pub write_marked-requires-2 : goal.write_marked-requires-2
-write_marked-requires-2 g c = record { rising = rw c.as_slice-4.ensures.value c.in-Ok-records_on.ensures.rising }
+pub write_explained-requires-2 : goal.write_explained-requires-2
+write_explained-requires-2 g c = record { rising = rw c.as_slice-4.ensures.value c.in-Ok-records_on.ensures.rising }

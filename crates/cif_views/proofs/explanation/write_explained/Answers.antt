@@ -5,7 +5,7 @@ use Rattle.std.proofs.lemmas.List.Elements.{All-nil}
 use Rattle.cif_views.specs.Steps.Explanation.{AreMarked, IsMarkAt, IsMarkOf, marked_as, placed_of}
 use Rattle.cif_canon.proofs.AppendedTexts.{behind, nothing, text-is}
 use Rattle.cif_views.proofs.Explaining.{one_marked}
-use Rattle.cif_views.proofs.explanation.write_marked.Goals as goal
+use Rattle.cif_views.proofs.explanation.write_explained.Goals as goal
 
 pub loop-i-init : goal.loop-i-init
 loop-i-init g c = record {

@@ -9,7 +9,7 @@ use Rattle.cif_calendar.proofs.Positions.{AreLawful-of_key}
 use Rattle.cif_calendar.proofs.KeyPositions.{all-within}
 use Rattle.cif_canon.proofs.Words.{All, Run, keyed, window_from}
 use Rattle.cif_canon.proofs.MadeRecords.{IsMade, made-nothing, made-key, made-fault, made-all}
-use Rattle.cif_canon.proofs.records.canonical_records.Goals as goal
+use Rattle.cif_canon.proofs.records.canonical_runs.Goals as goal
 
 pub loop-rest-init : goal.loop-rest-init
 loop-rest-init g c =

@@ -2,7 +2,7 @@
 use Rattle.std.proofs.Common.{◌<◌, length}
 use Rattle.cif_canon.proofs.Words.{All, keyed, window_from}
 use Rattle.cif_canon.proofs.MadeRecords.{IsMade}
-use Rattle.cif_canon.proofs.records.canonical_records.Given as goal
+use Rattle.cif_canon.proofs.records.canonical_runs.Given as goal
 
 abbrev pub invariant-loop-rest : goal.invariant-loop-rest
 invariant-loop-rest g l = record {
