@@ -1,5 +1,5 @@
 -- The rows of tables, as they are made field by field.
-use Rattle.std.proofs.Common.{◌≡◌, ℕ, ◌+◌, ◌<◌, ◌≤◌, Bool, true, false, List, [], ◌∷◌, ◌++◌, codes, cond, drop, length, ◌∙◌, append-nil}
+use Rattle.std.proofs.Common.{◌≡◌, ◌≢◌, ℕ, ◌+◌, ◌<◌, ◌≤◌, Bool, true, false, List, [], ◌∷◌, ◌++◌, codes, cond, drop, length, ◌∙◌, append-nil}
 use Rattle.std.proofs.Common.{append_assoc, ap, arith, inl, inr, length-append, refl, subst, sym, take}
 use borrow.Rule.Slice.PartMut.{put_mid}
 use Rattle.std.specs.Prelude.{◌⊎◌, slice_index_or, slice_set}
@@ -8,7 +8,7 @@ use Rattle.std.proofs.lemmas.Grind.{flat_map-append}
 use Rattle.std.proofs.lemmas.List.{at_drop_all, length-set, length-take-le, take-take, take_more_set}
 use Rattle.std.proofs.lemmas.List.Folds.{flat_map-map}
 use Rattle.std.proofs.lemmas.Slice.{take-put_mid}
-use Rattle.std.proofs.Math.Seq.{take-append-add}
+use Rattle.std.proofs.Math.Seq.{take-append-add, take-append_seam}
 use Rattle.cif_canon.specs.Fields.{in_table}
 use Rattle.cif_canon.specs.Lines.{ExtractLines}
 use Rattle.cif_canon.specs.declared.rows.Shape.{Shape}
@@ -17,14 +17,20 @@ use Rattle.cif_views.specs.Steps.TableRows.{Place, are_within, field_at, schedul
 use Rattle.cif_views.specs.Tables.{calls_of, change_fields, changes_of}
 use Rattle.cif_views.specs.declared.tables.Table.{Table}
 use Rattle.cif_views.specs.declared.tables.Table.TheVariants.{Calls, Changes, Schedules}
-use Rattle.cif_views.proofs.Words.{CHANGE, Change, Field, JourneyKind, Numbered, Origin, ScheduleLines, Stop, Terminus, Tsv, after}
-use Rattle.cif_views.proofs.Words.{call_fields, call_fields_of, call_rows, change_rows, columns, fields_at, is_call, is_change}
+use Rattle.cif_views.proofs.Words.{CHANGE, Change, Field, JourneyKind, Numbered, Origin, Other, ScheduleLines, Stop, Terminus, Tsv, after}
+use Rattle.cif_views.proofs.Words.{call_fields, call_fields_of, call_row_behind, call_rows, change_row_behind, change_rows, columns}
+use Rattle.cif_views.proofs.Words.{fields_at, is_call, is_change, row_behind, row_of_table, rows_of}
 use Rattle.cif_views.proofs.Words.{journey_rows, kind_of_line, line_of, nothing, number, numbered_from, numbered_schedule, place_fields}
 use Rattle.cif_views.proofs.Words.{room_for, row_line, schedule_fields, table_rows, text_at}
 
 -- fields with a tab before each are a row without the first tab
 pub row-text : (first : Field) (fields : List Field) → drop 1 (after Tsv (first ∷ fields)) ++ codes "\n" ≡ line_of Tsv (first ∷ fields)
 row-text first fields = ap (λ (l : List ℕ). l ++ codes "\n") (joined Tsv first fields)
+
+-- fields behind a number are a row
+behind-number : (n : ℕ) (fields : List Field) → row_behind (after Tsv (number n ∷ [])) fields ≡ line_of Tsv (number n ∷ fields)
+behind-number n fields =
+    ap (λ (l : List ℕ). drop 1 l ++ codes "\n") (both-after Tsv [] (number n ∷ []) fields) ∙ row-text (number n) fields
 
 -- these fields have been appended
 pub record HasPushed (old new : List ℕ) (fields : List Field) : Type 0 where
@@ -198,24 +204,51 @@ pub terminus-fields : (line : List ℕ) → kind_of_line line ≡ Terminus →
     ∷ text_at 26 37 line ∷ nothing ∷ nothing ∷ nothing ∷ []
 terminus-fields line e = rw e refl
 
--- the row of a call, by the kind of its line
-pub call-row : (schedule call : ℕ) (line row : List ℕ) (kind : JourneyKind) → kind_of_line line ≡ kind → is_call kind ≡ true →
-    HasPushed [] row (place_fields schedule call line ++ call_fields_of line) →
-    drop 1 row ++ codes "\n" ≡ call_rows (record { schedule = schedule; call = call; line = line })
-call-row schedule call line row kind is called h =
-    let p : Numbered = record { schedule = schedule; call = call; line = line } in
-    row-pushed row (number schedule) _ h ∙ ap (λ b. cond b (row_line call_fields p) []) (sym (ap is_call is ∙ called))
+-- no kind but one is that of a change
+no-change : (kind : JourneyKind) → kind ≢ Change → is_change kind ≡ false
+no-change Change other = absurd (other refl)
+no-change Origin other = refl
+no-change Stop other = refl
+no-change Terminus other = refl
+no-change Other other = refl
 
-pub no-call-row : (p : Numbered) (kind : JourneyKind) → kind_of_line p.line ≡ kind → is_call kind ≡ false → [] ≡ call_rows p
-no-call-row p kind is other = ap (λ b. cond b (row_line call_fields p) []) (sym (ap is_call is ∙ other))
+-- the row of a line behind what it begins with, by the kind of the line; other lines have none
+pub call-row : (begun : List ℕ) (call : ℕ) (line row : List ℕ) (kind : JourneyKind) → kind_of_line line ≡ kind → is_call kind ≡ true →
+    HasPushed begun row (place_fields call line ++ call_fields_of line) →
+    drop 1 row ++ codes "\n" ≡ call_row_behind begun call line
+call-row begun call line row kind is called h =
+    ap (λ (l : List ℕ). drop 1 l ++ codes "\n") h.text
+    ∙ ap (λ b. cond b (row_behind begun (place_fields call line ++ call_fields_of line)) []) (sym (ap is_call is ∙ called))
 
--- and that of a change
-pub change-row : (schedule call : ℕ) (line row : List ℕ) → kind_of_line line ≡ Change →
-    HasPushed [] row (number schedule ∷ number call ∷ fields_at CHANGE line) →
-    drop 1 row ++ codes "\n" ≡ change_rows (record { schedule = schedule; call = call; line = line })
-change-row schedule call line row is h =
-    let p : Numbered = record { schedule = schedule; call = call; line = line } in
-    row-pushed row (number schedule) _ h ∙ ap (λ b. cond b (row_line change_fields p) []) (sym (ap is_change is))
+pub no-call-row : (begun : List ℕ) (call : ℕ) (line : List ℕ) (kind : JourneyKind) → kind_of_line line ≡ kind → is_call kind ≡ false →
+    [] ≡ call_row_behind begun call line
+no-call-row begun call line kind is other =
+    ap (λ b. cond b (row_behind begun (place_fields call line ++ call_fields_of line)) []) (sym (ap is_call is ∙ other))
 
-pub no-change-row : (p : Numbered) (kind : JourneyKind) → kind_of_line p.line ≡ kind → is_change kind ≡ false → [] ≡ change_rows p
-no-change-row p kind is other = ap (λ b. cond b (row_line change_fields p) []) (sym (ap is_change is ∙ other))
+pub change-row : (begun : List ℕ) (call : ℕ) (line row : List ℕ) → kind_of_line line ≡ Change →
+    HasPushed begun row (number call ∷ fields_at CHANGE line) → drop 1 row ++ codes "\n" ≡ change_row_behind begun call line
+change-row begun call line row is h =
+    ap (λ (l : List ℕ). drop 1 l ++ codes "\n") h.text
+    ∙ ap (λ b. cond b (row_behind begun (number call ∷ fields_at CHANGE line)) []) (sym (ap is_change is))
+
+pub no-change-row : (begun : List ℕ) (call : ℕ) (line : List ℕ) (kind : JourneyKind) → kind ≡ kind_of_line line → kind ≢ Change →
+    [] ≡ change_row_behind begun call line
+no-change-row begun call line kind is other =
+    ap (λ b. cond b (row_behind begun (number call ∷ fields_at CHANGE line)) []) (sym (no-change kind other) ∙ ap is_change is)
+
+-- a row that has been appended to begins as before
+pub begins-alike : (old new : List ℕ) (fields : List Field) → HasPushed old new fields → take (length old) new ≡ old
+begins-alike old new fields h = ap (take (length old)) h.text ∙ take-append_seam old (after Tsv fields)
+
+-- with the number of the schedule before it, it is that of the table
+pub numbered-row : (calls : Bool) (begun : List ℕ) (p : Numbered) → begun ≡ after Tsv (number p.schedule ∷ []) →
+    row_of_table calls begun p.call p.line ≡ rows_of calls p
+numbered-row calls begun p is =
+    ap (λ (l : List ℕ). row_of_table calls l p.call p.line) is
+    ∙ ap (λ (l : List ℕ). cond calls (cond (is_call (kind_of_line p.line)) l []) (change_row_behind begun-by-number p.call p.line))
+    (behind-number p.schedule (place_fields p.call p.line ++ call_fields_of p.line))
+    ∙ ap (λ (l : List ℕ). cond calls (call_rows p) (cond (is_change (kind_of_line p.line)) l []))
+    (behind-number p.schedule (number p.call ∷ fields_at CHANGE p.line))
+  where
+    begun-by-number : List ℕ
+    begun-by-number = after Tsv (number p.schedule ∷ [])

@@ -56,8 +56,8 @@ pub use Rattle.cif_views.specs.Steps.DifferenceRows.{same_places, stands_of}
 pub use Rattle.cif_views.specs.Steps.Explanation.{AreMarked, ArePlacedBelow, ArePlacedInOrder, IsLike, IsMarkAt, IsMarkOf, Placed}
 pub use Rattle.cif_views.specs.Steps.Explanation.{marked_as, placed_at, placed_cmp, placed_of}
 pub use Rattle.cif_views.specs.Steps.Rows.{first_field, names_behind, row_lines}
-pub use Rattle.cif_views.specs.Steps.TableRows.{call_fields_of, call_rows, change_rows, fields_at, journey_rows, place_fields, room_for}
-pub use Rattle.cif_views.specs.Steps.TableRows.{rows_of}
+pub use Rattle.cif_views.specs.Steps.TableRows.{call_fields_of, call_row_behind, call_rows, change_row_behind, change_rows, fields_at}
+pub use Rattle.cif_views.specs.Steps.TableRows.{journey_rows, place_fields, room_for, row_behind, row_of_table, rows_of}
 pub use Rattle.cif_views.specs.Steps.WeekCalendar.{state_in}
 pub use Rattle.cif_views.specs.Tables.{Numbered, NumberedSchedule, TableFields, association_fields, call_fields, extra_in, is_call}
 pub use Rattle.cif_views.specs.Tables.{is_change, journey_kind, kind_of_line, names_line, number, numbered_from, numbered_schedule}

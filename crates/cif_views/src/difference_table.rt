@@ -388,6 +388,7 @@ fn write_field<W: WriteDevice>(
     row.push(Shape::Whole, one);
     row.push(Shape::Whole, other);
     row.write(sink);
+    row.truncate(0);
 }
 
 /// What a table shows of the field: its columns up to the last that is no space.

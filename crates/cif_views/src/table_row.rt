@@ -108,16 +108,30 @@ impl TableRow {
         }
     }
 
-    /// Appends the row to the sink, without its first tab and with a line feed, and empties it.
+    /// The bytes so far.
+    pub(crate) fn len(&self) -> usize
+        ensures { result ≡ length self.now }
+    {
+        self.len
+    }
+
+    /// Keeps the first `len` bytes alone.
+    pub(crate) fn truncate(&mut self, len: usize)
+        requires { len ≤ length self.old }
+        ensures { self.new ≡ take len self.old }
+    {
+        self.len = len;
+    }
+
+    /// Appends the row to the sink, without its first tab and with a line feed.
     pub(crate) fn write<W: WriteDevice>(&mut self, sink: &mut Sink<W>)
         requires some { 0 < length self.old }
         requires room { length self.old + 1 ≤ ROOM }
         ensures text { IsAppended W.contents W.write_errors (drop 1 self.old ++ codes "\n") sink.old sink.new }
-        ensures empty { self.new ≡ [] }
+        ensures same { self.new ≡ self.old }
     {
         self.bytes[self.len] = b'\n';
         let _ = sink.write_all(&self.bytes[1..self.len + 1]);
-        self.len = 0;
     }
 }
 

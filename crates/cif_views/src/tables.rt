@@ -1,5 +1,5 @@
 //! Tables of a whole canonical extract.
-ghost use Rattle.std.specs.Prelude.{◌≡◌, ◌<◌, ◌≤◌, ◌+◌, ◌^◌, ◌++◌, [], IfErr, IsTrue, cond, length, map};
+ghost use Rattle.std.specs.Prelude.{◌≡◌, ◌<◌, ◌≤◌, ◌+◌, ◌^◌, ◌++◌, [], IfErr, IsTrue, cond, length, map, take};
 ghost use Rattle.std.specs.List.{flat_map};
 ghost use Rattle.cif_columns.specs.Field.{columns_from};
 ghost use Rattle.cif_columns.specs.Sink.{Writes};
@@ -9,7 +9,8 @@ ghost use Rattle.cif_canon.specs.Fields.{after, line_of};
 ghost use Rattle.cif_canon.specs.Lines.{line_of_tiploc};
 ghost use Rattle.cif_canon.specs.declared.rows.Format.TheVariants.{Tsv};
 ghost use Rattle.cif_views.specs.Steps.TableRows.{are_within, call_fields_of, fields_at, journey_rows};
-ghost use Rattle.cif_views.specs.Steps.TableRows.{call_rows, change_rows, place_fields, room_for, rows_of};
+ghost use Rattle.cif_views.specs.Steps.TableRows.{call_row_behind, change_row_behind, place_fields};
+ghost use Rattle.cif_views.specs.Steps.TableRows.{room_for, row_of_table, rows_of};
 ghost use Rattle.cif_views.specs.Tables.{extra_in, header_fields, is_call, yymmdd_from};
 ghost use Rattle.cif_views.specs.Tables.{kind_of_line, numbered_schedule, row_line, schedule_fields};
 ghost use Rattle.cif_views.specs.Tables.{table_heading, table_text, tiploc_fields};
@@ -304,7 +305,7 @@ pub(crate) fn extra_among(lines: &LineSlice<'_>) -> Line
     }
 }
 
-/// Appends the rows of a schedule's calls, or of its changes.
+/// Appends the rows of a schedule's calls, or of its changes. They all begin with its number.
 fn write_journey<W: WriteDevice>(
     calls: bool,
     schedule: usize,
@@ -314,13 +315,14 @@ fn write_journey<W: WriteDevice>(
     ensures { IsAppended W.contents W.write_errors (journey_rows (rows_of calls) schedule lines.entry) sink.old sink.new }
 {
     let mut row = TableRow::new();
+    row.push_number(schedule);
     let mut call = 1;
     let mut lines = lines;
     lines.are_few();
     while !lines.is_empty() {
         let line = lines.first();
         let kind = kind_of_line(&line);
-        write_numbered(calls, &mut row, schedule, call, kind, &line, sink);
+        write_numbered(calls, &mut row, call, kind, &line, sink);
         call = call_after(call, kind);
         lines = lines.rest();
     }
@@ -350,57 +352,57 @@ pub(crate) fn call_after(call: usize, kind: JourneyKind) -> usize
     }
 }
 
-/// Appends the row of a line, if the table has one of it.
+/// Appends the row of a line behind what it begins with, if the table has one of it.
 fn write_numbered<W: WriteDevice>(
     calls: bool,
     row: &mut TableRow,
-    schedule: usize,
     call: usize,
     kind: JourneyKind,
     line: &Line,
     sink: &mut Sink<W>,
 )
-    requires empty { row.old ≡ [] }
+    requires begun { 0 < length row.old }
+    requires room { length row.old ≤ 41 }
     requires kind { kind ≡ kind_of_line line.now }
-    ensures text { IsAppended W.contents W.write_errors
-        (rows_of calls (record { schedule = schedule; call = call; line = line.now })) sink.old sink.new }
-    ensures empty { row.new ≡ [] }
+    ensures text { IsAppended W.contents W.write_errors (row_of_table calls row.old call line.now) sink.old sink.new }
+    ensures same { row.new ≡ row.old }
 {
+    let begun = row.len();
     if calls {
-        write_call(row, schedule, call, kind, line, sink);
+        write_call(row, call, kind, line, sink);
     } else {
-        write_change(row, schedule, call, kind, line, sink);
+        write_change(row, call, kind, line, sink);
     }
+    row.truncate(begun);
 }
 
 /// Appends the row of the line, if it is that of a call.
 fn write_call<W: WriteDevice>(
     row: &mut TableRow,
-    schedule: usize,
     call: usize,
     kind: JourneyKind,
     line: &Line,
     sink: &mut Sink<W>,
 )
-    requires empty { row.old ≡ [] }
+    requires begun { 0 < length row.old }
+    requires room { length row.old ≤ 41 }
     requires kind { kind ≡ kind_of_line line.now }
-    ensures text { IsAppended W.contents W.write_errors
-        (call_rows (record { schedule = schedule; call = call; line = line.now })) sink.old sink.new }
-    ensures empty { row.new ≡ [] }
+    ensures text { IsAppended W.contents W.write_errors (call_row_behind row.old call line.now) sink.old sink.new }
+    ensures begun { take (length row.old) row.new ≡ row.old }
 {
     match kind {
         JourneyKind::Origin => {
-            push_place(row, schedule, call, line);
+            push_place(row, call, line);
             push_origin(row, line);
             row.write(sink);
         }
         JourneyKind::Stop => {
-            push_place(row, schedule, call, line);
+            push_place(row, call, line);
             push_stop(row, line);
             row.write(sink);
         }
         JourneyKind::Terminus => {
-            push_place(row, schedule, call, line);
+            push_place(row, call, line);
             push_terminus(row, line);
             row.write(sink);
         }
@@ -412,39 +414,30 @@ fn write_call<W: WriteDevice>(
 /// Appends the row of the line, if it is that of a change.
 fn write_change<W: WriteDevice>(
     row: &mut TableRow,
-    schedule: usize,
     call: usize,
     kind: JourneyKind,
     line: &Line,
     sink: &mut Sink<W>,
 )
-    requires empty { row.old ≡ [] }
+    requires begun { 0 < length row.old }
+    requires room { length row.old ≤ 41 }
     requires kind { kind ≡ kind_of_line line.now }
-    ensures text { IsAppended W.contents W.write_errors
-        (change_rows (record { schedule = schedule; call = call; line = line.now })) sink.old sink.new }
-    ensures empty { row.new ≡ [] }
+    ensures text { IsAppended W.contents W.write_errors (change_row_behind row.old call line.now) sink.old sink.new }
+    ensures begun { take (length row.old) row.new ≡ row.old }
 {
-    match kind {
-        JourneyKind::Change => {
-            row.push_number(schedule);
-            row.push_number(call);
-            row.push_each(&CHANGE, line);
-            row.write(sink);
-        }
-        JourneyKind::Origin => {}
-        JourneyKind::Stop => {}
-        JourneyKind::Terminus => {}
-        JourneyKind::Other => {}
+    if let JourneyKind::Change = kind {
+        row.push_number(call);
+        row.push_each(&CHANGE, line);
+        row.write(sink);
     }
 }
 
-/// Appends the numbers, the identity and the location of a call.
-fn push_place(row: &mut TableRow, schedule: usize, call: usize, line: &Line)
-    requires { row.old ≡ [] }
-    ensures text { row.new ≡ after Tsv (place_fields schedule call line.now) }
+/// Appends the number, the identity and the location of a call.
+fn push_place(row: &mut TableRow, call: usize, line: &Line)
+    requires { length row.old ≤ 41 }
+    ensures text { row.new ≡ row.old ++ after Tsv (place_fields call line.now) }
     ensures len { length row.new ≤ 95 }
 {
-    row.push_number(schedule);
     row.push_number(call);
     row.push(Shape::Trimmed, &columns_at::<2>(line, 1));
     row.push(Shape::Trimmed, &columns_at::<7>(line, 3));

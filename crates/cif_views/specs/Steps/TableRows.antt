@@ -1,15 +1,18 @@
 -- The rows of tables as the code makes them. No public clause cites them.
-use Rattle.std.specs.Prelude.{◌≡◌, ⊤, ℕ, ◌+◌, ◌-◌, Bool, true, ◌&&◌, List, [], ◌∷◌, cond, drop, length, map, nat_eq, nat_le}
+use Rattle.std.specs.Prelude.{◌≡◌, ⊤, ℕ, ◌+◌, ◌-◌, Bool, true, ◌&&◌, List, [], ◌∷◌, ◌++◌, codes, cond, drop, length, map, nat_eq}
+use Rattle.std.specs.Prelude.{nat_le}
 use Rattle.std.specs.List.{flat_map}
 use Rattle.cif_columns.specs.Field.{columns}
-use Rattle.cif_canon.specs.Fields.{Field}
+use Rattle.cif_canon.specs.Fields.{Field, after}
 use Rattle.cif_canon.specs.Lines.{ScheduleLines}
+use Rattle.cif_canon.specs.declared.rows.Format.TheVariants.{Tsv}
 use Rattle.cif_canon.specs.declared.rows.Shape.{Shape}
 use Rattle.cif_canon.specs.declared.rows.Shape.TheVariants.{Date, Trimmed}
 use Rattle.cif_views.specs.Tables.{Numbered, call_fields, calls_of, change_fields, changes_of, is_call, is_change, kind_of_line}
 use Rattle.cif_views.specs.Tables.{number, numbered_from, numbered_schedule, row_line, schedule_fields}
 use Rattle.cif_views.specs.declared.tables.Table.{Table}
 use Rattle.cif_views.specs.declared.tables.Table.TheVariants.{Associations, Calls, Changes, Header, Schedules, Tiplocs}
+use Rattle.cif_views.specs.declared.tables.TheConstants.{CHANGE}
 
 -- six digits are shown as a date
 abbrev pub IsOfShape : Shape → List ℕ → Type 0
@@ -51,10 +54,26 @@ room_for (place ∷ places) = room_of place.0 place.1 place.2 + room_for places
 abbrev pub call_fields_of : List ℕ → List Field
 call_fields_of line = map (λ f. f.1 (record { schedule = 0; call = 0; line = line })) (drop 5 call_fields)
 
--- those before: its numbers, its identity and its location
-abbrev pub place_fields : ℕ → ℕ → List ℕ → List Field
-place_fields schedule call line =
-    number schedule ∷ number call ∷ (Trimmed, columns 1 2 line) ∷ (Trimmed, columns 3 9 line) ∷ (Trimmed, columns 10 10 line) ∷ []
+-- those before, behind the number of its schedule: its number, its identity and its location
+abbrev pub place_fields : ℕ → List ℕ → List Field
+place_fields call line =
+    number call ∷ (Trimmed, columns 1 2 line) ∷ (Trimmed, columns 3 9 line) ∷ (Trimmed, columns 10 10 line) ∷ []
+
+-- The row of a call behind what it begins with, by its line; other lines have none. And the row of a change.
+abbrev pub row_behind : List ℕ → List Field → List ℕ
+row_behind begun fields = drop 1 (begun ++ after Tsv fields) ++ codes "\n"
+
+abbrev pub call_row_behind : List ℕ → ℕ → List ℕ → List ℕ
+call_row_behind begun call line =
+    cond (is_call (kind_of_line line)) (row_behind begun (place_fields call line ++ call_fields_of line)) []
+
+abbrev pub change_row_behind : List ℕ → ℕ → List ℕ → List ℕ
+change_row_behind begun call line =
+    cond (is_change (kind_of_line line)) (row_behind begun (number call ∷ fields_at CHANGE line)) []
+
+-- that of a table which is or isn't that of the calls
+abbrev pub row_of_table : Bool → List ℕ → ℕ → List ℕ → List ℕ
+row_of_table calls begun call line = cond calls (call_row_behind begun call line) (change_row_behind begun call line)
 
 -- the rows that a table of calls or of changes has of a numbered line
 abbrev pub call_rows : Numbered → List ℕ

@@ -1,35 +1,27 @@
--- The numbers and the fields of the line are the row of a change (`change-row`); other lines have none (`no-change-row`).
-use Rattle.std.proofs.Common.{◌∙◌, decimal, refl, sym}
+-- The number and the fields of the line are the row of a change (`change-row`); other lines have none (`no-change-row`).
+use Rattle.std.proofs.Common.{[], ◌∙◌, ap, decimal, length, refl, sym, take}
+use Rattle.std.proofs.Math.Seq.{take-length}
 use Rattle.cif_canon.proofs.AppendedTexts.{nothing, text-is}
-use Rattle.cif_views.proofs.Words.{CHANGE, Origin, Other, Stop, Terminus, Whole, fields_at}
-use Rattle.cif_views.proofs.TableRows.{begun-row, change-row, more-pushed, no-change-row, one-pushed}
+use Rattle.cif_views.proofs.Words.{CHANGE, Whole, fields_at}
+use Rattle.cif_views.proofs.TableRows.{begins-alike, change-row, more-pushed, no-change-row, none-pushed, one-pushed}
 use Rattle.cif_views.proofs.tables.write_change.Goals as goal
 
 pub returns-in-Change-clause-text : goal.returns-in-Change-clause-text
 returns-in-Change-clause-text g c =
     let line = c.args.line.now in
-    let h0 = begun-row _ c.requires.empty in
-    let h1 = one-pushed _ _ _ _ Whole _ (decimal c.args.schedule) h0 c.push_number.ensures.text refl in
-    let h2 = one-pushed _ _ _ _ Whole _ (decimal c.args.call) h1 c.push_number-in-Change.ensures.text refl in
-    let h3 = more-pushed _ _ _ _ (fields_at CHANGE line) h2 c.push_each.ensures.text in
-    text-is _ _ _ _ _ _ (change-row c.args.schedule c.args.call line _ (sym c.requires.kind ∙ c.in-Change.is) h3) c.write.ensures.text
+    let number = one-pushed _ _ _ _ Whole _ (decimal c.args.call) (none-pushed c.args.row.now) c.push_number.ensures.text refl in
+    let row = more-pushed _ _ _ _ (fields_at CHANGE line) number c.push_each.ensures.text in
+    text-is _ _ _ _ _ _ (change-row _ c.args.call line _ (sym c.requires.kind ∙ c.in-Change.is) row) c.write.ensures.text
 
-pub returns-in-Origin-clause-text : goal.returns-in-Origin-clause-text
-returns-in-Origin-clause-text g c =
-    text-is _ _ _ _ _ _ (no-change-row (record { schedule = c.args.schedule; call = c.args.call; line = c.args.line.now }) Origin
-    (sym c.requires.kind ∙ c.in-Origin.is) refl) (nothing _ _ _)
+pub returns-in-Change-clause-begun : goal.returns-in-Change-clause-begun
+returns-in-Change-clause-begun g c =
+    let line = c.args.line.now in
+    let number = one-pushed _ _ _ _ Whole _ (decimal c.args.call) (none-pushed c.args.row.now) c.push_number.ensures.text refl in
+    let row = more-pushed _ _ _ _ (fields_at CHANGE line) number c.push_each.ensures.text in
+    ap (take (length c.args.row.now)) c.write.ensures.same ∙ begins-alike _ _ _ row
 
-pub returns-in-Stop-clause-text : goal.returns-in-Stop-clause-text
-returns-in-Stop-clause-text g c =
-    text-is _ _ _ _ _ _ (no-change-row (record { schedule = c.args.schedule; call = c.args.call; line = c.args.line.now }) Stop
-    (sym c.requires.kind ∙ c.in-Stop.is) refl) (nothing _ _ _)
-
-pub returns-in-Terminus-clause-text : goal.returns-in-Terminus-clause-text
-returns-in-Terminus-clause-text g c =
-    text-is _ _ _ _ _ _ (no-change-row (record { schedule = c.args.schedule; call = c.args.call; line = c.args.line.now }) Terminus
-    (sym c.requires.kind ∙ c.in-Terminus.is) refl) (nothing _ _ _)
-
-pub returns-in-Other-clause-text : goal.returns-in-Other-clause-text
-returns-in-Other-clause-text g c =
-    text-is _ _ _ _ _ _ (no-change-row (record { schedule = c.args.schedule; call = c.args.call; line = c.args.line.now }) Other
-    (sym c.requires.kind ∙ c.in-Other.is) refl) (nothing _ _ _)
+pub returns-in_default : goal.returns-in_default
+returns-in_default g c = record {
+  text = text-is _ _ _ _ _ _ (no-change-row c.args.row.now c.args.call c.args.line.now _ c.requires.kind c.in_default.not-Change) (nothing _ _ _);
+  begun = take-length c.args.row.now;
+}

@@ -1,17 +1,19 @@
 -- One line more is written (`one-line`), until none is left (`none-left`).
-use Rattle.std.proofs.Common.{◌≡◌, ◌+◌, ◌<◌, ◌++◌, ◌∙◌, [], ap, arith, cond, length, refl}
+use Rattle.std.proofs.Common.{◌≡◌, ◌+◌, ◌<◌, ◌++◌, ◌∙◌, [], ap, arith, cond, decimal, length, refl}
 use Rattle.std.proofs.lemmas.Bool.Decides.{nat_tests}
 use Rattle.cif_canon.proofs.AppendedTexts.{both, nothing, text-is}
-use Rattle.cif_views.proofs.Words.{is_call, rows_of}
-use Rattle.cif_views.proofs.TableRows.{first-and-rest, next-call, none-left, one-line}
+use Rattle.cif_views.proofs.Words.{Whole, is_call, rows_of}
+use Rattle.cif_views.proofs.TableRows.{begun-row, first-and-rest, next-call, none-left, numbered-row, one-line, one-pushed}
 use Rattle.cif_views.proofs.tables.write_journey.Goals as goal
 
 pub loop-lines-init : goal.loop-lines-init
-loop-lines-init g c = ([], nothing _ _ _, refl, c.new-row.ensures, omega arith)
+loop-lines-init g c =
+    ([], nothing _ _ _, refl,
+    (one-pushed _ _ _ [] Whole _ (decimal c.args.schedule) (begun-row _ c.new-row.ensures) c.push_number.ensures.text refl).text, omega arith)
 
 pub loop-lines-preserved : goal.loop-lines-preserved
 loop-lines-preserved g c =
-    let (text, written, left, empty, few) = c.loop-lines.invariant in
+    let (text, written, left, begun, few) = c.loop-lines.invariant in
     let lines = c.loop-lines.lines in
     let test = c.loop-lines-test.true in
     let told = c.is_empty.ensures in
@@ -20,11 +22,13 @@ loop-lines-preserved g c =
     let is = first-and-rest lines line c.rest-lines.result some c.first-line.ensures c.rest-lines.ensures in
     let rows = rows_of c.args.calls in (
       text ++ rows (record { schedule = c.args.schedule; call = c.loop-lines.call; line = line }),
-      both _ _ text _ _ _ _ written c.write_numbered.ensures.text,
+      both _ _ text _ _ _ _ written
+          (text-is _ _ _ _ _ _ (numbered-row c.args.calls _ (record { schedule = c.args.schedule; call = c.loop-lines.call; line = line }) begun)
+          c.write_numbered.ensures.text),
       one-line rows c.args.schedule _ text c.loop-lines.call _ lines line _ is
           (c.call_after-call.ensures ∙ ap (λ kind. cond (is_call kind) (c.loop-lines.call + 1) c.loop-lines.call)
           c.kind_of_line-kind.ensures) left,
-      c.write_numbered.ensures.empty,
+      c.write_numbered.ensures.same ∙ begun,
       next-call (is_call c.kind_of_line-kind.result) c.loop-lines.call _ _ lines _ line is c.call_after-call.ensures few,
     )
 
@@ -39,7 +43,7 @@ loop-lines-smaller g c =
 
 pub returns : goal.returns
 returns g c =
-    let (text, written, left, empty, few) = c.loop-lines.invariant in
+    let (text, written, left, begun, few) = c.loop-lines.invariant in
     let lines = c.loop-lines.lines in
     let test = c.loop-lines-test.false in
     let told = c.is_empty.ensures in

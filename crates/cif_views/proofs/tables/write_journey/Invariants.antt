@@ -1,6 +1,6 @@
--- What is written, and the rows of the lines that are left, are all; the row is empty, and the calls aren't more than the lines.
-use Rattle.std.proofs.Common.{◌≡◌, ◌+◌, ◌≤◌, ℕ, List, [], length}
-use Rattle.cif_views.proofs.Words.{IsAppended, journey_rows, rows_of}
+-- What is written, and the rows of the lines that are left, are all; the row begins with the number, and the calls aren't more than the lines.
+use Rattle.std.proofs.Common.{◌≡◌, ◌+◌, ◌≤◌, ℕ, List, [], ◌∷◌, length}
+use Rattle.cif_views.proofs.Words.{IsAppended, Tsv, after, journey_rows, number, rows_of}
 use Rattle.cif_views.proofs.TableRows.{AreLeft}
 use Rattle.cif_views.proofs.tables.write_journey.Given as goal
 
@@ -9,7 +9,7 @@ invariant-loop-lines g l =
     (text : List ℕ)
     × IsAppended g.W.Write.contents g.W.WriteDevice.write_errors text l.initial.sink l.sink
     × AreLeft (rows_of l.calls) l.schedule (journey_rows (rows_of l.calls) l.schedule l.initial.lines) text l.call l.lines
-    × (l.row ≡ [])
+    × (l.row ≡ after Tsv (number l.schedule ∷ []))
     × (l.call + length l.lines ≤ 1 + length l.initial.lines)
 
 abbrev pub decreases-loop-lines : goal.decreases-loop-lines
