@@ -317,8 +317,21 @@ fn push_in_table<const N: usize>(line: &mut ArrayString<N>, shape: Shape, column
 }
 
 /// How many columns there are up to the last that is no space.
+// Most wide fields end in spaces, and one comparison of eight columns takes less time than eight.
 #[inline(always)]
 pub fn used_columns(columns: &[u8]) -> usize
+    ensures value { result ≡ used columns.now }
+    ensures bound { result ≤ length columns.now }
+{
+    match columns.strip_suffix(b"        ") {
+        Some(columns) => count_used(columns),
+        None => count_used(columns),
+    }
+}
+
+/// The same, column by column.
+#[inline(always)]
+fn count_used(columns: &[u8]) -> usize
     ensures value { result ≡ used columns.now }
     ensures bound { result ≤ length columns.now }
 {

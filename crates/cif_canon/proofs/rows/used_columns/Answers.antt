@@ -1,20 +1,16 @@
--- One column more by `used_next`; at the end these are all columns.
-use Rattle.std.proofs.Common.{ap, cond, get_or, length, subst, sym, take_all, ◌+◌, ◌∙◌, ◌≤◌}
-use Rattle.cif_columns.specs.Lines.{is_space, used}
-use Rattle.cif_columns.proofs.KeptLines.{used_few, used_next}
+-- Spaces at the end change nothing (`used-behind`).
+use Rattle.std.proofs.Common.{◌≡◌, ◌++◌, ◌∙◌, ℕ, List, [], ◌∷◌, Some, ap, codes, refl, sym}
+use Rattle.std.proofs.lemmas.Bool.Decides.{Decides-eqb}
+use Rattle.std.proofs.lemmas.Slice.Eq.{strip_suffix_is}
+use Rattle.cif_columns.specs.Lines.{is_space, used, used_with}
 use Rattle.cif_canon.proofs.rows.used_columns.Goals as goal
 
-pub loop-i-preserved : goal.loop-i-preserved
-loop-i-preserved c =
-    let columns = c.args.columns.now in
-    c.used_up_to-count.ensures
-    ∙ ap (λ n. cond (is_space (get_or columns c.loop-i.i 0)) n (c.loop-i.i + 1)) c.loop-i.invariant
-    ∙ sym (used_next columns c.loop-i.i c.loop-i-test.true)
+-- columns behind which spaces stand
+used-behind : (columns spaces : List ℕ) → used spaces ≡ 0 → used (columns ++ spaces) ≡ used columns
+used-behind [] spaces none = none
+used-behind (c ∷ columns) spaces none = ap (used_with (is_space c)) (used-behind columns spaces none)
 
-pub returns-clause-value : goal.returns-clause-value
-returns-clause-value c = c.loop-i.invariant ∙ ap used (take_all c.loop-i.i c.args.columns.now c.loop-i-test.false)
-
-pub returns-clause-bound : goal.returns-clause-bound
-returns-clause-bound c =
-    subst (λ n. n ≤ length c.args.columns.now)
-    (sym (c.loop-i.invariant ∙ ap used (take_all c.loop-i.i c.args.columns.now c.loop-i-test.false))) (used_few c.args.columns.now)
+pub returns-in-Some-clause-value : goal.returns-in-Some-clause-value
+returns-in-Some-clause-value c =
+    let is = strip_suffix_is Decides-eqb c.args.columns.now (codes "        ") (Some c.in-Some.columns) c.in-Some.ensures.cases in
+    c.count_used.ensures.value ∙ sym (ap used is ∙ used-behind c.in-Some.columns.now (codes "        ") refl)
