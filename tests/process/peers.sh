@@ -204,7 +204,7 @@ full_disk() {
     by_hand 'trap "" XFSZ; ulimit -f 1; exec "$@" > "$PEER"'
     grown=$(wc -c < "$work/peer")
     owes "a file that can't grow" gives_fault '' 4 "$WRITE_FAULT"
-    owes "it has a prefix of the answer" is_front "$grown" "$row/stdout" "$work/peer"
+    owes "it has a prefix of the answer" is_prefix "$grown" "$row/stdout" "$work/peer"
     owes "it has a part of the answer" [ "$grown" -lt "$(bytes stdout)" ]
     rm "$work/peer"
 }

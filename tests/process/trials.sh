@@ -118,24 +118,24 @@ gives_fault() {
     tells "$1" && [ "$status" = "$2" ] && [ ! -s "$work/stdout" ] && says "$3"
 }
 
-# is_front COUNT WHOLE PART: whether the part is the first COUNT bytes of the whole
-is_front() {
-    : > "$work/front"
+# is_prefix COUNT WHOLE PART: whether the part is the first COUNT bytes of the whole
+is_prefix() {
+    : > "$work/prefix"
     if [ "$1" -gt 0 ]; then
-        dd if="$2" of="$work/front" bs="$1" count=1 2> /dev/null
+        dd if="$2" of="$work/prefix" bs="$1" count=1 2> /dev/null
     fi
-    cmp -s "$work/front" "$3"
+    cmp -s "$work/prefix" "$3"
 }
 
-# gives_front PATTERN COUNT: the first COUNT bytes of the row's answer, and then the output failed
-gives_front() {
-    tells "$1" && [ "$status" = 4 ] && says "$WRITE_FAULT" && is_front "$2" "$row/stdout" "$work/stdout"
+# gives_prefix PATTERN COUNT: the first COUNT bytes of the row's answer, and then the output failed
+gives_prefix() {
+    tells "$1" && [ "$status" = 4 ] && says "$WRITE_FAULT" && is_prefix "$2" "$row/stdout" "$work/stdout"
 }
 
 # gives_cut_line PATTERN COUNT: the row's status, and the first COUNT bytes of its fault line
 gives_cut_line() {
     tells "$1" && [ "$status" = "$wanted" ] && [ ! -s "$work/stdout" ] &&
-        is_front "$2" "$row/stderr" "$work/stderr"
+        is_prefix "$2" "$row/stderr" "$work/stderr"
 }
 
 # gives_output PATTERN: the row's answer, but nothing on the standard error
@@ -171,7 +171,7 @@ fail_write() {
     if [ "$1" = $EINTR ]; then
         gives_answer '*ea*'
     else
-        gives_front '*e' $((($2 - 1) * 64))
+        gives_prefix '*e' $((($2 - 1) * 64))
     fi
 }
 
@@ -240,7 +240,7 @@ each_failing_write() {
     last=$(bytes stdout)
     while [ $at -lt "$last" ]; do
         hostile HOSTILE_CALL=write HOSTILE_ON=1 HOSTILE_AFTER=$at HOSTILE_ERROR=$ENOSPC
-        owes "the output is full at byte $at" gives_front '*e' $at
+        owes "the output is full at byte $at" gives_prefix '*e' $at
         at=$((at + 1))
     done
     hostile HOSTILE_CALL=write HOSTILE_ON=1 HOSTILE_AFTER=$at HOSTILE_ERROR=$ENOSPC
@@ -374,7 +374,7 @@ second_write() {
             owes "write 2 fails with error $error" gives_answer 'ea'
         else
             went=$(wc -c < "$work/stdout")
-            owes "write 2 fails with error $error" gives_front e "$went"
+            owes "write 2 fails with error $error" gives_prefix e "$went"
             owes "write 1 took a part of the answer" [ "$went" -gt 0 ]
             owes "write 1 took no more" [ "$went" -lt "$(bytes stdout)" ]
         fi

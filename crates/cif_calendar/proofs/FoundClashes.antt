@@ -65,22 +65,22 @@ module _ {K B : Type 0} (cmp : K → K → Ordering) (es : List (K × Terms B)) 
 
     -- the first positions are those of their key
     own-turn : ArePositionsOf es run.key (take n rest)
-    own-turn = turn cmp total es rest (AnyHasKey es rest) s.passed run.key leads n run.front
+    own-turn = turn cmp total es rest (AnyHasKey es rest) s.passed run.key leads n run.count
 
     -- what is later was left, and is after the key
     left : (k : K) → AnyHasKey es (drop n rest) k → AnyHasKey es rest k
-    left = left-before cmp total es rest (AnyHasKey es rest) s.passed run.key leads n run.front
+    left = left-before cmp total es rest (AnyHasKey es rest) s.passed run.key leads n run.count
 
     later : (k : K) → AnyHasKey es (drop n rest) k → cmp run.key k ≡ Less
-    later = later-less cmp total es rest (AnyHasKey es rest) s.passed run.key leads n run.front
+    later = later-less cmp total es rest (AnyHasKey es rest) s.passed run.key leads n run.count
 
     passed-on : HasPassed cmp es (drop n rest) (AnyHasKey es (drop n rest))
     passed-on =
-        passed-more cmp total es rest (AnyHasKey es rest) s.passed run.key leads n run.front (AnyHasKey es (drop n rest)) left later
+        passed-more cmp total es rest (AnyHasKey es rest) s.passed run.key leads n run.count (AnyHasKey es (drop n rest)) left later
 
     gone : (k : K) → (AnyHasKey es (drop n rest) k → ⊥) → (k ≡ run.key → ⊥) → AnyHasKey es rest k → ⊥
     gone k none apart any =
-        ⊎_elim apart none (key-or-later cmp total es rest (AnyHasKey es rest) s.passed run.key leads n run.front k any)
+        ⊎_elim apart none (key-or-later cmp total es rest (AnyHasKey es rest) s.passed run.key leads n run.count k any)
 
     -- a key without a clash
     searched-clear : IsClearFrom (of_key es run.key) first last → IsSearched found (drop n rest)

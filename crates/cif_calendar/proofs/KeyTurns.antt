@@ -14,7 +14,7 @@ use Rattle.cif_calendar.specs.Keys.{of_key}
 use Rattle.cif_calendar.proofs.Positions.{at-contains}
 use Rattle.cif_calendar.specs.Terms.{Terms}
 use Rattle.cif_calendar.proofs.RisingLists.{not_less}
-use Rattle.cif_calendar.specs.ByKey.{AnyHasKey, AreFrom, HasKey, AreOfFirstKey, IsFront, IsNotAfter, IsRising}
+use Rattle.cif_calendar.specs.ByKey.{AnyHasKey, AreFrom, HasKey, AreOfFirstKey, IsCountOfKey, IsNotAfter, IsRising}
 
 -- a position has one key
 pub one-key : {K B : Type 0} (es : List (K × Terms B)) (i : ℕ) (j k : K) → HasKey es i j → HasKey es i k → j ≡ k
@@ -64,14 +64,14 @@ no-entry es rest whole k none r in' =
 pub first-leads : {K B : Type 0} (cmp : K → K → Ordering) (es : List (K × Terms B)) (rest : List ℕ) (n : ℕ)
     (run : AreOfFirstKey cmp es rest n) → AnyHasKey es rest run.key
 first-leads cmp es rest n run =
-    let len : length (take n rest) ≡ n = length-take-le n rest run.front.upto in
+    let len : length (take n rest) ≡ n = length-take-le n rest run.count.upto in
     let some : 0 < n = run.some in
     let c : Contains (take n rest) (get_or (take n rest) 0 0) = Contains-get_or (take n rest) 0 0 (omega arith) in
     record {
       position = get_or (take n rest) 0 0;
       member = subst (λ (xs : List ℕ). Contains xs (get_or (take n rest) 0 0)) (take-append-drop n rest)
           (Contains-append_left (take n rest) (drop n rest) (get_or (take n rest) 0 0) c);
-      has = All-contains (λ i. HasKey es i run.key) (take n rest) (get_or (take n rest) 0 0) run.front.same c;
+      has = All-contains (λ i. HasKey es i run.key) (take n rest) (get_or (take n rest) 0 0) run.count.same c;
     }
 
 module _ {K B : Type 0} (cmp : K → K → Ordering) (es : List (K × Terms B)) (rest : List ℕ) (rising : IsRising cmp es rest) where
@@ -101,17 +101,17 @@ module _ {K B : Type 0} (cmp : K → K → Ordering) (es : List (K × Terms B)) 
         (cases_lt 0 i)
 
     -- the first n positions have the key, and the next has another
-    pub front-ends : (n : ℕ) (k j : K) → n < length rest → All (λ i. HasKey es i k) (take n rest) → AreFrom cmp es rest k →
-        HasKey es (get_or rest n 0) j → (j ≡ k → ⊥) → IsFront cmp es rest k n
-    front-ends n k j below alike from has apart = record {
+    pub count-ends : (n : ℕ) (k j : K) → n < length rest → All (λ i. HasKey es i k) (take n rest) → AreFrom cmp es rest k →
+        HasKey es (get_or rest n 0) j → (j ≡ k → ⊥) → IsCountOfKey cmp es rest k n
+    count-ends n k j below alike from has apart = record {
       upto = (let z : n ≤ length rest = omega arith in z);
       same = alike;
       later = later-from n k j below has (less-apart cmp total same k j (cmp k j) refl (from n 0 below j has) (λ e. apart (sym e)));
     }
 
   -- all positions have the key
-  pub front-of_all : (k : K) → All (λ i. HasKey es i k) (take (length rest) rest) → IsFront cmp es rest k (length rest)
-  front-of_all k alike = record {
+  pub count-of_all : (k : K) → All (λ i. HasKey es i k) (take (length rest) rest) → IsCountOfKey cmp es rest k (length rest)
+  count-of_all k alike = record {
     upto = (let z : length rest ≤ length rest = omega arith in z);
     same = alike;
     later = λ i d lt. let len : length (drop (length rest) rest) ≡ length rest - length rest = length-drop (length rest) rest in
@@ -129,8 +129,8 @@ module _ {K B : Type 0} (cmp : K → K → Ordering) (es : List (K × Terms B)) 
         subst (λ z. is_gt (cmp k z) ≡ false) (sym same) (ap is_gt (tied_itself total k)))
         (cases_lt 0 i)
 
-    -- the front of the first's key has a position
-    pub of-first_key : 0 < length rest → (n : ℕ) → IsFront cmp es rest k n → AreOfFirstKey cmp es rest n
-    of-first_key filled zero front =
-        absurd (not_less cmp total k k refl (front.later 0 0 (let z : 0 < length rest = filled in z) k leads))
-    of-first_key filled (suc n) front = record { key = k; some = (let z : 0 < suc n = omega arith in z); front = front }
+    -- the count of the first's key isn't 0
+    pub of-first_key : 0 < length rest → (n : ℕ) → IsCountOfKey cmp es rest k n → AreOfFirstKey cmp es rest n
+    of-first_key filled zero count =
+        absurd (not_less cmp total k k refl (count.later 0 0 (let z : 0 < length rest = filled in z) k leads))
+    of-first_key filled (suc n) count = record { key = k; some = (let z : 0 < suc n = omega arith in z); count = count }

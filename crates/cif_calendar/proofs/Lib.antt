@@ -10,7 +10,7 @@ pub mod PermanentRecords
 pub mod FirstClash
 pub mod Elements
 pub mod PieceLists
-pub mod Alike
+pub mod UnbrokenStretches
 pub mod FewPieces
 pub mod LaidPieces
 pub mod Stretches

@@ -7,7 +7,7 @@ use Rattle.std.specs.declared.cmp.Ordering.TheVariants.{Less}
 use Rattle.std.proofs.lemmas.List.{take-append-drop}
 use Rattle.std.proofs.lemmas.List.Elements.{All-contains, Contains-append_right, Contains-append_cases}
 use Rattle.cif_calendar.specs.Terms.{Terms}
-use Rattle.cif_calendar.specs.ByKey.{AnyHasKey, HasKey, IsFront}
+use Rattle.cif_calendar.specs.ByKey.{AnyHasKey, HasKey, IsCountOfKey}
 use Rattle.cif_calendar.specs.Keys.{ArePositionsOf}
 use Rattle.cif_calendar.proofs.KeyTurns.{one-key}
 use Rattle.cif_calendar.proofs.RisingLists.{not_less}
@@ -19,7 +19,7 @@ module _ {K B : Type 0} (cmp : K → K → Ordering) where
 
   -- one side: the positions of the key are the front, if the key is left
   module _ (total : IsTotalOrder cmp) (es : List (K × Terms B)) (rest : List ℕ) (left : K → Type 0) (passed : HasPassed es rest left)
-      (k : K) (here : left k) (n : ℕ) (front : IsFront cmp es rest k n) where
+      (k : K) (here : left k) (n : ℕ) (front : IsCountOfKey cmp es rest k n) where
     at-front : (i : ℕ) → Contains (take n rest) i → HasKey es i k
     at-front i c = All-contains (λ i. HasKey es i k) (take n rest) i front.same c
 

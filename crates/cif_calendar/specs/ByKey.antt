@@ -30,7 +30,7 @@ abbrev pub AreFrom : {K B : Type 0} → (K → K → Ordering) → List (K × Te
 AreFrom {K} cmp entries positions key = All (λ i. (k : K) → HasKey entries i k → is_gt (cmp key k) ≡ false) positions
 
 -- the first n positions are those of the key, and the keys at the rest are after it
-pub record IsFront {K B : Type 0} (cmp : K → K → Ordering) (entries : List (K × Terms B)) (positions : List ℕ) (key : K) (n : ℕ)
+pub record IsCountOfKey {K B : Type 0} (cmp : K → K → Ordering) (entries : List (K × Terms B)) (positions : List ℕ) (key : K) (n : ℕ)
     : Type 0 where
   pub upto : n ≤ length positions
   pub same : All (λ i. HasKey entries i key) (take n positions)
@@ -40,7 +40,7 @@ pub record IsFront {K B : Type 0} (cmp : K → K → Ordering) (entries : List (
 pub record AreOfFirstKey {K B : Type 0} (cmp : K → K → Ordering) (entries : List (K × Terms B)) (positions : List ℕ) (n : ℕ) : Type 0 where
   pub key : K
   pub some : 0 < n
-  pub front : IsFront cmp entries positions key n
+  pub count : IsCountOfKey cmp entries positions key n
 
 -- the key is that of an entry at one of two lists of positions, and none there is before it
 pub record IsFirstOfBoth {K B : Type 0} (cmp : K → K → Ordering) (xs : List (K × Terms B)) (left : List ℕ) (ys : List (K × Terms B))
@@ -51,10 +51,10 @@ pub record IsFirstOfBoth {K B : Type 0} (cmp : K → K → Ordering) (xs : List 
 
 -- these positions have the key, and those are later
 pub record AreSplit {K B : Type 0} (cmp : K → K → Ordering) (entries : List (K × Terms B)) (positions : List ℕ) (key : K)
-    (front later : List ℕ) : Type 0 where
+    (prefix later : List ℕ) : Type 0 where
   pub count : ℕ
-  pub is_front : IsFront cmp entries positions key count
-  pub front_is : front ≡ take count positions
+  pub is_count : IsCountOfKey cmp entries positions key count
+  pub prefix_is : prefix ≡ take count positions
   pub later_is : later ≡ drop count positions
 
 -- it is the first, or there is none
@@ -64,10 +64,10 @@ IsFirstOrNone none is_first (Some first) = is_first first
 
 -- the key is the first of two lists of positions, and these have it and those are later
 pub record IsFirstKey {K B : Type 0} (cmp : K → K → Ordering) (xs : List (K × Terms B)) (left : List ℕ) (ys : List (K × Terms B))
-    (right : List ℕ) (key : K) (left_front left_later right_front right_later : List ℕ) : Type 0 where
+    (right : List ℕ) (key : K) (left_prefix left_later right_prefix right_later : List ℕ) : Type 0 where
   pub first : IsFirstOfBoth cmp xs left ys right key
-  pub left_split : AreSplit cmp xs left key left_front left_later
-  pub right_split : AreSplit cmp ys right key right_front right_later
+  pub left_split : AreSplit cmp xs left key left_prefix left_later
+  pub right_split : AreSplit cmp ys right key right_prefix right_later
 
 -- the positions of all entries, in the order of their keys
 pub record AreAllByKey {K B : Type 0} (cmp : K → K → Ordering) (entries : List (K × Terms B)) (positions : List ℕ) : Type 0 where

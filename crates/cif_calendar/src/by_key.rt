@@ -3,7 +3,7 @@ ghost use Rattle.std.specs.Prelude.{◌≡◌, ◌<◌, All, IfOk, length};
 ghost use Rattle.cif_calendar.specs.Keys.{ArePositionsOf, keyed};
 ghost use Rattle.cif_calendar.specs.ByKey.{AreAllByKey, AreFrom, AreOfFirstKey, IsFirstKey};
 ghost use Rattle.cif_calendar.specs.Ranks.{AreRanked};
-ghost use Rattle.cif_calendar.specs.ByKey.{IsFirstOfBoth, IsFirstOrNone, IsFront, IsRising};
+ghost use Rattle.cif_calendar.specs.ByKey.{IsCountOfKey, IsFirstOfBoth, IsFirstOrNone, IsRising};
 
 use crate::entry::Entry;
 use std::alloc::{AllocError, Global};
@@ -81,7 +81,7 @@ fn count_of_key<E: Entry>(entries: &[E], positions: &[usize], key: &E::Key) -> u
     requires within { All (λ i. i < length entries.now) positions.now }
     requires rising { IsRising E.Key.cmp (keyed E.key E.terms entries.now) positions.now }
     requires from { AreFrom E.Key.cmp (keyed E.key E.terms entries.now) positions.now key.now }
-    ensures { IsFront E.Key.cmp (keyed E.key E.terms entries.now) positions.now key.now result }
+    ensures { IsCountOfKey E.Key.cmp (keyed E.key E.terms entries.now) positions.now key.now result }
 {
     for (count, i) in positions.iter().enumerate() {
         if entries[*i].key() != key {

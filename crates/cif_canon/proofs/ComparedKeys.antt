@@ -7,8 +7,8 @@ use Rattle.std.proofs.lemmas.List.Elements.{All-contains}
 use Rattle.cif_calendar.proofs.PassedKeys.{HasPassed, key-or-later, later-less, left-before, passed-more, turn}
 use Rattle.cif_calendar.proofs.RisingLists.{Contains-none, not_less}
 use Rattle.cif_calendar.proofs.KeyTurns.{decided, no-entry, rising-after}
-use Rattle.cif_canon.proofs.Words.{AnyHasKey, AreAllByKey, ArePositionsOf, Equal, HasKey, IsFirstOfBoth, IsFront, IsRising, IsTotalOrder}
-use Rattle.cif_canon.proofs.Words.{Less, Ordering, Terms, of_key}
+use Rattle.cif_canon.proofs.Words.{AnyHasKey, AreAllByKey, ArePositionsOf, Equal, HasKey, IsCountOfKey, IsFirstOfBoth, IsRising}
+use Rattle.cif_canon.proofs.Words.{IsTotalOrder, Less, Ordering, Terms, of_key}
 
 module _ {K B : Type 0} (cmp : K → K → Ordering) where
   -- one of the keys at these positions of a list, or of those of another
@@ -17,7 +17,7 @@ module _ {K B : Type 0} (cmp : K → K → Ordering) where
 
   -- where there is an entry of the key, its front has a position
   front-some : IsTotalOrder cmp → (es : List (K × Terms B)) (rest : List ℕ) (k : K) → AnyHasKey es rest k → (n : ℕ) →
-      IsFront cmp es rest k n → 0 < n
+      IsCountOfKey cmp es rest k n → 0 < n
   front-some total es rest k any zero front =
       absurd (not_less cmp total k k refl (All-contains (λ i. (j : K) → HasKey es i j → cmp k j ≡ Less) rest any.position front.later
       any.member k any.has))
@@ -56,7 +56,7 @@ module _ {K B : Type 0} (cmp : K → K → Ordering) where
     nobody k = ⊎_elim (λ any. Contains-none any.position any.member) (λ any. Contains-none any.position any.member)
 
     module _ (l r : List ℕ) (Told : K → Type 0) (a : ArePassed xs ys l r Told) (k : K) (f : IsFirstOfBoth cmp xs l ys r k) where
-      module _ (n m : ℕ) (left_front : IsFront cmp xs l k n) (right_front : IsFront cmp ys r k m) where
+      module _ (n m : ℕ) (left_front : IsCountOfKey cmp xs l k n) (right_front : IsCountOfKey cmp ys r k m) where
         left-turn : ArePositionsOf xs k (take n l)
         left-turn = turn cmp total xs l (IsLeft xs l ys r) a.left_passed k f.has n left_front
 

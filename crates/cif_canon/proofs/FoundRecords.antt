@@ -16,9 +16,9 @@ use Rattle.cif_canon.specs.declared.differing.Extent.{Extent}
 use Rattle.cif_canon.specs.declared.differing.Extent.TheVariants.{FirstKey}
 use Rattle.cif_canon.proofs.Words.{AllKeys, AllPairs, AllZip, AreAllByKey, AreCanonical, AreClear, AreDifferentRuns, AreRunsOf, AreSame}
 use Rattle.cif_canon.proofs.Words.{ComesBefore, Contains, EntriesSayTheSame, Equal, HasBody, IsClearFrom, IsFirstDifference, IsFirstFound}
-use Rattle.cif_canon.proofs.Words.{IsFirstOfBoth, IsFront, IsRunOf, IsSidedRunOf, IsTotalOrder, IsWithin, Left, Less, OnlySays, Ordering}
-use Rattle.cif_canon.proofs.Words.{Permanent, Right, Run, RunComesBefore, Side, Sided, Terms, TurnInto, Two, Window, at_side, if◌then◌else◌}
-use Rattle.cif_canon.proofs.Words.{is_side, of_key, of_side, with_key, ◌↔◌}
+use Rattle.cif_canon.proofs.Words.{IsCountOfKey, IsFirstOfBoth, IsRunOf, IsSidedRunOf, IsTotalOrder, IsWithin, Left, Less, OnlySays}
+use Rattle.cif_canon.proofs.Words.{Ordering, Permanent, Right, Run, RunComesBefore, Side, Sided, Terms, TurnInto, Two, Window, at_side}
+use Rattle.cif_canon.proofs.Words.{if◌then◌else◌, is_side, of_key, of_side, with_key, ◌↔◌}
 use Rattle.cif_canon.proofs.ComparedKeys.{ArePassed, IsLeft, nobody, pass, passed-nothing, turns}
 use Rattle.cif_canon.proofs.KeyRecords.{bodies-other, bodies-own, zip-keyed}
 use Rattle.cif_canon.proofs.MergedSides.{from-side, of_side-append, pairs-head, side-member}
@@ -208,7 +208,7 @@ module _ {K B : Type 0} (cmp : K → K → Ordering) (total : IsTotalOrder cmp) 
 
   -- with the key's differences behind the others the key has passed
   pub found-key : (same : (j k : K) → cmp j k ≡ Equal → j ≡ k) (f : IsFirstOfBoth cmp xs l ys r k) (n m : ℕ) →
-      IsFront cmp xs l k n → IsFront cmp ys r k m → (next : List (Sided Run)) → next ≡ runs ++ merged →
+      IsCountOfKey cmp xs l k n → IsCountOfKey cmp ys r k m → (next : List (Sided Run)) → next ≡ runs ++ merged →
       AreFound cmp window xs ys (drop n l) (drop m r) next
   found-key same f n m left_front right_front next is =
       let t = turns cmp total same xs ys l r (AreTold window xs ys a.found) a.passed k f n m left_front right_front in record {

@@ -68,18 +68,18 @@ module _ {K B : Type 0} (cmp : K → K → Ordering) (form : Form) (window : Win
 
     -- the first positions are those of their key
     own-turn : ArePositionsOf es run.key (take n rest)
-    own-turn = turn cmp total es rest (AnyHasKey es rest) made.passed run.key leads n run.front
+    own-turn = turn cmp total es rest (AnyHasKey es rest) made.passed run.key leads n run.count
 
     -- what is later was left, and is after the key
     left : (k : K) → AnyHasKey es (drop n rest) k → AnyHasKey es rest k
-    left = left-before cmp total es rest (AnyHasKey es rest) made.passed run.key leads n run.front
+    left = left-before cmp total es rest (AnyHasKey es rest) made.passed run.key leads n run.count
 
     later : (k : K) → AnyHasKey es (drop n rest) k → cmp run.key k ≡ Less
-    later = later-less cmp total es rest (AnyHasKey es rest) made.passed run.key leads n run.front
+    later = later-less cmp total es rest (AnyHasKey es rest) made.passed run.key leads n run.count
 
     -- what was left is the key, or later
     either : (k : K) → AnyHasKey es rest k → (k ≡ run.key) ⊎ AnyHasKey es (drop n rest) k
-    either = key-or-later cmp total es rest (AnyHasKey es rest) made.passed run.key leads n run.front
+    either = key-or-later cmp total es rest (AnyHasKey es rest) made.passed run.key leads n run.count
 
     -- no key that is left is before it
     not-before : (j : K) → cmp j run.key ≡ Less → AnyHasKey es rest j → ⊥
@@ -129,7 +129,7 @@ module _ {K B : Type 0} (cmp : K → K → Ordering) (form : Form) (window : Win
       pub made-key : IsMade (runs ++ own) (drop n rest)
       made-key = record {
         rising = rising-after cmp es rest made.rising n;
-        passed = passed-more cmp total es rest (AnyHasKey es rest) made.passed run.key leads n run.front (AnyHasKey es (drop n rest)) left
+        passed = passed-more cmp total es rest (AnyHasKey es rest) made.passed run.key leads n run.count (AnyHasKey es (drop n rest)) left
             later;
         records = made.records ++ with_key run.key a.own.records;
         runs_of = AllZip-append (IsRunOf es) runs own made.records (with_key run.key a.own.records) made.runs_of

@@ -33,7 +33,7 @@ pub use Rattle.cif_extract.specs.declared.extract.Schedule.{Schedule}
 pub use Rattle.cif_extract.specs.declared.fault.Clash.{Clash}
 pub use Rattle.cif_extract.specs.declared.fault.Fault.{Fault}
 pub use Rattle.cif_extract.specs.declared.fault.Fault.TheVariants.{Read, Write}
-pub use Rattle.cif_calendar.specs.ByKey.{AnyHasKey, AreAllByKey, HasKey, IsFirstOfBoth, IsFront, IsRising}
+pub use Rattle.cif_calendar.specs.ByKey.{AnyHasKey, AreAllByKey, HasKey, IsCountOfKey, IsFirstOfBoth, IsRising}
 pub use Rattle.cif_calendar.specs.Calendar.{CalendarParts, IsCalendar, body_on}
 pub use Rattle.cif_calendar.specs.Clash.{IsClearFrom}
 pub use Rattle.cif_calendar.specs.Entries.{association_entries, association_entry, schedule_entries, schedule_entry}

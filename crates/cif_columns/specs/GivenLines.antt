@@ -13,7 +13,7 @@ use Rattle.cif_columns.specs.Source.{Unread}
 
 -- bytes that end with a line feed, or that nothing follows: their last line doesn't go on
 abbrev pub EndsLine : List ℕ → List ℕ → Type 0
-EndsLine bytes after = ((front : List ℕ) × (bytes ≡ front ++ 10 ∷ [])) ⊎ (after ≡ [])
+EndsLine bytes after = ((prefix : List ℕ) × (bytes ≡ prefix ++ 10 ∷ [])) ⊎ (after ≡ [])
 
 -- the bytes are these whole contents, each with its ending, and then a rest
 pub record AreWholeContentsAndRest (P : List ℕ → Type 0) (bytes : List ℕ) (lines : List (List ℕ)) (rest : List ℕ) : Type 0 where

@@ -398,7 +398,7 @@ fn stripped(bytes: &[u8]) -> &[u8]
     ensures { result.now ≡ strip_carriage_return bytes.now }
 {
     match bytes {
-        [front @ .., b'\r'] => front,
+        [start @ .., b'\r'] => start,
         _ => bytes,
     }
 }

@@ -89,7 +89,7 @@ pub record IsFirstBadLine (lines : List (List ℕ)) (number : ℕ) : Type 0 wher
 
 -- the bytes are whole lines, each with its line feed
 abbrev pub AreWhole : List ℕ → Type 0
-AreWhole bytes = (bytes ≡ []) ⊎ ((front : List ℕ) × (bytes ≡ front ++ 10 ∷ []))
+AreWhole bytes = (bytes ≡ []) ⊎ ((prefix : List ℕ) × (bytes ≡ prefix ++ 10 ∷ []))
 
 -- the bytes are these whole lines, each with its ending, none of which is bad, and then a rest
 pub record AreHolidayLinesAndRest (bytes : List ℕ) (lines : List (List ℕ)) (rest : List ℕ) : Type 0 where

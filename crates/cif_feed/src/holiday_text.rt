@@ -239,7 +239,7 @@ fn without_return(bytes: &[u8]) -> &[u8]
     ensures { result.now ≡ strip_carriage_return bytes.now }
 {
     match bytes {
-        [front @ .., b'\r'] => front,
+        [start @ .., b'\r'] => start,
         _ => bytes,
     }
 }

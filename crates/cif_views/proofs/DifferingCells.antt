@@ -8,7 +8,7 @@ use Rattle.cif_columns.specs.Field.{FieldValue}
 use Rattle.cif_columns.specs.Lines.{used}
 use Rattle.cif_columns.proofs.KeptLines.{trimmed as widened, used_few}
 use Rattle.cif_columns.proofs.PlainLines.{length-columns}
-use Rattle.cif_views.proofs.Words.{AllStandIn, Field, IsLine, Row, Stands, StandsIn, TableFields, Trimmed, Tsv, bytes_decides, columns}
+use Rattle.cif_views.proofs.Words.{AllStandIn, Field, IsLine, Row, StandsIn, TableFields, Trimmed, Tsv, bytes_decides, columns}
 use Rattle.cif_views.proofs.Words.{differing_row, differing_rows, fields_text, line_of, pointwise, row_fields, shown, spare, trimmed}
 
 -- ---- rows
@@ -28,17 +28,16 @@ first-none true a b row rest is some none = ((bytes_decides a b).0 is, none)
 first-none false a b row rest is some none =
     absurd (let long = ap length none in omega (arith, some, long, length-append row rest))
 
-module _ {R : Type 0} (head : List Field) (at : Stands) (left right : R) where
+module _ (start : List Field) (left right : List ℕ) where
   -- where no field has a row, the cells of all are the same
-  pub same-cells : (fields : TableFields R) → differing_rows head at fields left right ≡ [] →
+  pub same-cells : (fields : TableFields (List ℕ)) → differing_rows start fields left right ≡ [] →
       map (shown Tsv) (row_fields fields left) ≡ map (shown Tsv) (row_fields fields right)
   same-cells [] none = refl
   same-cells (f ∷ fields) none =
       let a = shown Tsv (f.1 left) in
       let b = shown Tsv (f.1 right) in
-      let (same, others) = first-none (pointwise nat_eq a b) a b (differing_row head at f.0 (f.1 left) (f.1 right))
-      (differing_rows head at fields left right) refl
-      (some-row (head ++ (at.call ∷ at.identity ∷ at.place ∷ (Trimmed, f.0) ∷ f.1 left ∷ f.1 right ∷ []))) none in
+      let (same, others) = first-none (pointwise nat_eq a b) a b (differing_row start f.0 (f.1 left) (f.1 right))
+      (differing_rows start fields left right) refl (some-row (start ++ ((Trimmed, f.0) ∷ f.1 left ∷ f.1 right ∷ []))) none in
       ap₂ (λ (c : List ℕ) (cs : List (List ℕ)). c ∷ cs) same (same-cells fields others)
 
 -- ---- columns

@@ -5,14 +5,15 @@ use Rattle.std.specs.Prelude.{nat_eq}
 use Rattle.std.proofs.lemmas.Bool.{and_parts, false≢true}
 use Rattle.std.proofs.lemmas.List.{take-take}
 use Rattle.cif_records.specs.Kind.{is_identity, kinds}
+use Rattle.cif_views.specs.DifferenceTable.{in_journey}
 use Rattle.cif_views.specs.Steps.DifferenceRows.{are_named, field_row, fields_of_kind, is_named}
-use Rattle.cif_views.specs.Tables.{names}
-use Rattle.cif_views.proofs.Words.{Change, Field, JourneyKind, Numbered, Origin, Other, RowKind, Stands, Stop, TableFields, Terminus}
-use Rattle.cif_views.proofs.Words.{Trimmed, Tsv, after, bytes_decides, call_fields, call_fields_of, columns, differing_row, differing_rows}
-use Rattle.cif_views.proofs.Words.{find, flat_map, head_fields, is_call, is_change, journey_kind, kind_of_line, line_of, lines_rows}
-use Rattle.cif_views.proofs.Words.{named_fields, nothing, number, own_fields, pointwise, replicate, row_fields, rows_of_place, same_places}
-use Rattle.cif_views.proofs.Words.{shown, text_at, trimmed}
-use Rattle.cif_views.proofs.DifferenceRows.{head-row}
+use Rattle.cif_views.specs.Tables.{names, own_call_fields}
+use Rattle.cif_views.specs.declared.difference_table.FieldPlace.{FieldPlace}
+use Rattle.cif_views.proofs.Words.{Change, Field, JourneyKind, Origin, Other, Stop, TableFields, Terminus, Trimmed, Tsv, after}
+use Rattle.cif_views.proofs.Words.{bytes_decides, call_fields_of, columns, differing_row, differing_rows, find, flat_map, is_call}
+use Rattle.cif_views.proofs.Words.{is_change, journey_kind, kind_of_line, line_of, lines_rows, named_fields, nothing, own_fields}
+use Rattle.cif_views.proofs.Words.{pointwise, replicate, row_fields, rows_of_place, same_places, shown, start_of, text_at, trimmed}
+use Rattle.cif_views.proofs.DifferenceRows.{start-row}
 use Rattle.cif_views.proofs.TableRows.{HasPushed, one-pushed, origin-fields, stop-fields, terminus-fields}
 
 -- one field more, of which the code has what is shown
@@ -22,11 +23,10 @@ shown-pushed old mid new done c cs before is shows =
     one-pushed old mid new done Trimmed cs cs before (is ∙ ap (λ (l : List ℕ). mid ++ (9 ∷ l)) shows) refl
 
 -- what a row begins with, and the fields behind it, are a line
-pub pushed-line : (kind : RowKind) (change : Field) (line start row : List ℕ) (more : List Field) →
-    start ≡ after Tsv (head_fields kind change line) → HasPushed start row more →
-    drop 1 row ++ codes "\n" ≡ line_of Tsv (head_fields kind change line ++ more)
-pushed-line kind change line start row more is pushed =
-    ap (λ (l : List ℕ). drop 1 l ++ codes "\n") (pushed.text ∙ ap (λ (l : List ℕ). l ++ after Tsv more) is) ∙ head-row change line more kind
+pub pushed-line : (at : FieldPlace) (start row : List ℕ) (more : List Field) → start ≡ after Tsv (start_of at) → HasPushed start row more →
+    drop 1 row ++ codes "\n" ≡ line_of Tsv (start_of at ++ more)
+pushed-line at start row more is pushed =
+    ap (λ (l : List ℕ). drop 1 l ++ codes "\n") (pushed.text ∙ ap (λ (l : List ℕ). l ++ after Tsv more) is) ∙ start-row at more
 
 -- a test of what is shown of two cells
 pub tested : (one other c d : List ℕ) (answer test : Bool) → answer ≡ pointwise nat_eq one other → answer ≡ test → one ≡ trimmed c →
@@ -34,30 +34,30 @@ pub tested : (one other c d : List ℕ) (answer test : Bool) → answer ≡ poin
 tested one other c d answer test told is left right =
     ap (λ (l : List ℕ). pointwise nat_eq l (trimmed d)) (sym left) ∙ ap (λ (l : List ℕ). pointwise nat_eq one l) (sym right) ∙ sym told ∙ is
 
-module _ (head : List Field) (at : Stands) where
+module _ (start : List Field) where
   -- the row of a field, by that test
   module _ (name : List ℕ) (left right : Field) where
-    pub same-cells : pointwise nat_eq (shown Tsv left) (shown Tsv right) ≡ true → [] ≡ field_row head at name left right
+    pub same-cells : pointwise nat_eq (shown Tsv left) (shown Tsv right) ≡ true → [] ≡ field_row start name left right
     unfolding field_row
-    same-cells same = ap (λ (b : Bool). if b then [] else differing_row head at name left right) (sym same)
+    same-cells same = ap (λ (b : Bool). if b then [] else differing_row start name left right) (sym same)
 
     pub other-cells : pointwise nat_eq (shown Tsv left) (shown Tsv right) ≡ false →
-        differing_row head at name left right ≡ field_row head at name left right
+        differing_row start name left right ≡ field_row start name left right
     unfolding field_row
-    other-cells other = ap (λ (b : Bool). if b then [] else differing_row head at name left right) (sym other)
+    other-cells other = ap (λ (b : Bool). if b then [] else differing_row start name left right) (sym other)
 
   -- cells without columns don't differ
-  no-cells : (name : List ℕ) → field_row head at name nothing nothing ≡ []
+  no-cells : (name : List ℕ) → field_row start name nothing nothing ≡ []
   unfolding field_row
   no-cells name = refl
 
   -- the rows of fields that the code names, field by field
   module _ (left right : List ℕ) where
     abbrev pub row_of_named : Bor (List ℕ) × ℕ × ℕ → List ℕ
-    row_of_named f = field_row head at f.0.now (text_at f.1 f.2 left) (text_at f.1 f.2 right)
+    row_of_named f = field_row start f.0.now (text_at f.1 f.2 left) (text_at f.1 f.2 right)
 
     pub named-rows : (fields : List (Bor (List ℕ) × ℕ × ℕ)) →
-        flat_map row_of_named fields ≡ differing_rows head at (named_fields fields) left right
+        flat_map row_of_named fields ≡ differing_rows start (named_fields fields) left right
     unfolding field_row
     named-rows [] = refl
     named-rows (f ∷ fields) = ap (λ (l : List ℕ). row_of_named f ++ l) (named-rows fields)
@@ -67,14 +67,14 @@ module _ (head : List Field) (at : Stands) where
   cell_rows [] lefts rights = []
   cell_rows (name ∷ names) [] rights = []
   cell_rows (name ∷ names) (left ∷ lefts) [] = []
-  cell_rows (name ∷ names) (left ∷ lefts) (right ∷ rights) = field_row head at name left right ++ cell_rows names lefts rights
+  cell_rows (name ∷ names) (left ∷ lefts) (right ∷ rights) = field_row start name left right ++ cell_rows names lefts rights
 
-  by-cells : {Row : Type 0} (fields : TableFields Row) (left right : Row) →
-      differing_rows head at fields left right ≡ cell_rows (names fields) (row_fields fields left) (row_fields fields right)
+  by-cells : (fields : TableFields (List ℕ)) (left right : List ℕ) →
+      differing_rows start fields left right ≡ cell_rows (names fields) (row_fields fields left) (row_fields fields right)
   unfolding field_row cell_rows
   by-cells [] left right = refl
   by-cells (f ∷ fields) left right =
-      ap (λ (l : List ℕ). field_row head at f.0 (f.1 left) (f.1 right) ++ l) (by-cells fields left right)
+      ap (λ (l : List ℕ). field_row start f.0 (f.1 left) (f.1 right) ++ l) (by-cells fields left right)
 
   both-cells : (names : List (List ℕ)) (a b c d : List Field) → a ≡ b → c ≡ d → cell_rows names a c ≡ cell_rows names b d
   both-cells names a b c d p q = ap (λ (l : List Field). cell_rows names l c) p ∙ ap (λ (l : List Field). cell_rows names b l) q
@@ -97,47 +97,32 @@ same-kind line other same =
 no-fields : (line : List ℕ) → kind_of_line line ≡ Other → call_fields_of line ≡ replicate 12 nothing
 no-fields line e = rw e refl
 
--- where a field of a place stands
-abbrev pub at_place : ℕ → List ℕ → Stands
-at_place call line = record { call = number call; identity = text_at 1 2 line; place = text_at 3 9 line }
-
-abbrev stands_with : Field → List ℕ → List ℕ → Stands
-stands_with call identity place = record { call = call; identity = (Trimmed, identity); place = (Trimmed, place) }
-
-pub stands-there : (call : ℕ) (line identity place : List ℕ) (stands : Stands) → stands ≡ stands_with (number call) identity place →
-    identity ≡ columns 1 2 line → place ≡ columns 3 9 line → stands ≡ at_place call line
-stands-there call line identity place stands is a b =
-    is ∙ ap (λ (l : List ℕ). stands_with (number call) l place) a ∙ ap (stands_with (number call) (columns 1 2 line)) b
-
 module _ (head : List Field) (call : ℕ) (line other : List ℕ) where
+  abbrev start : List Field
+  start = in_journey head call line
+
   -- the rows of a call, by its cells
   call-rows : (lefts rights : List Field) → is_change (kind_of_line line) ≡ false → call_fields_of line ≡ lefts →
-      call_fields_of other ≡ rights →
-      rows_of_place head call line other ≡ cell_rows head (at_place call line) (names (drop 5 call_fields)) lefts rights
+      call_fields_of other ≡ rights → rows_of_place head call line other ≡ cell_rows start (names own_call_fields) lefts rights
   call-rows lefts rights called left right =
-      let p : Numbered = record { schedule = 0; call = call; line = line } in
-      let q : Numbered = record { schedule = 0; call = call; line = other } in
-      ap (λ change. differing_rows head (at_place call line) (own_fields change) p q) called
-      ∙ by-cells head (at_place call line) (drop 5 call_fields) p q
-      ∙ both-cells head (at_place call line) (names (drop 5 call_fields)) _ lefts _ rights left right
+      ap (λ change. differing_rows start (own_fields change) line other) called
+      ∙ by-cells start own_call_fields line other
+      ∙ both-cells start (names own_call_fields) _ lefts _ rights left right
 
   -- the rows of a place, by the kind of its lines
   pub place-rows : (kind : JourneyKind) → kind_of_line line ≡ kind → kind_of_line other ≡ kind →
-      differing_rows head (at_place call line) (fields_of_kind kind) line other ≡ rows_of_place head call line other
+      differing_rows start (fields_of_kind kind) line other ≡ rows_of_place head call line other
   unfolding cell_rows
   place-rows Origin e f =
-      by-cells head (at_place call line) (fields_of_kind Origin) line other
+      by-cells start (fields_of_kind Origin) line other
       ∙ sym (call-rows _ _ (ap is_change e) (origin-fields line e) (origin-fields other f) ∙ simp no-cells)
   place-rows Stop e f =
-      by-cells head (at_place call line) (fields_of_kind Stop) line other
+      by-cells start (fields_of_kind Stop) line other
       ∙ sym (call-rows _ _ (ap is_change e) (stop-fields line e) (stop-fields other f))
   place-rows Terminus e f =
-      by-cells head (at_place call line) (fields_of_kind Terminus) line other
+      by-cells start (fields_of_kind Terminus) line other
       ∙ sym (call-rows _ _ (ap is_change e) (terminus-fields line e) (terminus-fields other f) ∙ simp no-cells)
-  place-rows Change e f =
-      let p : Numbered = record { schedule = 0; call = call; line = line } in
-      let q : Numbered = record { schedule = 0; call = call; line = other } in
-      ap (λ change. differing_rows head (at_place call line) (own_fields change) p q) (sym (ap is_change e))
+  place-rows Change e f = ap (λ change. differing_rows start (own_fields change) line other) (sym (ap is_change e))
   place-rows Other e f = sym (call-rows _ _ (ap is_change e) (no-fields line e) (no-fields other f) ∙ simp no-cells)
 
 -- journeys with the same places have as many lines, and the first of both have one place
@@ -176,13 +161,7 @@ module _ (head : List Field) (whole : List ℕ) where
       next ≡ cond (is_call kind) (call + 1) call → PlacesAreLeft text call lefts rights →
       PlacesAreLeft (text ++ rows_of_place head call line other) next more others
   one-place text call next kind lefts rights line other more others left right of_line after_line is =
-      let rows : List ℕ = rows_of_place head call line other in
-      ap (λ n. (text ++ rows) ++ lines_rows head n more others)
-      (after_line ∙ ap (λ (k : JourneyKind). cond (is_call k) (call + 1) call) of_line)
-      ∙ append_assoc text rows (lines_rows head (cond (is_call (kind_of_line line)) (call + 1) call) more others)
-      ∙ ap (λ ls. text ++ lines_rows head call ls (other ∷ others)) (sym left)
-      ∙ ap (λ ls. text ++ lines_rows head call lefts ls) (sym right)
-      ∙ is
+      rw (after_line, of_line) (append_assoc text (rows_of_place head call line other) _ ∙ rw (left, right) at is)
 
   pub no-place : (text : List ℕ) (call : ℕ) (lefts rights : List (List ℕ)) → length lefts ≡ 0 → PlacesAreLeft text call lefts rights →
       text ≡ whole

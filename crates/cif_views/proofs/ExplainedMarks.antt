@@ -38,7 +38,7 @@ winning-mark records d r mark.Hidden wins clear marked = absurd (marked wins)
 
 module _ {K B : Type 0} (cmp : K → K → Ordering) (same : (j k : K) → cmp j k ≡ Equal → j ≡ k) (self : (k : K) → cmp k k ≡ Equal) (k : K)
   where
-    -- one of the key's records whose letter is not after those of the others
+    -- one of the key's records whose precedence is not after those of the others
     record IsFirst (es : List (Explained K B)) : Type 0 where
       one : Explained K B
       member : Contains es one

@@ -205,10 +205,10 @@ module _ {K B : Type 0} (cmp : K → K → Ordering) (total : IsTotalOrder cmp) 
       sym (one-key p.key q.key (cmp p.key q.key) (by-place p q) (by-place q r) refl (in-order p q a b before)
       (subst (λ o. ordering_then o (by-place q r) ≡ Less) (ap (cmp q.key) is ∙ total.antisymm q.key p.key) (in-order q r b c behind)))
 
-  -- of two records of one key the first has no later letter
-  letters-rise : (p q : Placed K B) (a : Contains placed p) (b : Contains placed q) → a.0 < b.0 → q.key ≡ p.key
+  -- of two records of one key the first has no later precedence
+  precedences-rise : (p q : Placed K B) (a : Contains placed p) (b : Contains placed q) → a.0 < b.0 → q.key ≡ p.key
       → precedence p.terms ≤ precedence q.terms
-  letters-rise p q a b before is =
+  precedences-rise p q a b before is =
       upto _ _ (nat_cmp p.place q.place)
       (subst (λ o. ordering_then o (by-place p q) ≡ Less) (ap (cmp p.key) is ∙ tied_itself total p.key) (in-order p q a b before))
 
@@ -225,7 +225,7 @@ module _ {K B : Type 0} (cmp : K → K → Ordering) (total : IsTotalOrder cmp) 
 
       pub mark-hidden : (precedence q.terms ≡ precedence p.terms → ⊥) → IsMarkAt placed a.0 mark.Hidden
       mark-hidden differ =
-          let le = letters-rise q p b a before (sym key) in
+          let le = precedences-rise q p b a before (sym key) in
           marked mark.Hidden (record { other = q; member = b; key = key; earlier = omega (arith, le, differ) })
 
     -- the first record of its key
@@ -250,7 +250,7 @@ module _ {K B : Type 0} (cmp : K → K → Ordering) (total : IsTotalOrder cmp) 
       least : IsLeast placed p.key (precedence p.terms)
       least q b key =
           with_key q b key (λ is. subst (λ (q : Placed K B). precedence p.terms ≤ precedence q.terms) is (omega arith))
-          (λ lt. letters-rise p q a b lt key)
+          (λ lt. precedences-rise p q a b lt key)
 
       pub mark-clash : (q : Placed K B) → Contains placed q → q.key ≡ p.key → precedence q.terms ≡ precedence p.terms
           → (q.terms.body ≡ p.terms.body → ⊥) → IsMarkAt placed a.0 mark.Clash
@@ -259,8 +259,8 @@ module _ {K B : Type 0} (cmp : K → K → Ordering) (total : IsTotalOrder cmp) 
         record {
           one = q;
           other = p;
-          one_level = record { member = b; key = key; same_letter = level };
-          other_level = record { member = a; key = refl; same_letter = refl };
+          one_level = record { member = b; key = key; same_precedence = level };
+          other_level = record { member = a; key = refl; same_precedence = refl };
           bodies_differ = differ;
         },
       )
@@ -276,7 +276,7 @@ module _ {K B : Type 0} (cmp : K → K → Ordering) (total : IsTotalOrder cmp) 
               let below = b.1 in
               with_key q b at.key (λ is. subst (λ (q : Placed K B). q.terms.body ≡ p.terms.body) is refl)
               (λ lt. ⊎_elim
-              (λ before. (subst (IsLike p) b.2 (like b.0 q (omega (arith, lt)) before)).1 at.same_letter)
+              (λ before. (subst (IsLike p) b.2 (like b.0 q (omega (arith, lt)) before)).1 at.same_precedence)
               (λ from. ⊎_elim
               (λ is. absurd (end q b (sym is) at.key))
               (λ behind.
@@ -310,7 +310,7 @@ module _ {K B : Type 0} (cmp : K → K → Ordering) (IsOf : K → List ℕ → 
             applies = applies;
             least = λ s in_s on.
                 let q = among p.key s of_p.train in_s on in
-                let le = least (placed_at q.0 p.key s) q.1 refl in omega (arith, le, level.same_letter);
+                let le = least (placed_at q.0 p.key s) q.1 refl in omega (arith, le, level.same_precedence);
           }
 
       level : (s : Terms B) → Contains placed p → Wins (of_key entries p.key) d s
@@ -320,15 +320,15 @@ module _ {K B : Type 0} (cmp : K → K → Ordering) (IsOf : K → List ℕ → 
           let one = least (placed_at q.0 p.key s) q.1 refl in
           let here = at-key p in_p refl in
           let other = w.least p.terms here.0 here.1 in
-          (q.0, record { member = q.1; key = refl; same_letter = omega (arith, one, other) })
+          (q.0, record { member = q.1; key = refl; same_precedence = omega (arith, one, other) })
 
     pub is-marked : (m : Mark) → Contains placed p → IsMarkOf placed p m → IsMarked (of_key entries p.key) d p.terms m
     is-marked mark.Wins in_p h = (
-      wins h.0 p (record { member = in_p; key = refl; same_letter = refl }),
+      wins h.0 p (record { member = in_p; key = refl; same_precedence = refl }),
       record { agree = λ r s w v. h.1 _ _ (level h.0 r in_p w).1 (level h.0 s in_p v).1 },
     )
     is-marked mark.Clash in_p h = (
-      wins h.0 p (record { member = in_p; key = refl; same_letter = refl }),
+      wins h.0 p (record { member = in_p; key = refl; same_precedence = refl }),
       record {
         one = h.1.one.terms;
         other = h.1.other.terms;

@@ -1,6 +1,6 @@
 -- Where a pair of schedules has no row, their bodies are the same; and so it is with associations.
 use Rattle.std.proofs.Common.{◌≡◌, ℕ, ◌+◌, ◌<◌, Bool, true, false, List, [], ◌∷◌, ◌++◌, Option, None, Some, codes, cond, length, get_or}
-use Rattle.std.proofs.Common.{◌∙◌, ap, ap₂, arith, drop, map, refl, replicate, subst, sym, take}
+use Rattle.std.proofs.Common.{◌∙◌, ap, ap₂, arith, map, refl, replicate, subst, sym}
 use Rattle.std.specs.Prelude.{IsTrue, find}
 use Rattle.std.specs.Cmp.Lexicographic.{bytes_decides}
 use Rattle.std.proofs.lemmas.Bool.{and_parts, false≢true}
@@ -30,12 +30,13 @@ use Rattle.cif_records.specs.declared.terminus.Terminus.{Terminus}
 use Rattle.cif_records.proofs.Details.{one_detail}
 use Rattle.cif_records.proofs.Records as records
 use Rattle.cif_records.proofs.Rows.{◌&◌}
-use Rattle.cif_views.specs.DifferenceTable.{association_head, association_rows, changed, differing_rows, in_record, journey_of}
-use Rattle.cif_views.specs.DifferenceTable.{journey_rows, own_fields, schedule_head, schedule_rows, without_extra}
+use Rattle.cif_views.specs.DifferenceTable.{association_differences, association_head, changed, differing_rows, in_journey, in_record}
+use Rattle.cif_views.specs.DifferenceTable.{journey_differences, journey_of, own_fields, schedule_differences, schedule_head}
+use Rattle.cif_views.specs.DifferenceTable.{without_extra}
 use Rattle.cif_views.specs.Steps.DifferenceRows.{count_of_calls, journeys_of, lines_rows, rows_of_place, same_places}
-use Rattle.cif_views.specs.Tables.{Numbered, NumberedSchedule, association_fields, extra_in, is_call, is_change, is_extra, journey_kind}
-use Rattle.cif_views.specs.Tables.{kind_of_line, number, numbered_schedule, row_fields, schedule_fields}
-use Rattle.cif_views.specs.declared.tables.JourneyKind.TheVariants as kind
+use Rattle.cif_views.specs.Tables.{category_fields, detail_fields, extra_fields, extra_identity, extra_in, is_call, is_change, is_extra}
+use Rattle.cif_views.specs.Tables.{journey_kind, kind_of_line, number, own_call_fields, row_fields, type_fields}
+use Rattle.cif_views.specs.declared.tables.JourneyKind.{JourneyKind}
 use Rattle.cif_views.proofs.Words.{AllFit, AllStandIn, AssocBody, AssocKey, At, BodyParts, Call, Detail, Field, IsLine, Left, P, Permanent}
 use Rattle.cif_views.proofs.Words.{Row, StandsIn, Trimmed, Tsv, Turn, association_plain, columns, line_of, nothing, schedule_plain, shown}
 use Rattle.cif_views.proofs.Words.{spare, text, trimmed}
@@ -63,16 +64,12 @@ nth n cells = get_or cells n []
 
 module _ (head : List Field) (call : ℕ) (l m : List ℕ) (left : IsLine l) (right : IsLine m)
     (place : columns 1 10 l ≡ columns 1 10 m) (none : rows_of_place head call l m ≡ []) where
-  abbrev numbered : List ℕ → Numbered
-  numbered line = record { schedule = 0; call = call; line = line }
-
   abbrev cells : Bool → List ℕ → List (List ℕ)
-  cells change line = map (shown Tsv) (row_fields (own_fields change) (numbered line))
+  cells change line = map (shown Tsv) (row_fields (own_fields change) line)
 
   told : (change : Bool) → is_change (kind_of_line l) ≡ change → cells change l ≡ cells change m
   told change is =
-      subst (λ c. cells c l ≡ cells c m) is
-      (same-cells head _ (numbered l) (numbered m) (own_fields (is_change (kind_of_line l))) none)
+      subst (λ c. cells c l ≡ cells c m) is (same-cells (in_journey head call l) l m (own_fields (is_change (kind_of_line l))) none)
 
   at : SameAt l m
   at = same-at l m left right
@@ -81,12 +78,17 @@ module _ (head : List Field) (call : ℕ) (l m : List ℕ) (left : IsLine l) (ri
   one-kind : kind_of_line l ≡ kind_of_line m
   one-kind = ap (λ (c : List ℕ). journey_kind (find (is_identity c) kinds)) (same-identity l m place)
 
+  -- the cells of a call, by the kind of both lines
+  called : {k : JourneyKind} {fields : List ℕ → List Field} →
+      ((line : List ℕ) → kind_of_line line ≡ k → row_fields own_call_fields line ≡ fields line) → is_change k ≡ false →
+      kind_of_line m ≡ k → map (shown Tsv) (fields l) ≡ map (shown Tsv) (fields m)
+  called by_kind call here =
+      let there = one-kind ∙ here in
+      sym (ap (map (shown Tsv)) (by_kind l there)) ∙ told false (ap is_change there ∙ call) ∙ ap (map (shown Tsv)) (by_kind m here)
+
   origin : (r : Origin) → SpellsRecord m (of.Origin r) → AllSame l m (record_table (of.Origin r))
   origin r h =
-      let here : kind_of_line m ≡ kind.Origin = ap journey_kind (records.kind_there m (of.Origin r) h) in
-      let there = one-kind ∙ here in
-      let same = sym (ap (map (shown Tsv)) (origin-fields l there)) ∙ told false (ap is_change there)
-      ∙ ap (map (shown Tsv)) (origin-fields m here) in
+      let same = called origin-fields refl (ap journey_kind (records.kind_there m (of.Origin r) h)) in
       same-identity l m place & same-location l m place & same-suffix l m place & at 11 15 refl (ap (nth 1) same)
       & at 16 19 refl (ap (nth 4) same) & at 20 22 refl (ap (nth 5) same) & at 23 25 refl (ap (nth 6) same)
       & at 26 27 refl (ap (nth 9) same) & at 28 29 refl (ap (nth 10) same) & at 30 41 refl (ap (nth 8) same)
@@ -94,10 +96,7 @@ module _ (head : List Field) (call : ℕ) (l m : List ℕ) (left : IsLine l) (ri
 
   stop : (r : Stop) → SpellsRecord m (of.Stop r) → AllSame l m (record_table (of.Stop r))
   stop r h =
-      let here : kind_of_line m ≡ kind.Stop = ap journey_kind (records.kind_there m (of.Stop r) h) in
-      let there = one-kind ∙ here in
-      let same = sym (ap (map (shown Tsv)) (stop-fields l there)) ∙ told false (ap is_change there)
-      ∙ ap (map (shown Tsv)) (stop-fields m here) in
+      let same = called stop-fields refl (ap journey_kind (records.kind_there m (of.Stop r) h)) in
       same-identity l m place & same-location l m place & same-suffix l m place & at 11 15 refl (ap (nth 0) same)
       & at 16 20 refl (ap (nth 1) same) & at 21 25 refl (ap (nth 2) same) & at 26 29 refl (ap (nth 3) same)
       & at 30 33 refl (ap (nth 4) same) & at 34 36 refl (ap (nth 5) same) & at 37 39 refl (ap (nth 6) same)
@@ -106,19 +105,14 @@ module _ (head : List Field) (call : ℕ) (l m : List ℕ) (left : IsLine l) (ri
 
   terminus : (r : Terminus) → SpellsRecord m (of.Terminus r) → AllSame l m (record_table (of.Terminus r))
   terminus r h =
-      let here : kind_of_line m ≡ kind.Terminus = ap journey_kind (records.kind_there m (of.Terminus r) h) in
-      let there = one-kind ∙ here in
-      let same = sym (ap (map (shown Tsv)) (terminus-fields l there)) ∙ told false (ap is_change there)
-      ∙ ap (map (shown Tsv)) (terminus-fields m here) in
+      let same = called terminus-fields refl (ap journey_kind (records.kind_there m (of.Terminus r) h)) in
       same-identity l m place & same-location l m place & same-suffix l m place & at 11 15 refl (ap (nth 0) same)
       & at 16 19 refl (ap (nth 3) same) & at 20 22 refl (ap (nth 5) same) & at 23 25 refl (ap (nth 7) same)
       & at 26 37 refl (ap (nth 8) same) & tt & tt
 
   change : (r : Change) → SpellsRecord m (of.Change r) → AllSame l m (record_table (of.Change r))
   change r h =
-      let here : kind_of_line m ≡ kind.Change = ap journey_kind (records.kind_there m (of.Change r) h) in
-      let there = one-kind ∙ here in
-      let same = told true (ap is_change there) in
+      let same = told true (ap is_change (one-kind ∙ ap journey_kind (records.kind_there m (of.Change r) h))) in
       same-identity l m place & same-location l m place & same-suffix l m place & at 11 12 refl (ap (nth 0) same)
       & at 13 16 refl (ap (nth 1) same) & at 17 20 refl (ap (nth 2) same) & at 21 21 refl (ap (nth 3) same)
       & at 22 29 refl (ap (nth 4) same) & at 30 30 refl (ap (nth 5) same) & at 31 33 refl (ap (nth 6) same)
@@ -262,9 +256,7 @@ abbrev identity_of_extra : List ℕ → List ℕ
 identity_of_extra line = trimmed (columns 1 2 line)
 
 abbrev extra_cells : List ℕ → List (List ℕ)
-extra_cells line =
-    let schedule : NumberedSchedule = record { schedule = 0; basic = []; extra = line } in
-    map (shown Tsv) (row_fields (drop 23 schedule_fields) schedule)
+extra_cells line = map (shown Tsv) (row_fields extra_fields line)
 
 -- one BX and none are shown as two
 shown-extra : (e : Extra) → AllFit (record_table (of.Extra e)) →
@@ -296,11 +288,6 @@ same-extra (Some e) (Some f) one other identity same =
 
 -- ---- the detail of a schedule
 
-abbrev basic_cells : List ℕ → List (List ℕ)
-basic_cells line =
-    let schedule : NumberedSchedule = record { schedule = 0; basic = line; extra = [] } in
-    map (shown Tsv) (row_fields (take 17 (drop 5 schedule_fields)) schedule)
-
 -- a schedule's line that stands for its record
 abbrev pub basic_line : List ℕ × Permanent BodyParts → List Row
 basic_line e = basic_rows e.0 e.1.first e.1.last e.1.days P (Some e.1.body.detail)
@@ -329,7 +316,8 @@ module _ (e : List ℕ × Permanent BodyParts) (fits : FitsLines e) where
   journey-fits = last-fit e.1.body.extra _ fits.further
 
 module _ (e g : List ℕ × Permanent BodyParts) (one : FitsLines e) (other : FitsLines g) where
-  same-detail : basic_cells (plain_line (basic_line e)) ≡ basic_cells (plain_line (basic_line g)) → e.1.body.detail ≡ g.1.body.detail
+  same-detail : map (shown Tsv) (row_fields detail_fields (plain_line (basic_line e)))
+      ≡ map (shown Tsv) (row_fields detail_fields (plain_line (basic_line g))) → e.1.body.detail ≡ g.1.body.detail
   same-detail same =
       let l = plain_line (basic_line e) in
       let m = plain_line (basic_line g) in
@@ -345,28 +333,31 @@ module _ (e g : List ℕ × Permanent BodyParts) (one : FitsLines e) (other : Fi
       (all-moved l m (detail_rows (Some g.1.body.detail)) all (detail-stands g other))
 
   -- where a pair has no row, the bodies are the same
-  pub same-body : schedule_rows (record { side = Left; it = schedule_plain e }, Some (schedule_plain g)) ≡ [] → e.1.body ≡ g.1.body
+  pub same-body : schedule_differences (record { side = Left; it = schedule_plain e }, Some (schedule_plain g)) ≡ [] → e.1.body ≡ g.1.body
   same-body none =
       let p = e.1.body in
       let q = g.1.body in
       let s = schedule_plain e in
       let t = schedule_plain g in
       let head = schedule_head changed s.basic in
-      let x = numbered_schedule (0, s) in
-      let y = numbered_schedule (0, t) in
-      let firsts = differing_rows head (in_record (codes "BS")) (take 18 (drop 5 schedule_fields)) x y in
-      let seconds = differing_rows head (in_record (codes "BX")) (drop 23 schedule_fields) x y in
-      let journeys = journey_rows head (journey_of s) (journey_of t) in
-      let (no_basic, later) = both-none firsts (seconds ++ journeys) none in
-      let (no_extra, no_journey) = both-none seconds journeys later in
-      let basic = same-cells head (in_record (codes "BS")) x y (take 18 (drop 5 schedule_fields)) no_basic in
-      let extra = same-cells head (in_record (codes "BX")) x y (drop 23 schedule_fields) no_extra in
+      let x = extra_in s.further in
+      let y = extra_in t.further in
+      let start = in_record head (codes "BS") in
+      let behind = in_record head (codes "BX") in
+      let details = differing_rows start detail_fields s.basic t.basic in
+      let identities = differing_rows start extra_identity x y in
+      let extras = differing_rows behind extra_fields x y in
+      let journeys = journey_differences head (journey_of s) (journey_of t) in
+      let (no_detail, later) = both-none details (identities ++ (extras ++ journeys)) none in
+      let (no_identity, last) = both-none identities (extras ++ journeys) later in
+      let (no_extra, no_journey) = both-none extras journeys last in
       let a = are-further p.extra p.origin (map call_record p.calls ++ (of.Terminus p.terminus ∷ [])) one.further in
       let b = are-further q.extra q.origin (map call_record q.calls ++ (of.Terminus q.terminus ∷ [])) other.further in
-      let detail_is = same-detail (ap (λ (cells : List (List ℕ)). take 17 cells) basic) in
+      let detail_is = same-detail (same-cells start s.basic t.basic detail_fields no_detail) in
       let extra_is = same-extra p.extra q.extra (extra-fits e one) (extra-fits g other)
-      (ap identity_of_extra (sym a.extra_is) ∙ ap (nth 17) basic ∙ ap identity_of_extra b.extra_is)
-      (ap extra_cells (sym a.extra_is) ∙ extra ∙ ap extra_cells b.extra_is) in
+      (ap identity_of_extra (sym a.extra_is) ∙ ap (nth 0) (same-cells start x y extra_identity no_identity)
+      ∙ ap identity_of_extra b.extra_is)
+      (ap extra_cells (sym a.extra_is) ∙ same-cells behind x y extra_fields no_extra ∙ ap extra_cells b.extra_is) in
       let rs = journey_records p.origin p.calls p.terminus in
       let qs = journey_records q.origin q.calls q.terminus in
       let by_lines : journeys_of head (lines_of rs) (lines_of qs) ≡ [] =
@@ -399,7 +390,7 @@ same_values-association p q a b c d =
 module _ (e g : AssocKey × Permanent AssocBody) (one : AllFit (association_line e)) (other : AllFit (association_line g)) where
   -- where a pair has no row, the bodies are the same
   pub same-association :
-      association_rows (record { side = Left; it = association_plain e }, Some (association_plain g)) ≡ [] → e.1.body ≡ g.1.body
+      association_differences (record { side = Left; it = association_plain e }, Some (association_plain g)) ≡ [] → e.1.body ≡ g.1.body
   same-association none =
       let p = e.1.body in
       let q = g.1.body in
@@ -409,8 +400,7 @@ module _ (e g : AssocKey × Permanent AssocBody) (one : AllFit (association_line
       let right = line-plain_line (association_line g) refl other in
       let a = (stands-plain_line (association_line e) refl one).1.1.1.1.1.1.1 in
       let b = (stands-plain_line (association_line g) refl other).1.1.1.1.1.1.1 in
-      let same = same-cells (association_head changed l) (in_record (codes "AA")) l m
-      (take 2 (drop 5 association_fields) ++ drop 10 association_fields) none in
+      let same = same-cells (in_record (association_head changed l) (codes "AA")) l m (category_fields ++ type_fields) none in
       let at : SameAt l m = same-at l m left right in
       let both : (from to : ℕ) (v w : List ℕ) → columns from to l ≡ columns from to m → StandsIn (columns from to l) (text v) →
       StandsIn (columns from to m) (text w) → v ≡ w =

@@ -30,10 +30,10 @@ use Rattle.cif_canon.proofs.MadeFits.{HasTerms, have-terms, permanent-associatio
 use Rattle.cif_canon.proofs.MergedSides.{side-member}
 use Rattle.cif_views.specs.RowsOfDifferences.{HasRow, HaveRows}
 use Rattle.cif_views.proofs.Words.{AllFit, AssocBody, AssocKey, Association, BodyParts, Contains, ExtractParts, Left, Ordering, Permanent}
-use Rattle.cif_views.proofs.Words.{Right, Row, Schedule, ScheduleLines, Side, Terms, association_entries, association_entry}
-use Rattle.cif_views.proofs.Words.{association_head, association_plain, association_rows, change_of, difference_names, difference_table}
-use Rattle.cif_views.proofs.Words.{flat_map, header_window, key_cmp, names_line, nat_cmp, nothing, of_key, schedule_entries, schedule_entry}
-use Rattle.cif_views.proofs.Words.{schedule_head, schedule_plain, schedule_rows, slice_cmp, tiploc_head, tiploc_row, ◌↔◌}
+use Rattle.cif_views.proofs.Words.{Right, Row, Schedule, ScheduleLines, Side, Terms, association_differences, association_entries}
+use Rattle.cif_views.proofs.Words.{association_entry, association_head, association_plain, change_of, difference_names, difference_table}
+use Rattle.cif_views.proofs.Words.{flat_map, header_window, key_cmp, names_line, nat_cmp, nothing, of_key, schedule_differences}
+use Rattle.cif_views.proofs.Words.{schedule_entries, schedule_entry, schedule_head, schedule_plain, slice_cmp, tiploc_head, tiploc_row, ◌↔◌}
 use Rattle.cif_views.proofs.DifferingCells.{both-none, some-row}
 use Rattle.cif_views.proofs.PairedBodies.{FitsLines, association_line, same-association, same-body}
 
@@ -234,20 +234,20 @@ module _ (x y : ExtractParts) (d : DifferencesParts) (a : FitLists x) (b : FitLi
   schedules_listed = by_pairs (slice_cmp nat_cmp) d.schedules
 
   association-row : (l : Listed (AssocKey × Permanent AssocBody)) → Contains associations_listed l →
-      HasRow (association_rows (listed_as association_plain l))
+      HasRow (association_differences (listed_as association_plain l))
   association-row =
       has-row key_cmp window (association_entries x.associations) (association_entries y.associations) d.associations are.associations
       associations_listed (associations-by_pairs x y d are) (λ e. AllFit (association_line e))
-      (λ l. association_rows (listed_as association_plain l)) association-lines-fit
+      (λ l. association_differences (listed_as association_plain l)) association-lines-fit
       (λ s. some-row (association_head (change_of s.side) (association_plain s.it) ++ replicate 6 nothing))
       (λ s r one other none. same-association s.it r one other none)
 
   schedule-row : (l : Listed (List ℕ × Permanent BodyParts)) → Contains schedules_listed l →
-      HasRow (schedule_rows (listed_as schedule_plain l))
+      HasRow (schedule_differences (listed_as schedule_plain l))
   schedule-row =
       has-row (slice_cmp nat_cmp) window (schedule_entries x.schedules) (schedule_entries y.schedules) d.schedules are.schedules
       schedules_listed (schedules-by_pairs x y d are) FitsLines
-      (λ l. schedule_rows (listed_as schedule_plain l)) schedule-lines-fit
+      (λ l. schedule_differences (listed_as schedule_plain l)) schedule-lines-fit
       (λ s. some-row (schedule_head (change_of s.side) (schedule_plain s.it).basic ++ replicate 6 nothing))
       (λ s r one other none. same-body s.it r one other none)
 
@@ -256,10 +256,10 @@ module _ (x y : ExtractParts) (d : DifferencesParts) (a : FitLists x) (b : FitLi
     tiplocs = λ s h. some-row (tiploc_head (change_of s.side) s.it ++ replicate 6 nothing);
     associations = λ l h.
         let found = from-map (listed_as association_plain) associations_listed l h in
-        subst (λ (k : Listed (List ℕ)). HasRow (association_rows k)) found.is (association-row found.it found.there);
+        subst (λ (k : Listed (List ℕ)). HasRow (association_differences k)) found.is (association-row found.it found.there);
     schedules = λ l h.
         let found = from-map (listed_as schedule_plain) schedules_listed l h in
-        subst (λ (k : Listed ScheduleLines). HasRow (schedule_rows k)) found.is (schedule-row found.it found.there);
+        subst (λ (k : Listed ScheduleLines). HasRow (schedule_differences k)) found.is (schedule-row found.it found.there);
   }
 
   -- where no row is, nothing is listed
@@ -267,8 +267,8 @@ module _ (x y : ExtractParts) (d : DifferencesParts) (a : FitLists x) (b : FitLi
   unfolding difference_table
   no-row same =
       let locations = flat_map tiploc_row (tiploc_lines d) in
-      let associations = flat_map association_rows (association_lines d) in
-      let schedules = flat_map schedule_rows (schedule_lines d) in
+      let associations = flat_map association_differences (association_lines d) in
+      let schedules = flat_map schedule_differences (schedule_lines d) in
       let long = ap length same in
       let rest = length-append (names_line difference_names) (locations ++ (associations ++ schedules)) in
       let none = nil_from_length (locations ++ (associations ++ schedules)) (omega (arith, long, rest)) in
@@ -278,10 +278,10 @@ module _ (x y : ExtractParts) (d : DifferencesParts) (a : FitLists x) (b : FitLi
         tiplocs = map-none _ d.tiplocs (none-listed tiploc_row (tiploc_lines d) rows-are.tiplocs one);
         associations = sym (associations-by_pairs x y d are).parts ∙ ap (flat_map parts_of)
             (map-none (listed_as association_plain) associations_listed
-            (none-listed association_rows (association_lines d) rows-are.associations two));
+            (none-listed association_differences (association_lines d) rows-are.associations two));
         schedules = sym (schedules-by_pairs x y d are).parts ∙ ap (flat_map parts_of)
             (map-none (listed_as schedule_plain) schedules_listed
-            (none-listed schedule_rows (schedule_lines d) rows-are.schedules three));
+            (none-listed schedule_differences (schedule_lines d) rows-are.schedules three));
       }
 
 -- and where nothing is listed, no row is

@@ -45,21 +45,20 @@ pub use Rattle.cif_canon.specs.declared.rows.Format.{Format}
 pub use Rattle.cif_canon.specs.declared.rows.Format.TheVariants.{Text, Tsv}
 pub use Rattle.cif_canon.specs.declared.rows.Shape.TheVariants.{Trimmed, Whole}
 pub use Rattle.cif_views.specs.Calls.{call_text, calls_text}
-pub use Rattle.cif_views.specs.DifferenceTable.{Stands, association_head, association_rows, change_of, changed, difference_names}
-pub use Rattle.cif_views.specs.DifferenceTable.{differing_row, differing_rows, in_record, own_fields, schedule_head, schedule_rows}
+pub use Rattle.cif_views.specs.DifferenceTable.{association_differences, association_head, change_of, changed, difference_names}
+pub use Rattle.cif_views.specs.DifferenceTable.{differing_row, differing_rows, in_record, own_fields, schedule_differences, schedule_head}
 pub use Rattle.cif_views.specs.DifferenceTable.{single_row, tiploc_head, tiploc_row, without_extra}
 unfoldable pub use Rattle.cif_views.specs.DifferenceTable.{difference_table}
 pub use Rattle.cif_views.specs.Listing.{date_field, day_names}
-unfoldable pub use Rattle.cif_views.specs.Listing.{association_line}
 pub use Rattle.cif_views.specs.Steps.DifferenceRows.{count_of_calls, head_fields, journeys_of, lines_rows, named_fields, rows_of_place}
-pub use Rattle.cif_views.specs.Steps.DifferenceRows.{same_places, stands_of}
+pub use Rattle.cif_views.specs.Steps.DifferenceRows.{same_places, start_of}
 pub use Rattle.cif_views.specs.Steps.Explanation.{AreMarked, ArePlacedBelow, ArePlacedInOrder, IsLike, IsMarkAt, IsMarkOf, Placed}
 pub use Rattle.cif_views.specs.Steps.Explanation.{marked_as, placed_at, placed_cmp, placed_of}
 pub use Rattle.cif_views.specs.Steps.Rows.{first_field, names_behind, row_lines}
 pub use Rattle.cif_views.specs.Steps.TableRows.{call_fields_of, call_row_behind, call_rows, change_row_behind, change_rows, fields_at}
 pub use Rattle.cif_views.specs.Steps.TableRows.{journey_rows, place_fields, room_for, row_behind, row_of_table, rows_of}
 pub use Rattle.cif_views.specs.Steps.WeekCalendar.{state_in}
-pub use Rattle.cif_views.specs.Tables.{Numbered, NumberedSchedule, TableFields, association_fields, call_fields, extra_in, is_call}
+pub use Rattle.cif_views.specs.Tables.{Numbered, TableFields, call_fields, extra_in, is_call}
 pub use Rattle.cif_views.specs.Tables.{is_change, journey_kind, kind_of_line, names_line, number, numbered_from, numbered_schedule}
 pub use Rattle.cif_views.specs.Tables.{row_fields, row_line, schedule_fields, table_rows, text_at, tiploc_fields, yymmdd_from}
 pub use Rattle.cif_views.specs.WeekCalendar.{calendar_text, week_line}

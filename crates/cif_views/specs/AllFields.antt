@@ -11,7 +11,7 @@ use Rattle.cif_canon.specs.Fields.{Field, led, nothing}
 use Rattle.cif_canon.specs.Rows.{schedule_row, train_row}
 use Rattle.cif_canon.specs.declared.rows.Format.TheVariants.{Tsv}
 use Rattle.cif_views.specs.Calls.{call_names, origin_fields, stop_fields, terminus_fields}
-use Rattle.cif_views.specs.DifferenceTable.{Stands, association_head, difference_names, schedule_head, text, tiploc_head}
+use Rattle.cif_views.specs.DifferenceTable.{association_head, difference_names, schedule_head, text, tiploc_head}
 use Rattle.cif_views.specs.Explanation.{Explained, explained_association_fields, explained_train_fields, explanation_names}
 use Rattle.cif_views.specs.Listing.{association_fields_of, date_field, day_names, train_names, uid_field}
 use Rattle.cif_views.specs.Tables.{TableFields, association_fields, call_fields, change_fields, header_fields, names, row_fields}
@@ -69,8 +69,8 @@ pub record ExplainedRowsHaveAll : Type 0 where
 abbrev pub HaveAllBehind : List Field → Type 0
 HaveAllBehind head =
     HasAll difference_names (head ++ replicate 6 nothing)
-    × ((at : Stands) (name : List ℕ) (left right : Field) →
-    HasAll difference_names (head ++ (at.call ∷ at.identity ∷ at.place ∷ text name ∷ left ∷ right ∷ [])))
+    × ((call identity location : Field) (name : List ℕ) (left right : Field) →
+    HasAll difference_names ((head ++ (call ∷ identity ∷ location ∷ [])) ++ (text name ∷ left ∷ right ∷ [])))
 
 pub record DifferenceRowsHaveAll : Type 0 where
   pub tiploc : (change : Field) (line : List ℕ) → HaveAllBehind (tiploc_head change line)

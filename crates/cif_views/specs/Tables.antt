@@ -26,6 +26,10 @@ names fields = map (λ f. f.0) fields
 abbrev pub row_fields : {Row : Type 0} → TableFields Row → Row → List Field
 row_fields fields row = map (λ f. f.1 row) fields
 
+-- the fields of a part of a row are fields of the row
+abbrev pub of_part : {Row Part : Type 0} → (Row → Part) → TableFields Part → TableFields Row
+of_part part fields = map (λ f. (f.0, λ row. f.1 (part row))) fields
+
 -- the line of some names, that of all names of a table, and that of a row
 abbrev pub names_line : List (List ℕ) → List ℕ
 names_line names = join_with_byte 9 names ++ codes "\n"
@@ -86,7 +90,13 @@ tiploc_fields =
     ∷ (codes "description", text_at 57 72)
     ∷ []
 
--- an association
+-- an association: the fields of its category, those of its type, and all
+abbrev pub category_fields : TableFields (List ℕ)
+category_fields = (codes "category", text_at 35 36) ∷ (codes "date_indicator", text_at 37 37) ∷ []
+
+abbrev pub type_fields : TableFields (List ℕ)
+type_fields = (codes "diagram_type", text_at 47 47) ∷ (codes "association_type", text_at 48 48) ∷ []
+
 abbrev pub association_fields : TableFields (List ℕ)
 association_fields =
     (codes "base_uid", whole_at 4 9)
@@ -94,14 +104,11 @@ association_fields =
     ∷ (codes "first_date", date_at 16 21)
     ∷ (codes "last_date", date_at 22 27)
     ∷ (codes "days_run", text_at 28 34)
-    ∷ (codes "category", text_at 35 36)
-    ∷ (codes "date_indicator", text_at 37 37)
-    ∷ (codes "location", text_at 38 44)
+    ∷ (category_fields
+    ++ ((codes "location", text_at 38 44)
     ∷ (codes "base_suffix", text_at 45 45)
     ∷ (codes "associated_suffix", text_at 46 46)
-    ∷ (codes "diagram_type", text_at 47 47)
-    ∷ (codes "association_type", text_at 48 48)
-    ∷ []
+    ∷ type_fields))
 
 -- A schedule, with its number: its BS, and its BX, in place of which a line of spaces stands where there is none.
 pub record NumberedSchedule : Type 0 where
@@ -123,44 +130,54 @@ extra_in (line ∷ lines) = cond (is_extra line) line (replicate 80 32)
 abbrev pub numbered_schedule : ℕ × ScheduleLines → NumberedSchedule
 numbered_schedule s = record { schedule = s.0; basic = s.1.basic; extra = extra_in s.1.further }
 
-abbrev pub of_basic : (List ℕ → Field) → NumberedSchedule → Field
-of_basic field s = field s.basic
+-- the fields of a BS: those behind its days run, and all
+abbrev pub detail_fields : TableFields (List ℕ)
+detail_fields =
+    (codes "status", text_at 30 30)
+    ∷ (codes "category", text_at 31 32)
+    ∷ (codes "identity", text_at 33 36)
+    ∷ (codes "headcode", text_at 37 40)
+    ∷ (codes "course", text_at 41 41)
+    ∷ (codes "service_code", text_at 42 49)
+    ∷ (codes "sector", text_at 50 50)
+    ∷ (codes "power", text_at 51 53)
+    ∷ (codes "timing_load", text_at 54 57)
+    ∷ (codes "speed", text_at 58 60)
+    ∷ (codes "characteristics", text_at 61 66)
+    ∷ (codes "class", text_at 67 67)
+    ∷ (codes "sleepers", text_at 68 68)
+    ∷ (codes "reservations", text_at 69 69)
+    ∷ (codes "connection", text_at 70 70)
+    ∷ (codes "catering", text_at 71 74)
+    ∷ (codes "branding", text_at 75 78)
+    ∷ []
 
-abbrev pub of_extra : (List ℕ → Field) → NumberedSchedule → Field
-of_extra field s = field s.extra
+abbrev pub basic_fields : TableFields (List ℕ)
+basic_fields =
+    (codes "uid", whole_at 4 9)
+    ∷ (codes "first_date", date_at 10 15)
+    ∷ (codes "last_date", date_at 16 21)
+    ∷ (codes "days_run", text_at 22 28)
+    ∷ detail_fields
+
+-- what tells of a BX, its identity, and its other fields
+abbrev pub extra_identity : TableFields (List ℕ)
+extra_identity = (codes "extra", text_at 1 2) ∷ []
+
+abbrev pub extra_fields : TableFields (List ℕ)
+extra_fields =
+    (codes "traction", text_at 3 6)
+    ∷ (codes "uic", text_at 7 11)
+    ∷ (codes "operator_code", text_at 12 13)
+    ∷ (codes "timetable_code", text_at 14 14)
+    ∷ (codes "reserved_a", text_at 15 22)
+    ∷ (codes "reserved_b", text_at 23 23)
+    ∷ []
 
 abbrev pub schedule_fields : TableFields NumberedSchedule
 schedule_fields =
     (codes "schedule", λ s. number s.schedule)
-    ∷ (codes "uid", of_basic (whole_at 4 9))
-    ∷ (codes "first_date", of_basic (date_at 10 15))
-    ∷ (codes "last_date", of_basic (date_at 16 21))
-    ∷ (codes "days_run", of_basic (text_at 22 28))
-    ∷ (codes "status", of_basic (text_at 30 30))
-    ∷ (codes "category", of_basic (text_at 31 32))
-    ∷ (codes "identity", of_basic (text_at 33 36))
-    ∷ (codes "headcode", of_basic (text_at 37 40))
-    ∷ (codes "course", of_basic (text_at 41 41))
-    ∷ (codes "service_code", of_basic (text_at 42 49))
-    ∷ (codes "sector", of_basic (text_at 50 50))
-    ∷ (codes "power", of_basic (text_at 51 53))
-    ∷ (codes "timing_load", of_basic (text_at 54 57))
-    ∷ (codes "speed", of_basic (text_at 58 60))
-    ∷ (codes "characteristics", of_basic (text_at 61 66))
-    ∷ (codes "class", of_basic (text_at 67 67))
-    ∷ (codes "sleepers", of_basic (text_at 68 68))
-    ∷ (codes "reservations", of_basic (text_at 69 69))
-    ∷ (codes "connection", of_basic (text_at 70 70))
-    ∷ (codes "catering", of_basic (text_at 71 74))
-    ∷ (codes "branding", of_basic (text_at 75 78))
-    ∷ (codes "extra", of_extra (text_at 1 2))
-    ∷ (codes "traction", of_extra (text_at 3 6))
-    ∷ (codes "uic", of_extra (text_at 7 11))
-    ∷ (codes "operator_code", of_extra (text_at 12 13))
-    ∷ (codes "timetable_code", of_extra (text_at 14 14))
-    ∷ (codes "reserved_a", of_extra (text_at 15 22))
-    ∷ (codes "reserved_b", of_extra (text_at 23 23))
-    ∷ []
+    ∷ (of_part (λ s. s.basic) basic_fields ++ of_part (λ s. s.extra) (extra_identity ++ extra_fields))
 
 -- A line of a journey: the number of its schedule, and that of the call which it is or which comes next.
 pub record Numbered : Type 0 where
@@ -203,7 +220,7 @@ calls_of s = filter (λ p. is_call (kind_of_line p.line)) (numbered_from s.0 1 s
 abbrev pub changes_of : ℕ × ScheduleLines → List Numbered
 changes_of s = filter (λ p. is_change (kind_of_line p.line)) (numbered_from s.0 1 s.1.further)
 
--- a field of a call, which may stand elsewhere in LO, LI and LT, and of any line of a journey
+-- a field of a call, which may stand elsewhere in LO, LI and LT
 abbrev pub by_kind : Field → Field → Field → JourneyKind → Field
 by_kind of_origin of_stop of_terminus Origin = of_origin
 by_kind of_origin of_stop of_terminus Stop = of_stop
@@ -211,24 +228,16 @@ by_kind of_origin of_stop of_terminus Terminus = of_terminus
 by_kind of_origin of_stop of_terminus Change = nothing
 by_kind of_origin of_stop of_terminus Other = nothing
 
-abbrev pub of_call : (List ℕ → Field) → (List ℕ → Field) → (List ℕ → Field) → Numbered → Field
-of_call of_origin of_stop of_terminus p =
-    by_kind (of_origin p.line) (of_stop p.line) (of_terminus p.line) (kind_of_line p.line)
-
-abbrev pub of_line : (List ℕ → Field) → Numbered → Field
-of_line field p = field p.line
+abbrev pub of_call : (List ℕ → Field) → (List ℕ → Field) → (List ℕ → Field) → List ℕ → Field
+of_call of_origin of_stop of_terminus line = by_kind (of_origin line) (of_stop line) (of_terminus line) (kind_of_line line)
 
 abbrev pub no_field : List ℕ → Field
 no_field line = nothing
 
-abbrev pub call_fields : TableFields Numbered
-call_fields =
-    (codes "schedule", λ p. number p.schedule)
-    ∷ (codes "call", λ p. number p.call)
-    ∷ (codes "record", of_line (text_at 1 2))
-    ∷ (codes "location", of_line (text_at 3 9))
-    ∷ (codes "suffix", of_line (text_at 10 10))
-    ∷ (codes "arrival", of_call no_field (text_at 11 15) (text_at 11 15))
+-- the fields of a call behind its suffix, and those of a change
+abbrev pub own_call_fields : TableFields (List ℕ)
+own_call_fields =
+    (codes "arrival", of_call no_field (text_at 11 15) (text_at 11 15))
     ∷ (codes "departure", of_call (text_at 11 15) (text_at 16 20) no_field)
     ∷ (codes "pass", of_call no_field (text_at 21 25) no_field)
     ∷ (codes "public_arrival", of_call no_field (text_at 26 29) (text_at 16 19))
@@ -242,32 +251,41 @@ call_fields =
     ∷ (codes "performance", of_call (text_at 42 43) (text_at 59 60) no_field)
     ∷ []
 
-abbrev pub change_fields : TableFields Numbered
-change_fields =
-    (codes "schedule", λ p. number p.schedule)
-    ∷ (codes "call", λ p. number p.call)
-    ∷ (codes "location", of_line (text_at 3 9))
-    ∷ (codes "suffix", of_line (text_at 10 10))
-    ∷ (codes "category", of_line (text_at 11 12))
-    ∷ (codes "identity", of_line (text_at 13 16))
-    ∷ (codes "headcode", of_line (text_at 17 20))
-    ∷ (codes "course", of_line (text_at 21 21))
-    ∷ (codes "service_code", of_line (text_at 22 29))
-    ∷ (codes "sector", of_line (text_at 30 30))
-    ∷ (codes "power", of_line (text_at 31 33))
-    ∷ (codes "timing_load", of_line (text_at 34 37))
-    ∷ (codes "speed", of_line (text_at 38 40))
-    ∷ (codes "characteristics", of_line (text_at 41 46))
-    ∷ (codes "class", of_line (text_at 47 47))
-    ∷ (codes "sleepers", of_line (text_at 48 48))
-    ∷ (codes "reservations", of_line (text_at 49 49))
-    ∷ (codes "connection", of_line (text_at 50 50))
-    ∷ (codes "catering", of_line (text_at 51 54))
-    ∷ (codes "branding", of_line (text_at 55 58))
-    ∷ (codes "traction", of_line (text_at 59 62))
-    ∷ (codes "uic", of_line (text_at 63 67))
-    ∷ (codes "reserved_a", of_line (text_at 68 75))
+abbrev pub own_change_fields : TableFields (List ℕ)
+own_change_fields =
+    (codes "category", text_at 11 12)
+    ∷ (codes "identity", text_at 13 16)
+    ∷ (codes "headcode", text_at 17 20)
+    ∷ (codes "course", text_at 21 21)
+    ∷ (codes "service_code", text_at 22 29)
+    ∷ (codes "sector", text_at 30 30)
+    ∷ (codes "power", text_at 31 33)
+    ∷ (codes "timing_load", text_at 34 37)
+    ∷ (codes "speed", text_at 38 40)
+    ∷ (codes "characteristics", text_at 41 46)
+    ∷ (codes "class", text_at 47 47)
+    ∷ (codes "sleepers", text_at 48 48)
+    ∷ (codes "reservations", text_at 49 49)
+    ∷ (codes "connection", text_at 50 50)
+    ∷ (codes "catering", text_at 51 54)
+    ∷ (codes "branding", text_at 55 58)
+    ∷ (codes "traction", text_at 59 62)
+    ∷ (codes "uic", text_at 63 67)
+    ∷ (codes "reserved_a", text_at 68 75)
     ∷ []
+
+-- the numbers of a line, its location and suffix, and all fields of a call and of a change
+abbrev pub number_fields : TableFields Numbered
+number_fields = (codes "schedule", λ p. number p.schedule) ∷ (codes "call", λ p. number p.call) ∷ []
+
+abbrev pub location_and_suffix : TableFields (List ℕ)
+location_and_suffix = (codes "location", text_at 3 9) ∷ (codes "suffix", text_at 10 10) ∷ []
+
+abbrev pub call_fields : TableFields Numbered
+call_fields = number_fields ++ of_part (λ p. p.line) ((codes "record", text_at 1 2) ∷ (location_and_suffix ++ own_call_fields))
+
+abbrev pub change_fields : TableFields Numbered
+change_fields = number_fields ++ of_part (λ p. p.line) (location_and_suffix ++ own_change_fields)
 
 -- the first line of a table
 abbrev pub table_heading : Table → List ℕ

@@ -7,10 +7,11 @@ ghost use Rattle.cif_extract.specs.declared.fault.Fault.TheVariants.{Write};
 ghost use Rattle.cif_canon.specs.Appended.{IsAppended};
 ghost use Rattle.cif_canon.specs.Fields.{after, nothing, trimmed};
 ghost use Rattle.cif_canon.specs.declared.rows.Format.TheVariants.{Tsv};
-ghost use Rattle.cif_views.specs.DifferenceTable.{changed, change_of, difference_table, differing_rows, single_row, without_extra};
+ghost use Rattle.cif_views.specs.DifferenceTable.{changed, change_of, difference_table, differing_rows, in_record};
+ghost use Rattle.cif_views.specs.DifferenceTable.{single_row, without_extra};
 ghost use Rattle.cif_views.specs.Steps.DifferenceRows.{are_named, count_of_calls, field_row, fields_of_kind, head_fields, is_named};
-ghost use Rattle.cif_views.specs.Steps.DifferenceRows.{journeys_of, lines_rows, named_fields, place_of, rows_of_place};
-ghost use Rattle.cif_views.specs.Steps.DifferenceRows.{same_places, stands_of};
+ghost use Rattle.cif_views.specs.Steps.DifferenceRows.{journeys_of, lines_rows, named_fields, rows_of_place};
+ghost use Rattle.cif_views.specs.Steps.DifferenceRows.{same_places, start_of};
 ghost use Rattle.cif_views.specs.Tables.{kind_of_line, text_at};
 
 use crate::table_row::TableRow;
@@ -150,13 +151,14 @@ pub fn write_difference_table<W: WriteDevice>(
 struct DifferenceTable;
 
 impl DifferenceListing for DifferenceTable {
-    ghost use Rattle.cif_views.specs.DifferenceTable.{association_rows, schedule_rows, tiploc_row};
+    ghost use Rattle.cif_views.specs.DifferenceTable.{association_differences, schedule_differences};
+    ghost use Rattle.cif_views.specs.DifferenceTable.{tiploc_row};
 
     ghost tiploc_text = { λ table. tiploc_row };
 
-    ghost association_text = { λ table. association_rows };
+    ghost association_text = { λ table. association_differences };
 
-    ghost schedule_text = { λ table. schedule_rows };
+    ghost schedule_text = { λ table. schedule_differences };
 
     fn write_tiploc<W: WriteDevice>(&self, side: Side, line: &Line, sink: &mut Sink<W>) {
         write_single(RowKind::Tiploc, change_of(side), line, sink);
@@ -167,9 +169,8 @@ impl DifferenceListing for DifferenceTable {
     }
 
     fn write_associations<W: WriteDevice>(&self, left: &Line, right: &Line, sink: &mut Sink<W>) {
-        let stands = Stands::of(None, b"AA", b"");
-        let kind = RowKind::Association;
-        write_differing(kind, left, &stands, &ASSOCIATION, left, right, sink);
+        let place = FieldPlace::Association(left);
+        write_differing(place, &ASSOCIATION, left, right, sink);
     }
 
     fn write_schedule<W: WriteDevice>(
@@ -190,19 +191,10 @@ impl DifferenceListing for DifferenceTable {
         let (one, other) = (left.basic(), right.basic());
         let (lefts, rights) = (left.further(), right.further());
         let (extra, other_extra) = (extra_among(&lefts), extra_among(&rights));
-        let (of_basic, of_extra) = (Stands::of(None, b"BS", b""), Stands::of(None, b"BX", b""));
-        let kind = RowKind::Schedule;
-        write_differing(kind, &one, &of_basic, &BASIC, &one, &other, sink);
-        write_differing(
-            kind,
-            &one,
-            &of_basic,
-            &WITH_EXTRA,
-            &extra,
-            &other_extra,
-            sink,
-        );
-        write_differing(kind, &one, &of_extra, &EXTRA, &extra, &other_extra, sink);
+        let (in_basic, in_extra) = (FieldPlace::Basic(&one), FieldPlace::Extra(&one));
+        write_differing(in_basic, &BASIC, &one, &other, sink);
+        write_differing(in_basic, &WITH_EXTRA, &extra, &other_extra, sink);
+        write_differing(in_extra, &EXTRA, &extra, &other_extra, sink);
         write_journeys(&one, &journey_among(lefts), &journey_among(rights), sink);
     }
 }
@@ -229,30 +221,17 @@ pub(crate) enum RowKind {
     Schedule,
 }
 
-/// Where a field of a pair stands: the number of its call, if it is in one, the identity of its
-/// record, and its location.
+/// Where a field of a pair stands, on its left side.
 #[derive(Clone, Copy)]
-pub(crate) struct Stands<'a> {
-    call: Option<usize>,
-    identity: &'a [u8],
-    place: &'a [u8],
-}
-
-impl<'a> Stands<'a> {
-    /// There.
-    fn of(call: Option<usize>, identity: &'a [u8], place: &'a [u8]) -> Stands<'a>
-        ensures { stands_of result ≡ record {
-          call = place_of call;
-          identity = (Shape.Trimmed, identity.now);
-          place = (Shape.Trimmed, place.now);
-        } }
-    {
-        Stands {
-            call,
-            identity,
-            place,
-        }
-    }
+pub(crate) enum FieldPlace<'a> {
+    /// In this AA.
+    Association(&'a Line),
+    /// In this BS.
+    Basic(&'a Line),
+    /// In the BX behind this BS.
+    Extra(&'a Line),
+    /// In a line of the journey behind this BS, where the call has this number.
+    Journey(&'a Line, usize, &'a Line),
 }
 
 /// Appends the fields up to the days run. The line is that of the record, or its BS.
@@ -316,53 +295,60 @@ fn write_single<W: WriteDevice>(kind: RowKind, change: &str, line: &Line, sink: 
     row.write(sink);
 }
 
-/// Appends the call, the record and the place of a field.
-fn push_stands(row: &mut TableRow, stands: &Stands<'_>)
-    requires room { length row.old ≤ 75 }
-    requires identity { length stands.now.identity.now ≤ 2 }
-    requires place { length stands.now.place.now ≤ 7 }
-    ensures text { row.new ≡ row.old ++ after Tsv
-        ((stands_of stands.now).call ∷ (stands_of stands.now).identity ∷ (stands_of stands.now).place ∷ []) }
+/// Appends what the rows of a pair begin with: the fields up to the days run, and where the field
+/// stands: the number of its call, the identity of its line, and its location.
+fn push_start(row: &mut TableRow, place: FieldPlace<'_>)
+    requires { row.old ≡ [] }
+    ensures text { row.new ≡ after Tsv (start_of place.entry) }
     ensures len { length row.new ≤ 130 }
 {
-    match stands.call {
-        Some(call) => row.push_number(call),
-        None => row.push_nothing(),
+    match place {
+        FieldPlace::Association(line) => push_in_record(row, RowKind::Association, line, b"AA"),
+        FieldPlace::Basic(line) => push_in_record(row, RowKind::Schedule, line, b"BS"),
+        FieldPlace::Extra(line) => push_in_record(row, RowKind::Schedule, line, b"BX"),
+        FieldPlace::Journey(basic, call, line) => {
+            push_head(row, RowKind::Schedule, "<>", basic);
+            row.push_number(call);
+            row.push(Shape::Trimmed, &columns_at::<2>(line, 1));
+            row.push(Shape::Trimmed, &columns_at::<7>(line, 3));
+        }
     }
-    row.push(Shape::Trimmed, stands.identity);
-    row.push(Shape::Trimmed, stands.place);
 }
 
-/// Appends a row for each of the fields whose columns differ. The first line is that of the pair's
-/// left record, or its BS.
+/// The same in a record without calls.
+fn push_in_record(row: &mut TableRow, kind: RowKind, line: &Line, identity: &[u8; 2])
+    requires { row.old ≡ [] }
+    ensures text { row.new ≡ after Tsv (in_record (head_fields kind changed line.now) identity.now) }
+    ensures len { length row.new ≤ 130 }
+{
+    push_head(row, kind, "<>", line);
+    row.push_nothing();
+    row.push(Shape::Trimmed, identity);
+    row.push_nothing();
+}
+
+/// Appends a row for each of the fields whose columns differ.
 fn write_differing<W: WriteDevice>(
-    kind: RowKind,
-    head: &Line,
-    stands: &Stands<'_>,
+    place: FieldPlace<'_>,
     fields: &[Named],
     left: &Line,
     right: &Line,
     sink: &mut Sink<W>,
 )
     requires fields { IsTrue (are_named fields.now) }
-    requires identity { length stands.now.identity.now ≤ 2 }
-    requires place { length stands.now.place.now ≤ 7 }
     ensures { IsAppended W.contents W.write_errors
-        (differing_rows (head_fields kind changed head.now) (stands_of stands.now) (named_fields fields.now)
-        left.now right.now) sink.old sink.new }
+        (differing_rows (start_of place.entry) (named_fields fields.now) left.now right.now) sink.old sink.new }
 {
     let mut row = TableRow::new();
     for field in fields {
-        write_field(&mut row, kind, head, stands, field, left, right, sink);
+        write_field(&mut row, place, field, left, right, sink);
     }
 }
 
 /// Appends the row of a field, if its columns differ.
 fn write_field<W: WriteDevice>(
     row: &mut TableRow,
-    kind: RowKind,
-    head: &Line,
-    stands: &Stands<'_>,
+    place: FieldPlace<'_>,
     field: &Named,
     left: &Line,
     right: &Line,
@@ -370,11 +356,9 @@ fn write_field<W: WriteDevice>(
 )
     requires empty { row.old ≡ [] }
     requires field { IsTrue (is_named field.now) }
-    requires identity { length stands.now.identity.now ≤ 2 }
-    requires place { length stands.now.place.now ≤ 7 }
     ensures text { IsAppended W.contents W.write_errors
-        (field_row (head_fields kind changed head.now) (stands_of stands.now) field.now.0.now
-        (text_at field.now.1 field.now.2 left.now) (text_at field.now.1 field.now.2 right.now)) sink.old sink.new }
+        (field_row (start_of place.entry) field.now.0.now (text_at field.now.1 field.now.2 left.now)
+        (text_at field.now.1 field.now.2 right.now)) sink.old sink.new }
     ensures empty { row.new ≡ [] }
 {
     let one = shown_of(left, field);
@@ -382,8 +366,7 @@ fn write_field<W: WriteDevice>(
     if one == other {
         return;
     }
-    push_head(row, kind, "<>", head);
-    push_stands(row, stands);
+    push_start(row, place);
     row.push(Shape::Trimmed, field.0.as_bytes());
     row.push(Shape::Whole, one);
     row.push(Shape::Whole, other);
@@ -429,7 +412,7 @@ fn write_journeys<W: WriteDevice>(
     }
     let mut row = TableRow::new();
     push_head(&mut row, RowKind::Schedule, "<>", head);
-    push_stands(&mut row, &Stands::of(None, b"", b""));
+    push_nothing(&mut row, 3);
     row.push(Shape::Trimmed, b"journey");
     row.push_number(count_of_calls(left));
     row.push_number(count_of_calls(right));
@@ -506,11 +489,8 @@ fn write_place<W: WriteDevice>(
     ensures { IsAppended W.contents W.write_errors
         (rows_of_place (head_fields RowKind.Schedule changed head.now) call left.now right.now) sink.old sink.new }
 {
-    let identity = columns_at::<2>(left, 1);
-    let location = columns_at::<7>(left, 3);
-    let stands = Stands::of(Some(call), &identity, &location);
-    let rows = RowKind::Schedule;
-    write_differing(rows, head, &stands, fields_of(kind), left, right, sink);
+    let place = FieldPlace::Journey(head, call, left);
+    write_differing(place, fields_of(kind), left, right, sink);
 }
 
 /// The fields that a line of this kind has behind its suffix.

@@ -71,11 +71,11 @@ fn order<E: Entry>(one: &Applying<'_, E>, other: &Applying<'_, E>) -> Ordering
     ensures { result ≡ placed_cmp E.Key.cmp
         (placed_of E.key E.terms one.now) (placed_of E.key E.terms other.now) }
 {
-    let by_letter = precedence(one.entry).cmp(&precedence(other.entry));
+    let by_precedence = precedence(one.entry).cmp(&precedence(other.entry));
     one.entry
         .key()
         .cmp(other.entry.key())
-        .then(by_letter.then(one.place.cmp(&other.place)))
+        .then(by_precedence.then(one.place.cmp(&other.place)))
 }
 
 /// The records of the train that apply on the day, by key, letter and place.

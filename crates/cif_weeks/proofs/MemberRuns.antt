@@ -126,7 +126,7 @@ module _ {B : Type 0} (xs : List (Terms B)) (members : List ℕ) (window : Windo
           has = (of.days n).1 (within, wins.applies);
           least = λ t in_t on.
               let m = a.each t in_t in
-              rw (of.letter, m.span.letter) (wins.least m.terms m.chosen ((m.span.days n).0 on).1);
+              rw (of.precedence, m.span.precedence) (wins.least m.terms m.chosen ((m.span.days n).0 on).1);
         };
         body_is = sym body;
       }
@@ -141,14 +141,14 @@ module _ {B : Type 0} (xs : List (Terms B)) (members : List ℕ) (window : Windo
     has-body s listed b is cancelled =
         let m = a.each s listed in
         let none : is_some m.terms.body ≡ false =
-        (lawful.cancelled m.terms m.chosen).1 (is-C m.terms.letter (sym m.span.letter ∙ cancelled)) in
+        (lawful.cancelled m.terms m.chosen).1 (is-C m.terms.letter (sym m.span.precedence ∙ cancelled)) in
         let some : is_some m.terms.body ≡ true = ap is_some (m.body ∙ is) in
         cc
 
     body-of : (s : Span) → Contains spans s → HasBody s → (o : Option B) → body_at xs (Some s.source) ≡ o → (b : B) × (o ≡ Some b)
     body-of s listed has None none =
         let m = a.each s listed in
-        absurd (has (m.span.letter ∙ ap letter ((lawful.cancelled m.terms m.chosen).0 (ap is_some (m.body ∙ none)))))
+        absurd (has (m.span.precedence ∙ ap letter ((lawful.cancelled m.terms m.chosen).0 (ap is_some (m.body ∙ none)))))
     body-of s listed has (Some b) is = (b, refl)
 
     have-bodies : HaveBodies xs window spans

@@ -23,14 +23,14 @@ module _ {B : Type 0} (xs : List (Terms B)) (c : CalendarParts) (sources : AreSo
   pieces-inside source n h = let p = a.each h.it h.listed in inside xs c sources p.body n (p.runs n h.on.has)
 
   bodied : (s : Span) → Contains spans s → HasBody s
-  bodied s listed cancelled = omega (arith, (a.each s listed).letter, cancelled)
+  bodied s listed cancelled = omega (arith, (a.each s listed).precedence, cancelled)
 
-  -- each has a body, and all have one letter
+  -- each has a body, and all have one precedence
   pub pieces-bodied : All HasBody spans
   pieces-bodied = λ i d below. bodied (get_or spans i d) (Contains-get_or spans i d below)
 
-  pub pieces-level : (s t : Span) → Contains spans s → Contains spans t → s.letter ≡ t.letter
-  pieces-level s t in_s in_t = (a.each s in_s).letter ∙ sym (a.each t in_t).letter
+  pub pieces-level : (s t : Span) → Contains spans s → Contains spans t → s.precedence ≡ t.precedence
+  pieces-level s t in_s in_t = (a.each s in_s).precedence ∙ sym (a.each t in_t).precedence
 
   -- the body of a span's source runs on its days
   runs-on : (s : Span) (n : ℕ) → Contains spans s → HasDay s n → body_at xs (Some s.source) ≡ body_in xs c n

@@ -142,7 +142,7 @@ module _ {B : Type 0} (xs : List (Terms B)) (c : CalendarParts) where
       module _ (spans : List Span) (taken days both : List Bool) (u : Span) (winner weekday : ℕ)
           (l : AreTaken p weekday taken spans)
           (own : (n : ℕ) → HasDay u n ↔ IsAmongDates p.first p.last days n)
-          (begins : u.first_week ≡ week_of p.first) (ends : u.last_week ≡ week_of p.last) (is_P : u.letter ≡ letter P)
+          (begins : u.first_week ≡ week_of p.first) (ends : u.last_week ≡ week_of p.last) (is_P : u.precedence ≡ letter P)
           (same : body_at xs (Some u.source) ≡ body_at xs (Some winner))
           (among : IsSourceAmong xs spans (week_of p.first) winner u.source)
           (wins : IsWinnerOn p weekday winner)
@@ -176,7 +176,7 @@ module _ {B : Type 0} (xs : List (Terms B)) (c : CalendarParts) where
               (λ is. subst (λ v. IsPieceSpan xs c v) is (record {
                 body = has-body.0;
                 has = has-body.1;
-                letter = is_P;
+                precedence = is_P;
                 runs = λ n has. its-runs n has ∙ has-body.1;
               }))
               (Contains-push_cases spans u s in_s);

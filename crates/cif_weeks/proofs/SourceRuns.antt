@@ -92,7 +92,7 @@ module _ (left : List Span) (span : Span) (count : ℕ) (order : AreBySource lef
 
   module _ (spans : List Span) (listed : (s : Span) → Contains left s → Contains spans s)
       (whole : (s t : Span) → Contains spans s → Contains left t → s.source ≡ t.source → Contains left s)
-      (level : (s t : Span) → Contains spans s → Contains spans t → s.letter ≡ t.letter) where
+      (level : (s t : Span) → Contains spans s → Contains spans t → s.precedence ≡ t.precedence) where
     -- the source is shown on the same days
     pub shows-all : (n : ℕ) → Shows (take count left) span.source n → Shows spans span.source n
     shows-all n h =

@@ -47,17 +47,15 @@ fn weeks_led(spans: &[Span], span: &Span, week: u32, until: u32) -> Option<Weeks
     let mut last = own.last;
     let mut over = no_days();
     let mut rivals = no_days();
-    let letter = span.letter;
     for other in spans {
         if last < other.first_week {
             break;
         }
-        let other_letter = other.letter;
-        if other_letter < letter {
+        if other.precedence < span.precedence {
             let weeks = other.weeks_from(week, last);
             over = over.union(weeks.days);
             last = weeks.last;
-        } else if other_letter == letter && other.source != span.source {
+        } else if other.precedence == span.precedence && other.source != span.source {
             let weeks = other.weeks_from(week, last);
             rivals = rivals.union(weeks.days);
             last = weeks.last;

@@ -93,7 +93,7 @@ fn add_runs_by_source(
     requires inside { (source n : ℕ) → Shows spans.now source n →
         IsWithin (window_from window.now.first window.now.last) n }
     requires bodied { All HasBody spans.now }
-    requires level { (s t : Span) → Contains spans.now s → Contains spans.now t → s.letter ≡ t.letter }
+    requires level { (s t : Span) → Contains spans.now s → Contains spans.now t → s.precedence ≡ t.precedence }
     requires agreed { (n : ℕ) → IsAgreed spans.now n }
     requires order { AreBySource spans.now }
     ensures { IfOk result (λ _. AreRunsOfSpans form (window_from window.now.first window.now.last)

@@ -25,11 +25,11 @@ fn is_added(before: &[Span], span: &Span) -> bool
     ensures { MatchBool result (HasBody span.now → HasSource before.now span.now.source)
         (HasBody span.now × All (λ s. HasBody s → s.source ≢ span.now.source) before.now) }
 {
-    if span.letter == b'C' {
+    if span.precedence == b'C' {
         return true;
     }
     for other in before {
-        if other.letter != b'C' && other.source == span.source {
+        if other.precedence != b'C' && other.source == span.source {
             return true;
         }
     }

@@ -20,7 +20,7 @@ pub(crate) struct Span {
     /// Those in the weeks between.
     pub days: DaysRun,
     /// Its precedence: the code of its letter.
-    pub letter: u8,
+    pub precedence: u8,
     /// The position of an entry with its body, one position for each body.
     pub source: usize,
     ghost in_order: { first_week ≤ last_week },
@@ -39,7 +39,7 @@ impl Default for Span {
             first_days: none,
             last_days: none,
             days: none,
-            letter: 0,
+            precedence: 0,
             source: 0,
         }
     }
@@ -60,14 +60,14 @@ impl Span {
     ghost use Rattle.cif_weeks.specs.Steps.Spans.{HasDay, HaveOneMask, IsSpanOf};
     ghost use Rattle.cif_weeks.specs.Window.{IsWithin, window_from};
 
-    /// The dates from a first to a last on these weekdays, on which the body at `source` applies by a
-    /// letter.
-    pub(crate) fn between(first: Day, last: Day, days: DaysRun, letter: u8, source: usize) -> Span
+    /// The dates from a first to a last on these weekdays, on which the body at `source` applies with a
+    /// precedence.
+    pub(crate) fn between(first: Day, last: Day, days: DaysRun, precedence: u8, source: usize) -> Span
         requires { first ≤ last }
         ensures days { (n : ℕ) → HasDay result n ↔ IsAmongDates first last days n }
         ensures first_week { result.first_week ≡ week_of first }
         ensures last_week { result.last_week ≡ week_of last }
-        ensures letter { result.letter ≡ letter }
+        ensures precedence { result.precedence ≡ precedence }
         ensures source { result.source ≡ source }
     {
         let after = days.intersection(DaysRun::between(first.weekday(), 7));
@@ -86,7 +86,7 @@ impl Span {
             first_days,
             last_days,
             days,
-            letter,
+            precedence,
             source,
         }
     }

@@ -124,8 +124,8 @@ fn push_line(input: &mut Vec<u8>, line: &str) -> Result<(), AllocError> {
         None => (line, "\n"),
     };
     let mut parts = columns.split("\\x");
-    let front = parts.next().unwrap_or("");
-    input.extend_from_slice(front.as_bytes())?;
+    let first = parts.next().unwrap_or("");
+    input.extend_from_slice(first.as_bytes())?;
     for part in parts {
         match part.split_at_checked(2) {
             Some((digits, rest)) => {

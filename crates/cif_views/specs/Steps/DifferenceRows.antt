@@ -1,17 +1,18 @@
 -- The rows of differences as the code makes them. No public clause cites them.
-use Rattle.std.specs.Prelude.{ℕ, ◌+◌, ◌&&◌, Bool, true, List, [], ◌∷◌, ◌++◌, Option, None, Some, codes, cond, length, map, nat_eq, nat_le}
-use Rattle.std.specs.Prelude.{if◌then◌else◌}
+use Rattle.std.specs.Prelude.{ℕ, ◌+◌, ◌&&◌, Bool, true, List, [], ◌∷◌, ◌++◌, codes, cond, length, map, nat_eq, nat_le}
+use Rattle.std.specs.Prelude.{replicate, if◌then◌else◌}
 use Rattle.std.specs.Borrow.{Bor}
 use Rattle.std.specs.Cmp.Lexicographic.{pointwise}
 use Rattle.cif_columns.specs.Field.{columns}
 use Rattle.cif_canon.specs.Fields.{Field, nothing, shown}
 use Rattle.cif_canon.specs.declared.rows.Format.TheVariants.{Tsv}
-use Rattle.cif_canon.specs.declared.rows.Shape.TheVariants.{Trimmed}
-use Rattle.cif_views.specs.DifferenceTable.{Stands, association_head, differing_row, differing_rows, own_fields, schedule_head, tiploc_head}
+use Rattle.cif_views.specs.DifferenceTable.{association_head, changed, differing_row, differing_rows, in_journey, in_record}
+use Rattle.cif_views.specs.DifferenceTable.{own_fields, schedule_head, tiploc_head}
 use Rattle.cif_views.specs.Tables.{TableFields, is_call, is_change, kind_of_line, number, text_at}
+use Rattle.cif_views.specs.declared.difference_table.FieldPlace.{FieldPlace}
+use Rattle.cif_views.specs.declared.difference_table.FieldPlace.TheVariants as place
 use Rattle.cif_views.specs.declared.difference_table.RowKind.{RowKind}
 use Rattle.cif_views.specs.declared.difference_table.RowKind.TheVariants.{Association, Schedule, Tiploc}
-use Rattle.cif_views.specs.declared.difference_table.Stands.{Stands as GivenStands}
 use Rattle.cif_views.specs.declared.difference_table.TheConstants.{CHANGE, ORIGIN, STOP, TERMINUS}
 use Rattle.cif_views.specs.declared.tables.JourneyKind.{JourneyKind}
 use Rattle.cif_views.specs.declared.tables.JourneyKind.TheVariants.{Change, Origin, Other, Stop, Terminus}
@@ -22,13 +23,12 @@ head_fields Tiploc change line = tiploc_head change line
 head_fields Association change line = association_head change line
 head_fields Schedule change line = schedule_head change line
 
--- the number of a call, if there is one
-abbrev pub place_of : Option ℕ → Field
-place_of None = nothing
-place_of (Some call) = number call
-
-abbrev pub stands_of : GivenStands → Stands
-stands_of s = record { call = place_of s.call; identity = (Trimmed, s.identity.now); place = (Trimmed, s.place.now) }
+-- what the rows of a pair begin with, by where the field stands
+abbrev pub start_of : FieldPlace → List Field
+start_of (place.Association line) = in_record (association_head changed line.now) (codes "AA")
+start_of (place.Basic basic) = in_record (schedule_head changed basic.now) (codes "BS")
+start_of (place.Extra basic) = in_record (schedule_head changed basic.now) (codes "BX")
+start_of (place.Journey basic call line) = in_journey (schedule_head changed basic.now) call line.now
 
 -- fields by their names and columns; they are within a line
 abbrev pub named_fields : List (Bor (List ℕ) × ℕ × ℕ) → TableFields (List ℕ)
@@ -53,9 +53,9 @@ fields_of_kind Change = over CHANGE (λ f. (f.0.now, text_at f.1 f.2))
 fields_of_kind Other = []
 
 -- the row of one field, if its cells differ
-unfoldable pub field_row : List Field → Stands → List ℕ → Field → Field → List ℕ
-field_row head at name left right =
-    if pointwise nat_eq (shown Tsv left) (shown Tsv right) then [] else differing_row head at name left right
+unfoldable pub field_row : List Field → List ℕ → Field → Field → List ℕ
+field_row start name left right =
+    if pointwise nat_eq (shown Tsv left) (shown Tsv right) then [] else differing_row start name left right
 
 -- the lines of two journeys have the same places
 abbrev pub same_places : List (List ℕ) → List (List ℕ) → Bool
@@ -68,9 +68,7 @@ count_of_calls (line ∷ lines) = cond (is_call (kind_of_line line)) (count_of_c
 -- the rows of one place of both journeys
 abbrev pub rows_of_place : List Field → ℕ → List ℕ → List ℕ → List ℕ
 rows_of_place head call line other =
-    differing_rows head (record { call = number call; identity = text_at 1 2 line; place = text_at 3 9 line })
-    (own_fields (is_change (kind_of_line line))) (record { schedule = 0; call = call; line = line })
-    (record { schedule = 0; call = call; line = other })
+    differing_rows (in_journey head call line) (own_fields (is_change (kind_of_line line))) line other
 
 -- the rows of lines with the same places; the first call that comes has this number
 abbrev pub lines_rows : List Field → ℕ → List (List ℕ) → List (List ℕ) → List ℕ
@@ -83,5 +81,4 @@ lines_rows head call (line ∷ lefts) (other ∷ rights) =
 abbrev pub journeys_of : List Field → List (List ℕ) → List (List ℕ) → List ℕ
 journeys_of head lefts rights =
     cond (same_places lefts rights) (lines_rows head 1 lefts rights)
-    (differing_row head (record { call = nothing; identity = nothing; place = nothing }) (codes "journey") (number (count_of_calls lefts))
-    (number (count_of_calls rights)))
+    (differing_row (head ++ replicate 3 nothing) (codes "journey") (number (count_of_calls lefts)) (number (count_of_calls rights)))

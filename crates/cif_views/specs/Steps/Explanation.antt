@@ -60,31 +60,31 @@ pub record ArePlacedBelow {K B : Type 0} (IsOf : K → List ℕ → Type 0) (ent
   pub all : (p : Placed K B) → IsPlaced IsOf entries u d p → p.place < n → Contains placed p
   pub rising : AllPairs (λ (p q : Placed K B). p.place < q.place) placed
 
--- these are all of them, by key, letter and place
+-- these are all of them, by key, precedence and place
 pub record ArePlacedInOrder {K B : Type 0} (cmp : K → K → Ordering) (IsOf : K → List ℕ → Type 0) (entries : List (K × Terms B))
     (u : List ℕ) (d : ℕ) (placed : List (Placed K B)) : Type 0 where
   pub found : All (IsPlaced IsOf entries u d) placed
   pub all : (p : Placed K B) → IsPlaced IsOf entries u d p → Contains placed p
   pub rising : IsRisingBy cmp placed
 
--- one of the records has this key and this letter
+-- one of the records has this key and this precedence
 pub record IsLevel {K B : Type 0} (placed : List (Placed K B)) (k : K) (l : ℕ) (p : Placed K B) : Type 0 where
   pub member : Contains placed p
   pub key : p.key ≡ k
-  pub same_letter : precedence p.terms ≡ l
+  pub same_precedence : precedence p.terms ≡ l
 
--- a record of the key has an earlier letter
+-- a record of the key comes before this precedence
 pub record IsBefore {K B : Type 0} (placed : List (Placed K B)) (k : K) (l : ℕ) : Type 0 where
   pub other : Placed K B
   pub member : Contains placed other
   pub key : other.key ≡ k
   pub earlier : precedence other.terms < l
 
--- no record of the key has an earlier letter
+-- no record of the key comes before it
 abbrev pub IsLeast : {K B : Type 0} → List (Placed K B) → K → ℕ → Type 0
 IsLeast {K} {B} placed k l = (p : Placed K B) → Contains placed p → p.key ≡ k → l ≤ precedence p.terms
 
--- all records of the key with this letter have one body
+-- all records of the key with this precedence have one body
 abbrev pub AreAlike : {K B : Type 0} → List (Placed K B) → K → ℕ → Type 0
 AreAlike {K} {B} placed k l = (p q : Placed K B) → IsLevel placed k l p → IsLevel placed k l q → p.terms.body ≡ q.terms.body
 
@@ -101,11 +101,11 @@ abbrev pub IsFirstOfKey : {K B : Type 0} → List (Placed K B) → ℕ → Type 
 IsFirstOfKey {K} {B} placed i =
     (p q : Placed K B) (a : Contains placed p) (b : Contains placed q) → a.0 ≡ i → i ≡ b.0 + 1 → q.key ≢ p.key
 
--- q has p's key, and its body if it has its letter
+-- q has p's key, and its body if it has its precedence
 abbrev pub IsLike : {K B : Type 0} → Placed K B → Placed K B → Type 0
 IsLike p q = (q.key ≡ p.key) × (precedence q.terms ≡ precedence p.terms → q.terms.body ≡ p.terms.body)
 
--- the mark of the records with this key and this letter, among all
+-- the mark of the records with this key and this precedence, among all
 abbrev pub IsMarkAmong : {K B : Type 0} → List (Placed K B) → K → ℕ → Mark → Type 0
 IsMarkAmong placed k l mark.Wins = IsLeast placed k l × AreAlike placed k l
 IsMarkAmong placed k l mark.Clash = IsLeast placed k l × AreOpposed placed k l

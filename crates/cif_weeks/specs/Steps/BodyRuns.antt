@@ -48,7 +48,7 @@ pub record AreRunsOfBody (form : Form) (window : Window) (spans : List Span) (so
 
 -- the span has a body
 abbrev pub HasBody : Span → Type 0
-HasBody span = span.letter ≢ letter C
+HasBody span = span.precedence ≢ letter C
 
 -- a span of the list with a body has this source
 abbrev pub HasSource : List Span → ℕ → Type 0

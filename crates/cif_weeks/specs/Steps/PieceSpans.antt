@@ -38,7 +38,7 @@ HasBodyOn xs p source weekday = (i : ℕ) × IsWinnerOn p weekday i × (body_at 
 pub record IsPieceSpan {B : Type 0} (xs : List (Terms B)) (c : CalendarParts) (s : Span) : Type 0 where
   pub body : B
   pub has : body_at xs (Some s.source) ≡ Some body
-  pub letter : s.letter ≡ letter P
+  pub precedence : s.precedence ≡ letter P
   pub runs : (n : ℕ) → HasDay s n → body_in xs c n ≡ Some body
 
 -- the weeks of the spans meet, or those of one begin right after those of the other

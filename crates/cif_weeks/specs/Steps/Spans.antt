@@ -21,7 +21,7 @@ pub record HasDay (s : Span) (n : ℕ) : Type 0 where
 
 -- the span has the days of the window on which record r applies, and r's precedence
 pub record IsSpanOf {B : Type 0} (window : Window) (r : Terms B) (s : Span) : Type 0 where
-  pub letter : s.letter ≡ precedence r
+  pub precedence : s.precedence ≡ precedence r
   pub days : (n : ℕ) → HasDay s n ↔ (IsWithin window n × Applies r n)
 
 -- the span is that of a member, whose body is that of the entry at the span's source, which is a member too
@@ -47,10 +47,10 @@ IsSourceAmong xs spans week position source =
     ((s : Span) × Contains spans s × (week ≤ s.last_week + 1) × (s.source ≡ source)) ⊎ ((source ≡ position) × ((s : Span) →
     Contains spans s → week ≤ s.last_week + 1 → body_at xs (Some s.source) ≢ body_at xs (Some position)))
 
--- the span has day n, and none that has it has a letter before its own
+-- the span has day n, and none that has it has precedence over it
 pub record Leads (spans : List Span) (n : ℕ) (s : Span) : Type 0 where
   pub has : HasDay s n
-  pub least : (t : Span) → Contains spans t → HasDay t n → s.letter ≤ t.letter
+  pub least : (t : Span) → Contains spans t → HasDay t n → s.precedence ≤ t.precedence
 
 -- one of the spans, of those that are meant, has day n
 pub record SomeOf (Is : Span → Type 0) (On : Span → ℕ → Type 0) (spans : List Span) (n : ℕ) : Type 0 where

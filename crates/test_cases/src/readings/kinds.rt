@@ -7,13 +7,13 @@ use cif_columns::Refusal;
 use std::alloc::{AllocError, Global};
 
 /// Appends, for each prefix of whole lines of the bytes, which of the other lines may follow it, and
-/// what the front and that line come to.
+/// what the prefix and that line come to.
 pub(crate) fn push_kinds(alloc: Global, out: &mut Output, bytes: &[u8], others: &[u8]) {
     for count in 0..=bytes.len() / LINE_BYTES {
-        let front = &bytes[..count * LINE_BYTES];
+        let prefix = &bytes[..count * LINE_BYTES];
         let mut none = true;
         for other in others.chunks(LINE_BYTES) {
-            if push_kind(alloc, out, front, count, other) {
+            if push_kind(alloc, out, prefix, count, other) {
                 none = false;
             }
         }
@@ -23,13 +23,13 @@ pub(crate) fn push_kinds(alloc: Global, out: &mut Output, bytes: &[u8], others: 
     }
 }
 
-/// Appends what the front, which has so many lines, and the other line come to, where that isn't out
+/// Appends what the prefix, which has so many lines, and the other line come to, where that isn't out
 /// of order; gives whether it may stand there.
-fn push_kind(alloc: Global, out: &mut Output, front: &[u8], count: usize, other: &[u8]) -> bool {
+fn push_kind(alloc: Global, out: &mut Output, prefix: &[u8], count: usize, other: &[u8]) -> bool {
     let identity = text_of(other.get(..2).unwrap_or(b""));
     let (Ok(answer), Ok(spoilt)) = (
-        answer_behind(alloc, front, other, false),
-        answer_behind(alloc, front, other, true),
+        answer_behind(alloc, prefix, other, false),
+        answer_behind(alloc, prefix, other, true),
     ) else {
         out.fail();
         return false;
@@ -48,14 +48,14 @@ fn push_kind(alloc: Global, out: &mut Output, front: &[u8], count: usize, other:
     false
 }
 
-/// What the front and this line behind it come to.
+/// What the prefix and this line behind it come to.
 fn answer_behind(
     alloc: Global,
-    front: &[u8],
+    prefix: &[u8],
     other: &[u8],
     is_spoilt: bool,
 ) -> Result<Answer, AllocError> {
-    let mut bytes = front.to_vec(alloc)?;
+    let mut bytes = prefix.to_vec(alloc)?;
     for (at, byte) in other.iter().enumerate() {
         let is_changed = is_spoilt && 2 <= at && at < 80;
         bytes.push(if is_changed { b'?' } else { *byte })?;

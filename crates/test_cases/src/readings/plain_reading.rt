@@ -15,7 +15,7 @@ pub(crate) fn contents_of(alloc: Global, bytes: &[u8]) -> Result<Vec<&[u8]>, All
         if *byte == b'\n' {
             let content = bytes.get(content_from..at).unwrap_or(b"");
             contents.push(match content {
-                [front @ .., b'\r'] => front,
+                [start @ .., b'\r'] => start,
                 _ => content,
             })?;
             content_from = at.saturating_add(1);

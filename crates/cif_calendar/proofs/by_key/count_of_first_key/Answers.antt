@@ -1,4 +1,4 @@
--- In the order of keys none is before that of the first position (`from-first`), so its front is a first run (`of-first_key`).
+-- In the order of keys none is before that of the first position (`from-first`), and positions with its key come first (`of-first_key`).
 use Rattle.std.proofs.Common.{get_or, sym, subst}
 use Rattle.cif_calendar.specs.Keys.{keyed}
 use Rattle.cif_calendar.specs.ByKey.{HasKey}

@@ -1,4 +1,4 @@
--- In the order of keys no position behind one with another key has this one (`front-ends`); or all have it (`front-of_all`).
+-- In the order of keys no position behind one with another key has this one (`count-ends`); or all have it (`count-of_all`).
 use Rattle.std.proofs.Common.{◌≡◌, not, get_or, length, take, sym, ◌∙◌, ap, subst, arith}
 use Rattle.std.specs.Prelude.{All}
 use Rattle.std.proofs.lemmas.Bool.{false≢true, not-false}
@@ -7,7 +7,7 @@ use Rattle.cif_calendar.specs.Keys.{keyed}
 use Rattle.cif_calendar.proofs.FirstClash.{same_key-cmp}
 use Rattle.cif_calendar.specs.ByKey.{HasKey}
 use Rattle.cif_calendar.proofs.KeyPositions.{has-key}
-use Rattle.cif_calendar.proofs.KeyTurns.{front-ends, front-of_all}
+use Rattle.cif_calendar.proofs.KeyTurns.{count-ends, count-of_all}
 use Rattle.cif_calendar.proofs.by_key.count_of_key.Goals as goal
 
 pub loop-count-init : goal.loop-count-init
@@ -19,7 +19,7 @@ returns-then-ne g c =
     let es = keyed g.E.Entry.key g.E.Entry.terms c.args.entries.now in
     let has = has-key g.E.Entry.key g.E.Entry.terms c.args.entries.now (get_or c.args.positions.now count 0) c.index-entries-i.result
     (c.requires.within count 0 c.loop-count-test.true) c.index-entries-i.is in
-    front-ends g.E.Key.Ord.cmp es c.args.positions.now c.requires.rising g.met.E.Key.Ord.total
+    count-ends g.E.Key.Ord.cmp es c.args.positions.now c.requires.rising g.met.E.Key.Ord.total
     (same_key-cmp g.E.Key.PartialEq.eq g.E.Key.Ord.cmp g.met.E.Key.Ord.matches_eq g.met.E.Entry.same_key) count c.args.key.now
     c.key.result.now c.loop-count-test.true c.loop-count.invariant c.requires.from (subst (HasKey es _) (sym c.key.ensures) has)
     (λ e. false≢true (sym (ap not ((g.met.E.Entry.same_key c.key.result.now c.args.key.now).1 e)) ∙ sym c.ne.ensures ∙ c.if-ne.true))
@@ -37,7 +37,7 @@ loop-count-preserved g c =
 pub returns : goal.returns
 returns g c =
     let end : c.loop-count.count ≡ length c.args.positions.now = omega (arith, c.loop-count-test.false, c.loop-count.auto.count-end) in
-    front-of_all g.E.Key.Ord.cmp (keyed g.E.Entry.key g.E.Entry.terms c.args.entries.now) c.args.positions.now c.requires.rising
+    count-of_all g.E.Key.Ord.cmp (keyed g.E.Entry.key g.E.Entry.terms c.args.entries.now) c.args.positions.now c.requires.rising
     c.args.key.now
     (subst (λ n. All (λ i. HasKey (keyed g.E.Entry.key g.E.Entry.terms c.args.entries.now) i c.args.key.now)
     (take n c.args.positions.now)) end c.loop-count.invariant)

@@ -1,7 +1,7 @@
 -- Of each list those that have the entry's key are counted and split off.
 use Rattle.std.proofs.Common.{sym, subst}
 use Rattle.cif_calendar.specs.Keys.{keyed}
-use Rattle.cif_calendar.specs.ByKey.{AreFrom, IsFront}
+use Rattle.cif_calendar.specs.ByKey.{AreFrom, IsCountOfKey}
 use Rattle.cif_calendar.proofs.by_key.first_key.Goals as goal
 
 pub count_of_key-left_count-requires-clause-from : goal.count_of_key-left_count-requires-clause-from
@@ -25,16 +25,16 @@ returns g c = record {
   first = c.in-Some.ensures;
   left_split = record {
     count = c.count_of_key-left_count.result;
-    is_front = subst (λ k. IsFront g.E.Key.Ord.cmp (keyed g.E.Entry.key g.E.Entry.terms c.args.left.now) c.args.left_positions.now k
+    is_count = subst (λ k. IsCountOfKey g.E.Key.Ord.cmp (keyed g.E.Entry.key g.E.Entry.terms c.args.left.now) c.args.left_positions.now k
         c.count_of_key-left_count.result) c.key.ensures c.count_of_key-left_count.ensures;
-    front_is = c.split_at.ensures.front;
+    prefix_is = c.split_at.ensures.front;
     later_is = c.split_at.ensures.back;
   };
   right_split = record {
     count = c.count_of_key-right_count.result;
-    is_front = subst (λ k. IsFront g.E.Key.Ord.cmp (keyed g.E.Entry.key g.E.Entry.terms c.args.right.now) c.args.right_positions.now k
+    is_count = subst (λ k. IsCountOfKey g.E.Key.Ord.cmp (keyed g.E.Entry.key g.E.Entry.terms c.args.right.now) c.args.right_positions.now k
         c.count_of_key-right_count.result) c.key-2.ensures c.count_of_key-right_count.ensures;
-    front_is = c.split_at-2.ensures.front;
+    prefix_is = c.split_at-2.ensures.front;
     later_is = c.split_at-2.ensures.back;
   };
 }

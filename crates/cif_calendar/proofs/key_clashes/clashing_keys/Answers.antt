@@ -30,7 +30,7 @@ pub count_of_first_key-requires-clause-rising : goal.count_of_first_key-requires
 count_of_first_key-requires-clause-rising g c = c.loop-rest.invariant.found.searched.rising
 
 pub split_at-requires : goal.split_at-requires
-split_at-requires g c = c.count_of_first_key.ensures.front.upto
+split_at-requires g c = c.count_of_first_key.ensures.count.upto
 
 pub add_clash_of_key-requires-clause-within : goal.add_clash_of_key-requires-clause-within
 add_clash_of_key-requires-clause-within g c =

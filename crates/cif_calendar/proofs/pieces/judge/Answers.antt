@@ -2,7 +2,7 @@
 -- first week are those of the whole piece (`piece-from_week`).
 use Rattle.std.proofs.Common.{◌≡◌, ◌+◌, ◌∙◌, arith, length-set, map, min, refl, subst}
 use Rattle.cif_calendar.proofs.Words.{weekday_of}
-use Rattle.cif_calendar.proofs.Alike.{IsWeekFrom, piece-from_week, week-more}
+use Rattle.cif_calendar.proofs.UnbrokenStretches.{IsWeekFrom, piece-from_week, week-more}
 use Rattle.cif_calendar.proofs.pieces.judge.Goals as goal
 use Rattle.cif_calendar.proofs.pieces.judge.Goals.{else-loop-test, then-loop-test+in_ok-winners+in-None}
 

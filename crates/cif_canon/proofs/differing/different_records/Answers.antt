@@ -61,22 +61,22 @@ fronts g c =
     let r = c.loop-first.right_rest.now in
     let found = c.loop-first.invariant.found in
     let s = c.in-Some.ensures in
-    rw (s.left_split.front_is, s.left_split.later_is, s.right_split.front_is, s.right_split.later_is)
+    rw (s.left_split.prefix_is, s.left_split.later_is, s.right_split.prefix_is, s.right_split.later_is)
     (turns cmp g.met.E.Key.Ord.total
     (same_key-cmp g.E.Key.PartialEq.eq cmp g.met.E.Key.Ord.matches_eq g.met.E.Entry.same_key) xs ys l r
     (AreTold window xs ys found.found) found.passed (g.E.Entry.key c.in-Some.first.entry.now)
     s.first _ _
-    s.left_split.is_front s.right_split.is_front)
+    s.left_split.is_count s.right_split.is_count)
 
 pub calendar-requires : goal.calendar-requires
 calendar-requires g c = record {
-  positions = subst (λ (is : List ℕ). All (λ i. i < length c.args.left.now) is) (sym c.in-Some.ensures.left_split.front_is)
+  positions = subst (λ (is : List ℕ). All (λ i. i < length c.args.left.now) is) (sym c.in-Some.ensures.left_split.prefix_is)
       (All-take (λ i. i < length c.args.left.now) _ _ c.loop-first.invariant.left_within);
 }
 
 pub calendar-requires-in-Some : goal.calendar-requires-in-Some
 calendar-requires-in-Some g c = record {
-  positions = subst (λ (is : List ℕ). All (λ i. i < length c.args.right.now) is) (sym c.in-Some.ensures.right_split.front_is)
+  positions = subst (λ (is : List ℕ). All (λ i. i < length c.args.right.now) is) (sym c.in-Some.ensures.right_split.prefix_is)
       (All-take (λ i. i < length c.args.right.now) _ _ c.loop-first.invariant.right_within);
 }
 
@@ -131,7 +131,7 @@ more g c left right =
     c.in_ok-one.one c.in_ok-other.other one other)
     (key-told key terms cancelled es fs k c.in-Some.first.left.now c.in-Some.first.right.now left right first last
     c.in_ok-one.one c.in_ok-other.other one other g.E.Body.PartialEq.eq g.met.E.Entry.same_body)
-    same f.first _ _ f.left_split.is_front f.right_split.is_front c.push_differences.new.found.items d.appended.appended)
+    same f.first _ _ f.left_split.is_count f.right_split.is_count c.push_differences.new.found.items d.appended.appended)
 
 pub returns-then-is_enough : goal.returns-then-is_enough
 returns-then-is_enough g c =

@@ -34,7 +34,7 @@ pub count_of_first_key-requires-clause-rising : goal.count_of_first_key-requires
 count_of_first_key-requires-clause-rising g c = c.loop-rest.invariant.made.rising
 
 pub split_at-requires : goal.split_at-requires
-split_at-requires g c = c.count_of_first_key.ensures.front.upto
+split_at-requires g c = c.count_of_first_key.ensures.count.upto
 
 pub make_runs_of_key-requires-clause-within : goal.make_runs_of_key-requires-clause-within
 make_runs_of_key-requires-clause-within g c =
@@ -45,7 +45,7 @@ pub make_runs_of_key-requires-clause-some : goal.make_runs_of_key-requires-claus
 make_runs_of_key-requires-clause-some g c =
     let first = c.count_of_first_key.ensures in
     let front : length c.split_at.result.0.now ≡ c.count_of_first_key.result =
-    ap length c.split_at.ensures.front ∙ length-take-le c.count_of_first_key.result c.loop-rest.rest.now first.front.upto in
+    ap length c.split_at.ensures.front ∙ length-take-le c.count_of_first_key.result c.loop-rest.rest.now first.count.upto in
     omega (arith, front, first.some)
 
 pub loop-rest-smaller : goal.loop-rest-smaller
@@ -53,7 +53,7 @@ loop-rest-smaller g c =
     let first = c.count_of_first_key.ensures in
     let later : length c.split_at.result.1.now ≡ length c.loop-rest.rest.now - c.count_of_first_key.result =
     ap length c.split_at.ensures.back ∙ length-drop c.count_of_first_key.result c.loop-rest.rest.now in
-    omega (arith, later, first.some, first.front.upto)
+    omega (arith, later, first.some, first.count.upto)
 
 pub loop-rest-preserved : goal.loop-rest-preserved
 loop-rest-preserved g c =

@@ -34,7 +34,7 @@ returns-clause-explanation c = record {
 
 pub returns-clause-differences : goal.returns-clause-differences
 returns-clause-differences c = record {
-  tiploc = λ change line. (refl, λ at name left right. refl);
-  association = λ change line. (refl, λ at name left right. refl);
-  schedule = λ change line. (refl, λ at name left right. refl);
+  tiploc = λ change line. (refl, λ call identity location name left right. refl);
+  association = λ change line. (refl, λ call identity location name left right. refl);
+  schedule = λ change line. (refl, λ call identity location name left right. refl);
 }

@@ -4,39 +4,39 @@ use Rattle.cif_weeks.proofs.Spans.{AreLater, later-none, later-rest, take_next, 
 use Rattle.cif_weeks.proofs.Spans.{led-weeks, led-agreed, led-disputed}
 use Rattle.cif_weeks.proofs.body_runs.weeks_led.Goals as goal
 use Rattle.cif_weeks.proofs.body_runs.weeks_led.Goals.{After-fits, else-loop-other-test, then-loop-other-test+then-last-other}
-use Rattle.cif_weeks.proofs.body_runs.weeks_led.Goals.{then-other_letter-letter}
-use Rattle.cif_weeks.proofs.body_runs.weeks_led.Goals.{else-other_letter-letter+then-other_letter-letter-2+then-other-span}
-use Rattle.cif_weeks.proofs.body_runs.weeks_led.Goals.{else-other_letter-letter+else-other_letter-letter-2}
-use Rattle.cif_weeks.proofs.body_runs.weeks_led.Goals.{else-other_letter-letter-2-via-then-other_letter-letter-2+else-other-span}
-use Rattle.cif_weeks.proofs.body_runs.weeks_led.Goals.{else-other_letter-letter-2-via-else-other_letter-letter-2}
+use Rattle.cif_weeks.proofs.body_runs.weeks_led.Goals.{then-other-span}
+use Rattle.cif_weeks.proofs.body_runs.weeks_led.Goals.{else-other-span+then-other-span-2+then-other-span-3}
+use Rattle.cif_weeks.proofs.body_runs.weeks_led.Goals.{else-other-span+else-other-span-2}
+use Rattle.cif_weeks.proofs.body_runs.weeks_led.Goals.{else-other-span-2-via-then-other-span-2+else-other-span-3}
+use Rattle.cif_weeks.proofs.body_runs.weeks_led.Goals.{else-other-span-2-via-else-other-span-2}
 
 pub loop-other-preserved : goal.loop-other-preserved
 loop-other-preserved c =
     let l = c.loop-other.invariant in
     let t = c.other-item.result in
     let next = take_next c.args.spans.now c.loop-other.other-index t c.loop-other-test.true c.other-item.is in
-    elim c.if-other_letter-letter.branch [
-      | then-other_letter-letter w ↦
+    elim c.if-other-span.branch [
+      | then-other-span w ↦
           let k = w.weeks_from-weeks.ensures in
           let u = w.union-over.ensures in
           rw (next, w.last-is, w.over-is, w.rivals-is) (record {
             over = some-more t l.over (omega arith) k u.width u.runs;
             rivals = some-same t l.rivals (λ rival. omega arith) k.from k.upto;
           })
-      | else-other_letter-letter+then-other_letter-letter-2+then-other-span w ↦
-          let k = w.weeks_from-weeks-then-other-span.ensures in
+      | else-other-span+then-other-span-2+then-other-span-3 w ↦
+          let k = w.weeks_from-weeks-then-other-span-3.ensures in
           let u = w.union-rivals.ensures in
           rw (next, w.last-is, w.over-is, w.rivals-is) (record {
             over = some-same t l.over (λ over. omega arith) k.from k.upto;
             rivals = some-more t l.rivals (omega arith, λ same. omega arith) k u.width u.runs;
           })
-      | else-other_letter-letter+else-other_letter-letter-2 w ↦
+      | else-other-span+else-other-span-2 w ↦
           rw (next, w.last-is, w.over-is, w.rivals-is) (record {
             over = some-same t l.over (λ over. omega arith) l.over.from (omega arith);
             rivals = some-same t l.rivals
-                (λ rival. elim w.else-other_letter-letter-2.branch [
-                  | else-other_letter-letter-2-via-then-other_letter-letter-2+else-other-span v ↦ rival.1 (omega arith)
-                  | else-other_letter-letter-2-via-else-other_letter-letter-2 v ↦ omega arith
+                (λ rival. elim w.else-other-span-2.branch [
+                  | else-other-span-2-via-then-other-span-2+else-other-span-3 v ↦ rival.1 (omega arith)
+                  | else-other-span-2-via-else-other-span-2 v ↦ omega arith
                 ])
                 l.rivals.from (omega arith);
           })

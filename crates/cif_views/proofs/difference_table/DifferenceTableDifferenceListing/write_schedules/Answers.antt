@@ -6,10 +6,9 @@ use Rattle.cif_views.proofs.difference_table.DifferenceTableDifferenceListing.wr
 
 pub returns : goal.returns
 returns g c =
-    schedule-written c.args.left.now c.args.right.now _ _ _ _ _ _ _ _ _ _ c.basic-one.ensures c.basic-other.ensures
+    schedule-written c.args.left.now c.args.right.now _ _ _ _ _ _ _ _ c.basic-one.ensures c.basic-other.ensures
     (c.extra_among-extra.ensures ∙ ap extra_in c.further-lefts.ensures)
     (c.extra_among-other_extra.ensures ∙ ap extra_in c.further-rights.ensures)
     (c.journey_among.ensures ∙ ap without_extra c.further-lefts.ensures)
     (c.journey_among-2.ensures ∙ ap without_extra c.further-rights.ensures)
-    c.of-of_basic.ensures c.of-of_extra.ensures _ _ _ _ _ c.write_differing.ensures c.write_differing-2.ensures
-    c.write_differing-3.ensures c.write_journeys.ensures
+    _ _ _ _ _ c.write_differing.ensures c.write_differing-2.ensures c.write_differing-3.ensures c.write_journeys.ensures
