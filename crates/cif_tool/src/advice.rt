@@ -8,7 +8,9 @@ use crate::refused_columns::columns_refused;
 use crate::words::mistaken_word;
 use arrayvec::ArrayString;
 use cif_canon::Format;
-use cif_columns::{LINE_WIDTH, MAX_LINES, Refusal, Sink, Uid, WriteDevice, as_text};
+use cif_columns::{
+    LINE_WIDTH, MAX_LINES, Refusal, Sink, Uid, WriteDevice, as_text, is_printable,
+};
 use cif_extract::{Clash, Extract, Fault};
 use cif_feed::{FeedFault, HolidayCode, Reasons};
 use cif_records::Header;
@@ -526,7 +528,7 @@ fn add_length(length: usize, known: usize, message: &mut Message) {
 fn shown(bytes: &[u8]) -> ArrayString<LINE_WIDTH> {
     let mut text = ArrayString::new();
     for byte in bytes {
-        let shown = if (0x20..=0x7E).contains(byte) {
+        let shown = if is_printable(*byte) {
             char::from(*byte)
         } else {
             '?'
