@@ -88,8 +88,8 @@ impl Entry for Association {
     ghost use Rattle.std.proofs.lemmas.Grind.{common_steps};
     ghost use Rattle.cif_records.specs.AssocKey.{key_cmp};
     ghost use Rattle.cif_calendar.specs.Entries.{association_terms};
-    ghost use Rattle.cif_calendar.specs.Ranks.{order_of_keys};
     ghost use Rattle.cif_calendar.specs.Laws.Bodied.{cancelled-from_bodied};
+    ghost use Rattle.cif_calendar.specs.Laws.Ranks.{order_of_keys};
     ghost use Rattle.std.specs.Cmp.Lexicographic.{pointwise_decides, bytes_decides};
 
     ghost key = { λ a. a.key };
@@ -148,8 +148,9 @@ impl Entry for Schedule {
     ghost use Rattle.std.proofs.Common.{rules};
     ghost use Rattle.std.proofs.lemmas.Grind.{common_steps};
     ghost use Rattle.cif_calendar.specs.Entries.{schedule_terms};
-    ghost use Rattle.cif_calendar.specs.Ranks.{IsNumberOf, order_of_numbers};
+    ghost use Rattle.cif_calendar.specs.Ranks.{IsNumberOf};
     ghost use Rattle.cif_calendar.specs.Laws.Bodied.{cancelled-from_bodied};
+    ghost use Rattle.cif_calendar.specs.Laws.Ranks.{order_of_numbers};
     ghost use Rattle.cif_extract.specs.Laws.SameBody.{same_body};
     ghost use Rattle.std.specs.Cmp.Lexicographic.{bytes_decides};
 
