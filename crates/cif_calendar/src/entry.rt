@@ -3,6 +3,7 @@
 ghost use Rattle.std.specs.Prelude.{◌≡◌, ◌≤◌, ◌↔◌, IsTrue, IsNone};
 ghost use Rattle.std.specs.Option.{option_copied};
 ghost use Rattle.cif_columns.specs.declared.stp.Stp.TheVariants.{C};
+ghost use Rattle.cif_calendar.specs.Ranks.{IsNumberOf};
 ghost use Rattle.cif_calendar.specs.Terms.{Terms};
 
 use cif_columns::{Day, DaysRun, Stp, Uid};
@@ -165,8 +166,7 @@ impl Entry for Schedule {
     }
 
     fn rank(&self) -> u64 {
-        let [a, b, c, d, e, f] = self.uid.write();
-        u64::from_be_bytes([0, 0, a, b, c, d, e, f])
+        uid_number(&self.uid)
     }
 
     fn first(&self) -> Day {
@@ -198,6 +198,14 @@ impl Entry for Schedule {
     ghost dates_ordered = { λ s. s.in_order };
 
     ghost cancelled = { λ s. cancelled-from_bodied s.letter s.body s.bodied };
+}
+
+/// The columns of a UID as one number.
+pub fn uid_number(uid: &Uid) -> u64
+    ensures { IsNumberOf result uid.now }
+{
+    let [a, b, c, d, e, f] = uid.write();
+    u64::from_be_bytes([0, 0, a, b, c, d, e, f])
 }
 
 /// Whether two entries have the same body, or both have none.
