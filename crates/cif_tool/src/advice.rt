@@ -5,7 +5,7 @@ use crate::devices::{ExtractInput, LineAgain, MOST_LOOKED_AT, START, Written, li
 use crate::job::{Job, JobFault};
 use crate::message::Message;
 use crate::refused_columns::columns_refused;
-use crate::words::mistaken_word;
+use crate::words::bad_word;
 use arrayvec::ArrayString;
 use cif_canon::Format;
 use cif_columns::{LINE_WIDTH, MAX_LINES, Refusal, Sink, Uid, WriteDevice, as_text, is_printable};
@@ -302,11 +302,7 @@ pub(crate) fn must_be(fault: &JobFault) -> Option<&'static str> {
     match fault {
         JobFault::BadDate => Some("must be a valid date as six digits, YYMMDD"),
         JobFault::BadUid => Some("must be six printable ASCII characters"),
-        JobFault::Usage(_)
-        | JobFault::OneInput
-        | JobFault::OneInputOfPrepare
-        | JobFault::OneInputOfUpdate
-        | JobFault::Memory => None,
+        JobFault::Usage(_) | JobFault::StandardInputTwice(_) | JobFault::Memory => None,
     }
 }
 
@@ -318,7 +314,7 @@ pub(crate) fn advise_on_word<W: WriteDevice>(
     must: &str,
     errors: &mut Sink<W>,
 ) {
-    if let Some(word) = mistaken_word(alloc, words, fault) {
+    if let Some(word) = bad_word(alloc, words, fault) {
         let mut message = Message::new(alloc);
         message.line(&["'", word, "': ", must]);
         message.tell(errors);

@@ -5,7 +5,7 @@ use crate::answers::{Kept, answer};
 use crate::devices::{ExtractInput, Output, Written, buffered};
 use crate::feeds::feed_task;
 use crate::job::{Job, JobFault, Task};
-use crate::status::{MISTAKEN, end};
+use crate::status::{USAGE_ERROR, end};
 use crate::words::task_of;
 use cif_columns::{ReadDevice, Sink, Source, WriteDevice};
 use cif_extract::Fault;
@@ -29,7 +29,7 @@ pub fn run<R: Env + Files + Input + Print + AllocGlobal, E: Print>(rt: &R, error
                 end(&Err(Fault::Memory), &mut errors)
             } else {
                 let _ = errors.write_all(NOT_TEXT.as_bytes());
-                MISTAKEN
+                USAGE_ERROR
             }
         }
     }
