@@ -3,6 +3,7 @@
 ghost use Rattle.std.specs.Prelude.{◌≡◌, ◌≤◌, ◌↔◌, IsTrue, IsNone};
 ghost use Rattle.std.specs.Option.{option_copied};
 ghost use Rattle.cif_columns.specs.declared.stp.Stp.TheVariants.{C};
+ghost use Rattle.cif_calendar.specs.Ranks.{IsNumberOf};
 ghost use Rattle.cif_calendar.specs.Terms.{Terms};
 
 use cif_columns::{Day, DaysRun, Stp, Uid};
@@ -88,8 +89,8 @@ impl Entry for Association {
     ghost use Rattle.std.proofs.lemmas.Grind.{common_steps};
     ghost use Rattle.cif_records.specs.AssocKey.{key_cmp};
     ghost use Rattle.cif_calendar.specs.Entries.{association_terms};
-    ghost use Rattle.cif_calendar.specs.Ranks.{order_of_keys};
     ghost use Rattle.cif_calendar.specs.Laws.Bodied.{cancelled-from_bodied};
+    ghost use Rattle.cif_calendar.specs.Laws.Ranks.{order_of_keys};
     ghost use Rattle.std.specs.Cmp.Lexicographic.{pointwise_decides, bytes_decides};
 
     ghost key = { λ a. a.key };
@@ -148,8 +149,9 @@ impl Entry for Schedule {
     ghost use Rattle.std.proofs.Common.{rules};
     ghost use Rattle.std.proofs.lemmas.Grind.{common_steps};
     ghost use Rattle.cif_calendar.specs.Entries.{schedule_terms};
-    ghost use Rattle.cif_calendar.specs.Ranks.{IsNumberOf, order_of_numbers};
+    ghost use Rattle.cif_calendar.specs.Ranks.{IsNumberOf};
     ghost use Rattle.cif_calendar.specs.Laws.Bodied.{cancelled-from_bodied};
+    ghost use Rattle.cif_calendar.specs.Laws.Ranks.{order_of_numbers};
     ghost use Rattle.cif_extract.specs.Laws.SameBody.{same_body};
     ghost use Rattle.std.specs.Cmp.Lexicographic.{bytes_decides};
 
@@ -164,8 +166,7 @@ impl Entry for Schedule {
     }
 
     fn rank(&self) -> u64 {
-        let [a, b, c, d, e, f] = self.uid.write();
-        u64::from_be_bytes([0, 0, a, b, c, d, e, f])
+        uid_number(&self.uid)
     }
 
     fn first(&self) -> Day {
@@ -197,6 +198,14 @@ impl Entry for Schedule {
     ghost dates_ordered = { λ s. s.in_order };
 
     ghost cancelled = { λ s. cancelled-from_bodied s.letter s.body s.bodied };
+}
+
+/// The columns of a UID as one number.
+pub fn uid_number(uid: &Uid) -> u64
+    ensures { IsNumberOf result uid.now }
+{
+    let [a, b, c, d, e, f] = uid.write();
+    u64::from_be_bytes([0, 0, a, b, c, d, e, f])
 }
 
 /// Whether two entries have the same body, or both have none.

@@ -6,7 +6,8 @@ use Rattle.std.proofs.lemmas.Grind.{flat_map-append}
 use Rattle.std.proofs.lemmas.List.{at_drop_all, at_drop_more}
 use Rattle.std.proofs.lemmas.List.Elements.{All-cons, All-nil, All-replicate}
 use Rattle.cif_columns.specs.Line.{ArePrintable, IsPrintable}
-use Rattle.cif_canon.specs.Fields.{AreFields, Field, after, century, fields_text, lead, led, line_of, long_date, nothing, separator, shown}
+use Rattle.cif_canon.specs.Fields.{AreFields, Field, after, century, fields_text, line_of, long_date, nothing, row_start, separator, shown}
+use Rattle.cif_canon.specs.Fields.{with_first}
 use Rattle.cif_canon.specs.Fields.{width, width_of}
 use Rattle.cif_canon.specs.declared.rows.Format.{Format}
 use Rattle.cif_canon.specs.declared.rows.Format.TheVariants.{Text, Tsv}
@@ -92,10 +93,10 @@ module _ (format : Format) where
       ∙ ap (λ (l : List ℕ). shown format first ++ (separator format ∷ l)) (joined-rows field fields next more)
 
 -- a line that begins with a field that only a table has
-pub led-line : (format : Format) (first field : Field) (fields : List Field) →
-    lead format first ++ line_of format (field ∷ fields) ≡ line_of format (led format first (field ∷ fields))
-led-line Text first field fields = refl
-led-line Tsv first field fields =
+pub with_first-line : (format : Format) (first field : Field) (fields : List Field) →
+    row_start format first ++ line_of format (field ∷ fields) ≡ line_of format (with_first format first (field ∷ fields))
+with_first-line Text first field fields = refl
+with_first-line Tsv first field fields =
     append_assoc (shown Tsv first) (codes "\t") (line_of Tsv (field ∷ fields))
     ∙ sym (append_assoc (shown Tsv first) (9 ∷ fields_text Tsv (field ∷ fields)) (codes "\n"))
 

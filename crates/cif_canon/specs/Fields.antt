@@ -61,14 +61,14 @@ left_out Text count = []
 left_out Tsv count = replicate count nothing
 
 -- fields that begin with one that only a table has
-abbrev pub led : Format → Field → List Field → List Field
-led Text first fields = fields
-led Tsv first fields = first ∷ fields
+abbrev pub with_first : Format → Field → List Field → List Field
+with_first Text first fields = fields
+with_first Tsv first fields = first ∷ fields
 
 -- its text, with the tab behind it
-abbrev pub lead : Format → Field → List ℕ
-lead Text first = []
-lead Tsv first = shown Tsv first ++ codes "\t"
+abbrev pub row_start : Format → Field → List ℕ
+row_start Text first = []
+row_start Tsv first = shown Tsv first ++ codes "\t"
 
 -- fields behind a first one
 abbrev pub after : Format → List Field → List ℕ

@@ -284,14 +284,14 @@ fn are_pair<E: Entry>(
         (record { side = other_side; it = (other.now.key.now, record_of other.now.run.now other.now.body.now) }) }
 {
     match (side, other_side) {
-        (Side::Left, Side::Right) => differ_in_bodies(one, other),
+        (Side::Left, Side::Right) => have_same_key_and_dates(one, other),
         (Side::Left, Side::Left) => false,
         (Side::Right, _) => false,
     }
 }
 
 /// Whether two records have one key, the same dates and the same days.
-fn differ_in_bodies<E: Entry>(one: &RecordOf<'_, E>, other: &RecordOf<'_, E>) -> bool
+fn have_same_key_and_dates<E: Entry>(one: &RecordOf<'_, E>, other: &RecordOf<'_, E>) -> bool
     ensures { IsTrue result ↔ ((one.now.key.now ≡ other.now.key.now) × (one.now.run.now.first ≡ other.now.run.now.first)
         × (one.now.run.now.last ≡ other.now.run.now.last) × (one.now.run.now.days ≡ other.now.run.now.days)) }
 {

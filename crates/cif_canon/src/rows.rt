@@ -4,8 +4,8 @@ ghost use Rattle.arrayvec.specs.ArrayString.{array_string_len};
 ghost use Rattle.cif_columns.specs.Line.{ArePrintable};
 ghost use Rattle.cif_columns.specs.Lines.{is_space, used};
 ghost use Rattle.cif_weeks.specs.Runs.{record_of};
-ghost use Rattle.cif_canon.specs.Fields.{AreFields, CanBeShown, after, century, fields_text, in_table, lead};
-ghost use Rattle.cif_canon.specs.Fields.{left_out, long_date, separator, shown, width, width_of};
+ghost use Rattle.cif_canon.specs.Fields.{AreFields, CanBeShown, after, century, fields_text, in_table};
+ghost use Rattle.cif_canon.specs.Fields.{left_out, long_date, row_start, separator, shown, width, width_of};
 ghost use Rattle.cif_canon.specs.Rows.{association_fields, association_row, journey_fields};
 ghost use Rattle.cif_canon.specs.Rows.{location_fields, place_fields, schedule_row, train_fields};
 ghost use Rattle.cif_canon.specs.Rows.{train_row};
@@ -46,7 +46,7 @@ pub const NO_ASSOCIATION: &str = "\t\t\t\t\t\t\t\t\t";
 pub const LONGEST_ROW: usize = 116;
 
 /// The bytes of a date and a tab, with which the lines of some tables begin.
-pub const LEAD: usize = 11;
+pub const ROW_START: usize = 11;
 
 /// The row of an association that holds, behind what its line begins with.
 pub fn association_row(
@@ -55,7 +55,7 @@ pub fn association_row(
     key: &AssocKey,
     body: &AssocBody,
 ) -> ArrayString<LONGEST_ROW>
-    requires { length before.now ≤ LEAD }
+    requires { length before.now ≤ ROW_START }
     ensures text { result.bytes ≡ before.now ++ fields_text format (association_row format (key.now, body.now)) }
     ensures len { array_string_len result + 13 ≤ LONGEST_ROW }
 {
@@ -67,7 +67,7 @@ pub fn association_row(
 
 /// The row of a train that runs, behind what its line begins with.
 pub fn train_row(before: &str, format: Format, uid: &Uid, body: &Body) -> ArrayString<LONGEST_ROW>
-    requires { length before.now ≤ LEAD }
+    requires { length before.now ≤ ROW_START }
     ensures text { result.bytes ≡ before.now ++ fields_text format (train_row format (uid.now, body.now)) }
     ensures len { array_string_len result + 1 ≤ LONGEST_ROW }
 {
@@ -84,7 +84,7 @@ pub fn schedule_row(
     run: &Run,
     body: &Body,
 ) -> ArrayString<LONGEST_ROW>
-    requires { length before.now ≤ LEAD }
+    requires { length before.now ≤ ROW_START }
     ensures text { result.bytes ≡ before.now ++ fields_text format (schedule_row format (record_of run.now body.now)) }
     ensures len { array_string_len result + 1 ≤ LONGEST_ROW }
 {
@@ -240,9 +240,9 @@ pub fn started(
 }
 
 /// What the lines of a table begin with: this field and a tab. Lines of text begin with nothing.
-pub fn lead(format: Format, shape: Shape, columns: &[u8; 6]) -> ArrayString<LEAD>
+pub fn row_start(format: Format, shape: Shape, columns: &[u8; 6]) -> ArrayString<ROW_START>
     requires field { CanBeShown shape columns.now }
-    ensures text { result.bytes ≡ lead format (shape, columns.now) }
+    ensures text { result.bytes ≡ row_start format (shape, columns.now) }
 {
     let mut line = ArrayString::new();
     match format {

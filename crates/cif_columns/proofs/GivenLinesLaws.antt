@@ -14,10 +14,28 @@ use Rattle.cif_columns.specs.declared.source.Source.{Source}
 use Rattle.cif_columns.specs.Contents.{contents_of, HasLineReason, DecidesNothing, IsFirstContent}
 use Rattle.cif_columns.specs.Source.{source_ended, unread_of}
 use Rattle.cif_columns.specs.LineReader.{held, given, limit, past, left, GivenDecide, IsNext, Answers}
-use Rattle.cif_columns.specs.GivenLines.{AreWholeContentsAndRest, KnownContents, IsReadingContents, AreAllContents, AreContentsToRefusal}
-use Rattle.cif_columns.specs.GivenLines.{AreContentsToFailure, AreContentsToFault, EndsLine, IsContentDecided, IsReading}
+use Rattle.cif_columns.specs.GivenLines.{AreAllContents, AreContentsToFailure, AreContentsToFault, AreContentsToRefusal}
+use Rattle.cif_columns.specs.GivenLines.{AreWholeContentsAndRest, EndsLine, IsContentDecided}
+use Rattle.cif_columns.specs.Line.{IsLine}
 use Rattle.cif_columns.proofs.WholeLines.{lines_whole, piece_of, ends_after, ends_before, lines_piece}
 use mathlib.Core.Logic.{◌⊎◌, inl, inr}
+
+-- the bytes are such contents and a rest, where the bytes at the start are known, and with them what is left
+abbrev pub KnownContents : (List ℕ → Type 0) → Option (List ℕ) → List (List ℕ) → Option (List ℕ) → Type 0
+KnownContents P start lines rest = IfSome start (λ bytes. IsSomeAnd rest (λ others. AreWholeContentsAndRest P bytes lines others))
+
+-- The reader reads on within this limit. These are the contents that it has given so far of the bytes that were left at the start.
+pub record IsReadingContents (P : List ℕ → Type 0) {R : Type 0} (remaining : R → Option (List ℕ)) (start : Option (List ℕ)) (max : ℕ)
+    (reader : LineReader)
+    (source : Source R) (lines : List (List ℕ)) : Type 0 where
+  pub reads_on : past reader ≡ Reading
+  pub same_limit : limit reader ≡ max
+  pub counted : given reader ≡ length lines
+  pub known : KnownContents P start lines (left remaining reader source)
+
+-- the same of lines alone
+abbrev pub IsReading : {R : Type 0} → (R → Option (List ℕ)) → Option (List ℕ) → ℕ → LineReader → Source R → List (List ℕ) → Type 0
+IsReading remaining start max reader source lines = IsReadingContents IsLine remaining start max reader source lines
 
 -- ---- known bytes
 

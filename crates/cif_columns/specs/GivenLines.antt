@@ -1,14 +1,10 @@
 -- The contents that a `LineReader` gives of bytes, one after another, and how that ends: contents of which P holds, and so lines alone.
-use Rattle.std.specs.Prelude.{◌≡◌, ◌⊎◌, ℕ, ◌+◌, ◌≤◌, List, [], ◌∷◌, ◌++◌, length, All, Option, IfSome, IsSomeAnd, false}
+use Rattle.std.specs.Prelude.{◌≡◌, ◌⊎◌, ℕ, ◌+◌, ◌≤◌, List, [], ◌∷◌, ◌++◌, length, All, IsSomeAnd, false}
 use Rattle.cif_columns.specs.declared.refusal.LineFault.{LineFault}
 use Rattle.cif_columns.specs.declared.refusal.LineFault.TheVariants.{Refused, Read}
-use Rattle.cif_columns.specs.declared.line_reader.LineReader.{LineReader}
-use Rattle.cif_columns.specs.declared.line_reader.Past.TheVariants.{Reading}
 use Rattle.cif_columns.specs.declared.refusal.Refusal.{Refusal}
-use Rattle.cif_columns.specs.declared.source.Source.{Source}
 use Rattle.cif_columns.specs.Contents.{contents_of, HasLineReason, DecidesNothing}
 use Rattle.cif_columns.specs.Line.{IsLine}
-use Rattle.cif_columns.specs.LineReader.{given, limit, past, left}
 use Rattle.cif_columns.specs.Source.{Unread}
 
 -- bytes that end with a line feed, or that nothing follows: their last line doesn't go on
@@ -22,19 +18,6 @@ pub record AreWholeContentsAndRest (P : List ℕ → Type 0) (bytes : List ℕ) 
   pub ended : (whole ≡ []) ⊎ EndsLine whole rest
   pub contents : contents_of whole ≡ lines
   pub are_lines : All P lines
-
--- the same, where the bytes at the start are known, and with them what is left
-abbrev pub KnownContents : (List ℕ → Type 0) → Option (List ℕ) → List (List ℕ) → Option (List ℕ) → Type 0
-KnownContents P start lines rest = IfSome start (λ bytes. IsSomeAnd rest (λ others. AreWholeContentsAndRest P bytes lines others))
-
--- The reader reads on within this limit. These are the contents that it has given so far of the bytes that were left at the start.
-pub record IsReadingContents (P : List ℕ → Type 0) {R : Type 0} (remaining : R → Option (List ℕ)) (start : Option (List ℕ)) (max : ℕ)
-    (reader : LineReader)
-    (source : Source R) (lines : List (List ℕ)) : Type 0 where
-  pub reads_on : past reader ≡ Reading
-  pub same_limit : limit reader ≡ max
-  pub counted : given reader ≡ length lines
-  pub known : KnownContents P start lines (left remaining reader source)
 
 -- the contents of the bytes are these, at most max
 pub record AreAllContents (P : List ℕ → Type 0) (max : ℕ) (bytes : List ℕ) (lines : List (List ℕ)) : Type 0 where
@@ -87,26 +70,11 @@ AreContentsToFault P max bytes after lines Read = IsSomeAnd after.bytes (λ unre
 
 -- ---- lines alone
 
-abbrev pub AreWholeLinesAndRest : List ℕ → List (List ℕ) → List ℕ → Type 0
-AreWholeLinesAndRest bytes lines rest = AreWholeContentsAndRest IsLine bytes lines rest
-
-abbrev pub KnownGiven : Option (List ℕ) → List (List ℕ) → Option (List ℕ) → Type 0
-KnownGiven start lines rest = KnownContents IsLine start lines rest
-
-abbrev pub IsReading : {R : Type 0} → (R → Option (List ℕ)) → Option (List ℕ) → ℕ → LineReader → Source R → List (List ℕ) → Type 0
-IsReading remaining start max reader source lines = IsReadingContents IsLine remaining start max reader source lines
-
 abbrev pub AreAllLines : ℕ → List ℕ → List (List ℕ) → Type 0
 AreAllLines max bytes lines = AreAllContents IsLine max bytes lines
 
-abbrev pub AreLinesToRefusal : ℕ → List ℕ → List (List ℕ) → ℕ → Refusal → Type 0
-AreLinesToRefusal max bytes lines number why = AreContentsToRefusal IsLine max bytes lines number why
-
 abbrev pub AreLinesToFailure : ℕ → List ℕ → List ℕ → List (List ℕ) → Type 0
 AreLinesToFailure max bytes unread lines = AreContentsToFailure IsLine max bytes unread lines
-
-abbrev pub IsLineDecided : ℕ → List ℕ → List ℕ → ℕ → Type 0
-IsLineDecided max bytes unread number = IsContentDecided IsLine max bytes unread number
 
 abbrev pub IsDecided : ℕ → List ℕ → Unread → ℕ → Type 0
 IsDecided max bytes after number = IsContentDecidedOrLast IsLine max bytes after number

@@ -166,7 +166,7 @@ impl Ahead {
             return Some(Found::Refused(Refusal::TooManyLines));
         }
         if let Some(at) = line_feed::<LONGEST_LINE>(held) {
-            let found = Found::of_content(stripped(&held[..at]));
+            let found = Found::of_content(without_carriage_return(&held[..at]));
             self.start += at + 1;
             return Some(found);
         }
@@ -254,7 +254,7 @@ impl Ahead {
     {
         let held = self.as_slice();
         if let Some(at) = line_feed::<LONGEST_LINE>(held) {
-            if !is_comment(stripped(&held[..at])) {
+            if !is_comment(without_carriage_return(&held[..at])) {
                 return Some(First::Other);
             }
             self.start += at + 1;
@@ -332,7 +332,7 @@ impl Ahead {
     {
         let held = self.as_slice();
         if let Some(at) = line_feed::<MOST_OF_LINE>(held) {
-            let content = line_of(stripped(&held[..at]));
+            let content = line_of(without_carriage_return(&held[..at]));
             self.start += at + 1;
             return Some(NextContent::Content(content));
         }
@@ -394,7 +394,7 @@ fn line_feed<const MOST: usize>(bytes: &[u8]) -> Option<usize>
 }
 
 /// The bytes without the one carriage return at their end.
-fn stripped(bytes: &[u8]) -> &[u8]
+pub fn without_carriage_return(bytes: &[u8]) -> &[u8]
     ensures { result.now ≡ strip_carriage_return bytes.now }
 {
     match bytes {

@@ -23,12 +23,13 @@ mod trials;
 mod uid;
 
 pub use activities::Activities;
+pub use ahead::without_carriage_return;
 pub use clock::{PublicTime, WorkTime};
 pub use content_reader::{ContentReader, NextContent};
 pub use day::{DAYS_IN_WEEK, Day};
 pub use days_run::DaysRun;
 pub use field::{Field, activities_at, columns_at, field_at, text_at, uid_at};
-pub use line::{LINE_WIDTH, Line, LineBuilder, are_printable, as_text};
+pub use line::{LINE_WIDTH, Line, LineBuilder, are_printable, as_text, is_printable};
 pub use line_reader::{Content, LineReader, MAX_LINES};
 pub use lines::{LineSlice, LineTexts, Lines};
 pub use plain_test::PlainTest;

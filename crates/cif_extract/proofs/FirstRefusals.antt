@@ -10,7 +10,7 @@ use Rattle.std.specs.List.{list_all}
 use Rattle.std.specs.Option.{option_or}
 use Rattle.cif_columns.specs.Contents.{contents_of, HasLineReason}
 use Rattle.cif_columns.specs.FirstLine.{is_printable}
-use Rattle.cif_columns.specs.GivenLines.{AreLinesToFailure, AreLinesToFault, AreWholeLinesAndRest, IsReading}
+use Rattle.cif_columns.specs.GivenLines.{AreLinesToFailure, AreLinesToFault, AreWholeContentsAndRest}
 use Rattle.cif_columns.specs.Line.{IsLine}
 use Rattle.cif_columns.specs.LineReader.{IsNextFault, LineReads, left}
 use Rattle.cif_columns.specs.Source.{HasReadOn, Unread}
@@ -21,7 +21,7 @@ use Rattle.cif_columns.specs.declared.line_reader.LineReader.{LineReader}
 use Rattle.cif_columns.specs.declared.refusal.Refusal.{Refusal}
 use Rattle.cif_columns.specs.declared.refusal.Refusal.TheVariants as refusal
 use Rattle.cif_columns.specs.declared.source.Source.{Source}
-use Rattle.cif_columns.proofs.GivenLinesLaws.{contents_given, known_so, with_rest}
+use Rattle.cif_columns.proofs.GivenLinesLaws.{IsReading, contents_given, known_so, with_rest}
 use Rattle.cif_columns.proofs.ReadSources.{failed_after, read_on_both}
 use Rattle.cif_columns.proofs.PrintableBytes.{printable_fact, printable_true}
 use Rattle.cif_extract.specs.Fault.{of_line_fault}
@@ -124,7 +124,8 @@ module _ (max : ℕ) where
         → IsReading remaining start max reader source (ls ++ line ∷ []) → number ≡ length ls + 1 → refusal_of max ls line ≡ Some why
         → IfSome start (λ bytes. IsFirstRefusal max bytes number why)
     at_line remaining reader source line number why so_far is reason =
-        with_rest (λ bytes rest. AreWholeLinesAndRest bytes (ls ++ line ∷ []) rest) start (left remaining reader source) _ so_far.known
+        with_rest (λ bytes rest. AreWholeContentsAndRest IsLine bytes (ls ++ line ∷ []) rest) start (left remaining reader source) _
+        so_far.known
         (λ bytes rest e known. inl (record {
           before = ls;
           content = line;

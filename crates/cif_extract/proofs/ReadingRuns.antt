@@ -1,6 +1,6 @@
 -- What the lines so far have come to, line by line.
 use Rattle.std.proofs.Common.{◌≡◌, ◌≤◌, ℕ, ◌<◌, Bool, true, false, List, [], ◌∷◌, ◌++◌, length, Option, Some, None, Result, Ok, Err, arith}
-use Rattle.std.proofs.Common.{refl, sym, ap, ◌∙◌, subst, is_some, cond, IfSome, IfErr, IfOk, inr, ⊎_elim, ◌+◌, true≢false}
+use Rattle.std.proofs.Common.{refl, sym, ap, ◌∙◌, subst, is_some, cond, IfSome, IfErr, IfOk, inr, ◌+◌, true≢false}
 use Rattle.std.proofs.lemmas.List.Elements.{All-cons, All-nil, All-append}
 use Rattle.std.specs.Prelude.{All}
 use Rattle.cif_columns.specs.GivenLines.{AreAllLines, IsDecided}
@@ -14,7 +14,7 @@ use Rattle.cif_extract.specs.FirstRefusal.{NoneRefused, IsFirstRefusal, refusal_
 use Rattle.cif_extract.specs.Grammar.{AreExtract}
 use Rattle.cif_extract.specs.OrderOfRecords.{may_stand}
 use Rattle.cif_extract.specs.ReadFault.{IsLineNumber, IsOfReading, IsReadFault}
-use Rattle.cif_extract.specs.Steps.Reading.{GoesOnPlainly, HasReadAt, IsHeld, IsTaken, IsUnfinished, Progress, begun, no_progress}
+use Rattle.cif_extract.specs.Steps.Reading.{GoesOnPlainly, HasReadAt, IsTaken, IsWhole, Progress, begun, no_progress}
 use Rattle.cif_extract.specs.Steps.Reading.{fault_at_line, parts_with_header, refusal_here, step}
 use Rattle.cif_extract.specs.SpellsExtract.{BytesSpellWithin, SpellAll, SpellExtract}
 use Rattle.cif_extract.specs.Taken.{HasTaken, IsNoTrailer, IsTakenBehind, IsTakenPlainly, refusal_behind}
@@ -152,27 +152,25 @@ module _ (max : ℕ) (lines : List (List ℕ)) (line : List ℕ) (is_line : IsLi
   }
 
 module _ (lines : List (List ℕ)) (p : Progress) (so_far : HasTaken lines p) where
+  whole : p.place ≡ at.Ended → IsWhole so_far.records p
+  whole ended = subst (λ place. HasReadAt place so_far.records p) ended so_far.read
+
   -- a whole reading holds the extract
-  pub held_spells : (x : ExtractParts) → IsHeld p x → SpellExtract lines x
-  held_spells x held =
-      let (ended, header, parts) = held in
-      let whole : HasReadAt at.Ended so_far.records p = subst (λ place. HasReadAt place so_far.records p) ended so_far.read in
-      let same : whole.header ≡ x.header = (let there = whole.is_header in cc) in
+  pub held_spells : (h : Header) → p.place ≡ at.Ended → p.header ≡ Some h → SpellExtract lines (parts_with_header p h p.schedules)
+  held_spells h ended is =
+      let same : (whole ended).header ≡ h = (let there = (whole ended).is_header in cc) in
       record {
         records = so_far.records;
         spelled = so_far.spelled;
-        are = subst (AreExtract so_far.records) (ap (λ (h : Header). parts_with_header p h p.schedules) same ∙ sym parts) whole.are;
+        are = subst (λ (x : Header). AreExtract so_far.records (parts_with_header p x p.schedules)) same (whole ended).are;
       }
 
-  -- and one that isn't has had no trailer
-  pub unfinished_trailer : IsUnfinished p → All IsNoTrailer lines
-  unfinished_trailer u = so_far.no_trailer (⊎_elim (λ (going : p.place ≡ at.Ended → ⊥). going) none u)
-    where
-      none : p.header ≡ None → p.place ≡ at.Ended → ⊥
-      none e ended =
-          let whole : HasReadAt at.Ended so_far.records p = subst (λ place. HasReadAt place so_far.records p) ended so_far.read in
-          let there = whole.is_header in
-          cc
+  -- one that isn't has had no trailer: no extract ends without a header
+  pub unfinished_trailer : (p.place ≡ at.Ended → p.header ≡ None) → All IsNoTrailer lines
+  unfinished_trailer none = so_far.no_trailer (λ ended.
+      let there = (whole ended).is_header in
+      let without = none ended in
+      cc)
 
 -- lines that are all of an input, and spell an extract
 all_lines_spell : (max : ℕ) (bytes : List ℕ) (lines : List (List ℕ)) → AreAllLines max bytes lines → (x : ExtractParts) →
@@ -183,27 +181,24 @@ all_lines_spell max bytes lines all x spelled =
     all.are_lines all.within spelled
 
 -- the end of the input, where a reading is whole
-pub whole_result : (start : Option (List ℕ)) (max : ℕ) (lines : List (List ℕ)) (p : Progress) (result : Result Extract Fault) →
-    IfSome start (λ bytes. AreAllLines max bytes lines) → HasCome max lines p →
-    IfOk result (λ extract. IsHeld p (extract_parts extract)) →
+pub whole_result : (start : Option (List ℕ)) (max : ℕ) (lines : List (List ℕ)) (result : Result Extract Fault) →
+    IfSome start (λ bytes. AreAllLines max bytes lines) → IfOk result (λ extract. SpellExtract lines (extract_parts extract)) →
     IfSome start (λ bytes. IfOk result (λ extract. BytesSpellWithin max bytes (extract_parts extract)))
-whole_result start max lines p (Ok extract) all so_far held =
-    known_so start _ _ (λ bytes a. all_lines_spell max bytes lines a (extract_parts extract)
-    (held_spells lines p so_far.taken (extract_parts extract) held)) all
-whole_result start max lines p (Err f) all so_far held = known_so start _ _ (λ bytes a. tt) all
+whole_result start max lines (Ok extract) all spelled =
+    known_so start _ _ (λ bytes a. all_lines_spell max bytes lines a (extract_parts extract) spelled) all
+whole_result start max lines (Err f) all spelled = known_so start _ _ (λ bytes a. tt) all
 
 -- and where it isn't
-pub unfinished_result : (start : Option (List ℕ)) (after : Unread) (max : ℕ) (lines : List (List ℕ)) (p : Progress) (number : ℕ)
-    (result : Result Extract Fault) → after.ended ≡ true → IfSome start (λ bytes. AreAllLines max bytes lines) → HasCome max lines p →
-    number ≡ length lines →
-    IfErr result (λ f. (f ≡ fault.Refused (number + 1) refusal.Truncated) × IsUnfinished p) →
-    IfSome start (λ bytes. IfErr result (IsReadFault max bytes after))
-unfinished_result start after max lines p number (Ok extract) told all so_far is err = known_so start _ _ (λ bytes a. tt) all
-unfinished_result start after max lines p number (Err f) told all so_far is err =
-    rw err.0 (known_so start _ _ (λ bytes a. (
+pub unfinished_result : (start : Option (List ℕ)) (after : Unread) (max : ℕ) (lines : List (List ℕ)) (number : ℕ)
+    (result : Result Extract Fault) → after.ended ≡ true → IfSome start (λ bytes. AreAllLines max bytes lines) → NoneRefused max lines →
+    number ≡ length lines → IfErr result (λ f. f ≡ fault.Refused (number + 1) refusal.Truncated) →
+    IfErr result (λ _. All IsNoTrailer lines) → IfSome start (λ bytes. IfErr result (IsReadFault max bytes after))
+unfinished_result start after max lines number (Ok extract) told all fine is truncated unfinished = known_so start _ _ (λ bytes a. tt) all
+unfinished_result start after max lines number (Err f) told all fine is truncated unfinished =
+    rw truncated (known_so start _ _ (λ bytes a. (
       inr (record {
-        fine = rw a.contents so_far.fine;
-        no_trailer = rw a.contents (unfinished_trailer lines p so_far.taken err.1);
+        fine = rw a.contents fine;
+        no_trailer = rw a.contents unfinished;
         numbered = ap (λ n. n + 1) is ∙ ap (λ c. length c + 1) (sym a.contents);
         reason = refl;
       }),
@@ -231,7 +226,7 @@ untaken_of_reading max number (untaken.Refused why) first h = (first, omega arit
 untaken_of_reading max number untaken.Memory first h = tt
 
 -- and so is the want of a trailer
-pub unfinished_of_reading : (max : ℕ) (p : Progress) (number : ℕ) (result : Result Extract Fault) → number ≤ max →
-    IfErr result (λ f. (f ≡ fault.Refused (number + 1) refusal.Truncated) × IsUnfinished p) → IfErr result (IsOfReading max)
-unfinished_of_reading max p number (Ok extract) within h = tt
-unfinished_of_reading max p number (Err f) within h = let bound : IsLineNumber max (number + 1) = (omega arith, omega arith) in rw h.0 bound
+pub unfinished_of_reading : (max number : ℕ) (result : Result Extract Fault) → number ≤ max →
+    IfErr result (λ f. f ≡ fault.Refused (number + 1) refusal.Truncated) → IfErr result (IsOfReading max)
+unfinished_of_reading max number (Ok extract) within h = tt
+unfinished_of_reading max number (Err f) within h = let bound : IsLineNumber max (number + 1) = (omega arith, omega arith) in rw h bound

@@ -88,7 +88,7 @@ pub struct Reading {
 impl Reading {
     ghost use Rattle.cif_extract.specs.Body.{KeepSomeBody};
     ghost use Rattle.cif_extract.specs.Steps.Reading.{HasRead, IsClosed, IsFurther, IsKept, IsTaken};
-    ghost use Rattle.cif_extract.specs.Steps.Reading.{GoesOnPlainly, IsHeld, IsUnfinished, keeping, no_progress, progress_of};
+    ghost use Rattle.cif_extract.specs.Steps.Reading.{GoesOnPlainly, keeping, no_progress, progress_of};
     ghost use Rattle.cif_extract.specs.Steps.Reading.{UnlessMemory, refusal_here};
     ghost use Rattle.cif_extract.specs.Taken.{HasTaken, IsNoTrailer, IsTakenBehind, IsTakenPlainly};
     ghost use Rattle.cif_extract.specs.SpellsExtract.{SpellExtract};
@@ -127,9 +127,24 @@ impl Reading {
         ensures unfinished { (lines : List (List ℕ)) → HasTaken lines (progress_of self)
             → IfNone result (All IsNoTrailer lines) }
     {
-        match self.finish(0) {
-            Ok(extract) => Some(extract),
-            Err(_) => None,
+        let Reading {
+            place,
+            header,
+            tiplocs,
+            associations,
+            schedules,
+            opened: _,
+            lines: _,
+        } = self;
+        match (place, header) {
+            (Place::Ended, Some(header)) => Some(Extract {
+                header,
+                tiplocs,
+                associations,
+                schedules,
+            }),
+            // No extract ends without a header.
+            _ => None,
         }
     }
 
@@ -182,33 +197,19 @@ impl Reading {
         self.keep_columns(columns)
     }
 
-    /// The extract, where these are all lines.
-    pub(crate) fn finish(self, lines: u64) -> Result<Extract, Fault>
-        requires { lines < 2 ^ 32 }
-        ensures ok { IfOk result (λ extract. IsHeld (progress_of self) (extract_parts extract)) }
-        ensures truncated { IfErr result (λ fault.
-            (fault ≡ Fault.Refused (lines + 1) Refusal.Truncated)
-            × IsUnfinished (progress_of self)) }
+    /// The extract, where these are all lines, so many.
+    fn finish(self, count: u64) -> Result<Extract, Fault>
+        requires { count < 2 ^ 32 }
+        ensures spells { (lines : List (List ℕ)) → HasTaken lines (progress_of self)
+            → IfOk result (λ extract. SpellExtract lines (extract_parts extract)) }
+        ensures truncated { IfErr result (λ fault. fault ≡ Fault.Refused (count + 1) Refusal.Truncated) }
+        ensures unfinished { (lines : List (List ℕ)) → HasTaken lines (progress_of self)
+            → IfErr result (λ _. All IsNoTrailer lines) }
     {
-        let Reading {
-            place,
-            header,
-            tiplocs,
-            associations,
-            schedules,
-            opened: _,
-            lines: _,
-        } = self;
-        match (place, header) {
-            (Place::Ended, Some(header)) => Ok(Extract {
-                header,
-                tiplocs,
-                associations,
-                schedules,
-            }),
-            // No extract ends without a header.
-            _ => Err(Fault::Refused {
-                line: lines + 1,
+        match self.end() {
+            Some(extract) => Ok(extract),
+            None => Err(Fault::Refused {
+                line: count + 1,
                 why: Refusal::Truncated,
             }),
         }

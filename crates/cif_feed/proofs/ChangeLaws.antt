@@ -6,8 +6,8 @@ use Rattle.std.specs.Ordering.{eq_by_cmp}
 use Rattle.std.specs.declared.cmp.Ordering.{Ordering}
 use Rattle.std.specs.Prelude.{filter}
 use Rattle.std.proofs.lemmas.List.Elements.{filter-append}
-use Rattle.cif_feed.specs.Changes.{ChangeParts, TellsSame, after, after_all, is_changed, is_there, last_word, of_key, put, put_last}
-use Rattle.cif_feed.specs.Changes.{refusal, refusals, untouched, without}
+use Rattle.cif_feed.specs.Changes.{ChangeParts, TellsSame, after_all, after_change, is_changed, is_there, keyed_record, last_word, of_key}
+use Rattle.cif_feed.specs.Changes.{put_last, refusal, refusals, untouched, without_key}
 use Rattle.cif_feed.specs.Steps.Changes.{same_by}
 
 module _ {A : Type 0} where
@@ -42,30 +42,31 @@ neither false c = refl
 
 module _ {K I : Type 0} (same : K → K → Bool) where
   -- a record that is put, by a test of its key
-  put-passes : (p : K → Bool) (key : K) (o : Option I) → p key ≡ true → filter (λ (r : K × I). p r.0) (put key o) ≡ put key o
+  put-passes : (p : K → Bool) (key : K) (o : Option I) → p key ≡ true
+      → filter (λ (r : K × I). p r.0) (keyed_record key o) ≡ keyed_record key o
   put-passes p key None is = refl
   put-passes p key (Some item) is = ap (λ b. cond b ((key, item) ∷ []) []) is
 
-  put-fails : (p : K → Bool) (key : K) (o : Option I) → p key ≡ false → filter (λ (r : K × I). p r.0) (put key o) ≡ []
+  put-fails : (p : K → Bool) (key : K) (o : Option I) → p key ≡ false → filter (λ (r : K × I). p r.0) (keyed_record key o) ≡ []
   put-fails p key None is = refl
   put-fails p key (Some item) is = ap (λ b. cond b ((key, item) ∷ []) []) is
 
   module _ (laws : IsEquivalence same) where
     -- a change of this key leaves what it puts, and another leaves what was there
     pub of_key-after : (records : List (K × I)) (c : ChangeParts K I) (key : K) (b : Bool) → same c.key key ≡ b
-        → of_key same (after same records c) key ≡ cond b (put c.key c.puts) (of_key same records key)
+        → of_key same (after_change same records c) key ≡ cond b (keyed_record c.key c.puts) (of_key same records key)
     of_key-after records c key true is =
-        filter-append (λ (r : K × I). same r.0 key) (without same records c.key) (put c.key c.puts)
-        ∙ ap (λ l. l ++ of_key same (put c.key c.puts) key)
+        filter-append (λ (r : K × I). same r.0 key) (without_key same records c.key) (keyed_record c.key c.puts)
+        ∙ ap (λ l. l ++ of_key same (keyed_record c.key c.puts) key)
         (filter-filter (λ (r : K × I). same r.0 key) (λ r. not (same r.0 c.key)) records
         ∙ filter-nothing _ (λ (r : K × I).
         ap (λ v. not (same r.0 c.key) && v)
         (laws.symm r.0 key ∙ sym (laws.congr c.key key r.0 is) ∙ laws.symm c.key r.0) ∙ never (same r.0 c.key)) records)
         ∙ put-passes (λ k. same k key) c.key c.puts is
     of_key-after records c key false is =
-        filter-append (λ (r : K × I). same r.0 key) (without same records c.key) (put c.key c.puts)
-        ∙ ap (λ l. of_key same (without same records c.key) key ++ l) (put-fails (λ k. same k key) c.key c.puts is)
-        ∙ append-nil (of_key same (without same records c.key) key)
+        filter-append (λ (r : K × I). same r.0 key) (without_key same records c.key) (keyed_record c.key c.puts)
+        ∙ ap (λ l. of_key same (without_key same records c.key) key ++ l) (put-fails (λ k. same k key) c.key c.puts is)
+        ∙ append-nil (of_key same (without_key same records c.key) key)
         ∙ filter-filter (λ (r : K × I). same r.0 key) (λ r. not (same r.0 c.key)) records
         ∙ filter-alike _ (λ (r : K × I). same r.0 key) (λ (r : K × I). at r.0 (same r.0 c.key) refl) records
       where
@@ -77,7 +78,7 @@ module _ {K I : Type 0} (same : K → K → Bool) where
         → of_key same (after_all same records changes) key ≡ last_word same (of_key same records key) changes key
     of_key-after_all records [] key = refl
     of_key-after_all records (c ∷ changes) key =
-        of_key-after_all (after same records c) changes key
+        of_key-after_all (after_change same records c) changes key
         ∙ ap (λ before. last_word same before changes key) (of_key-after records c key (same c.key key) refl)
 
   pub after_all-untouched : (records : List (K × I)) (changes : List (ChangeParts K I))
@@ -88,25 +89,25 @@ module _ {K I : Type 0} (same : K → K → Bool) where
       all [] = refl
       all (r ∷ rs) = ap (λ l. r ∷ l) (all rs)
   after_all-untouched records (c ∷ changes) =
-      after_all-untouched (after same records c) changes ∙ ap (λ l. l ++ put_last same changes)
-      (filter-append (λ (r : K × I). not (is_changed same changes r.0)) (without same records c.key) (put c.key c.puts)
-      ∙ ap (λ l. l ++ filter (λ (r : K × I). not (is_changed same changes r.0)) (put c.key c.puts))
+      after_all-untouched (after_change same records c) changes ∙ ap (λ l. l ++ put_last same changes)
+      (filter-append (λ (r : K × I). not (is_changed same changes r.0)) (without_key same records c.key) (keyed_record c.key c.puts)
+      ∙ ap (λ l. l ++ filter (λ (r : K × I). not (is_changed same changes r.0)) (keyed_record c.key c.puts))
       (filter-filter (λ (r : K × I). not (is_changed same changes r.0)) (λ r. not (same r.0 c.key)) records
       ∙ filter-alike _ (λ (r : K × I). not (is_changed same (c ∷ changes) r.0))
       (λ (r : K × I). neither (same r.0 c.key) (is_changed same changes r.0)) records)
       ∙ ap (λ l. untouched same records (c ∷ changes) ++ l) (at (is_changed same changes c.key) refl))
-      ∙ append_assoc (untouched same records (c ∷ changes)) (cond (is_changed same changes c.key) [] (put c.key c.puts))
+      ∙ append_assoc (untouched same records (c ∷ changes)) (cond (is_changed same changes c.key) [] (keyed_record c.key c.puts))
       (put_last same changes)
     where
       at : (b : Bool) → is_changed same changes c.key ≡ b
-          → filter (λ (r : K × I). not (is_changed same changes r.0)) (put c.key c.puts) ≡ cond b [] (put c.key c.puts)
+          → filter (λ (r : K × I). not (is_changed same changes r.0)) (keyed_record c.key c.puts) ≡ cond b [] (keyed_record c.key c.puts)
       at true is = put-fails (λ k. not (is_changed same changes k)) c.key c.puts (ap not is)
       at false is = put-passes (λ k. not (is_changed same changes k)) c.key c.puts (ap not is)
 
   pub after_all-append : (records : List (K × I)) (us vs : List (ChangeParts K I))
       → after_all same records (us ++ vs) ≡ after_all same (after_all same records us) vs
   after_all-append records [] vs = refl
-  after_all-append records (u ∷ us) vs = after_all-append (after same records u) us vs
+  after_all-append records (u ∷ us) vs = after_all-append (after_change same records u) us vs
 
 -- ---- tests of keys
 
@@ -143,16 +144,16 @@ module _ {K : Type 0} where
   same_alike p q tp tq a b = bools (p a b) (q a b) (λ is. (tq a b).1 ((tp a b).0 is)) (λ is. (tp a b).1 ((tq a b).0 is))
 
   module _ {I : Type 0} (p q : K → K → Bool) (agree : (a b : K) → p a b ≡ q a b) where
-    after-alike : (records : List (K × I)) (c : ChangeParts K I) → after p records c ≡ after q records c
+    after-alike : (records : List (K × I)) (c : ChangeParts K I) → after_change p records c ≡ after_change q records c
     after-alike records c =
-        ap (λ l. l ++ put c.key c.puts)
+        ap (λ l. l ++ keyed_record c.key c.puts)
         (filter-alike (λ (r : K × I). not (p r.0 c.key)) (λ r. not (q r.0 c.key)) (λ r. ap not (agree r.0 c.key)) records)
 
     pub after_all-alike : (records : List (K × I)) (changes : List (ChangeParts K I)) → after_all p records changes
         ≡ after_all q records changes
     after_all-alike records [] = refl
     after_all-alike records (c ∷ changes) =
-        after_all-alike (after p records c) changes ∙ ap (λ l. after_all q l changes) (after-alike records c)
+        after_all-alike (after_change p records c) changes ∙ ap (λ l. after_all q l changes) (after-alike records c)
 
     there-alike : (records : List (K × I)) (key : K) → is_there p records key ≡ is_there q records key
     there-alike [] key = refl
@@ -163,6 +164,6 @@ module _ {K : Type 0} where
         ≡ refusals q records changes
     refusals-alike records [] = refl
     refusals-alike records (c ∷ changes) =
-        ap (λ b. refusal b c ++ refusals p (after p records c) changes) (there-alike records c.key)
+        ap (λ b. refusal b c ++ refusals p (after_change p records c) changes) (there-alike records c.key)
         ∙ ap (λ l. refusal (is_there q records c.key) c ++ l)
-        (refusals-alike (after p records c) changes ∙ ap (λ l. refusals q l changes) (after-alike records c))
+        (refusals-alike (after_change p records c) changes ∙ ap (λ l. refusals q l changes) (after-alike records c))

@@ -13,8 +13,8 @@ use Rattle.std.proofs.lemmas.List.{get_or-map, length-map, map-append, map_more}
 use Rattle.std.proofs.lemmas.List.Folds.{list_any-append, list_any_at}
 use Rattle.std.proofs.lemmas.Option.{same_Some}
 use Rattle.cif_extract.proofs.FirstRefusals.{or_none}
-use Rattle.cif_feed.specs.Changes.{ChangeParts, after, after_all, changes_of, is_changed, is_there, key_of, of_key, parts_of, put, put_last}
-use Rattle.cif_feed.specs.Changes.{put_of, refusal, refusals, untouched, with_keys}
+use Rattle.cif_feed.specs.Changes.{ChangeParts, after_all, after_change, changes_of, is_changed, is_there, key_of, keyed_record, of_key}
+use Rattle.cif_feed.specs.Changes.{parts_of, put_last, put_of, refusal, refusals, untouched, with_keys}
 use Rattle.cif_feed.specs.Steps.Changes.{AreLast, SaysAlone, SaysThere, is_position, last_from}
 use Rattle.cif_feed.specs.declared.changes.Action.{Action}
 use Rattle.cif_feed.specs.declared.changes.Action.TheVariants.{New, Revised, Deleted}
@@ -51,7 +51,7 @@ any-filter p (x ∷ xs) = at (p x) (any-filter p xs)
     at true more = refl
     at false more = more
 
-put-one : {K I : Type 0} (key : K) (o : Option I) → has_one (put key o) ≡ is_some o
+put-one : {K I : Type 0} (key : K) (o : Option I) → has_one (keyed_record key o) ≡ is_some o
 unfolding has_one
 put-one key None = refl
 put-one key (Some item) = refl
@@ -170,17 +170,18 @@ module _ {K I : Type 0} (same : K → K → Bool) (laws : IsEquivalence same) wh
   -- ---- after a change
 
   there-after : (records : List (K × I)) (c : ChangeParts K I) (key : K) (b : Bool) → same c.key key ≡ b
-      → is_there same (after same records c) key ≡ cond b (is_some c.puts) (is_there same records key)
+      → is_there same (after_change same records c) key ≡ cond b (is_some c.puts) (is_there same records key)
   there-after records c key b is =
-      any-filter (λ (r : K × I). same r.0 key) (after same records c) ∙ ap has_one (of_key-after same laws records c key b is) ∙ at b
+      any-filter (λ (r : K × I). same r.0 key) (after_change same records c) ∙ ap has_one (of_key-after same laws records c key b is) ∙ at b
     where
-      at : (v : Bool) → has_one (cond v (put c.key c.puts) (of_key same records key)) ≡ cond v (is_some c.puts) (is_there same records key)
+      at : (v : Bool) → has_one (cond v (keyed_record c.key c.puts) (of_key same records key))
+          ≡ cond v (is_some c.puts) (is_there same records key)
       at true = put-one c.key c.puts
       at false = sym (any-filter (λ (r : K × I). same r.0 key) records)
 
   pub says-after : (records : List (K × I)) (changes : List (ChangeParts K I)) (c : ChangeParts K I) (old new : K → Option Bool)
       → SaysThere same records changes old → ((key : K) → new key ≡ cond (same c.key key) (Some (is_some c.puts)) (old key))
-      → SaysThere same (after same records c) changes new
+      → SaysThere same (after_change same records c) changes new
   says-after records changes c old new so_far is = record {
     says = λ key changed. ap (λ o. unwrap_or o false) (is key) ∙ at key (same c.key key) changed
         ∙ sym (there-after records c key (same c.key key) refl);
@@ -198,9 +199,9 @@ module _ {K I : Type 0} (same : K → K → Bool) (laws : IsEquivalence same) wh
       ≡ refusals same records changes ++ refusal (is_there same (after_all same records changes) c.key) c
   refusals-more records [] c = append-nil (refusal (is_there same records c.key) c)
   refusals-more records (x ∷ changes) c =
-      ap (λ l. refusal (is_there same records x.key) x ++ l) (refusals-more (after same records x) changes c)
-      ∙ sym (append_assoc (refusal (is_there same records x.key) x) (refusals same (after same records x) changes)
-      (refusal (is_there same (after_all same (after same records x) changes) c.key) c))
+      ap (λ l. refusal (is_there same records x.key) x ++ l) (refusals-more (after_change same records x) changes c)
+      ∙ sym (append_assoc (refusal (is_there same records x.key) x) (refusals same (after_change same records x) changes)
+      (refusal (is_there same (after_all same (after_change same records x) changes) c.key) c))
 
 -- ---- the first ones of a list
 
@@ -273,11 +274,12 @@ module _ {K R : Type 0} (key : R → K) where
 
   -- what a change puts, if it is the last of its key
   pub put-keys : (x : Change K R) (b : Bool)
-      → with_keys key (cond (not b) (option_to_list (parts_of key x).puts) []) ≡ cond b [] (put (parts_of key x).key (parts_of key x).puts)
+      → with_keys key (cond (not b) (option_to_list (parts_of key x).puts) [])
+      ≡ cond b [] (keyed_record (parts_of key x).key (parts_of key x).puts)
   put-keys x true = refl
   put-keys x false = at x.action
     where
-      at : (a : Action K R) → with_keys key (option_to_list (put_of a)) ≡ put (key_of key a) (put_of a)
+      at : (a : Action K R) → with_keys key (option_to_list (put_of a)) ≡ keyed_record (key_of key a) (put_of a)
       at (New r) = refl
       at (Revised r) = refl
       at (Deleted k) = refl
@@ -294,7 +296,7 @@ module _ {K R : Type 0} (key : R → K) where
       ∙ ap (λ l. l ++ put_last same rest)
       (map-append (λ (r : R). (key r, r)) records (cond (not (is_changed same rest c.key)) (option_to_list c.puts) [])
       ∙ ap (λ l. with_keys key records ++ l) (put-keys x (is_changed same rest c.key)))
-      ∙ append_assoc (with_keys key records) (cond (is_changed same rest c.key) [] (put c.key c.puts)) (put_last same rest)
+      ∙ append_assoc (with_keys key records) (cond (is_changed same rest c.key) [] (keyed_record c.key c.puts)) (put_last same rest)
 
   -- the change that comes after so many is the last of its key or not
   pub last-of_all : (same : K → K → Bool) → IsEquivalence same

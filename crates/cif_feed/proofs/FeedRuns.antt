@@ -15,7 +15,7 @@ use Rattle.cif_columns.specs.Comment.{is_comment}
 use Rattle.cif_columns.specs.Contents.{HasLineReason, IsFirstContent, contents_of}
 use Rattle.cif_columns.specs.FirstLine.{first_content, is_printable}
 use Rattle.cif_columns.specs.GivenLines.{AreAllContents, AreContentsToFailure, AreContentsToFault, AreContentsToRefusal}
-use Rattle.cif_columns.specs.GivenLines.{AreWholeContentsAndRest, IsContentDecidedOrLast, IsReadingContents, KnownContents}
+use Rattle.cif_columns.specs.GivenLines.{AreWholeContentsAndRest, IsContentDecidedOrLast}
 use Rattle.cif_columns.specs.Line.{IsLine}
 use Rattle.cif_columns.specs.LineReader.{HasPassedComment, IsNext, IsNoComment, left}
 use Rattle.cif_columns.specs.Source.{HasReadOn, Unread, reader_of, source_ended}
@@ -26,7 +26,7 @@ use Rattle.cif_columns.specs.declared.refusal.Refusal.{Refusal}
 use Rattle.cif_columns.specs.declared.refusal.Refusal.TheVariants as refusal
 use Rattle.cif_columns.specs.declared.source.Source.{Source}
 use Rattle.cif_columns.proofs.DecidedLines.{contents_first}
-use Rattle.cif_columns.proofs.GivenLinesLaws.{contents_given, known_so, reading_content}
+use Rattle.cif_columns.proofs.GivenLinesLaws.{IsReadingContents, KnownContents, contents_given, known_so, reading_content}
 use Rattle.cif_columns.proofs.PrintableBytes.{printable_fact, printable_true}
 use Rattle.cif_extract.specs.Fault.{of_line_fault}
 use Rattle.cif_extract.specs.ReadFault.{IsLineNumber, LeavesNothing}

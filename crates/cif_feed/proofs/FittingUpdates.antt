@@ -16,7 +16,7 @@ use Rattle.cif_records.specs.Trailer.{trailer_table}
 use Rattle.cif_records.specs.declared.association.Association.{Association}
 use Rattle.cif_records.specs.declared.header.Header.{Header}
 use Rattle.cif_records.specs.declared.tiploc.Tiploc.{Tiploc}
-use Rattle.cif_feed.specs.Changes.{AreAfter, ChangeParts, after, after_all, changes_of, put, put_of, with_keys, without}
+use Rattle.cif_feed.specs.Changes.{AreAfter, ChangeParts, after_all, after_change, changes_of, keyed_record, put_of, with_keys, without_key}
 use Rattle.cif_feed.specs.FromLines.{AreTriples}
 use Rattle.cif_feed.specs.HolidayCode.{all_codes}
 use Rattle.cif_feed.specs.OfProfile.{of_profile}
@@ -64,7 +64,7 @@ module _ {K R : Type 0} (P : R → Type 0) where
   abbrev PutsOne : ChangeParts K R → Type 0
   PutsOne c = IfSome c.puts P
 
-  put-is : (key : K) (o : Option R) → IfSome o P → Each IsEntry (put key o)
+  put-is : (key : K) (o : Option R) → IfSome o P → Each IsEntry (keyed_record key o)
   put-is key None p = tt
   put-is key (Some r) p = (p, tt)
 
@@ -72,8 +72,8 @@ module _ {K R : Type 0} (P : R → Type 0) where
       → Each PutsOne changes → Each IsEntry (after_all same records changes)
   after-each same records [] old puts = old
   after-each same records (c ∷ changes) old puts =
-      after-each same (after same records c) changes
-      (each-append IsEntry (without same records c.key) (put c.key c.puts)
+      after-each same (after_change same records c) changes
+      (each-append IsEntry (without_key same records c.key) (keyed_record c.key c.puts)
       (each-filter IsEntry (λ (r : K × R). not (same r.0 c.key)) records old) (put-is c.key c.puts puts.0))
       puts.1
 

@@ -54,42 +54,42 @@ abbrev pub with_keys : {K R : Type 0} → (R → K) → List R → List (K × R)
 with_keys key records = map (λ r. (key r, r)) records
 
 -- the change may be done, by whether there are records of its key
-abbrev pub may : Transaction → Bool → Bool
-may transaction.New there = not there
-may transaction.Revised there = there
-may transaction.Deleted there = there
+abbrev pub may_be_applied : Transaction → Bool → Bool
+may_be_applied transaction.New there = not there
+may_be_applied transaction.Revised there = there
+may_be_applied transaction.Deleted there = there
 
 -- the records of a key, in their order
 abbrev pub of_key : {K I : Type 0} → (K → K → Bool) → List (K × I) → K → List (K × I)
 of_key same records key = filter (λ r. same r.0 key) records
 
 -- the others, in their order
-abbrev pub without : {K I : Type 0} → (K → K → Bool) → List (K × I) → K → List (K × I)
-without same records key = filter (λ r. not (same r.0 key)) records
+abbrev pub without_key : {K I : Type 0} → (K → K → Bool) → List (K × I) → K → List (K × I)
+without_key same records key = filter (λ r. not (same r.0 key)) records
 
 -- whether there are records of a key
 abbrev pub is_there : {K I : Type 0} → (K → K → Bool) → List (K × I) → K → Bool
 is_there same records key = list_any (λ r. same r.0 key) records
 
 -- a record with its key, if there is one
-abbrev pub put : {K I : Type 0} → K → Option I → List (K × I)
-put key None = []
-put key (Some item) = (key, item) ∷ []
+abbrev pub keyed_record : {K I : Type 0} → K → Option I → List (K × I)
+keyed_record key None = []
+keyed_record key (Some item) = (key, item) ∷ []
 
 -- after a change: the records of its key are taken out, and what it puts comes last
-abbrev pub after : {K I : Type 0} → (K → K → Bool) → List (K × I) → ChangeParts K I → List (K × I)
-after same records c = without same records c.key ++ put c.key c.puts
+abbrev pub after_change : {K I : Type 0} → (K → K → Bool) → List (K × I) → ChangeParts K I → List (K × I)
+after_change same records c = without_key same records c.key ++ keyed_record c.key c.puts
 
 -- after changes, one after another
 abbrev pub after_all : {K I : Type 0} → (K → K → Bool) → List (K × I) → List (ChangeParts K I) → List (K × I)
 after_all same records [] = records
-after_all same records (c ∷ changes) = after_all same (after same records c) changes
+after_all same records (c ∷ changes) = after_all same (after_change same records c) changes
 
 -- The last word on a key: what the last change of this key puts, or nothing, if that is a deletion; what was there before, if no change
 -- is of this key.
 abbrev pub last_word : {K I : Type 0} → (K → K → Bool) → List (K × I) → List (ChangeParts K I) → K → List (K × I)
 last_word same before [] key = before
-last_word same before (c ∷ changes) key = last_word same (if same c.key key then put c.key c.puts else before) changes key
+last_word same before (c ∷ changes) key = last_word same (if same c.key key then keyed_record c.key c.puts else before) changes key
 
 -- whether one of the changes is of this key
 abbrev pub is_changed : {K I : Type 0} → (K → K → Bool) → List (ChangeParts K I) → K → Bool
@@ -102,16 +102,16 @@ untouched same records changes = filter (λ r. not (is_changed same changes r.0)
 -- what the changes put that are the last of their key, in their order
 abbrev pub put_last : {K I : Type 0} → (K → K → Bool) → List (ChangeParts K I) → List (K × I)
 put_last same [] = []
-put_last same (c ∷ changes) = (if is_changed same changes c.key then [] else put c.key c.puts) ++ put_last same changes
+put_last same (c ∷ changes) = (if is_changed same changes c.key then [] else keyed_record c.key c.puts) ++ put_last same changes
 
 -- a change is refused, by whether there are records of its key
 abbrev pub refusal : {K I : Type 0} → Bool → ChangeParts K I → List RefusedLine
-refusal there c = if may c.transaction there then [] else record { line = c.line; is_there = there } ∷ []
+refusal there c = if may_be_applied c.transaction there then [] else record { line = c.line; is_there = there } ∷ []
 
 -- the changes that may not be done, each after those before it, in their order
 abbrev pub refusals : {K I : Type 0} → (K → K → Bool) → List (K × I) → List (ChangeParts K I) → List RefusedLine
 refusals same records [] = []
-refusals same records (c ∷ changes) = refusal (is_there same records c.key) c ++ refusals same (after same records c) changes
+refusals same records (c ∷ changes) = refusal (is_there same records c.key) c ++ refusals same (after_change same records c) changes
 
 -- The new records are the old ones after these changes. Tests that tell whether two keys are the same agree.
 pub record AreAfter {K R : Type 0} (key : R → K) (old : List R) (changes : List (Change K R)) (new : List R) : Type 0 where

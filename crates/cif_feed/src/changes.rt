@@ -2,8 +2,8 @@
 ghost use Rattle.std.specs.Prelude.{◌≡◌, ◌↔◌, ◌++◌, ◌∷◌, [], Bool, List, IfOk, IsTrue, filter, is_some, map, not};
 ghost use Rattle.std.specs.Prelude.{option_to_list, reverse, if◌then◌else◌};
 ghost use Rattle.std.specs.BTreeMap.{get};
-ghost use Rattle.cif_feed.specs.Changes.{AreAfter, AreRefused, ChangeParts, changes_of, may, parts_of, put_last};
-ghost use Rattle.cif_feed.specs.Changes.{refusals, with_keys};
+ghost use Rattle.cif_feed.specs.Changes.{AreAfter, AreRefused, ChangeParts, changes_of};
+ghost use Rattle.cif_feed.specs.Changes.{may_be_applied, parts_of, put_last, refusals, with_keys};
 ghost use Rattle.cif_feed.specs.Steps.Changes.{AreLast, SaysThere, at_keys, is_position, same_by};
 
 use crate::FeedFault;
@@ -99,7 +99,7 @@ pub fn apply<R: Keyed + Drop>(
     let refused = refused_changes::<R>(alloc, there, changes.as_slice())?;
     take_out(records, changed.as_slice());
     changes.reverse();
-    put(records, changes, &last)?;
+    put_last(records, changes, &last)?;
     Ok(refused)
 }
 
@@ -160,7 +160,7 @@ fn refused_changes<R: Keyed>(
     for change in changes {
         let rank = rank_of::<R>(change);
         let is_there = there.get(&rank).copied().unwrap_or(false);
-        if !may::<R>(change, is_there) {
+        if !may_be_applied::<R>(change, is_there) {
             refused.push(RefusedLine {
                 line: change.line,
                 is_there,
@@ -193,7 +193,7 @@ fn take_out<R: Drop>(records: &mut Vec<R>, changed: &[bool])
 }
 
 /// Puts what the changes put that are the last of their keys. The first change stands last.
-fn put<R: Keyed + Drop>(
+fn put_last<R: Keyed + Drop>(
     records: &mut Vec<R>,
     mut changes: Vec<Change<R::Key, R>>,
     last: &BTreeMap<R::Rank, usize>,
@@ -255,8 +255,8 @@ fn rank_of<R: Keyed>(change: &Change<R::Key, R>) -> R::Rank
 }
 
 /// Whether the change may be done, by whether there are records of its key.
-fn may<R: Keyed>(change: &Change<R::Key, R>, is_there: bool) -> bool
-    ensures { result ≡ may (parts_of R.key change.now).transaction is_there }
+fn may_be_applied<R: Keyed>(change: &Change<R::Key, R>, is_there: bool) -> bool
+    ensures { result ≡ may_be_applied (parts_of R.key change.now).transaction is_there }
 {
     match change.action {
         Action::New(_) => !is_there,

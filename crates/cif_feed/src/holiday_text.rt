@@ -1,7 +1,6 @@
 //! The text of holidays.
 ghost use Rattle.std.specs.Prelude.{◌≡◌, ◌<◌, ◌≤◌, ◌+◌, ◌*◌, ◌++◌, ◌∷◌, [], ◌==◌, ℕ, List, All, false};
 ghost use Rattle.std.specs.Prelude.{IfErr, IfOk, IfSome, Some, length};
-ghost use Rattle.std.specs.Str.Lines.{strip_carriage_return};
 ghost use Rattle.cif_columns.specs.Day.{StandsInYymmdd};
 ghost use Rattle.cif_columns.specs.Source.{reader_of, source_failed};
 ghost use Rattle.cif_columns.specs.declared.line_reader.TheConstants.{MAX_LINES};
@@ -11,7 +10,7 @@ ghost use Rattle.cif_feed.specs.Words.{words_in};
 use crate::words::{before_byte, first_word};
 use crate::{HolidayCode, Holidays};
 use arrayvec::ArrayVec;
-use cif_columns::{Day, MAX_LINES, ReadDevice, Source};
+use cif_columns::{Day, MAX_LINES, ReadDevice, Source, without_carriage_return};
 use std::alloc::Global;
 
 /// How many bytes a line of holidays may have, its remark included and its ending not.
@@ -134,7 +133,7 @@ impl HolidayReading {
                 Err(_) => Err(HolidayFault::BadHoliday { line }),
             };
         }
-        let content = without_return(self.rest.as_slice());
+        let content = without_carriage_return(self.rest.as_slice());
         match self.holidays.add_line(line, content) {
             Ok(()) => {
                 self.lines = line;
@@ -231,15 +230,5 @@ fn day_in(word: &[u8]) -> Option<Day>
     match word.as_array::<6>() {
         Some(columns) => Day::from_yymmdd(columns),
         None => None,
-    }
-}
-
-/// The bytes without the one carriage return at their end.
-fn without_return(bytes: &[u8]) -> &[u8]
-    ensures { result.now ≡ strip_carriage_return bytes.now }
-{
-    match bytes {
-        [start @ .., b'\r'] => start,
-        _ => bytes,
     }
 }

@@ -1,9 +1,9 @@
 //! By what an update knows a location, an association and a schedule.
 ghost use Rattle.std.specs.Prelude.{◌≡◌};
-ghost use Rattle.cif_calendar.specs.Ranks.{IsNumberOf};
 ghost use Rattle.cif_feed.specs.RecordKeys.{association_key, schedule_rank, tiploc_key};
 
 use crate::{Keyed, PublishedAssociation, PublishedSchedule};
+use cif_calendar::uid_number;
 use cif_columns::{Day, Stp, Uid};
 use cif_records::{AssocKey, Association, Tiploc};
 
@@ -31,15 +31,7 @@ fn association_key(association: &Association) -> (AssocKey, Day, Stp)
 fn schedule_rank(uid: Uid, first: Day, letter: Stp) -> (u64, Day, Stp, Uid)
     ensures { result ≡ schedule_rank (uid, first, letter) }
 {
-    (number_of(&uid), first, letter, uid)
-}
-
-/// The columns of a UID as one number.
-fn number_of(uid: &Uid) -> u64
-    ensures { IsNumberOf result uid.now }
-{
-    let [a, b, c, d, e, f] = uid.write();
-    u64::from_be_bytes([0, 0, a, b, c, d, e, f])
+    (uid_number(&uid), first, letter, uid)
 }
 
 /// A location by its TIPLOC.

@@ -17,7 +17,9 @@ use Rattle.cif_tool.specs.declared.command_line.Choices.{Choices}
 use Rattle.cif_tool.specs.declared.job.FeedJob.{FeedJob}
 use Rattle.cif_tool.specs.declared.job.Job.{Job}
 use Rattle.cif_tool.specs.declared.job.JobFault.{JobFault}
-use Rattle.cif_tool.specs.declared.job.JobFault.TheVariants.{Usage, BadDate, BadUid, OneInput, OneInputOfPrepare, OneInputOfUpdate, Memory}
+use Rattle.cif_tool.specs.declared.job.Inputs.{Inputs}
+use Rattle.cif_tool.specs.declared.job.Inputs.TheVariants.{LeftAndRight, HolidaysAndFile, Extracts}
+use Rattle.cif_tool.specs.declared.job.JobFault.TheVariants.{Usage, BadDate, BadUid, StandardInputTwice, Memory}
 use Rattle.cif_tool.specs.declared.job.Task.{Task}
 
 -- six digits YYMMDD that name a day aren't the word
@@ -37,21 +39,17 @@ abbrev pub HasBadUid : Text × List Row → Type 0
 HasBadUid met = ((met.0 ≡ codes "train") ⊎ ((met.0 ≡ codes "explain") ⊎ (met.0 ≡ codes "calendar")))
     × IsSomeAnd (first_of (codes "UID") met.1) IsNoUid
 
--- the subcommand is `compare` or `diff`, and both of its inputs are standard input
-abbrev pub IsOneInput : Text × List Row → Type 0
-IsOneInput met = ((met.0 ≡ codes "compare") ⊎ (met.0 ≡ codes "diff"))
+-- The subcommand has these inputs, and two of them are standard input: of `compare` or `diff`, where no date is bad; of `prepare` the
+-- holidays and the extract; of `update` two or more of the extracts.
+abbrev pub IsStandardTwice : Inputs → Text × List Row → Type 0
+IsStandardTwice LeftAndRight met = ((met.0 ≡ codes "compare") ⊎ (met.0 ≡ codes "diff"))
     × IsSomeAnd (first_of (codes "LEFT") met.1) (λ word. is_standard word ≡ true)
     × IsSomeAnd (first_of (codes "RIGHT") met.1) (λ word. is_standard word ≡ true)
-
--- the subcommand is `prepare`, and both the holidays and the extract are standard input
-abbrev pub IsOneInputOfPrepare : Text × List Row → Type 0
-IsOneInputOfPrepare met = (met.0 ≡ codes "prepare")
+    × ¬ (HasBadDate (codes "from") met.1 ⊎ HasBadDate (codes "to") met.1)
+IsStandardTwice HolidaysAndFile met = (met.0 ≡ codes "prepare")
     × (names_standard (first_of (codes "holidays") met.1) ≡ true)
     × (reads_standard (first_of (codes "FILE") met.1) ≡ true)
-
--- the subcommand is `update`, and two of its inputs or more are standard input
-abbrev pub IsOneInputOfUpdate : Text × List Row → Type 0
-IsOneInputOfUpdate met = (met.0 ≡ codes "update")
+IsStandardTwice Extracts met = (met.0 ≡ codes "update")
     × IsSomeAnd (first_of (codes "FULL") met.1) (λ full.
     IsSomeAnd (all_of (codes "UPDATE") met.1) (λ updates. 1 < standard_inputs (full ∷ updates)))
 
@@ -61,10 +59,7 @@ abbrev pub IsWordFault : JobFault → Text × List Row → Type 0
 IsWordFault BadUid met = HasBadUid met
 IsWordFault BadDate met = ¬ HasBadUid met
     × (HasBadDate (codes "YYMMDD") met.1 ⊎ (HasBadDate (codes "from") met.1 ⊎ HasBadDate (codes "to") met.1))
-IsWordFault OneInput met = IsOneInput met
-    × ¬ (HasBadDate (codes "from") met.1 ⊎ HasBadDate (codes "to") met.1)
-IsWordFault OneInputOfPrepare met = IsOneInputOfPrepare met
-IsWordFault OneInputOfUpdate met = IsOneInputOfUpdate met
+IsWordFault (StandardInputTwice inputs) met = IsStandardTwice inputs met
 IsWordFault Memory met = ⊤
 IsWordFault (Usage error) met = ⊥
 
@@ -106,9 +101,7 @@ abbrev pub status_of : JobFault → ℕ
 status_of (Usage error) = kind_status (kind_of error)
 status_of BadDate = 2
 status_of BadUid = 2
-status_of OneInput = 2
-status_of OneInputOfPrepare = 2
-status_of OneInputOfUpdate = 2
+status_of (StandardInputTwice inputs) = 2
 status_of Memory = 4
 
 -- the line that names the fault, without its line feed; none where `clap` has the text
@@ -116,9 +109,9 @@ abbrev pub text_of : JobFault → Option Text
 text_of (Usage error) = None
 text_of BadDate = Some (codes "cif: bad date")
 text_of BadUid = Some (codes "cif: bad UID")
-text_of OneInput = Some (codes "cif: LEFT and RIGHT are both standard input")
-text_of OneInputOfPrepare = Some (codes "cif: --holidays and FILE are both standard input")
-text_of OneInputOfUpdate = Some (codes "cif: two inputs are standard input")
+text_of (StandardInputTwice LeftAndRight) = Some (codes "cif: LEFT and RIGHT are both standard input")
+text_of (StandardInputTwice HolidaysAndFile) = Some (codes "cif: --holidays and FILE are both standard input")
+text_of (StandardInputTwice Extracts) = Some (codes "cif: two inputs are standard input")
 text_of Memory = Some (codes "cif: Memory")
 
 -- A text was shown on the output: it was written whole, and nothing went to the errors.

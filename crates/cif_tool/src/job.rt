@@ -3,7 +3,7 @@ ghost use Rattle.std.specs.Prelude.{◌≡◌, ◌<◌, ◌++◌, ◌∷◌, [],
 ghost use Rattle.cif_tool.specs.declared.job.TheConstants.{LONGEST_LINE};
 
 use crate::message::escaped;
-use crate::status::{DONE, FAILED, MISTAKEN};
+use crate::status::{DONE, FAILED, USAGE_ERROR};
 use arrayvec::ArrayString;
 use cif_canon::{Asked, Format};
 use cif_columns::{Day, Sink, Uid, WriteDevice};
@@ -166,14 +166,21 @@ pub enum JobFault {
     BadDate,
     /// A word that stands for a UID isn't six bytes from 0x20 to 0x7E.
     BadUid,
-    /// Both inputs of `compare` or `diff` are the standard input.
-    OneInput,
-    /// The holidays and the extract of `prepare` are both the standard input.
-    OneInputOfPrepare,
-    /// Two or more of the extracts of `update` are the standard input.
-    OneInputOfUpdate,
+    /// Two of these inputs are the standard input.
+    StandardInputTwice(Inputs),
     /// Memory ran out.
     Memory,
+}
+
+/// Inputs of which one may be the standard input.
+#[derive(Clone, Copy, Debug, PartialEq, Eq)]
+pub enum Inputs {
+    /// Those of `compare` or `diff`.
+    LeftAndRight,
+    /// The holidays and the extract of `prepare`.
+    HolidaysAndFile,
+    /// The extracts of `update`.
+    Extracts,
 }
 
 impl From<AllocError> for JobFault {
@@ -233,13 +240,9 @@ impl JobFault {
         match self {
             JobFault::Usage(error) => match error.kind() {
                 ErrorKind::DisplayHelp | ErrorKind::DisplayVersion => DONE,
-                _ => MISTAKEN,
+                _ => USAGE_ERROR,
             },
-            JobFault::BadDate
-            | JobFault::BadUid
-            | JobFault::OneInput
-            | JobFault::OneInputOfPrepare
-            | JobFault::OneInputOfUpdate => MISTAKEN,
+            JobFault::BadDate | JobFault::BadUid | JobFault::StandardInputTwice(_) => USAGE_ERROR,
             JobFault::Memory => FAILED,
         }
     }
@@ -253,9 +256,15 @@ impl JobFault {
             JobFault::Usage(_) => None,
             JobFault::BadDate => Some("cif: bad date"),
             JobFault::BadUid => Some("cif: bad UID"),
-            JobFault::OneInput => Some("cif: LEFT and RIGHT are both standard input"),
-            JobFault::OneInputOfPrepare => Some("cif: --holidays and FILE are both standard input"),
-            JobFault::OneInputOfUpdate => Some("cif: two inputs are standard input"),
+            JobFault::StandardInputTwice(Inputs::LeftAndRight) => {
+                Some("cif: LEFT and RIGHT are both standard input")
+            }
+            JobFault::StandardInputTwice(Inputs::HolidaysAndFile) => {
+                Some("cif: --holidays and FILE are both standard input")
+            }
+            JobFault::StandardInputTwice(Inputs::Extracts) => {
+                Some("cif: two inputs are standard input")
+            }
             JobFault::Memory => Some("cif: Memory"),
         }
     }

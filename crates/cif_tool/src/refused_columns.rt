@@ -1,5 +1,5 @@
 //! Which columns of a line a refusal is about, and what must stand there.
-use cif_columns::{Day, PublicTime, Refusal, WorkTime};
+use cif_columns::{Day, PublicTime, Refusal, WorkTime, is_printable};
 
 const IDENTITY: &str = "no kind of record has this identity";
 
@@ -83,7 +83,7 @@ fn bad_byte(line: &[u8]) -> Option<(usize, usize, &'static str)> {
     let mut column: usize = 0;
     for byte in line {
         column = column.saturating_add(1);
-        if !(0x20..=0x7E).contains(byte) {
+        if !is_printable(*byte) {
             return Some((column, column, "a byte is 0x20 to 0x7E"));
         }
     }

@@ -15,7 +15,7 @@ pub const DONE: u8 = 0;
 pub const DIFFERENT: u8 = 1;
 
 /// The words of the call are mistaken.
-pub const MISTAKEN: u8 = 2;
+pub const USAGE_ERROR: u8 = 2;
 
 /// An input is refused, or a date that was asked for; of `check --all`, that lines have reasons.
 pub const REFUSED: u8 = 3;

@@ -13,7 +13,7 @@ ghost use Rattle.cif_tool.specs.JobFault.{HasBadDate, IsFaultOf, IsFeedJobOf, Is
 ghost use Rattle.cif_tool.specs.JobFault.{IsTaskOf, IsWordFault, NamesNoDay};
 
 use crate::command_line::{all_choices, matches_of};
-use crate::job::{Call, FeedJob, Job, JobFault, Task};
+use crate::job::{Call, FeedJob, Inputs, Job, JobFault, Task};
 use cif_canon::{Asked, Format};
 use cif_columns::{Day, Uid, are_printable};
 use cif_views::{Listing, Table};
@@ -25,9 +25,9 @@ use std::alloc::{AllocError, Global};
 /// What the words of a call ask for, of which the first is the program's name.
 ///
 /// `Usage` comes where `clap` refuses the words, or where they ask for help or for the version;
-/// else `BadUid` where a UID is no UID, else `BadDate` where a date is no date, and else `OneInput`,
-/// `OneInputOfPrepare` or `OneInputOfUpdate` where two inputs are the standard input; `Memory` where
-/// memory ran out, in `clap` or in this call itself.
+/// else `BadUid` where a UID is no UID, else `BadDate` where a date is no date, and else
+/// `StandardInputTwice` where two inputs are the standard input; `Memory` where memory ran out, in
+/// `clap` or in this call itself.
 // Inlined, it would keep `clap`'s 25 KiB on the stack while the job is done.
 #[inline(never)]
 pub fn task_of(alloc: Global, words: Vec<String>) -> Result<Call, JobFault>
@@ -43,7 +43,7 @@ pub fn task_of(alloc: Global, words: Vec<String>) -> Result<Call, JobFault>
 /// The first word that should name a date, or the UID, and doesn't, as `fault` says; none where
 /// `--verbose` isn't among the words.
 #[inline(never)]
-pub(crate) fn mistaken_word<'a>(
+pub(crate) fn bad_word<'a>(
     alloc: Global,
     words: &'a [String],
     fault: &JobFault,
@@ -52,7 +52,7 @@ pub(crate) fn mistaken_word<'a>(
         Ok(matches) => match matches.subcommand() {
             Some((_, inner)) if has_flag(inner, "verbose") => match fault {
                 JobFault::BadUid => word_of(inner, "UID"),
-                _ => mistaken_date(inner),
+                _ => bad_date(inner),
             },
             _ => None,
         },
@@ -61,7 +61,7 @@ pub(crate) fn mistaken_word<'a>(
 }
 
 /// The first word that should name a date and doesn't.
-fn mistaken_date<'a>(matches: &ArgMatches<'a>) -> Option<&'a str> {
+fn bad_date<'a>(matches: &ArgMatches<'a>) -> Option<&'a str> {
     for id in ["YYMMDD", "from", "to"] {
         match word_of(matches, id) {
             Some(word) if day_of_word(word).is_none() => return Some(word),
@@ -156,7 +156,7 @@ fn two_files_job(alloc: Global, name: &str, matches: &ArgMatches<'_>) -> Result<
     let left = required_word(matches, "LEFT");
     let right = required_word(matches, "RIGHT");
     if is_standard(left) && is_standard(right) {
-        return Err(JobFault::OneInput);
+        return Err(JobFault::StandardInputTwice(Inputs::LeftAndRight));
     }
     let common = has_flag(matches, "common");
     let left = String::from_str(alloc, left)?;
@@ -274,7 +274,7 @@ fn prepare_job(alloc: Global, matches: &ArgMatches<'_>) -> Result<FeedJob, JobFa
 {
     let holidays = word_of(matches, "holidays");
     if names_standard(holidays) && reads_standard(word_of(matches, "FILE")) {
-        return Err(JobFault::OneInputOfPrepare);
+        return Err(JobFault::StandardInputTwice(Inputs::HolidaysAndFile));
     }
     Ok(FeedJob::Prepare {
         holidays: name_of(alloc, matches, "holidays")?,
@@ -292,7 +292,7 @@ fn update_job(alloc: Global, matches: &ArgMatches<'_>) -> Result<FeedJob, JobFau
     let full = required_word(matches, "FULL");
     let updates = required_words(matches, "UPDATE");
     if share_standard(full, updates) {
-        return Err(JobFault::OneInputOfUpdate);
+        return Err(JobFault::StandardInputTwice(Inputs::Extracts));
     }
     Ok(FeedJob::Update {
         full: String::from_str(alloc, full)?,

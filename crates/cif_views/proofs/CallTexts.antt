@@ -7,7 +7,7 @@ use Rattle.cif_views.specs.Listing.{association_names, if_table, lines_of_row, t
 use Rattle.cif_views.specs.declared.listing.Listing.{Listing}
 use Rattle.cif_canon.proofs.ViewLines.{joined-rows}
 use Rattle.cif_views.proofs.Words.{At, BodyParts, Call, Field, Format, Text, Tsv, Turn, call_text, calls_text, day_names, fields_text}
-use Rattle.cif_views.proofs.Words.{flat_map, lead, led, line_of, names_behind, names_line, row_lines, shown}
+use Rattle.cif_views.proofs.Words.{flat_map, line_of, names_behind, names_line, row_lines, row_start, shown, with_first}
 
 -- one more of all is done, or none is left
 module _ {X : Type 0} (all done left : List X) (split : done ++ left ≡ all) where
@@ -54,21 +54,21 @@ row-lines listing (first ∷ row) b some =
     ap (λ (l : List ℕ). if listing.calls then l else line_of listing.format (first ∷ row)) (row-calls listing.format first row b)
 
 -- a row that begins with a field that only a table has
-led-text : (format : Format) (first field : Field) (fields : List Field) →
-    lead format first ++ fields_text format (field ∷ fields) ≡ fields_text format (led format first (field ∷ fields))
-led-text Text first field fields = refl
-led-text Tsv first field fields = append_assoc (shown Tsv first) (codes "\t") (fields_text Tsv (field ∷ fields))
+with_first-text : (format : Format) (first field : Field) (fields : List Field) →
+    row_start format first ++ fields_text format (field ∷ fields) ≡ fields_text format (with_first format first (field ∷ fields))
+with_first-text Text first field fields = refl
+with_first-text Tsv first field fields = append_assoc (shown Tsv first) (codes "\t") (fields_text Tsv (field ∷ fields))
 
-led-some : (format : Format) (first field : Field) (fields : List Field) → 0 < length (led format first (field ∷ fields))
-led-some Text first field fields = omega arith
-led-some Tsv first field fields = omega arith
+with_first-some : (format : Format) (first field : Field) (fields : List Field) → 0 < length (with_first format first (field ∷ fields))
+with_first-some Text first field fields = omega arith
+with_first-some Tsv first field fields = omega arith
 
-pub led-lines : (listing : Listing) (first field : Field) (fields : List Field) (b : BodyParts) →
-    row_lines listing (lead listing.format first ++ fields_text listing.format (field ∷ fields)) b
-    ≡ lines_of_row listing (led listing.format first (field ∷ fields)) b
-led-lines listing first field fields b =
-    ap (λ (l : List ℕ). row_lines listing l b) (led-text listing.format first field fields)
-    ∙ row-lines listing (led listing.format first (field ∷ fields)) b (led-some listing.format first field fields)
+pub with_first-lines : (listing : Listing) (first field : Field) (fields : List Field) (b : BodyParts) →
+    row_lines listing (row_start listing.format first ++ fields_text listing.format (field ∷ fields)) b
+    ≡ lines_of_row listing (with_first listing.format first (field ∷ fields)) b
+with_first-lines listing first field fields b =
+    ap (λ (l : List ℕ). row_lines listing l b) (with_first-text listing.format first field fields)
+    ∙ row-lines listing (with_first listing.format first (field ∷ fields)) b (with_first-some listing.format first field fields)
 
 -- the first lines of tables, by the names of their fields
 day-names : (format : Format) (calls : Bool) → let listing : Listing = record { format = format; calls = calls } in

@@ -35,7 +35,7 @@ pub use Rattle.cif_canon.specs.Accepted.{IsClearExtract}
 pub use Rattle.cif_canon.specs.Appended.{IsAppended}
 pub use Rattle.cif_canon.specs.Asked.{header_window}
 pub use Rattle.cif_canon.specs.Fault.{IsFirstClashIn}
-pub use Rattle.cif_canon.specs.Fields.{Field, after, fields_text, lead, led, line_of, nothing, shown, trimmed}
+pub use Rattle.cif_canon.specs.Fields.{Field, after, fields_text, line_of, nothing, row_start, shown, trimmed, with_first}
 pub use Rattle.cif_canon.specs.Lines.{ScheduleLines, association_plain, line_of_tiploc, schedule_plain}
 pub use Rattle.cif_canon.specs.Normalised.{IfWritten}
 pub use Rattle.cif_canon.specs.Rows.{no_association, no_train}

@@ -7,7 +7,7 @@ use Rattle.cif_records.specs.declared.origin.Origin.{Origin}
 use Rattle.cif_records.specs.declared.stop.Stop.{Stop}
 use Rattle.cif_records.specs.declared.terminus.Terminus.{Terminus}
 use Rattle.cif_weeks.specs.Permanent.{Permanent}
-use Rattle.cif_canon.specs.Fields.{Field, led, nothing}
+use Rattle.cif_canon.specs.Fields.{Field, nothing, with_first}
 use Rattle.cif_canon.specs.Rows.{schedule_row, train_row}
 use Rattle.cif_canon.specs.declared.rows.Format.TheVariants.{Tsv}
 use Rattle.cif_views.specs.Calls.{call_names, origin_fields, stop_fields, terminus_fields}
@@ -48,16 +48,16 @@ pub record CallsHaveAll : Type 0 where
 pub record DayRowsHaveAll : Type 0 where
   pub association : (calls : Bool) (d : ℕ) (e : AssocKey × AssocBody) →
       HasAll (day_names (table_with calls)) (association_fields_of (table_with calls) (date_field d) e)
-  pub train : (d : ℕ) (e : List ℕ × BodyParts) → HasAll (day_names (table_with false)) (led Tsv (date_field d) (train_row Tsv e))
+  pub train : (d : ℕ) (e : List ℕ × BodyParts) → HasAll (day_names (table_with false)) (with_first Tsv (date_field d) (train_row Tsv e))
   pub call : (d : ℕ) (e : List ℕ × BodyParts) (call : List Field) → HasAll call_names call →
-      HasAll (day_names (table_with true)) (led Tsv (date_field d) (train_row Tsv e) ++ call)
+      HasAll (day_names (table_with true)) (with_first Tsv (date_field d) (train_row Tsv e) ++ call)
 
 -- the rows of a train: of a schedule, and of a schedule with a call
 pub record TrainRowsHaveAll : Type 0 where
   pub schedule : (uid : List ℕ) (r : Permanent BodyParts) →
-      HasAll (train_names (table_with false)) (led Tsv (uid_field uid) (schedule_row Tsv r))
+      HasAll (train_names (table_with false)) (with_first Tsv (uid_field uid) (schedule_row Tsv r))
   pub call : (uid : List ℕ) (r : Permanent BodyParts) (call : List Field) → HasAll call_names call →
-      HasAll (train_names (table_with true)) (led Tsv (uid_field uid) (schedule_row Tsv r) ++ call)
+      HasAll (train_names (table_with true)) (with_first Tsv (uid_field uid) (schedule_row Tsv r) ++ call)
 
 -- the rows of an explanation
 pub record ExplainedRowsHaveAll : Type 0 where

@@ -24,7 +24,7 @@ use Rattle.cif_records.specs.declared.association.AssocBody.{AssocBody}
 use Rattle.cif_records.specs.declared.association.AssocKey.{AssocKey}
 use Rattle.cif_weeks.specs.Window.{IsWithin}
 use Rattle.cif_canon.specs.Asked.{header_window}
-use Rattle.cif_canon.specs.Fields.{Field, left_out, led, line_of}
+use Rattle.cif_canon.specs.Fields.{Field, left_out, line_of, with_first}
 use Rattle.cif_canon.specs.Rows.{association_fields, no_association, no_train, train_fields}
 use Rattle.cif_views.specs.Listing.{association_names, date_field, if_table, journey_names}
 use Rattle.cif_views.specs.Tables.{names_line}
@@ -114,12 +114,12 @@ said_of_train format uid None = (Whole, uid) ∷ left_out format 9
 -- the row of an association on day d, and that of a schedule; each begins with the date, if it is the row of a table
 abbrev pub explained_association_fields : Format → ℕ → Explained AssocKey AssocBody → List Field
 explained_association_fields format d e =
-    led format (date_field d) ((Trimmed, mark_columns e.mark) ∷ (Trimmed, codes "AA")
+    with_first format (date_field d) ((Trimmed, mark_columns e.mark) ∷ (Trimmed, codes "AA")
     ∷ (terms_fields e.terms ++ (no_train format ++ said_of_association format e.key e.terms.body)))
 
 abbrev pub explained_train_fields : Format → ℕ → Explained (List ℕ) BodyParts → List Field
 explained_train_fields format d e =
-    led format (date_field d) ((Trimmed, mark_columns e.mark) ∷ (Trimmed, codes "BS")
+    with_first format (date_field d) ((Trimmed, mark_columns e.mark) ∷ (Trimmed, codes "BS")
     ∷ (terms_fields e.terms ++ (said_of_train format e.key e.terms.body ++ no_association format)))
 
 -- their lines

@@ -7,7 +7,7 @@ use Rattle.cif_records.specs.declared.association.AssocBody.{AssocBody}
 use Rattle.cif_records.specs.declared.association.AssocKey.{AssocKey}
 use Rattle.cif_weeks.specs.Permanent.{Permanent}
 use Rattle.cif_weeks.specs.declared.form.Form.{Form}
-use Rattle.cif_canon.specs.Fields.{Field, left_out, led, line_of}
+use Rattle.cif_canon.specs.Fields.{Field, left_out, line_of, with_first}
 use Rattle.cif_canon.specs.Rows.{association_fields, no_train, schedule_row, train_row}
 use Rattle.cif_canon.specs.Views.{DayTexts, IsDayListed, IsTrainListed, TrainTexts}
 use Rattle.cif_canon.specs.declared.rows.Format.{Format}
@@ -31,7 +31,7 @@ uid_field uid = (Whole, uid)
 -- the row of an association that holds, with its own first field
 abbrev pub association_fields_of : Listing → Field → AssocKey × AssocBody → List Field
 association_fields_of listing first e =
-    led listing.format first ((Trimmed, codes "AA") ∷ (no_train listing.format ++ (association_fields e ++ no_call listing)))
+    with_first listing.format first ((Trimmed, codes "AA") ∷ (no_train listing.format ++ (association_fields e ++ no_call listing)))
 
 -- its line
 unfoldable pub association_line : Listing → Field → AssocKey × AssocBody → List ℕ
@@ -48,10 +48,10 @@ lines_of_row listing row b = if listing.calls then with_calls listing.format row
 
 -- what is listed of a train that runs, and of a canonical schedule
 abbrev pub train_text : Listing → Field → List ℕ × BodyParts → List ℕ
-train_text listing first e = lines_of_row listing (led listing.format first (train_row listing.format e)) e.1
+train_text listing first e = lines_of_row listing (with_first listing.format first (train_row listing.format e)) e.1
 
 abbrev pub schedule_text : Listing → Field → Permanent BodyParts → List ℕ
-schedule_text listing first r = lines_of_row listing (led listing.format first (schedule_row listing.format r)) r.body
+schedule_text listing first r = lines_of_row listing (with_first listing.format first (schedule_row listing.format r)) r.body
 
 -- the names of the fields of a journey, of an association, and of a call if calls are listed
 abbrev pub journey_names : List (List ℕ)

@@ -8,7 +8,7 @@ ghost use Rattle.cif_views.specs.Explanation.{terms_fields};
 ghost use Rattle.cif_canon.specs.Normalised.{FaultWrites, IfWritten};
 ghost use Rattle.cif_views.specs.Steps.Explanation.{AreMarkedOn, IsRisingBy, placed_of};
 ghost use Rattle.cif_columns.specs.Line.{ArePrintable};
-ghost use Rattle.cif_canon.specs.Fields.{after, lead, separator, shown};
+ghost use Rattle.cif_canon.specs.Fields.{after, row_start, separator, shown};
 ghost use Rattle.cif_canon.specs.declared.rows.Format.TheVariants.{Text};
 ghost use Rattle.cif_canon.specs.declared.rows.Shape.TheVariants.{Trimmed};
 ghost use Rattle.cif_views.specs.Listing.{date_field};
@@ -18,8 +18,8 @@ use crate::marks::{Applying, ExplainedEntry, Mark, mark_at, records_on};
 use arrayvec::ArrayString;
 use cif_calendar::Entry;
 use cif_canon::rows::{
-    LONGEST_ROW, NO_ASSOCIATION, NO_TRAIN, lead, push_association, push_field, push_fields,
-    push_left_out, push_train, started,
+    LONGEST_ROW, NO_ASSOCIATION, NO_TRAIN, push_association, push_field, push_fields,
+    push_left_out, push_train, row_start, started,
 };
 use cif_canon::writing::{answer, append};
 use cif_canon::{Format, Shape, check_within};
@@ -120,11 +120,11 @@ fn columns_of(mark: Mark) -> [u8; 6]
 /// The beginning of a line: in a table the date, then the mark and the kind.
 fn begun(format: Format, day: Day, mark: Mark, kind: &[u8; 2]) -> ArrayString<LONGEST_ROW>
     requires { ArePrintable kind.now }
-    ensures text { result.bytes ≡ (lead format (date_field day) ++ shown format (Trimmed, mark_columns mark))
+    ensures text { result.bytes ≡ (row_start format (date_field day) ++ shown format (Trimmed, mark_columns mark))
         ++ (separator format ∷ shown format (Trimmed, kind.now)) }
     ensures len { array_string_len result ≤ 20 }
 {
-    let date = lead(format, Shape::Date, &day.to_yymmdd());
+    let date = row_start(format, Shape::Date, &day.to_yymmdd());
     let mut line = started(date.as_str(), format, Shape::Trimmed, &columns_of(mark));
     push_field(&mut line, format, Shape::Trimmed, kind);
     line

@@ -1,7 +1,7 @@
 //! What runs on a day, and when a train runs, as text or as a table, with or without calls.
 ghost use Rattle.std.specs.Prelude.{◌≡◌, ◌+◌, ◌++◌, ◌≤◌, ℕ, List, IfErr, length};
 ghost use Rattle.arrayvec.specs.ArrayString.{array_string_len};
-ghost use Rattle.cif_canon.specs.Fields.{after, lead};
+ghost use Rattle.cif_canon.specs.Fields.{after, row_start};
 ghost use Rattle.cif_canon.specs.Normalised.{FaultWrites, IfWritten};
 ghost use Rattle.cif_canon.specs.Views.{IsDayFault, IsTrainFault};
 ghost use Rattle.cif_extract.specs.ExtractParts.{extract_parts};
@@ -12,7 +12,7 @@ ghost use Rattle.cif_views.specs.Steps.Rows.{first_field, heading_text, names_be
 use crate::calls::write_row;
 use arrayvec::ArrayString;
 use cif_canon::rows::{
-    LEAD, LONGEST_ROW, association_row, lead, push_left_out, schedule_row, train_row,
+    LONGEST_ROW, ROW_START, association_row, push_left_out, row_start, schedule_row, train_row,
 };
 use cif_canon::writing::append;
 use cif_canon::{DayLines, Format, Shape, TrainLines, write_day, write_train};
@@ -90,7 +90,7 @@ pub fn day_listing<W: WriteDevice>(
     ensures fault { IfErr result (IsDayFault (extract_parts extract.now) day) }
 {
     let names = heading(listing, "date\tkind\tuid", ASSOCIATION);
-    let rows = Led {
+    let rows = ListedRows {
         listing,
         first: First::Date(day),
     };
@@ -113,7 +113,7 @@ pub fn train_listing<W: WriteDevice>(
     ensures fault { IfErr result (IsTrainFault (extract_parts extract.now)) }
 {
     let names = heading(listing, "uid\tfirst_date\tlast_date\tdays_run", "");
-    let rows = Led {
+    let rows = ListedRows {
         listing,
         first: First::Train(*uid),
     };
@@ -131,30 +131,30 @@ enum First {
 
 /// A listing, and what the rows of its tables begin with.
 #[derive(Clone, Copy)]
-struct Led {
+struct ListedRows {
     listing: Listing,
     first: First,
 }
 
-impl Led {
+impl ListedRows {
     /// What each line begins with.
-    fn beginning(&self) -> ArrayString<LEAD>
-        ensures { result.bytes ≡ lead self.now.listing.format (first_field self.now.first) }
+    fn row_start(&self) -> ArrayString<ROW_START>
+        ensures { result.bytes ≡ row_start self.now.listing.format (first_field self.now.first) }
     {
         match self.first {
-            First::Date(day) => lead(self.listing.format, Shape::Date, &day.to_yymmdd()),
-            First::Train(uid) => lead(self.listing.format, Shape::Whole, &uid.write()),
+            First::Date(day) => row_start(self.listing.format, Shape::Date, &day.to_yymmdd()),
+            First::Train(uid) => row_start(self.listing.format, Shape::Whole, &uid.write()),
         }
     }
 }
 
-impl DayLines for Led {
+impl DayLines for ListedRows {
     ghost use Rattle.cif_views.specs.Listing.{association_line, train_text};
     ghost use Rattle.cif_views.specs.Steps.Rows.{first_field};
 
-    ghost association = { λ led. association_line led.listing (first_field led.first) };
+    ghost association = { λ rows. association_line rows.listing (first_field rows.first) };
 
-    ghost train = { λ led. train_text led.listing (first_field led.first) };
+    ghost train = { λ rows. train_text rows.listing (first_field rows.first) };
 
     fn write_association<W: WriteDevice>(
         &self,
@@ -166,30 +166,30 @@ impl DayLines for Led {
     }
 
     fn write_train<W: WriteDevice>(&self, uid: &Uid, body: &Body, sink: &mut Sink<W>) {
-        let row = train_row(self.beginning().as_str(), self.listing.format, uid, body);
+        let row = train_row(self.row_start().as_str(), self.listing.format, uid, body);
         write_row(self.listing, row, body, sink);
     }
 }
 
-impl TrainLines for Led {
+impl TrainLines for ListedRows {
     ghost use Rattle.cif_views.specs.Listing.{schedule_text};
     ghost use Rattle.cif_views.specs.Steps.Rows.{first_field};
 
-    ghost schedule = { λ led. schedule_text led.listing (first_field led.first) };
+    ghost schedule = { λ rows. schedule_text rows.listing (first_field rows.first) };
 
     fn write_schedule<W: WriteDevice>(&self, run: &Run, body: &Body, sink: &mut Sink<W>) {
-        let row = schedule_row(self.beginning().as_str(), self.listing.format, run, body);
+        let row = schedule_row(self.row_start().as_str(), self.listing.format, run, body);
         write_row(self.listing, row, body, sink);
     }
 }
 
 /// The line of an association that holds.
 #[tactic(auto, unfolding(crate::specs::Listing::association_line))]
-fn association_line(led: &Led, key: &AssocKey, body: &AssocBody) -> ArrayString<LONGEST_ROW>
-    ensures { result.bytes ≡ association_line led.now.listing (first_field led.now.first) (key.now, body.now) }
+fn association_line(rows: &ListedRows, key: &AssocKey, body: &AssocBody) -> ArrayString<LONGEST_ROW>
+    ensures { result.bytes ≡ association_line rows.now.listing (first_field rows.now.first) (key.now, body.now) }
 {
-    let mut line = association_row(led.beginning().as_str(), led.listing.format, key, body);
-    push_no_call(&mut line, led.listing);
+    let mut line = association_row(rows.row_start().as_str(), rows.listing.format, key, body);
+    push_no_call(&mut line, rows.listing);
     line.push_str("\n");
     line
 }

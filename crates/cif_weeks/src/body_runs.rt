@@ -5,10 +5,11 @@ ghost use Rattle.std.specs.Prelude.{◌≡◌, ◌<◌, ◌≤◌, ◌+◌, ◌*
 ghost use Rattle.std.specs.Prelude.{IfSome, MatchBool, ℕ, List, length};
 ghost use Rattle.std.specs.List.Sorted.{IsNonDecreasingBy};
 ghost use Rattle.cif_columns.specs.Day.{IsDay, week_of};
-ghost use Rattle.cif_weeks.specs.Steps.BodyRuns.{AreGrownTo, AreRunsOfBody};
+ghost use Rattle.cif_weeks.specs.Steps.BodyRuns.{AreGrownTo, AreNextWeeks, AreRunsOfBody};
 ghost use Rattle.cif_weeks.specs.Steps.Spans.{AgreeOn, HaveOneMask, IsDisputed, Leads, Shows};
 ghost use Rattle.cif_weeks.specs.Window.{IsWithin, window_from};
 ghost use Rattle.cif_weeks.specs.declared.run.Run.{Run};
+ghost use Rattle.cif_weeks.specs.declared.span.Span.{Span};
 
 use crate::form::{Form, agree};
 use crate::run::Run;
@@ -99,26 +100,26 @@ fn weeks_shown(spans: &[Span], source: usize, week: u32, until: u32) -> Option<W
     Some(Weeks { days, last })
 }
 
-/// Adds the next weeks, in which the spans show the body at `source`, to its runs, which are those from
+/// Adds the next weeks, in which the body at `source` is shown, to its runs, which are those from
 /// `start` on. The last of them goes on if they join it; else another begins.
 fn grow(
     runs: &mut Vec<Run>,
     start: usize,
     week: u32,
     weeks: Weeks,
-    spans: &[Span],
     source: usize,
     window: &Window,
     form: Form,
 ) -> Result<(), AllocError>
-    requires inside { (n : ℕ) → Shows spans.now source n →
-        IsWithin (window_from window.now.first window.now.last) n }
+    requires shown { (spans : List Span)
+        × AreNextWeeks (window_from window.now.first window.now.last) spans source week weeks }
     requires in_range { IsDay window.now.last }
-    requires weeks { HaveOneMask (Shows spans.now source) week weeks.last weeks }
-    ensures { IfOk result (λ _. (old : List Run) → length old ≡ start →
-        AreGrownTo form (window_from window.now.first window.now.last) (Shows spans.now source) source
-        week old runs.old.items →
-        AreGrownTo form (window_from window.now.first window.now.last) (Shows spans.now source) source
+    ensures { IfOk result (λ _. (spans : List Span) (old : List Run)
+        → AreNextWeeks (window_from window.now.first window.now.last) spans source week weeks
+        → length old ≡ start
+        → AreGrownTo form (window_from window.now.first window.now.last) (Shows spans source) source
+        week old runs.old.items
+        → AreGrownTo form (window_from window.now.first window.now.last) (Shows spans source) source
         (weeks.last + 1) old runs.new.items) }
 {
     let Some(first_weekday) = weeks.days.first() else {
@@ -195,7 +196,7 @@ pub(crate) fn add_body_runs(
                 return Ok(false);
             };
             let next = weeks.last + 1;
-            grow(runs, start, from, weeks, spans, source, window, form)?;
+            grow(runs, start, from, weeks, source, window, form)?;
             week = next;
         }
     }

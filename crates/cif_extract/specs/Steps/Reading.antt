@@ -276,14 +276,6 @@ no_progress = record {
   lines = [];
 }
 
--- what a reading has come to where it is whole
-abbrev pub IsHeld : Progress → ExtractParts → Type 0
-IsHeld p x = (p.place ≡ at.Ended) × (p.header ≡ Some x.header) × (x ≡ parts_with_header p x.header p.schedules)
-
--- a reading isn't whole: a trailer is missing, or everything
-abbrev pub IsUnfinished : Progress → Type 0
-IsUnfinished p = (p.place ≡ at.Ended → ⊥) ⊎ (p.header ≡ None)
-
 -- why a line is not taken, as the fault at the line of this number
 abbrev pub fault_at_line : ℕ → TakeFault → Fault
 fault_at_line number (untaken.Refused why) = fault.Refused number why

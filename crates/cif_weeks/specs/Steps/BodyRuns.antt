@@ -7,10 +7,11 @@ use Rattle.cif_weeks.specs.declared.form.Form.{Form}
 use Rattle.cif_weeks.specs.declared.run.Run.{Run}
 use Rattle.cif_weeks.specs.Permanent.{Permanent}
 use Rattle.cif_weeks.specs.Runs.{record_of}
-use Rattle.cif_weeks.specs.Window.{Window}
+use Rattle.cif_weeks.specs.Window.{IsWithin, Window}
 use Rattle.cif_weeks.specs.Steps.Growing.{Breaks, IsGrown}
-use Rattle.cif_weeks.specs.Steps.Spans.{IsAgreed, Shows}
+use Rattle.cif_weeks.specs.Steps.Spans.{HaveOneMask, IsAgreed, Shows}
 use Rattle.cif_weeks.specs.declared.span.Span.{Span}
+use Rattle.cif_weeks.specs.declared.span.Weeks.{Weeks}
 
 -- the dates and the mask of a run as those of a record, with the run's source as the body
 abbrev pub dates_of : Run → Permanent ℕ
@@ -38,6 +39,11 @@ AreBodyRuns form window on source limit (run ∷ before) = IsLatest form window 
 abbrev pub AreGrownTo : Form → Window → (ℕ → Type 0) → ℕ → ℕ → List Run → List Run → Type 0
 AreGrownTo form window on source limit old runs =
     (made : List Run) × (runs ≡ old ++ reverse made) × AreBodyRuns form window on source limit made
+
+-- the source is shown in the window alone, and in the weeks from `week` on it has this mask
+pub record AreNextWeeks (window : Window) (spans : List Span) (source week : ℕ) (weeks : Weeks) : Type 0 where
+  pub inside : (n : ℕ) → Shows spans source n → IsWithin window n
+  pub one_mask : HaveOneMask (Shows spans source) week weeks.last weeks
 
 -- The runs are those of all days on which the source is shown, and the spans agree on these days.
 pub record AreRunsOfBody (form : Form) (window : Window) (spans : List Span) (source : ℕ) (runs : List Run) : Type 0 where

@@ -137,8 +137,8 @@ returns-in-Ok-false-clause-ok g c =
     let (ls, so_far, come, read_on) = c.loop-columns.invariant in
     let next = rw c.in-Ok-false.field-0-test at c.in-Ok-false.ensures in
     let all = reading_ends g.R.Read.remaining _ _ _ _ ls so_far c.read_line.new.self c.read_line.new.source next.answer in
-    whole_result (g.R.Read.remaining c.args.source.now.reader) c.args.max_lines ls (progress_of c.loop-columns.reading) c.finish.result all
-    come c.finish.ensures.ok
+    whole_result (g.R.Read.remaining c.args.source.now.reader) c.args.max_lines ls c.finish.result all
+    (c.finish.ensures.spells ls come.taken)
 
 pub returns-in-Ok-false-clause-fault : goal.returns-in-Ok-false-clause-fault
 returns-in-Ok-false-clause-fault g c =
@@ -147,9 +147,8 @@ returns-in-Ok-false-clause-fault g c =
     let all = reading_ends g.R.Read.remaining _ _ _ _ ls so_far c.read_line.new.self c.read_line.new.source next.answer in
     let number : c.line_number-in-Ok-false.result ≡ length ls = c.line_number-in-Ok-false.ensures ∙ next.ended refl ∙ so_far.counted in
     unfinished_result (g.R.Read.remaining c.args.source.now.reader)
-    (unread_of g.R.Read.remaining c.read_line.new.source) c.args.max_lines ls
-    (progress_of c.loop-columns.reading) c.line_number-in-Ok-false.result c.finish.result (next.told so_far.reads_on refl) all come number
-    c.finish.ensures.truncated
+    (unread_of g.R.Read.remaining c.read_line.new.source) c.args.max_lines ls c.line_number-in-Ok-false.result c.finish.result
+    (next.told so_far.reads_on refl) all come.fine number c.finish.ensures.truncated (c.finish.ensures.unfinished ls come.taken)
 
 pub returns-in-Ok-false-clause-only : goal.returns-in-Ok-false-clause-only
 returns-in-Ok-false-clause-only g c =
@@ -179,8 +178,7 @@ returns-in-Ok-false-clause-answers g c =
     let next = c.in-Ok-false.ensures in
     let within : c.line_number-in-Ok-false.result ≤ c.args.max_lines =
     omega (arith, c.line_number-in-Ok-false.ensures, c.read_line.new.self.counted, next.limit_now, so_far.same_limit) in
-    unfinished_of_reading c.args.max_lines (progress_of c.loop-columns.reading) c.line_number-in-Ok-false.result c.finish.result within
-    c.finish.ensures.truncated
+    unfinished_of_reading c.args.max_lines c.line_number-in-Ok-false.result c.finish.result within c.finish.ensures.truncated
 
 pub returns-in-Ok-false-clause-end : goal.returns-in-Ok-false-clause-end
 returns-in-Ok-false-clause-end g c =

@@ -1,6 +1,6 @@
 -- There are lines so far, none of them refused: the reading is what they have come to, and the source was read on.
 use Rattle.std.proofs.Common.{◌-◌, ℕ, List}
-use Rattle.cif_columns.specs.GivenLines.{IsReading}
+use Rattle.cif_columns.proofs.GivenLinesLaws.{IsReading}
 use Rattle.cif_columns.specs.LineReader.{given, limit}
 use Rattle.cif_columns.specs.Source.{HasReadOn}
 use Rattle.cif_extract.specs.Steps.Reading.{progress_of}

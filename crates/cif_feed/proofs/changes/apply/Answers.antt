@@ -33,7 +33,7 @@ returns-clause-records g c =
     record {
       same = same;
       tells = told_by_rank g.R.Rank.PartialEq.eq cmp rank g.met.R.Rank.Ord.matches_eq g.met.R.Keyed.same_key;
-      after = c.in_ok-put.ensures (subst (λ l. AreLast same (changes_of key l) known) (sym back) last)
+      after = c.in_ok-put_last.ensures (subst (λ l. AreLast same (changes_of key l) known) (sym back) last)
           ∙ ap (λ l. with_keys key c.take_out.new.records.items ++ put_last same (changes_of key l)) back
           ∙ ap (λ l. l ++ put_last same changes) taken ∙ sym (after_all-untouched same (with_keys key records) changes);
     }

@@ -12,7 +12,7 @@ use Rattle.cif_feed.specs.declared.changes.RefusedLine.{RefusedLine}
 use Rattle.cif_feed.proofs.ChangeLaws.{after_all-append}
 use Rattle.cif_feed.proofs.ChangeSteps.{change-changed, changes-more, refusals-more, says-after}
 use Rattle.cif_feed.proofs.changes.refused_changes.Goals as goal
-use Rattle.cif_feed.proofs.changes.refused_changes.Goals.{then-not-may+in_ok-push, else-not-may}
+use Rattle.cif_feed.proofs.changes.refused_changes.Goals.{then-not-may_be_applied+in_ok-push, else-not-may_be_applied}
 
 pub loop-change-preserved : goal.loop-change-preserved
 loop-change-preserved g c = λ records start.
@@ -36,12 +36,13 @@ loop-change-preserved g c = λ records start.
     ∙ ap (λ (o : Option Bool). unwrap_or o false) (sym c.copied.ensures)
     ∙ sym c.unwrap_or-is_there.ensures) in
     let told : refusals same records (changes_of key (take (at + 1) xs))
-    ≡ c.loop-change.refused.items ++ cond c.may.result [] (record { line = change.line; is_there = c.unwrap_or-is_there.result } ∷ []) =
+    ≡ c.loop-change.refused.items
+    ++ cond c.may_be_applied.result [] (record { line = change.line; is_there = c.unwrap_or-is_there.result } ∷ []) =
     (ap (refusals same records) more ∙ refusals-more same laws records done change
     ∙ ap (λ l. l ++ refusal (is_there same (after_all same records done) change.key) change) (sym so_far)
     ∙ ap (λ b. c.loop-change.refused.items ++ refusal b change) now
     ∙ ap (λ (b : Bool). let r : RefusedLine = record { line = change.line; is_there = c.unwrap_or-is_there.result } in
-    c.loop-change.refused.items ++ cond b [] (r ∷ [])) (sym c.may.ensures)) in (
+    c.loop-change.refused.items ++ cond b [] (r ∷ [])) (sym c.may_be_applied.ensures)) in (
       subst (λ l. SaysThere same (after_all same records l) all (at_keys rank (get cmp c.insert.new.self))) (sym more)
           (subst (λ l. SaysThere same l all (at_keys rank (get cmp c.insert.new.self)))
           (sym (after_all-append same records done (change ∷ [])))
@@ -53,16 +54,16 @@ loop-change-preserved g c = λ records start.
           (c.in_ok-insert.ensures.updates.0 (rank q)
           ∙ ap (λ (b : Bool). cond (eq_by_cmp cmp c.rank_of-rank.result (rank q)) (Some b) (get cmp c.loop-change.there (rank q)))
           c.puts.ensures)))),
-      elim c.if-not-may.branch [
-        | then-not-may+in_ok-push w ↦ rw (w.refused-is, w.in_ok-push.ensures.items)
+      elim c.if-not-may_be_applied.branch [
+        | then-not-may_be_applied+in_ok-push w ↦ rw (w.refused-is, w.in_ok-push.ensures.items)
             (ap (λ (b : Bool). c.loop-change.refused.items ++ cond b []
             (record { line = change.line; is_there = c.unwrap_or-is_there.result } ∷ []))
-            (sym w.if-not-may.true) ∙ sym told)
-        | else-not-may w ↦ rw w.refused-is
+            (sym w.if-not-may_be_applied.true) ∙ sym told)
+        | else-not-may_be_applied w ↦ rw w.refused-is
             (sym (append-nil c.loop-change.refused.items)
             ∙ ap (λ (b : Bool). c.loop-change.refused.items ++ cond b []
             (record { line = change.line; is_there = c.unwrap_or-is_there.result } ∷ []))
-            (sym w.if-not-may.false) ∙ sym told)
+            (sym w.if-not-may_be_applied.false) ∙ sym told)
       ],
     )
 

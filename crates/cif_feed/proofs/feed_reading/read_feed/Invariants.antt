@@ -1,6 +1,6 @@
 -- There are contents so far, none of them refused: the reading is what they have come to, and the source was read on.
 use Rattle.std.proofs.Common.{◌-◌, ℕ, List}
-use Rattle.cif_columns.specs.GivenLines.{IsReadingContents}
+use Rattle.cif_columns.proofs.GivenLinesLaws.{IsReadingContents}
 use Rattle.cif_columns.specs.LineReader.{given, limit}
 use Rattle.cif_columns.specs.Source.{HasReadOn}
 use Rattle.cif_feed.specs.FeedRefusal.{IsFeedContent, NoneOfFeedRefused}

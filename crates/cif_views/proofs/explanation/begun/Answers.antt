@@ -7,7 +7,7 @@ returns-clause-text c = rw (
   c.push_field.ensures.text,
   c.started-line.ensures.text,
   c.as_str.ensures.value,
-  c.lead-date.ensures.text,
+  c.row_start-date.ensures.text,
   c.to_yymmdd.ensures.columns,
   c.columns_of.ensures,
 ) refl

@@ -38,8 +38,14 @@ returns-in_default-weeks_shown c =
     let (n, at, disputed) = c.in_default-weeks_shown.ensures.disputed in
     (n, disputed-all (same j n (omega arith) (omega (arith, c.if-min-from.false))) disputed)
 
-pub grow-requires-clause-weeks : goal.grow-requires-clause-weeks
-grow-requires-clause-weeks c = mask-all (same (goal.at.grow-requires-clause-weeks c).Else-min-from) c.in-Some.ensures.weeks
+pub grow-requires-clause-shown : goal.grow-requires-clause-shown
+grow-requires-clause-shown c = (
+  c.args.spans.now,
+  record {
+    inside = c.requires.inside;
+    one_mask = mask-all (same (goal.at.grow-requires-clause-shown c).Else-min-from) c.in-Some.ensures.weeks;
+  },
+)
 
 pub loop-left-preserved : goal.loop-left-preserved
 loop-left-preserved c =
@@ -52,12 +58,13 @@ loop-left-preserved c =
     (shows : Shows a.spans.now a.source n). none-before i.left c.span-item.result c.in-len1-up.len_at_least c.span-item.is n from
     (c.weeks_of-first.ensures.weeks n shows).1 (omega arith) shows in
     record {
-      grown = c.in_ok-grow.ensures a.runs.now.items (sym (c.len-start.ensures ∙ a.runs.now.ok.0)) (
-        i.grown.0,
-        i.grown.1,
-        body-idle a.form (window_from a.window.now.first a.window.now.last) (Shows a.spans.now a.source) a.source c.loop-left.week
-            c.max-from.result i.grown.0 (omega arith) (λ n from less. none n from less) i.grown.2,
-      );
+      grown = c.in_ok-grow.ensures a.spans.now a.runs.now.items
+          (record { inside = c.requires.inside; one_mask = mask-all (same j) shown.weeks }) (sym (c.len-start.ensures ∙ a.runs.now.ok.0)) (
+            i.grown.0,
+            i.grown.1,
+            body-idle a.form (window_from a.window.now.first a.window.now.last) (Shows a.spans.now a.source) a.source c.loop-left.week
+                c.max-from.result i.grown.0 (omega arith) (λ n from less. none n from less) i.grown.2,
+          );
       agreed = λ n less shows. ⊎_elim
           (λ before. i.agreed n before shows)
           (λ from. ⊎_elim

@@ -9,22 +9,20 @@ use Rattle.cif_weeks.proofs.body_runs.grow.Goals.{then-start-len+else-week, else
 use Rattle.cif_weeks.proofs.body_runs.grow.Goals.{else-week-via-else-week}
 
 pub returns-in_default : goal.returns-in_default
-returns-in_default c old start (made, are, body) =
-    let a = c.args in
-    let r = c.requires in (
+returns-in_default c spans old next start (made, are, body) =
+    let a = c.args in (
       made,
       are,
-      body-idle a.form (window_from a.window.now.first a.window.now.last) (Shows a.spans.now a.source) a.source a.week (a.weeks.last + 1)
-          made (omega (arith, r.weeks.from))
+      body-idle a.form (window_from a.window.now.first a.window.now.last) (Shows spans a.source) a.source a.week (a.weeks.last + 1)
+          made (omega (arith, next.one_mask.from))
           (λ n from less on.
-          c.in_default.ensures.none (weekday_of n) ((r.weeks.masks (week_of n) from (omega arith)).shows n refl on))
+          c.in_default.ensures.none (weekday_of n) ((next.one_mask.masks (week_of n) from (omega arith)).shows n refl on))
           body,
     )
 
 pub returns-then-agree : goal.returns-then-agree
-returns-then-agree c old start (made, are, body) =
+returns-then-agree c spans old next start (made, are, body) =
     let a = c.args in
-    let r = c.requires in
     let window = window_from a.window.now.first a.window.now.last in
     let run = c.index-run.result.now in
     let place = c.len-place.result - 1 in
@@ -34,26 +32,28 @@ returns-then-agree c old start (made, are, body) =
     let it : Run = record { first = run.first; last = c.day_of-last.result; days = c.union-days.result; source = run.source } in (
       it ∷ before,
       last-set old a.runs.now.items before place run it cut at,
-      grow-longer a.form window (Shows a.spans.now a.source) a.source r.inside a.week a.weeks.last a.weeks r.weeks c.in-Some.first_weekday
-          c.in-Some-last.last_weekday c.in-Some.ensures.found c.in-Some-last.ensures.found c.day_of-last.result c.day_of-last.ensures before
-          run c.union-days.result (subst (AreBodyRuns a.form window (Shows a.spans.now a.source) a.source a.week) is body)
+      grow-longer a.form window (Shows spans a.source) a.source next.inside a.week a.weeks.last a.weeks next.one_mask
+          c.in-Some.first_weekday c.in-Some-last.last_weekday c.in-Some.ensures.found c.in-Some-last.ensures.found c.day_of-last.result
+          c.day_of-last.ensures before run c.union-days.result
+          (subst (AreBodyRuns a.form window (Shows spans a.source) a.source a.week) is body)
           (ap (λ v. v + 1) (sym c.week.ensures) ∙ c.if-week.true) c.if-agree.ensures c.union-days.ensures.width c.union-days.ensures.runs,
     )
 
 pub day_of-last-requires-clause-in_range : goal.day_of-last-requires-clause-in_range
-day_of-last-requires-clause-in_range c = let r = c.requires in
-    last-date c.args.form _ (Shows c.args.spans.now c.args.source) c.args.source r.inside c.args.week c.args.weeks.last c.args.weeks
-    r.weeks _ _ c.in-Some.ensures.found c.in-Some-last.ensures.found r.in_range
+day_of-last-requires-clause-in_range c =
+    let (spans, next) = c.requires.shown in
+    last-date c.args.form _ (Shows spans c.args.source) c.args.source next.inside c.args.week c.args.weeks.last c.args.weeks
+    next.one_mask _ _ c.in-Some.ensures.found c.in-Some-last.ensures.found c.requires.in_range
 
 pub day_of-requires-clause-in_range : goal.day_of-requires-clause-in_range
-day_of-requires-clause-in_range c = let r = c.requires in
-    first-date c.args.form _ (Shows c.args.spans.now c.args.source) c.args.source r.inside c.args.week c.args.weeks.last c.args.weeks
-    r.weeks _ _ c.in-Some.ensures.found c.in-Some-last.ensures.found r.in_range
+day_of-requires-clause-in_range c =
+    let (spans, next) = c.requires.shown in
+    first-date c.args.form _ (Shows spans c.args.source) c.args.source next.inside c.args.week c.args.weeks.last c.args.weeks
+    next.one_mask _ _ c.in-Some.ensures.found c.in-Some-last.ensures.found c.requires.in_range
 
 pub returns : goal.returns
-returns c old start (made, are, body) =
+returns c spans old next start (made, are, body) =
     let a = c.args in
-    let r = c.requires in
     let window = window_from a.window.now.first a.window.now.last in
     let it : Run = record { first = c.day_of.result; last = c.day_of-last.result; days = a.weeks.days; source = a.source } in (
       it ∷ made,
@@ -64,20 +64,20 @@ returns c old start (made, are, body) =
             let some : length old < length a.runs.now.items = omega (arith, w.if-start-len.true, c.len.ensures, a.runs.now.ok.0) in
             let long : (w.len-place.result - 1) + 1 ≡ length a.runs.now.items = omega (arith, w.len-place.ensures, a.runs.now.ok.0) in
             let (before, is, cut, at) = last-made old a.runs.now.items made _ run are some long w.index-run.ensures in
-            rw is (grow-next a.form window (Shows a.spans.now a.source) a.source r.inside a.week a.weeks.last a.weeks r.weeks
+            rw is (grow-next a.form window (Shows spans a.source) a.source next.inside a.week a.weeks.last a.weeks next.one_mask
             c.in-Some.first_weekday c.in-Some-last.last_weekday c.in-Some.ensures.found c.in-Some-last.ensures.found c.day_of-last.result
             c.day_of-last.ensures c.day_of.result c.day_of.ensures before run
-            (subst (AreBodyRuns a.form window (Shows a.spans.now a.source) a.source a.week) is body)
-            (λ next. elim w.else-week.branch [
-              | else-week-via-then-week+else-agree v ↦ v.if-agree.ensures _ next
-              | else-week-via-else-week v ↦ absurd (v.if-week.false (ap (λ n. n + 1) w.week.ensures ∙ next))
+            (subst (AreBodyRuns a.form window (Shows spans a.source) a.source a.week) is body)
+            (λ follows. elim w.else-week.branch [
+              | else-week-via-then-week+else-agree v ↦ v.if-agree.ensures _ follows
+              | else-week-via-else-week v ↦ absurd (v.if-week.false (ap (λ n. n + 1) w.week.ensures ∙ follows))
             ]))
         | else-start-len w ↦
             let none : made ≡ [] = none-made old a.runs.now.items made are
             (omega (arith, w.if-start-len.false, c.len.ensures, a.runs.now.ok.0)) in
-            rw none (grow-first a.form window (Shows a.spans.now a.source) a.source r.inside a.week a.weeks.last a.weeks r.weeks
+            rw none (grow-first a.form window (Shows spans a.source) a.source next.inside a.week a.weeks.last a.weeks next.one_mask
             c.in-Some.first_weekday c.in-Some-last.last_weekday c.in-Some.ensures.found c.in-Some-last.ensures.found c.day_of-last.result
             c.day_of-last.ensures c.day_of.result c.day_of.ensures
-            (subst (AreBodyRuns a.form window (Shows a.spans.now a.source) a.source a.week) none body))
+            (subst (AreBodyRuns a.form window (Shows spans a.source) a.source a.week) none body))
       ],
     )

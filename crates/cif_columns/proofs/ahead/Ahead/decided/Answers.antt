@@ -18,8 +18,9 @@ returns-in-Some-clause-found c =
     omega (arith, feed.within, ap length held, range_length this.buf this.start this.end, this.ordered) in
     let rest = range_rest this.buf this.start this.end (at + 1) within ∙ ap (drop (at + 1)) (sym held) in
     rw (c.of_content-found.ensures, ← held)
-    (decides_first c.args.is_full c.as_slice-held.result.now _ (line_of c.stripped.result.now)
-    (line.1 ∙ ap line_of (sym c.stripped.ensures)) (rest ∙ ap (λ n. drop (n + 1) c.as_slice-held.result.now) feed.found) line.0)
+    (decides_first c.args.is_full c.as_slice-held.result.now _ (line_of c.without_carriage_return.result.now)
+    (line.1 ∙ ap line_of (sym c.without_carriage_return.ensures))
+    (rest ∙ ap (λ n. drop (n + 1) c.as_slice-held.result.now) feed.found) line.0)
 
 pub returns-then-is_empty-clause-none : goal.returns-then-is_empty-clause-none
 returns-then-is_empty-clause-none c =

@@ -11,7 +11,7 @@ returns-then-not-is_comment-clause-found c =
     let feed = c.in-Some.ensures in
     rw (← c.as_slice-held.ensures)
     (other_by_feed c.as_slice-held.result.now c.in-Some.at feed.found feed.within
-    (ap is_comment (sym c.stripped.ensures) ∙ sym c.is_comment.ensures ∙ c.if-not-is_comment.true))
+    (ap is_comment (sym c.without_carriage_return.ensures) ∙ sym c.is_comment.ensures ∙ c.if-not-is_comment.true))
 
 pub returns-in-Some-clause-found : goal.returns-in-Some-clause-found
 returns-in-Some-clause-found c =
@@ -24,7 +24,7 @@ returns-in-Some-clause-found c =
     let rest = range_rest this.buf this.start this.end (at + 1) within ∙ ap (drop (at + 1)) (sym held) in
     rw (← held)
     (comment_by_feed c.as_slice-held.result.now _ at feed.found feed.within
-    (ap is_comment (sym c.stripped.ensures) ∙ sym c.is_comment.ensures ∙ c.if-not-is_comment.false)
+    (ap is_comment (sym c.without_carriage_return.ensures) ∙ sym c.is_comment.ensures ∙ c.if-not-is_comment.false)
     (rest ∙ ap (λ n. drop (n + 1) c.as_slice-held.result.now) feed.found))
 
 pub returns-then-held-ge-LONGEST_LINE-clause-found : goal.returns-then-held-ge-LONGEST_LINE-clause-found

@@ -16,7 +16,7 @@ returns-in-Some-clause-found c =
     let rest = range_rest this.buf this.start this.end (at + 1) within ∙ ap (drop (at + 1)) (sym held) in
     rw (← held)
     (passes_feed c.as_slice-held.result.now _ at c.line_of-content.result feed.found feed.within feed.near
-    (c.line_of-content.ensures ∙ ap line_of c.stripped.ensures) rest)
+    (c.line_of-content.ensures ∙ ap line_of c.without_carriage_return.ensures) rest)
 
 pub returns-then-held-lt-MOST_OF_LINE-clause-none : goal.returns-then-held-lt-MOST_OF_LINE-clause-none
 returns-then-held-lt-MOST_OF_LINE-clause-none c =

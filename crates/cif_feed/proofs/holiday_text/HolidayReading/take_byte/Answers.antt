@@ -14,7 +14,7 @@ returns-in-Err-clause-err c = λ taken so_far.
 pub returns-in-Ok-add_line-clause-ok : goal.returns-in-Ok-add_line-clause-ok
 returns-in-Ok-add_line-clause-ok c = λ taken so_far.
     let this = c.args.self.now in
-    let content = c.without_return-content.ensures ∙ ap strip_carriage_return c.as_slice.ensures.value in
+    let content = c.without_carriage_return-content.ensures ∙ ap strip_carriage_return c.as_slice.ensures.value in
     let ok = c.in-Ok-add_line.ensures.ok in
     taken-line taken this.lines this.rest.items this.holidays so_far c.args.byte c.clear.new.self.items c.add_line.new.self
     c.if-byte-ne10.false
@@ -24,6 +24,6 @@ returns-in-Ok-add_line-clause-ok c = λ taken so_far.
 pub returns-in-Err-add_line-clause-err : goal.returns-in-Err-add_line-clause-err
 returns-in-Err-add_line-clause-err c = λ taken so_far.
     let this = c.args.self.now in
-    let content = c.without_return-content.ensures ∙ ap strip_carriage_return c.as_slice.ensures.value in
+    let content = c.without_carriage_return-content.ensures ∙ ap strip_carriage_return c.as_slice.ensures.value in
     refused-line taken this.lines this.rest.items this.holidays so_far c.args.byte c.in-Err-add_line.fault c.if-byte-ne10.false
     (subst (λ (l : List ℕ). IsLineFault (this.lines + 1) l c.in-Err-add_line.fault) content c.in-Err-add_line.ensures.err)

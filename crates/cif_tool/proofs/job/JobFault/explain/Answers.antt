@@ -7,7 +7,7 @@ use Rattle.cif_columns.proofs.WrittenTexts.{failed_second}
 use Rattle.clap.specs.declared.error.Error.{Error}
 use Rattle.cif_tool.specs.JobFault.{Explains, status_of}
 use Rattle.cif_tool.specs.declared.job.JobFault.{JobFault}
-use Rattle.cif_tool.specs.declared.job.JobFault.TheVariants.{Usage, BadDate, BadUid, OneInput, OneInputOfPrepare, OneInputOfUpdate, Memory}
+use Rattle.cif_tool.specs.declared.job.JobFault.TheVariants.{Usage, BadDate, BadUid, StandardInputTwice, Memory}
 use Rattle.cif_tool.proofs.job.JobFault.explain.Goals as goal
 
 -- the text, if there is one, as a line
@@ -21,9 +21,7 @@ own-status : (fault : JobFault) → ((error : Error) → fault ≢ Usage error) 
 own-status (Usage error) other zero = other error refl
 own-status BadDate other zero = absurd (omega (arith, zero))
 own-status BadUid other zero = absurd (omega (arith, zero))
-own-status OneInput other zero = absurd (omega (arith, zero))
-own-status OneInputOfPrepare other zero = absurd (omega (arith, zero))
-own-status OneInputOfUpdate other zero = absurd (omega (arith, zero))
+own-status (StandardInputTwice inputs) other zero = absurd (omega (arith, zero))
 own-status Memory other zero = absurd (omega (arith, zero))
 
 pub returns-in_err-flush-in-Usage-clause-answer : goal.returns-in_err-flush-in-Usage-clause-answer

@@ -1,8 +1,8 @@
 -- Fields are appended group by group, and the line joins them (`explained-groups`): they are rewritten from the last on.
 use Rattle.std.proofs.Common.{codes, ◌∙◌}
 use Rattle.cif_views.specs.Explanation.{explained_association_line, mark_columns, said_of_association, terms_fields}
-use Rattle.cif_canon.proofs.ViewLines.{explained-groups, led-line}
-use Rattle.cif_views.proofs.Words.{Trimmed, association_terms, date_field, lead, no_train}
+use Rattle.cif_canon.proofs.ViewLines.{explained-groups, with_first-line}
+use Rattle.cif_views.proofs.Words.{Trimmed, association_terms, date_field, no_train, row_start}
 use Rattle.cif_views.proofs.explanation.AssociationExplainedEntry.line.Goals as goal
 
 pub returns : goal.returns
@@ -14,8 +14,9 @@ returns c place = rw (
   c.push_terms.ensures.text,
   c.begun-line.ensures.text,
 )
-    (explained-groups c.args.format (lead c.args.format (date_field c.args.day)) (Trimmed, mark_columns c.args.mark) (Trimmed, codes "AA")
+    (explained-groups c.args.format (row_start c.args.format (date_field c.args.day)) (Trimmed, mark_columns c.args.mark)
+    (Trimmed, codes "AA")
     (terms_fields (association_terms c.args.self.now))
     (no_train c.args.format)
     (said_of_association c.args.format c.args.self.now.key c.args.self.now.body)
-    ∙ led-line c.args.format (date_field c.args.day) (Trimmed, mark_columns c.args.mark) _)
+    ∙ with_first-line c.args.format (date_field c.args.day) (Trimmed, mark_columns c.args.mark) _)

@@ -1,6 +1,6 @@
 -- There are lines so far: whole lines of the input, as many as were given, of a source that was read on; fewer may follow.
 use Rattle.std.proofs.Common.{◌-◌, ℕ, List}
-use Rattle.cif_columns.specs.GivenLines.{IsReading}
+use Rattle.cif_columns.proofs.GivenLinesLaws.{IsReading}
 use Rattle.cif_columns.specs.LineReader.{given, limit}
 use Rattle.cif_columns.specs.Source.{HasReadOn}
 use Rattle.test_cases.proofs.devices.line_count.count_lines.Given as goal

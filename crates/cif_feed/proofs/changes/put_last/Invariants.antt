@@ -3,7 +3,7 @@ use Rattle.std.proofs.Common.{◌≡◌, ◌+◌, ◌++◌, drop, length, revers
 use Rattle.std.specs.BTreeMap.{get}
 use Rattle.cif_feed.specs.Changes.{changes_of, put_last, with_keys}
 use Rattle.cif_feed.specs.Steps.Changes.{AreLast, at_keys, same_by}
-use Rattle.cif_feed.proofs.changes.put.Given as goal
+use Rattle.cif_feed.proofs.changes.put_last.Given as goal
 
 abbrev pub invariant-loop-change : goal.invariant-loop-change
 invariant-loop-change g l = (l.at + length l.changes.items ≡ length l.fn.changes.items)

@@ -8,7 +8,7 @@ use Rattle.std.proofs.lemmas.Cmp.{eq_by_cmp_equiv}
 use Rattle.cif_feed.specs.Changes.{changes_of, put_last, with_keys}
 use Rattle.cif_feed.specs.Steps.Changes.{at_keys, same_by}
 use Rattle.cif_feed.proofs.ChangeSteps.{last-of_all, put-more}
-use Rattle.cif_feed.proofs.changes.put.Goals as goal
+use Rattle.cif_feed.proofs.changes.put_last.Goals as goal
 
 pub loop-change-init : goal.loop-change-init
 loop-change-init g c = (omega arith, refl, λ last. refl)
