@@ -4,8 +4,8 @@
 # Writes the packages of the built program into FOLDER:
 #
 #   cif-VERSION-x86_64-linux.tar.gz  the program, install.sh and what it installs, the documents and the examples
-#   cif_VERSION_amd64.deb            for Debian: what install.sh installs, below /usr, with the licence, README.md,
-#                                    docs/FORMAT.md and the examples
+#   cif_VERSION_amd64.deb            for Debian: what install.sh installs, below /usr, with the licence, the documents
+#                                    and the examples
 #   cif-VERSION.sha256               the SHA-256 of both, for `sha256sum -c`
 #
 # PATH_TO_CIF is the built program. Without it, that is crates/cif_tool/out/cif_tool. VERSION is what the program
@@ -84,14 +84,19 @@ dependencies() {
     sed -e 's/[:,].*//' -e "s/^libc6\$/libc6 (>= $libc)/" "$work/owners" | sort -u
 }
 
+# put_documents PLACE: copies the documents and the examples, so that each link of a document leads to a file
+put_documents() {
+    put 644 "$1" "$top/README.md" "$top/CHANGELOG.md" "$top/CONTRIBUTING.md" "$top/LICENSE"
+    put 644 "$1/docs" "$top"/docs/*.md
+    put 644 "$1/bench" "$top/bench/README.md"
+    put 644 "$1/examples" "$top"/examples/*
+}
+
 # Debian's zsh doesn't look in site-functions below /usr/share.
 put 644 "$root/usr/share/zsh/vendor-completions" "$root/usr/share/zsh/site-functions/_cif"
 rm -r "$root/usr/share/zsh/site-functions"
 gzip -9n "$root/usr/share/man/man1/cif.1"
-put 644 "$root/usr/share/doc/cif/examples" "$top"/examples/*.cif "$top"/examples/*.csv \
-    "$top/examples/holidays.txt" "$top/examples/gtfs.sql" "$top/examples/gtfs.py"
-put 644 "$root/usr/share/doc/cif" "$top/README.md"
-put 644 "$root/usr/share/doc/cif/docs" "$top/docs/FORMAT.md"
+put_documents "$root/usr/share/doc/cif"
 install -m 644 "$top/LICENSE" "$root/usr/share/doc/cif/copyright"
 dependencies > "$work/dependencies"
 size=$(du -sk "$root/usr" | cut -f 1)
@@ -117,11 +122,9 @@ SOURCE_DATE_EPOCH=$time dpkg-deb --root-owner-group -Zxz --build "$root" "$work/
 
 name=cif-$version-x86_64-linux
 put 755 "$work/$name" "$cif" "$top/install.sh"
-put 644 "$work/$name" "$top/README.md" "$top/CHANGELOG.md" "$top/LICENSE"
+put_documents "$work/$name"
 put 644 "$work/$name/man" "$top"/man/*
 put 644 "$work/$name/completions" "$top"/completions/*
-put 644 "$work/$name/docs" "$top"/docs/*.md
-put 644 "$work/$name/examples" "$top"/examples/*
 tar --sort=name --owner=0 --group=0 --numeric-owner --mtime="@$time" -C "$work" -cf "$work/$name.tar" "$name"
 gzip -9n "$work/$name.tar"
 

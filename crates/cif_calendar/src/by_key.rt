@@ -91,8 +91,8 @@ fn count_of_key<E: Entry>(entries: &[E], positions: &[usize], key: &E::Key) -> u
     positions.len()
 }
 
-/// The least key of those at two lists of positions: an entry with it, and of each list the positions
-/// of entries with it, and those that are later.
+/// The least key at two lists of positions, and each list split into positions with that key and later
+/// ones.
 #[derive(Drop)]
 pub struct FirstKey<'a, 'p, E> {
     /// An entry with the key.

@@ -130,8 +130,8 @@ fn rank<E: Entry>(entries: &[E], members: &[usize], standing: Standing) -> u8
     }
 }
 
-/// Who leads on a date where two sets of members are looked at together, one or the other of which
-/// each standing tells of. `alike` has what is known of their bodies.
+/// Who leads on a date when two sets of members are taken together, by who leads in each. `alike` has
+/// what is known of their bodies.
 pub(crate) fn combine<E: Entry>(
     entries: &[E],
     members: &[usize],
@@ -157,7 +157,7 @@ pub(crate) fn combine<E: Entry>(
     }
 }
 
-/// The same, where those who lead have one letter, or both have nobody. Who is disputed stays so.
+/// The same, if both leaders have the same letter, or neither set has one. A dispute stays a dispute.
 fn level<E: Entry>(
     entries: &[E],
     members: &[usize],

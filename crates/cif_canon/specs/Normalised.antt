@@ -28,7 +28,7 @@ pub record IsNormalised (form : Form) (asked : Asked) (max : ℕ) (input text : 
   -- the counts are those of its records
   pub counted : counts ≡ counts_of canonical.made
 
--- what a text is to an input, where it was written, or a prefix of it was
+-- At Ok, and at Write, the text is the canonical text of the input; at any other fault this says nothing.
 abbrev pub Normalises : Form → Asked → ℕ → List ℕ → List ℕ → Result Counts Fault → Type 0
 Normalises form asked max input text (Ok counts) = IsNormalised form asked max input text counts
 Normalises form asked max input text (Err Write) = (counts : Counts) × IsNormalised form asked max input text counts

@@ -34,7 +34,7 @@ pub record AreRunning {K B : Type 0} (cmp : K → K → Ordering) (entries : Lis
   pub rising : AllPairs (λ (x : K × B) (y : K × B). cmp x.0 y.0 ≡ Less) running
   pub runs : (k : K) (b : B) → Contains running (k, b) ↔ BodyRuns (of_key entries k) d b
 
--- what is listed of a day: first of all, of an association that holds, and of a train that runs
+-- what is listed of a day: the heading, the text of an association that holds, and that of a train that runs
 pub record DayTexts : Type 0 where
   pub heading : List ℕ
   pub association : AssocKey × AssocBody → List ℕ
@@ -64,7 +64,7 @@ day_lines = record { heading = []; association = association_line; train = train
 abbrev pub IsDayView : ExtractParts → ℕ → List ℕ → Type 0
 IsDayView = IsDayListed day_lines
 
--- what is listed of a train: first of all, and of each of its canonical schedules
+-- what is listed of a train: the heading, and the text of each of its canonical schedules
 pub record TrainTexts : Type 0 where
   pub heading : List ℕ
   pub schedule : Permanent BodyParts → List ℕ

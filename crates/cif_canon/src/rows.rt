@@ -48,7 +48,7 @@ pub const LONGEST_ROW: usize = 116;
 /// The bytes of a date and a tab, with which the lines of some tables begin.
 pub const ROW_START: usize = 11;
 
-/// The row of an association that holds, behind what its line begins with.
+/// The row of an association that holds, after `before`, with which the line begins.
 pub fn association_row(
     before: &str,
     format: Format,
@@ -65,7 +65,7 @@ pub fn association_row(
     row
 }
 
-/// The row of a train that runs, behind what its line begins with.
+/// The row of a train that runs, after `before`, with which the line begins.
 pub fn train_row(before: &str, format: Format, uid: &Uid, body: &Body) -> ArrayString<LONGEST_ROW>
     requires { length before.now ≤ ROW_START }
     ensures text { result.bytes ≡ before.now ++ fields_text format (train_row format (uid.now, body.now)) }
@@ -77,7 +77,8 @@ pub fn train_row(before: &str, format: Format, uid: &Uid, body: &Body) -> ArrayS
     row
 }
 
-/// The row of a schedule with the dates and the mask of the run, behind what its line begins with.
+/// The row of a schedule with the dates and the mask of the run, after `before`, with which the line
+/// begins.
 pub fn schedule_row(
     before: &str,
     format: Format,
@@ -221,7 +222,7 @@ pub fn push_left_out(line: &mut ArrayString<LONGEST_ROW>, format: Format, tabs: 
     }
 }
 
-/// A line that begins with this field, behind what stands before it.
+/// A line that begins with `before`, and then this field.
 pub fn started(
     before: &str,
     format: Format,

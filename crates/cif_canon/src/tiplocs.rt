@@ -33,7 +33,7 @@ fn first_order(left: &[Tiploc], right: &[Tiploc]) -> Option<Ordering>
     }
 }
 
-/// Passes the first locations of both lists, or the lesser of the two, which is then found.
+/// Takes the first location of both lists if they are equal, else the lesser one, and adds that to `found`.
 fn pass_first<'x>(
     found: &mut Vec<Sided<Tiploc>>,
     order: Ordering,

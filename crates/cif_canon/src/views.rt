@@ -115,7 +115,7 @@ fn write_line<W: WriteDevice>(row: ArrayString<LONGEST_ROW>, sink: &mut Sink<W>)
 /// for each train that runs, rising by UID.
 ///
 /// OutsideWindow comes where the day isn't in the extract's window, and then Ambiguous with the first
-/// clash of the whole window, Memory, and Write. Nothing is written before all memory is had.
+/// clash of the whole window, Memory, and Write. All memory is allocated before anything is written.
 pub fn day_view<W: WriteDevice>(
     alloc: Global,
     extract: &Extract,
@@ -222,7 +222,7 @@ impl<'a, L: DayLines> RecordLines<Schedule> for OnDay<'a, L> {
 /// first date. A train that runs on no date has none.
 ///
 /// Ambiguous comes with the first clash of the extract, whatever the train, and then Memory, and
-/// Write. Nothing is written before all memory is had.
+/// Write. All memory is allocated before anything is written.
 pub fn train_view<W: WriteDevice>(
     alloc: Global,
     extract: &Extract,

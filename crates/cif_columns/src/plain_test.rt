@@ -74,7 +74,7 @@ fn has_all(columns: &[u8; LINE_WIDTH], test: &PlainTest) -> bool
     !fails
 }
 
-/// Whether one of the first 64 columns isn't in range, or isn't followed as the test wants it.
+/// Whether one of the first 64 columns isn't in range, or isn't followed by what the test requires.
 #[inline(always)]
 fn fails_followed(columns: &[u8; LINE_WIDTH], test: &PlainTest, i: usize) -> bool
     requires { i < 64 }

@@ -147,7 +147,7 @@ impl Body {
         if has_extra { further.rest() } else { further }
     }
 
-    /// Columns 30 to 78 of its BS.
+    /// The detail: columns 30 to 78 of its BS.
     pub fn detail(&self) -> Detail
         ensures { result ≡ self.now.detail }
     {

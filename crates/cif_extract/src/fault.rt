@@ -16,7 +16,7 @@ use std::fmt;
 pub enum Fault {
     /// The first refused line, counted from 1, and its reason.
     Refused { line: u64, why: Refusal },
-    /// The extract contradicts itself on a date of its window.
+    /// Two winning records differ on a date of the extract's window.
     Ambiguous(Clash),
     /// Two extracts speak of different windows.
     WindowsDiffer,

@@ -71,7 +71,7 @@ pub fn read_extract<R: ReadDevice>(
     }
 }
 
-/// What the lines so far have come to, for who takes lines one by one.
+/// The state of a reading, for callers that pass lines one by one.
 #[derive(Drop)]
 pub struct Reading {
     place: Place,
@@ -110,7 +110,7 @@ impl Reading {
         }
     }
 
-    /// Takes one line more, as `take` does: where the lines so far are known, that is said of the lines.
+    /// Takes one line more, as `take` does. Its contract speaks of all lines taken so far.
     #[inline(always)]
     pub fn take_line(&mut self, alloc: Global, line: &Line) -> Result<(), TakeFault>
         requires { (lines : List (List ℕ)) × HasTaken lines (progress_of self.old) }
@@ -215,6 +215,7 @@ impl Reading {
         }
     }
 
+    /// Takes the header.
     #[inline(never)]
     fn take_header(&mut self, line: &Line) -> Result<(), TakeFault>
         ensures { IsTaken (header_refusal line.now) line.now (progress_of self.old) result
@@ -225,6 +226,7 @@ impl Reading {
         Ok(())
     }
 
+    /// Takes a location.
     #[inline(never)]
     fn take_tiploc(&mut self, line: &Line) -> Result<(), TakeFault>
         ensures { IsTaken (tiploc_refusal line.now) line.now (progress_of self.old) result
@@ -235,6 +237,7 @@ impl Reading {
         Reading::push(&mut self.tiplocs, tiploc)
     }
 
+    /// Takes an association.
     #[inline(never)]
     fn take_association(&mut self, line: &Line) -> Result<(), TakeFault>
         ensures { IsTaken (association_refusal line.now) line.now (progress_of self.old) result
@@ -245,6 +248,7 @@ impl Reading {
         Reading::push(&mut self.associations, association)
     }
 
+    /// Takes a BS, which begins a schedule.
     #[inline(never)]
     fn take_basic(&mut self, line: &Line) -> Result<(), TakeFault>
         ensures { IsTaken (basic_refusal line.now) line.now (progress_of self.old) result
@@ -263,7 +267,7 @@ impl Reading {
         }
     }
 
-    /// A BX, or a location or a change of a journey, but for its last location.
+    /// Takes a BX, or a location or a change of a journey, but for its last location.
     fn take_further(&mut self, kind: Kind, line: &Line) -> Result<(), TakeFault>
         requires kind { kind_in line.now ≡ Some kind }
         requires further { IsFurther (kind_in line.now) }
@@ -274,6 +278,7 @@ impl Reading {
         self.keep(kind, line)
     }
 
+    /// Takes an LT, which ends a schedule.
     fn take_terminus(&mut self, alloc: Global, line: &Line) -> Result<(), TakeFault>
         requires kind { kind_in line.now ≡ Some Kind.Lt }
         requires journey { self.old.place ≡ Place.Journey }
@@ -338,6 +343,7 @@ impl Reading {
         Ok(())
     }
 
+    /// Takes the trailer.
     #[inline(never)]
     fn take_trailer(&mut self, line: &Line) -> Result<(), TakeFault>
         ensures { IsTaken (trailer_refusal line.now) line.now (progress_of self.old) result

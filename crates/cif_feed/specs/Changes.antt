@@ -13,8 +13,7 @@ abbrev pub TellsSame : {K : Type 0} → (K → K → Bool) → Type 0
 TellsSame {K} same = (a b : K) → IsTrue (same a b) ↔ (a ≡ b)
 
 -- A change: the number of its line, its transaction, the key that it is of, and the record that it puts. A deletion puts none. A line that
--- gives a record
--- another key is two changes: it deletes the one, and puts the other.
+-- gives a record another key is two changes: it deletes the one, and puts the other.
 pub record ChangeParts (K I : Type 0) : Type 0 where
   pub line : ℕ
   pub transaction : Transaction

@@ -19,7 +19,8 @@ IsHolidayOf h None d = ⊥
 IsHolidayOf h (Some code) d = IsHoliday h code d
 
 -- The published record applies on day d: from its first to its last day, where the weekday is in its mask and the day is no holiday of
--- its code. A record without a code applies as one of this profile does. An open end is the last day that there is.
+-- its code. A record without a code applies as one of this profile does. An open end is read as 31 December 2059, the last day that there
+-- is: no window ends later, so in a window this is the same as no end.
 pub record AppliesAsPublished {B : Type 0} (h : Holidays) (code : Option HolidayCode) (r : Terms B) (d : ℕ) : Type 0 where
   pub applies : Applies r d
   pub no_holiday : ¬ IsHolidayOf h code d

@@ -56,7 +56,7 @@ pub enum Action<K, R> {
     Deleted(K),
 }
 
-/// A line of an update that may not be done after those before it.
+/// A line of an update that doesn't fit what the lines before it have left.
 #[derive(Clone, Copy, Debug, PartialEq, Eq)]
 pub struct RefusedLine {
     /// The number of the line.
@@ -81,9 +81,9 @@ impl RefusedLine {
     }
 }
 
-/// Does the changes, one after another: the records of a change's key are taken out, and what it
-/// puts comes last. Gives those that may not be done, in their order: a new record whose key is there, and a
-/// revision or a deletion of a key that isn't. They are done all the same.
+/// Applies the changes, one after another: the records of a change's key are taken out, and what it
+/// puts comes last. Returns those that don't fit, in their order: a new record whose key is there, and a
+/// revision or a deletion of a key that isn't. They are applied anyway.
 pub fn apply<R: Keyed + Drop>(
     alloc: Global,
     records: &mut Vec<R>,
@@ -145,7 +145,7 @@ fn keys_there<R: Keyed>(
     Ok((there, changed))
 }
 
-/// The changes that may not be done after those before them.
+/// The changes that don't fit what those before them have left.
 fn refused_changes<R: Keyed>(
     alloc: Global,
     mut there: BTreeMap<R::Rank, bool>,

@@ -1,4 +1,4 @@
-//! What is made of records and the marks of their lines.
+//! Making published records from records and marks.
 ghost use Rattle.std.specs.Prelude.{◌≡◌, ◌≢◌, ◌++◌, ◌∷◌, [], IfOk};
 ghost use Rattle.cif_feed.specs.FromLines.{ArePairs, AreTriples};
 

@@ -163,6 +163,7 @@ impl Holidays {
         }
     }
 
+    /// The holidays of a code.
     fn dates(&self, code: HolidayCode) -> &HolidayDates
         ensures { result.now ≡ dates_of self.now code }
     {

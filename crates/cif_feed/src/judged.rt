@@ -33,8 +33,8 @@ impl Judged {
     ///
     /// A line may have any length, but one without a line feed among its first 10,000 bytes is the
     /// last that is judged. Refused comes where a line is one too many, whatever reasons the lines
-    /// before it have; or else where no line has a reason, and the lines spell no extract for their
-    /// order, or want a trailer. Read comes where the source failed before all lines were judged, and
+    /// before it have; or else where no line has a reason, and the lines are out of order, or the
+    /// trailer is missing. Read comes where the source failed before all lines were judged, and
     /// Memory where what a line says can't be kept. No other fault is answered.
     // Inlined, it would keep what is read ahead on the stack of its caller.
     #[inline(never)]

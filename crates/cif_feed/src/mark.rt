@@ -35,20 +35,20 @@ impl Transaction {
 pub(crate) struct TiplocMark {
     /// New for TI, Revised for TA, Deleted for TD.
     pub(crate) transaction: Transaction,
-    /// Columns 3 to 9. The profile line of a TA has its new TIPLOC there, if it has one.
+    /// Columns 3 to 9: the TIPLOC. The profile line of a TA has its new TIPLOC there, if it has one.
     pub(crate) tiploc: [u8; 7],
 }
 
 /// What an AA or a BS says beyond its profile line.
 #[derive(Clone, Copy, Debug, PartialEq, Eq)]
 pub(crate) struct RecordMark {
-    /// Column 3. The profile line has `N`.
+    /// Column 3: the transaction. The profile line has `N`.
     pub(crate) transaction: Transaction,
-    /// Column 80. The profile line of a deleted BS has `C`, so that no journey has to follow.
+    /// Column 80: the letter. The profile line of a deleted BS has `C`, so that no journey has to follow.
     pub(crate) letter: Stp,
     /// Whether the last date is `999999`. The profile line has the last day there is.
     pub(crate) open_end: bool,
-    /// Column 29 of a BS, where it is a code that may stand. The profile line has a space.
+    /// Column 29 of a BS: the holiday code, where one may stand. The profile line has a space.
     pub(crate) code: Option<HolidayCode>,
 }
 

@@ -28,7 +28,7 @@ impl ProfileLine {
     ghost use Rattle.cif_feed.specs.ProfileLine.{deleted_association_line, deleted_basic_line, tiploc_line};
     ghost use Rattle.cif_feed.specs.ProfileLine.{update_association_line, update_basic_line};
 
-    /// Of a line of this kind. `allowed` are the holiday codes that may stand in the feed.
+    /// The profile line of a line of this kind. `allowed` are the holiday codes that may stand in the feed.
     pub(crate) fn of(
         feed: Feed,
         allowed: HolidayCodes,
@@ -54,6 +54,7 @@ impl ProfileLine {
         }
     }
 
+    /// The line itself, without a mark.
     fn as_it_stands(line: Line) -> ProfileLine
         ensures { result ≡ as_it_stands line }
     {
@@ -63,6 +64,7 @@ impl ProfileLine {
         }
     }
 
+    /// The profile line of a TI, a TA or a TD with this transaction, which is read as the TI `read_as`.
     fn tiploc(transaction: Transaction, line: &Line, read_as: Line) -> ProfileLine
         ensures { result ≡ tiploc_line transaction line.now read_as }
     {
@@ -75,7 +77,7 @@ impl ProfileLine {
         }
     }
 
-    /// Of an AA with this transaction.
+    /// The profile line of an AA with this transaction.
     fn association(transaction: Transaction, line: &Line) -> ProfileLine
         ensures { result ≡ association_line transaction line.now }
     {
@@ -90,7 +92,7 @@ impl ProfileLine {
         }
     }
 
-    /// Of a BS with this transaction.
+    /// The profile line of a BS with this transaction.
     fn basic(allowed: HolidayCodes, transaction: Transaction, line: &Line) -> ProfileLine
         ensures { result ≡ basic_line allowed transaction line.now }
     {
@@ -110,7 +112,7 @@ impl ProfileLine {
         }
     }
 
-    /// Of an AA of an update.
+    /// The profile line of an AA of an update.
     fn update_association(line: &Line) -> ProfileLine
         ensures { result ≡ update_association_line line.now }
     {
@@ -125,7 +127,7 @@ impl ProfileLine {
         }
     }
 
-    /// Of a BS of an update.
+    /// The profile line of a BS of an update.
     fn update_basic(allowed: HolidayCodes, line: &Line) -> ProfileLine
         ensures { result ≡ update_basic_line allowed line.now }
     {
@@ -140,6 +142,7 @@ impl ProfileLine {
         }
     }
 
+    /// The profile line of an AA that is deleted.
     fn deleted_association(line: &Line) -> ProfileLine
         ensures { result ≡ deleted_association_line line.now }
     {
@@ -152,6 +155,7 @@ impl ProfileLine {
         }
     }
 
+    /// The profile line of a BS that is deleted.
     fn deleted_basic(line: &Line) -> ProfileLine
         ensures { result ≡ deleted_basic_line line.now }
     {

@@ -95,8 +95,8 @@ impl Reasons {
         sink.write_all(self.text().as_str().as_bytes())
     }
 
-    /// A law for proofs: a line is refused by itself as a record is. A content that is refused behind any
-    /// others, for what isn't one line too many or out of order, is refused for that by itself.
+    /// A law for proofs. A line judged by itself is refused as a record is. If a content is refused after
+    /// others, except as OutOfOrder or TooManyLines, it is refused by itself for the same reason.
     pub fn own_reasons()
         ensures lines { (line : List ℕ) → IsLine line → own_reason line ≡ record_refusal line }
         ensures refusals { (max : ℕ) (before : List (List ℕ)) (content : List ℕ) (why : Refusal)
@@ -127,7 +127,7 @@ impl Reasons {
     }
 }
 
-/// The line of a reason that so many lines have, the first of them this one; none where no line has it.
+/// The line for a reason: how many lines have it, and the first; empty if none has it.
 #[tactic(auto, unfolding(crate::specs::Reasons::reason_line))]
 fn line_of(why: Refusal, lines: u64, first: u64) -> ArrayString<LONGEST_LINE>
     ensures { result.bytes ≡ reason_line why lines first }
@@ -153,14 +153,14 @@ fn lines_word(lines: u64) -> &'static str
     if lines == 1 { " line" } else { " lines" }
 }
 
-/// The first line of those that have a reason, so many with this one as the first, and this line more.
+/// The first line with a reason, once `line` is counted too.
 fn first_of(lines: u64, first: u64, line: u64) -> u64
     ensures { result ≡ first_with lines first line }
 {
     if lines == 0 { line } else { first }
 }
 
-/// Where what is said of a reason stands.
+/// The index of a reason.
 fn place_of(why: Refusal) -> usize
     ensures place { result ≡ place_of why }
     ensures within { result < REFUSALS }

@@ -1,4 +1,4 @@
-//! By what an update knows a location, an association and a schedule.
+//! The keys by which an update finds records.
 ghost use Rattle.std.specs.Prelude.{◌≡◌};
 ghost use Rattle.cif_feed.specs.RecordKeys.{association_key, schedule_rank, tiploc_key};
 

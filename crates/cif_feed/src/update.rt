@@ -120,8 +120,8 @@ impl PublishedExtract {
     ghost use Rattle.cif_feed.specs.Updated.{AreRefusedLines, IsOfUpdate, IsUpdateFault, IsUpdated, IsUpdatedBy};
     ghost use Rattle.cif_feed.specs.Updated.{MayBeDone};
 
-    /// Does what the update says. Gives the lines that may not be done, in their order, each once; they are
-    /// done all the same.
+    /// Applies the update. Returns the lines that don't fit, in their order, each once; they are applied
+    /// anyway.
     pub fn update(&mut self, alloc: Global, update: Update) -> Result<Vec<RefusedLine>, AllocError>
         ensures updated { IfOk result (λ _.
             IsUpdated (update_parts update) (published_parts self.old) (published_parts self.new)) }
@@ -147,8 +147,8 @@ impl PublishedExtract {
         Ok(refused)
     }
 
-    /// Does what the update says that the source's contents spell, of which at most `max_lines` may come. Of an
-    /// update with a line that may not be done nothing is done, unless it is lenient.
+    /// Applies the update that the source's contents spell, of which at most `max_lines` may come. Of an
+    /// update with a line that doesn't fit nothing is applied, unless it is lenient.
     ///
     /// NotThere and AlreadyThere name the first such line; any other fault is one of reading the update. After
     /// a fault nothing is said of the published extract.
@@ -189,7 +189,7 @@ impl PublishedExtract {
 /// What an update did.
 #[derive(Drop)]
 pub struct Outcome {
-    /// The lines that may not be done, and were done all the same. There are none, unless it was lenient.
+    /// The lines that don't fit, and were applied anyway. There are none, unless it was lenient.
     pub waived: Vec<RefusedLine>,
     /// How many lines it has, by what they do.
     pub counts: UpdateCounts,
@@ -197,7 +197,7 @@ pub struct Outcome {
     pub passed: Passed,
 }
 
-/// What is answered of these lines that may not be done.
+/// What is answered of these lines that don't fit.
 fn answer_of(
     lenient: bool,
     waived: Vec<RefusedLine>,
@@ -230,7 +230,7 @@ pub struct UpdateCounts {
 }
 
 impl UpdateCounts {
-    /// Of an update with these marks.
+    /// The counts of an update with these marks.
     fn of(
         tiplocs: &[Numbered<TiplocMark>],
         associations: &[Numbered<RecordMark>],
@@ -345,7 +345,7 @@ fn push(
     Ok(())
 }
 
-/// What a line of this number does that puts this record, or deletes this key.
+/// The change that line `line` makes by its transaction: it puts this record, or deletes this key.
 fn change_by<K: Drop, R: Drop>(transaction: Transaction, line: u64, key: K, put: R) -> Change<K, R>
     ensures { result ≡ change_by transaction line key put }
 {

@@ -11,7 +11,7 @@ use cif_columns::{Line, LineTexts, Sink, WriteDevice, WriteFault};
 use cif_extract::{Body, write_head, write_tiploc, write_trailer};
 use cif_records::{Header, Tiploc};
 
-/// A record that has a text.
+/// A record that can be written.
 pub(crate) trait Written {
     ghost use Rattle.std.specs.Prelude.{ℕ, List};
 

@@ -18,7 +18,7 @@ use std::alloc::{AllocError, Global};
 /// `drops_clashes`. The answer is the clashes of these keys.
 ///
 /// The faults are those of `PublishedExtract::read`, and then Write; Memory where memory ran out. Nothing is
-/// written before the whole input is accepted and memory was had for all. What was read is left in
+/// written before the whole input is accepted and all memory is allocated. What was read is left in
 /// `kept`: to free each of its bodies takes time, which a program that ends right after this can spare.
 pub fn write_prepared<R: ReadDevice, W: WriteDevice>(
     alloc: Global,

@@ -15,7 +15,7 @@ use std::fmt;
 /// cancelled.
 #[derive(Drop, PartialEq, Eq)]
 pub struct Association {
-    /// Columns 4 to 15 and 38 to 46.
+    /// Columns 4 to 15 and 38 to 46: the key.
     pub key: AssocKey,
     /// Columns 16 to 21: the first date, by year, month and day.
     pub first: Day,
@@ -25,7 +25,7 @@ pub struct Association {
     pub days: DaysRun,
     /// Column 80: the indicator of short-term planning.
     pub letter: Stp,
-    /// Columns 35 to 37 and 47 to 48; absent exactly for a cancellation.
+    /// Columns 35 to 37 and 47 to 48: the body; absent exactly for a cancellation.
     pub body: Option<AssocBody>,
     ghost in_order: { first ≤ last },
     ghost bodied: { is_some body ≡ has_body letter },

@@ -26,7 +26,7 @@ pub struct Basic {
     pub days: DaysRun,
     /// Column 80: the indicator of short-term planning.
     pub letter: Stp,
-    /// Columns 30 to 78; absent exactly for a cancellation.
+    /// Columns 30 to 78: the detail; absent exactly for a cancellation.
     pub detail: Option<Detail>,
     ghost in_order: { first ≤ last },
     ghost bodied: { is_some detail ≡ has_body letter },

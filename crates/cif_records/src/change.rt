@@ -19,7 +19,7 @@ pub struct Change {
     pub category: Text<2>,
     /// Columns 13 to 16: the train identity.
     pub identity: Text<4>,
-    /// Columns 17 to 20.
+    /// Columns 17 to 20: the headcode.
     pub headcode: Text<4>,
     /// Column 21: the course indicator.
     pub course: Text<1>,
@@ -37,9 +37,9 @@ pub struct Change {
     pub characteristics: Text<6>,
     /// Column 47: the train class.
     pub class: Text<1>,
-    /// Column 48.
+    /// Column 48: the sleepers.
     pub sleepers: Text<1>,
-    /// Column 49.
+    /// Column 49: the reservations.
     pub reservations: Text<1>,
     /// Column 50: the connection indicator.
     pub connection: Text<1>,

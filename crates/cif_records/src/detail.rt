@@ -20,7 +20,7 @@ pub struct Detail {
     pub category: Text<2>,
     /// Columns 33 to 36: the train identity.
     pub identity: Text<4>,
-    /// Columns 37 to 40.
+    /// Columns 37 to 40: the headcode.
     pub headcode: Text<4>,
     /// Column 41: the course indicator.
     pub course: Text<1>,
@@ -38,9 +38,9 @@ pub struct Detail {
     pub characteristics: Text<6>,
     /// Column 67: the train class.
     pub class: Text<1>,
-    /// Column 68.
+    /// Column 68: the sleepers.
     pub sleepers: Text<1>,
-    /// Column 69.
+    /// Column 69: the reservations.
     pub reservations: Text<1>,
     /// Column 70: the connection indicator.
     pub connection: Text<1>,

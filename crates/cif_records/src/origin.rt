@@ -21,7 +21,7 @@ pub struct Origin {
     pub departure: WorkTime,
     /// Columns 16 to 19: the public departure.
     pub public_departure: PublicTime,
-    /// Columns 20 to 22.
+    /// Columns 20 to 22: the platform.
     pub platform: Text<3>,
     /// Columns 23 to 25: the line that is taken.
     pub line: Text<3>,

@@ -29,7 +29,7 @@ pub struct Stop {
     pub public_arrival: PublicTime,
     /// Columns 30 to 33: the public departure.
     pub public_departure: PublicTime,
-    /// Columns 34 to 36.
+    /// Columns 34 to 36: the platform.
     pub platform: Text<3>,
     /// Columns 37 to 39: the line that is taken on departure.
     pub line: Text<3>,

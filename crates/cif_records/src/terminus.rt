@@ -21,7 +21,7 @@ pub struct Terminus {
     pub arrival: WorkTime,
     /// Columns 16 to 19: the public arrival.
     pub public_arrival: PublicTime,
-    /// Columns 20 to 22.
+    /// Columns 20 to 22: the platform.
     pub platform: Text<3>,
     /// Columns 23 to 25: the line that is taken on arrival.
     pub path: Text<3>,

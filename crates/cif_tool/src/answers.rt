@@ -92,8 +92,8 @@ pub fn answer_check<R: ReadDevice, W: WriteDevice>(
     finish(written, sink, DONE)
 }
 
-/// Writes which reasons the lines of what the source gives have to be refused, each by itself, how many
-/// lines have each, and the first of them, and answers status 3. If none has, it answers as `check` does.
+/// Judges each line by itself, and writes each reason with the number of lines that have it and the first
+/// of them, at status 3. If no line has one, it answers as `check` does.
 pub fn answer_check_all<R: ReadDevice, W: WriteDevice>(
     alloc: Global,
     source: &mut Source<R>,

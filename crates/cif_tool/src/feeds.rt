@@ -65,7 +65,7 @@ pub(crate) fn feed_task<R: Files + Input + Print + AllocGlobal, W: WriteDevice>(
 /// What goes to the standard error after the answer.
 #[derive(Drop)]
 struct Told {
-    /// The lines that may not be done, and were done all the same.
+    /// The lines that don't fit, and were applied anyway.
     waived: Vec<RefusedLine>,
     /// The clashes whose records were left out.
     dropped: Vec<Clash>,

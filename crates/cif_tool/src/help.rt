@@ -25,7 +25,7 @@ pub(crate) const NORMALISE_MORE: &str = "\
 Prints an extract of permanent records only. On each date at most one record of
 a train or an association applies. If the input is refused, prints nothing.
 Form 1 joins weeks that have the same days. Form 2 also joins a week that the
-window cuts, if the days that are left of it are alike.
+window cuts, if its remaining days match the other week's.
 
 Example:
   cif normalise --from 260105 --to 260118 extract.cif > canonical.cif
@@ -45,7 +45,7 @@ With --all each line is judged by itself first, even if an earlier one is
 refused. If some are refused, prints a line for each reason instead:
   REASON: N lines, first at line L
 Form 1 joins weeks that have the same days. Form 2 also joins a week that the
-window cuts, if the days that are left of it are alike.
+window cuts, if its remaining days match the other week's.
 
 Examples:
   cif check extract.cif
@@ -132,9 +132,9 @@ pub(crate) const TRAIN: &str = "Lists the schedules of one train";
 pub(crate) const TRAIN_MORE: &str = "\
 Prints a line for each schedule that the train has in the canonical extract:
   FIRST LAST DAYS IDENTITY ORIGIN DEPARTURE PLATFORM TERMINUS ARRIVAL PLATFORM
---stops and --format tsv are as of `cif day`.
+--stops and --format tsv work as in `cif day`.
 Form 1 joins weeks that have the same days. Form 2 also joins a week that the
-window cuts, if the days that are left of it are alike.
+window cuts, if its remaining days match the other week's.
 
 Example:
   cif train C00123 extract.cif
@@ -154,7 +154,7 @@ its associations first:
   MARK BS LETTER FIRST LAST DAYS and what `cif day` prints after BS
 MARK is `wins`, `hidden` (a record with an earlier letter wins) or `clash`
 (two winners differ). A cancellation (letter C) has only the UID there, and one
-of an association only its key. --format tsv prints a table, as of `cif day`.
+of an association only its key. --format tsv prints a table, as `cif day` does.
 
 Example:
   cif explain C00123 260114 extract.cif
@@ -169,7 +169,7 @@ pub(crate) const CLASHES: &str = "Lists the clashes of an extract";
 
 pub(crate) const CLASHES_MORE: &str = "\
 Prints a line for each train or association with a clash in the window, with
-the first date on which two records of the same rank contradict each other:
+the first date on which two winning records differ:
   association [BASE][OTHER][LOCATION][SUFFIX][SUFFIX] on YYMMDD
   train [UID] on YYMMDD
 If there is none, prints nothing.
@@ -198,7 +198,7 @@ Prints field names in the first line, and then a row for each of these:
 Tabs separate fields, and dates are YYYY-MM-DD. The six tables together say what
 the canonical extract says.
 Form 1 joins weeks that have the same days. Form 2 also joins a week that the
-window cuts, if the days that are left of it are alike.
+window cuts, if its remaining days match the other week's.
 
 Examples:
   cif table schedules extract.cif > schedules.tsv
@@ -222,7 +222,7 @@ P, O and N are the letters of the records that win: the train runs. On the other
 dates of the window it doesn't:
   C  it is cancelled
   .  no record applies
-  !  records of the same rank contradict each other
+  !  winning records differ
 
 Example:
   cif calendar C00123 extract.cif

@@ -16,7 +16,7 @@ use std::rt::Files;
 use std::{env, io, mem};
 
 const NOT_TEXT: &str =
-    "error: an argument is no text in UTF-8\n\nFor more information, try '--help'.\n";
+    "error: an argument isn't valid UTF-8\n\nFor more information, try '--help'.\n";
 
 /// Does what the words of the process ask for, and returns the status to exit with. Fault lines go
 /// to `errors`; that one can't be written changes no status.

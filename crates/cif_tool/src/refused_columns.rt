@@ -23,6 +23,10 @@ const WORKING: &str = "a working time is HHMM, then a space or H";
 
 const PUBLIC: &str = "a public time is HHMM";
 
+const FULL_HEADER: &str = "must be F, of a full extract";
+
+const FULL_RECORD: &str = "must be N, of a full extract";
+
 const UPDATE: &str = "this is an update extract, not a full one";
 
 /// For which columns a reason can refuse a line: with which letters the line begins, the reason, the first and the
@@ -30,9 +34,9 @@ const UPDATE: &str = "this is an update extract, not a full one";
 static TABLE: [(&str, Refusal, usize, usize, &str); 31] = [
     ("", Refusal::UnknownRecord, 1, 2, IDENTITY),
     ("", Refusal::OutOfOrder, 1, 2, PLACE),
-    ("HD", Refusal::NotFull, 47, 47, UPDATE),
-    ("AA", Refusal::NotFull, 3, 3, UPDATE),
-    ("BS", Refusal::NotFull, 3, 3, UPDATE),
+    ("HD", Refusal::NotFull, 47, 47, FULL_HEADER),
+    ("AA", Refusal::NotFull, 3, 3, FULL_RECORD),
+    ("BS", Refusal::NotFull, 3, 3, FULL_RECORD),
     ("T", Refusal::NotFull, 1, 2, UPDATE),
     ("HD", Refusal::BadDate, 49, 54, DDMMYY),
     ("HD", Refusal::BadDate, 55, 60, DDMMYY),

@@ -14,7 +14,7 @@ pub const DONE: u8 = 0;
 /// The extracts that were compared don't say the same; of `clashes`, that there are some.
 pub const DIFFERENT: u8 = 1;
 
-/// The words of the call are mistaken.
+/// The command line is wrong.
 pub const USAGE_ERROR: u8 = 2;
 
 /// An input is refused, or a date that was asked for; of `check --all`, that lines have reasons.

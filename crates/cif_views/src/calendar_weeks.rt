@@ -24,7 +24,7 @@ const LINE: usize = 15;
 /// character for each date. That is the letter of the records that win, `!` where they differ, `.` where no
 /// record applies, and a space outside the window.
 ///
-/// A clash is no fault: only Memory and Write come. Nothing is written before all memory is had.
+/// A clash is no fault: only Memory and Write come. All memory is allocated before anything is written.
 pub fn week_calendar<W: WriteDevice>(
     alloc: Global,
     extract: &Extract,

@@ -34,7 +34,7 @@ use std::alloc::Global;
 /// that of the extract.
 ///
 /// OutsideWindow comes where the day isn't in the extract's window, and then Memory, and Write. A
-/// clash is no fault. Nothing is written before all memory is had.
+/// clash is no fault. All memory is allocated before anything is written.
 pub fn explain_view<W: WriteDevice>(
     alloc: Global,
     extract: &Extract,

@@ -341,7 +341,7 @@ pub(crate) fn kind_of_line(line: &Line) -> JourneyKind
     }
 }
 
-/// The number of the next call behind a line of this kind; before the line it is this one.
+/// The number of the next call after a line of this kind, where before it that number is `call`.
 pub(crate) fn call_after(call: usize, kind: JourneyKind) -> usize
     requires { call ≤ 2 ^ 63 }
     ensures { result ≡ cond (is_call kind) (call + 1) call }

@@ -10,7 +10,7 @@ pub record Window : Type 0 where
 abbrev pub window_from : ℕ → ℕ → Window
 window_from first last = record { first = first; last = last }
 
--- day n lies in the window; so do its first day and its last
+-- day n lies in the window, which has its first day and its last
 pub record IsWithin (window : Window) (n : ℕ) : Type 0 where
   pub from : window.first ≤ n
   pub upto : n ≤ window.last

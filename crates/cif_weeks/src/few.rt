@@ -17,7 +17,7 @@ use arrayvec::ArrayVec;
 use cif_calendar::{Entry, Window, same_body};
 use std::alloc::AllocError;
 
-/// How many records are few.
+/// The most records for which runs are made without a calendar.
 const FEW: usize = 8;
 
 /// Whether nothing is left to be added for a span: it has no body, or a span before it has the same.

@@ -1,4 +1,4 @@
-//! What a record has of the days of a window, week by week.
+//! The days of a window on which a record applies, week by week.
 
 ghost use Rattle.std.specs.Prelude.{◌≡◌, ◌<◌, ◌≤◌, ◌+◌, ◌*◌, ◌↔◌, IfNone, IfSome, ℕ, length, max, min};
 ghost use Rattle.cif_columns.specs.DaysRun.{RunsOn};
@@ -30,7 +30,7 @@ pub(crate) struct Span {
 }
 
 impl Default for Span {
-    /// What stands in a list's places that aren't used.
+    /// Fills unused places of a list.
     fn default() -> Span {
         let none = no_days();
         Span {

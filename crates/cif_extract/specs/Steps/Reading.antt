@@ -1,4 +1,4 @@
--- What a reading has come to, for the contracts of the reader's own steps. No clause of a public function cites it.
+-- What a reading has come to, for the contracts of the reader's own steps. Of public functions only those of `Reading` cite it.
 use Rattle.std.specs.Prelude.{◌≡◌, refl, ◌⊎◌, ℕ, Bool, List, [], ◌∷◌, ◌++◌, Option, None, Some, Result, Ok, Err, IfSome, is_some}
 use Rattle.std.specs.Prelude.{map, true, false}
 use Rattle.cif_columns.specs.Field.{AllStandIn, plain_line}
