@@ -18,55 +18,101 @@ use std::alloc::Global;
 use std::rt::Files;
 use std::{io, str};
 
-/// Says more of the answer to the job, or what helps with its fault: `written` says what became of the
-/// output. A job with one input has read nothing of `right`.
-pub(crate) fn advise<R: Files + Input, W: WriteDevice>(
-    alloc: Global,
-    job: &Job,
-    answer: &Result<u8, Fault>,
-    written: &Written,
-    left: &ExtractInput<'_, R>,
-    right: &ExtractInput<'_, R>,
-    kept: &mut Kept,
-    errors: &mut Sink<W>,
-) {
-    let mut message = Message::new(alloc);
-    match answer {
-        Ok(_) => add_answer(job, written, left, right, kept, &mut message),
-        Err(fault) => add_advice(alloc, fault, written, left, right, kept, &mut message),
-    }
-    message.tell(errors);
+/// A job that was done.
+#[derive(Drop)]
+pub(crate) struct DoneJob<'a, 'b, R: Files + Input> {
+    pub(crate) job: &'a Job,
+    /// What became of the output.
+    pub(crate) written: &'a Written,
+    pub(crate) left: &'a ExtractInput<'b, R>,
+    /// A job with one input has read nothing of it.
+    pub(crate) right: &'a ExtractInput<'b, R>,
+    pub(crate) kept: &'a mut Kept,
 }
 
-/// Adds what is said of the answer.
-fn add_answer<R: Files + Input>(
-    job: &Job,
-    written: &Written,
-    left: &ExtractInput<'_, R>,
-    right: &ExtractInput<'_, R>,
-    kept: &Kept,
-    message: &mut Message,
-) {
-    if let Some(reasons) = &kept.reasons {
-        add_input(left, message);
-        add_reasons(reasons, message);
-        return;
-    }
-    add_window_of(left, message);
-    add_window_of(right, message);
-    if let Some(extract) = &kept.left {
-        match job {
-            Job::Train { uid, listing, .. } if !has_row(listing.format, written) => {
-                add_records_of(extract, uid, message);
-            }
-            Job::Explain { uid, format, .. } if !has_row(*format, written) => {
-                add_records_of(extract, uid, message);
-            }
-            Job::Calendar { uid, .. } if !has_schedule(extract, uid) => {
-                add_records_of(extract, uid, message);
-            }
-            _ => {}
+impl<R: Files + Input> DoneJob<'_, '_, R> {
+    /// Says more of the answer, or what helps with its fault.
+    pub(crate) fn advise<W: WriteDevice>(
+        &mut self,
+        alloc: Global,
+        answer: &Result<u8, Fault>,
+        errors: &mut Sink<W>,
+    ) {
+        let mut message = Message::new(alloc);
+        match answer {
+            Ok(_) => self.add_answer(&mut message),
+            Err(fault) => self.add_advice(alloc, fault, &mut message),
         }
+        message.tell(errors);
+    }
+
+    /// Adds what is said of the answer.
+    fn add_answer(&self, message: &mut Message) {
+        if let Some(reasons) = &self.kept.reasons {
+            add_input(self.left, message);
+            add_reasons(reasons, message);
+            return;
+        }
+        add_window_of(self.left, message);
+        add_window_of(self.right, message);
+        if let Some(extract) = &self.kept.left {
+            match self.job {
+                Job::Train { uid, listing, .. } if !has_row(listing.format, self.written) => {
+                    add_records_of(extract, uid, message);
+                }
+                Job::Explain { uid, format, .. } if !has_row(*format, self.written) => {
+                    add_records_of(extract, uid, message);
+                }
+                Job::Calendar { uid, .. } if !has_schedule(extract, uid) => {
+                    add_records_of(extract, uid, message);
+                }
+                _ => {}
+            }
+        }
+    }
+
+    /// Adds what helps with a fault.
+    fn add_advice(&mut self, alloc: Global, fault: &Fault, message: &mut Message) {
+        let last = if self.right.is_touched() {
+            self.right
+        } else {
+            self.left
+        };
+        match fault {
+            Fault::OutsideWindow | Fault::WindowsDiffer => {
+                add_window_of(self.left, message);
+                add_window_of(self.right, message);
+                if let Fault::WindowsDiffer = fault {
+                    message.line(&["--common compares the dates that both have"]);
+                }
+            }
+            Fault::WindowReversed => {
+                message.line(&["the date of --from is after the date of --to"]);
+            }
+            Fault::Refused { line, why } => {
+                add_refusal(last, *line, *why, Reader::Extracts, message);
+            }
+            Fault::Read => add_failure(alloc, last.side(), last.name(), last.failure, message),
+            Fault::Write => add_write_failure(alloc, self.written, message),
+            Fault::Ambiguous(clash) => {
+                let _ = self.add_clash(alloc, clash, message);
+            }
+            Fault::Memory => {}
+        }
+    }
+
+    /// Adds which records clash, and of which input: the left one is looked at first, as `compare` and
+    /// `differences` do. Whether one has the clash; Memory where that isn't known.
+    fn add_clash(
+        &mut self,
+        alloc: Global,
+        clash: &Clash,
+        message: &mut Message,
+    ) -> Result<bool, Fault> {
+        if add_records(alloc, clash, self.left, &mut self.kept.left, message)? {
+            return Ok(true);
+        }
+        add_records(alloc, clash, self.right, &mut self.kept.right, message)
     }
 }
 
@@ -109,40 +155,6 @@ fn add_records_of(extract: &Extract, uid: &Uid, message: &mut Message) {
     } else {
         "no record has this UID"
     }]);
-}
-
-/// Adds what helps with a fault.
-fn add_advice<'a, 'b, R: Files + Input>(
-    alloc: Global,
-    fault: &Fault,
-    written: &Written,
-    left: &'a ExtractInput<'b, R>,
-    right: &'a ExtractInput<'b, R>,
-    kept: &mut Kept,
-    message: &mut Message,
-) {
-    let last = if right.is_touched() { right } else { left };
-    match fault {
-        Fault::OutsideWindow | Fault::WindowsDiffer => {
-            add_window_of(left, message);
-            add_window_of(right, message);
-            if let Fault::WindowsDiffer = fault {
-                message.line(&["--common compares the dates that both have"]);
-            }
-        }
-        Fault::WindowReversed => {
-            message.line(&["the date of --from is after the date of --to"]);
-        }
-        Fault::Refused { line, why } => {
-            add_refusal(last, *line, *why, Reader::Extracts, message);
-        }
-        Fault::Read => add_failure(alloc, last.side(), last.name(), last.failure, message),
-        Fault::Write => add_write_failure(alloc, written, message),
-        Fault::Ambiguous(clash) => {
-            let _ = add_clash(alloc, clash, left, right, kept, message);
-        }
-        Fault::Memory => {}
-    }
 }
 
 /// Adds what helps with a fault of a published extract or of an update, which this input gave, or the
@@ -236,22 +248,6 @@ pub(crate) fn add_window(side: &str, name: &str, header: &Header, message: &mut 
 }
 
 // ---- a clash
-
-/// Adds which records clash, and of which input: the left one is looked at first, as `compare` and
-/// `differences` do. Whether one has the clash; Memory where that isn't known.
-fn add_clash<R: Files + Input>(
-    alloc: Global,
-    clash: &Clash,
-    left: &ExtractInput<'_, R>,
-    right: &ExtractInput<'_, R>,
-    kept: &mut Kept,
-    message: &mut Message,
-) -> Result<bool, Fault> {
-    if add_records(alloc, clash, left, &mut kept.left, message)? {
-        return Ok(true);
-    }
-    add_records(alloc, clash, right, &mut kept.right, message)
-}
 
 /// Adds which records of the clash's key clash in this extract; whether any do. The extract loses those of
 /// other keys.

@@ -1,6 +1,6 @@
 //! From the words of the process to its status. No clause says what is done here: the rows of `tests/`
 //! show it on the built program.
-use crate::advice::{advise, advise_on_word, must_be};
+use crate::advice::{DoneJob, advise_on_word, must_be};
 use crate::answers::{Kept, answer};
 use crate::devices::{ExtractInput, Output, Written, buffered};
 use crate::feeds::feed_task;
@@ -109,16 +109,14 @@ fn done<R: Files + Input + Print + AllocGlobal, W: WriteDevice>(
     let answer = answered(alloc, job, &mut left, &mut right, output, &mut kept);
     let status = end(&answer, errors);
     if verbose {
-        advise(
-            alloc,
+        let mut done_job = DoneJob {
             job,
-            &answer,
-            &written,
-            left.reader(),
-            right.reader(),
-            &mut kept,
-            errors,
-        );
+            written: &written,
+            left: left.reader(),
+            right: right.reader(),
+            kept: &mut kept,
+        };
+        done_job.advise(alloc, &answer, errors);
     }
     // The process ends after this: the system takes back the memory of all bodies at once.
     mem::forget(kept);
