@@ -92,7 +92,7 @@ impl<R: Files + Input> DoneJob<'_, '_, R> {
             Fault::Refused { line, why } => {
                 add_refusal(last, *line, *why, Reader::Extracts, message);
             }
-            Fault::Read => add_failure(alloc, last.side(), last.name(), last.failure, message),
+            Fault::Read => add_read_failure(alloc, last, message),
             Fault::Write => add_write_failure(alloc, self.written, message),
             Fault::Ambiguous(clash) => {
                 let _ = self.add_clash(alloc, clash, message);
@@ -171,7 +171,7 @@ pub(crate) fn add_feed_fault<R: Files + Input>(
             add_refusal(input, *line, *why, Reader::Feeds, message);
         }
         FeedFault::Extract(Fault::Read) => {
-            add_failure(alloc, input.side(), input.name(), input.failure, message);
+            add_read_failure(alloc, input, message);
         }
         FeedFault::Extract(Fault::Write) => add_write_failure(alloc, written, message),
         FeedFault::Extract(_) => {}
@@ -206,40 +206,61 @@ pub(crate) fn add_holiday_line<R: Files + Input>(
 
 /// Adds which input it is about.
 fn add_input<R: Files + Input>(input: &ExtractInput<'_, R>, message: &mut Message) {
-    message.line(&["in ", input.side(), input.name()]);
+    message.line(&["in ", input.side(), input.name(), input.side_end()]);
 }
 
-/// Adds what wasn't read or written, and why if the system told it, by the number of the error.
-fn add_failure(alloc: Global, side: &str, name: &str, failure: Option<i32>, message: &mut Message) {
-    let reason = match failure {
-        Some(number) => io::Error::from_raw_os_error(number).to_string(alloc).ok(),
-        None => None,
-    };
-    match reason {
-        Some(reason) => message.line(&["in ", side, name, ": ", reason.as_str()]),
-        None => message.line(&["in ", side, name]),
+/// Adds what wasn't read, and why if the system told it.
+fn add_read_failure<R: Files + Input>(
+    alloc: Global,
+    input: &ExtractInput<'_, R>,
+    message: &mut Message,
+) {
+    match reason_of(alloc, input.failure) {
+        Some(reason) => message.line(&[
+            "in ",
+            input.side(),
+            input.name(),
+            input.side_end(),
+            ": ",
+            reason.as_str(),
+        ]),
+        None => add_input(input, message),
     }
 }
 
 /// Adds that the output wasn't written, and why if the system told it.
 pub(crate) fn add_write_failure(alloc: Global, written: &Written, message: &mut Message) {
-    add_failure(alloc, "", "standard output", written.failure, message);
+    match reason_of(alloc, written.failure) {
+        Some(reason) => message.line(&["in standard output: ", reason.as_str()]),
+        None => message.line(&["in standard output"]),
+    }
+}
+
+/// What the system says of the error of this number, if it told one.
+fn reason_of(alloc: Global, failure: Option<i32>) -> Option<String> {
+    let number = failure?;
+    io::Error::from_raw_os_error(number).to_string(alloc).ok()
 }
 
 /// Adds the window of the input, if it begins with a header.
 fn add_window_of<R: Files + Input>(input: &ExtractInput<'_, R>, message: &mut Message) {
     if let Some(header) = input.header() {
-        add_window(input.side(), input.name(), &header, message);
+        add_window(input, &header, message);
     }
 }
 
 /// Adds the window of an input with this header.
-pub(crate) fn add_window(side: &str, name: &str, header: &Header, message: &mut Message) {
+pub(crate) fn add_window<R: Files + Input>(
+    input: &ExtractInput<'_, R>,
+    header: &Header,
+    message: &mut Message,
+) {
     let first = header.first.to_yymmdd();
     let last = header.last.to_yymmdd();
     message.line(&[
-        side,
-        name,
+        input.side(),
+        input.name(),
+        input.side_end(),
         " has the window ",
         as_text(&first),
         " to ",

@@ -19,7 +19,7 @@ pub(crate) const START: usize = LINE_WIDTH + 2;
 /// be opened is one that can't be read.
 #[derive(Drop)]
 pub(crate) struct ExtractInput<'a, R: Files + Input> {
-    /// What the user knows it by: of two inputs the side, and the file's name.
+    /// What the user knows it by: of several inputs which it is, and the file's name.
     side: &'static str,
     name: &'a str,
     device: Device<'a, R>,
@@ -56,7 +56,7 @@ impl<'a, R: Files + Input> ExtractInput<'a, R> {
         }
     }
 
-    /// Of two inputs the side, with what separates it from the name.
+    /// Of several inputs which one it is, and a bracket that opens.
     pub(crate) fn side(&self) -> &str {
         self.side
     }
@@ -64,6 +64,11 @@ impl<'a, R: Files + Input> ExtractInput<'a, R> {
     /// The file's name.
     pub(crate) fn name(&self) -> &str {
         self.name
+    }
+
+    /// The bracket that closes behind the name, if `side` opens one.
+    pub(crate) fn side_end(&self) -> &str {
+        if self.side.is_empty() { "" } else { ")" }
     }
 
     /// Whether it was read.
