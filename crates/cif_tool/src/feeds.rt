@@ -426,8 +426,11 @@ fn add_outcome<R: Files + Input>(
     let mut text = counts_of(&outcome.passed, done.open_ends);
     let _ = write!(
         text,
-        ", put: {}, revised: {}, taken out: {}",
-        done.put, done.revised, done.taken_out
+        ", lines new: {}, revised: {}, deleted: {}, waived: {}",
+        done.put,
+        done.revised,
+        done.taken_out,
+        outcome.waived.len()
     );
     add_counts(input, header, &text, counts);
 }
