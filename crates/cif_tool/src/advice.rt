@@ -500,7 +500,12 @@ fn add_line(line: &LineAgain, why: Refusal, reader: Reader, message: &mut Messag
     match (why, reader) {
         (Refusal::BadLength, _) => add_length(line.length, line.known, message),
         (Refusal::BankHoliday, Reader::Feeds) => {
-            add_columns(29, 29, "a holiday code is a space, X, E or G", message);
+            let what = if has_holiday_code(line) {
+                "--holidays doesn't name this code"
+            } else {
+                "a holiday code is a space, X, E or G"
+            };
+            add_columns(29, 29, what, message);
         }
         _ => {
             if let Some((first, last, what)) = columns_refused(line.bytes.as_slice(), why) {
