@@ -201,7 +201,9 @@ pub(crate) fn add_holiday_line<R: Files + Input>(
     if let Some(line) = refused_line(input, line) {
         message.line(&[shown(line.bytes.as_slice()).as_str()]);
     }
-    message.line(&["a line has a code, X, E or G, and dates YYMMDD; # begins a remark"]);
+    message.line(&[
+        "a line has a code, X, E or G, and dates YYMMDD, in at most 1,000 bytes; # begins a remark",
+    ]);
 }
 
 /// Adds which input it is about.
