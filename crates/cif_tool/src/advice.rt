@@ -82,7 +82,9 @@ impl<R: Files + Input> DoneJob<'_, '_, R> {
             Fault::OutsideWindow | Fault::WindowsDiffer => {
                 add_window_of(self.left, message);
                 add_window_of(self.right, message);
-                if let Fault::WindowsDiffer = fault {
+                if are_apart(self.left, self.right) {
+                    message.line(&["they have no date in common"]);
+                } else if let Fault::WindowsDiffer = fault {
                     message.line(&["--common compares the dates that both have"]);
                 }
             }
@@ -287,6 +289,14 @@ fn add_records<R: Files + Input>(
     let mut view = Sink::new(Vec::new(alloc));
     match clash {
         Clash::Association(key, day) => {
+/// Whether both inputs begin with a header, and their windows have no date in common.
+fn are_apart<R: Files + Input>(left: &ExtractInput<'_, R>, right: &ExtractInput<'_, R>) -> bool {
+    match (left.header(), right.header()) {
+        (Some(left), Some(right)) => left.last < right.first || right.last < left.first,
+        _ => false,
+    }
+}
+
             extract.schedules.clear();
             extract.associations.retain(|one| one.key == *key);
             explain_view(alloc, extract, &key.base, *day, &mut view)?;
