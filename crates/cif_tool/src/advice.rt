@@ -50,7 +50,7 @@ impl<R: Files + Input> DoneJob<'_, '_, R> {
     fn add_answer(&self, message: &mut Message) {
         if let Some(reasons) = &self.kept.reasons {
             add_input(self.left, message);
-            add_reasons(reasons, message);
+            add_reasons(self.left, reasons, message);
             return;
         }
         add_window_of(self.left, message);
@@ -118,15 +118,51 @@ impl<R: Files + Input> DoneJob<'_, '_, R> {
     }
 }
 
-/// Adds the commands that read lines which have these reasons.
-fn add_reasons(reasons: &Reasons, message: &mut Message) {
-    for why in [Refusal::NotFull, Refusal::OpenEnd, Refusal::BankHoliday] {
-        if reasons.lines(why) > 0 {
-            if let Some(command) = command_for(why) {
-                message.line(&[command]);
+/// Adds the commands that accept the first lines with these reasons.
+fn add_reasons<R: Files + Input>(
+    input: &ExtractInput<'_, R>,
+    reasons: &Reasons,
+    message: &mut Message,
+) {
+    if reasons.lines(Refusal::NotFull) > 0 {
+        let line = refused_line(input, reasons.first(Refusal::NotFull));
+        match &line {
+            Some(line) if is_of_update(line) => {
+                // `prepare` refuses an update.
+                message.line(&[UPDATE]);
+                return;
             }
+            Some(_) => {}
+            None => message.line(&[UPDATE]),
         }
     }
+    let mut told = "";
+    for why in [
+        Refusal::OpenEnd,
+        Refusal::BadLength,
+        Refusal::UnknownRecord,
+        Refusal::BankHoliday,
+    ] {
+        if let Some(command) = command_for_first(input, reasons, why) {
+            if command != told {
+                message.line(&[command]);
+            }
+            told = command;
+        }
+    }
+}
+
+/// The command that accepts the first line with this reason, if one has it.
+fn command_for_first<R: Files + Input>(
+    input: &ExtractInput<'_, R>,
+    reasons: &Reasons,
+    why: Refusal,
+) -> Option<&'static str> {
+    if reasons.lines(why) == 0 {
+        return None;
+    }
+    let line = refused_line(input, reasons.first(why));
+    command_for(line.as_ref(), why)
 }
 
 /// Whether there is a line in the output that isn't the heading of a table.
@@ -253,6 +289,14 @@ fn add_window_of<R: Files + Input>(input: &ExtractInput<'_, R>, message: &mut Me
     }
 }
 
+/// Whether both inputs begin with a header, and their windows have no date in common.
+fn are_apart<R: Files + Input>(left: &ExtractInput<'_, R>, right: &ExtractInput<'_, R>) -> bool {
+    match (left.header(), right.header()) {
+        (Some(left), Some(right)) => left.last < right.first || right.last < left.first,
+        _ => false,
+    }
+}
+
 /// Adds the window of an input with this header.
 pub(crate) fn add_window<R: Files + Input>(
     input: &ExtractInput<'_, R>,
@@ -289,14 +333,6 @@ fn add_records<R: Files + Input>(
     let mut view = Sink::new(Vec::new(alloc));
     match clash {
         Clash::Association(key, day) => {
-/// Whether both inputs begin with a header, and their windows have no date in common.
-fn are_apart<R: Files + Input>(left: &ExtractInput<'_, R>, right: &ExtractInput<'_, R>) -> bool {
-    match (left.header(), right.header()) {
-        (Some(left), Some(right)) => left.last < right.first || right.last < left.first,
-        _ => false,
-    }
-}
-
             extract.schedules.clear();
             extract.associations.retain(|one| one.key == *key);
             explain_view(alloc, extract, &key.base, *day, &mut view)?;
@@ -402,53 +438,54 @@ fn add_refusal<R: Files + Input>(
             if let Some(line) = &line {
                 add_line(line, why, reader, message);
             }
-            let bytes = line.as_ref().map_or(&[][..], |line| line.bytes.as_slice());
-            if let Some(hint) = hint_for(bytes, why, reader) {
-                message.line(&[hint]);
+            if reader == Reader::Extracts || why == Refusal::NotFull {
+                if let Some(command) = command_for(line.as_ref(), why) {
+                    message.line(&[command]);
+                }
             }
         }
-    }
-}
-
-/// What to do about such a line.
-fn hint_for(line: &[u8], why: Refusal, reader: Reader) -> Option<&'static str> {
-    match (why, reader) {
-        (Refusal::NotFull, _) => {
-            if is_of_update(line) {
-                command_for(why)
-            } else {
-                None
-            }
-        }
-        (Refusal::BankHoliday, Reader::Feeds) => {
-            let code = line.get(28).and_then(|column| HolidayCode::read(*column));
-            code.map(|_| "--holidays doesn't name this code")
-        }
-        (_, Reader::Feeds) => None,
-        (Refusal::UnknownRecord, _) if line.starts_with(b"TN") || line.starts_with(b"LN") => {
-            Some(PREPARE)
-        }
-        _ if line.starts_with(b"/!!") => Some(PREPARE),
-        _ => command_for(why),
     }
 }
 
 const PREPARE: &str = "cif prepare makes an extract of a published one";
 
-/// The command that reads lines which are refused for this reason.
-fn command_for(why: Refusal) -> Option<&'static str> {
-    match why {
-        Refusal::BankHoliday => {
-            Some("cif prepare --holidays FILE makes an extract of a published one")
+const PREPARE_WITH_HOLIDAYS: &str =
+    "cif prepare --holidays FILE makes an extract of a published one";
+
+const UPDATE: &str = "cif update applies an update to a full extract";
+
+/// The command that accepts a line which others refuse for this reason, if there is one. Of a line that
+/// isn't known the reason alone decides.
+fn command_for(line: Option<&LineAgain>, why: Refusal) -> Option<&'static str> {
+    match (why, line) {
+        (Refusal::OpenEnd, _) => Some(PREPARE),
+        (Refusal::BankHoliday, None) => Some(PREPARE_WITH_HOLIDAYS),
+        (Refusal::BankHoliday, Some(line)) if has_holiday_code(line) => Some(PREPARE_WITH_HOLIDAYS),
+        (Refusal::UnknownRecord, Some(line)) if is_note(line) => Some(PREPARE),
+        (Refusal::BadLength | Refusal::UnknownRecord, Some(line)) if line.is_comment() => {
+            Some(PREPARE)
         }
-        Refusal::OpenEnd => Some(PREPARE),
-        Refusal::NotFull => Some("cif update applies an update to a full extract"),
+        (Refusal::NotFull, Some(line)) if is_of_update(line) => Some(UPDATE),
         _ => None,
     }
 }
 
+/// Whether the line, which has eighty columns, is a note.
+fn is_note(line: &LineAgain) -> bool {
+    line.bytes.starts_with(b"TN") || line.bytes.starts_with(b"LN")
+}
+
+/// Whether the line has a holiday code in column 29.
+fn has_holiday_code(line: &LineAgain) -> bool {
+    match line.bytes.get(28) {
+        Some(column) => HolidayCode::read(*column).is_some(),
+        None => false,
+    }
+}
+
 /// Whether the line, which isn't one of a full extract, is one of an update.
-fn is_of_update(line: &[u8]) -> bool {
+fn is_of_update(line: &LineAgain) -> bool {
+    let line = line.bytes.as_slice();
     let column = if line.starts_with(b"HD") { 46 } else { 2 };
     match (line.get(..2), line.get(column)) {
         (Some(b"HD"), Some(letter)) => *letter == b'U',
