@@ -8,7 +8,7 @@ use crate::refused_columns::columns_refused;
 use crate::words::bad_word;
 use arrayvec::ArrayString;
 use cif_canon::Format;
-use cif_columns::{LINE_WIDTH, MAX_LINES, Refusal, Sink, Uid, WriteDevice, as_text, is_printable};
+use cif_columns::{LINE_WIDTH, MAX_LINES, Refusal, Sink, Uid, WriteDevice, as_text};
 use cif_extract::{Clash, Extract, Fault};
 use cif_feed::{FeedFault, HolidayCode, Reasons};
 use cif_records::Header;
@@ -19,6 +19,7 @@ use std::rt::Files;
 use std::{io, str};
 
 /// A job that was done.
+#[derive(Drop)]
 pub(crate) struct DoneJob<'a, 'b, R: Files + Input> {
     pub(crate) job: &'a Job,
     /// What became of the output.
@@ -49,7 +50,7 @@ impl<R: Files + Input> DoneJob<'_, '_, R> {
     fn add_answer(&self, message: &mut Message) {
         if let Some(reasons) = &self.kept.reasons {
             add_input(self.left, message);
-            add_reasons(reasons, message);
+            add_reasons(self.left, reasons, message);
             return;
         }
         add_window_of(self.left, message);
@@ -81,7 +82,9 @@ impl<R: Files + Input> DoneJob<'_, '_, R> {
             Fault::OutsideWindow | Fault::WindowsDiffer => {
                 add_window_of(self.left, message);
                 add_window_of(self.right, message);
-                if let Fault::WindowsDiffer = fault {
+                if are_apart(self.left, self.right) {
+                    message.line(&["they have no date in common"]);
+                } else if let Fault::WindowsDiffer = fault {
                     message.line(&["--common compares the dates that both have"]);
                 }
             }
@@ -91,7 +94,7 @@ impl<R: Files + Input> DoneJob<'_, '_, R> {
             Fault::Refused { line, why } => {
                 add_refusal(last, *line, *why, Reader::Extracts, message);
             }
-            Fault::Read => add_failure(alloc, last.side(), last.name(), last.failure, message),
+            Fault::Read => add_read_failure(alloc, last, message),
             Fault::Write => add_write_failure(alloc, self.written, message),
             Fault::Ambiguous(clash) => {
                 let _ = self.add_clash(alloc, clash, message);
@@ -115,15 +118,51 @@ impl<R: Files + Input> DoneJob<'_, '_, R> {
     }
 }
 
-/// Adds the commands that read lines which have these reasons.
-fn add_reasons(reasons: &Reasons, message: &mut Message) {
-    for why in [Refusal::NotFull, Refusal::OpenEnd, Refusal::BankHoliday] {
-        if reasons.lines(why) > 0 {
-            if let Some(command) = command_for(why) {
-                message.line(&[command]);
+/// Adds the commands that accept the first lines with these reasons.
+fn add_reasons<R: Files + Input>(
+    input: &ExtractInput<'_, R>,
+    reasons: &Reasons,
+    message: &mut Message,
+) {
+    if reasons.lines(Refusal::NotFull) > 0 {
+        let line = refused_line(input, reasons.first(Refusal::NotFull));
+        match &line {
+            Some(line) if is_of_update(line) => {
+                // `prepare` refuses an update.
+                message.line(&[UPDATE]);
+                return;
             }
+            Some(_) => {}
+            None => message.line(&[UPDATE]),
         }
     }
+    let mut told = "";
+    for why in [
+        Refusal::OpenEnd,
+        Refusal::BadLength,
+        Refusal::UnknownRecord,
+        Refusal::BankHoliday,
+    ] {
+        if let Some(command) = command_for_first(input, reasons, why) {
+            if command != told {
+                message.line(&[command]);
+            }
+            told = command;
+        }
+    }
+}
+
+/// The command that accepts the first line with this reason, if one has it.
+fn command_for_first<R: Files + Input>(
+    input: &ExtractInput<'_, R>,
+    reasons: &Reasons,
+    why: Refusal,
+) -> Option<&'static str> {
+    if reasons.lines(why) == 0 {
+        return None;
+    }
+    let line = refused_line(input, reasons.first(why));
+    command_for(line.as_ref(), why)
 }
 
 /// Whether there is a line in the output that isn't the heading of a table.
@@ -170,7 +209,7 @@ pub(crate) fn add_feed_fault<R: Files + Input>(
             add_refusal(input, *line, *why, Reader::Feeds, message);
         }
         FeedFault::Extract(Fault::Read) => {
-            add_failure(alloc, input.side(), input.name(), input.failure, message);
+            add_read_failure(alloc, input, message);
         }
         FeedFault::Extract(Fault::Write) => add_write_failure(alloc, written, message),
         FeedFault::Extract(_) => {}
@@ -200,45 +239,76 @@ pub(crate) fn add_holiday_line<R: Files + Input>(
     if let Some(line) = refused_line(input, line) {
         message.line(&[shown(line.bytes.as_slice()).as_str()]);
     }
-    message.line(&["a line has a code, X, E or G, and dates YYMMDD; # begins a remark"]);
+    message.line(&[
+        "a line has a code, X, E or G, and dates YYMMDD, in at most 1,000 bytes; # begins a remark",
+    ]);
 }
 
 /// Adds which input it is about.
 fn add_input<R: Files + Input>(input: &ExtractInput<'_, R>, message: &mut Message) {
-    message.line(&["in ", input.side(), input.name()]);
+    message.line(&["in ", input.side(), input.name(), input.side_end()]);
 }
 
-/// Adds what wasn't read or written, and why if the system told it, by the number of the error.
-fn add_failure(alloc: Global, side: &str, name: &str, failure: Option<i32>, message: &mut Message) {
-    let reason = match failure {
-        Some(number) => io::Error::from_raw_os_error(number).to_string(alloc).ok(),
-        None => None,
-    };
-    match reason {
-        Some(reason) => message.line(&["in ", side, name, ": ", reason.as_str()]),
-        None => message.line(&["in ", side, name]),
+/// Adds what wasn't read, and why if the system told it.
+fn add_read_failure<R: Files + Input>(
+    alloc: Global,
+    input: &ExtractInput<'_, R>,
+    message: &mut Message,
+) {
+    match reason_of(alloc, input.failure) {
+        Some(reason) => message.line(&[
+            "in ",
+            input.side(),
+            input.name(),
+            input.side_end(),
+            ": ",
+            reason.as_str(),
+        ]),
+        None => add_input(input, message),
     }
 }
 
 /// Adds that the output wasn't written, and why if the system told it.
 pub(crate) fn add_write_failure(alloc: Global, written: &Written, message: &mut Message) {
-    add_failure(alloc, "", "standard output", written.failure, message);
+    match reason_of(alloc, written.failure) {
+        Some(reason) => message.line(&["in standard output: ", reason.as_str()]),
+        None => message.line(&["in standard output"]),
+    }
+}
+
+/// What the system says of the error of this number, if it told one.
+fn reason_of(alloc: Global, failure: Option<i32>) -> Option<String> {
+    let number = failure?;
+    io::Error::from_raw_os_error(number).to_string(alloc).ok()
 }
 
 /// Adds the window of the input, if it begins with a header.
 fn add_window_of<R: Files + Input>(input: &ExtractInput<'_, R>, message: &mut Message) {
     if let Some(header) = input.header() {
-        add_window(input.side(), input.name(), &header, message);
+        add_window(input, &header, message);
+    }
+}
+
+/// Whether both inputs begin with a header, and their windows have no date in common.
+fn are_apart<R: Files + Input>(left: &ExtractInput<'_, R>, right: &ExtractInput<'_, R>) -> bool {
+    match (left.header(), right.header()) {
+        (Some(left), Some(right)) => left.last < right.first || right.last < left.first,
+        _ => false,
     }
 }
 
 /// Adds the window of an input with this header.
-pub(crate) fn add_window(side: &str, name: &str, header: &Header, message: &mut Message) {
+pub(crate) fn add_window<R: Files + Input>(
+    input: &ExtractInput<'_, R>,
+    header: &Header,
+    message: &mut Message,
+) {
     let first = header.first.to_yymmdd();
     let last = header.last.to_yymmdd();
     message.line(&[
-        side,
-        name,
+        input.side(),
+        input.name(),
+        input.side_end(),
         " has the window ",
         as_text(&first),
         " to ",
@@ -364,53 +434,54 @@ fn add_refusal<R: Files + Input>(
             if let Some(line) = &line {
                 add_line(line, why, reader, message);
             }
-            let bytes = line.as_ref().map_or(&[][..], |line| line.bytes.as_slice());
-            if let Some(hint) = hint_for(bytes, why, reader) {
-                message.line(&[hint]);
+            if reader == Reader::Extracts || why == Refusal::NotFull {
+                if let Some(command) = command_for(line.as_ref(), why) {
+                    message.line(&[command]);
+                }
             }
         }
-    }
-}
-
-/// What to do about such a line.
-fn hint_for(line: &[u8], why: Refusal, reader: Reader) -> Option<&'static str> {
-    match (why, reader) {
-        (Refusal::NotFull, _) => {
-            if is_of_update(line) {
-                command_for(why)
-            } else {
-                None
-            }
-        }
-        (Refusal::BankHoliday, Reader::Feeds) => {
-            let code = line.get(28).and_then(|column| HolidayCode::read(*column));
-            code.map(|_| "--holidays doesn't name this code")
-        }
-        (_, Reader::Feeds) => None,
-        (Refusal::UnknownRecord, _) if line.starts_with(b"TN") || line.starts_with(b"LN") => {
-            Some(PREPARE)
-        }
-        _ if line.starts_with(b"/!!") => Some(PREPARE),
-        _ => command_for(why),
     }
 }
 
 const PREPARE: &str = "cif prepare makes an extract of a published one";
 
-/// The command that reads lines which are refused for this reason.
-fn command_for(why: Refusal) -> Option<&'static str> {
-    match why {
-        Refusal::BankHoliday => {
-            Some("cif prepare --holidays FILE makes an extract of a published one")
+const PREPARE_WITH_HOLIDAYS: &str =
+    "cif prepare --holidays FILE makes an extract of a published one";
+
+const UPDATE: &str = "cif update applies an update to a full extract";
+
+/// The command that accepts a line which others refuse for this reason, if there is one. Of a line that
+/// isn't known the reason alone decides.
+fn command_for(line: Option<&LineAgain>, why: Refusal) -> Option<&'static str> {
+    match (why, line) {
+        (Refusal::OpenEnd, _) => Some(PREPARE),
+        (Refusal::BankHoliday, None) => Some(PREPARE_WITH_HOLIDAYS),
+        (Refusal::BankHoliday, Some(line)) if has_holiday_code(line) => Some(PREPARE_WITH_HOLIDAYS),
+        (Refusal::UnknownRecord, Some(line)) if is_note(line) => Some(PREPARE),
+        (Refusal::BadLength | Refusal::UnknownRecord, Some(line)) if line.is_comment() => {
+            Some(PREPARE)
         }
-        Refusal::OpenEnd => Some(PREPARE),
-        Refusal::NotFull => Some("cif update applies an update to a full extract"),
+        (Refusal::NotFull, Some(line)) if is_of_update(line) => Some(UPDATE),
         _ => None,
     }
 }
 
+/// Whether the line, which has eighty columns, is a note.
+fn is_note(line: &LineAgain) -> bool {
+    line.bytes.starts_with(b"TN") || line.bytes.starts_with(b"LN")
+}
+
+/// Whether the line has a holiday code in column 29.
+fn has_holiday_code(line: &LineAgain) -> bool {
+    match line.bytes.get(28) {
+        Some(column) => HolidayCode::read(*column).is_some(),
+        None => false,
+    }
+}
+
 /// Whether the line, which isn't one of a full extract, is one of an update.
-fn is_of_update(line: &[u8]) -> bool {
+fn is_of_update(line: &LineAgain) -> bool {
+    let line = line.bytes.as_slice();
     let column = if line.starts_with(b"HD") { 46 } else { 2 };
     match (line.get(..2), line.get(column)) {
         (Some(b"HD"), Some(letter)) => *letter == b'U',
@@ -474,7 +545,12 @@ fn add_line(line: &LineAgain, why: Refusal, reader: Reader, message: &mut Messag
     match (why, reader) {
         (Refusal::BadLength, _) => add_length(line.length, line.known, message),
         (Refusal::BankHoliday, Reader::Feeds) => {
-            add_columns(29, 29, "a holiday code is a space, X, E or G", message);
+            let what = if has_holiday_code(line) {
+                "--holidays doesn't name this code"
+            } else {
+                "a holiday code is a space, X, E or G"
+            };
+            add_columns(29, 29, what, message);
         }
         _ => {
             if let Some((first, last, what)) = columns_refused(line.bytes.as_slice(), why) {
@@ -517,7 +593,7 @@ fn add_length(length: usize, known: usize, message: &mut Message) {
 fn shown(bytes: &[u8]) -> ArrayString<LINE_WIDTH> {
     let mut text = ArrayString::new();
     for byte in bytes {
-        let shown = if is_printable(*byte) {
+        let shown = if (0x20..=0x7E).contains(byte) {
             char::from(*byte)
         } else {
             '?'

@@ -3,7 +3,7 @@ ghost use Rattle.std.specs.Io.{ReadsAtMost};
 
 use crate::words::is_standard;
 use arrayvec::ArrayVec;
-use cif_columns::{LINE_WIDTH, Line, ReadDevice, Sink, WriteDevice};
+use cif_columns::{Content, LINE_WIDTH, Line, LineReader, ReadDevice, Sink, Source, WriteDevice};
 use cif_extract::Fault;
 use cif_records::Header;
 use std::alloc::Global;
@@ -19,7 +19,7 @@ pub(crate) const START: usize = LINE_WIDTH + 2;
 /// be opened is one that can't be read.
 #[derive(Drop)]
 pub(crate) struct ExtractInput<'a, R: Files + Input> {
-    /// What the user knows it by: of two inputs the side, and the file's name.
+    /// What the user knows it by: of several inputs which one it is, as `LEFT (`, and the file's name.
     side: &'static str,
     name: &'a str,
     device: Device<'a, R>,
@@ -56,7 +56,7 @@ impl<'a, R: Files + Input> ExtractInput<'a, R> {
         }
     }
 
-    /// Of two inputs the side, with what separates it from the name.
+    /// Of several inputs which one it is, and a bracket that opens.
     pub(crate) fn side(&self) -> &str {
         self.side
     }
@@ -64,6 +64,11 @@ impl<'a, R: Files + Input> ExtractInput<'a, R> {
     /// The file's name.
     pub(crate) fn name(&self) -> &str {
         self.name
+    }
+
+    /// The bracket that closes behind the name, if `side` opens one.
+    pub(crate) fn side_end(&self) -> &str {
+        if self.side.is_empty() { "" } else { ")" }
     }
 
     /// Whether it was read.
@@ -241,6 +246,14 @@ pub(crate) struct LineAgain {
 }
 
 impl LineAgain {
+    /// Whether it is a comment: the reader that passes over comments decides it.
+    pub(crate) fn is_comment(&self) -> bool {
+        let mut source = Source::new(self.bytes.as_slice());
+        let content = LineReader::new(1).read_content(&mut source, &mut Line::blank());
+        // Of a longer line no more bytes are known than a comment can have.
+        self.length <= LINE_WIDTH && matches!(content, Ok(Content::Comment))
+    }
+
     /// Takes the next byte of the input. Whether the line ends with it.
     fn take(&mut self, byte: u8) -> bool {
         if self.before > 0 {

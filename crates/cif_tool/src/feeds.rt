@@ -243,7 +243,7 @@ fn read_holidays<R: Files + Input + Print + AllocGlobal>(
     name: &str,
     told: &mut Told,
 ) -> Result<Holidays, TaskFault> {
-    let mut source = Source::new(ExtractInput::of(rt, "holidays, ", Some(name)));
+    let mut source = Source::new(ExtractInput::of(rt, "holidays (", Some(name)));
     match Holidays::read(rt.alloc(), &mut source) {
         Ok(holidays) => Ok(holidays),
         Err(HolidayFault::BadHoliday { line }) => {
@@ -288,19 +288,12 @@ fn read_full<R: Files + Input + Print + AllocGlobal>(
     name: &str,
     told: &mut Told,
 ) -> Result<PublishedExtract, TaskFault> {
-    let mut source = Source::new(ExtractInput::of(rt, "FULL, ", Some(name)));
+    let mut source = Source::new(ExtractInput::of(rt, "FULL (", Some(name)));
     match PublishedExtract::read(rt.alloc(), &mut source, MAX_LINES, HolidayCodes::all()) {
         Ok(extract) => {
             if told.verbose {
-                let input = source.reader();
                 let text = counts_of(&extract.passed, open_ends_of(&extract));
-                add_counts(
-                    input.side(),
-                    input.name(),
-                    &extract.header,
-                    &text,
-                    &mut told.counts,
-                );
+                add_counts(source.reader(), &extract.header, &text, &mut told.counts);
             }
             Ok(extract)
         }
@@ -320,7 +313,7 @@ fn do_update<R: Files + Input + Print + AllocGlobal>(
     extract: &mut PublishedExtract,
     told: &mut Told,
 ) -> Result<(), TaskFault> {
-    let mut source = Source::new(ExtractInput::of(rt, "UPDATE, ", Some(name)));
+    let mut source = Source::new(ExtractInput::of(rt, "UPDATE (", Some(name)));
     match extract.update_from(rt.alloc(), &mut source, MAX_LINES, lenient) {
         Ok(outcome) => {
             if told.verbose {
@@ -390,9 +383,20 @@ fn counts_of(passed: &Passed, open_ends: u64) -> Counts {
 }
 
 /// Adds the window of an extract that was read, and its counts.
-fn add_counts(side: &str, name: &str, header: &Header, text: &Counts, counts: &mut Message) {
-    add_window(side, name, header, counts);
-    counts.line(&[side, name, ": ", text.as_str()]);
+fn add_counts<R: Files + Input>(
+    input: &ExtractInput<'_, R>,
+    header: &Header,
+    text: &Counts,
+    counts: &mut Message,
+) {
+    add_window(input, header, counts);
+    counts.line(&[
+        input.side(),
+        input.name(),
+        input.side_end(),
+        ": ",
+        text.as_str(),
+    ]);
 }
 
 /// Adds the window and the counts of an extract that was prepared with these holidays.
@@ -408,7 +412,7 @@ fn add_prepared<R: Files + Input>(
         ", records cut by holidays: {}",
         extract.count_cut(holidays)
     );
-    add_counts(input.side(), input.name(), &extract.header, &text, counts);
+    add_counts(input, &extract.header, &text, counts);
 }
 
 /// Adds the header's window and the counts of an update that was done.
@@ -422,10 +426,13 @@ fn add_outcome<R: Files + Input>(
     let mut text = counts_of(&outcome.passed, done.open_ends);
     let _ = write!(
         text,
-        ", put: {}, revised: {}, taken out: {}",
-        done.put, done.revised, done.taken_out
+        ", lines new: {}, revised: {}, deleted: {}, waived: {}",
+        done.put,
+        done.revised,
+        done.taken_out,
+        outcome.waived.len()
     );
-    add_counts(input.side(), input.name(), header, &text, counts);
+    add_counts(input, header, &text, counts);
 }
 
 /// How many records have an open end.

@@ -240,7 +240,8 @@ Prints an extract in which the same runs on each date of the window, without
 comments, notes, open end dates and holiday codes. An open end becomes the last
 date of the window, or the record's first date if that is later. A record with
 a holiday code is split at its holidays, on which it doesn't run.
-A line of --holidays is a code, X, E or G, and dates; # begins a remark:
+A line of --holidays is a code, X, E or G, and dates, in at most 1,000 bytes;
+# begins a remark:
   X 260406 260504   # bank holiday Mondays
   E 260420          # Edinburgh; G is Glasgow
 With --drop-clashes standard error says what was left out, in lines that begin

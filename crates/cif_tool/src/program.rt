@@ -90,7 +90,7 @@ fn done<R: Files + Input + Print + AllocGlobal, W: WriteDevice>(
     // Of a job with one input `right` stands for no file, and is never touched.
     let (file, right_file) = job.inputs();
     let (side, right_side) = match right_file {
-        Some(_) => ("LEFT, ", "RIGHT, "),
+        Some(_) => ("LEFT (", "RIGHT ("),
         None => ("", ""),
     };
     let alloc = rt.alloc();
