@@ -62,7 +62,13 @@ impl Span {
 
     /// The dates from a first to a last on these weekdays, on which the body at `source` applies with a
     /// precedence.
-    pub(crate) fn between(first: Day, last: Day, days: DaysRun, precedence: u8, source: usize) -> Span
+    pub(crate) fn between(
+        first: Day,
+        last: Day,
+        days: DaysRun,
+        precedence: u8,
+        source: usize,
+    ) -> Span
         requires { first ≤ last }
         ensures days { (n : ℕ) → HasDay result n ↔ IsAmongDates first last days n }
         ensures first_week { result.first_week ≡ week_of first }
