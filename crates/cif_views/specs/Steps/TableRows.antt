@@ -9,7 +9,7 @@ use Rattle.cif_canon.specs.declared.rows.Format.TheVariants.{Tsv}
 use Rattle.cif_canon.specs.declared.rows.Shape.{Shape}
 use Rattle.cif_canon.specs.declared.rows.Shape.TheVariants.{Date, Trimmed}
 use Rattle.cif_views.specs.Tables.{Numbered, call_fields, calls_of, change_fields, changes_of, is_call, is_change, kind_of_line}
-use Rattle.cif_views.specs.Tables.{number, numbered_from, numbered_schedule, row_line, schedule_fields}
+use Rattle.cif_views.specs.Tables.{number, numbered_from, numbered_schedule, own_call_fields, row_fields, row_line, schedule_fields}
 use Rattle.cif_views.specs.declared.tables.Table.{Table}
 use Rattle.cif_views.specs.declared.tables.Table.TheVariants.{Associations, Calls, Changes, Header, Schedules, Tiplocs}
 use Rattle.cif_views.specs.declared.tables.TheConstants.{CHANGE}
@@ -50,11 +50,11 @@ abbrev pub room_for : List Place → ℕ
 room_for [] = 0
 room_for (place ∷ places) = room_of place.0 place.1 place.2 + room_for places
 
--- the fields of a call behind its location, by its line; no number stands there
+-- the fields of a call behind its suffix, by its line
 abbrev pub call_fields_of : List ℕ → List Field
-call_fields_of line = map (λ f. f.1 (record { schedule = 0; call = 0; line = line })) (drop 5 call_fields)
+call_fields_of line = row_fields own_call_fields line
 
--- those before, behind the number of its schedule: its number, its identity and its location
+-- those before, behind the number of its schedule: its number, its identity, its location and its suffix
 abbrev pub place_fields : ℕ → List ℕ → List Field
 place_fields call line =
     number call ∷ (Trimmed, columns 1 2 line) ∷ (Trimmed, columns 3 9 line) ∷ (Trimmed, columns 10 10 line) ∷ []
