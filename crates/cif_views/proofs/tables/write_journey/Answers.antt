@@ -2,14 +2,15 @@
 use Rattle.std.proofs.Common.{◌≡◌, ◌+◌, ◌<◌, ◌++◌, ◌∙◌, [], ap, arith, cond, decimal, length, refl}
 use Rattle.std.proofs.lemmas.Bool.Decides.{nat_tests}
 use Rattle.cif_canon.proofs.AppendedTexts.{both, nothing, text-is}
-use Rattle.cif_views.proofs.Words.{Whole, is_call, rows_of}
+use Rattle.cif_views.proofs.Words.{Numbered, Whole, is_call, rows_of}
 use Rattle.cif_views.proofs.TableRows.{begun-row, first-and-rest, next-call, none-left, numbered-row, one-line, one-pushed}
 use Rattle.cif_views.proofs.tables.write_journey.Goals as goal
 
 pub loop-lines-init : goal.loop-lines-init
 loop-lines-init g c =
     ([], nothing _ _ _, refl,
-    (one-pushed _ _ _ [] Whole _ (decimal c.args.schedule) (begun-row _ c.new-row.ensures) c.push_number.ensures.text refl).text, omega arith)
+    (one-pushed _ _ _ [] Whole _ (decimal c.args.schedule) (begun-row _ c.new-row.ensures) c.push_number.ensures.text refl).text,
+    omega arith)
 
 pub loop-lines-preserved : goal.loop-lines-preserved
 loop-lines-preserved g c =
@@ -20,11 +21,11 @@ loop-lines-preserved g c =
     let some : 0 < length lines = grind (arith, nat_tests, test, told) in
     let line = c.first-line.result in
     let is = first-and-rest lines line c.rest-lines.result some c.first-line.ensures c.rest-lines.ensures in
-    let rows = rows_of c.args.calls in (
-      text ++ rows (record { schedule = c.args.schedule; call = c.loop-lines.call; line = line }),
+    let rows = rows_of c.args.calls in
+    let numbered : Numbered = record { schedule = c.args.schedule; call = c.loop-lines.call; line = line } in (
+      text ++ rows numbered,
       both _ _ text _ _ _ _ written
-          (text-is _ _ _ _ _ _ (numbered-row c.args.calls _ (record { schedule = c.args.schedule; call = c.loop-lines.call; line = line }) begun)
-          c.write_numbered.ensures.text),
+          (text-is _ _ _ _ _ _ (numbered-row c.args.calls _ numbered begun) c.write_numbered.ensures.text),
       one-line rows c.args.schedule _ text c.loop-lines.call _ lines line _ is
           (c.call_after-call.ensures ∙ ap (λ kind. cond (is_call kind) (c.loop-lines.call + 1) c.loop-lines.call)
           c.kind_of_line-kind.ensures) left,

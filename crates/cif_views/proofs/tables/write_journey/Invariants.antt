@@ -1,4 +1,5 @@
--- What is written, and the rows of the lines that are left, are all; the row begins with the number, and the calls aren't more than the lines.
+-- What is written, and the rows of the lines that are left, are all; the row has the number alone, and the calls aren't more than the
+-- lines.
 use Rattle.std.proofs.Common.{◌≡◌, ◌+◌, ◌≤◌, ℕ, List, [], ◌∷◌, length}
 use Rattle.cif_views.proofs.Words.{IsAppended, Tsv, after, journey_rows, number, rows_of}
 use Rattle.cif_views.proofs.TableRows.{AreLeft}
