@@ -7,10 +7,13 @@ use Rattle.cif_views.proofs.TableRows.{begun-row, first-and-rest, next-call, non
 use Rattle.cif_views.proofs.tables.write_journey.Goals as goal
 
 pub loop-lines-init : goal.loop-lines-init
-loop-lines-init g c =
-    ([], nothing _ _ _, refl,
-    (one-pushed _ _ _ [] Whole _ (decimal c.args.schedule) (begun-row _ c.new-row.ensures) c.push_number.ensures.text refl).text,
-    omega arith)
+loop-lines-init g c = (
+  [],
+  nothing _ _ _,
+  refl,
+  (one-pushed _ _ _ [] Whole _ (decimal c.args.schedule) (begun-row _ c.new-row.ensures) c.push_number.ensures.text refl).text,
+  omega arith,
+)
 
 pub loop-lines-preserved : goal.loop-lines-preserved
 loop-lines-preserved g c =
