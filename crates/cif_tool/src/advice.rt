@@ -27,35 +27,35 @@ pub(crate) struct DoneJob<'a, 'b, R: Files + Input> {
     pub(crate) left: &'a ExtractInput<'b, R>,
     /// A job with one input has read nothing of it.
     pub(crate) right: &'a ExtractInput<'b, R>,
-    pub(crate) kept: &'a mut Kept,
 }
 
 impl<R: Files + Input> DoneJob<'_, '_, R> {
     /// Says more of the answer, or what helps with its fault.
     pub(crate) fn advise<W: WriteDevice>(
-        &mut self,
+        &self,
         alloc: Global,
         answer: &Result<u8, Fault>,
+        kept: &mut Kept,
         errors: &mut Sink<W>,
     ) {
         let mut message = Message::new(alloc);
         match answer {
-            Ok(_) => self.add_answer(&mut message),
-            Err(fault) => self.add_advice(alloc, fault, &mut message),
+            Ok(_) => self.add_answer(kept, &mut message),
+            Err(fault) => self.add_advice(alloc, fault, kept, &mut message),
         }
         message.tell(errors);
     }
 
     /// Adds what is said of the answer.
-    fn add_answer(&self, message: &mut Message) {
-        if let Some(reasons) = &self.kept.reasons {
+    fn add_answer(&self, kept: &Kept, message: &mut Message) {
+        if let Some(reasons) = &kept.reasons {
             add_input(self.left, message);
             add_reasons(self.left, reasons, message);
             return;
         }
         add_window_of(self.left, message);
         add_window_of(self.right, message);
-        if let Some(extract) = &self.kept.left {
+        if let Some(extract) = &kept.left {
             match self.job {
                 Job::Train { uid, listing, .. } if !has_row(listing.format, self.written) => {
                     add_records_of(extract, uid, message);
@@ -72,7 +72,7 @@ impl<R: Files + Input> DoneJob<'_, '_, R> {
     }
 
     /// Adds what helps with a fault.
-    fn add_advice(&mut self, alloc: Global, fault: &Fault, message: &mut Message) {
+    fn add_advice(&self, alloc: Global, fault: &Fault, kept: &mut Kept, message: &mut Message) {
         let last = if self.right.is_touched() {
             self.right
         } else {
@@ -97,7 +97,7 @@ impl<R: Files + Input> DoneJob<'_, '_, R> {
             Fault::Read => add_read_failure(alloc, last, message),
             Fault::Write => add_write_failure(alloc, self.written, message),
             Fault::Ambiguous(clash) => {
-                let _ = self.add_clash(alloc, clash, message);
+                let _ = self.add_clash(alloc, clash, kept, message);
             }
             Fault::Memory => {}
         }
@@ -106,15 +106,16 @@ impl<R: Files + Input> DoneJob<'_, '_, R> {
     /// Adds which records clash, and of which input: the left one is looked at first, as `compare` and
     /// `differences` do. Whether one has the clash; Memory where that isn't known.
     fn add_clash(
-        &mut self,
+        &self,
         alloc: Global,
         clash: &Clash,
+        kept: &mut Kept,
         message: &mut Message,
     ) -> Result<bool, Fault> {
-        if add_records(alloc, clash, self.left, &mut self.kept.left, message)? {
+        if add_records(alloc, clash, self.left, &mut kept.left, message)? {
             return Ok(true);
         }
-        add_records(alloc, clash, self.right, &mut self.kept.right, message)
+        add_records(alloc, clash, self.right, &mut kept.right, message)
     }
 }
 

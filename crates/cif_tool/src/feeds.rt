@@ -7,7 +7,7 @@ use crate::job::FeedJob;
 use crate::message::Message;
 use crate::status::{DONE, REFUSED, status};
 use arrayvec::ArrayString;
-use cif_columns::{MAX_LINES, Sink, Source, WriteDevice};
+use cif_columns::{MAX_LINES, ReadDevice, Sink, Source, WriteDevice};
 use cif_extract::{Clash, Fault};
 use cif_feed::{
     FeedFault, HolidayCodes, HolidayFault, Holidays, Outcome, Passed, PublishedExtract,
@@ -88,17 +88,104 @@ impl Told {
         }
     }
 
-    /// Adds what helps with a fault, which this input gave, or the output.
-    fn advise<R: Files + Input>(
+    /// Adds what was read of the full extract.
+    fn add_full<R: Files + Input>(
         &mut self,
-        alloc: Global,
-        fault: &FeedFault,
         input: &ExtractInput<'_, R>,
-        written: &Written,
+        extract: &PublishedExtract,
     ) {
         if self.verbose {
-            add_feed_fault(alloc, fault, input, written, &mut self.advice);
+            let text = counts_of(&extract.passed, open_ends_of(extract));
+            add_counts(input, &extract.header, &text, &mut self.counts);
         }
+    }
+
+    /// Adds what was read of the extract that was prepared with these holidays.
+    fn add_prepared<R: Files + Input>(
+        &mut self,
+        input: &ExtractInput<'_, R>,
+        extract: &PublishedExtract,
+        holidays: &Holidays,
+    ) {
+        if self.verbose {
+            let mut text = counts_of(&extract.passed, open_ends_of(extract));
+            let _ = write!(
+                text,
+                ", records cut by holidays: {}",
+                extract.count_cut(holidays)
+            );
+            add_counts(input, &extract.header, &text, &mut self.counts);
+        }
+    }
+
+    /// Adds what an update did, of which this is the header now.
+    fn add_update<R: Files + Input>(
+        &mut self,
+        input: &ExtractInput<'_, R>,
+        header: &Header,
+        outcome: &Outcome,
+    ) -> Result<(), TaskFault> {
+        if self.verbose {
+            let done = &outcome.counts;
+            let mut text = counts_of(&outcome.passed, done.open_ends);
+            let _ = write!(
+                text,
+                ", lines new: {}, revised: {}, deleted: {}, waived: {}",
+                done.put,
+                done.revised,
+                done.taken_out,
+                outcome.waived.len()
+            );
+            add_counts(input, header, &text, &mut self.counts);
+        }
+        match self.waived.extend_from_slice(outcome.waived.as_slice()) {
+            Ok(()) => Ok(()),
+            Err(_) => Err(MEMORY),
+        }
+    }
+
+    /// Adds what helps with a fault, which this input gave, or the output.
+    fn fault<R: Files + Input>(
+        &mut self,
+        alloc: Global,
+        fault: FeedFault,
+        input: &ExtractInput<'_, R>,
+        written: &Written,
+    ) -> TaskFault {
+        if self.verbose {
+            add_feed_fault(alloc, &fault, input, written, &mut self.advice);
+        }
+        TaskFault::Feed(fault)
+    }
+
+    /// Adds what helps with a fault of the holidays, which this input gave.
+    fn holiday_fault<R: Files + Input>(
+        &mut self,
+        alloc: Global,
+        fault: HolidayFault,
+        input: &ExtractInput<'_, R>,
+    ) -> TaskFault {
+        match fault {
+            HolidayFault::BadHoliday { line } => {
+                if self.verbose {
+                    add_holiday_line(input, line, &mut self.advice);
+                }
+                TaskFault::BadHoliday { line }
+            }
+            HolidayFault::Read => {
+                let fault = FeedFault::Extract(Fault::Read);
+                self.fault(alloc, fault, input, &Written::new())
+            }
+            HolidayFault::Memory => MEMORY,
+        }
+    }
+
+    /// Adds what helps where the output wasn't written for this fault.
+    fn write_fault(&mut self, alloc: Global, fault: Fault, written: &Written) -> TaskFault {
+        if self.verbose && fault == Fault::Write {
+            add_write_failure(alloc, written, &mut self.advice);
+        }
+        TaskFault::Feed(FeedFault::Extract(fault))
     }
 
     /// Names each line that was waived, and each clash whose records were left out.
@@ -175,51 +262,69 @@ fn prepare<R: Files + Input + Print + AllocGlobal>(
     file: Option<&str>,
     told: &mut Told,
 ) -> Result<(), TaskFault> {
-    let alloc = rt.alloc();
     let holidays = match holidays {
         Some(name) => read_holidays(rt, name, told)?,
-        None => Holidays::new(alloc),
+        None => Holidays::new(rt.alloc()),
     };
+    prepare_with(rt, &holidays, drop_clashes, file, told)
+}
+
+/// Writes the prepared extract of the file, with these holidays.
+fn prepare_with<R: Files + Input + Print + AllocGlobal>(
+    rt: &R,
+    holidays: &Holidays,
+    drop_clashes: bool,
+    file: Option<&str>,
+    told: &mut Told,
+) -> Result<(), TaskFault> {
+    let mut source = Source::new(ExtractInput::of(rt, "", file));
     let mut written = Written::new();
     let output = Output {
         writer: io::writer(rt),
         written: &mut written,
     };
-    let Ok(mut output) = buffered(alloc, output) else {
-        return Err(MEMORY);
-    };
-    let mut source = Source::new(ExtractInput::of(rt, "", file));
     let mut kept = None;
-    let answer = write_prepared(
-        alloc,
-        &mut source,
-        &mut output,
-        MAX_LINES,
-        &holidays,
-        drop_clashes,
-        &mut kept,
-    );
-    let answer = flushed(answer, &mut output);
-    // One that is dropped writes what it holds, also after a failure.
-    mem::forget(output);
+    let answer = prepared(rt.alloc(), &mut source, output, holidays, drop_clashes, &mut kept);
     let done = match answer {
         Ok(dropped) => {
             told.dropped = dropped;
-            if let Some(extract) = &kept
-                && told.verbose
-            {
-                add_prepared(source.reader(), extract, &holidays, &mut told.counts);
+            if let Some(extract) = &kept {
+                told.add_prepared(source.reader(), extract, holidays);
             }
             Ok(())
         }
-        Err(fault) => {
-            told.advise(alloc, &fault, source.reader(), &written);
-            Err(TaskFault::Feed(fault))
-        }
+        Err(fault) => Err(told.fault(rt.alloc(), fault, source.reader(), &written)),
     };
     // The process ends after this: the system takes back the memory of all bodies at once.
     mem::forget(kept);
     done
+}
+
+/// Writes the prepared extract of the source. It is left in `kept`; what was dropped from it is the answer.
+fn prepared<R: ReadDevice, W: WriteDevice + Drop>(
+    alloc: Global,
+    source: &mut Source<R>,
+    output: W,
+    holidays: &Holidays,
+    drop_clashes: bool,
+    kept: &mut Option<PublishedExtract>,
+) -> Result<Vec<Clash>, FeedFault> {
+    let Ok(mut output) = buffered(alloc, output) else {
+        return Err(FeedFault::Extract(Fault::Memory));
+    };
+    let answer = write_prepared(
+        alloc,
+        source,
+        &mut output,
+        MAX_LINES,
+        holidays,
+        drop_clashes,
+        kept,
+    );
+    let answer = flushed(answer, &mut output);
+    // One that is dropped writes what it holds, also after a failure.
+    mem::forget(output);
+    answer
 }
 
 /// The answer, once what was written is handed on.
@@ -238,7 +343,7 @@ fn flushed<T: Drop, W: WriteDevice>(
 
 /// The holidays of this file.
 #[inline(never)]
-fn read_holidays<R: Files + Input + Print + AllocGlobal>(
+fn read_holidays<R: Files + Input + AllocGlobal>(
     rt: &R,
     name: &str,
     told: &mut Told,
@@ -246,18 +351,7 @@ fn read_holidays<R: Files + Input + Print + AllocGlobal>(
     let mut source = Source::new(ExtractInput::of(rt, "holidays (", Some(name)));
     match Holidays::read(rt.alloc(), &mut source) {
         Ok(holidays) => Ok(holidays),
-        Err(HolidayFault::BadHoliday { line }) => {
-            if told.verbose {
-                add_holiday_line(source.reader(), line, &mut told.advice);
-            }
-            Err(TaskFault::BadHoliday { line })
-        }
-        Err(HolidayFault::Read) => {
-            let fault = FeedFault::Extract(Fault::Read);
-            told.advise(rt.alloc(), &fault, source.reader(), &Written::new());
-            Err(TaskFault::Feed(fault))
-        }
-        Err(HolidayFault::Memory) => Err(MEMORY),
+        Err(fault) => Err(told.holiday_fault(rt.alloc(), fault, source.reader())),
     }
 }
 
@@ -283,7 +377,7 @@ fn update<R: Files + Input + Print + AllocGlobal>(
 
 /// The full extract of this file.
 #[inline(never)]
-fn read_full<R: Files + Input + Print + AllocGlobal>(
+fn read_full<R: Files + Input + AllocGlobal>(
     rt: &R,
     name: &str,
     told: &mut Told,
@@ -291,22 +385,16 @@ fn read_full<R: Files + Input + Print + AllocGlobal>(
     let mut source = Source::new(ExtractInput::of(rt, "FULL (", Some(name)));
     match PublishedExtract::read(rt.alloc(), &mut source, MAX_LINES, HolidayCodes::all()) {
         Ok(extract) => {
-            if told.verbose {
-                let text = counts_of(&extract.passed, open_ends_of(&extract));
-                add_counts(source.reader(), &extract.header, &text, &mut told.counts);
-            }
+            told.add_full(source.reader(), &extract);
             Ok(extract)
         }
-        Err(fault) => {
-            told.advise(rt.alloc(), &fault, source.reader(), &Written::new());
-            Err(TaskFault::Feed(fault))
-        }
+        Err(fault) => Err(told.fault(rt.alloc(), fault, source.reader(), &Written::new())),
     }
 }
 
 /// Does the update of this file.
 #[inline(never)]
-fn do_update<R: Files + Input + Print + AllocGlobal>(
+fn do_update<R: Files + Input + AllocGlobal>(
     rt: &R,
     name: &str,
     lenient: bool,
@@ -315,19 +403,8 @@ fn do_update<R: Files + Input + Print + AllocGlobal>(
 ) -> Result<(), TaskFault> {
     let mut source = Source::new(ExtractInput::of(rt, "UPDATE (", Some(name)));
     match extract.update_from(rt.alloc(), &mut source, MAX_LINES, lenient) {
-        Ok(outcome) => {
-            if told.verbose {
-                add_outcome(source.reader(), &extract.header, &outcome, &mut told.counts);
-            }
-            match told.waived.extend_from_slice(outcome.waived.as_slice()) {
-                Ok(()) => Ok(()),
-                Err(_) => Err(MEMORY),
-            }
-        }
-        Err(fault) => {
-            told.advise(rt.alloc(), &fault, source.reader(), &Written::new());
-            Err(TaskFault::Feed(fault))
-        }
+        Ok(outcome) => told.add_update(source.reader(), &extract.header, &outcome),
+        Err(fault) => Err(told.fault(rt.alloc(), fault, source.reader(), &Written::new())),
     }
 }
 
@@ -335,7 +412,7 @@ fn do_update<R: Files + Input + Print + AllocGlobal>(
 
 /// Writes the extract on the standard output.
 #[inline(never)]
-fn write<R: Files + Input + Print + AllocGlobal>(
+fn write<R: Print + AllocGlobal>(
     rt: &R,
     extract: &PublishedExtract,
     told: &mut Told,
@@ -345,21 +422,32 @@ fn write<R: Files + Input + Print + AllocGlobal>(
         writer: io::writer(rt),
         written: &mut written,
     };
-    let Ok(mut output) = buffered(rt.alloc(), output) else {
-        return Err(MEMORY);
-    };
-    let done = match extract.write(&mut output) {
-        Ok(()) => output.flush(),
-        Err(fault) => Err(fault),
-    };
-    // As in `prepare`.
-    mem::forget(output);
-    if done.is_err() {
-        if told.verbose {
-            add_write_failure(rt.alloc(), &written, &mut told.advice);
-        }
-        return Err(TaskFault::Feed(FeedFault::Extract(Fault::Write)));
+    match write_buffered(rt.alloc(), extract, output) {
+        Ok(()) => Ok(()),
+        Err(fault) => Err(told.write_fault(rt.alloc(), fault, &written)),
     }
+}
+
+/// Writes the extract on the output, through a buffer.
+fn write_buffered<W: WriteDevice + Drop>(
+    alloc: Global,
+    extract: &PublishedExtract,
+    output: W,
+) -> Result<(), Fault> {
+    let mut output = buffered(alloc, output)?;
+    let answer = write_all(extract, &mut output);
+    // As in `prepared`.
+    mem::forget(output);
+    answer
+}
+
+/// Writes the extract, and hands on what was written.
+fn write_all<W: WriteDevice>(
+    extract: &PublishedExtract,
+    output: &mut Sink<W>,
+) -> Result<(), Fault> {
+    extract.write(output)?;
+    output.flush()?;
     Ok(())
 }
 
@@ -397,42 +485,6 @@ fn add_counts<R: Files + Input>(
         ": ",
         text.as_str(),
     ]);
-}
-
-/// Adds the window and the counts of an extract that was prepared with these holidays.
-fn add_prepared<R: Files + Input>(
-    input: &ExtractInput<'_, R>,
-    extract: &PublishedExtract,
-    holidays: &Holidays,
-    counts: &mut Message,
-) {
-    let mut text = counts_of(&extract.passed, open_ends_of(extract));
-    let _ = write!(
-        text,
-        ", records cut by holidays: {}",
-        extract.count_cut(holidays)
-    );
-    add_counts(input, &extract.header, &text, counts);
-}
-
-/// Adds the header's window and the counts of an update that was done.
-fn add_outcome<R: Files + Input>(
-    input: &ExtractInput<'_, R>,
-    header: &Header,
-    outcome: &Outcome,
-    counts: &mut Message,
-) {
-    let done = &outcome.counts;
-    let mut text = counts_of(&outcome.passed, done.open_ends);
-    let _ = write!(
-        text,
-        ", lines new: {}, revised: {}, deleted: {}, waived: {}",
-        done.put,
-        done.revised,
-        done.taken_out,
-        outcome.waived.len()
-    );
-    add_counts(input, header, &text, counts);
 }
 
 /// How many records have an open end.

@@ -109,14 +109,13 @@ fn done<R: Files + Input + Print + AllocGlobal, W: WriteDevice>(
     let answer = answered(alloc, job, &mut left, &mut right, output, &mut kept);
     let status = end(&answer, errors);
     if verbose {
-        let mut done_job = DoneJob {
+        let done_job = DoneJob {
             job,
             written: &written,
             left: left.reader(),
             right: right.reader(),
-            kept: &mut kept,
         };
-        done_job.advise(alloc, &answer, errors);
+        done_job.advise(alloc, &answer, &mut kept, errors);
     }
     // The process ends after this: the system takes back the memory of all bodies at once.
     mem::forget(kept);
