@@ -284,7 +284,14 @@ fn prepare_with<R: Files + Input + Print + AllocGlobal>(
         written: &mut written,
     };
     let mut kept = None;
-    let answer = prepared(rt.alloc(), &mut source, output, holidays, drop_clashes, &mut kept);
+    let answer = prepared(
+        rt.alloc(),
+        &mut source,
+        output,
+        holidays,
+        drop_clashes,
+        &mut kept,
+    );
     let done = match answer {
         Ok(dropped) => {
             told.dropped = dropped;
