@@ -22,6 +22,8 @@ use std::{io, str};
 #[derive(Drop)]
 pub(crate) struct DoneJob<'a, 'b, R: Files + Input> {
     pub(crate) job: &'a Job,
+    /// Whether more is said of it.
+    pub(crate) verbose: bool,
     /// What became of the output.
     pub(crate) written: &'a Written,
     pub(crate) left: &'a ExtractInput<'b, R>,
@@ -30,7 +32,7 @@ pub(crate) struct DoneJob<'a, 'b, R: Files + Input> {
 }
 
 impl<R: Files + Input> DoneJob<'_, '_, R> {
-    /// Says more of the answer, or what helps with its fault.
+    /// Says more of the answer, or what helps with its fault, if that was asked for.
     pub(crate) fn advise<W: WriteDevice>(
         &self,
         alloc: Global,
@@ -38,6 +40,9 @@ impl<R: Files + Input> DoneJob<'_, '_, R> {
         kept: &mut Kept,
         errors: &mut Sink<W>,
     ) {
+        if !self.verbose {
+            return;
+        }
         let mut message = Message::new(alloc);
         match answer {
             Ok(_) => self.add_answer(kept, &mut message),

@@ -89,10 +89,7 @@ fn done<R: Files + Input + Print + AllocGlobal, W: WriteDevice>(
 ) -> u8 {
     // Of a job with one input `right` stands for no file, and is never touched.
     let (file, right_file) = job.inputs();
-    let (side, right_side) = match right_file {
-        Some(_) => ("LEFT (", "RIGHT ("),
-        None => ("", ""),
-    };
+    let (side, right_side) = sides(right_file);
     let alloc = rt.alloc();
     let mut left = Source::new(ExtractInput::of(rt, side, file));
     let mut right = Source::new(ExtractInput::of(rt, right_side, right_file));
@@ -108,18 +105,25 @@ fn done<R: Files + Input + Print + AllocGlobal, W: WriteDevice>(
     };
     let answer = answered(alloc, job, &mut left, &mut right, output, &mut kept);
     let status = end(&answer, errors);
-    if verbose {
-        let done_job = DoneJob {
-            job,
-            written: &written,
-            left: left.reader(),
-            right: right.reader(),
-        };
-        done_job.advise(alloc, &answer, &mut kept, errors);
-    }
+    let done_job = DoneJob {
+        job,
+        verbose,
+        written: &written,
+        left: left.reader(),
+        right: right.reader(),
+    };
+    done_job.advise(alloc, &answer, &mut kept, errors);
     // The process ends after this: the system takes back the memory of all bodies at once.
     mem::forget(kept);
     status
+}
+
+/// Which of the inputs each is, as `ExtractInput::of` takes it.
+fn sides(right_file: Option<&str>) -> (&'static str, &'static str) {
+    match right_file {
+        Some(_) => ("LEFT (", "RIGHT ("),
+        None => ("", ""),
+    }
 }
 
 /// Answers the job on the output.
