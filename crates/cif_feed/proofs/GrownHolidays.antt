@@ -21,6 +21,13 @@ dates-inserted xs ys i day is d = (
       (λ same. subst (λ (n : ℕ). Contains (day ∷ xs) n) (sym same) (Contains-first day xs)) has)),
 )
 
+-- dates of which one is named again
+pub dates-there : (xs : List ℕ) (day : ℕ) → Contains xs day → (d : ℕ) → Contains xs d ↔ (Contains xs d ⊎ (d ≡ day))
+dates-there xs day there d = (
+  λ has. inl has,
+  λ has. ⊎_elim (λ old. old) (λ same. subst (λ (n : ℕ). Contains xs n) (sym same) there) has,
+)
+
 -- two codes are one or not
 same_code : (a b : HolidayCode) → (a ≡ b) ⊎ (a ≡ b → ⊥)
 same_code X X = inl refl
