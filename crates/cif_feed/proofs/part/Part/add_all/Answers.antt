@@ -1,6 +1,6 @@
 -- A cut ends a part, and after it another begins (`parts-next`), unless the record ends there (`parts-cut_last`). Without a further cut the
 -- last part ends with the record (`parts-last`).
-use Rattle.std.proofs.Common.{◌<◌, ◌∙◌, ◌++◌, ℕ, List, [], ◌∷◌, Bool, Option, None, Some, sym, ap, arith, subst, append_assoc, append-nil}
+use Rattle.std.proofs.Common.{◌<◌, ◌≤◌, ◌∙◌, ◌++◌, ℕ, List, [], ◌∷◌, Bool, Option, None, Some, sym, ap, arith, subst, append_assoc, append-nil}
 use Rattle.cif_feed.specs.HolidayDates.{IsFirstFrom}
 use Rattle.cif_feed.specs.Holidays.{IsHolidayOn}
 use Rattle.cif_feed.specs.Parts.{AreParts, ended}
@@ -73,3 +73,10 @@ returns g c =
       subst (λ (code : Option HolidayCode). AreParts h code r (own ++ last ∷ [])) (sym c.in-Some.is)
           (parts-last h c.in-Some.code r first own so_far begins none),
     )
+
+pub loop-cut-smaller : goal.loop-cut-smaller
+loop-cut-smaller g c =
+    let from : c.loop-cut.first ≤ c.in-Some-next_holiday.cut = c.in-Some-next_holiday.ensures.0 in
+    let before : c.in-Some-next_holiday.cut < c.args.last = c.in-Some-next_up_to.ensures.0 in
+    let next = c.in-Some-next_up_to.ensures.1 in
+    omega arith
