@@ -229,3 +229,14 @@ pub returns-in-Err-clause-only : goal.returns-in-Err-clause-only
 returns-in-Err-clause-only g c =
     only_feed_fault c.args.feed c.args.allowed c.args.max_lines (g.R.Read.remaining c.args.source.now.reader)
     (unread_of g.R.Read.remaining c.read_content.new.source) c.from.result (returns-in-Err-clause-fault g c)
+
+pub loop-columns-smaller-in-loop-columns : goal.loop-columns-smaller-in-loop-columns
+loop-columns-smaller-in-loop-columns g c =
+    let more : given c.pass_line.new.self ≡ given c.loop-columns.lines + 1 = c.pass_line.ensures.counted in
+    omega (arith, more, c.pass_line.ensures.limit_now, c.pass_line.new.self.counted)
+
+pub loop-columns-smaller-in-Ok-take : goal.loop-columns-smaller-in-Ok-take
+loop-columns-smaller-in-Ok-take g c =
+    let got = rw c.in-Ok-Line.field-0-is at c.in-Ok-Line.ensures in
+    let more : given c.read_content.new.self ≡ given c.loop-columns.lines + 1 = got.0.counted in
+    omega (arith, more, got.0.limit_now, c.read_content.new.self.counted)
