@@ -6,8 +6,7 @@ ghost use Rattle.cif_canon.specs.Appended.{IsAppended};
 ghost use Rattle.cif_canon.specs.Lines.{line_of_tiploc};
 ghost use Rattle.cif_canon.specs.Steps.Texts.{HasRecord, numbered_text};
 
-use crate::canonical_form::{Canon, RecordLines, body_of, look_ahead, write_runs};
-use crate::records::AT_ONCE;
+use crate::canonical_form::{Canon, RecordLines, body_of, look_ahead_at, write_runs};
 use cif_columns::{Line, LineSlice, Sink, Uid, WriteDevice};
 use cif_extract::{Body, Schedule};
 use cif_records::{AssocBody, AssocKey, Association, Basic, Tiploc};
@@ -182,9 +181,7 @@ fn list_runs<L: CanonListing, W: WriteDevice>(
         sink.old sink.new }
 {
     for (at, run) in runs.iter().enumerate() {
-        if at % AT_ONCE == 0 {
-            look_ahead(schedules, &runs[at..runs.len().min(at + AT_ONCE)]);
-        }
+        look_ahead_at(schedules, runs, at);
         let schedule = CanonSchedule {
             uid: &schedules[run.source].uid,
             body: body_of(schedules, run),

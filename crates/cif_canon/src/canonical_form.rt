@@ -200,9 +200,7 @@ fn write_schedules<W: WriteDevice>(schedules: &[Schedule], runs: &[Run], sink: &
     let mut source = first.source;
     let mut writer = ScheduleWriter::of(body_of(schedules, first));
     for (at, run) in runs.iter().enumerate() {
-        if at % AT_ONCE == 0 {
-            look_ahead(schedules, &runs[at..runs.len().min(at + AT_ONCE)]);
-        }
+        look_ahead_at(schedules, runs, at);
         set_body(schedules, run, &mut source, &mut writer);
         let uid = &schedules[run.source].uid;
         let _ = writer.write(uid, run.first, run.last, run.days, sink);
@@ -221,9 +219,20 @@ pub(crate) fn body_of<'a>(schedules: &'a [Schedule], run: &Run) -> &'a Body
     }
 }
 
+/// Looks at the bodies of the schedules of so many runs from this position on, each time that so many are passed.
+pub(crate) fn look_ahead_at(schedules: &[Schedule], runs: &[Run], at: usize)
+    requires within { All (λ run. run.source < length schedules.now) runs.now }
+    requires records { All (HasRecord (schedule_entries schedules.now)) runs.now }
+    requires position { at < length runs.now }
+{
+    if at % AT_ONCE == 0 {
+        look_ahead(schedules, &runs[at..runs.len().min(at + AT_ONCE)]);
+    }
+}
+
 /// Looks at the bodies of the runs' schedules. Where a body lies is known once its schedule has come from memory:
 /// so all schedules come first.
-pub(crate) fn look_ahead(schedules: &[Schedule], runs: &[Run])
+fn look_ahead(schedules: &[Schedule], runs: &[Run])
     requires within { All (λ run. run.source < length schedules.now) runs.now }
     requires records { All (HasRecord (schedule_entries schedules.now)) runs.now }
 {

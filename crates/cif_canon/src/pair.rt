@@ -5,8 +5,8 @@ ghost use Rattle.cif_columns.specs.declared.line_reader.TheConstants.{MAX_LINES}
 ghost use Rattle.cif_extract.specs.ExtractParts.{extract_parts};
 ghost use Rattle.cif_extract.specs.ReadFault.{LeavesNothing};
 ghost use Rattle.cif_canon.specs.Fault.{IsOfReadNarrowed};
-ghost use Rattle.cif_canon.specs.Pair.{FaultOfBoth, IsPairFault, ReadAsPair, ReadsBoth};
-ghost use Rattle.cif_canon.specs.Pair.{asked_of_both};
+ghost use Rattle.cif_canon.specs.Pair.{AreNarrowed, FaultOfBoth, IsPairFault, IsPairRefusal};
+ghost use Rattle.cif_canon.specs.Pair.{ReadAsPair, ReadsBoth, asked_of_both};
 
 use crate::{Asked, narrow};
 use cif_columns::{MAX_LINES, ReadDevice, Source};
@@ -39,10 +39,27 @@ pub fn read_pair<R: ReadDevice>(
 {
     let mut left = read_extract(alloc, left, MAX_LINES)?;
     let mut right = read_extract(alloc, right, MAX_LINES)?;
-    let asked = asked_of_both(asked, common, &left, &right);
-    narrow(&mut left, &asked)?;
-    narrow(&mut right, &asked)?;
+    narrow_both(&mut left, &mut right, asked, common)?;
     Ok((left, right))
+}
+
+/// Narrows two extracts to what is asked for of both.
+fn narrow_both(
+    left: &mut Extract,
+    right: &mut Extract,
+    asked: &Asked,
+    common: bool,
+) -> Result<(), Fault>
+    ensures ok { IfOk result (λ _. AreNarrowed asked.now common
+        (extract_parts left.old) (extract_parts right.old)
+        (extract_parts left.new) (extract_parts right.new)) }
+    ensures fault { IfErr result (IsPairRefusal
+        (asked_of_both common asked.now (extract_parts left.old) (extract_parts right.old))
+        (extract_parts left.old) (extract_parts right.old)) }
+{
+    let asked = asked_of_both(asked, common, left, right);
+    narrow(left, &asked)?;
+    narrow(right, &asked)
 }
 
 /// What is asked for of two extracts.

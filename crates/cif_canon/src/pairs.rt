@@ -89,15 +89,16 @@ pub fn list_differences<L: DifferenceListing, W: WriteDevice>(
 {
     list_tiplocs(listing, found.tiplocs.as_slice(), sink);
     let (left, right) = (found.left, found.right);
+    let lines = ListedPairs { listing };
     write_pairs(
-        &ListedPairs { listing },
+        &lines,
         left.associations.as_slice(),
         right.associations.as_slice(),
         found.associations.as_slice(),
         sink,
     );
     write_pairs(
-        &ListedPairs { listing },
+        &lines,
         left.schedules.as_slice(),
         right.schedules.as_slice(),
         found.schedules.as_slice(),

@@ -1,11 +1,13 @@
 -- Each fault is told of known bytes of the left input, and then of the right (`spelled-refused`).
-use Rattle.std.proofs.Common.{◌≢◌, IfErr, inl, inr, refl, subst}
+use Rattle.std.proofs.Common.{◌≢◌, IfErr, inl, inr, refl}
 use Rattle.cif_columns.proofs.GivenLinesLaws.{known_so}
-use Rattle.cif_canon.proofs.Words.{IsNarrowingFault, Read, extract_parts}
+use Rattle.cif_columns.specs.declared.line_reader.TheConstants.{MAX_LINES}
+use Rattle.cif_canon.proofs.Words.{Read, extract_parts}
 use Rattle.cif_canon.proofs.BothRead.{both-read}
 use Rattle.cif_canon.proofs.HandedFaults.{at-fault, hands}
-use Rattle.cif_canon.specs.Pair.{IsPairFault}
-use Rattle.cif_canon.proofs.ReadPairs.{are-narrowed, spelled-refused}
+use Rattle.cif_canon.specs.Fault.{IsOfReadNarrowed}
+use Rattle.cif_canon.specs.Pair.{IsPairFault, asked_of_both}
+use Rattle.cif_canon.proofs.ReadPairs.{refusal-answers, refusal-not_read, spelled-refused}
 use Rattle.cif_canon.proofs.pair.read_pair.Goals as goal
 
 pub returns-in_err-left-clause-fault : goal.returns-in_err-left-clause-fault
@@ -23,21 +25,12 @@ returns-in_err-right-clause-fault g c =
     (inr (extract_parts c.in_ok-left.left, s, known_so _ _ _ (λ other fault. inl fault) c.in_err-right.ensures.fault)))
     c.in_ok-left.ensures.ok
 
-pub returns-in_err-narrow-clause-fault : goal.returns-in_err-narrow-clause-fault
-returns-in_err-narrow-clause-fault g c =
-    let call = c.from_residual-in_err-narrow in
-    known_so _ _ _ (λ bytes s. hands call.result c.in_err-narrow.field-0.0 call.ensures.1 _
+pub returns-in_err-narrow_both-clause-fault : goal.returns-in_err-narrow_both-clause-fault
+returns-in_err-narrow_both-clause-fault g c =
+    let call = c.from_residual-in_err-narrow_both in
+    known_so _ _ _ (λ bytes s. hands call.result c.in_err-narrow_both.field-0.0 call.ensures.1 _
     (spelled-refused c.args.asked.now c.args.common _ bytes _ _ _ (extract_parts c.in_ok-left.left) (extract_parts c.in_ok-right.right) s
-    c.in_ok-right.ensures.ok c.in_err-narrow.field-0.0 c.asked_of_both-asked.result c.asked_of_both-asked.ensures
-    (inl c.in_err-narrow.ensures.fault))) c.in_ok-left.ensures.ok
-
-pub returns-in_err-narrow-2-clause-fault : goal.returns-in_err-narrow-2-clause-fault
-returns-in_err-narrow-2-clause-fault g c =
-    let call = c.from_residual-in_err-narrow-2 in
-    known_so _ _ _ (λ bytes s. hands call.result c.in_err-narrow-2.field-0.0 call.ensures.1 _
-    (spelled-refused c.args.asked.now c.args.common _ bytes _ _ _ (extract_parts c.in_ok-left.left) (extract_parts c.in_ok-right.right) s
-    c.in_ok-right.ensures.ok c.in_err-narrow-2.field-0.0 c.asked_of_both-asked.result c.asked_of_both-asked.ensures
-    (inr (extract_parts c.narrow.new.extract, c.in_ok-narrow.ensures.ok, c.in_err-narrow-2.ensures.fault)))) c.in_ok-left.ensures.ok
+    c.in_ok-right.ensures.ok c.in_err-narrow_both.field-0.0 c.in_err-narrow_both.ensures.fault)) c.in_ok-left.ensures.ok
 
 pub returns-clause-ok : goal.returns-clause-ok
 returns-clause-ok g c = record {
@@ -45,23 +38,25 @@ returns-clause-ok g c = record {
   right_whole = extract_parts c.in_ok-right.right;
   left_spelled = c.in_ok-left.ensures.ok;
   right_spelled = c.in_ok-right.ensures.ok;
-  narrowed = are-narrowed c.args.asked.now c.args.common _ _ _ _ c.asked_of_both-asked.result c.asked_of_both-asked.ensures
-      c.in_ok-narrow.ensures.ok c.in_ok-narrow-2.ensures.ok;
+  narrowed = c.in_ok-narrow_both.ensures.ok;
 }
 
-pub returns-in_err-narrow-clause-sources : goal.returns-in_err-narrow-clause-sources
-returns-in_err-narrow-clause-sources g c =
-    let call = c.from_residual-in_err-narrow in
+pub returns-in_err-narrow_both-clause-sources : goal.returns-in_err-narrow_both-clause-sources
+returns-in_err-narrow_both-clause-sources g c =
+    let call = c.from_residual-in_err-narrow_both in
+    let one = extract_parts c.in_ok-left.left in
+    let other = extract_parts c.in_ok-right.right in
     both-read _ _ _ _ _ call.result (inr (c.in_ok-left.ensures.device, c.in_ok-right.ensures.device))
-    (hands call.result c.in_err-narrow.field-0.0 call.ensures.1 (λ f. f ≢ Read)
-    (λ read. subst (IsNarrowingFault c.asked_of_both-asked.result c.in_ok-left.left.header) read c.in_err-narrow.ensures.fault))
+    (hands call.result c.in_err-narrow_both.field-0.0 call.ensures.1 (λ f. f ≢ Read)
+    (refusal-not_read (asked_of_both c.args.common c.args.asked.now one other) one other c.in_err-narrow_both.field-0.0 c.in_err-narrow_both.ensures.fault))
 
-pub returns-in_err-narrow-2-clause-sources : goal.returns-in_err-narrow-2-clause-sources
-returns-in_err-narrow-2-clause-sources g c =
-    let call = c.from_residual-in_err-narrow-2 in
-    both-read _ _ _ _ _ call.result (inr (c.in_ok-left.ensures.device, c.in_ok-right.ensures.device))
-    (hands call.result c.in_err-narrow-2.field-0.0 call.ensures.1 (λ f. f ≢ Read)
-    (λ read. subst (IsNarrowingFault c.asked_of_both-asked.result c.in_ok-right.right.header) read c.in_err-narrow-2.ensures.fault))
+pub returns-in_err-narrow_both-clause-answers : goal.returns-in_err-narrow_both-clause-answers
+returns-in_err-narrow_both-clause-answers g c =
+    let call = c.from_residual-in_err-narrow_both in
+    let one = extract_parts c.in_ok-left.left in
+    let other = extract_parts c.in_ok-right.right in
+    hands call.result c.in_err-narrow_both.field-0.0 call.ensures.1 (IsOfReadNarrowed MAX_LINES)
+    (refusal-answers (asked_of_both c.args.common c.args.asked.now one other) one other c.in_err-narrow_both.field-0.0 c.in_err-narrow_both.ensures.fault)
 
 pub returns-in_err-left-clause-sources : goal.returns-in_err-left-clause-sources
 returns-in_err-left-clause-sources g c =
@@ -88,18 +83,10 @@ pub returns-in_err-right-clause-right_end : goal.returns-in_err-right-clause-rig
 returns-in_err-right-clause-right_end g c =
     rw (at-fault c.from_residual-in_err-right.result c.in_err-right.field-0.0 c.from_residual-in_err-right.ensures.1) tt
 
-pub returns-in_err-narrow-clause-left_end : goal.returns-in_err-narrow-clause-left_end
-returns-in_err-narrow-clause-left_end g c =
-    rw (at-fault c.from_residual-in_err-narrow.result c.in_err-narrow.field-0.0 c.from_residual-in_err-narrow.ensures.1) tt
+pub returns-in_err-narrow_both-clause-left_end : goal.returns-in_err-narrow_both-clause-left_end
+returns-in_err-narrow_both-clause-left_end g c =
+    rw (at-fault c.from_residual-in_err-narrow_both.result c.in_err-narrow_both.field-0.0 c.from_residual-in_err-narrow_both.ensures.1) tt
 
-pub returns-in_err-narrow-clause-right_end : goal.returns-in_err-narrow-clause-right_end
-returns-in_err-narrow-clause-right_end g c =
-    rw (at-fault c.from_residual-in_err-narrow.result c.in_err-narrow.field-0.0 c.from_residual-in_err-narrow.ensures.1) tt
-
-pub returns-in_err-narrow-2-clause-left_end : goal.returns-in_err-narrow-2-clause-left_end
-returns-in_err-narrow-2-clause-left_end g c =
-    rw (at-fault c.from_residual-in_err-narrow-2.result c.in_err-narrow-2.field-0.0 c.from_residual-in_err-narrow-2.ensures.1) tt
-
-pub returns-in_err-narrow-2-clause-right_end : goal.returns-in_err-narrow-2-clause-right_end
-returns-in_err-narrow-2-clause-right_end g c =
-    rw (at-fault c.from_residual-in_err-narrow-2.result c.in_err-narrow-2.field-0.0 c.from_residual-in_err-narrow-2.ensures.1) tt
+pub returns-in_err-narrow_both-clause-right_end : goal.returns-in_err-narrow_both-clause-right_end
+returns-in_err-narrow_both-clause-right_end g c =
+    rw (at-fault c.from_residual-in_err-narrow_both.result c.in_err-narrow_both.field-0.0 c.from_residual-in_err-narrow_both.ensures.1) tt

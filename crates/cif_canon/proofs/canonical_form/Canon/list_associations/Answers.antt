@@ -1,8 +1,9 @@
 -- What is listed of the runs is what is listed of their lines (`parts-text`).
 use Rattle.std.proofs.Common.{ap, ◌∙◌}
-use Rattle.cif_canon.proofs.Words.{CanonParts, association_entries, association_plain, canon_lines, flat_map}
+use Rattle.cif_canon.proofs.Words.{CanonParts, association_entries, association_entry, association_plain, canon_lines, flat_map}
 use Rattle.cif_canon.proofs.AppendedTexts.{text-is}
 use Rattle.cif_canon.proofs.CanonLines.{parts-text}
+use Rattle.cif_canon.proofs.RunTexts.{sources-within}
 use Rattle.cif_canon.proofs.canonical_form.Canon.list_associations.Goals as goal
 
 pub returns : goal.returns
@@ -14,3 +15,11 @@ returns g c =
     (parts-text text association_plain (association_entries e.extract.now.associations.items) e.associations.items
     ∙ ap (λ (v : CanonParts). flat_map text v.lines.associations) c.self.view_is)
     (rw (c.as_slice.ensures.value, c.as_slice-2.ensures.value) at c.write_runs.ensures)
+
+pub write_runs-requires-clause-within : goal.write_runs-requires-clause-within
+write_runs-requires-clause-within g c =
+    sources-within association_entry c.as_slice.result.now c.as_slice-2.result.now
+    (rw (c.as_slice.ensures.value, c.as_slice-2.ensures.value) c.self.invariant.0)
+
+pub write_runs-requires-clause-records : goal.write_runs-requires-clause-records
+write_runs-requires-clause-records g c = rw (c.as_slice.ensures.value, c.as_slice-2.ensures.value) c.self.invariant.0

@@ -1,8 +1,9 @@
 -- What is listed of the runs is what is listed of their lines, with their numbers (`numbered-texts`).
 use Rattle.std.proofs.Common.{ap, ◌∙◌, ℕ}
-use Rattle.cif_canon.proofs.Words.{CanonParts, ScheduleLines, canon_lines, enumerate_from, flat_map, schedule_entries}
+use Rattle.cif_canon.proofs.Words.{CanonParts, ScheduleLines, canon_lines, enumerate_from, flat_map, schedule_entries, schedule_entry}
 use Rattle.cif_canon.proofs.AppendedTexts.{text-is}
 use Rattle.cif_canon.proofs.CanonLines.{numbered-texts}
+use Rattle.cif_canon.proofs.RunTexts.{sources-within}
 use Rattle.cif_canon.proofs.canonical_form.Canon.list_schedules.Goals as goal
 
 pub returns : goal.returns
@@ -14,3 +15,11 @@ returns g c =
     (numbered-texts text (schedule_entries e.extract.now.schedules.items) 1 e.schedules.items c.self.invariant.1
     ∙ ap (λ (v : CanonParts). flat_map (λ (s : ℕ × ScheduleLines). text s.0 s.1) (enumerate_from 1 v.lines.schedules)) c.self.view_is)
     (rw (c.as_slice.ensures.value, c.as_slice-2.ensures.value) at c.list_runs.ensures)
+
+pub list_runs-requires-clause-within : goal.list_runs-requires-clause-within
+list_runs-requires-clause-within g c =
+    sources-within schedule_entry c.as_slice.result.now c.as_slice-2.result.now
+    (rw (c.as_slice.ensures.value, c.as_slice-2.ensures.value) c.self.invariant.1)
+
+pub list_runs-requires-clause-records : goal.list_runs-requires-clause-records
+list_runs-requires-clause-records g c = rw (c.as_slice.ensures.value, c.as_slice-2.ensures.value) c.self.invariant.1
