@@ -10,7 +10,7 @@ use Rattle.cif_views.specs.Steps.DifferenceRows.{are_named, field_row, fields_of
 use Rattle.cif_views.specs.Tables.{names, own_call_fields}
 use Rattle.cif_views.specs.declared.difference_table.FieldPlace.{FieldPlace}
 use Rattle.cif_views.proofs.Words.{Change, Field, JourneyKind, Origin, Other, Stop, TableFields, Terminus, Trimmed, Tsv, after}
-use Rattle.cif_views.proofs.Words.{bytes_decides, call_fields_of, columns, differing_row, differing_rows, find, flat_map, is_call}
+use Rattle.cif_views.proofs.Words.{bytes_decides, call_fields_of, columns, count_of_calls, differing_row, differing_rows, find, flat_map, is_call}
 use Rattle.cif_views.proofs.Words.{is_change, journey_kind, kind_of_line, line_of, lines_rows, named_fields, nothing, own_fields}
 use Rattle.cif_views.proofs.Words.{pointwise, replicate, row_fields, rows_of_place, same_places, shown, start_of, text_at, trimmed}
 use Rattle.cif_views.proofs.DifferenceRows.{start-row}
@@ -167,3 +167,14 @@ module _ (head : List Field) (whole : List ℕ) where
       text ≡ whole
   no-place text call [] rights none is = sym (append-nil text) ∙ is
   no-place text call (line ∷ lefts) rights none is = absurd (omega (arith, none))
+
+-- the calls so far and those of the rest are all, with one line more
+one-counted : (is : Bool) (count next total n : ℕ) → next ≡ cond is (count + 1) count → total ≡ count + cond is (n + 1) n → total ≡ next + n
+one-counted true count next total n e all = omega (arith, e, all)
+one-counted false count next total n e all = omega (arith, e, all)
+
+pub counted-more : (count next total : ℕ) (kind : JourneyKind) (lines rest : List (List ℕ)) (line : List ℕ) → lines ≡ line ∷ rest →
+    kind ≡ kind_of_line line → next ≡ cond (is_call kind) (count + 1) count → total ≡ count + count_of_calls lines →
+    total ≡ next + count_of_calls rest
+counted-more count next total kind lines rest line is of_line e all =
+    one-counted (is_call kind) count next total (count_of_calls rest) e (rw of_line (all ∙ ap (λ ls. count + count_of_calls ls) is))

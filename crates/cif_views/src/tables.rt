@@ -274,7 +274,9 @@ impl CanonListing for Table {
             Table::Schedules => write_schedule(number, schedule, sink),
             Table::Calls => write_journey(true, number, schedule.further(), sink),
             Table::Changes => write_journey(false, number, schedule.further(), sink),
-            Table::Header | Table::Tiplocs | Table::Associations => {}
+            Table::Header => {}
+            Table::Tiplocs => {}
+            Table::Associations => {}
         }
     }
 }
