@@ -398,12 +398,13 @@ fn shown_of<'a>(line: &'a Line, field: &Named) -> &'a [u8]
 fn journey_among(lines: LineSlice<'_>) -> LineSlice<'_>
     ensures { result ≡ without_extra lines.entry }
 {
-    if !lines.is_empty() {
-        if let Some(Kind::Bx) = kind_of(&lines.first()) {
-            return lines.rest();
-        }
+    if lines.is_empty() {
+        return lines;
     }
-    lines
+    match kind_of(&lines.first()) {
+        Some(Kind::Bx) => lines.rest(),
+        _ => lines,
+    }
 }
 
 /// Appends the rows of two journeys: place by place if these are the same, else one row.
@@ -435,14 +436,17 @@ fn have_same_places(left: &LineSlice<'_>, right: &LineSlice<'_>) -> bool
 {
     let mut lefts = left.copy();
     let mut rights = right.copy();
-    while !lefts.is_empty() && !rights.is_empty() {
+    while !lefts.is_empty() {
+        if rights.is_empty() {
+            return false;
+        }
         if columns_at::<10>(&lefts.first(), 1) != columns_at::<10>(&rights.first(), 1) {
             return false;
         }
         lefts = lefts.rest();
         rights = rights.rest();
     }
-    lefts.is_empty() && rights.is_empty()
+    rights.is_empty()
 }
 
 /// How many lines are calls.

@@ -28,6 +28,10 @@ write_place-requires-clause-places g c =
     let some : 0 < length c.loop-lefts.lefts = grind (arith, nat_tests, test, told) in
     first-places c.loop-lefts.lefts c.loop-lefts.rights _ _ same some c.first-one.ensures c.first-other.ensures
 
+pub call_after-call-requires : goal.call_after-call-requires
+call_after-call-requires g c =
+    let (text, written, left, same, few) = c.loop-lefts.invariant in omega (arith, few, c.are_few.ensures)
+
 pub loop-lefts-preserved : goal.loop-lefts-preserved
 loop-lefts-preserved g c =
     let (text, written, left, same, few) = c.loop-lefts.invariant in
