@@ -3,7 +3,9 @@ use Rattle.std.proofs.Common.{◌≡◌, ◌≢◌, ℕ, ◌+◌, ◌<◌, ◌�
 use Rattle.std.proofs.Common.{append-nil, append_assoc, ap, arith, inl, inr, length-append, refl, subst, sym, take}
 use borrow.Rule.Slice.PartMut.{put_mid}
 use Rattle.std.specs.Prelude.{◌⊎◌, slice_index_or, slice_set}
+use Rattle.std.specs.Bool.{◌==◌}
 use Rattle.std.specs.List.{enumerate_from, filter, flat_map}
+use Rattle.std.proofs.lemmas.Bool.Decides.{nat_tests}
 use Rattle.std.proofs.lemmas.Grind.{flat_map-append}
 use Rattle.std.proofs.lemmas.List.{at_drop_all, length-set, length-take, length-take-le, take-take, take_more_set}
 use Rattle.std.proofs.lemmas.List.Folds.{flat_map-map}
@@ -151,6 +153,13 @@ calls-of_lines n s =
 pub changes-of_lines : (n : ℕ) (s : ScheduleLines) → journey_rows change_rows n s.further ≡ schedule_rows Changes n s
 changes-of_lines n s =
     sym (filtered (λ p. is_change (kind_of_line p.line)) (row_line change_fields) (numbered_from n 1 s.further))
+
+-- there are lines, or there is none, by a test
+pub some-lines : {A : Type 0} (lines : List A) (none : Bool) → none ≡ (length lines == 0) → none ≡ false → 0 < length lines
+some-lines lines none is other = grind (arith, nat_tests, is, other)
+
+pub no-lines : {A : Type 0} (lines : List A) (none : Bool) → none ≡ (length lines == 0) → none ≡ true → length lines ≡ 0
+no-lines lines none is so = grind (arith, nat_tests, is, so)
 
 -- the first line, and those behind it
 pub first-and-rest : (lines : List (List ℕ)) (line : List ℕ) (rest : List (List ℕ)) → 0 < length lines →
