@@ -87,7 +87,8 @@ impl TableRow {
         self.push(Shape::Whole, b"");
     }
 
-    /// Appends the `N` columns of the line from `first` on, counted from 1, without the spaces at their end.
+    /// Appends a tab and the `N` columns of the line from `first` on, counted from 1, up to the last
+    /// that is no space.
     #[inline(always)]
     pub(crate) fn push_text<const N: usize>(&mut self, line: &Line, first: usize)
         requires from_one { 1 ≤ first }
