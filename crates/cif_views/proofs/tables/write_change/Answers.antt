@@ -1,5 +1,5 @@
 -- The number and the fields of the line are the row of a change (`change-row`); other lines have none (`no-change-row`).
-use Rattle.std.proofs.Common.{[], ◌∙◌, ap, arith, decimal, length, refl, sym, take}
+use Rattle.std.proofs.Common.{◌∙◌, ap, arith, decimal, length, refl, sym, take}
 use Rattle.std.proofs.Math.Seq.{take-length}
 use Rattle.cif_canon.proofs.AppendedTexts.{nothing, text-is}
 use Rattle.cif_views.proofs.Words.{CHANGE, Whole, fields_at}
