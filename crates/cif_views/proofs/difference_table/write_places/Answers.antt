@@ -23,9 +23,12 @@ write_place-requires-clause-places g c =
     let some = some-lines c.loop-lefts.lefts _ c.is_empty.ensures c.loop-lefts-test.true in
     first-places c.loop-lefts.lefts c.loop-lefts.rights _ _ same some c.first-one.ensures c.first-other.ensures
 
-pub call_after-call-requires : goal.call_after-call-requires
-call_after-call-requires g c =
-    let (text, written, left, same, few) = c.loop-lefts.invariant in omega (arith, few, c.are_few.ensures)
+pub rest-rights-requires : goal.rest-rights-requires
+rest-rights-requires g c =
+    let (text, written, left, same, few) = c.loop-lefts.invariant in
+    let some = some-lines c.loop-lefts.lefts _ c.is_empty.ensures c.loop-lefts-test.true in
+    let many = as-many c.loop-lefts.lefts c.loop-lefts.rights same in
+    omega (arith, some, many)
 
 pub loop-lefts-preserved : goal.loop-lefts-preserved
 loop-lefts-preserved g c =
