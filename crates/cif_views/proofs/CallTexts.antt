@@ -1,13 +1,15 @@
 -- The text of calls that are written one after another, and of the rows of a table that has them.
 use Rattle.std.proofs.Common.{◌≡◌, ℕ, ◌<◌, Bool, true, false, List, [], ◌∷◌, ◌++◌, codes, length, refl, sym, ap, ap₂, ◌∙◌, append-nil}
-use Rattle.std.proofs.Common.{append_assoc, arith, if◌then◌else◌}
+use Rattle.std.proofs.Common.{◌+◌, ◌≤◌, Bor, append_assoc, arith, drop, get_or, if◌then◌else◌, map, subst}
+use Rattle.std.proofs.lemmas.List.{at_drop_all, at_drop_more}
 use Rattle.cif_views.specs.Explanation.{explanation_heading}
 use Rattle.cif_views.specs.Steps.Rows.{heading_text, row_and_calls}
 use Rattle.cif_views.specs.Listing.{association_names, if_table, lines_of_row, train_names, with_calls}
 use Rattle.cif_views.specs.declared.listing.Listing.{Listing}
-use Rattle.cif_canon.proofs.ViewLines.{joined-rows}
-use Rattle.cif_views.proofs.Words.{At, BodyParts, Call, Field, Format, Text, Tsv, Turn, call_text, calls_text, day_names, fields_text}
-use Rattle.cif_views.proofs.Words.{flat_map, line_of, names_behind, names_line, row_lines, row_start, shown, with_first}
+use Rattle.cif_canon.specs.Fields.{separator}
+use Rattle.cif_canon.proofs.ViewLines.{IsGrowing, joined-rows}
+use Rattle.cif_views.proofs.Words.{At, BodyParts, Call, Field, Format, Text, Trimmed, Tsv, Turn, after, call_text, calls_text, day_names}
+use Rattle.cif_views.proofs.Words.{fields_text, flat_map, line_of, names_behind, names_line, row_lines, row_start, shown, with_first}
 
 -- one more of all is done, or none is left
 module _ {X : Type 0} (all done left : List X) (split : done ++ left ≡ all) where
@@ -16,6 +18,40 @@ module _ {X : Type 0} (all done left : List X) (split : done ++ left ≡ all) wh
 
   pub all-done : left ≡ [] → done ≡ all
   all-done none = sym (append-nil done) ∙ ap (λ (xs : List X). done ++ xs) (sym none) ∙ split
+
+-- columns without the spaces at their end, as the code has them
+abbrev pub trimmed_field : Bor (List ℕ) → Field
+trimmed_field columns = (Trimmed, columns.now)
+
+-- With the columns of a call that are left, its line is whole: one more is appended, or none is left.
+abbrev pub no_columns : Bor (List ℕ)
+no_columns = record { ref_ptr = (0, 0); now = [] }
+
+module _ (format : Format) (whole : List ℕ) (most : ℕ) (xs : List (Bor (List ℕ))) (i : ℕ) where
+  module _ (line : List ℕ) (size : ℕ) (is : IsGrowing format whole most line size (map trimmed_field (drop i xs))) where
+    pub first-column : i < length xs →
+        IsGrowing format whole most line size (trimmed_field (get_or xs i no_columns) ∷ map trimmed_field (drop (i + 1) xs))
+    first-column below = subst (IsGrowing format whole most line size) (at_drop_more (map trimmed_field) xs i no_columns below) is
+
+    pub one-column : i < length xs → (new : List ℕ) (more : ℕ) →
+        new ≡ line ++ (separator format ∷ shown format (trimmed_field (get_or xs i no_columns))) →
+        more ≤ size + length (get_or xs i no_columns).now + 1 → IsGrowing format whole most new more (map trimmed_field (drop (i + 1) xs))
+    one-column below new more e upto =
+        let here = first-column below in
+        let room = here.room in
+        let rest = map trimmed_field (drop (i + 1) xs) in record {
+          text = ap (λ (l : List ℕ). l ++ after format rest) e
+              ∙ append_assoc line (separator format ∷ shown format (trimmed_field (get_or xs i no_columns))) (after format rest)
+              ∙ here.text;
+          room = omega (arith, room, upto);
+          fields = here.fields.1;
+        }
+
+    pub no-column : length xs ≤ i → (line ≡ whole) × (size ≤ most)
+    no-column past =
+        let end = subst (IsGrowing format whole most line size) (at_drop_all (map trimmed_field) xs i past) is in
+        let room = end.room in
+        (sym (append-nil line) ∙ end.text, omega (arith, room))
 
 -- a call's line behind the row of its train
 line-behind : (first : Field) (row : List Field) (field : Field) (fields : List Field) →

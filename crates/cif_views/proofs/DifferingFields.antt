@@ -1,7 +1,7 @@
 -- The rows of fields that differ.
 use Rattle.std.proofs.Common.{◌≡◌, ℕ, ◌+◌, ◌<◌, zero, suc, Bool, true, false, Bor, IsTrue, List, [], ◌∷◌, ◌++◌, cond, codes, if◌then◌else◌}
-use Rattle.std.proofs.Common.{◌∙◌, append-nil, append_assoc, ap, arith, drop, get_or, length, refl, slice_index_or, sym, take}
-use Rattle.std.specs.Prelude.{nat_eq}
+use Rattle.std.proofs.Common.{◌∙◌, append-nil, append_assoc, ap, ap₂, arith, drop, get_or, length, refl, slice_index_or, sym, take}
+use Rattle.std.specs.Prelude.{◌&&◌, nat_eq}
 use Rattle.std.proofs.lemmas.Bool.{and_parts, false≢true}
 use Rattle.std.proofs.lemmas.List.{take-take}
 use Rattle.cif_records.specs.Kind.{is_identity, kinds}
@@ -10,8 +10,8 @@ use Rattle.cif_views.specs.Steps.DifferenceRows.{are_named, field_row, fields_of
 use Rattle.cif_views.specs.Tables.{names, own_call_fields}
 use Rattle.cif_views.specs.declared.difference_table.FieldPlace.{FieldPlace}
 use Rattle.cif_views.proofs.Words.{Change, Field, JourneyKind, Origin, Other, Stop, TableFields, Terminus, Trimmed, Tsv, after}
-use Rattle.cif_views.proofs.Words.{bytes_decides, call_fields_of, columns, differing_row, differing_rows, find, flat_map, is_call}
-use Rattle.cif_views.proofs.Words.{is_change, journey_kind, kind_of_line, line_of, lines_rows, named_fields, nothing, own_fields}
+use Rattle.cif_views.proofs.Words.{bytes_decides, call_fields_of, columns, count_of_calls, differing_row, differing_rows, find, flat_map}
+use Rattle.cif_views.proofs.Words.{is_call, is_change, journey_kind, kind_of_line, line_of, lines_rows, named_fields, nothing, own_fields}
 use Rattle.cif_views.proofs.Words.{pointwise, replicate, row_fields, rows_of_place, same_places, shown, start_of, text_at, trimmed}
 use Rattle.cif_views.proofs.DifferenceRows.{start-row}
 use Rattle.cif_views.proofs.TableRows.{HasPushed, one-pushed, origin-fields, stop-fields, terminus-fields}
@@ -125,6 +125,24 @@ module _ (head : List Field) (call : ℕ) (line other : List ℕ) where
   place-rows Change e f = ap (λ change. differing_rows start (own_fields change) line other) (sym (ap is_change e))
   place-rows Other e f = sym (call-rows _ _ (ap is_change e) (no-fields line e) (no-fields other f) ∙ simp no-cells)
 
+-- whether journeys with lines have the same places, by a test of what stands in the first lines
+by-first : (lefts rights : List (List ℕ)) → 0 < length lefts → 0 < length rights →
+    same_places lefts rights
+    ≡ (pointwise nat_eq (columns 1 10 (slice_index_or lefts 0 [])) (columns 1 10 (slice_index_or rights 0 []))
+    && same_places (drop 1 lefts) (drop 1 rights))
+by-first [] rights some more = absurd (omega (arith, some))
+by-first (l ∷ lefts) [] some more = absurd (omega (arith, more))
+by-first (l ∷ lefts) (r ∷ rights) some more = refl
+
+pub firsts-tested : (lefts rights : List (List ℕ)) (line other one two : List ℕ) (test : Bool) → 0 < length lefts → 0 < length rights →
+    line ≡ slice_index_or lefts 0 [] → other ≡ slice_index_or rights 0 [] → one ≡ columns 1 10 line → two ≡ columns 1 10 other →
+    pointwise nat_eq one two ≡ test → same_places lefts rights ≡ (test && same_places (drop 1 lefts) (drop 1 rights))
+firsts-tested lefts rights line other one two test some more left right one_is two_is is =
+    by-first lefts rights some more
+    ∙ ap (λ (b : Bool). b && same_places (drop 1 lefts) (drop 1 rights))
+    (ap₂ (λ (a b : List ℕ). pointwise nat_eq a b) (ap (columns 1 10) (sym left) ∙ sym one_is) (ap (columns 1 10) (sym right) ∙ sym two_is)
+    ∙ is)
+
 -- journeys with the same places have as many lines, and the first of both have one place
 pub as-many : (lefts rights : List (List ℕ)) → IsTrue (same_places lefts rights) → length lefts ≡ length rights
 as-many [] [] same = refl
@@ -167,3 +185,14 @@ module _ (head : List Field) (whole : List ℕ) where
       text ≡ whole
   no-place text call [] rights none is = sym (append-nil text) ∙ is
   no-place text call (line ∷ lefts) rights none is = absurd (omega (arith, none))
+
+-- the calls so far and those of the rest are all, with one line more
+one-counted : (is : Bool) (count next total n : ℕ) → next ≡ cond is (count + 1) count → total ≡ count + cond is (n + 1) n → total ≡ next + n
+one-counted true count next total n e all = omega (arith, e, all)
+one-counted false count next total n e all = omega (arith, e, all)
+
+pub counted-more : (count next total : ℕ) (kind : JourneyKind) (lines rest : List (List ℕ)) (line : List ℕ) → lines ≡ line ∷ rest →
+    kind ≡ kind_of_line line → next ≡ cond (is_call kind) (count + 1) count → total ≡ count + count_of_calls lines →
+    total ≡ next + count_of_calls rest
+counted-more count next total kind lines rest line is of_line e all =
+    one-counted (is_call kind) count next total (count_of_calls rest) e (rw of_line (all ∙ ap (λ ls. count + count_of_calls ls) is))

@@ -3,9 +3,11 @@ use Rattle.std.proofs.Common.{◌≡◌, ◌≢◌, ℕ, ◌+◌, ◌<◌, ◌�
 use Rattle.std.proofs.Common.{append-nil, append_assoc, ap, arith, inl, inr, length-append, refl, subst, sym, take}
 use borrow.Rule.Slice.PartMut.{put_mid}
 use Rattle.std.specs.Prelude.{◌⊎◌, slice_index_or, slice_set}
+use Rattle.std.specs.Bool.{◌==◌}
 use Rattle.std.specs.List.{enumerate_from, filter, flat_map}
+use Rattle.std.proofs.lemmas.Bool.Decides.{nat_tests}
 use Rattle.std.proofs.lemmas.Grind.{flat_map-append}
-use Rattle.std.proofs.lemmas.List.{at_drop_all, length-set, length-take-le, take-take, take_more_set}
+use Rattle.std.proofs.lemmas.List.{at_drop_all, length-set, length-take, length-take-le, take-take, take_more_set}
 use Rattle.std.proofs.lemmas.List.Folds.{flat_map-map}
 use Rattle.std.proofs.lemmas.Slice.{take-put_mid}
 use Rattle.std.proofs.Math.Seq.{take-append-add, take-append_seam}
@@ -152,6 +154,13 @@ pub changes-of_lines : (n : ℕ) (s : ScheduleLines) → journey_rows change_row
 changes-of_lines n s =
     sym (filtered (λ p. is_change (kind_of_line p.line)) (row_line change_fields) (numbered_from n 1 s.further))
 
+-- there are lines, or there is none, by a test
+pub some-lines : {A : Type 0} (lines : List A) (none : Bool) → none ≡ (length lines == 0) → none ≡ false → 0 < length lines
+some-lines lines none is other = grind (arith, nat_tests, is, other)
+
+pub no-lines : {A : Type 0} (lines : List A) (none : Bool) → none ≡ (length lines == 0) → none ≡ true → length lines ≡ 0
+no-lines lines none is so = grind (arith, nat_tests, is, so)
+
 -- the first line, and those behind it
 pub first-and-rest : (lines : List (List ℕ)) (line : List ℕ) (rest : List (List ℕ)) → 0 < length lines →
     line ≡ slice_index_or lines 0 [] → rest ≡ drop 1 lines → lines ≡ line ∷ rest
@@ -236,9 +245,20 @@ pub no-change-row : (begun : List ℕ) (call : ℕ) (line : List ℕ) (kind : Jo
 no-change-row begun call line kind is other =
     ap (λ b. cond b (row_behind begun (number call ∷ fields_at CHANGE line)) []) (sym (no-change kind other) ∙ ap is_change is)
 
+-- a row that has been appended to twice is no shorter
+pub still-some : (old mid new one other : List ℕ) → mid ≡ old ++ one → new ≡ mid ++ other → 0 < length old → 0 < length new
+still-some old mid new one other first then some =
+    let long = ap length first ∙ length-append old one in
+    let longer = ap length then ∙ length-append mid other in
+    omega (arith, some, long, longer)
+
 -- a row that has been appended to begins as before
 pub begins-alike : (old new : List ℕ) (fields : List Field) → HasPushed old new fields → take (length old) new ≡ old
 begins-alike old new fields h = ap (take (length old)) h.text ∙ take-append_seam old (after Tsv fields)
+
+-- and is no shorter
+pub no-shorter : (n : ℕ) (old new : List ℕ) → n ≡ length old → take (length old) new ≡ old → n ≤ length new
+no-shorter n old new is begun = let long = sym (ap length begun) ∙ length-take (length old) new in omega (arith, is, long)
 
 -- with the number of the schedule before it, it is that of the table
 pub numbered-row : (calls : Bool) (begun : List ℕ) (p : Numbered) → begun ≡ after Tsv (number p.schedule ∷ []) →

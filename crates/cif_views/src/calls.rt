@@ -12,7 +12,7 @@ ghost use Rattle.cif_views.specs.Steps.Rows.{row_lines};
 
 use crate::listing::Listing;
 use arrayvec::ArrayString;
-use cif_canon::rows::{LONGEST_ROW, push_fields, started};
+use cif_canon::rows::{LONGEST_ROW, push_field, started};
 use cif_canon::writing::append;
 use cif_canon::{Format, Shape};
 use cif_columns::{Sink, WriteDevice};
@@ -27,14 +27,16 @@ const NO_PUBLIC_TIME: &[u8] = b"    ";
 const NO_TRACK: &[u8] = b"   ";
 
 /// The line of a call of this kind, with these fields.
-fn call_line(format: Format, kind: &[u8], fields: &[(Shape, &[u8])]) -> ArrayString<LONGEST_ROW>
+fn call_line(format: Format, kind: &[u8], fields: &[&[u8]]) -> ArrayString<LONGEST_ROW>
     requires kind { ArePrintable kind.now }
-    requires fields { AreFields (map (λ field. (field.0, field.1.now)) fields.now) }
-    requires room { length kind.now + width (map (λ field. (field.0, field.1.now)) fields.now) + 1 ≤ LONGEST_ROW }
-    ensures { result.bytes ≡ line_of format ((Trimmed, kind.now) ∷ map (λ field. (field.0, field.1.now)) fields.now) }
+    requires fields { AreFields (map (λ field. (Trimmed, field.now)) fields.now) }
+    requires room { length kind.now + width (map (λ field. (Trimmed, field.now)) fields.now) + 1 ≤ LONGEST_ROW }
+    ensures { result.bytes ≡ line_of format ((Trimmed, kind.now) ∷ map (λ field. (Trimmed, field.now)) fields.now) }
 {
     let mut line = started("", format, Shape::Trimmed, kind);
-    push_fields(&mut line, format, fields);
+    for field in fields {
+        push_field(&mut line, format, Shape::Trimmed, field);
+    }
     line.push_str("\n");
     line
 }
@@ -47,17 +49,17 @@ fn origin_line(format: Format, origin: &Origin) -> ArrayString<LONGEST_ROW>
         format,
         b"LO",
         &[
-            (Shape::Trimmed, &origin.location.write()),
-            (Shape::Trimmed, &origin.suffix.write()),
-            (Shape::Trimmed, NO_WORK_TIME),
-            (Shape::Trimmed, &origin.departure.write()),
-            (Shape::Trimmed, NO_WORK_TIME),
-            (Shape::Trimmed, NO_PUBLIC_TIME),
-            (Shape::Trimmed, &origin.public_departure.write()),
-            (Shape::Trimmed, &origin.platform.write()),
-            (Shape::Trimmed, NO_TRACK),
-            (Shape::Trimmed, &origin.line.write()),
-            (Shape::Trimmed, &origin.activities.write()),
+            &origin.location.write(),
+            &origin.suffix.write(),
+            NO_WORK_TIME,
+            &origin.departure.write(),
+            NO_WORK_TIME,
+            NO_PUBLIC_TIME,
+            &origin.public_departure.write(),
+            &origin.platform.write(),
+            NO_TRACK,
+            &origin.line.write(),
+            &origin.activities.write(),
         ],
     )
 }
@@ -70,17 +72,17 @@ fn stop_line(format: Format, stop: &Stop) -> ArrayString<LONGEST_ROW>
         format,
         b"LI",
         &[
-            (Shape::Trimmed, &stop.location.write()),
-            (Shape::Trimmed, &stop.suffix.write()),
-            (Shape::Trimmed, &stop.arrival.write()),
-            (Shape::Trimmed, &stop.departure.write()),
-            (Shape::Trimmed, &stop.pass.write()),
-            (Shape::Trimmed, &stop.public_arrival.write()),
-            (Shape::Trimmed, &stop.public_departure.write()),
-            (Shape::Trimmed, &stop.platform.write()),
-            (Shape::Trimmed, &stop.path.write()),
-            (Shape::Trimmed, &stop.line.write()),
-            (Shape::Trimmed, &stop.activities.write()),
+            &stop.location.write(),
+            &stop.suffix.write(),
+            &stop.arrival.write(),
+            &stop.departure.write(),
+            &stop.pass.write(),
+            &stop.public_arrival.write(),
+            &stop.public_departure.write(),
+            &stop.platform.write(),
+            &stop.path.write(),
+            &stop.line.write(),
+            &stop.activities.write(),
         ],
     )
 }
@@ -93,17 +95,17 @@ fn terminus_line(format: Format, terminus: &Terminus) -> ArrayString<LONGEST_ROW
         format,
         b"LT",
         &[
-            (Shape::Trimmed, &terminus.location.write()),
-            (Shape::Trimmed, &terminus.suffix.write()),
-            (Shape::Trimmed, &terminus.arrival.write()),
-            (Shape::Trimmed, NO_WORK_TIME),
-            (Shape::Trimmed, NO_WORK_TIME),
-            (Shape::Trimmed, &terminus.public_arrival.write()),
-            (Shape::Trimmed, NO_PUBLIC_TIME),
-            (Shape::Trimmed, &terminus.platform.write()),
-            (Shape::Trimmed, &terminus.path.write()),
-            (Shape::Trimmed, NO_TRACK),
-            (Shape::Trimmed, &terminus.activities.write()),
+            &terminus.location.write(),
+            &terminus.suffix.write(),
+            &terminus.arrival.write(),
+            NO_WORK_TIME,
+            NO_WORK_TIME,
+            &terminus.public_arrival.write(),
+            NO_PUBLIC_TIME,
+            &terminus.platform.write(),
+            &terminus.path.write(),
+            NO_TRACK,
+            &terminus.activities.write(),
         ],
     )
 }

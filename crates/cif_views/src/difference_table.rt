@@ -14,7 +14,7 @@ ghost use Rattle.cif_views.specs.Steps.DifferenceRows.{journeys_of, lines_rows, 
 ghost use Rattle.cif_views.specs.Steps.DifferenceRows.{same_places, start_of};
 ghost use Rattle.cif_views.specs.Tables.{kind_of_line, text_at};
 
-use crate::table_row::TableRow;
+use crate::table_row::{Place, TableRow};
 use crate::tables::{JourneyKind, call_after, extra_among, kind_of_line};
 use cif_canon::rows::used_columns;
 use cif_canon::writing::{answer, append};
@@ -25,6 +25,25 @@ use cif_records::{Kind, kind_of};
 
 /// A field that pairs are compared by: its name, and its columns from and to, counted from 1.
 type Named = (&'static str, usize, usize);
+
+/// Where the fields of AA up to its days run stand, in the order of the table.
+const ASSOCIATION_HEAD: [Place; 8] = [
+    (Shape::Whole, 4, 9),
+    (Shape::Whole, 10, 15),
+    (Shape::Trimmed, 38, 44),
+    (Shape::Trimmed, 45, 45),
+    (Shape::Trimmed, 46, 46),
+    (Shape::Date, 16, 21),
+    (Shape::Date, 22, 27),
+    (Shape::Trimmed, 28, 34),
+];
+
+/// Where the dates of BS and its days run stand.
+const SCHEDULE_DATES: [Place; 3] = [
+    (Shape::Date, 10, 15),
+    (Shape::Date, 16, 21),
+    (Shape::Trimmed, 22, 28),
+];
 
 /// The fields of AA that are neither its key nor its dates and days.
 const ASSOCIATION: [Named; 4] = [
@@ -245,29 +264,20 @@ fn push_head(row: &mut TableRow, kind: RowKind, change: &str, line: &Line)
     match kind {
         RowKind::Tiploc => {
             row.push(Shape::Trimmed, b"TI");
-            row.push(Shape::Trimmed, &columns_at::<7>(line, 3));
+            row.push_text::<7>(line, 3);
             push_nothing(row, 8);
         }
         RowKind::Association => {
             row.push(Shape::Trimmed, b"AA");
             row.push_nothing();
-            row.push(Shape::Whole, &columns_at::<6>(line, 4));
-            row.push(Shape::Whole, &columns_at::<6>(line, 10));
-            row.push(Shape::Trimmed, &columns_at::<7>(line, 38));
-            row.push(Shape::Trimmed, &columns_at::<1>(line, 45));
-            row.push(Shape::Trimmed, &columns_at::<1>(line, 46));
-            row.push(Shape::Date, &columns_at::<6>(line, 16));
-            row.push(Shape::Date, &columns_at::<6>(line, 22));
-            row.push(Shape::Trimmed, &columns_at::<7>(line, 28));
+            row.push_each(&ASSOCIATION_HEAD, line);
         }
         RowKind::Schedule => {
             row.push(Shape::Trimmed, b"BS");
             row.push_nothing();
             row.push(Shape::Whole, &columns_at::<6>(line, 4));
             push_nothing(row, 4);
-            row.push(Shape::Date, &columns_at::<6>(line, 10));
-            row.push(Shape::Date, &columns_at::<6>(line, 16));
-            row.push(Shape::Trimmed, &columns_at::<7>(line, 22));
+            row.push_each(&SCHEDULE_DATES, line);
         }
     }
 }
@@ -309,8 +319,8 @@ fn push_start(row: &mut TableRow, place: FieldPlace<'_>)
         FieldPlace::Journey(basic, call, line) => {
             push_head(row, RowKind::Schedule, "<>", basic);
             row.push_number(call);
-            row.push(Shape::Trimmed, &columns_at::<2>(line, 1));
-            row.push(Shape::Trimmed, &columns_at::<7>(line, 3));
+            row.push_text::<2>(line, 1);
+            row.push_text::<7>(line, 3);
         }
     }
 }
@@ -388,12 +398,13 @@ fn shown_of<'a>(line: &'a Line, field: &Named) -> &'a [u8]
 fn journey_among(lines: LineSlice<'_>) -> LineSlice<'_>
     ensures { result ≡ without_extra lines.entry }
 {
-    if !lines.is_empty() {
-        if let Some(Kind::Bx) = kind_of(&lines.first()) {
-            return lines.rest();
-        }
+    if lines.is_empty() {
+        return lines;
     }
-    lines
+    match kind_of(&lines.first()) {
+        Some(Kind::Bx) => lines.rest(),
+        _ => lines,
+    }
 }
 
 /// Appends the rows of two journeys: place by place if these are the same, else one row.
@@ -425,14 +436,17 @@ fn have_same_places(left: &LineSlice<'_>, right: &LineSlice<'_>) -> bool
 {
     let mut lefts = left.copy();
     let mut rights = right.copy();
-    while !lefts.is_empty() && !rights.is_empty() {
+    while !lefts.is_empty() {
+        if rights.is_empty() {
+            return false;
+        }
         if columns_at::<10>(&lefts.first(), 1) != columns_at::<10>(&rights.first(), 1) {
             return false;
         }
         lefts = lefts.rest();
         rights = rights.rest();
     }
-    lefts.is_empty() && rights.is_empty()
+    rights.is_empty()
 }
 
 /// How many lines are calls.

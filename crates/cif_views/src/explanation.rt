@@ -76,12 +76,8 @@ pub fn explain_listing<W: WriteDevice>(
         format,
         calls: false,
     };
-    let names = heading(
-        listing,
-        "date\tmark\tkind\tstp_indicator\tfirst_date\tlast_date\tdays_run\tuid",
-        ASSOCIATION,
-    );
-    append(names.as_str(), sink);
+    let first = "date\tmark\tkind\tstp_indicator\tfirst_date\tlast_date\tdays_run\tuid";
+    append(heading(listing, first, ASSOCIATION).as_str(), sink);
     write_explained(format, day, associations.as_slice(), sink);
     write_explained(format, day, trains.as_slice(), sink);
     answer(sink)

@@ -1,8 +1,8 @@
 //! The rows of tables, field by field.
 ghost use Rattle.std.specs.Prelude.{◌≡◌, ◌<◌, ◌≤◌, ◌+◌, ◌++◌, ◌∷◌, [], IsTrue, codes, decimal, drop, length, take};
-ghost use Rattle.cif_columns.specs.Field.{columns};
+ghost use Rattle.cif_columns.specs.Field.{columns, columns_from};
 ghost use Rattle.cif_canon.specs.Appended.{IsAppended};
-ghost use Rattle.cif_canon.specs.Fields.{after, in_table, width_of};
+ghost use Rattle.cif_canon.specs.Fields.{after, in_table, trimmed, width_of};
 ghost use Rattle.cif_canon.specs.declared.rows.Format.TheVariants.{Tsv};
 ghost use Rattle.cif_canon.specs.declared.rows.Shape.TheVariants.{Whole};
 ghost use Rattle.cif_views.specs.Steps.TableRows.{IsOfShape, are_within, fields_at, is_within, room_for};
@@ -10,7 +10,7 @@ ghost use Rattle.cif_views.specs.Steps.TableRows.{room_of};
 
 use cif_canon::Shape;
 use cif_canon::rows::{long_date, used_columns};
-use cif_columns::{Line, Sink, WriteDevice};
+use cif_columns::{Line, Sink, WriteDevice, columns_at};
 use itoa::Buffer;
 use std::marker::Model;
 
@@ -85,6 +85,19 @@ impl TableRow {
         ensures len { length self.new ≤ length self.old + 1 }
     {
         self.push(Shape::Whole, b"");
+    }
+
+    /// Appends a tab and the `N` columns of the line from `first` on, counted from 1, up to the last
+    /// that is no space.
+    #[inline(always)]
+    pub(crate) fn push_text<const N: usize>(&mut self, line: &Line, first: usize)
+        requires from_one { 1 ≤ first }
+        requires within { first + N ≤ 81 }
+        requires room { length self.old + N + 1 ≤ ROOM }
+        ensures text { self.new ≡ self.old ++ (9 ∷ trimmed (columns_from first N line.now)) }
+        ensures len { length self.new ≤ length self.old + N + 1 }
+    {
+        self.push(Shape::Trimmed, &columns_at::<N>(line, first));
     }
 
     /// Appends a tab and a number.

@@ -274,7 +274,9 @@ impl CanonListing for Table {
             Table::Schedules => write_schedule(number, schedule, sink),
             Table::Calls => write_journey(true, number, schedule.further(), sink),
             Table::Changes => write_journey(false, number, schedule.further(), sink),
-            Table::Header | Table::Tiplocs | Table::Associations => {}
+            Table::Header => {}
+            Table::Tiplocs => {}
+            Table::Associations => {}
         }
     }
 }
@@ -439,9 +441,9 @@ fn push_place(row: &mut TableRow, call: usize, line: &Line)
     ensures len { length row.new ≤ 95 }
 {
     row.push_number(call);
-    row.push(Shape::Trimmed, &columns_at::<2>(line, 1));
-    row.push(Shape::Trimmed, &columns_at::<7>(line, 3));
-    row.push(Shape::Trimmed, &columns_at::<1>(line, 10));
+    row.push_text::<2>(line, 1);
+    row.push_text::<7>(line, 3);
+    row.push_text::<1>(line, 10);
 }
 
 /// Appends the other fields of an LO.
@@ -453,17 +455,17 @@ fn push_origin(row: &mut TableRow, line: &Line)
     ensures len { length row.new ≤ 155 }
 {
     row.push_nothing();
-    row.push(Shape::Trimmed, &columns_at::<5>(line, 11));
+    row.push_text::<5>(line, 11);
     row.push_nothing();
     row.push_nothing();
-    row.push(Shape::Trimmed, &columns_at::<4>(line, 16));
-    row.push(Shape::Trimmed, &columns_at::<3>(line, 20));
-    row.push(Shape::Trimmed, &columns_at::<3>(line, 23));
+    row.push_text::<4>(line, 16);
+    row.push_text::<3>(line, 20);
+    row.push_text::<3>(line, 23);
     row.push_nothing();
-    row.push(Shape::Trimmed, &columns_at::<12>(line, 30));
-    row.push(Shape::Trimmed, &columns_at::<2>(line, 26));
-    row.push(Shape::Trimmed, &columns_at::<2>(line, 28));
-    row.push(Shape::Trimmed, &columns_at::<2>(line, 42));
+    row.push_text::<12>(line, 30);
+    row.push_text::<2>(line, 26);
+    row.push_text::<2>(line, 28);
+    row.push_text::<2>(line, 42);
 }
 
 /// Appends those of an LI.
@@ -473,18 +475,18 @@ fn push_stop(row: &mut TableRow, line: &Line)
     ensures text { row.new ≡ row.old ++ after Tsv (call_fields_of line.now) }
     ensures len { length row.new ≤ 157 }
 {
-    row.push(Shape::Trimmed, &columns_at::<5>(line, 11));
-    row.push(Shape::Trimmed, &columns_at::<5>(line, 16));
-    row.push(Shape::Trimmed, &columns_at::<5>(line, 21));
-    row.push(Shape::Trimmed, &columns_at::<4>(line, 26));
-    row.push(Shape::Trimmed, &columns_at::<4>(line, 30));
-    row.push(Shape::Trimmed, &columns_at::<3>(line, 34));
-    row.push(Shape::Trimmed, &columns_at::<3>(line, 37));
-    row.push(Shape::Trimmed, &columns_at::<3>(line, 40));
-    row.push(Shape::Trimmed, &columns_at::<12>(line, 43));
-    row.push(Shape::Trimmed, &columns_at::<2>(line, 55));
-    row.push(Shape::Trimmed, &columns_at::<2>(line, 57));
-    row.push(Shape::Trimmed, &columns_at::<2>(line, 59));
+    row.push_text::<5>(line, 11);
+    row.push_text::<5>(line, 16);
+    row.push_text::<5>(line, 21);
+    row.push_text::<4>(line, 26);
+    row.push_text::<4>(line, 30);
+    row.push_text::<3>(line, 34);
+    row.push_text::<3>(line, 37);
+    row.push_text::<3>(line, 40);
+    row.push_text::<12>(line, 43);
+    row.push_text::<2>(line, 55);
+    row.push_text::<2>(line, 57);
+    row.push_text::<2>(line, 59);
 }
 
 /// Appends those of an LT.
@@ -494,15 +496,15 @@ fn push_terminus(row: &mut TableRow, line: &Line)
     ensures text { row.new ≡ row.old ++ after Tsv (call_fields_of line.now) }
     ensures len { length row.new ≤ 137 }
 {
-    row.push(Shape::Trimmed, &columns_at::<5>(line, 11));
+    row.push_text::<5>(line, 11);
     row.push_nothing();
     row.push_nothing();
-    row.push(Shape::Trimmed, &columns_at::<4>(line, 16));
+    row.push_text::<4>(line, 16);
     row.push_nothing();
-    row.push(Shape::Trimmed, &columns_at::<3>(line, 20));
+    row.push_text::<3>(line, 20);
     row.push_nothing();
-    row.push(Shape::Trimmed, &columns_at::<3>(line, 23));
-    row.push(Shape::Trimmed, &columns_at::<12>(line, 26));
+    row.push_text::<3>(line, 23);
+    row.push_text::<12>(line, 26);
     row.push_nothing();
     row.push_nothing();
     row.push_nothing();

@@ -1,11 +1,10 @@
 -- One place more is written (`one-place`), until none is left (`no-place`).
-use Rattle.std.proofs.Common.{◌≡◌, ◌<◌, ◌++◌, [], ap, arith, length, refl}
-use Rattle.std.proofs.lemmas.Bool.Decides.{nat_tests}
+use Rattle.std.proofs.Common.{◌++◌, [], ap, arith, length, refl}
 use Rattle.cif_canon.proofs.AppendedTexts.{both, nothing, text-is}
 use Rattle.cif_views.specs.declared.difference_table.RowKind.TheVariants.{Schedule}
 use Rattle.cif_views.proofs.Words.{changed, head_fields, is_call, lines_rows, rows_of_place}
 use Rattle.cif_views.proofs.DifferingFields.{as-many, first-places, no-place, one-place, rest-places}
-use Rattle.cif_views.proofs.TableRows.{first-and-rest, next-call}
+use Rattle.cif_views.proofs.TableRows.{first-and-rest, next-call, no-lines, some-lines}
 use Rattle.cif_views.proofs.difference_table.write_places.Goals as goal
 
 pub loop-lefts-init : goal.loop-lefts-init
@@ -14,28 +13,29 @@ loop-lefts-init g c = ([], nothing _ _ _, refl, c.requires, omega arith)
 pub first-other-requires : goal.first-other-requires
 first-other-requires g c =
     let (text, written, left, same, few) = c.loop-lefts.invariant in
-    let test = c.loop-lefts-test.true in
-    let told = c.is_empty.ensures in
-    let some : 0 < length c.loop-lefts.lefts = grind (arith, nat_tests, test, told) in
+    let some = some-lines c.loop-lefts.lefts _ c.is_empty.ensures c.loop-lefts-test.true in
     let many = as-many c.loop-lefts.lefts c.loop-lefts.rights same in
     omega (arith, some, many)
 
 pub write_place-requires-clause-places : goal.write_place-requires-clause-places
 write_place-requires-clause-places g c =
     let (text, written, left, same, few) = c.loop-lefts.invariant in
-    let test = c.loop-lefts-test.true in
-    let told = c.is_empty.ensures in
-    let some : 0 < length c.loop-lefts.lefts = grind (arith, nat_tests, test, told) in
+    let some = some-lines c.loop-lefts.lefts _ c.is_empty.ensures c.loop-lefts-test.true in
     first-places c.loop-lefts.lefts c.loop-lefts.rights _ _ same some c.first-one.ensures c.first-other.ensures
+
+pub rest-rights-requires : goal.rest-rights-requires
+rest-rights-requires g c =
+    let (text, written, left, same, few) = c.loop-lefts.invariant in
+    let some = some-lines c.loop-lefts.lefts _ c.is_empty.ensures c.loop-lefts-test.true in
+    let many = as-many c.loop-lefts.lefts c.loop-lefts.rights same in
+    omega (arith, some, many)
 
 pub loop-lefts-preserved : goal.loop-lefts-preserved
 loop-lefts-preserved g c =
     let (text, written, left, same, few) = c.loop-lefts.invariant in
     let lefts = c.loop-lefts.lefts in
     let rights = c.loop-lefts.rights in
-    let test = c.loop-lefts-test.true in
-    let told = c.is_empty.ensures in
-    let some : 0 < length lefts = grind (arith, nat_tests, test, told) in
+    let some = some-lines lefts _ c.is_empty.ensures c.loop-lefts-test.true in
     let many = as-many lefts rights same in
     let one = c.first-one.result in
     let other = c.first-other.result in
@@ -60,9 +60,7 @@ loop-lefts-preserved g c =
 pub loop-lefts-smaller : goal.loop-lefts-smaller
 loop-lefts-smaller g c =
     let lefts = c.loop-lefts.lefts in
-    let test = c.loop-lefts-test.true in
-    let told = c.is_empty.ensures in
-    let some : 0 < length lefts = grind (arith, nat_tests, test, told) in
+    let some = some-lines lefts _ c.is_empty.ensures c.loop-lefts-test.true in
     let long = ap length (first-and-rest lefts c.first-one.result c.rest-lefts.result some c.first-one.ensures c.rest-lefts.ensures) in
     omega (arith, long)
 
@@ -70,9 +68,7 @@ pub returns : goal.returns
 returns g c =
     let (text, written, left, same, few) = c.loop-lefts.invariant in
     let lefts = c.loop-lefts.lefts in
-    let test = c.loop-lefts-test.false in
-    let told = c.is_empty.ensures in
-    let none : length lefts ≡ 0 = grind (arith, nat_tests, test, told) in
+    let none = no-lines lefts _ c.is_empty.ensures c.loop-lefts-test.false in
     let head = head_fields Schedule changed c.args.head.now in
     let whole = lines_rows head 1 c.args.left c.args.right in
     text-is _ _ text whole _ _ (no-place head whole text c.loop-lefts.call lefts c.loop-lefts.rights none left) written

@@ -18,7 +18,7 @@ returns-clause-view g c =
     let other = flat_map (explained_train_line c.args.format c.args.day) others.0 in (
       head ++ (one ++ other),
       fault-answered _ _ _ _ _ c.answer.result c.answer.ensures.ok c.answer.ensures.failed c.answer.ensures.fault
-          (both _ _ head (one ++ other) _ _ _ (text-is _ _ _ _ _ _ (c.as_str.ensures.value ∙ c.heading-names.ensures
+          (both _ _ head (one ++ other) _ _ _ (text-is _ _ _ _ _ _ (c.as_str.ensures.value ∙ c.heading.ensures
           ∙ explained-heading c.args.format) c.append.ensures)
           (both _ _ one other _ _ _ ones.2 others.2)),
       written-so c.answer.result _ (explanation c.args.format (extract_parts c.args.extract.now) c.args.uid.now c.args.day

@@ -1,9 +1,9 @@
 -- The number and the fields of the line are the row of a change (`change-row`); other lines have none (`no-change-row`).
-use Rattle.std.proofs.Common.{[], ◌∙◌, ap, decimal, length, refl, sym, take}
+use Rattle.std.proofs.Common.{◌∙◌, ap, arith, decimal, length, refl, sym, take}
 use Rattle.std.proofs.Math.Seq.{take-length}
 use Rattle.cif_canon.proofs.AppendedTexts.{nothing, text-is}
 use Rattle.cif_views.proofs.Words.{CHANGE, Whole, fields_at}
-use Rattle.cif_views.proofs.TableRows.{begins-alike, change-row, more-pushed, no-change-row, none-pushed, one-pushed}
+use Rattle.cif_views.proofs.TableRows.{begins-alike, change-row, more-pushed, no-change-row, none-pushed, one-pushed, still-some}
 use Rattle.cif_views.proofs.tables.write_change.Goals as goal
 
 pub returns-in-Change : goal.returns-in-Change
@@ -15,6 +15,12 @@ returns-in-Change g c =
       text = text-is _ _ _ _ _ _ (change-row _ c.args.call line _ (sym c.requires.kind ∙ c.in-Change.is) row) c.write.ensures.text;
       begun = ap (take (length c.args.row.now)) c.write.ensures.same ∙ begins-alike _ _ _ row;
     }
+
+pub write-requires : goal.write-requires
+write-requires g c = record {
+  some = still-some _ _ _ _ _ c.push_number.ensures.text c.push_each.ensures.text c.requires.begun;
+  room = omega (arith, c.requires.room, c.push_number.ensures.len, c.push_each.ensures.len);
+}
 
 pub returns-in_default : goal.returns-in_default
 returns-in_default g c = record {

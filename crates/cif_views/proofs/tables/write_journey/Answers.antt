@@ -1,9 +1,9 @@
 -- One line more is written (`one-line`), until none is left (`none-left`).
-use Rattle.std.proofs.Common.{◌≡◌, ◌+◌, ◌<◌, ◌++◌, ◌∙◌, [], ap, arith, cond, decimal, length, refl}
-use Rattle.std.proofs.lemmas.Bool.Decides.{nat_tests}
+use Rattle.std.proofs.Common.{◌+◌, ◌++◌, ◌∙◌, [], ap, arith, cond, decimal, length, refl}
 use Rattle.cif_canon.proofs.AppendedTexts.{both, nothing, text-is}
 use Rattle.cif_views.proofs.Words.{Numbered, Whole, is_call, rows_of}
-use Rattle.cif_views.proofs.TableRows.{begun-row, first-and-rest, next-call, none-left, numbered-row, one-line, one-pushed}
+use Rattle.cif_views.proofs.TableRows.{begun-row, first-and-rest, next-call, no-lines, none-left, numbered-row, one-line, one-pushed}
+use Rattle.cif_views.proofs.TableRows.{some-lines}
 use Rattle.cif_views.proofs.tables.write_journey.Goals as goal
 
 pub loop-lines-init : goal.loop-lines-init
@@ -19,9 +19,7 @@ pub loop-lines-preserved : goal.loop-lines-preserved
 loop-lines-preserved g c =
     let (text, written, left, begun, few) = c.loop-lines.invariant in
     let lines = c.loop-lines.lines in
-    let test = c.loop-lines-test.true in
-    let told = c.is_empty.ensures in
-    let some : 0 < length lines = grind (arith, nat_tests, test, told) in
+    let some = some-lines lines _ c.is_empty.ensures c.loop-lines-test.true in
     let line = c.first-line.result in
     let is = first-and-rest lines line c.rest-lines.result some c.first-line.ensures c.rest-lines.ensures in
     let rows = rows_of c.args.calls in
@@ -39,9 +37,7 @@ loop-lines-preserved g c =
 pub loop-lines-smaller : goal.loop-lines-smaller
 loop-lines-smaller g c =
     let lines = c.loop-lines.lines in
-    let test = c.loop-lines-test.true in
-    let told = c.is_empty.ensures in
-    let some : 0 < length lines = grind (arith, nat_tests, test, told) in
+    let some = some-lines lines _ c.is_empty.ensures c.loop-lines-test.true in
     let long = ap length (first-and-rest lines c.first-line.result c.rest-lines.result some c.first-line.ensures c.rest-lines.ensures) in
     omega (arith, long)
 
@@ -49,7 +45,5 @@ pub returns : goal.returns
 returns g c =
     let (text, written, left, begun, few) = c.loop-lines.invariant in
     let lines = c.loop-lines.lines in
-    let test = c.loop-lines-test.false in
-    let told = c.is_empty.ensures in
-    let none : length lines ≡ 0 = grind (arith, nat_tests, test, told) in
+    let none = no-lines lines _ c.is_empty.ensures c.loop-lines-test.false in
     text-is _ _ text _ _ _ (none-left (rows_of c.args.calls) c.args.schedule _ text c.loop-lines.call lines none left) written

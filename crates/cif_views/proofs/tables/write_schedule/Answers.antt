@@ -1,9 +1,9 @@
 -- The number, the fields of the BS and those of the BX are the row of a schedule (`row-pushed`).
-use Rattle.std.proofs.Common.{◌++◌, ◌∙◌, List, ℕ, ap, decimal, refl}
+use Rattle.std.proofs.Common.{◌≡◌, ◌+◌, ◌∷◌, ◌++◌, ◌∙◌, List, ℕ, ap, arith, decimal, length, length-append, refl}
 use Rattle.cif_canon.proofs.AppendedTexts.{text-is}
 use Rattle.cif_views.specs.declared.tables.TheConstants.{BASIC, EXTRA}
 use Rattle.cif_views.proofs.Words.{Tsv, Whole, after, extra_in, fields_at, number}
-use Rattle.cif_views.proofs.TableRows.{begun-row, more-pushed, one-pushed, row-pushed}
+use Rattle.cif_views.proofs.TableRows.{begun-row, more-pushed, one-pushed, row-pushed, still-some}
 use Rattle.cif_views.proofs.tables.write_schedule.Goals as goal
 
 pub returns : goal.returns
@@ -18,3 +18,9 @@ returns g c =
     ∙ ap (λ (line : List ℕ). c.push_each.new.self ++ after Tsv (fields_at EXTRA line))
     (c.extra_among.ensures ∙ ap extra_in c.further.ensures)) in
     text-is _ _ _ _ _ _ (row-pushed _ (number c.args.number) _ h3) c.write.ensures.text
+
+pub write-requires-clause-some : goal.write-requires-clause-some
+write-requires-clause-some g c =
+    let row : length c.push_number.new.self ≡ length c.new-row.result + length (9 ∷ decimal c.args.number) =
+    ap length c.push_number.ensures.text ∙ length-append c.new-row.result (9 ∷ decimal c.args.number) in
+    still-some c.push_number.new.self _ _ _ _ c.push_each.ensures.text c.push_each-2.ensures.text (omega (arith, row))

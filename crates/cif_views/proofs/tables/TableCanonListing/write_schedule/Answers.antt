@@ -1,6 +1,6 @@
 -- The rows of the lines that follow are those of the schedule (`calls-of_lines`, `changes-of_lines`).
 use Rattle.std.proofs.Common.{◌∙◌, ap}
-use Rattle.cif_canon.proofs.AppendedTexts.{text-is}
+use Rattle.cif_canon.proofs.AppendedTexts.{nothing, text-is}
 use Rattle.cif_views.specs.Steps.TableRows.{call_rows, change_rows, journey_rows}
 use Rattle.cif_views.proofs.TableRows.{calls-of_lines, changes-of_lines}
 use Rattle.cif_views.proofs.tables.TableCanonListing.write_schedule.Goals as goal
@@ -16,3 +16,15 @@ returns-in-Changes g c = rw c.in-Changes.is
     (text-is _ _ _ _ _ _
     (ap (journey_rows change_rows c.args.number) c.further-in-Changes.ensures ∙ changes-of_lines c.args.number c.args.schedule.now)
     c.write_journey-in-Changes.ensures)
+
+pub returns-in-Schedules : goal.returns-in-Schedules
+returns-in-Schedules g c = rw c.in-Schedules.is c.write_schedule.ensures
+
+pub returns-in-Header : goal.returns-in-Header
+returns-in-Header g c = rw c.in-Header.is (nothing _ _ _)
+
+pub returns-in-Tiplocs : goal.returns-in-Tiplocs
+returns-in-Tiplocs g c = rw c.in-Tiplocs.is (nothing _ _ _)
+
+pub returns-in-Associations : goal.returns-in-Associations
+returns-in-Associations g c = rw c.in-Associations.is (nothing _ _ _)
