@@ -120,3 +120,8 @@ pub returns-in-Err-clause-only : goal.returns-in-Err-clause-only
 returns-in-Err-clause-only g c =
     only_judged (g.R.Read.remaining c.args.source.now.reader) c.args.max_lines (unread_of g.R.Read.remaining c.next.new.source)
     (Err c.from.result) (known_any _ _ (λ bytes. tt)) (returns-in-Err-clause-fault g c)
+
+pub loop-content-smaller : goal.loop-content-smaller
+loop-content-smaller g c =
+    let next = rw c.in-Ok-Content.field-0-is at c.in-Ok-Content.ensures in
+    omega (arith, next.holds.0, next.holds.1, c.next.new.self.counted)
