@@ -234,7 +234,15 @@ pub(crate) fn different_records<E: Entry>(
     let mut right_rest = right_positions.as_slice();
     let mut found = Vec::new(alloc);
     while let Some(first) = first_key(left, left_rest, right, right_rest) {
-        push_key(alloc, &mut found, left, first.left, right, first.right, window)?;
+        push_key(
+            alloc,
+            &mut found,
+            left,
+            first.left,
+            right,
+            first.right,
+            window,
+        )?;
         if is_enough(extent, found.as_slice()) {
             return Ok(found);
         }
