@@ -219,7 +219,7 @@ pub(crate) fn body_of<'a>(schedules: &'a [Schedule], run: &Run) -> &'a Body
     }
 }
 
-/// Looks at the bodies of the schedules of so many runs from this position on, each time that so many are passed.
+/// Looks at the bodies of the schedules of the next runs, `AT_ONCE` of them, each time that as many are passed.
 pub(crate) fn look_ahead_at(schedules: &[Schedule], runs: &[Run], at: usize)
     requires within { All (λ run. run.source < length schedules.now) runs.now }
     requires records { All (HasRecord (schedule_entries schedules.now)) runs.now }

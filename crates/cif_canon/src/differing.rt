@@ -1,5 +1,5 @@
 //! What only one of two extracts says.
-ghost use Rattle.std.specs.Prelude.{◌≡◌, ◌↔◌, ◌+◌, ◌<◌, ◌≤◌, All, IfErr, IfOk, IsTrue, List, OnOk, length, map};
+ghost use Rattle.std.specs.Prelude.{◌≡◌, ◌↔◌, ◌+◌, ◌<◌, ◌≤◌, IfErr, IfOk, IsTrue, List, OnOk, length, map};
 ghost use Rattle.cif_calendar.specs.Keys.{keyed};
 ghost use Rattle.cif_extract.specs.ExtractParts.{extract_parts};
 ghost use Rattle.cif_weeks.specs.Runs.{AreSources};
@@ -10,8 +10,7 @@ ghost use Rattle.cif_canon.specs.Differences.{AreDifferences, AreNone, TurnLeftI
 ghost use Rattle.cif_canon.specs.Meaning.{Agree};
 ghost use Rattle.cif_canon.specs.Steps.Differences.{AreComparable};
 ghost use Rattle.cif_canon.specs.Steps.OnlySides.{AreAppendedRuns, AreDifferentRuns};
-ghost use Rattle.cif_canon.specs.Steps.OnlySides.{AreKeyDifferences, AreMembersDifferences};
-ghost use Rattle.cif_canon.specs.Steps.OnlySides.{AreMerging, AreRisingRuns};
+ghost use Rattle.cif_canon.specs.Steps.OnlySides.{AreKeyDifferences, AreMerging, AreRisingRuns};
 ghost use Rattle.cif_canon.specs.Steps.OnlySides.{IsFirstSide};
 ghost use Rattle.cif_weeks.specs.Window.{window_from};
 ghost use Rattle.cif_canon.specs.declared.differing.Extent.TheVariants.{FirstKey};
@@ -172,28 +171,6 @@ fn push_differences<E: Entry>(
     push_merged(found, lefts.as_slice(), rights.as_slice())
 }
 
-/// Appends the runs of what only one of two lists says of a key, whose entries are at these positions.
-fn push_key<E: Entry>(
-    alloc: Global,
-    found: &mut Vec<Sided<Run>>,
-    left: &[E],
-    lefts: &[usize],
-    right: &[E],
-    rights: &[usize],
-    window: &Window,
-) -> Result<(), CalendarFault>
-    requires left { All (λ i. i < length left.now) lefts.now }
-    requires right { All (λ i. i < length right.now) rights.now }
-    ensures { OnOk result (AreMembersDifferences window.now.first window.now.last
-        (map E.terms left.now) lefts.now (map E.terms right.now) rights.now
-        found.old.items found.new.items) }
-{
-    let one = calendar(alloc, left, lefts, *window)?;
-    let other = calendar(alloc, right, rights, *window)?;
-    push_differences(alloc, found, left, &one, right, &other)?;
-    Ok(())
-}
-
 /// How far two lists are compared.
 #[derive(Clone, Copy)]
 pub(crate) enum Extent {
@@ -234,15 +211,9 @@ pub(crate) fn different_records<E: Entry>(
     let mut right_rest = right_positions.as_slice();
     let mut found = Vec::new(alloc);
     while let Some(first) = first_key(left, left_rest, right, right_rest) {
-        push_key(
-            alloc,
-            &mut found,
-            left,
-            first.left,
-            right,
-            first.right,
-            window,
-        )?;
+        let one = calendar(alloc, left, first.left, *window)?;
+        let other = calendar(alloc, right, first.right, *window)?;
+        push_differences(alloc, &mut found, left, &one, right, &other)?;
         if is_enough(extent, found.as_slice()) {
             return Ok(found);
         }

@@ -6,7 +6,7 @@ use Rattle.std.specs.Ordering.{nat_cmp}
 use Rattle.std.specs.Cmp.Lexicographic.{slice_cmp}
 use Rattle.std.specs.declared.cmp.Ordering.{Ordering}
 use Rattle.std.specs.declared.cmp.Ordering.TheVariants.{Less, Greater}
-use Rattle.cif_calendar.specs.Calendar.{CalendarParts, IsCalendar, body_on}
+use Rattle.cif_calendar.specs.Calendar.{CalendarParts, body_on}
 use Rattle.cif_calendar.specs.Keys.{AreClear}
 use Rattle.cif_calendar.specs.Meaning.{EntriesSayTheSame}
 use Rattle.cif_calendar.specs.Pieces.{source_at, winner_of}
@@ -127,15 +127,6 @@ pub record AreKeyDifferences {B : Type 0} (xs : List (Terms B)) (c : CalendarPar
   pub left : AreOnlyRuns xs c ys e lefts
   pub right : AreOnlyRuns ys e xs c rights
   pub appended : AreAppendedRuns lefts rights old new
-
--- the same of the calendars of these members of two lists, in a window
-pub record AreMembersDifferences {B : Type 0} (first last : ℕ) (xs : List (Terms B)) (is : List ℕ) (ys : List (Terms B)) (js : List ℕ)
-    (old new : List (Sided Run)) : Type 0 where
-  pub one : CalendarParts
-  pub other : CalendarParts
-  pub left : IsCalendar xs is first last one
-  pub right : IsCalendar ys js first last other
-  pub differences : AreKeyDifferences xs one ys other old new
 
 -- ---- of all keys
 

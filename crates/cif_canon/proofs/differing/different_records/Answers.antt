@@ -1,9 +1,10 @@
 -- The fronts of both rests are the positions of one key (`ComparedKeys`), whose differences go behind the others (`found-key`).
-use Rattle.std.proofs.Common.{◌<◌, ℕ, List, [], length, refl, sym, subst}
+use Rattle.std.proofs.Common.{◌<◌, ◌∙◌, ℕ, List, [], length, refl, sym, subst}
 use Rattle.std.proofs.lemmas.List.{nil_from_length}
 use Rattle.std.proofs.lemmas.Result.{IfOk-from_err}
 use Rattle.std.proofs.lemmas.List.Elements.{All-drop, All-take}
 use Rattle.cif_calendar.proofs.FirstClash.{same_key-cmp}
+use Rattle.cif_weeks.proofs.CalendarSources.{calendar_sources}
 use Rattle.cif_canon.proofs.Words.{All, AreAllByKey, ArePositionsOf, Run, Sided, keyed, window_from}
 use Rattle.cif_canon.proofs.ComparedKeys.{AreTurns, turns}
 use Rattle.cif_canon.proofs.FoundRecords.{AreFound, AreTold, found-all, found-enough, found-first, found-key}
@@ -11,7 +12,7 @@ use Rattle.cif_canon.proofs.KeyDifferences.{key-clears, key-only, key-told}
 use Rattle.cif_calendar.proofs.KeyPositions.{all-within}
 use Rattle.cif_canon.proofs.differing.different_records.Given.{Over}
 use Rattle.cif_canon.proofs.differing.different_records.Goals as goal
-use Rattle.cif_canon.proofs.differing.different_records.Goals.{In-Some, In_ok-push_key}
+use Rattle.cif_canon.proofs.differing.different_records.Goals.{In-Some, In_ok-push_differences}
 
 pub loop-first-init : goal.loop-first-init
 loop-first-init g c =
@@ -67,28 +68,42 @@ fronts g c =
     s.first _ _
     s.left_split.is_count s.right_split.is_count)
 
-pub push_key-requires-clause-left : goal.push_key-requires-clause-left
-push_key-requires-clause-left g c =
-    subst (λ (is : List ℕ). All (λ i. i < length c.args.left.now) is) (sym c.in-Some.ensures.left_split.prefix_is)
-    (All-take (λ i. i < length c.args.left.now) _ _ c.loop-first.invariant.left_within)
+pub calendar-requires : goal.calendar-requires
+calendar-requires g c = record {
+  positions = subst (λ (is : List ℕ). All (λ i. i < length c.args.left.now) is) (sym c.in-Some.ensures.left_split.prefix_is)
+      (All-take (λ i. i < length c.args.left.now) _ _ c.loop-first.invariant.left_within);
+}
 
-pub push_key-requires-clause-right : goal.push_key-requires-clause-right
-push_key-requires-clause-right g c =
-    subst (λ (is : List ℕ). All (λ i. i < length c.args.right.now) is) (sym c.in-Some.ensures.right_split.prefix_is)
-    (All-take (λ i. i < length c.args.right.now) _ _ c.loop-first.invariant.right_within)
+pub calendar-requires-in-Some : goal.calendar-requires-in-Some
+calendar-requires-in-Some g c = record {
+  positions = subst (λ (is : List ℕ). All (λ i. i < length c.args.right.now) is) (sym c.in-Some.ensures.right_split.prefix_is)
+      (All-take (λ i. i < length c.args.right.now) _ _ c.loop-first.invariant.right_within);
+}
+
+pub push_differences-requires-clause-first : goal.push_differences-requires-clause-first
+push_differences-requires-clause-first g c = c.in_ok-other.ensures.calendar.first_is ∙ sym c.in_ok-one.ensures.calendar.first_is
+
+pub push_differences-requires-clause-last : goal.push_differences-requires-clause-last
+push_differences-requires-clause-last g c = c.in_ok-other.ensures.calendar.last_is ∙ sym c.in_ok-one.ensures.calendar.last_is
+
+pub push_differences-requires-clause-left : goal.push_differences-requires-clause-left
+push_differences-requires-clause-left g c = calendar_sources _ _ _ _ _ c.in_ok-one.ensures.calendar
+
+pub push_differences-requires-clause-right : goal.push_differences-requires-clause-right
+push_differences-requires-clause-right g c = calendar_sources _ _ _ _ _ c.in_ok-other.ensures.calendar
 
 pub loop-first-smaller : goal.loop-first-smaller
 loop-first-smaller g c = (fronts g (goal.at.loop-first-smaller g c).In-Some).smaller
 
 -- with the key's differences behind the others
-more : (g : Over) (c : In_ok-push_key g) →
+more : (g : Over) (c : In_ok-push_differences g) →
     ArePositionsOf (keyed g.E.Entry.key g.E.Entry.terms c.args.left.now) (g.E.Entry.key c.in-Some.first.entry.now)
     c.in-Some.first.left.now →
     ArePositionsOf (keyed g.E.Entry.key g.E.Entry.terms c.args.right.now) (g.E.Entry.key c.in-Some.first.entry.now)
     c.in-Some.first.right.now →
     AreFound g.E.Key.Ord.cmp (window_from c.args.window.now.first c.args.window.now.last)
     (keyed g.E.Entry.key g.E.Entry.terms c.args.left.now) (keyed g.E.Entry.key g.E.Entry.terms c.args.right.now)
-    c.in-Some.first.left_later.now c.in-Some.first.right_later.now c.push_key.new.found.items
+    c.in-Some.first.left_later.now c.in-Some.first.right_later.now c.push_differences.new.found.items
 more g c left right =
     let key = g.E.Entry.key in
     let terms = g.E.Entry.terms in
@@ -99,25 +114,24 @@ more g c left right =
     let last = c.args.window.now.last in
     let k = key c.in-Some.first.entry.now in
     let same = same_key-cmp g.E.Key.PartialEq.eq g.E.Key.Ord.cmp g.met.E.Key.Ord.matches_eq g.met.E.Entry.same_key in
-    let told = c.in_ok-push_key.ensures in
-    let one = told.left in
-    let other = told.right in
-    let d = told.differences in
+    let one = c.in_ok-one.ensures.calendar in
+    let other = c.in_ok-other.ensures.calendar in
+    let d = c.in_ok-push_differences.ensures in
     let f = c.in-Some.ensures in
     rw (f.left_split.later_is, f.right_split.later_is)
     (found-key g.E.Key.Ord.cmp g.met.E.Key.Ord.total (window_from first last) (keyed key terms es) (keyed key terms fs)
     c.loop-first.left_rest.now c.loop-first.right_rest.now c.loop-first.found.items c.loop-first.invariant.found k f.first.has d.lefts
     d.rights
     (key-only key terms cancelled es fs k c.in-Some.first.left.now c.in-Some.first.right.now left right first last
-    told.one told.other one other d.lefts d.left)
+    c.in_ok-one.one c.in_ok-other.other one other d.lefts d.left)
     (key-only key terms cancelled fs es k c.in-Some.first.right.now c.in-Some.first.left.now right left first last
-    told.other told.one other one d.rights d.right)
+    c.in_ok-other.other c.in_ok-one.one other one d.rights d.right)
     d.appended.merged d.appended.are
     (key-clears key terms cancelled es fs k c.in-Some.first.left.now c.in-Some.first.right.now left right first last
-    told.one told.other one other)
+    c.in_ok-one.one c.in_ok-other.other one other)
     (key-told key terms cancelled es fs k c.in-Some.first.left.now c.in-Some.first.right.now left right first last
-    told.one told.other one other g.E.Body.PartialEq.eq g.met.E.Entry.same_body)
-    same f.first _ _ f.left_split.is_count f.right_split.is_count c.push_key.new.found.items d.appended.appended)
+    c.in_ok-one.one c.in_ok-other.other one other g.E.Body.PartialEq.eq g.met.E.Entry.same_body)
+    same f.first _ _ f.left_split.is_count f.right_split.is_count c.push_differences.new.found.items d.appended.appended)
 
 pub returns-then-is_enough : goal.returns-then-is_enough
 returns-then-is_enough g c =
@@ -125,7 +139,7 @@ returns-then-is_enough g c =
     let at = goal.at.returns-then-is_enough g c in
     let both = fronts g at.In-Some in
     found-enough g.E.Key.Ord.cmp g.met.E.Key.Ord.total (window_from c.args.window.now.first c.args.window.now.last) _ _ _ _
-    c.push_key.new.found.items (more g at.In_ok-push_key both.left both.right) c.args.extent enough.0
+    c.push_differences.new.found.items (more g at.In_ok-push_differences both.left both.right) c.args.extent enough.0
     (rw c.as_slice.ensures.value at enough.1)
 
 pub loop-first-preserved : goal.loop-first-preserved
@@ -138,7 +152,7 @@ loop-first-preserved g c =
           (All-drop (λ i. i < length left) _ _ c.loop-first.invariant.left_within);
       right_within = subst (λ (rest : List ℕ). All (λ i. i < length right) rest) (sym c.in-Some.ensures.right_split.later_is)
           (All-drop (λ i. i < length right) _ _ c.loop-first.invariant.right_within);
-      found = more g at.In_ok-push_key both.left both.right;
+      found = more g at.In_ok-push_differences both.left both.right;
     }
 
 pub returns : goal.returns
@@ -162,6 +176,12 @@ pub returns-in_err-right_positions : goal.returns-in_err-right_positions
 returns-in_err-right_positions g c =
     IfOk-from_err c.from_residual-in_err-right_positions.result _ c.from_residual-in_err-right_positions.ensures.0
 
-pub returns-in_err-push_key : goal.returns-in_err-push_key
-returns-in_err-push_key g c =
-    IfOk-from_err c.from_residual-in_err-push_key.result _ c.from_residual-in_err-push_key.ensures.0
+pub returns-in_err-one : goal.returns-in_err-one
+returns-in_err-one g c = IfOk-from_err c.from_residual-in_err-one.result _ c.from_residual-in_err-one.ensures.0
+
+pub returns-in_err-other : goal.returns-in_err-other
+returns-in_err-other g c = IfOk-from_err c.from_residual-in_err-other.result _ c.from_residual-in_err-other.ensures.0
+
+pub returns-in_err-push_differences : goal.returns-in_err-push_differences
+returns-in_err-push_differences g c =
+    IfOk-from_err c.from_residual-in_err-push_differences.result _ c.from_residual-in_err-push_differences.ensures.0

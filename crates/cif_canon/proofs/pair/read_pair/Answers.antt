@@ -48,7 +48,8 @@ returns-in_err-narrow_both-clause-sources g c =
     let other = extract_parts c.in_ok-right.right in
     both-read _ _ _ _ _ call.result (inr (c.in_ok-left.ensures.device, c.in_ok-right.ensures.device))
     (hands call.result c.in_err-narrow_both.field-0.0 call.ensures.1 (λ f. f ≢ Read)
-    (refusal-not_read (asked_of_both c.args.common c.args.asked.now one other) one other c.in_err-narrow_both.field-0.0 c.in_err-narrow_both.ensures.fault))
+    (refusal-not_read (asked_of_both c.args.common c.args.asked.now one other) one other c.in_err-narrow_both.field-0.0
+    c.in_err-narrow_both.ensures.fault))
 
 pub returns-in_err-narrow_both-clause-answers : goal.returns-in_err-narrow_both-clause-answers
 returns-in_err-narrow_both-clause-answers g c =
@@ -56,7 +57,8 @@ returns-in_err-narrow_both-clause-answers g c =
     let one = extract_parts c.in_ok-left.left in
     let other = extract_parts c.in_ok-right.right in
     hands call.result c.in_err-narrow_both.field-0.0 call.ensures.1 (IsOfReadNarrowed MAX_LINES)
-    (refusal-answers (asked_of_both c.args.common c.args.asked.now one other) one other c.in_err-narrow_both.field-0.0 c.in_err-narrow_both.ensures.fault)
+    (refusal-answers (asked_of_both c.args.common c.args.asked.now one other) one other c.in_err-narrow_both.field-0.0
+    c.in_err-narrow_both.ensures.fault)
 
 pub returns-in_err-left-clause-sources : goal.returns-in_err-left-clause-sources
 returns-in_err-left-clause-sources g c =

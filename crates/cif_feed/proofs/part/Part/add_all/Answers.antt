@@ -1,6 +1,7 @@
 -- A cut ends a part, and after it another begins (`parts-next`), unless the record ends there (`parts-cut_last`). Without a further cut the
 -- last part ends with the record (`parts-last`).
-use Rattle.std.proofs.Common.{◌<◌, ◌≤◌, ◌∙◌, ◌++◌, ℕ, List, [], ◌∷◌, Bool, Option, None, Some, sym, ap, arith, subst, append_assoc, append-nil}
+use Rattle.std.proofs.Common.{◌<◌, ◌≤◌, ◌∙◌, ◌++◌, ℕ, List, [], ◌∷◌, Bool, Option, None, Some, sym, ap, arith, subst, append_assoc}
+use Rattle.std.proofs.Common.{append-nil}
 use Rattle.cif_feed.specs.HolidayDates.{IsFirstFrom}
 use Rattle.cif_feed.specs.Holidays.{IsHolidayOn}
 use Rattle.cif_feed.specs.Parts.{AreParts, ended}
