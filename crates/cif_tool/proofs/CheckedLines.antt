@@ -8,7 +8,6 @@ use Rattle.cif_extract.specs.SpellsExtract.{BytesSpellWithin}
 use Rattle.cif_extract.specs.declared.fault.Fault.{Fault}
 use Rattle.cif_extract.specs.declared.fault.Fault.TheVariants as fault
 use Rattle.cif_records.specs.declared.header.Header.{Header}
-use Rattle.cif_weeks.specs.declared.form.Form.{Form}
 use Rattle.cif_canon.specs.Asked.{IsNarrowingFault}
 use Rattle.cif_canon.specs.Counts.{counts_line}
 use Rattle.cif_canon.specs.Fault.{IsCanonFault, IsNormaliseFault}
@@ -19,7 +18,7 @@ use Rattle.cif_feed.specs.Judged.{HaveNone, HaveReasons, IsJudgedFault}
 use Rattle.cif_feed.specs.Reasons.{told_text}
 use Rattle.cif_feed.specs.declared.reasons.Reasons.{Reasons}
 use Rattle.cif_feed.proofs.ToldReasons.{told_as}
-use Rattle.cif_tool.specs.Answer.{IsCheckAllAnswer, IsCheckAllFault, IsCountFault}
+use Rattle.cif_tool.specs.Answer.{CanonicalJob, IsCheckAllAnswer, IsCheckAllFault, IsCountFault}
 
 -- ---- the faults of counting
 
@@ -35,10 +34,10 @@ canon_counts x _ h = absurd h
 
 -- ---- the answers
 
-module _ (start : Option (List ℕ)) (form : Form) (asked : Asked) where
+module _ (start : Option (List ℕ)) (job : CanonicalJob) where
   -- reasons
   pub reasons_answer : (after : Unread) (told : Reasons) → IfSome start (λ bytes. HaveReasons MAX_LINES bytes after told)
-      → IfSome start (λ bytes. IsCheckAllAnswer form asked bytes (told_text told) 3)
+      → IfSome start (λ bytes. IsCheckAllAnswer job bytes (told_text told) 3)
   reasons_answer after told h =
       known_so start _ _ (λ bytes is. inl (record {
         within = is.within;
@@ -50,8 +49,9 @@ module _ (start : Option (List ℕ)) (form : Form) (asked : Asked) where
 
   -- counts
   pub counts_answer : (x : ExtractParts) (counts : Counts) → IfSome start (λ bytes. HaveNone MAX_LINES bytes x)
-      → ((bytes : List ℕ) → BytesSpellWithin MAX_LINES bytes x → (text : List ℕ) × IsNormalised form asked MAX_LINES bytes text counts)
-      → IfSome start (λ bytes. IsCheckAllAnswer form asked bytes (counts_line counts) 0)
+      → ((bytes : List ℕ) → BytesSpellWithin MAX_LINES bytes x
+      → (text : List ℕ) × IsNormalised job.form job.asked MAX_LINES bytes text counts)
+      → IfSome start (λ bytes. IsCheckAllAnswer job bytes (counts_line counts) 0)
   counts_answer x counts h so =
       known_so start _ _ (λ bytes is.
       let normal = so bytes is.spell in

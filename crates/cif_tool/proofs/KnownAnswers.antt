@@ -9,27 +9,27 @@ use Rattle.cif_extract.specs.SpellsExtract.{BytesSpellWithin}
 use Rattle.cif_extract.specs.declared.fault.Clash.{Clash}
 use Rattle.cif_extract.specs.declared.fault.Fault.{Fault}
 use Rattle.cif_extract.specs.declared.fault.Fault.TheVariants as fault
-use Rattle.cif_weeks.specs.declared.form.Form.{Form}
 use Rattle.cif_canon.specs.Accepted.{SpellsNarrowed}
 use Rattle.cif_canon.specs.Canon.{CanonParts, IsCanonOf}
 use Rattle.cif_canon.specs.Comparison.{AreCompared, IsCompareFault, comparison_line}
 use Rattle.cif_views.specs.Clashes.{AreAllClashes, clashes_text}
 use Rattle.cif_canon.specs.Counts.{counts_line}
 use Rattle.cif_canon.specs.Differences.{AreDifferences, AreNone, DifferencesParts}
+use Rattle.cif_canon.specs.Fault.{IsNormaliseFault, IsReadNarrowedFault}
 use Rattle.cif_views.specs.Explanation.{IsExplanation}
 use Rattle.cif_canon.specs.Normalised.{IfWritten, IsNormalised, Normalises}
 use Rattle.cif_canon.specs.Pair.{IsCompareRefusal, ReadAsPair, SpellPair}
 use Rattle.cif_views.specs.Listing.{IsDayListing, IsTrainListing}
 use Rattle.cif_views.specs.Tables.{table_text}
-use Rattle.cif_views.specs.declared.tables.Table.{Table as TableOf}
+use Rattle.cif_canon.specs.Views.{IsTrainFault}
 use Rattle.cif_canon.specs.declared.asked.Asked.{Asked}
 use Rattle.cif_canon.specs.declared.comparison.Comparison.{Comparison}
 use Rattle.cif_canon.specs.declared.canonical_form.Counts.{Counts}
-use Rattle.cif_canon.specs.declared.rows.Format.{Format}
-use Rattle.cif_views.specs.declared.listing.Listing.{Listing}
-use Rattle.cif_views.specs.WeekCalendar.{IsWeekCalendar}
-use Rattle.cif_tool.specs.Answer.{IsCalendarAnswer, IsCheckAnswer, IsClashesAnswer, IsCompareAnswer, IsDayAnswer, IsDiffAnswer}
-use Rattle.cif_tool.specs.Answer.{IsExplainAnswer, IsListedStatus, IsNormaliseAnswer, IsTableAnswer, IsTrainAnswer, differences_in}
+use Rattle.cif_canon.proofs.Normalising.{canon-fault}
+use Rattle.cif_views.specs.WeekCalendar.{IsWeekCalendar, IsWeekCalendarFault}
+use Rattle.cif_tool.specs.Answer.{CalendarJob, CanonicalJob, CompareJob, DayJob, DiffJob, ExplainJob, IsCalendarAnswer, IsCheckAnswer}
+use Rattle.cif_tool.specs.Answer.{IsClashesAnswer, IsClashlessRefusal, IsCompareAnswer, IsDayAnswer, IsDiffAnswer, IsExplainAnswer}
+use Rattle.cif_tool.specs.Answer.{IsListedStatus, IsNormaliseAnswer, IsTableAnswer, IsTrainAnswer, TableJob, TrainJob, differences_in}
 use Rattle.cif_tool.specs.Status.{listed_status, outcome_of}
 
 -- the status of a list, of which it is told whether there is none
@@ -38,87 +38,88 @@ listed None true tells = inl (refl, tells.0 refl)
 listed None false tells = inr (refl, λ n. true≢false (sym (tells.1 n)))
 
 module _ (start : Option (List ℕ)) where
-  module _ (form : Form) (asked : Asked) (counts : Counts) where
-    pub normalise-answer : (text : List ℕ) → IfSome start (λ bytes. IsNormalised form asked MAX_LINES bytes text counts) →
-        IfSome start (λ bytes. IsNormaliseAnswer form asked bytes text 0)
+  module _ (job : CanonicalJob) (counts : Counts) where
+    pub normalise-answer : (text : List ℕ) → IfSome start (λ bytes. IsNormalised job.form job.asked MAX_LINES bytes text counts) →
+        IfSome start (λ bytes. IsNormaliseAnswer job bytes text 0)
     normalise-answer text h =
-        known_so start (λ bytes. IsNormalised form asked MAX_LINES bytes text counts) (λ bytes. IsNormaliseAnswer form asked bytes text 0)
+        known_so start (λ bytes. IsNormalised job.form job.asked MAX_LINES bytes text counts) (λ bytes. IsNormaliseAnswer job bytes text 0)
         (λ bytes is. record { counts = counts; normalised = is; status_is = refl }) h
 
-    pub check-answer : IfSome start (λ bytes. (text : List ℕ) × IsNormalised form asked MAX_LINES bytes text counts) →
-        IfSome start (λ bytes. IsCheckAnswer form asked bytes (counts_line counts) 0)
+    pub check-answer : IfSome start (λ bytes. (text : List ℕ) × IsNormalised job.form job.asked MAX_LINES bytes text counts) →
+        IfSome start (λ bytes. IsCheckAnswer job bytes (counts_line counts) 0)
     check-answer h =
-        known_so start (λ bytes. (text : List ℕ) × IsNormalised form asked MAX_LINES bytes text counts)
-        (λ bytes. IsCheckAnswer form asked bytes (counts_line counts) 0)
+        known_so start (λ bytes. (text : List ℕ) × IsNormalised job.form job.asked MAX_LINES bytes text counts)
+        (λ bytes. IsCheckAnswer job bytes (counts_line counts) 0)
         (λ bytes is. record { canonical = is.0; counts = counts; normalised = is.1; text_is = refl; status_is = refl }) h
 
   -- a fault of `normalise`
-  pub normalise-failed : (form : Form) (asked : Asked) (text : List ℕ) (f : Fault) →
-      IfSome start (λ bytes. Normalises form asked MAX_LINES bytes text (Err f)) →
-      IfWritten {A = Counts} (Err f) (IfSome start (λ bytes. IsNormaliseAnswer form asked bytes text 0))
-  normalise-failed form asked text fault.Write h =
-      known_so start (λ bytes. Normalises form asked MAX_LINES bytes text (Err fault.Write))
-      (λ bytes. IsNormaliseAnswer form asked bytes text 0)
+  pub normalise-failed : (job : CanonicalJob) (text : List ℕ) (f : Fault) →
+      IfSome start (λ bytes. Normalises job.form job.asked MAX_LINES bytes text (Err f)) →
+      IfWritten {A = Counts} (Err f) (IfSome start (λ bytes. IsNormaliseAnswer job bytes text 0))
+  normalise-failed job text fault.Write h =
+      known_so start (λ bytes. Normalises job.form job.asked MAX_LINES bytes text (Err fault.Write))
+      (λ bytes. IsNormaliseAnswer job bytes text 0)
       (λ bytes is. record { counts = is.0; normalised = is.1; status_is = refl }) h
-  normalise-failed form asked text _ h = tt
+  normalise-failed job text _ h = tt
 
   module _ (x : ExtractParts) (spelled : IfSome start (λ bytes. BytesSpellWithin MAX_LINES bytes x)) where
-    pub day-answer : (listing : Listing) (day : ℕ) (text : List ℕ) → IsDayListing listing x day text →
-        IfSome start (λ bytes. IsDayAnswer listing day bytes text 0)
-    day-answer listing day text view =
-        known_so start (λ bytes. BytesSpellWithin MAX_LINES bytes x) (λ bytes. IsDayAnswer listing day bytes text 0)
+    pub day-answer : (job : DayJob) (text : List ℕ) → IsDayListing job.listing x job.day text →
+        IfSome start (λ bytes. IsDayAnswer job bytes text 0)
+    day-answer job text view =
+        known_so start (λ bytes. BytesSpellWithin MAX_LINES bytes x) (λ bytes. IsDayAnswer job bytes text 0)
         (λ bytes s. record { extract = x; spelled = s; view = view; status_is = refl }) spelled
 
-    pub explain-answer : (format : Format) (uid : List ℕ) (day : ℕ) (text : List ℕ) → IsExplanation format x uid day text →
-        IfSome start (λ bytes. IsExplainAnswer format uid day bytes text 0)
-    explain-answer format uid day text is =
-        known_so start (λ bytes. BytesSpellWithin MAX_LINES bytes x) (λ bytes. IsExplainAnswer format uid day bytes text 0)
+    pub explain-answer : (job : ExplainJob) (text : List ℕ) → IsExplanation job.format x job.uid job.day text →
+        IfSome start (λ bytes. IsExplainAnswer job bytes text 0)
+    explain-answer job text is =
+        known_so start (λ bytes. BytesSpellWithin MAX_LINES bytes x) (λ bytes. IsExplainAnswer job bytes text 0)
         (λ bytes s. record { extract = x; spelled = s; explanation = is; status_is = refl }) spelled
 
-  module _ (asked : Asked) (x : ExtractParts) (spelled : IfSome start (SpellsNarrowed MAX_LINES asked x)) where
-    pub train-answer : (listing : Listing) (form : Form) (uid text : List ℕ) → IsTrainListing listing form x uid text →
-        IfSome start (λ bytes. IsTrainAnswer listing form asked uid bytes text 0)
-    train-answer listing form uid text view =
-        known_so start (SpellsNarrowed MAX_LINES asked x) (λ bytes. IsTrainAnswer listing form asked uid bytes text 0)
-        (λ bytes s. record { extract = x; spelled = s; view = view; status_is = refl }) spelled
+  pub train-answer : (job : TrainJob) (x : ExtractParts) → IfSome start (SpellsNarrowed MAX_LINES job.asked x) → (text : List ℕ)
+      → IsTrainListing job.listing job.form x job.uid text → IfSome start (λ bytes. IsTrainAnswer job bytes text 0)
+  train-answer job x spelled text view =
+      known_so start (SpellsNarrowed MAX_LINES job.asked x) (λ bytes. IsTrainAnswer job bytes text 0)
+      (λ bytes s. record { extract = x; spelled = s; view = view; status_is = refl }) spelled
 
-    pub calendar-answer : (uid text : List ℕ) → IsWeekCalendar x uid text → IfSome start (λ bytes. IsCalendarAnswer asked uid bytes text 0)
-    calendar-answer uid text view =
-        known_so start (SpellsNarrowed MAX_LINES asked x) (λ bytes. IsCalendarAnswer asked uid bytes text 0)
-        (λ bytes s. record { extract = x; spelled = s; view = view; status_is = refl }) spelled
+  pub calendar-answer : (job : CalendarJob) (x : ExtractParts) → IfSome start (SpellsNarrowed MAX_LINES job.asked x) → (text : List ℕ)
+      → IsWeekCalendar x job.uid text → IfSome start (λ bytes. IsCalendarAnswer job bytes text 0)
+  calendar-answer job x spelled text view =
+      known_so start (SpellsNarrowed MAX_LINES job.asked x) (λ bytes. IsCalendarAnswer job bytes text 0)
+      (λ bytes s. record { extract = x; spelled = s; view = view; status_is = refl }) spelled
 
-    pub clashes-answer : (clashes : List Clash) (none : Bool) → AreAllClashes x clashes → IsTrue none ↔ (clashes ≡ []) →
-        IfSome start (λ bytes. IsClashesAnswer asked bytes (clashes_text clashes) (listed_status none))
-    clashes-answer clashes none all tells =
-        known_so start (SpellsNarrowed MAX_LINES asked x)
-        (λ bytes. IsClashesAnswer asked bytes (clashes_text clashes) (listed_status none)) (λ bytes s. record {
-          extract = x;
-          spelled = s;
-          clashes = clashes;
-          are_clashes = all;
-          text_is = refl;
-          status_is = listed (clashes ≡ []) none tells;
-        }) spelled
+  pub clashes-answer : (asked : Asked) (x : ExtractParts) → IfSome start (SpellsNarrowed MAX_LINES asked x) → (clashes : List Clash)
+      (none : Bool) → AreAllClashes x clashes → IsTrue none ↔ (clashes ≡ [])
+      → IfSome start (λ bytes. IsClashesAnswer asked bytes (clashes_text clashes) (listed_status none))
+  clashes-answer asked x spelled clashes none all tells =
+      known_so start (SpellsNarrowed MAX_LINES asked x)
+      (λ bytes. IsClashesAnswer asked bytes (clashes_text clashes) (listed_status none)) (λ bytes s. record {
+        extract = x;
+        spelled = s;
+        clashes = clashes;
+        are_clashes = all;
+        text_is = refl;
+        status_is = listed (clashes ≡ []) none tells;
+      }) spelled
 
-    pub table-answer : (table : TableOf) (form : Form) (c : CanonParts) → IsCanonOf form x c →
-        IfSome start (λ bytes. IsTableAnswer table form asked bytes (table_text table c.lines) 0)
-    table-answer table form c is =
-        known_so start (SpellsNarrowed MAX_LINES asked x) (λ bytes. IsTableAnswer table form asked bytes (table_text table c.lines) 0)
-        (λ bytes s. record {
-          canonical = c.text;
-          counts = c.counts;
-          normalised = record {
-            meant = x;
-            accepted = record { spelled = s; clear = is.clear };
-            canonical = is.canonical;
-            unique = is.unique;
-            again = is.again asked s.whole s.narrowed;
-            reached = is.reached asked s.whole s.narrowed;
-            counted = is.counted;
-          };
-          text_is = ap (table_text table) is.lines_are;
-          status_is = refl;
-        }) spelled
+  pub table-answer : (job : TableJob) (x : ExtractParts) → IfSome start (SpellsNarrowed MAX_LINES job.asked x) → (c : CanonParts)
+      → IsCanonOf job.form x c → IfSome start (λ bytes. IsTableAnswer job bytes (table_text job.table c.lines) 0)
+  table-answer job x spelled c is =
+      known_so start (SpellsNarrowed MAX_LINES job.asked x) (λ bytes. IsTableAnswer job bytes (table_text job.table c.lines) 0)
+      (λ bytes s. record {
+        canonical = c.text;
+        counts = c.counts;
+        normalised = record {
+          meant = x;
+          accepted = record { spelled = s; clear = is.clear };
+          canonical = is.canonical;
+          unique = is.unique;
+          again = is.again job.asked s.whole s.narrowed;
+          reached = is.reached job.asked s.whole s.narrowed;
+          counted = is.counted;
+        };
+        text_is = ap (table_text job.table) is.lines_are;
+        status_is = refl;
+      }) spelled
 
 -- two readers, of which what they give is read as these extracts
 module _ (asked : Asked) (common : Bool) (left right : Option (List ℕ)) (x y : ExtractParts)
@@ -135,32 +136,6 @@ module _ (asked : Asked) (common : Bool) (left right : Option (List ℕ)) (x y :
         right_spelled = t;
         narrowed = read.narrowed;
       }) read.right_spelled) read.left_spelled
-
-  pub compare-answer : (c : Comparison) → AreCompared x y c →
-      IfSome left (λ a. IfSome right (λ b. IsCompareAnswer asked common a b (comparison_line c) (outcome_of c)))
-  compare-answer c compared =
-      known-pair (λ a b. IsCompareAnswer asked common a b (comparison_line c) (outcome_of c)) (λ a b spelled. record {
-        left = x;
-        right = y;
-        spelled = spelled;
-        comparison = c;
-        compared = compared;
-        text_is = refl;
-        status_is = refl;
-      })
-
-  pub diff-answer : (format : Format) (d : DifferencesParts) (none : Bool) → AreDifferences x y d → IsTrue none ↔ AreNone d →
-      IfSome left (λ a. IfSome right (λ b. IsDiffAnswer format asked common a b (differences_in format d) (listed_status none)))
-  diff-answer format d none are tells =
-      known-pair (λ a b. IsDiffAnswer format asked common a b (differences_in format d) (listed_status none)) (λ a b spelled. record {
-        left = x;
-        right = y;
-        spelled = spelled;
-        differences = d;
-        are_differences = are;
-        text_is = refl;
-        status_is = listed (AreNone d) none tells;
-      })
 
   -- they aren't compared, or the answer can't be written: what holds of an answer, of which holds what holds of this fault
   pub compare-refused : (after right_after : Unread) (Untouched : Type 0) (result : Result ℕ Fault) (f : Fault) →
@@ -180,3 +155,54 @@ module _ (asked : Asked) (common : Bool) (left right : Option (List ℕ)) (x y :
         },
         h,
       ))) read.left_spelled
+
+module _ (left right : Option (List ℕ)) (x y : ExtractParts) where
+  pub compare-answer : (job : CompareJob) → ReadAsPair job.asked job.common left right x y → (c : Comparison) → AreCompared x y c →
+      IfSome left (λ a. IfSome right (λ b. IsCompareAnswer job a b (comparison_line c) (outcome_of c)))
+  compare-answer job read c compared =
+      known-pair job.asked job.common left right x y read (λ a b. IsCompareAnswer job a b (comparison_line c) (outcome_of c))
+      (λ a b spelled. record {
+        left = x;
+        right = y;
+        spelled = spelled;
+        comparison = c;
+        compared = compared;
+        text_is = refl;
+        status_is = refl;
+      })
+
+  pub diff-answer : (job : DiffJob) → ReadAsPair job.asked job.common left right x y → (d : DifferencesParts) (none : Bool) →
+      AreDifferences x y d → IsTrue none ↔ AreNone d →
+      IfSome left (λ a. IfSome right (λ b. IsDiffAnswer job a b (differences_in job.format d) (listed_status none)))
+  diff-answer job read d none are tells =
+      known-pair job.asked job.common left right x y read (λ a b. IsDiffAnswer job a b (differences_in job.format d) (listed_status none))
+      (λ a b spelled. record {
+        left = x;
+        right = y;
+        spelled = spelled;
+        differences = d;
+        are_differences = are;
+        text_is = refl;
+        status_is = listed (AreNone d) none tells;
+      })
+
+-- ---- the faults of bytes that are known
+
+module _ (asked : Asked) (bytes : List ℕ) (after : Unread) where
+  -- of a view of a train
+  pub train-fault : (x : ExtractParts) → SpellsNarrowed MAX_LINES asked x bytes → (f : Fault) → IsTrainFault x f →
+      IsNormaliseFault MAX_LINES asked bytes after f
+  train-fault x s fault.Write h = tt
+  train-fault x s f h = canon-fault MAX_LINES asked bytes after x s f h
+
+  -- of reading, for a command that refuses no clash
+  pub clashless-fault : (f : Fault) → IsReadNarrowedFault MAX_LINES asked bytes after f → IsClashlessRefusal asked bytes after f
+  clashless-fault fault.Write h = absurd h
+  clashless-fault _ h = h
+
+  -- of a calendar
+  pub calendar-fault : (x : ExtractParts) → SpellsNarrowed MAX_LINES asked x bytes → (f : Fault) → IsWeekCalendarFault f →
+      IsClashlessRefusal asked bytes after f
+  calendar-fault x spelled fault.Memory is = tt
+  calendar-fault x spelled fault.Write is = (x, spelled)
+  calendar-fault x spelled _ is = absurd is

@@ -1,9 +1,4 @@
 pub mod Answered
 pub mod CheckedLines
-pub mod ClashlessFaults
 pub mod CommandBuilt
-pub mod Each
-pub mod GivenWords
 pub mod KnownAnswers
-pub mod OwnSubcommand
-pub mod TrainFaults

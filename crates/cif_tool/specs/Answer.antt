@@ -14,7 +14,6 @@ use Rattle.cif_extract.specs.declared.fault.Fault.{Fault}
 use Rattle.cif_extract.specs.declared.fault.Fault.TheVariants.{Ambiguous, Memory, OutsideWindow, Read, Refused, WindowReversed, Write}
 use Rattle.cif_feed.specs.Judged.{IsJudgedFault, NoneHasReason}
 use Rattle.cif_feed.specs.Reasons.{reasons_in, reasons_text}
-use Rattle.cif_weeks.specs.declared.form.Form.{Form}
 use Rattle.cif_canon.specs.Accepted.{SpellsNarrowed}
 use Rattle.cif_extract.specs.declared.fault.Clash.{Clash}
 use Rattle.cif_views.specs.Clashes.{AreAllClashes, clashes_text}
@@ -31,15 +30,21 @@ use Rattle.cif_canon.specs.Pair.{FaultOfBoth, IsCompareRefusal, ReadsBoth, Spell
 use Rattle.cif_canon.specs.Views.{IsDayFault}
 use Rattle.cif_views.specs.Listing.{IsDayListing, IsTrainListing}
 use Rattle.cif_views.specs.Tables.{table_text}
-use Rattle.cif_views.specs.declared.tables.Table.{Table as TableOf}
 use Rattle.cif_canon.specs.declared.asked.Asked.{Asked}
 use Rattle.cif_canon.specs.declared.comparison.Comparison.{Comparison}
 use Rattle.cif_canon.specs.declared.canonical_form.Counts.{Counts}
 use Rattle.cif_canon.specs.declared.rows.Format.{Format}
 use Rattle.cif_canon.specs.declared.rows.Format.TheVariants.{Text, Tsv}
-use Rattle.cif_views.specs.declared.listing.Listing.{Listing}
 use Rattle.cif_tool.specs.Status.{outcome_of}
+pub use Rattle.cif_tool.specs.declared.job.CalendarJob.{CalendarJob}
+pub use Rattle.cif_tool.specs.declared.job.CanonicalJob.{CanonicalJob}
+pub use Rattle.cif_tool.specs.declared.job.CompareJob.{CompareJob}
+pub use Rattle.cif_tool.specs.declared.job.DayJob.{DayJob}
+pub use Rattle.cif_tool.specs.declared.job.DiffJob.{DiffJob}
+pub use Rattle.cif_tool.specs.declared.job.ExplainJob.{ExplainJob}
 use Rattle.cif_tool.specs.declared.job.Job.{Job}
+pub use Rattle.cif_tool.specs.declared.job.TableJob.{TableJob}
+pub use Rattle.cif_tool.specs.declared.job.TrainJob.{TrainJob}
 use Rattle.cif_tool.specs.declared.job.Job.TheVariants.{Calendar, Check, CheckAll, Clashes, Compare, Day, Diff, Explain}
 use Rattle.cif_tool.specs.declared.job.Job.TheVariants.{Normalise, Table, Train}
 
@@ -68,25 +73,25 @@ OfBoth remaining IsAnswer left right =
     OfInput remaining (λ left_bytes text status. OfInput remaining (IsAnswer left_bytes) right text status) left
 
 -- `normalise` answers these bytes by their canonical text.
-pub record IsNormaliseAnswer (form : Form) (asked : Asked) (bytes text : List ℕ) (status : ℕ) : Type 0 where
+pub record IsNormaliseAnswer (job : CanonicalJob) (bytes text : List ℕ) (status : ℕ) : Type 0 where
   pub counts : Counts
-  pub normalised : IsNormalised form asked MAX_LINES bytes text counts
+  pub normalised : IsNormalised job.form job.asked MAX_LINES bytes text counts
   pub status_is : status ≡ 0
 
 -- `check` answers these bytes by how many records their canonical text has.
-pub record IsCheckAnswer (form : Form) (asked : Asked) (bytes text : List ℕ) (status : ℕ) : Type 0 where
+pub record IsCheckAnswer (job : CanonicalJob) (bytes text : List ℕ) (status : ℕ) : Type 0 where
   pub canonical : List ℕ
   pub counts : Counts
-  pub normalised : IsNormalised form asked MAX_LINES bytes canonical counts
+  pub normalised : IsNormalised job.form job.asked MAX_LINES bytes canonical counts
   pub text_is : text ≡ counts_line counts
   pub status_is : status ≡ 0
 
 -- `table` answers these bytes by a table of the extract that is their canonical text.
-pub record IsTableAnswer (table : TableOf) (form : Form) (asked : Asked) (bytes text : List ℕ) (status : ℕ) : Type 0 where
+pub record IsTableAnswer (job : TableJob) (bytes text : List ℕ) (status : ℕ) : Type 0 where
   pub canonical : List ℕ
   pub counts : Counts
-  pub normalised : IsNormalised form asked MAX_LINES bytes canonical counts
-  pub text_is : text ≡ table_text table (lines_of normalised.canonical.made)
+  pub normalised : IsNormalised job.form job.asked MAX_LINES bytes canonical counts
+  pub text_is : text ≡ table_text job.table (lines_of normalised.canonical.made)
   pub status_is : status ≡ 0
 
 -- Some of the lines of these bytes have a reason to be refused, each judged by itself, and the text says which.
@@ -98,29 +103,29 @@ pub record AreReasons (bytes text : List ℕ) (status : ℕ) : Type 0 where
   pub status_is : status ≡ 3
 
 -- `check --all` answers these bytes by these reasons, or, where there is none, as `check` does.
-abbrev pub IsCheckAllAnswer : Form → Asked → List ℕ → List ℕ → ℕ → Type 0
-IsCheckAllAnswer form asked bytes text status =
-    AreReasons bytes text status ⊎ (NoneHasReason (judged_contents bytes) × IsCheckAnswer form asked bytes text status)
+abbrev pub IsCheckAllAnswer : CanonicalJob → List ℕ → List ℕ → ℕ → Type 0
+IsCheckAllAnswer job bytes text status =
+    AreReasons bytes text status ⊎ (NoneHasReason (judged_contents bytes) × IsCheckAnswer job bytes text status)
 
 -- `day` answers these bytes by what runs on the day, in this listing.
-pub record IsDayAnswer (listing : Listing) (day : ℕ) (bytes text : List ℕ) (status : ℕ) : Type 0 where
+pub record IsDayAnswer (job : DayJob) (bytes text : List ℕ) (status : ℕ) : Type 0 where
   pub extract : ExtractParts
   pub spelled : BytesSpellWithin MAX_LINES bytes extract
-  pub view : IsDayListing listing extract day text
+  pub view : IsDayListing job.listing extract job.day text
   pub status_is : status ≡ 0
 
 -- `train` answers these bytes by when the train runs, in this listing.
-pub record IsTrainAnswer (listing : Listing) (form : Form) (asked : Asked) (uid bytes text : List ℕ) (status : ℕ) : Type 0 where
+pub record IsTrainAnswer (job : TrainJob) (bytes text : List ℕ) (status : ℕ) : Type 0 where
   pub extract : ExtractParts
-  pub spelled : SpellsNarrowed MAX_LINES asked extract bytes
-  pub view : IsTrainListing listing form extract uid text
+  pub spelled : SpellsNarrowed MAX_LINES job.asked extract bytes
+  pub view : IsTrainListing job.listing job.form extract job.uid text
   pub status_is : status ≡ 0
 
 -- `compare` answers two inputs by how they compare in the window that is asked for.
-pub record IsCompareAnswer (asked : Asked) (common : Bool) (left_bytes right_bytes text : List ℕ) (status : ℕ) : Type 0 where
+pub record IsCompareAnswer (job : CompareJob) (left_bytes right_bytes text : List ℕ) (status : ℕ) : Type 0 where
   pub left : ExtractParts
   pub right : ExtractParts
-  pub spelled : SpellPair asked common left_bytes right_bytes left right
+  pub spelled : SpellPair job.asked job.common left_bytes right_bytes left right
   pub comparison : Comparison
   pub compared : AreCompared left right comparison
   pub text_is : text ≡ comparison_line comparison
@@ -136,20 +141,20 @@ differences_in Text differences = differences_text differences
 differences_in Tsv differences = difference_table differences
 
 -- `diff` answers two inputs by their differences in the window that is asked for, in this format.
-pub record IsDiffAnswer (format : Format) (asked : Asked) (common : Bool) (left_bytes right_bytes text : List ℕ) (status : ℕ) : Type 0 where
+pub record IsDiffAnswer (job : DiffJob) (left_bytes right_bytes text : List ℕ) (status : ℕ) : Type 0 where
   pub left : ExtractParts
   pub right : ExtractParts
-  pub spelled : SpellPair asked common left_bytes right_bytes left right
+  pub spelled : SpellPair job.asked job.common left_bytes right_bytes left right
   pub differences : DifferencesParts
   pub are_differences : AreDifferences left right differences
-  pub text_is : text ≡ differences_in format differences
+  pub text_is : text ≡ differences_in job.format differences
   pub status_is : IsListedStatus (AreNone differences) status
 
 -- `explain` answers these bytes by why the train runs on the day, or doesn't, in this format.
-pub record IsExplainAnswer (format : Format) (uid : List ℕ) (day : ℕ) (bytes text : List ℕ) (status : ℕ) : Type 0 where
+pub record IsExplainAnswer (job : ExplainJob) (bytes text : List ℕ) (status : ℕ) : Type 0 where
   pub extract : ExtractParts
   pub spelled : BytesSpellWithin MAX_LINES bytes extract
-  pub explanation : IsExplanation format extract uid day text
+  pub explanation : IsExplanation job.format extract job.uid job.day text
   pub status_is : status ≡ 0
 
 -- `clashes` answers an input by all its clashes in the window that is asked for.
@@ -191,10 +196,10 @@ IsExplainRefusal day bytes after fault = IsReadFault MAX_LINES bytes after fault
     ⊎ ((extract : ExtractParts) × BytesSpellWithin MAX_LINES bytes extract × IsExplanationFault extract day fault)
 
 -- `calendar` answers these bytes by the calendar of the train in the window that is asked for.
-pub record IsCalendarAnswer (asked : Asked) (uid bytes text : List ℕ) (status : ℕ) : Type 0 where
+pub record IsCalendarAnswer (job : CalendarJob) (bytes text : List ℕ) (status : ℕ) : Type 0 where
   pub extract : ExtractParts
-  pub spelled : SpellsNarrowed MAX_LINES asked extract bytes
-  pub view : IsWeekCalendar extract uid text
+  pub spelled : SpellsNarrowed MAX_LINES job.asked extract bytes
+  pub view : IsWeekCalendar extract job.uid text
   pub status_is : status ≡ 0
 
 -- Why `clashes` or `calendar`, which refuse no clash, have no answer: the bytes aren't read as an extract for the window that is asked
@@ -213,13 +218,13 @@ IsHandedOn holds_nothing new (Err fault) = ⊤
 -- one without an end.
 abbrev pub ReadsInputs : {R A : Type 0} → (R → Option (List ℕ)) → (R → Option ℕ) → Job → Source R → Source R → Source R → Source R →
     Result A Fault → Type 0
-ReadsInputs remaining errors (Compare left_file right_file asked common) left left_new right right_new result =
+ReadsInputs remaining errors (Compare job) left left_new right right_new result =
     ReadsBoth errors left left_new right right_new result × LeavesNothing remaining left left_new result
     × LeavesNothing remaining right right_new result
-ReadsInputs remaining errors (Diff left_file right_file asked common format) left left_new right right_new result =
+ReadsInputs remaining errors (Diff job) left left_new right right_new result =
     ReadsBoth errors left left_new right right_new result × LeavesNothing remaining left left_new result
     × LeavesNothing remaining right right_new result
-ReadsInputs remaining errors (CheckAll file asked form) source source_new right right_new result =
+ReadsInputs remaining errors (CheckAll job) source source_new right right_new result =
     FaultReads errors source source_new result × (right_new ≡ right)
 ReadsInputs remaining errors _ source source_new right right_new result =
     FaultReads errors source source_new result × LeavesNothing remaining source source_new result × (right_new ≡ right)
@@ -231,46 +236,39 @@ LeavesUnlessListed remaining old new (Err fault) = ⊤
 
 -- what the job's command answers of what the readers of its input and of a second one give
 abbrev pub IsJobAnswer : {R : Type 0} → (R → Option (List ℕ)) → Job → Source R → Source R → List ℕ → ℕ → Type 0
-IsJobAnswer remaining (Normalise file asked form) source right = OfInput remaining (IsNormaliseAnswer form asked) source
-IsJobAnswer remaining (Check file asked form) source right = OfInput remaining (IsCheckAnswer form asked) source
-IsJobAnswer remaining (CheckAll file asked form) source right = OfInput remaining (IsCheckAllAnswer form asked) source
-IsJobAnswer remaining (Compare left_file right_file asked common) source right =
-    OfBoth remaining (IsCompareAnswer asked common) source right
-IsJobAnswer remaining (Diff left_file right_file asked common format) source right =
-    OfBoth remaining (IsDiffAnswer format asked common) source right
-IsJobAnswer remaining (Day day file listing) source right = OfInput remaining (IsDayAnswer listing day) source
-IsJobAnswer remaining (Train uid file asked form listing) source right =
-    OfInput remaining (IsTrainAnswer listing form asked uid) source
-IsJobAnswer remaining (Explain uid day file format) source right = OfInput remaining (IsExplainAnswer format uid day) source
-IsJobAnswer remaining (Clashes file asked) source right = OfInput remaining (IsClashesAnswer asked) source
-IsJobAnswer remaining (Table which file asked form) source right = OfInput remaining (IsTableAnswer which form asked) source
-IsJobAnswer remaining (Calendar uid file asked) source right = OfInput remaining (IsCalendarAnswer asked uid) source
+IsJobAnswer remaining (Normalise job) source right = OfInput remaining (IsNormaliseAnswer job) source
+IsJobAnswer remaining (Check job) source right = OfInput remaining (IsCheckAnswer job) source
+IsJobAnswer remaining (CheckAll job) source right = OfInput remaining (IsCheckAllAnswer job) source
+IsJobAnswer remaining (Compare job) source right = OfBoth remaining (IsCompareAnswer job) source right
+IsJobAnswer remaining (Diff job) source right = OfBoth remaining (IsDiffAnswer job) source right
+IsJobAnswer remaining (Day job) source right = OfInput remaining (IsDayAnswer job) source
+IsJobAnswer remaining (Train job) source right = OfInput remaining (IsTrainAnswer job) source
+IsJobAnswer remaining (Explain job) source right = OfInput remaining (IsExplainAnswer job) source
+IsJobAnswer remaining (Clashes asked) source right = OfInput remaining (IsClashesAnswer asked) source
+IsJobAnswer remaining (Table job) source right = OfInput remaining (IsTableAnswer job) source
+IsJobAnswer remaining (Calendar job) source right = OfInput remaining (IsCalendarAnswer job) source
 
 -- why it has no answer
 abbrev pub IsJobFault : {R A : Type 0} → (R → Option (List ℕ)) → Job → Source R → Source R → Source R → Source R →
     Result A Fault → Type 0
-IsJobFault remaining (Normalise file asked form) source source_new right right_new result =
-    FaultOf remaining (IsNormaliseFault MAX_LINES asked) source source_new result
-IsJobFault remaining (Check file asked form) source source_new right right_new result =
-    FaultOf remaining (IsNormaliseFault MAX_LINES asked) source source_new result
-IsJobFault remaining (CheckAll file asked form) source source_new right right_new result =
-    FaultOf remaining (IsCheckAllFault asked) source source_new result
-IsJobFault remaining (Compare left_file right_file asked common) source source_new right right_new result =
-    FaultOfBoth remaining (IsCompareRefusal asked common) source source_new right right_new result
-IsJobFault remaining (Diff left_file right_file asked common format) source source_new right right_new result =
-    FaultOfBoth remaining (IsCompareRefusal asked common) source source_new right right_new result
-IsJobFault remaining (Day day file listing) source source_new right right_new result =
-    FaultOf remaining (IsDayRefusal day) source source_new result
-IsJobFault remaining (Train uid file asked form listing) source source_new right right_new result =
-    FaultOf remaining (IsNormaliseFault MAX_LINES asked) source source_new result
-IsJobFault remaining (Explain uid day file format) source source_new right right_new result =
-    FaultOf remaining (IsExplainRefusal day) source source_new result
-IsJobFault remaining (Clashes file asked) source source_new right right_new result =
-    FaultOf remaining (IsClashlessRefusal asked) source source_new result
-IsJobFault remaining (Table which file asked form) source source_new right right_new result =
-    FaultOf remaining (IsNormaliseFault MAX_LINES asked) source source_new result
-IsJobFault remaining (Calendar uid file asked) source source_new right right_new result =
-    FaultOf remaining (IsClashlessRefusal asked) source source_new result
+IsJobFault remaining (Normalise job) source source_new right right_new =
+    FaultOf remaining (IsNormaliseFault MAX_LINES job.asked) source source_new
+IsJobFault remaining (Check job) source source_new right right_new =
+    FaultOf remaining (IsNormaliseFault MAX_LINES job.asked) source source_new
+IsJobFault remaining (CheckAll job) source source_new right right_new = FaultOf remaining (IsCheckAllFault job.asked) source source_new
+IsJobFault remaining (Compare job) source source_new right right_new =
+    FaultOfBoth remaining (IsCompareRefusal job.asked job.common) source source_new right right_new
+IsJobFault remaining (Diff job) source source_new right right_new =
+    FaultOfBoth remaining (IsCompareRefusal job.asked job.common) source source_new right right_new
+IsJobFault remaining (Day job) source source_new right right_new = FaultOf remaining (IsDayRefusal job.day) source source_new
+IsJobFault remaining (Train job) source source_new right right_new =
+    FaultOf remaining (IsNormaliseFault MAX_LINES job.asked) source source_new
+IsJobFault remaining (Explain job) source source_new right right_new = FaultOf remaining (IsExplainRefusal job.day) source source_new
+IsJobFault remaining (Clashes asked) source source_new right right_new = FaultOf remaining (IsClashlessRefusal asked) source source_new
+IsJobFault remaining (Table job) source source_new right right_new =
+    FaultOf remaining (IsNormaliseFault MAX_LINES job.asked) source source_new
+IsJobFault remaining (Calendar job) source source_new right right_new =
+    FaultOf remaining (IsClashlessRefusal job.asked) source source_new
 
 -- this status, once what was written is handed on; a fault of the writing is the answer
 abbrev pub Finishes : {W A : Type 0} → (W → Option (List ℕ)) → (W → Option ℕ) → ℕ → Result A Fault → Sink W → Sink W → Result ℕ Fault →

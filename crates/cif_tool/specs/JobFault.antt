@@ -1,7 +1,8 @@
 -- Why the words of a call ask for nothing.
-use Rattle.std.specs.Prelude.{◌≡◌, ◌≢◌, ◌⊎◌, ◌<◌, ℕ, List, [], ◌∷◌, ◌++◌, Option, Some, None, ⊤, IfErr, IfOk, IfSome, IsSomeAnd}
-use Rattle.std.specs.Prelude.{Result, Ok, Err, true, codes}
-use Rattle.clap.specs.Words.{IsAmong, Row, Text, all_of, first_of, kind_of}
+use Rattle.std.specs.Prelude.{◌≡◌, ◌≢◌, ◌⊎◌, ◌<◌, ℕ, List, [], ◌∷◌, Option, Some, None, ⊤, IfErr, IfOk, IfSome, IsSomeAnd}
+use Rattle.std.specs.Prelude.{Result, Ok, Err, codes, if◌then◌else◌}
+use Rattle.std.specs.Str.{bytes_eq}
+use Rattle.clap.specs.Words.{IsAmong, Row, Text, first_of, kind_of}
 use Rattle.clap.specs.declared.error.ErrorKind.{ErrorKind}
 use Rattle.clap.specs.declared.error.ErrorKind.TheVariants.{DisplayHelp, DisplayVersion}
 use Rattle.cif_columns.specs.Day.{StandsInYymmdd}
@@ -11,15 +12,14 @@ use Rattle.cif_columns.specs.declared.sink.Sink.{Sink}
 use Rattle.cif_columns.specs.declared.sink.WriteFault.{WriteFault}
 use Rattle.cif_extract.specs.declared.fault.Fault.{Fault}
 use Rattle.cif_extract.specs.declared.fault.Fault.TheVariants.{Write, Memory as OutOfMemory}
-use Rattle.cif_tool.specs.CommandLine.{AreChoices, chosen, faults_of}
-use Rattle.cif_tool.specs.Job.{IsChosen, IsFeedChosen, IsTaskChosen, is_standard, names_standard, reads_standard, standard_inputs}
+use Rattle.cif_tool.specs.CommandLine.{AreChoices, chosen, faults_of, subcommands}
+use Rattle.cif_tool.specs.Job.{IsTaskChosen, inputs_of, standard_inputs, required_word}
+use Rattle.cif_tool.specs.declared.command_line.Argument.{Argument}
 use Rattle.cif_tool.specs.declared.command_line.Choices.{Choices}
-use Rattle.cif_tool.specs.declared.job.FeedJob.{FeedJob}
-use Rattle.cif_tool.specs.declared.job.Job.{Job}
 use Rattle.cif_tool.specs.declared.job.JobFault.{JobFault}
 use Rattle.cif_tool.specs.declared.job.Inputs.{Inputs}
 use Rattle.cif_tool.specs.declared.job.Inputs.TheVariants.{LeftAndRight, HolidaysAndFile, Extracts}
-use Rattle.cif_tool.specs.declared.job.JobFault.TheVariants.{Usage, BadDate, BadUid, StandardInputTwice, Memory}
+use Rattle.cif_tool.specs.declared.job.JobFault.TheVariants.{Usage, NoCommand, BadDate, BadUid, StandardInputTwice, Memory}
 use Rattle.cif_tool.specs.declared.job.Task.{Task}
 
 -- six digits YYMMDD that name a day aren't the word
@@ -30,59 +30,62 @@ NamesNoDay word = (day : ℕ) → ¬ StandsInYymmdd word day
 abbrev pub IsNoUid : Text → Type 0
 IsNoUid word = ¬ IsUid word
 
--- the word under the id names no day
+-- the word under the id, if there is one, names no day
 abbrev pub HasBadDate : Text → List Row → Type 0
 HasBadDate id rows = IsSomeAnd (first_of id rows) NamesNoDay
 
--- the subcommand is `train`, `explain` or `calendar`, and its UID is none
+-- the subcommand takes a day, and its word names none
+abbrev pub HasBadDay : Text × List Row → Type 0
+HasBadDay met = ((met.0 ≡ codes "day") ⊎ (met.0 ≡ codes "explain")) × NamesNoDay (required_word (codes "YYMMDD") met.1)
+
+-- the subcommand takes a UID, and its word is none
 abbrev pub HasBadUid : Text × List Row → Type 0
 HasBadUid met = ((met.0 ≡ codes "train") ⊎ ((met.0 ≡ codes "explain") ⊎ (met.0 ≡ codes "calendar")))
-    × IsSomeAnd (first_of (codes "UID") met.1) IsNoUid
+    × IsNoUid (required_word (codes "UID") met.1)
 
--- The subcommand has these inputs, and two of them are standard input: of `compare` or `diff`, where no date is bad; of `prepare` the
--- holidays and the extract; of `update` two or more of the extracts.
-abbrev pub IsStandardTwice : Inputs → Text × List Row → Type 0
-IsStandardTwice LeftAndRight met = ((met.0 ≡ codes "compare") ⊎ (met.0 ≡ codes "diff"))
-    × IsSomeAnd (first_of (codes "LEFT") met.1) (λ word. is_standard word ≡ true)
-    × IsSomeAnd (first_of (codes "RIGHT") met.1) (λ word. is_standard word ≡ true)
-    × ¬ (HasBadDate (codes "from") met.1 ⊎ HasBadDate (codes "to") met.1)
-IsStandardTwice HolidaysAndFile met = (met.0 ≡ codes "prepare")
-    × (names_standard (first_of (codes "holidays") met.1) ≡ true)
-    × (reads_standard (first_of (codes "FILE") met.1) ≡ true)
-IsStandardTwice Extracts met = (met.0 ≡ codes "update")
-    × IsSomeAnd (first_of (codes "FULL") met.1) (λ full.
-    IsSomeAnd (all_of (codes "UPDATE") met.1) (λ updates. 1 < standard_inputs (full ∷ updates)))
+-- none of these subcommands has the name
+abbrev pub IsNoneOf : List (Text × List Argument) → Text → Type 0
+IsNoneOf [] name = ⊤
+IsNoneOf (s ∷ rest) name = (name ≢ s.0) × IsNoneOf rest name
 
--- Why words that `clap` takes ask for nothing: a UID is none, or else a date is none, or else two inputs are standard input. Memory
--- may run out at any words.
+-- which inputs the subcommand reads, where it reads several
+abbrev pub several_of : Text → Inputs
+several_of name = if bytes_eq name (codes "prepare") then HolidaysAndFile
+    else (if bytes_eq name (codes "update") then Extracts else LeftAndRight)
+
+-- the words ask for a task otherwise, but two or more of its inputs are standard input
+pub record IsStandardTwice (inputs : Inputs) (met : Text × List Row) : Type 0 where
+  pub task : Task
+  pub is_chosen : IsTaskChosen task met
+  pub twice : 1 < standard_inputs (inputs_of met)
+  pub which : inputs ≡ several_of met.0
+
+-- Why the words of a subcommand ask for nothing: it isn't one of the program's own; or a UID is none, or else a date is none, or else two
+-- inputs are standard input. Memory may run out at any words.
 abbrev pub IsWordFault : JobFault → Text × List Row → Type 0
+IsWordFault NoCommand met = IsNoneOf subcommands met.0
 IsWordFault BadUid met = HasBadUid met
 IsWordFault BadDate met = ¬ HasBadUid met
-    × (HasBadDate (codes "YYMMDD") met.1 ⊎ (HasBadDate (codes "from") met.1 ⊎ HasBadDate (codes "to") met.1))
+    × (HasBadDay met ⊎ (HasBadDate (codes "from") met.1 ⊎ HasBadDate (codes "to") met.1))
 IsWordFault (StandardInputTwice inputs) met = IsStandardTwice inputs met
 IsWordFault Memory met = ⊤
 IsWordFault (Usage error) met = ⊥
 
--- the matches of a subcommand ask for the job, or for nothing, as the fault says
-pub record IsJobOf (met : Text × List Row) (result : Result Job JobFault) : Type 0 where
-  pub ok : IfOk result (λ job. IsChosen job met)
+-- the matches of a subcommand ask for what `IsOf` says, or for nothing, as the fault says
+pub record IsAskedFor {J : Type 0} (IsOf : J → Text × List Row → Type 0) (met : Text × List Row) (result : Result J JobFault) : Type 0 where
+  pub ok : IfOk result (λ job. IsOf job met)
   pub err : IfErr result (λ fault. IsWordFault fault met)
 
--- the same of a feed job
-pub record IsFeedJobOf (met : Text × List Row) (result : Result FeedJob JobFault) : Type 0 where
-  pub ok : IfOk result (λ job. IsFeedChosen job met)
-  pub err : IfErr result (λ fault. IsWordFault fault met)
+-- why the subcommand that `clap` enters, which is none only at no command, asks for nothing
+abbrev pub IsEnteredFault : Option (Text × List Row) → JobFault → Type 0
+IsEnteredFault (Some met) fault = IsWordFault fault met
+IsEnteredFault None fault = fault ≡ NoCommand
 
--- the matches of a subcommand ask for the task, or for nothing, as the fault says
-pub record IsTaskOf (met : Text × List Row) (result : Result Task JobFault) : Type 0 where
-  pub ok : IfOk result (λ task. IsTaskChosen task met)
-  pub err : IfErr result (λ fault. IsWordFault fault met)
-
--- `clap` refuses the words, by the error's kind, or it takes them and one of them is no UID or no date, or two inputs are standard input
+-- `clap` refuses the words, by the error's kind, or it takes them and they ask for nothing
 abbrev pub IsFaultAt : Choices → List Text → JobFault → Type 0
 IsFaultAt choices words (Usage error) = IsAmong (kind_of error) (faults_of choices words)
 IsFaultAt choices words Memory = ⊤
-IsFaultAt choices words fault = (faults_of choices words ≡ []) × IsSomeAnd (chosen choices words) (IsWordFault fault)
+IsFaultAt choices words fault = (faults_of choices words ≡ []) × IsEnteredFault (chosen choices words) fault
 
 -- why these words ask for nothing
 pub record IsFaultOf (words : List Text) (fault : JobFault) : Type 0 where
@@ -99,20 +102,22 @@ kind_status _ = 2
 -- the status that the program exits with
 abbrev pub status_of : JobFault → ℕ
 status_of (Usage error) = kind_status (kind_of error)
+status_of NoCommand = 2
 status_of BadDate = 2
 status_of BadUid = 2
 status_of (StandardInputTwice inputs) = 2
 status_of Memory = 4
 
--- the line that names the fault, without its line feed; none where `clap` has the text
+-- the line that names the fault; none where `clap` has the text
 abbrev pub text_of : JobFault → Option Text
 text_of (Usage error) = None
-text_of BadDate = Some (codes "cif: bad date")
-text_of BadUid = Some (codes "cif: bad UID")
-text_of (StandardInputTwice LeftAndRight) = Some (codes "cif: LEFT and RIGHT are both standard input")
-text_of (StandardInputTwice HolidaysAndFile) = Some (codes "cif: --holidays and FILE are both standard input")
-text_of (StandardInputTwice Extracts) = Some (codes "cif: two inputs are standard input")
-text_of Memory = Some (codes "cif: Memory")
+text_of NoCommand = Some (codes "cif: no command\n")
+text_of BadDate = Some (codes "cif: bad date\n")
+text_of BadUid = Some (codes "cif: bad UID\n")
+text_of (StandardInputTwice LeftAndRight) = Some (codes "cif: LEFT and RIGHT are both standard input\n")
+text_of (StandardInputTwice HolidaysAndFile) = Some (codes "cif: --holidays and FILE are both standard input\n")
+text_of (StandardInputTwice Extracts) = Some (codes "cif: two inputs are standard input\n")
+text_of Memory = Some (codes "cif: Memory\n")
 
 -- A text was shown on the output: it was written whole, and nothing went to the errors.
 pub record IsShown {O E : Type 0} (contents : O → Option (List ℕ)) (write_errors : O → Option ℕ) (output output_new : Sink O)
@@ -126,7 +131,7 @@ pub record IsShown {O E : Type 0} (contents : O → Option (List ℕ)) (write_er
 pub record IsReported {O E : Type 0} (contents : E → Option (List ℕ)) (write_errors : E → Option ℕ) (line : Option Text)
     (output output_new : Sink O) (errors errors_new : Sink E) : Type 0 where
   pub text : List ℕ
-  pub names : IfSome line (λ words. text ≡ words ++ (10 ∷ []))
+  pub names : IfSome line (λ words. text ≡ words)
   pub told : Result (Unit {0}) WriteFault
   pub writes : Writes contents write_errors text errors errors_new told
   pub silent : output_new ≡ output

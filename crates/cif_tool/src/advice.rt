@@ -62,14 +62,14 @@ impl<R: Files + Input> DoneJob<'_, '_, R> {
         add_window_of(self.right, message);
         if let Some(extract) = &kept.left {
             match self.job {
-                Job::Train { uid, listing, .. } if !has_row(listing.format, self.written) => {
-                    add_records_of(extract, uid, message);
+                Job::Train(job) if !has_row(job.listing.format, self.written) => {
+                    add_records_of(extract, &job.uid, message);
                 }
-                Job::Explain { uid, format, .. } if !has_row(*format, self.written) => {
-                    add_records_of(extract, uid, message);
+                Job::Explain(job) if !has_row(job.format, self.written) => {
+                    add_records_of(extract, &job.uid, message);
                 }
-                Job::Calendar { uid, .. } if !has_schedule(extract, uid) => {
-                    add_records_of(extract, uid, message);
+                Job::Calendar(job) if !has_schedule(extract, &job.uid) => {
+                    add_records_of(extract, &job.uid, message);
                 }
                 _ => {}
             }
@@ -378,7 +378,10 @@ pub(crate) fn must_be(fault: &JobFault) -> Option<&'static str> {
     match fault {
         JobFault::BadDate => Some("must be a valid date as six digits, YYMMDD"),
         JobFault::BadUid => Some("must be six printable ASCII characters"),
-        JobFault::Usage(_) | JobFault::StandardInputTwice(_) | JobFault::Memory => None,
+        JobFault::Usage(_)
+        | JobFault::NoCommand
+        | JobFault::StandardInputTwice(_)
+        | JobFault::Memory => None,
     }
 }
 

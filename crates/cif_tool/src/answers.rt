@@ -19,20 +19,21 @@ ghost use Rattle.cif_tool.specs.Answer.{IsExplainAnswer, IsExplainRefusal, IsHan
 ghost use Rattle.cif_tool.specs.Answer.{IsJobFault, IsNormaliseAnswer, IsTableAnswer, IsTrainAnswer, OfBoth};
 ghost use Rattle.cif_tool.specs.Answer.{Finishes, OfInput, ReadsInputs, differences_in};
 
-use crate::job::Job;
+use crate::job::{
+    CalendarJob, CanonicalJob, CompareJob, DayJob, DiffJob, ExplainJob, Job, TableJob, TrainJob,
+};
 use crate::status::{DONE, REFUSED, listed, outcome};
 use cif_canon::{
     Asked, Counts, Differences, Format, canon, check_keeping, compare, differences, narrow,
     normalise_keeping, read_narrowed, read_pair, write_comparison, write_counts,
 };
-use cif_columns::{Day, MAX_LINES, ReadDevice, Sink, Source, Uid, WriteDevice};
+use cif_columns::{MAX_LINES, ReadDevice, Sink, Source, WriteDevice};
 use cif_extract::{Extract, Fault, read_extract};
 use cif_feed::{Judged, Reasons};
 use cif_views::{
-    Listing, Table, clashes, day_listing, explain_listing, train_listing, week_calendar,
-    write_difference_table, write_table,
+    clashes, day_listing, explain_listing, train_listing, week_calendar, write_difference_table,
+    write_table,
 };
-use cif_weeks::Form;
 use std::alloc::Global;
 
 /// What a command leaves to its caller.
@@ -51,20 +52,19 @@ pub fn answer_normalise<R: ReadDevice, W: WriteDevice>(
     alloc: Global,
     source: &mut Source<R>,
     sink: &mut Sink<W>,
-    asked: &Asked,
-    form: Form,
+    job: &CanonicalJob,
     kept: &mut Option<Extract>,
 ) -> Result<u8, Fault>
     ensures answer { Answers W.contents W.write_errors
-        (OfInput R.remaining (IsNormaliseAnswer form asked.now) source.old)
+        (OfInput R.remaining (IsNormaliseAnswer job.now) source.old)
         sink.old sink.new result }
-    ensures fault { FaultOf R.remaining (IsNormaliseFault MAX_LINES asked.now)
+    ensures fault { FaultOf R.remaining (IsNormaliseFault MAX_LINES job.now.asked)
         source.old source.new result }
     ensures source { FaultReads R.read_errors source.old source.new result }
     ensures end { LeavesNothing R.remaining source.old source.new result }
     ensures handed_on { IsHandedOn W.holds_nothing sink.new result }
 {
-    normalise_keeping(alloc, source, sink, MAX_LINES, asked, form, kept)?;
+    normalise_keeping(alloc, source, sink, MAX_LINES, &job.asked, job.form, kept)?;
     finish(Ok(()), sink, DONE)
 }
 
@@ -74,20 +74,19 @@ pub fn answer_check<R: ReadDevice, W: WriteDevice>(
     alloc: Global,
     source: &mut Source<R>,
     sink: &mut Sink<W>,
-    asked: &Asked,
-    form: Form,
+    job: &CanonicalJob,
     kept: &mut Option<Extract>,
 ) -> Result<u8, Fault>
     ensures answer { Answers W.contents W.write_errors
-        (OfInput R.remaining (IsCheckAnswer form asked.now) source.old)
+        (OfInput R.remaining (IsCheckAnswer job.now) source.old)
         sink.old sink.new result }
-    ensures fault { FaultOf R.remaining (IsNormaliseFault MAX_LINES asked.now)
+    ensures fault { FaultOf R.remaining (IsNormaliseFault MAX_LINES job.now.asked)
         source.old source.new result }
     ensures source { FaultReads R.read_errors source.old source.new result }
     ensures end { LeavesNothing R.remaining source.old source.new result }
     ensures handed_on { IsHandedOn W.holds_nothing sink.new result }
 {
-    let counts = check_keeping(alloc, source, MAX_LINES, asked, form, kept)?;
+    let counts = check_keeping(alloc, source, MAX_LINES, &job.asked, job.form, kept)?;
     let written = write_counts(&counts, sink).map_err(Fault::from);
     finish(written, sink, DONE)
 }
@@ -98,14 +97,13 @@ pub fn answer_check_all<R: ReadDevice, W: WriteDevice>(
     alloc: Global,
     source: &mut Source<R>,
     sink: &mut Sink<W>,
-    asked: &Asked,
-    form: Form,
+    job: &CanonicalJob,
     kept: &mut Kept,
 ) -> Result<u8, Fault>
     ensures answer { Answers W.contents W.write_errors
-        (OfInput R.remaining (IsCheckAllAnswer form asked.now) source.old)
+        (OfInput R.remaining (IsCheckAllAnswer job.now) source.old)
         sink.old sink.new result }
-    ensures fault { FaultOf R.remaining (IsCheckAllFault asked.now) source.old source.new result }
+    ensures fault { FaultOf R.remaining (IsCheckAllFault job.now.asked) source.old source.new result }
     ensures source { FaultReads R.read_errors source.old source.new result }
     ensures end { LeavesUnlessListed R.remaining source.old source.new result }
     ensures handed_on { IsHandedOn W.holds_nothing sink.new result }
@@ -117,7 +115,7 @@ pub fn answer_check_all<R: ReadDevice, W: WriteDevice>(
             finish(written, sink, REFUSED)
         }
         Judged::Extract(extract) => {
-            let counts = counted(alloc, extract, asked, form, &mut kept.left)?;
+            let counts = counted(alloc, extract, job, &mut kept.left)?;
             let written = write_counts(&counts, sink).map_err(Fault::from);
             finish(written, sink, DONE)
         }
@@ -129,22 +127,21 @@ pub fn answer_check_all<R: ReadDevice, W: WriteDevice>(
 fn counted(
     alloc: Global,
     extract: Extract,
-    asked: &Asked,
-    form: Form,
+    job: &CanonicalJob,
     kept: &mut Option<Extract>,
 ) -> Result<Counts, Fault>
     ensures ok { IfOk result (λ counts. (bytes : List ℕ)
         → BytesSpellWithin MAX_LINES bytes (extract_parts extract)
-        → (text : List ℕ) × IsNormalised form asked.now MAX_LINES bytes text counts) }
+        → (text : List ℕ) × IsNormalised job.now.form job.now.asked MAX_LINES bytes text counts) }
     ensures fault { IfErr result (λ fault. (bytes : List ℕ) (after : Unread)
         → BytesSpellWithin MAX_LINES bytes (extract_parts extract)
-        → IsNormaliseFault MAX_LINES asked.now bytes after fault) }
+        → IsNormaliseFault MAX_LINES job.now.asked bytes after fault) }
     ensures silent { IfErr result IsCountFault }
 {
     let mut extract = extract;
-    narrow(&mut extract, asked)?;
+    narrow(&mut extract, &job.asked)?;
     let extract = kept.insert(extract);
-    match canon(alloc, extract, form) {
+    match canon(alloc, extract, job.form) {
         Ok(canon) => Ok(canon.counts()),
         Err(fault) => Err(fault),
     }
@@ -157,21 +154,20 @@ pub fn answer_compare<R: ReadDevice, W: WriteDevice>(
     left: &mut Source<R>,
     right: &mut Source<R>,
     sink: &mut Sink<W>,
-    asked: &Asked,
-    common: bool,
+    job: &CompareJob,
     kept: &mut Kept,
 ) -> Result<u8, Fault>
     ensures answer { Answers W.contents W.write_errors
-        (OfBoth R.remaining (IsCompareAnswer asked.now common) left.old right.old)
+        (OfBoth R.remaining (IsCompareAnswer job.now) left.old right.old)
         sink.old sink.new result }
-    ensures fault { FaultOfBoth R.remaining (IsCompareRefusal asked.now common)
+    ensures fault { FaultOfBoth R.remaining (IsCompareRefusal job.now.asked job.now.common)
         left.old left.new right.old right.new result }
     ensures sources { ReadsBoth R.read_errors left.old left.new right.old right.new result }
     ensures left_end { LeavesNothing R.remaining left.old left.new result }
     ensures right_end { LeavesNothing R.remaining right.old right.new result }
     ensures handed_on { IsHandedOn W.holds_nothing sink.new result }
 {
-    let (left, right) = read_pair(alloc, left, right, asked, common)?;
+    let (left, right) = read_pair(alloc, left, right, &job.asked, job.common)?;
     let left = kept.left.insert(left);
     let right = kept.right.insert(right);
     let comparison = compare(alloc, left, right)?;
@@ -187,26 +183,24 @@ pub fn answer_diff<R: ReadDevice, W: WriteDevice>(
     left: &mut Source<R>,
     right: &mut Source<R>,
     sink: &mut Sink<W>,
-    asked: &Asked,
-    common: bool,
-    format: Format,
+    job: &DiffJob,
     kept: &mut Kept,
 ) -> Result<u8, Fault>
     ensures answer { Answers W.contents W.write_errors
-        (OfBoth R.remaining (IsDiffAnswer format asked.now common) left.old right.old)
+        (OfBoth R.remaining (IsDiffAnswer job.now) left.old right.old)
         sink.old sink.new result }
-    ensures fault { FaultOfBoth R.remaining (IsCompareRefusal asked.now common)
+    ensures fault { FaultOfBoth R.remaining (IsCompareRefusal job.now.asked job.now.common)
         left.old left.new right.old right.new result }
     ensures sources { ReadsBoth R.read_errors left.old left.new right.old right.new result }
     ensures left_end { LeavesNothing R.remaining left.old left.new result }
     ensures right_end { LeavesNothing R.remaining right.old right.new result }
     ensures handed_on { IsHandedOn W.holds_nothing sink.new result }
 {
-    let (left, right) = read_pair(alloc, left, right, asked, common)?;
+    let (left, right) = read_pair(alloc, left, right, &job.asked, job.common)?;
     let left = kept.left.insert(left);
     let right = kept.right.insert(right);
     let found = differences(alloc, left, right)?;
-    let written = write_differences(&found, format, sink);
+    let written = write_differences(&found, job.format, sink);
     finish(written, sink, listed(found.is_empty()))
 }
 
@@ -231,21 +225,21 @@ pub fn answer_day<R: ReadDevice, W: WriteDevice>(
     alloc: Global,
     source: &mut Source<R>,
     sink: &mut Sink<W>,
-    day: Day,
-    listing: Listing,
+    job: &DayJob,
     kept: &mut Option<Extract>,
 ) -> Result<u8, Fault>
     ensures answer { Answers W.contents W.write_errors
-        (OfInput R.remaining (IsDayAnswer listing day) source.old)
+        (OfInput R.remaining (IsDayAnswer job.now) source.old)
         sink.old sink.new result }
-    ensures fault { FaultOf R.remaining (IsDayRefusal day) source.old source.new result }
+    ensures fault { FaultOf R.remaining (IsDayRefusal job.now.day) source.old source.new result }
     ensures source { FaultReads R.read_errors source.old source.new result }
     ensures end { LeavesNothing R.remaining source.old source.new result }
     ensures handed_on { IsHandedOn W.holds_nothing sink.new result }
 {
     let extract = read_extract(alloc, source, MAX_LINES)?;
     let extract = kept.insert(extract);
-    finish(day_listing(alloc, extract, day, sink, listing), sink, DONE)
+    let written = day_listing(alloc, extract, job.day, sink, job.listing);
+    finish(written, sink, DONE)
 }
 
 /// Writes when the train runs, in this listing, and answers status 0.
@@ -253,28 +247,22 @@ pub fn answer_train<R: ReadDevice, W: WriteDevice>(
     alloc: Global,
     source: &mut Source<R>,
     sink: &mut Sink<W>,
-    uid: &Uid,
-    asked: &Asked,
-    form: Form,
-    listing: Listing,
+    job: &TrainJob,
     kept: &mut Option<Extract>,
 ) -> Result<u8, Fault>
     ensures answer { Answers W.contents W.write_errors
-        (OfInput R.remaining (IsTrainAnswer listing form asked.now uid.now) source.old)
+        (OfInput R.remaining (IsTrainAnswer job.now) source.old)
         sink.old sink.new result }
-    ensures fault { FaultOf R.remaining (IsNormaliseFault MAX_LINES asked.now)
+    ensures fault { FaultOf R.remaining (IsNormaliseFault MAX_LINES job.now.asked)
         source.old source.new result }
     ensures source { FaultReads R.read_errors source.old source.new result }
     ensures end { LeavesNothing R.remaining source.old source.new result }
     ensures handed_on { IsHandedOn W.holds_nothing sink.new result }
 {
-    let extract = read_narrowed(alloc, source, MAX_LINES, asked)?;
+    let extract = read_narrowed(alloc, source, MAX_LINES, &job.asked)?;
     let extract = kept.insert(extract);
-    finish(
-        train_listing(alloc, extract, uid, sink, form, listing),
-        sink,
-        DONE,
-    )
+    let written = train_listing(alloc, extract, &job.uid, sink, job.form, job.listing);
+    finish(written, sink, DONE)
 }
 
 /// Writes why the train runs on the day, or doesn't, in this format, and answers status 0.
@@ -282,26 +270,21 @@ pub fn answer_explain<R: ReadDevice, W: WriteDevice>(
     alloc: Global,
     source: &mut Source<R>,
     sink: &mut Sink<W>,
-    uid: &Uid,
-    day: Day,
-    format: Format,
+    job: &ExplainJob,
     kept: &mut Option<Extract>,
 ) -> Result<u8, Fault>
     ensures answer { Answers W.contents W.write_errors
-        (OfInput R.remaining (IsExplainAnswer format uid.now day) source.old)
+        (OfInput R.remaining (IsExplainAnswer job.now) source.old)
         sink.old sink.new result }
-    ensures fault { FaultOf R.remaining (IsExplainRefusal day) source.old source.new result }
+    ensures fault { FaultOf R.remaining (IsExplainRefusal job.now.day) source.old source.new result }
     ensures source { FaultReads R.read_errors source.old source.new result }
     ensures end { LeavesNothing R.remaining source.old source.new result }
     ensures handed_on { IsHandedOn W.holds_nothing sink.new result }
 {
     let extract = read_extract(alloc, source, MAX_LINES)?;
     let extract = kept.insert(extract);
-    finish(
-        explain_listing(alloc, extract, uid, day, sink, format),
-        sink,
-        DONE,
-    )
+    let written = explain_listing(alloc, extract, &job.uid, job.day, sink, job.format);
+    finish(written, sink, DONE)
 }
 
 /// Writes all clashes, and answers 0 where there is none, else 1.
@@ -329,24 +312,22 @@ pub fn answer_table<R: ReadDevice, W: WriteDevice>(
     alloc: Global,
     source: &mut Source<R>,
     sink: &mut Sink<W>,
-    table: Table,
-    asked: &Asked,
-    form: Form,
+    job: &TableJob,
     kept: &mut Option<Extract>,
 ) -> Result<u8, Fault>
     ensures answer { Answers W.contents W.write_errors
-        (OfInput R.remaining (IsTableAnswer table form asked.now) source.old)
+        (OfInput R.remaining (IsTableAnswer job.now) source.old)
         sink.old sink.new result }
-    ensures fault { FaultOf R.remaining (IsNormaliseFault MAX_LINES asked.now)
+    ensures fault { FaultOf R.remaining (IsNormaliseFault MAX_LINES job.now.asked)
         source.old source.new result }
     ensures source { FaultReads R.read_errors source.old source.new result }
     ensures end { LeavesNothing R.remaining source.old source.new result }
     ensures handed_on { IsHandedOn W.holds_nothing sink.new result }
 {
-    let extract = read_narrowed(alloc, source, MAX_LINES, asked)?;
+    let extract = read_narrowed(alloc, source, MAX_LINES, &job.asked)?;
     let extract = kept.insert(extract);
-    let canon = canon(alloc, extract, form)?;
-    finish(write_table(&canon, table, sink), sink, DONE)
+    let canon = canon(alloc, extract, job.form)?;
+    finish(write_table(&canon, job.table, sink), sink, DONE)
 }
 
 /// Writes the calendar of the train, and answers status 0.
@@ -354,21 +335,20 @@ pub fn answer_calendar<R: ReadDevice, W: WriteDevice>(
     alloc: Global,
     source: &mut Source<R>,
     sink: &mut Sink<W>,
-    uid: &Uid,
-    asked: &Asked,
+    job: &CalendarJob,
     kept: &mut Option<Extract>,
 ) -> Result<u8, Fault>
     ensures answer { Answers W.contents W.write_errors
-        (OfInput R.remaining (IsCalendarAnswer asked.now uid.now) source.old)
+        (OfInput R.remaining (IsCalendarAnswer job.now) source.old)
         sink.old sink.new result }
-    ensures fault { FaultOf R.remaining (IsClashlessRefusal asked.now) source.old source.new result }
+    ensures fault { FaultOf R.remaining (IsClashlessRefusal job.now.asked) source.old source.new result }
     ensures source { FaultReads R.read_errors source.old source.new result }
     ensures end { LeavesNothing R.remaining source.old source.new result }
     ensures handed_on { IsHandedOn W.holds_nothing sink.new result }
 {
-    let extract = read_narrowed(alloc, source, MAX_LINES, asked)?;
+    let extract = read_narrowed(alloc, source, MAX_LINES, &job.asked)?;
     let extract = kept.insert(extract);
-    finish(week_calendar(alloc, extract, uid, sink), sink, DONE)
+    finish(week_calendar(alloc, extract, &job.uid, sink), sink, DONE)
 }
 
 /// Answers this status, if all was written, once it is handed on.
@@ -404,72 +384,16 @@ pub fn answer<R: ReadDevice, W: WriteDevice>(
     ensures handed_on { IsHandedOn W.holds_nothing sink.new result }
 {
     match job {
-        Job::Normalise {
-            file: _,
-            asked,
-            form,
-        } => answer_normalise(alloc, source, sink, asked, *form, &mut kept.left),
-        Job::Check {
-            file: _,
-            asked,
-            form,
-        } => answer_check(alloc, source, sink, asked, *form, &mut kept.left),
-        Job::CheckAll {
-            file: _,
-            asked,
-            form,
-        } => answer_check_all(alloc, source, sink, asked, *form, kept),
-        Job::Compare {
-            left: _,
-            right: _,
-            asked,
-            common,
-        } => answer_compare(alloc, source, right, sink, asked, *common, kept),
-        Job::Diff {
-            left: _,
-            right: _,
-            asked,
-            common,
-            format,
-        } => answer_diff(alloc, source, right, sink, asked, *common, *format, kept),
-        Job::Day {
-            day,
-            file: _,
-            listing,
-        } => answer_day(alloc, source, sink, *day, *listing, &mut kept.left),
-        Job::Train {
-            uid,
-            file: _,
-            asked,
-            form,
-            listing,
-        } => answer_train(
-            alloc,
-            source,
-            sink,
-            uid,
-            asked,
-            *form,
-            *listing,
-            &mut kept.left,
-        ),
-        Job::Explain {
-            uid,
-            day,
-            file: _,
-            format,
-        } => answer_explain(alloc, source, sink, uid, *day, *format, &mut kept.left),
-        Job::Clashes { file: _, asked } => answer_clashes(alloc, source, sink, asked),
-        Job::Table {
-            table,
-            file: _,
-            asked,
-            form,
-        } => answer_table(alloc, source, sink, *table, asked, *form, &mut kept.left),
-        Job::Calendar {
-            uid,
-            file: _,
-            asked,
-        } => answer_calendar(alloc, source, sink, uid, asked, &mut kept.left),
+        Job::Normalise(job) => answer_normalise(alloc, source, sink, job, &mut kept.left),
+        Job::Check(job) => answer_check(alloc, source, sink, job, &mut kept.left),
+        Job::CheckAll(job) => answer_check_all(alloc, source, sink, job, kept),
+        Job::Compare(job) => answer_compare(alloc, source, right, sink, job, kept),
+        Job::Diff(job) => answer_diff(alloc, source, right, sink, job, kept),
+        Job::Day(job) => answer_day(alloc, source, sink, job, &mut kept.left),
+        Job::Train(job) => answer_train(alloc, source, sink, job, &mut kept.left),
+        Job::Explain(job) => answer_explain(alloc, source, sink, job, &mut kept.left),
+        Job::Clashes(asked) => answer_clashes(alloc, source, sink, asked),
+        Job::Table(job) => answer_table(alloc, source, sink, job, &mut kept.left),
+        Job::Calendar(job) => answer_calendar(alloc, source, sink, job, &mut kept.left),
     }
 }

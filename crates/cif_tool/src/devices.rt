@@ -9,6 +9,7 @@ use cif_records::Header;
 use std::alloc::Global;
 use std::fs::OpenFile;
 use std::io::{BufWriter, Read, Seek, SeekFrom, Write};
+use std::mem::ManuallyDrop;
 use std::rt::Files;
 use std::{fs, io};
 
@@ -216,13 +217,14 @@ impl<W: Write> WriteDevice for Output<'_, W> {
 /// The bytes of output that are gathered before they are written.
 const OUTPUT_BUFFER: usize = 65_536;
 
-/// A sink that gathers what goes to the output; Memory comes where there is none for it.
+/// A sink that gathers what goes to the output; Memory comes where there is none for it. It isn't dropped: a
+/// buffer that is dropped writes what it holds, also after a failure.
 pub(crate) fn buffered<W: WriteDevice + Drop>(
     alloc: Global,
     output: W,
-) -> Result<Sink<BufWriter<W>>, Fault> {
+) -> Result<ManuallyDrop<Sink<BufWriter<W>>>, Fault> {
     match BufWriter::with_capacity(alloc, OUTPUT_BUFFER, output) {
-        Ok(output) => Ok(Sink::new(output)),
+        Ok(output) => Ok(ManuallyDrop::new(Sink::new(output))),
         Err(_) => Err(Fault::Memory),
     }
 }

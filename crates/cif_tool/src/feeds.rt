@@ -3,8 +3,8 @@
 //! of `prepare` by one, and of `update` input by input.
 use crate::advice::{add_feed_fault, add_holiday_line, add_window, add_write_failure};
 use crate::devices::{ExtractInput, Output, Written, buffered};
-use crate::job::FeedJob;
-use crate::message::Message;
+use crate::job::{Call, FeedJob, InputNames};
+use crate::message::{Message, tell_line};
 use crate::status::{DONE, REFUSED, status};
 use arrayvec::ArrayString;
 use cif_columns::{MAX_LINES, ReadDevice, Sink, Source, WriteDevice};
@@ -17,8 +17,9 @@ use cif_records::Header;
 use itoa::Buffer;
 use std::alloc::Global;
 use std::fmt::Write;
+use std::io;
+use std::mem::ManuallyDrop;
 use std::rt::Files;
-use std::{io, mem};
 
 /// Does what the call asks for, and returns the status to exit with.
 // Inlined, it would keep its inputs on the stack while an extract is read.
@@ -26,27 +27,13 @@ use std::{io, mem};
 pub(crate) fn feed_task<R: Files + Input + Print + AllocGlobal, W: WriteDevice>(
     rt: &R,
     job: &FeedJob,
-    verbose: bool,
+    call: &Call,
     errors: &mut Sink<W>,
 ) -> u8 {
-    let mut told = Told::new(rt.alloc(), verbose);
+    let mut told = Told::new(rt.alloc(), call.verbose);
     let done = match job {
-        FeedJob::Prepare {
-            holidays,
-            drop_clashes,
-            file,
-        } => prepare(
-            rt,
-            holidays.as_deref(),
-            *drop_clashes,
-            file.as_deref(),
-            &mut told,
-        ),
-        FeedJob::Update {
-            full,
-            updates,
-            lenient,
-        } => update(rt, full.as_str(), updates.as_slice(), *lenient, &mut told),
+        FeedJob::Prepare { drop_clashes } => prepare(rt, &call.inputs, *drop_clashes, &mut told),
+        FeedJob::Update { lenient } => update(rt, &call.inputs, *lenient, &mut told),
     };
     match &done {
         Ok(()) => {
@@ -138,10 +125,9 @@ impl Told {
             );
             add_counts(input, header, &text, &mut self.counts);
         }
-        match self.waived.extend_from_slice(outcome.waived.as_slice()) {
-            Ok(()) => Ok(()),
-            Err(_) => Err(MEMORY),
-        }
+        self.waived
+            .extend_from_slice(outcome.waived.as_slice())
+            .map_err(|_| MEMORY)
     }
 
     /// Adds what helps with a fault, which this input gave, or the output.
@@ -239,34 +225,26 @@ impl TaskFault {
     }
 }
 
-/// The bytes of the longest line: that of a clash of associations.
-const LONGEST_LINE: usize = 80;
-
-/// Writes a line of these parts. That it can't be written changes nothing.
-fn tell_line<W: WriteDevice>(parts: &[&str], errors: &mut Sink<W>) {
-    let mut line = ArrayString::<LONGEST_LINE>::new();
-    for part in parts {
-        let _ = line.try_push_str(part);
-    }
-    let _ = errors.write_all(line.as_str().as_bytes());
-}
-
 // ---- prepare
 
-/// Writes the prepared extract of the file.
+/// Writes the prepared extract of the last input, with the holidays of the one before it, if there is one.
 #[inline(never)]
 fn prepare<R: Files + Input + Print + AllocGlobal>(
     rt: &R,
-    holidays: Option<&str>,
+    inputs: &InputNames,
     drop_clashes: bool,
-    file: Option<&str>,
     told: &mut Told,
 ) -> Result<(), TaskFault> {
-    let holidays = match holidays {
-        Some(name) => read_holidays(rt, name, told)?,
-        None => Holidays::new(rt.alloc()),
-    };
-    prepare_with(rt, &holidays, drop_clashes, file, told)
+    match inputs.rest.first() {
+        Some(file) => {
+            let holidays = read_holidays(rt, inputs.first.as_str(), told)?;
+            prepare_with(rt, &holidays, drop_clashes, file.as_str(), told)
+        }
+        None => {
+            let none = Holidays::new(rt.alloc());
+            prepare_with(rt, &none, drop_clashes, inputs.first.as_str(), told)
+        }
+    }
 }
 
 /// Writes the prepared extract of the file, with these holidays.
@@ -274,37 +252,35 @@ fn prepare_with<R: Files + Input + Print + AllocGlobal>(
     rt: &R,
     holidays: &Holidays,
     drop_clashes: bool,
-    file: Option<&str>,
+    file: &str,
     told: &mut Told,
 ) -> Result<(), TaskFault> {
-    let mut source = Source::new(ExtractInput::of(rt, "", file));
+    let alloc = rt.alloc();
+    let mut source = Source::new(ExtractInput::of(rt, "", Some(file)));
     let mut written = Written::new();
     let output = Output {
         writer: io::writer(rt),
         written: &mut written,
     };
-    let mut kept = None;
-    let answer = prepared(
-        rt.alloc(),
+    // The process ends after this: the system takes back the memory of all bodies at once.
+    let mut kept = ManuallyDrop::new(None);
+    match prepared(
+        alloc,
         &mut source,
         output,
         holidays,
         drop_clashes,
         &mut kept,
-    );
-    let done = match answer {
+    ) {
         Ok(dropped) => {
             told.dropped = dropped;
-            if let Some(extract) = &kept {
+            if let Some(extract) = kept.as_ref() {
                 told.add_prepared(source.reader(), extract, holidays);
             }
             Ok(())
         }
-        Err(fault) => Err(told.fault(rt.alloc(), fault, source.reader(), &written)),
-    };
-    // The process ends after this: the system takes back the memory of all bodies at once.
-    mem::forget(kept);
-    done
+        Err(fault) => Err(told.fault(alloc, fault, source.reader(), &written)),
+    }
 }
 
 /// Writes the prepared extract of the source. It is left in `kept`; what was dropped from it is the answer.
@@ -316,10 +292,8 @@ fn prepared<R: ReadDevice, W: WriteDevice + Drop>(
     drop_clashes: bool,
     kept: &mut Option<PublishedExtract>,
 ) -> Result<Vec<Clash>, FeedFault> {
-    let Ok(mut output) = buffered(alloc, output) else {
-        return Err(FeedFault::Extract(Fault::Memory));
-    };
-    let answer = write_prepared(
+    let mut output = buffered(alloc, output).map_err(FeedFault::Extract)?;
+    let dropped = write_prepared(
         alloc,
         source,
         &mut output,
@@ -327,24 +301,10 @@ fn prepared<R: ReadDevice, W: WriteDevice + Drop>(
         holidays,
         drop_clashes,
         kept,
-    );
-    let answer = flushed(answer, &mut output);
-    // One that is dropped writes what it holds, also after a failure.
-    mem::forget(output);
-    answer
-}
-
-/// The answer, once what was written is handed on.
-fn flushed<T: Drop, W: WriteDevice>(
-    answer: Result<T, FeedFault>,
-    output: &mut Sink<W>,
-) -> Result<T, FeedFault> {
-    match answer {
-        Ok(done) => match output.flush() {
-            Ok(()) => Ok(done),
-            Err(_) => Err(FeedFault::Extract(Fault::Write)),
-        },
-        Err(fault) => Err(fault),
+    )?;
+    match output.flush() {
+        Ok(()) => Ok(dropped),
+        Err(_) => Err(FeedFault::Extract(Fault::Write)),
     }
 }
 
@@ -364,22 +324,19 @@ fn read_holidays<R: Files + Input + AllocGlobal>(
 
 // ---- update
 
-/// Writes what the updates make of the full extract.
+/// Writes what the updates make of the full extract, the first input.
 fn update<R: Files + Input + Print + AllocGlobal>(
     rt: &R,
-    full: &str,
-    updates: &[String],
+    inputs: &InputNames,
     lenient: bool,
     told: &mut Told,
 ) -> Result<(), TaskFault> {
-    let mut extract = read_full(rt, full, told)?;
-    for name in updates {
+    // The process ends after this: the system takes back the memory of all bodies at once.
+    let mut extract = ManuallyDrop::new(read_full(rt, inputs.first.as_str(), told)?);
+    for name in &inputs.rest {
         do_update(rt, name.as_str(), lenient, &mut extract, told)?;
     }
-    let written = write(rt, &extract, told);
-    // The process ends after this: the system takes back the memory of all bodies at once.
-    mem::forget(extract);
-    written
+    write(rt, &extract, told)
 }
 
 /// The full extract of this file.
@@ -442,18 +399,7 @@ fn write_buffered<W: WriteDevice + Drop>(
     output: W,
 ) -> Result<(), Fault> {
     let mut output = buffered(alloc, output)?;
-    let answer = write_all(extract, &mut output);
-    // As in `prepared`.
-    mem::forget(output);
-    answer
-}
-
-/// Writes the extract, and hands on what was written.
-fn write_all<W: WriteDevice>(
-    extract: &PublishedExtract,
-    output: &mut Sink<W>,
-) -> Result<(), Fault> {
-    extract.write(output)?;
+    extract.write(&mut output)?;
     output.flush()?;
     Ok(())
 }

@@ -1,10 +1,8 @@
 //! What a call of `cif` asks for, or why it asks for nothing.
-ghost use Rattle.std.specs.Prelude.{◌≡◌, ◌<◌, ◌++◌, ◌∷◌, [], IfSome, option_map, length};
-ghost use Rattle.cif_tool.specs.declared.job.TheConstants.{LONGEST_LINE};
+ghost use Rattle.std.specs.Prelude.{◌≡◌, option_map};
 
 use crate::message::escaped;
 use crate::status::{DONE, FAILED, USAGE_ERROR};
-use arrayvec::ArrayString;
 use cif_canon::{Asked, Format};
 use cif_columns::{Day, Sink, Uid, WriteDevice};
 use cif_extract::Fault;
@@ -13,14 +11,23 @@ use cif_weeks::Form;
 use clap::error::ErrorKind;
 use std::alloc::{AllocError, Global};
 
-/// What a call of `cif` asks for, and whether it is to say more on standard error.
+/// What a call of `cif` asks for.
 #[derive(Drop)]
 pub struct Call {
     pub task: Task,
+    pub inputs: InputNames,
+    /// Whether it is to say more on standard error.
     pub verbose: bool,
 }
 
-/// What a call of `cif` asks for.
+/// The names of the inputs of a call, in the order in which they are read. `-` is the standard input.
+#[derive(Drop)]
+pub struct InputNames {
+    pub first: String,
+    pub rest: Vec<String>,
+}
+
+/// What a command is asked for.
 #[derive(Drop)]
 pub enum Task {
     /// Something of extracts.
@@ -29,139 +36,113 @@ pub enum Task {
     Feed(FeedJob),
 }
 
-/// What a call of `cif` asks for that reads extracts. A file that isn't named is the standard
-/// input, and so is `-`.
+/// What a command that reads extracts is asked for.
 #[derive(Drop)]
 pub enum Job {
     /// To write the canonical extract.
-    Normalise {
-        file: Option<String>,
-        asked: Asked,
-        form: Form,
-    },
+    Normalise(CanonicalJob),
     /// To say how many records the canonical extract has, or why there is none.
-    Check {
-        file: Option<String>,
-        asked: Asked,
-        form: Form,
-    },
+    Check(CanonicalJob),
     /// To say which lines have a reason to be refused by themselves, or else what `Check` says.
-    CheckAll {
-        file: Option<String>,
-        asked: Asked,
-        form: Form,
-    },
-    /// To say where two extracts first differ. With `common`, dates that aren't asked for are those
-    /// of the window that both have in common.
-    Compare {
-        left: String,
-        right: String,
-        asked: Asked,
-        common: bool,
-    },
-    /// To list everything in which two extracts differ, in this format. `common` is as of `Compare`.
-    Diff {
-        left: String,
-        right: String,
-        asked: Asked,
-        common: bool,
-        format: Format,
-    },
-    /// To list what runs on a day, in this listing.
-    Day {
-        day: Day,
-        file: Option<String>,
-        listing: Listing,
-    },
-    /// To list the canonical schedules of a train, in this listing.
-    Train {
-        uid: Uid,
-        file: Option<String>,
-        asked: Asked,
-        form: Form,
-        listing: Listing,
-    },
-    /// To say why a train runs on a day, or doesn't, in this format.
-    Explain {
-        uid: Uid,
-        day: Day,
-        file: Option<String>,
-        format: Format,
-    },
-    /// To list the clashes.
-    Clashes {
-        file: Option<String>,
-        asked: Asked,
-    },
-    /// To write this table of the canonical extract.
-    Table {
-        table: Table,
-        file: Option<String>,
-        asked: Asked,
-        form: Form,
-    },
+    CheckAll(CanonicalJob),
+    /// To say where two extracts first differ.
+    Compare(CompareJob),
+    /// To list everything in which two extracts differ.
+    Diff(DiffJob),
+    /// To list what runs on a day.
+    Day(DayJob),
+    /// To list the canonical schedules of a train.
+    Train(TrainJob),
+    /// To say why a train runs on a day, or doesn't.
+    Explain(ExplainJob),
+    /// To list the clashes in the window that is asked for.
+    Clashes(Asked),
+    /// To write a table of the canonical extract.
+    Table(TableJob),
     /// To show, week by week, which records of a train win on each date.
-    Calendar {
-        uid: Uid,
-        file: Option<String>,
-        asked: Asked,
-    },
+    Calendar(CalendarJob),
 }
 
-impl Job {
-    ghost use Rattle.cif_tool.specs.Job.{input_names};
-
-    /// The names of the files that are read: one, or two of `Compare` and `Diff`. `None` is the
-    /// standard input, or no second file; `-` is the standard input too.
-    pub fn inputs(&self) -> (Option<&str>, Option<&str>)
-        ensures { (option_map (λ name. name.now) result.0, option_map (λ name. name.now) result.1)
-            ≡ input_names self.now }
-    {
-        match self {
-            Job::Normalise { file, .. }
-            | Job::Check { file, .. }
-            | Job::CheckAll { file, .. }
-            | Job::Day { file, .. }
-            | Job::Train { file, .. }
-            | Job::Explain { file, .. }
-            | Job::Clashes { file, .. }
-            | Job::Table { file, .. }
-            | Job::Calendar { file, .. } => (file.as_deref(), None),
-            Job::Compare { left, right, .. } | Job::Diff { left, right, .. } => {
-                (Some(left.as_str()), Some(right.as_str()))
-            }
-        }
-    }
+/// Which canonical extract `normalise` and `check` are asked for.
+#[derive(Drop)]
+pub struct CanonicalJob {
+    pub asked: Asked,
+    pub form: Form,
 }
 
-/// What a call of `cif` asks for that reads published extracts. A file that isn't named is the
-/// standard input, and so is `-`; holidays that aren't named are none.
+/// What `compare` is asked for. With `common`, dates that aren't asked for are those of the window that both
+/// extracts have in common.
+#[derive(Drop)]
+pub struct CompareJob {
+    pub asked: Asked,
+    pub common: bool,
+}
+
+/// What `diff` is asked for. `common` is as of `compare`.
+#[derive(Drop)]
+pub struct DiffJob {
+    pub asked: Asked,
+    pub common: bool,
+    pub format: Format,
+}
+
+/// What `day` is asked for.
+#[derive(Drop)]
+pub struct DayJob {
+    pub day: Day,
+    pub listing: Listing,
+}
+
+/// What `train` is asked for.
+#[derive(Drop)]
+pub struct TrainJob {
+    pub uid: Uid,
+    pub asked: Asked,
+    pub form: Form,
+    pub listing: Listing,
+}
+
+/// What `explain` is asked for.
+#[derive(Drop)]
+pub struct ExplainJob {
+    pub uid: Uid,
+    pub day: Day,
+    pub format: Format,
+}
+
+/// What `table` is asked for.
+#[derive(Drop)]
+pub struct TableJob {
+    pub table: Table,
+    pub asked: Asked,
+    pub form: Form,
+}
+
+/// What `calendar` is asked for.
+#[derive(Drop)]
+pub struct CalendarJob {
+    pub uid: Uid,
+    pub asked: Asked,
+}
+
+/// What a command that reads published extracts is asked for.
 #[derive(Drop)]
 pub enum FeedJob {
-    /// To write the prepared extract of a published one. With `drop_clashes`, what clashes in it is
-    /// left out.
-    Prepare {
-        holidays: Option<String>,
-        drop_clashes: bool,
-        file: Option<String>,
-    },
-    /// To write what updates, one after the other, make of a full published extract. With `lenient`,
-    /// a line whose key is there already, or isn't there, is waived.
-    Update {
-        full: String,
-        updates: Vec<String>,
-        lenient: bool,
-    },
+    /// To write the prepared extract of a published one, the last input. With `drop_clashes`, what clashes in
+    /// it is left out. An input before it has the holidays; without one there are none.
+    Prepare { drop_clashes: bool },
+    /// To write what updates, one after the other, make of a full published extract, the first input. With
+    /// `lenient`, a line whose key is there already, or isn't there, is waived.
+    Update { lenient: bool },
 }
-
-/// The bytes of the longest line that names a fault, with its line feed.
-const LONGEST_LINE: usize = 49;
 
 /// Why a call of `cif` asks for nothing.
 #[derive(Drop)]
 pub enum JobFault {
     /// A usage error, or a request for help or for the version. `clap` has its text.
     Usage(clap::Error),
+    /// `clap` takes the words, but enters no subcommand of the program's own.
+    NoCommand,
     /// A word that stands for a date isn't six digits YYMMDD that name one.
     BadDate,
     /// A word that stands for a UID isn't six bytes from 0x20 to 0x7E.
@@ -226,8 +207,7 @@ impl JobFault {
                 }
             }
             _ => {
-                let line = line_of(self.text().unwrap_or(""));
-                let _ = errors.write_all(line.as_str().as_bytes());
+                let _ = errors.write_all(self.text().unwrap_or("").as_bytes());
                 Ok(status)
             }
         }
@@ -242,30 +222,33 @@ impl JobFault {
                 ErrorKind::DisplayHelp | ErrorKind::DisplayVersion => DONE,
                 _ => USAGE_ERROR,
             },
-            JobFault::BadDate | JobFault::BadUid | JobFault::StandardInputTwice(_) => USAGE_ERROR,
+            JobFault::NoCommand
+            | JobFault::BadDate
+            | JobFault::BadUid
+            | JobFault::StandardInputTwice(_) => USAGE_ERROR,
             JobFault::Memory => FAILED,
         }
     }
 
-    /// The line that names the fault, without its line feed; none where `clap` has the text.
+    /// The line that names the fault; none where `clap` has the text.
     pub fn text(&self) -> Option<&str>
-        ensures text { option_map (λ line. line.now) result ≡ text_of self.now }
-        ensures short { IfSome result (λ line. length line.now < LONGEST_LINE) }
+        ensures { option_map (λ line. line.now) result ≡ text_of self.now }
     {
         match self {
             JobFault::Usage(_) => None,
-            JobFault::BadDate => Some("cif: bad date"),
-            JobFault::BadUid => Some("cif: bad UID"),
+            JobFault::NoCommand => Some("cif: no command\n"),
+            JobFault::BadDate => Some("cif: bad date\n"),
+            JobFault::BadUid => Some("cif: bad UID\n"),
             JobFault::StandardInputTwice(Inputs::LeftAndRight) => {
-                Some("cif: LEFT and RIGHT are both standard input")
+                Some("cif: LEFT and RIGHT are both standard input\n")
             }
             JobFault::StandardInputTwice(Inputs::HolidaysAndFile) => {
-                Some("cif: --holidays and FILE are both standard input")
+                Some("cif: --holidays and FILE are both standard input\n")
             }
             JobFault::StandardInputTwice(Inputs::Extracts) => {
-                Some("cif: two inputs are standard input")
+                Some("cif: two inputs are standard input\n")
             }
-            JobFault::Memory => Some("cif: Memory"),
+            JobFault::Memory => Some("cif: Memory\n"),
         }
     }
 }
@@ -273,15 +256,4 @@ impl JobFault {
 /// The text of `clap`, which may have words of the call, with what hides or turns text escaped.
 fn text_of_error(alloc: Global, error: &clap::Error) -> Result<String, AllocError> {
     escaped(alloc, error.to_string(alloc)?.as_str())
-}
-
-/// The text as a line.
-fn line_of(text: &str) -> ArrayString<LONGEST_LINE>
-    requires { length text.now < LONGEST_LINE }
-    ensures { result.bytes ≡ text.now ++ 10 ∷ [] }
-{
-    let mut line = ArrayString::new();
-    line.push_str(text);
-    line.push_str("\n");
-    line
 }

@@ -1,4 +1,4 @@
-//! A message on standard error: its lines, and what is escaped in it.
+//! Lines on standard error: those of a message, and what is escaped in them.
 use arrayvec::ArrayString;
 use cif_columns::{Sink, WriteDevice};
 use std::alloc::{AllocError, Global};
@@ -43,6 +43,18 @@ impl Message {
     pub(crate) fn tell<W: WriteDevice>(&self, errors: &mut Sink<W>) {
         let _ = errors.write_all(self.text.as_slice());
     }
+}
+
+/// The bytes of the longest line: that of a clash of associations.
+const LONGEST_LINE: usize = 80;
+
+/// Writes a line of these parts, without memory. That it can't be written changes nothing.
+pub(crate) fn tell_line<W: WriteDevice>(parts: &[&str], errors: &mut Sink<W>) {
+    let mut line = ArrayString::<LONGEST_LINE>::new();
+    for part in parts {
+        let _ = line.try_push_str(part);
+    }
+    let _ = errors.write_all(line.as_str().as_bytes());
 }
 
 /// The text with its characters escaped that hide or turn text, but not its line feeds.

@@ -4,7 +4,7 @@ use crate::advice::{DoneJob, advise_on_word, must_be};
 use crate::answers::{Kept, answer};
 use crate::devices::{ExtractInput, Output, Written, buffered};
 use crate::feeds::feed_task;
-use crate::job::{Job, JobFault, Task};
+use crate::job::{Call, Job, JobFault, Task};
 use crate::status::{USAGE_ERROR, end};
 use crate::words::task_of;
 use cif_columns::{ReadDevice, Sink, Source, WriteDevice};
@@ -12,8 +12,9 @@ use cif_extract::Fault;
 use std::alloc::Global;
 use std::env::Env;
 use std::io::ErrorKind;
+use std::mem::ManuallyDrop;
 use std::rt::Files;
-use std::{env, io, mem};
+use std::{env, io};
 
 const NOT_TEXT: &str =
     "error: an argument isn't valid UTF-8\n\nFor more information, try '--help'.\n";
@@ -42,15 +43,10 @@ fn run_words<R: Env + Files + Input + Print + AllocGlobal, W: WriteDevice>(
     errors: &mut Sink<W>,
 ) -> u8 {
     match task_of(rt.alloc(), words) {
-        Ok(call) => {
-            let status = match &call.task {
-                Task::Extract(job) => done(rt, job, call.verbose, errors),
-                Task::Feed(job) => feed_task(rt, job, call.verbose, errors),
-            };
-            // The process ends after this: nothing is gained by freeing it.
-            mem::forget(call);
-            status
-        }
+        Ok(call) => match &call.task {
+            Task::Extract(job) => done(rt, job, &call, errors),
+            Task::Feed(job) => feed_task(rt, job, &call, errors),
+        },
         Err(fault) => refused(rt, fault, errors),
     }
 }
@@ -84,46 +80,41 @@ fn words_of<R: Env + AllocGlobal>(rt: &R) -> io::Result<Vec<String>> {
 fn done<R: Files + Input + Print + AllocGlobal, W: WriteDevice>(
     rt: &R,
     job: &Job,
-    verbose: bool,
+    call: &Call,
     errors: &mut Sink<W>,
 ) -> u8 {
     // Of a job with one input `right` stands for no file, and is never touched.
-    let (file, right_file) = job.inputs();
-    let (side, right_side) = sides(right_file);
+    let right_file = call.inputs.rest.first().map(String::as_str);
+    let (side, right_side) = match right_file {
+        Some(_) => ("LEFT (", "RIGHT ("),
+        None => ("", ""),
+    };
     let alloc = rt.alloc();
-    let mut left = Source::new(ExtractInput::of(rt, side, file));
+    let left_file = Some(call.inputs.first.as_str());
+    let mut left = Source::new(ExtractInput::of(rt, side, left_file));
     let mut right = Source::new(ExtractInput::of(rt, right_side, right_file));
     let mut written = Written::new();
     let output = Output {
         writer: io::writer(rt),
         written: &mut written,
     };
-    let mut kept = Kept {
+    // The process ends after this: the system takes back the memory of all bodies at once.
+    let mut kept = ManuallyDrop::new(Kept {
         left: None,
         right: None,
         reasons: None,
-    };
+    });
     let answer = answered(alloc, job, &mut left, &mut right, output, &mut kept);
     let status = end(&answer, errors);
     let done_job = DoneJob {
         job,
-        verbose,
+        verbose: call.verbose,
         written: &written,
         left: left.reader(),
         right: right.reader(),
     };
     done_job.advise(alloc, &answer, &mut kept, errors);
-    // The process ends after this: the system takes back the memory of all bodies at once.
-    mem::forget(kept);
     status
-}
-
-/// Which of the inputs each is, as `ExtractInput::of` takes it.
-fn sides(right_file: Option<&str>) -> (&'static str, &'static str) {
-    match right_file {
-        Some(_) => ("LEFT (", "RIGHT ("),
-        None => ("", ""),
-    }
 }
 
 /// Answers the job on the output.
@@ -136,10 +127,7 @@ fn answered<R: ReadDevice, W: WriteDevice + Drop>(
     kept: &mut Kept,
 ) -> Result<u8, Fault> {
     let mut output = buffered(alloc, output)?;
-    let answer = answer(alloc, job, left, right, &mut output, kept);
-    // A buffer that is dropped writes what it holds, also after a failure.
-    mem::forget(output);
-    answer
+    answer(alloc, job, left, right, &mut output, kept)
 }
 
 /// Says why the words ask for nothing: help and the version on the output, all else on `errors`.
@@ -150,8 +138,5 @@ fn explained<O: WriteDevice + Drop, W: WriteDevice>(
     errors: &mut Sink<W>,
 ) -> Result<u8, Fault> {
     let mut output = buffered(alloc, output)?;
-    let answer = fault.explain(alloc, &mut output, errors);
-    // As in `answered`.
-    mem::forget(output);
-    answer
+    fault.explain(alloc, &mut output, errors)
 }

@@ -1,19 +1,23 @@
 //! What the words of a call ask for.
-ghost use Rattle.std.specs.Prelude.{◌≡◌, ◌≢◌, ◌⊎◌, ◌<◌, ◌≤◌, ◌∷◌, IfOk, IfErr, IsSomeAnd};
-ghost use Rattle.std.specs.Prelude.{MatchOption, Some, codes, false, map, option_map, string_bytes};
-ghost use Rattle.std.specs.Prelude.{true};
+ghost use Rattle.std.specs.Prelude.{◌≡◌, ◌≢◌, ◌⊎◌, ◌<◌, ◌≤◌, ◌∷◌, IfErr, IfOk, IsSomeAnd};
+ghost use Rattle.std.specs.Prelude.{MatchOption, codes, false, map, option_map, string_bytes, true};
 ghost use Rattle.clap.specs.Words.{all_of, first_of, found_of, kind_of, rows_of};
 ghost use Rattle.clap.specs.Words.{subcommand_rows_of};
 ghost use Rattle.cif_columns.specs.Day.{StandsInYymmdd};
-ghost use Rattle.cif_tool.specs.Job.{Asks, HasFile, HasWord, IsAskedBy, IsCallChosen, IsDateOf};
-ghost use Rattle.cif_tool.specs.Job.{IsExtractTaken, IsTaken, IsUidWord, form_of, format_of};
-ghost use Rattle.cif_tool.specs.Job.{is_set, is_standard, listing_of, names_standard, reads_standard};
-ghost use Rattle.cif_tool.specs.Job.{standard_inputs, table_of};
-ghost use Rattle.cif_tool.specs.JobFault.{HasBadDate, IsFaultOf, IsFeedJobOf, IsJobOf, IsNoUid};
-ghost use Rattle.cif_tool.specs.JobFault.{IsTaskOf, IsWordFault, NamesNoDay};
+ghost use Rattle.cif_tool.specs.CommandLine.{feed_subcommands};
+ghost use Rattle.cif_tool.specs.Job.{AreCanonicalWords, Asks, IsAskedBy, IsCallChosen, IsChosen};
+ghost use Rattle.cif_tool.specs.Job.{IsDateOf, IsTaskChosen, IsUidWord, file_of, form_of};
+ghost use Rattle.cif_tool.specs.Job.{format_of, has_flag, inputs_of, is_standard, listing_of};
+ghost use Rattle.cif_tool.specs.Job.{names_of, required_word, standard_inputs};
+ghost use Rattle.cif_tool.specs.Job.{table_of};
+ghost use Rattle.cif_tool.specs.JobFault.{HasBadDate, IsAskedFor, IsEnteredFault, IsFaultOf};
+ghost use Rattle.cif_tool.specs.JobFault.{IsNoUid, IsNoneOf, NamesNoDay, several_of};
 
 use crate::command_line::{all_choices, matches_of};
-use crate::job::{Call, FeedJob, Inputs, Job, JobFault, Task};
+use crate::job::{
+    CalendarJob, Call, CanonicalJob, CompareJob, DayJob, DiffJob, ExplainJob, FeedJob, InputNames,
+    Inputs, Job, JobFault, TableJob, Task, TrainJob,
+};
 use cif_canon::{Asked, Format};
 use cif_columns::{Day, Uid, are_printable};
 use cif_views::{Listing, Table};
@@ -35,7 +39,7 @@ pub fn task_of(alloc: Global, words: Vec<String>) -> Result<Call, JobFault>
     ensures refused { IfErr result (IsFaultOf (map string_bytes words.items)) }
 {
     match matches_of(alloc, &all_choices(), words.as_slice()) {
-        Ok(matches) => chosen_task(alloc, &matches),
+        Ok(matches) => chosen_call(alloc, &matches),
         Err(error) => Err(fault_of_error(error)),
     }
 }
@@ -85,220 +89,229 @@ fn fault_of_error(error: clap::Error) -> JobFault
 // ---- the jobs
 
 /// What the subcommand that was entered asks for.
-fn chosen_task(alloc: Global, matches: &ArgMatches<'_>) -> Result<Call, JobFault>
-    requires { IsSomeAnd (subcommand_rows_of matches.now) IsTaken }
+fn chosen_call(alloc: Global, matches: &ArgMatches<'_>) -> Result<Call, JobFault>
     ensures ok { IfOk result (λ call. IsSomeAnd (subcommand_rows_of matches.now) (IsCallChosen call)) }
-    ensures err { IfErr result (λ fault.
-        IsSomeAnd (subcommand_rows_of matches.now) (IsWordFault fault)) }
+    ensures err { IfErr result (IsEnteredFault (subcommand_rows_of matches.now)) }
 {
     match matches.subcommand() {
-        Some((name, inner)) => Ok(Call {
-            task: named_task(alloc, name, inner)?,
-            verbose: has_flag(inner, "verbose"),
-        }),
-        None => unreachable!(),
+        Some((name, inner)) => named_call(alloc, name, inner),
+        None => Err(JobFault::NoCommand),
     }
 }
 
 /// What the subcommand of this name asks for.
-fn named_task(alloc: Global, name: &str, matches: &ArgMatches<'_>) -> Result<Task, JobFault>
-    requires { IsTaken (name.now, rows_of (found_of matches.now)) }
-    ensures { IsTaskOf (name.now, rows_of (found_of matches.now)) result }
+fn named_call(alloc: Global, name: &str, matches: &ArgMatches<'_>) -> Result<Call, JobFault>
+    ensures { IsAskedFor IsCallChosen (name.now, rows_of (found_of matches.now)) result }
+{
+    let task = named_task(name, matches)?;
+    let inputs = inputs_of(alloc, name, matches)?;
+    if share_standard(&inputs) {
+        return Err(JobFault::StandardInputTwice(several_of(name)));
+    }
+    Ok(Call {
+        task,
+        inputs,
+        verbose: has_flag(matches, "verbose"),
+    })
+}
+
+/// The task that the subcommand of this name asks for.
+fn named_task(name: &str, matches: &ArgMatches<'_>) -> Result<Task, JobFault>
+    ensures { IsAskedFor IsTaskChosen (name.now, rows_of (found_of matches.now)) result }
 {
     match name {
-        "prepare" => Ok(Task::Feed(prepare_job(alloc, matches)?)),
-        "update" => Ok(Task::Feed(update_job(alloc, matches)?)),
-        _ => Ok(Task::Extract(named_job(alloc, name, matches)?)),
+        "prepare" => Ok(Task::Feed(FeedJob::Prepare {
+            drop_clashes: has_flag(matches, "drop-clashes"),
+        })),
+        "update" => Ok(Task::Feed(FeedJob::Update {
+            lenient: has_flag(matches, "lenient"),
+        })),
+        _ => Ok(Task::Extract(named_job(name, matches)?)),
     }
 }
 
-/// What the subcommand of this name, which reads extracts, asks for.
-fn named_job(alloc: Global, name: &str, matches: &ArgMatches<'_>) -> Result<Job, JobFault>
-    requires { IsExtractTaken (name.now, rows_of (found_of matches.now)) }
-    ensures { IsJobOf (name.now, rows_of (found_of matches.now)) result }
+/// The job that the subcommand of this name, which reads no published extract, asks for.
+fn named_job(name: &str, matches: &ArgMatches<'_>) -> Result<Job, JobFault>
+    requires { IsNoneOf feed_subcommands name.now }
+    ensures { IsAskedFor IsChosen (name.now, rows_of (found_of matches.now)) result }
 {
     match name {
-        "normalise" | "check" => canonical_job(alloc, name, matches),
-        "compare" | "diff" => two_files_job(alloc, name, matches),
-        "day" => day_job(alloc, matches),
-        "train" => train_job(alloc, matches),
-        "explain" => explain_job(alloc, matches),
-        "clashes" => clashes_job(alloc, matches),
-        "table" => table_job(alloc, matches),
-        "calendar" => calendar_job(alloc, matches),
-        _ => unreachable!(),
+        "normalise" => Ok(Job::Normalise(canonical_job(matches)?)),
+        "check" if has_flag(matches, "all") => Ok(Job::CheckAll(canonical_job(matches)?)),
+        "check" => Ok(Job::Check(canonical_job(matches)?)),
+        "compare" => compare_job(matches),
+        "diff" => diff_job(matches),
+        "day" => day_job(matches),
+        "train" => train_job(matches),
+        "explain" => explain_job(matches),
+        "clashes" => Ok(Job::Clashes(asked_of(matches)?)),
+        "table" => table_job(matches),
+        "calendar" => calendar_job(matches),
+        _ => Err(JobFault::NoCommand),
     }
 }
 
-/// What `normalise` or `check`, as the name is, asks for.
-fn canonical_job(alloc: Global, name: &str, matches: &ArgMatches<'_>) -> Result<Job, JobFault>
-    requires { (name.now ≡ codes "normalise") ⊎ (name.now ≡ codes "check") }
-    ensures { IsJobOf (name.now, rows_of (found_of matches.now)) result }
+/// The window and the form that the words ask for.
+fn canonical_job(matches: &ArgMatches<'_>) -> Result<CanonicalJob, JobFault>
+    ensures ok { IfOk result (λ job. AreCanonicalWords (rows_of (found_of matches.now)) job.asked job.form) }
+    ensures err { IfErr result (λ fault. (fault ≡ JobFault.BadDate)
+        × (HasBadDate (codes "from") (rows_of (found_of matches.now))
+        ⊎ HasBadDate (codes "to") (rows_of (found_of matches.now)))) }
 {
-    let asked = asked_of(matches)?;
-    let form = form_of(matches);
-    let file = file_of(alloc, matches)?;
-    match name {
-        "normalise" => Ok(Job::Normalise { file, asked, form }),
-        _ if has_flag(matches, "all") => Ok(Job::CheckAll { file, asked, form }),
-        _ => Ok(Job::Check { file, asked, form }),
-    }
+    Ok(CanonicalJob {
+        asked: asked_of(matches)?,
+        form: form_of(matches),
+    })
 }
 
-/// What `compare` or `diff`, as the name is, asks for.
-fn two_files_job(alloc: Global, name: &str, matches: &ArgMatches<'_>) -> Result<Job, JobFault>
-    requires name { (name.now ≡ codes "compare") ⊎ (name.now ≡ codes "diff") }
-    requires left { HasWord (codes "LEFT") (rows_of (found_of matches.now)) }
-    requires right { HasWord (codes "RIGHT") (rows_of (found_of matches.now)) }
-    ensures { IsJobOf (name.now, rows_of (found_of matches.now)) result }
+/// What `compare` asks for.
+fn compare_job(matches: &ArgMatches<'_>) -> Result<Job, JobFault>
+    ensures { IsAskedFor IsChosen (codes "compare", rows_of (found_of matches.now)) result }
 {
-    let asked = asked_of(matches)?;
-    let left = required_word(matches, "LEFT");
-    let right = required_word(matches, "RIGHT");
-    if is_standard(left) && is_standard(right) {
-        return Err(JobFault::StandardInputTwice(Inputs::LeftAndRight));
-    }
-    let common = has_flag(matches, "common");
-    let left = String::from_str(alloc, left)?;
-    let right = String::from_str(alloc, right)?;
-    match name {
-        "compare" => Ok(Job::Compare {
-            asked,
-            common,
-            left,
-            right,
-        }),
-        _ => Ok(Job::Diff {
-            asked,
-            common,
-            left,
-            right,
-            format: format_of(matches),
-        }),
-    }
+    Ok(Job::Compare(CompareJob {
+        asked: asked_of(matches)?,
+        common: has_flag(matches, "common"),
+    }))
+}
+
+/// What `diff` asks for.
+fn diff_job(matches: &ArgMatches<'_>) -> Result<Job, JobFault>
+    ensures { IsAskedFor IsChosen (codes "diff", rows_of (found_of matches.now)) result }
+{
+    Ok(Job::Diff(DiffJob {
+        asked: asked_of(matches)?,
+        common: has_flag(matches, "common"),
+        format: format_of(matches),
+    }))
 }
 
 /// What `day` asks for.
-fn day_job(alloc: Global, matches: &ArgMatches<'_>) -> Result<Job, JobFault>
-    requires { HasWord (codes "YYMMDD") (rows_of (found_of matches.now)) }
-    ensures { IsJobOf (codes "day", rows_of (found_of matches.now)) result }
+fn day_job(matches: &ArgMatches<'_>) -> Result<Job, JobFault>
+    ensures { IsAskedFor IsChosen (codes "day", rows_of (found_of matches.now)) result }
 {
-    let Some(day) = day_of_word(required_word(matches, "YYMMDD")) else {
-        return Err(JobFault::BadDate);
-    };
-    Ok(Job::Day {
-        day,
-        file: file_of(alloc, matches)?,
+    Ok(Job::Day(DayJob {
+        day: day_of(matches)?,
         listing: listing_of(matches),
-    })
+    }))
 }
 
 /// What `train` asks for.
-fn train_job(alloc: Global, matches: &ArgMatches<'_>) -> Result<Job, JobFault>
-    requires { HasWord (codes "UID") (rows_of (found_of matches.now)) }
-    ensures { IsJobOf (codes "train", rows_of (found_of matches.now)) result }
+fn train_job(matches: &ArgMatches<'_>) -> Result<Job, JobFault>
+    ensures { IsAskedFor IsChosen (codes "train", rows_of (found_of matches.now)) result }
 {
-    let Some(uid) = uid_of_word(required_word(matches, "UID")) else {
-        return Err(JobFault::BadUid);
-    };
-    Ok(Job::Train {
-        uid,
+    Ok(Job::Train(TrainJob {
+        uid: uid_of(matches)?,
         asked: asked_of(matches)?,
         form: form_of(matches),
-        file: file_of(alloc, matches)?,
         listing: listing_of(matches),
-    })
+    }))
 }
 
 /// What `explain` asks for.
-fn explain_job(alloc: Global, matches: &ArgMatches<'_>) -> Result<Job, JobFault>
-    requires uid { HasWord (codes "UID") (rows_of (found_of matches.now)) }
-    requires day { HasWord (codes "YYMMDD") (rows_of (found_of matches.now)) }
-    ensures { IsJobOf (codes "explain", rows_of (found_of matches.now)) result }
+fn explain_job(matches: &ArgMatches<'_>) -> Result<Job, JobFault>
+    ensures { IsAskedFor IsChosen (codes "explain", rows_of (found_of matches.now)) result }
 {
-    let Some(uid) = uid_of_word(required_word(matches, "UID")) else {
-        return Err(JobFault::BadUid);
-    };
-    let Some(day) = day_of_word(required_word(matches, "YYMMDD")) else {
-        return Err(JobFault::BadDate);
-    };
-    Ok(Job::Explain {
-        uid,
-        day,
-        file: file_of(alloc, matches)?,
+    Ok(Job::Explain(ExplainJob {
+        uid: uid_of(matches)?,
+        day: day_of(matches)?,
         format: format_of(matches),
-    })
-}
-
-/// What `clashes` asks for.
-fn clashes_job(alloc: Global, matches: &ArgMatches<'_>) -> Result<Job, JobFault>
-    ensures { IsJobOf (codes "clashes", rows_of (found_of matches.now)) result }
-{
-    Ok(Job::Clashes {
-        asked: asked_of(matches)?,
-        file: file_of(alloc, matches)?,
-    })
+    }))
 }
 
 /// What `table` asks for.
-fn table_job(alloc: Global, matches: &ArgMatches<'_>) -> Result<Job, JobFault>
-    requires { HasWord (codes "TABLE") (rows_of (found_of matches.now)) }
-    ensures { IsJobOf (codes "table", rows_of (found_of matches.now)) result }
+fn table_job(matches: &ArgMatches<'_>) -> Result<Job, JobFault>
+    ensures { IsAskedFor IsChosen (codes "table", rows_of (found_of matches.now)) result }
 {
-    Ok(Job::Table {
+    Ok(Job::Table(TableJob {
         table: table_of(required_word(matches, "TABLE")),
         asked: asked_of(matches)?,
         form: form_of(matches),
-        file: file_of(alloc, matches)?,
-    })
+    }))
 }
 
 /// What `calendar` asks for.
-fn calendar_job(alloc: Global, matches: &ArgMatches<'_>) -> Result<Job, JobFault>
-    requires { HasWord (codes "UID") (rows_of (found_of matches.now)) }
-    ensures { IsJobOf (codes "calendar", rows_of (found_of matches.now)) result }
+fn calendar_job(matches: &ArgMatches<'_>) -> Result<Job, JobFault>
+    ensures { IsAskedFor IsChosen (codes "calendar", rows_of (found_of matches.now)) result }
 {
-    let Some(uid) = uid_of_word(required_word(matches, "UID")) else {
-        return Err(JobFault::BadUid);
-    };
-    Ok(Job::Calendar {
-        uid,
+    Ok(Job::Calendar(CalendarJob {
+        uid: uid_of(matches)?,
         asked: asked_of(matches)?,
-        file: file_of(alloc, matches)?,
-    })
+    }))
 }
 
-/// What `prepare` asks for.
-fn prepare_job(alloc: Global, matches: &ArgMatches<'_>) -> Result<FeedJob, JobFault>
-    ensures { IsFeedJobOf (codes "prepare", rows_of (found_of matches.now)) result }
+// ---- the inputs
+
+/// The names of the inputs that the subcommand of this name reads.
+fn inputs_of(alloc: Global, name: &str, matches: &ArgMatches<'_>) -> Result<InputNames, AllocError>
+    ensures { IfOk result (λ inputs.
+        names_of inputs ≡ inputs_of (name.now, rows_of (found_of matches.now))) }
 {
-    let holidays = word_of(matches, "holidays");
-    if names_standard(holidays) && reads_standard(word_of(matches, "FILE")) {
-        return Err(JobFault::StandardInputTwice(Inputs::HolidaysAndFile));
+    match name {
+        "compare" | "diff" => copied(
+            alloc,
+            required_word(matches, "LEFT"),
+            &[required_word(matches, "RIGHT")],
+        ),
+        "prepare" => match word_of(matches, "holidays") {
+            Some(holidays) => copied(alloc, holidays, &[file_of(matches)]),
+            None => copied(alloc, file_of(matches), &[]),
+        },
+        "update" => match words_of(matches, "UPDATE") {
+            Some(updates) => copied(alloc, required_word(matches, "FULL"), updates),
+            None => copied(alloc, required_word(matches, "FULL"), &[]),
+        },
+        _ => copied(alloc, file_of(matches), &[]),
     }
-    Ok(FeedJob::Prepare {
-        holidays: name_of(alloc, matches, "holidays")?,
-        drop_clashes: has_flag(matches, "drop-clashes"),
-        file: file_of(alloc, matches)?,
-    })
 }
 
-/// What `update` asks for.
-fn update_job(alloc: Global, matches: &ArgMatches<'_>) -> Result<FeedJob, JobFault>
-    requires full { HasWord (codes "FULL") (rows_of (found_of matches.now)) }
-    requires updates { HasWord (codes "UPDATE") (rows_of (found_of matches.now)) }
-    ensures { IsFeedJobOf (codes "update", rows_of (found_of matches.now)) result }
+/// These names, in memory of their own.
+fn copied(alloc: Global, first: &str, rest: &[&str]) -> Result<InputNames, AllocError>
+    ensures { IfOk result (λ inputs. names_of inputs
+        ≡ first.now ∷ map (λ word. word.now) rest.now) }
 {
-    let full = required_word(matches, "FULL");
-    let updates = required_words(matches, "UPDATE");
-    if share_standard(full, updates) {
-        return Err(JobFault::StandardInputTwice(Inputs::Extracts));
+    let first = String::from_str(alloc, first)?;
+    let mut names = Vec::with_capacity(alloc, rest.len())?;
+    for name in rest {
+        names.push(String::from_str(alloc, name)?)?;
     }
-    Ok(FeedJob::Update {
-        full: String::from_str(alloc, full)?,
-        updates: copied(alloc, updates)?,
-        lenient: has_flag(matches, "lenient"),
-    })
+    Ok(InputNames { first, rest: names })
+}
+
+/// Whether two or more of the inputs are the standard input.
+fn share_standard(inputs: &InputNames) -> bool
+    ensures shared { (result ≡ true) → 1 < standard_inputs (names_of inputs.now) }
+    ensures alone { (result ≡ false) → standard_inputs (names_of inputs.now) ≤ 1 }
+{
+    let count = standard_inputs(inputs.rest.as_slice());
+    if is_standard(inputs.first.as_str()) {
+        0 < count
+    } else {
+        1 < count
+    }
+}
+
+/// How many of the names stand for the standard input.
+fn standard_inputs(names: &[String]) -> usize
+    ensures { result ≡ standard_inputs (map string_bytes names.now) }
+{
+    let mut count = 0;
+    for name in names {
+        if is_standard(name.as_str()) {
+            count += 1;
+        }
+    }
+    count
+}
+
+/// Which inputs the subcommand of this name reads, where it reads several.
+fn several_of(name: &str) -> Inputs
+    ensures { result ≡ several_of name.now }
+{
+    match name {
+        "prepare" => Inputs::HolidaysAndFile,
+        "update" => Inputs::Extracts,
+        _ => Inputs::LeftAndRight,
+    }
 }
 
 // ---- what the matches hold
@@ -311,12 +324,14 @@ fn word_of<'a>(matches: &ArgMatches<'a>, id: &str) -> Option<&'a str>
     matches.get_str(id)
 }
 
-/// The word under this id, which is there.
+/// The word under this id, which is required: `clap` misses none.
 fn required_word<'a>(matches: &ArgMatches<'a>, id: &str) -> &'a str
-    requires { HasWord id.now (rows_of (found_of matches.now)) }
-    ensures { first_of id.now (rows_of (found_of matches.now)) ≡ Some result.now }
+    ensures { result.now ≡ required_word id.now (rows_of (found_of matches.now)) }
 {
-    word_of(matches, id).unwrap()
+    match word_of(matches, id) {
+        Some(word) => word,
+        None => "",
+    }
 }
 
 /// The words under this id, in their order, if there are any.
@@ -327,13 +342,14 @@ fn words_of<'m, 'a>(matches: &'m ArgMatches<'a>, id: &str) -> Option<&'m [&'a st
     matches.get_strs(id)
 }
 
-/// The words under this id, in their order, of which there is at least one.
-fn required_words<'m, 'a>(matches: &'m ArgMatches<'a>, id: &str) -> &'m [&'a str]
-    requires { HasWord id.now (rows_of (found_of matches.now)) }
-    ensures { all_of id.now (rows_of (found_of matches.now))
-        ≡ Some (map (λ word. word.now) result.now) }
+/// The name of the file, which is the standard input where it is absent.
+fn file_of<'a>(matches: &ArgMatches<'a>) -> &'a str
+    ensures { result.now ≡ file_of (rows_of (found_of matches.now)) }
 {
-    words_of(matches, id).unwrap()
+    match word_of(matches, "FILE") {
+        Some(name) => name,
+        None => "-",
+    }
 }
 
 /// Whether the word stands for the standard input.
@@ -341,85 +357,6 @@ pub(crate) fn is_standard(word: &str) -> bool
     ensures { result ≡ is_standard word.now }
 {
     word == "-"
-}
-
-/// Whether there is such a word, and it stands for the standard input.
-fn names_standard(word: Option<&str>) -> bool
-    ensures { result ≡ names_standard (option_map (λ word. word.now) word.entry) }
-{
-    match word {
-        Some(word) => is_standard(word),
-        None => false,
-    }
-}
-
-/// Whether this FILE, which may be absent, stands for the standard input.
-fn reads_standard(file: Option<&str>) -> bool
-    ensures { result ≡ reads_standard (option_map (λ word. word.now) file.entry) }
-{
-    match file {
-        Some(word) => is_standard(word),
-        None => true,
-    }
-}
-
-/// Whether two or more of the words stand for the standard input.
-fn share_standard(full: &str, updates: &[&str]) -> bool
-    ensures shared { (result ≡ true)
-        → 1 < standard_inputs (full.now ∷ map (λ word. word.now) updates.now) }
-    ensures alone { (result ≡ false)
-        → standard_inputs (full.now ∷ map (λ word. word.now) updates.now) ≤ 1 }
-{
-    let count = standard_inputs(updates);
-    if is_standard(full) {
-        0 < count
-    } else {
-        1 < count
-    }
-}
-
-/// How many of the words stand for the standard input.
-fn standard_inputs(words: &[&str]) -> usize
-    ensures { result ≡ standard_inputs (map (λ word. word.now) words.now) }
-{
-    let mut count = 0;
-    for word in words {
-        if is_standard(word) {
-            count += 1;
-        }
-    }
-    count
-}
-
-/// The words, in memory of their own.
-fn copied(alloc: Global, words: &[&str]) -> Result<Vec<String>, AllocError>
-    ensures { IfOk result (λ made. map string_bytes made.items
-        ≡ map (λ word. word.now) words.now) }
-{
-    let mut made = Vec::with_capacity(alloc, words.len())?;
-    for word in words {
-        made.push(String::from_str(alloc, word)?)?;
-    }
-    Ok(made)
-}
-
-/// The name under this id, if there is one.
-fn name_of(alloc: Global, matches: &ArgMatches<'_>, id: &str) -> Result<Option<String>, AllocError>
-    ensures { IfOk result (λ name. option_map string_bytes name
-        ≡ first_of id.now (rows_of (found_of matches.now))) }
-{
-    match word_of(matches, id) {
-        Some(name) => Ok(Some(String::from_str(alloc, name)?)),
-        None => Ok(None),
-    }
-}
-
-/// The file that the words name, if they name one.
-fn file_of(alloc: Global, matches: &ArgMatches<'_>) -> Result<Option<String>, AllocError>
-    ensures { IfOk result (λ file. HasFile (rows_of (found_of matches.now))
-        (option_map string_bytes file)) }
-{
-    name_of(alloc, matches, "FILE")
 }
 
 /// The window that the words ask for.
@@ -449,6 +386,30 @@ fn date_of(matches: &ArgMatches<'_>, id: &str) -> Result<Option<Day>, JobFault>
     }
 }
 
+/// The day that the word YYMMDD names.
+fn day_of(matches: &ArgMatches<'_>) -> Result<Day, JobFault>
+    ensures ok { IfOk result (StandsInYymmdd (required_word (codes "YYMMDD") (rows_of (found_of matches.now)))) }
+    ensures err { IfErr result (λ fault. (fault ≡ JobFault.BadDate)
+        × NamesNoDay (required_word (codes "YYMMDD") (rows_of (found_of matches.now)))) }
+{
+    match day_of_word(required_word(matches, "YYMMDD")) {
+        Some(day) => Ok(day),
+        None => Err(JobFault::BadDate),
+    }
+}
+
+/// The UID that the word UID is.
+fn uid_of(matches: &ArgMatches<'_>) -> Result<Uid, JobFault>
+    ensures ok { IfOk result (IsUidWord (required_word (codes "UID") (rows_of (found_of matches.now)))) }
+    ensures err { IfErr result (λ fault. (fault ≡ JobFault.BadUid)
+        × IsNoUid (required_word (codes "UID") (rows_of (found_of matches.now)))) }
+{
+    match uid_of_word(required_word(matches, "UID")) {
+        Some(uid) => Ok(uid),
+        None => Err(JobFault::BadUid),
+    }
+}
+
 /// The form that the words name.
 fn form_of(matches: &ArgMatches<'_>) -> Form
     ensures { result ≡ form_of (first_of (codes "form") (rows_of (found_of matches.now))) }
@@ -471,7 +432,7 @@ fn format_of(matches: &ArgMatches<'_>) -> Format
 
 /// Whether the words have this flag.
 fn has_flag(matches: &ArgMatches<'_>, id: &str) -> bool
-    ensures { result ≡ is_set (first_of id.now (rows_of (found_of matches.now))) }
+    ensures { result ≡ has_flag id.now (rows_of (found_of matches.now)) }
 {
     matches!(word_of(matches, id), Some("true"))
 }

@@ -10,8 +10,7 @@ use Rattle.cif_canon.proofs.HandedFaults.{known-fault}
 use Rattle.cif_views.specs.WeekCalendar.{IsWeekCalendarFault}
 use Rattle.cif_tool.specs.Answer.{IsClashlessRefusal}
 use Rattle.cif_tool.proofs.Answered.{fails-to-read, handed, handed-fault, written-then}
-use Rattle.cif_tool.proofs.ClashlessFaults.{calendar-fault, clashless-fault}
-use Rattle.cif_tool.proofs.KnownAnswers.{calendar-answer}
+use Rattle.cif_tool.proofs.KnownAnswers.{calendar-answer, calendar-fault, clashless-fault}
 use Rattle.cif_tool.proofs.answers.answer_calendar.Goals as goal
 
 pub returns-in_err-extract-clause-answer : goal.returns-in_err-extract-clause-answer
@@ -23,7 +22,7 @@ pub returns-in_err-extract-clause-fault : goal.returns-in_err-extract-clause-fau
 returns-in_err-extract-clause-fault g c =
     let after = unread_of g.R.Read.remaining c.read_narrowed.new.source in
     let f = c.in_err-extract.field-0.0 in
-    known-fault c.from_residual.result f c.from_residual.ensures.1 _ _ _ (λ bytes. clashless-fault c.args.asked.now bytes after f)
+    known-fault c.from_residual.result f c.from_residual.ensures.1 _ _ _ (λ bytes. clashless-fault c.args.job.now.asked bytes after f)
     c.in_err-extract.ensures.fault
 
 pub returns-clause-answer : goal.returns-clause-answer
@@ -32,8 +31,8 @@ returns-clause-answer g c =
     let call = c.week_calendar in
     let view = call.ensures.view in
     handed _ _ _ _ view.0 0 _ call.result call.new.sink c.finish.new.sink c.finish.result view.1
-    (written-then _ _ _ call.result (calendar-answer _ c.args.asked.now (extract_parts c.insert-extract.result.now) read
-    c.args.uid.now view.0) view.2) c.finish.ensures.finishes
+    (written-then _ _ _ call.result (calendar-answer _ c.args.job.now (extract_parts c.insert-extract.result.now) read
+    view.0) view.2) c.finish.ensures.finishes
 
 pub returns-clause-fault : goal.returns-clause-fault
 returns-clause-fault g c =
@@ -41,9 +40,9 @@ returns-clause-fault g c =
     let after = unread_of g.R.Read.remaining c.read_narrowed.new.source in
     let call = c.week_calendar in
     known_so _ _ _ (λ bytes spelled.
-    handed-fault _ _ _ IsWeekCalendarFault (IsClashlessRefusal c.args.asked.now bytes after) 0 call.result call.new.sink
+    handed-fault _ _ _ IsWeekCalendarFault (IsClashlessRefusal c.args.job.now.asked bytes after) 0 call.result call.new.sink
     c.finish.new.sink c.finish.result
-    (calendar-fault c.args.asked.now bytes after (extract_parts c.insert-extract.result.now) spelled) call.ensures.fault
+    (calendar-fault c.args.job.now.asked bytes after (extract_parts c.insert-extract.result.now) spelled) call.ensures.fault
     (written-then _ _ _ call.result (λ view. tt) call.ensures.view.2) c.finish.ensures.finishes) read
 
 pub returns-clause-source : goal.returns-clause-source

@@ -21,7 +21,7 @@ returns-in_err-counts-clause-answer g c =
 
 pub returns-in_err-counts-clause-fault : goal.returns-in_err-counts-clause-fault
 returns-in_err-counts-clause-fault g c =
-    subst (FaultOf g.R.Read.remaining (IsNormaliseFault MAX_LINES c.args.asked.now) c.args.source.now c.check_keeping.new.source)
+    subst (FaultOf g.R.Read.remaining (IsNormaliseFault MAX_LINES c.args.job.now.asked) c.args.source.now c.check_keeping.new.source)
     (sym (at-fault c.from_residual.result c.in_err-counts.field-0.0 c.from_residual.ensures.1)) c.in_err-counts.ensures.fault
 
 pub returns-clause-answer : goal.returns-clause-answer
@@ -30,7 +30,7 @@ returns-clause-answer g c =
     let told = told-as _ _ _ _ _ _ _ c.write_counts.result call.result call.ensures.cases c.write_counts.ensures in
     let counts = c.in_ok-counts.counts in
     handed-text _ _ _ _ (counts_line counts) 0 _ 0 call.result c.write_counts.new.sink c.finish.new.sink c.finish.result refl
-    told.0 told.1 (check-answer _ c.args.form c.args.asked.now counts c.in_ok-counts.ensures.ok) c.finish.ensures.finishes
+    told.0 told.1 (check-answer _ c.args.job.now counts c.in_ok-counts.ensures.ok) c.finish.ensures.finishes
 
 pub returns-clause-fault : goal.returns-clause-fault
 returns-clause-fault g c =
@@ -38,7 +38,7 @@ returns-clause-fault g c =
     let call = c.map_err-written in
     let told = told-as _ _ _ _ _ _ _ c.write_counts.result call.result call.ensures.cases c.write_counts.ensures in
     known_so _ _ _ (λ bytes is.
-    only-fails _ _ _ (IsNormaliseFault MAX_LINES c.args.asked.now bytes after) 0 call.result c.write_counts.new.sink
+    only-fails _ _ _ (IsNormaliseFault MAX_LINES c.args.job.now.asked bytes after) 0 call.result c.write_counts.new.sink
     c.finish.new.sink c.finish.result told.1 tt c.finish.ensures.finishes) c.in_ok-counts.ensures.ok
 
 pub returns-clause-source : goal.returns-clause-source

@@ -16,9 +16,9 @@ pub returns-in_err-counts-in-Extract-clause-fault : goal.returns-in_err-counts-i
 returns-in_err-counts-in-Extract-clause-fault g c =
     let call = c.from_residual-in_err-counts-in-Extract in
     let f = c.in_err-counts-in-Extract.field-0.0 in
-    subst (λ (r : Result ℕ Fault). FaultOf g.R.Read.remaining (IsCheckAllFault c.args.asked.now) c.args.source.now c.read.new.source r)
+    subst (λ (r : Result ℕ Fault). FaultOf g.R.Read.remaining (IsCheckAllFault c.args.job.now.asked) c.args.source.now c.read.new.source r)
     (sym (at-fault call.result f call.ensures.1))
-    (counts_fault (g.R.Read.remaining c.args.source.now.reader) c.args.asked.now (unread_of g.R.Read.remaining c.read.new.source)
+    (counts_fault (g.R.Read.remaining c.args.source.now.reader) c.args.job.now.asked (unread_of g.R.Read.remaining c.read.new.source)
     (extract_parts c.in-Extract.extract) f c.in_err-counts-in-Extract.ensures.silent
     (rw c.in-Extract.is at c.in_ok-reasons.ensures.ok) c.in_err-counts-in-Extract.ensures.fault)
 
@@ -28,7 +28,7 @@ returns-in-Reasons-clause-answer g c =
     let told = told-as _ _ _ _ _ _ _ c.write.result call.result call.ensures.cases c.write.ensures in
     let reasons = c.in-Reasons.reasons in
     handed-text _ _ _ _ (told_text reasons) 3 _ 3 call.result c.write.new.sink c.finish.new.sink c.finish.result refl told.0 told.1
-    (reasons_answer (g.R.Read.remaining c.args.source.now.reader) c.args.form c.args.asked.now
+    (reasons_answer (g.R.Read.remaining c.args.source.now.reader) c.args.job.now
     (unread_of g.R.Read.remaining c.read.new.source) reasons (rw c.in-Reasons.is at c.in_ok-reasons.ensures.ok)) c.finish.ensures.finishes
 
 pub returns-in_ok-counts-in-Extract-clause-answer : goal.returns-in_ok-counts-in-Extract-clause-answer
@@ -38,5 +38,5 @@ returns-in_ok-counts-in-Extract-clause-answer g c =
     let counts = c.in_ok-counts-in-Extract.counts in
     handed-text _ _ _ _ (counts_line counts) 0 _ 0 call.result c.write_counts.new.sink c.finish-in-Extract.new.sink
     c.finish-in-Extract.result refl told.0 told.1
-    (counts_answer (g.R.Read.remaining c.args.source.now.reader) c.args.form c.args.asked.now (extract_parts c.in-Extract.extract) counts
+    (counts_answer (g.R.Read.remaining c.args.source.now.reader) c.args.job.now (extract_parts c.in-Extract.extract) counts
     (rw c.in-Extract.is at c.in_ok-reasons.ensures.ok) c.in_ok-counts-in-Extract.ensures.ok) c.finish-in-Extract.ensures.finishes

@@ -10,8 +10,7 @@ use Rattle.cif_views.specs.Clashes.{clashes_text}
 use Rattle.cif_tool.specs.Answer.{IsClashlessRefusal}
 use Rattle.cif_tool.specs.Status.{listed_status}
 use Rattle.cif_tool.proofs.Answered.{fails-silently, fails-to-read, handed-text, only-fails}
-use Rattle.cif_tool.proofs.ClashlessFaults.{clashless-fault}
-use Rattle.cif_tool.proofs.KnownAnswers.{clashes-answer}
+use Rattle.cif_tool.proofs.KnownAnswers.{clashes-answer, clashless-fault}
 use Rattle.cif_tool.proofs.answers.answer_clashes.Goals as goal
 
 pub returns-in_err-extract-clause-answer : goal.returns-in_err-extract-clause-answer

@@ -36,7 +36,7 @@ returns-in_err-comparison-clause-fault g c =
     let y = extract_parts c.insert-right.result.now in
     let call = c.from_residual-in_err-comparison in
     let f = c.in_err-comparison.field-0.0 in
-    compare-refused c.args.asked.now c.args.common _ _ x y read _ _ _ call.result f (hands call.result f call.ensures.1)
+    compare-refused c.args.job.now.asked c.args.job.now.common _ _ x y read _ _ _ call.result f (hands call.result f call.ensures.1)
     (inl c.in_err-comparison.ensures.fault)
 
 pub returns-in_err-comparison-clause-sources : goal.returns-in_err-comparison-clause-sources
@@ -58,7 +58,7 @@ returns-clause-answer g c =
     let made = c.in_ok-comparison.comparison in
     handed-text _ _ _ _ (comparison_line made) (outcome_of made) _ c.outcome.result call.result c.write_comparison.new.sink
     c.finish.new.sink c.finish.result c.outcome.ensures told.0 told.1
-    (compare-answer c.args.asked.now c.args.common _ _ x y read made c.in_ok-comparison.ensures.ok) c.finish.ensures.finishes
+    (compare-answer _ _ x y c.args.job.now read made c.in_ok-comparison.ensures.ok) c.finish.ensures.finishes
 
 pub returns-clause-fault : goal.returns-clause-fault
 returns-clause-fault g c =
@@ -67,7 +67,7 @@ returns-clause-fault g c =
     let y = extract_parts c.insert-right.result.now in
     let call = c.map_err-written in
     let told = told-as _ _ _ _ _ _ _ c.write_comparison.result call.result call.ensures.cases c.write_comparison.ensures in
-    compare-refused c.args.asked.now c.args.common _ _ x y read _ _ _ c.finish.result Write
+    compare-refused c.args.job.now.asked c.args.job.now.common _ _ x y read _ _ _ c.finish.result Write
     (λ P q. only-fails _ _ _ P c.outcome.result call.result c.write_comparison.new.sink c.finish.new.sink c.finish.result told.1 q
     c.finish.ensures.finishes) (inr refl)
 

@@ -15,29 +15,31 @@ use Rattle.cif_tool.proofs.answers.answer_day.Goals as goal
 pub returns-clause-answer : goal.returns-clause-answer
 returns-clause-answer g c =
     let read = rw (← c.insert-extract.ensures.value) at c.in_ok-extract.ensures.ok in
-    let call = c.day_listing in
+    let call = c.day_listing-written in
     let view = call.ensures.view in
     let x = extract_parts c.insert-extract.result.now in
     handed _ _ _ _ view.0 0 _ call.result call.new.sink c.finish.new.sink c.finish.result view.1
-    (written-then _ _ _ call.result (day-answer _ x read c.args.listing c.args.day view.0) view.2)
+    (written-then _ _ _ call.result (day-answer _ x read c.args.job.now view.0) view.2)
     c.finish.ensures.finishes
 
 pub returns-clause-fault : goal.returns-clause-fault
 returns-clause-fault g c =
     let read = rw (← c.insert-extract.ensures.value) at c.in_ok-extract.ensures.ok in
     let after = unread_of g.R.Read.remaining c.read_extract.new.source in
+    let day = c.args.job.now.day in
     let x = extract_parts c.insert-extract.result.now in
-    let call = c.day_listing in
+    let call = c.day_listing-written in
     known_so _ _ _ (λ bytes spelled.
-    handed-fault _ _ _ (IsDayFault x c.args.day) (IsDayRefusal c.args.day bytes after) 0 call.result call.new.sink
+    handed-fault _ _ _ (IsDayFault x day) (IsDayRefusal day bytes after) 0 call.result call.new.sink
     c.finish.new.sink c.finish.result (λ f is. inr (x, spelled, is)) call.ensures.fault
     (written-then _ _ _ call.result (λ view. view.within) call.ensures.view.2) c.finish.ensures.finishes) read
 
 pub returns-clause-source : goal.returns-clause-source
 returns-clause-source g c =
+    let day = c.args.job.now.day in
     let x = extract_parts c.insert-extract.result.now in
-    let call = c.day_listing in
+    let call = c.day_listing-written in
     read-on _ _ _ c.finish.result
-    (handed-fault _ _ _ (IsDayFault x c.args.day) (λ f. f ≢ Read) 0 call.result call.new.sink c.finish.new.sink c.finish.result
-    (λ f is read. (subst (IsDayFault x c.args.day) read is).1) call.ensures.fault
+    (handed-fault _ _ _ (IsDayFault x day) (λ f. f ≢ Read) 0 call.result call.new.sink c.finish.new.sink c.finish.result
+    (λ f is read. (subst (IsDayFault x day) read is).1) call.ensures.fault
     (written-then _ _ _ call.result (λ view. view.within) call.ensures.view.2) c.finish.ensures.finishes) c.in_ok-extract.ensures.device

@@ -40,7 +40,7 @@ returns-in_err-found-clause-fault g c =
     let y = extract_parts c.insert-right.result.now in
     let call = c.from_residual-in_err-found in
     let f = c.in_err-found.field-0.0 in
-    compare-refused c.args.asked.now c.args.common _ _ x y read _ _ _ call.result f (hands call.result f call.ensures.1)
+    compare-refused c.args.job.now.asked c.args.job.now.common _ _ x y read _ _ _ call.result f (hands call.result f call.ensures.1)
     (inl c.in_err-found.ensures.fault)
 
 pub returns-in_err-found-clause-sources : goal.returns-in_err-found-clause-sources
@@ -60,9 +60,9 @@ returns-clause-answer g c =
     let made = c.in_ok-found.found in
     let none = c.is_empty.result in
     let call = c.write_differences-written in
-    handed-text _ _ _ _ (differences_in c.args.format made) (listed_status none) _ c.listed.result call.result call.new.sink
+    handed-text _ _ _ _ (differences_in c.args.job.now.format made) (listed_status none) _ c.listed.result call.result call.new.sink
     c.finish.new.sink c.finish.result c.listed.ensures call.ensures.writes call.ensures.fault
-    (diff-answer c.args.asked.now c.args.common _ _ x y read c.args.format made none c.in_ok-found.ensures.ok c.is_empty.ensures)
+    (diff-answer _ _ x y c.args.job.now read made none c.in_ok-found.ensures.ok c.is_empty.ensures)
     c.finish.ensures.finishes
 
 pub returns-clause-fault : goal.returns-clause-fault
@@ -71,7 +71,7 @@ returns-clause-fault g c =
     let x = extract_parts c.insert-left.result.now in
     let y = extract_parts c.insert-right.result.now in
     let call = c.write_differences-written in
-    compare-refused c.args.asked.now c.args.common _ _ x y read _ _ _ c.finish.result Write
+    compare-refused c.args.job.now.asked c.args.job.now.common _ _ x y read _ _ _ c.finish.result Write
     (λ P q. only-fails _ _ _ P c.listed.result call.result call.new.sink c.finish.new.sink c.finish.result call.ensures.fault q
     c.finish.ensures.finishes) (inr refl)
 

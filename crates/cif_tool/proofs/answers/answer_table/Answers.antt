@@ -21,7 +21,7 @@ returns-in_err-extract-clause-answer g c =
 
 pub returns-in_err-extract-clause-fault : goal.returns-in_err-extract-clause-fault
 returns-in_err-extract-clause-fault g c =
-    known-read_fault MAX_LINES c.args.asked.now _ (unread_of g.R.Read.remaining c.read_narrowed.new.source) c.from_residual.result
+    known-read_fault MAX_LINES c.args.job.now.asked _ (unread_of g.R.Read.remaining c.read_narrowed.new.source) c.from_residual.result
     c.in_err-extract.field-0.0 c.from_residual.ensures.1 c.in_err-extract.ensures.fault
 
 pub returns-in_err-canon-clause-answer : goal.returns-in_err-canon-clause-answer
@@ -33,7 +33,7 @@ returns-in_err-canon-clause-answer g c =
 
 pub returns-in_err-canon-clause-fault : goal.returns-in_err-canon-clause-fault
 returns-in_err-canon-clause-fault g c =
-    known-canon_fault MAX_LINES c.args.asked.now _ (unread_of g.R.Read.remaining c.read_narrowed.new.source)
+    known-canon_fault MAX_LINES c.args.job.now.asked _ (unread_of g.R.Read.remaining c.read_narrowed.new.source)
     c.from_residual-in_err-canon.result c.in_err-canon.field-0.0 c.from_residual-in_err-canon.ensures.1
     (extract_parts c.in_ok-extract.extract) (rw c.insert-extract.ensures.value at c.in_err-canon.ensures.fault) c.in_ok-extract.ensures.ok
 
@@ -48,9 +48,9 @@ pub returns-clause-answer : goal.returns-clause-answer
 returns-clause-answer g c =
     let call = c.write_table in
     let canon = c.in_ok-canon.canon in
-    handed-text _ _ _ _ (table_text c.args.table canon.lines) 0 _ 0 call.result call.new.sink c.finish.new.sink c.finish.result refl
+    handed-text _ _ _ _ (table_text c.args.job.now.table canon.lines) 0 _ 0 call.result call.new.sink c.finish.new.sink c.finish.result refl
     call.ensures.writes call.ensures.fault
-    (table-answer _ c.args.asked.now (extract_parts c.in_ok-extract.extract) c.in_ok-extract.ensures.ok c.args.table c.args.form canon
+    (table-answer _ c.args.job.now (extract_parts c.in_ok-extract.extract) c.in_ok-extract.ensures.ok canon
     (rw c.insert-extract.ensures.value at c.in_ok-canon.ensures.ok)) c.finish.ensures.finishes
 
 pub returns-clause-fault : goal.returns-clause-fault
@@ -58,7 +58,7 @@ returns-clause-fault g c =
     let after = unread_of g.R.Read.remaining c.read_narrowed.new.source in
     let call = c.write_table in
     known_so _ _ _ (λ bytes is.
-    only-fails _ _ _ (IsNormaliseFault MAX_LINES c.args.asked.now bytes after) 0 call.result call.new.sink
+    only-fails _ _ _ (IsNormaliseFault MAX_LINES c.args.job.now.asked bytes after) 0 call.result call.new.sink
     c.finish.new.sink c.finish.result call.ensures.fault tt c.finish.ensures.finishes) c.in_ok-extract.ensures.ok
 
 pub returns-clause-source : goal.returns-clause-source

@@ -1,9 +1,9 @@
--- Those that are counted, and those among the words that are left, are all.
-use Rattle.std.proofs.Common.{◌≡◌, ◌≤◌, ◌+◌, drop, map}
+-- Those that are counted, and those among the names that are left, are all.
+use Rattle.std.proofs.Common.{◌≡◌, ◌≤◌, ◌+◌, drop, map, string_bytes}
 use Rattle.cif_tool.specs.Job.{standard_inputs}
 use Rattle.cif_tool.proofs.words.standard_inputs.Given as goal
 
-abbrev pub invariant-loop-word : goal.invariant-loop-word
-invariant-loop-word l =
-    (l.count + standard_inputs (map (λ w. w.now) (drop l.word-index l.words)) ≡ standard_inputs (map (λ w. w.now) l.words))
-    × (l.count ≤ l.word-index)
+abbrev pub invariant-loop-name : goal.invariant-loop-name
+invariant-loop-name l =
+    (l.count + standard_inputs (map string_bytes (drop l.name-index l.names)) ≡ standard_inputs (map string_bytes l.names))
+    × (l.count ≤ l.name-index)

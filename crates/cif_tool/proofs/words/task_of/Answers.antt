@@ -1,15 +1,8 @@
--- Words that `clap` takes enter a subcommand of the program's own (`enters_own`); else its error has one of the named kinds.
-use Rattle.std.proofs.Common.{ap, inl, inr, sym, subst, List, Option, map, string_bytes}
-use Rattle.std.specs.Prelude.{IsSomeAnd}
-use Rattle.clap.specs.Words.{Row, Text}
-use Rattle.cif_tool.specs.Job.{IsTaken}
+-- The error of `clap` has one of the named kinds.
+use Rattle.std.proofs.Common.{ap, inl, inr, sym, subst, List, map, string_bytes}
+use Rattle.clap.specs.Words.{Text}
 use Rattle.cif_tool.specs.JobFault.{IsFaultAt}
-use Rattle.cif_tool.proofs.OwnSubcommand.{enters_own}
 use Rattle.cif_tool.proofs.words.task_of.Goals as goal
-
-pub chosen_task-requires : goal.chosen_task-requires
-chosen_task-requires c =
-    subst (λ (o : Option (Text × List Row)). IsSomeAnd o IsTaken) (sym c.in-Ok.ensures.ok) (enters_own _ _ c.in-Ok.ensures.kinds)
 
 pub returns-clause-refused : goal.returns-clause-refused
 returns-clause-refused c =

@@ -1,5 +1,5 @@
 -- The text that went to the errors has to be named: `clap`'s, or the line of the fault.
-use Rattle.std.proofs.Common.{◌≡◌, ◌≢◌, ℕ, List, [], ◌∷◌, ◌++◌, Option, None, Some, IfSome, Err, option_map, refl, ap, arith, subst}
+use Rattle.std.proofs.Common.{◌≡◌, ◌≢◌, ℕ, List, [], ◌++◌, Option, None, Some, IfSome, Err, option_map, refl, ap, arith, subst}
 use Rattle.std.proofs.Common.{sym, ◌∙◌}
 use Rattle.std.specs.Prelude.{unwrap_or}
 use Rattle.std.proofs.lemmas.Result.{err_from_is_err_and}
@@ -7,18 +7,19 @@ use Rattle.cif_columns.proofs.WrittenTexts.{failed_second}
 use Rattle.clap.specs.declared.error.Error.{Error}
 use Rattle.cif_tool.specs.JobFault.{Explains, status_of}
 use Rattle.cif_tool.specs.declared.job.JobFault.{JobFault}
-use Rattle.cif_tool.specs.declared.job.JobFault.TheVariants.{Usage, BadDate, BadUid, StandardInputTwice, Memory}
+use Rattle.cif_tool.specs.declared.job.JobFault.TheVariants.{Usage, NoCommand, BadDate, BadUid, StandardInputTwice, Memory}
 use Rattle.cif_tool.proofs.job.JobFault.explain.Goals as goal
 
--- the text, if there is one, as a line
-line-names : {A : Type 0} (now : A → List ℕ) (o : Option A) (other : A) (line : List ℕ) → line ≡ now (unwrap_or o other) ++ (10 ∷ []) →
-    IfSome (option_map now o) (λ words. line ≡ words ++ (10 ∷ []))
-line-names now None other line h = tt
-line-names now (Some text) other line h = h
+-- the text, if there is one
+text-names : {A : Type 0} (now : A → List ℕ) (o : Option A) (other : A) (text : List ℕ) → text ≡ now (unwrap_or o other) →
+    IfSome (option_map now o) (λ words. text ≡ words)
+text-names now None other text h = tt
+text-names now (Some words) other text h = h
 
 -- any other fault than a usage error has a status of its own
 own-status : (fault : JobFault) → ((error : Error) → fault ≢ Usage error) → status_of fault ≢ 0
 own-status (Usage error) other zero = other error refl
+own-status NoCommand other zero = absurd (omega (arith, zero))
 own-status BadDate other zero = absurd (omega (arith, zero))
 own-status BadUid other zero = absurd (omega (arith, zero))
 own-status (StandardInputTwice inputs) other zero = absurd (omega (arith, zero))
@@ -54,10 +55,9 @@ returns-clause-answer g c = (
   λ zero. absurd (own-status c.args.self.now c.in_default.not-Usage zero),
   λ some. record {
     text = c.as_bytes-in_default.result.now;
-    names = subst (λ o. IfSome o (λ words. c.as_bytes-in_default.result.now ≡ words ++ (10 ∷ []))) c.text.ensures.text
-        (line-names (λ line. line.now) c.text.result _ c.as_bytes-in_default.result.now
-        (c.as_bytes-in_default.ensures.value ∙ c.as_str.ensures.value ∙ c.line_of-line.ensures
-        ∙ ap (λ line. line.now ++ (10 ∷ [])) c.unwrap_or.ensures));
+    names = subst (λ o. IfSome o (λ words. c.as_bytes-in_default.result.now ≡ words)) c.text.ensures
+        (text-names (λ line. line.now) c.text.result _ c.as_bytes-in_default.result.now
+        (c.as_bytes-in_default.ensures.value ∙ ap (λ line. line.now) c.unwrap_or.ensures));
     told = c.write_all-in_default.result;
     writes = c.write_all-in_default.ensures;
     silent = refl;
