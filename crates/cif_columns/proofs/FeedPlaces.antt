@@ -1,11 +1,13 @@
 -- Where the first line feed of bytes stands, in a prefix of them and in more of them.
 use Rattle.std.proofs.Common.{◌≡◌, ℕ, zero, suc, ◌+◌, ◌<◌, ◌≤◌, Bool, true, false, not, cond, List, [], ◌∷◌, ◌++◌, length}
-use Rattle.std.proofs.Common.{take, refl, sym, ap, ◌∙◌, arith, get_or, eq-eqb, ◌≢◌, ⊎_elim}
+use Rattle.std.proofs.Common.{Option, None, Some, IfSome, IfNone, take, drop, min, refl, sym, ap, ◌∙◌, arith, get_or, eq-eqb, ⊎_elim}
+use Rattle.std.proofs.Common.{length-take, take-append-drop}
 use Rattle.std.proofs.lemmas.Bool.Decides.{nat_tests}
-use Rattle.std.proofs.lemmas.Bool.{and_parts, cases_lt, eqb-true, false≢true}
-use Rattle.std.proofs.lemmas.List.Sums.{fails_before_first, passes_at_first}
+use Rattle.std.proofs.lemmas.Bool.{and_parts, cases_lt, false_from_ne_true}
+use Rattle.std.proofs.lemmas.List.Sums.{position_or_len_is}
 use Rattle.std.specs.List.{position_or_len, list_all}
 use Rattle.cif_columns.specs.FirstLine.{is_line_feed, is_printable}
+use Rattle.memchr.specs.Find.{IsFirstByte, is_byte}
 
 abbrev pub place : List ℕ → ℕ
 place xs = position_or_len is_line_feed xs
@@ -56,21 +58,23 @@ place-printable (suc n) (x ∷ xs) h p e =
     ap (λ b. cond b (1 + place xs) 0) (printable_no_feed x both.0) ∙ ap (λ m. 1 + m) (place-printable n xs (omega arith) both.1 e)
     ∙ omega arith
 
--- the first byte that is a line feed, of those from a place on before which none is
-module _ (xs : List ℕ) (at : ℕ) (below : at < length xs) (none : at ≤ place xs) where
-  pub place_here : get_or xs at 0 ≡ 10 → at ≡ place xs
-  place_here e =
-      ⊎_elim
-      (λ (before : at < place xs). absurd (false≢true (sym (fails_before_first is_line_feed xs at 0 before) ∙ eq-eqb _ 10 e)))
-      (λ from. omega arith)
-      (cases_lt at (place xs))
+-- what a search of the first n bytes tells of all
+module _ (bytes : List ℕ) (n : ℕ) where
+  pub place_found : (found : Option ℕ) → IsFirstByte (is_byte 10) (take n bytes) found → IfSome found (λ at. at ≡ place bytes)
+  place_found None it = tt
+  place_found (Some at) it =
+      let front : place (take n bytes) ≡ at =
+      position_or_len_is is_line_feed (take n bytes) at 0 (omega (arith, it.0.high))
+      (λ k lt. false_from_ne_true _ (it.0.before k (omega arith) lt)) (λ _. it.1) in
+      let whole = place-append_in (take n bytes) (drop n bytes) (omega (arith, front, it.0.high)) in
+      sym (ap place (sym (take-append-drop n bytes)) ∙ whole ∙ front)
 
-  pub place_later : get_or xs at 0 ≢ 10 → at + 1 ≤ place xs
-  place_later other =
-      ⊎_elim
-      (λ (before : at < place xs). omega arith)
-      (λ from.
-      let here : place xs ≡ at = omega arith in
-      let feed = passes_at_first is_line_feed xs 0 (omega (arith, here)) in
-      absurd (other (eqb-true _ 10 (rw here at feed))))
-      (cases_lt at (place xs))
+  pub place_missed : (most : ℕ) (found : Option ℕ) → n ≡ min (length bytes) most → IsFirstByte (is_byte 10) (take n bytes) found
+      → IfNone found (min most (length bytes) ≤ place bytes)
+  place_missed most None many it =
+      let front : place (take n bytes) ≡ length (take n bytes) =
+      position_or_len_is is_line_feed (take n bytes) (length (take n bytes)) 0 (omega arith)
+      (λ k lt. false_from_ne_true _ (it k (omega arith) lt)) (λ lt. absurd (omega arith)) in
+      let whole = place-append_out (take n bytes) (drop n bytes) (omega (arith, front)) in
+      omega (arith, many, length-take n bytes, ap place (take-append-drop n bytes), whole)
+  place_missed most (Some at) many it = tt

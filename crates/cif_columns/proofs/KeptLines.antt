@@ -7,6 +7,7 @@ use Rattle.std.proofs.lemmas.List.Elements.{All-append, All-cons, All-drop, All-
 use Rattle.std.proofs.lemmas.Grind.{flat_map-append}
 use Rattle.std.proofs.Math.Seq.{take-append-add}
 use Rattle.cif_columns.specs.Line.{ArePrintable, IsLine, IsPrintable}
+use Rattle.cif_columns.specs.Text.{left_justified}
 use Rattle.cif_columns.specs.Lines.{AreKept, first_lines_in, is_space, kept, kept_text, lines_in, used, used_with, wide}
 
 some_used : (space : Bool) (count : ℕ) → used_with space (suc count) ≡ suc (suc count)
@@ -177,11 +178,13 @@ module _ (bytes : List ℕ) (lines : List (List ℕ)) (k : Keep bytes lines) (so
       → take count chunk ≡ take (used line) line
   columns_in_chunk columns chunk is first = ap (take count) first ∙ take-take count 80 columns count_few ∙ columns_in columns is
 
-  pub columns_in_padded : (columns padded : List ℕ) → columns ≡ drop 1 bytes → take (length columns) padded ≡ columns
+  pub columns_in_padded : (columns padded : List ℕ) → columns ≡ drop 1 bytes → padded ≡ left_justified 80 columns
       → take count padded ≡ take (used line) line
-  columns_in_padded columns padded is first =
+  columns_in_padded columns padded is left =
       let within : count ≤ length columns = omega (arith, first_within, ap length is, length-drop 1 bytes) in
-      sym (take-take count (length columns) padded within) ∙ ap (take count) first ∙ columns_in columns is
+      sym (take-take count (length columns) padded within)
+      ∙ ap (take count) (ap (take (length columns)) left ∙ take_at columns (replicate (80 - length columns) 32) (length columns) refl)
+      ∙ columns_in columns is
 
   module _ (columns : List ℕ) (is : take count columns ≡ take (used line) line) where
     pub columns_wide : wide (take count columns) ≡ line

@@ -14,6 +14,7 @@ use crate::content_reader::NextContent;
 use crate::line::{LINE_TEXT_WIDTH, LINE_WIDTH, Line, are_printable};
 use crate::refusal::Refusal;
 use crate::source::{ReadDevice, ReadFault, Source};
+use memchr::memchr;
 
 // A read gives about two hundred lines. The buffer lies on the stack.
 const AHEAD: usize = 16_384;
@@ -385,12 +386,7 @@ fn line_feed<const MOST: usize>(bytes: &[u8]) -> Option<usize>
     ensures none { IfNone result (min MOST (length bytes.now)
         ≤ position_or_len is_line_feed bytes.now) }
 {
-    for at in 0..bytes.len().min(MOST) {
-        if bytes[at] == b'\n' {
-            return Some(at);
-        }
-    }
-    None
+    memchr(b'\n', &bytes[..bytes.len().min(MOST)])
 }
 
 /// The bytes without the one carriage return at their end.

@@ -96,11 +96,8 @@ impl LineReader {
         ensures { IsNext R.remaining R.read_errors self.old source.old result self.new source.new }
     {
         let mut line = Line::blank();
-        match self.read_line(source, &mut line) {
-            Ok(true) => Ok(Some(line)),
-            Ok(false) => Ok(None),
-            Err(fault) => Err(fault),
-        }
+        let is_given = self.read_line(source, &mut line)?;
+        Ok(is_given.then_some(line))
     }
 
     /// Puts the next line into `line`, and tells whether there was one; it answers as `next` does, and
@@ -140,15 +137,14 @@ impl LineReader {
         ensures { IsNextContent R.remaining R.read_errors self.old source.old result line.new
             self.new source.new }
     {
-        match self.pass_comment(source) {
-            Ok(First::Comment) => Ok(Content::Comment),
-            Ok(First::End) => Ok(Content::End),
-            Ok(First::Other) => match self.read_line(source, line) {
+        match self.pass_comment(source)? {
+            First::Comment => Ok(Content::Comment),
+            First::End => Ok(Content::End),
+            First::Other => match self.read_line(source, line) {
                 Ok(true) => Ok(Content::of_line(line)),
                 Ok(false) => Ok(Content::End),
                 Err(fault) => Err(fault),
             },
-            Err(fault) => Err(fault),
         }
     }
 

@@ -6,6 +6,7 @@ ghost use Rattle.cif_columns.specs.Line.{ArePrintable, IsLine};
 ghost use Rattle.cif_columns.specs.Lines.{is_space, used, wide};
 
 use crate::line::{LINE_TEXT_WIDTH, LINE_WIDTH, Line, array_of};
+use crate::text::left_justified;
 use std::alloc::{AllocError, Global};
 use std::marker::Model;
 
@@ -131,16 +132,6 @@ fn widen(columns: &[u8; LINE_WIDTH], count: u8, text: &mut [u8; LINE_TEXT_WIDTH]
     text[LINE_WIDTH] = b'\n';
 }
 
-/// These columns, and then spaces.
-fn padded(columns: &[u8]) -> [u8; LINE_WIDTH]
-    requires { length columns.now ≤ 80 }
-    ensures { take (length columns.now) result ≡ columns.now }
-{
-    let mut padded = [b' '; LINE_WIDTH];
-    padded[..columns.len()].copy_from_slice(columns);
-    padded
-}
-
 /// Lines of `Lines`, from one of them to the last. A clause sees the list of them.
 #[derive(Debug, Drop)]
 pub struct LineSlice<'a> {
@@ -223,7 +214,7 @@ impl<'a> LineSlice<'a> {
         match columns.first_chunk::<LINE_WIDTH>() {
             Some(columns) => widen(columns, count, text),
             // The last lines of all.
-            None => widen(&padded(columns), count, text),
+            None => widen(&left_justified(columns), count, text),
         }
     }
 

@@ -46,7 +46,11 @@ impl Layout for Association {
     ghost table = { association_table };
 
     fn put_rows(&self, line: &mut LineBuilder) {
-        self.put_rows_on(self.first, self.last, line);
+        let dates = Dates {
+            first: self.first,
+            last: self.last,
+        };
+        self.put_rows_on(dates, line);
     }
 
     ghost whole = { λ r. refl };
@@ -159,7 +163,8 @@ impl Association {
             (association_rows key.now first last days Stp.P (Some body.now)) }
     {
         let mut line = LineBuilder::new();
-        Association::put_fields(key, first, last, days, Stp::P, body, &mut line);
+        let dates = Dates { first, last };
+        Association::put_fields(key, dates, days, Stp::P, body, &mut line);
         line.finish()
     }
 
@@ -170,33 +175,25 @@ impl Association {
         ensures again { AllStandIn result (rows_on first last self.now) }
     {
         let mut line = LineBuilder::new();
-        self.put_rows_on(first, last, &mut line);
+        self.put_rows_on(Dates { first, last }, &mut line);
         line.finish()
     }
 
     /// Puts its plain columns on an empty line, with these dates in place of its own.
-    fn put_rows_on(&self, first: Day, last: Day, line: &mut LineBuilder)
+    fn put_rows_on(&self, dates: Dates, line: &mut LineBuilder)
         requires { line.old ≡ [] }
-        ensures columns { line.new ≡ put_all [] (rows_on first last self.now) }
-        ensures fits { AllFit (rows_on first last self.now) }
+        ensures columns { line.new ≡ put_all [] (rows_on dates.first dates.last self.now) }
+        ensures fits { AllFit (rows_on dates.first dates.last self.now) }
     {
         let blank = AssocBody::blank();
-        Association::put_fields(
-            &self.key,
-            first,
-            last,
-            self.days,
-            self.letter,
-            self.body.as_ref().unwrap_or(&blank),
-            line,
-        );
+        let body = self.body.as_ref().unwrap_or(&blank);
+        Association::put_fields(&self.key, dates, self.days, self.letter, body, line);
     }
 
     /// Puts the plain columns of an association with these fields on an empty line.
     fn put_fields(
         key: &AssocKey,
-        first: Day,
-        last: Day,
+        dates: Dates,
         days: DaysRun,
         letter: Stp,
         body: &AssocBody,
@@ -204,15 +201,16 @@ impl Association {
     )
         requires { line.old ≡ [] }
         ensures columns { line.new ≡ put_all []
-            (association_rows key.now first last days letter (Some body.now)) }
-        ensures fits { AllFit (association_rows key.now first last days letter (Some body.now)) }
+            (association_rows key.now dates.first dates.last days letter (Some body.now)) }
+        ensures fits { AllFit
+            (association_rows key.now dates.first dates.last days letter (Some body.now)) }
     {
         line.put_columns(b"AA");
         line.put_columns(b"N");
         key.base.put_on(line);
         key.associated.put_on(line);
-        first.put_on(line);
-        last.put_on(line);
+        dates.first.put_on(line);
+        dates.last.put_on(line);
         days.put_on(line);
         body.category.put_on(line);
         body.date_indicator.put_on(line);

@@ -14,7 +14,7 @@ use std::fmt;
 /// Where the first date begins, at column 49 of the line, in what a header keeps, from column 3 on.
 const FIRST_DATE: usize = 49 - 3;
 
-/// Where the last date begins there, at column 55.
+/// Where the last date begins, at column 55 of the line, in what a header keeps.
 const LAST_DATE: usize = 55 - 3;
 
 /// A record `HD` of a full extract (the CIF End User Specification): where the extract comes from,

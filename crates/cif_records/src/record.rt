@@ -153,46 +153,19 @@ fn read_as(kind: Kind, line: &Line) -> Result<Record, Refusal>
     ensures { IsJudged (refusal_as (Some kind) line.now) (SpellsRecord line.now) result }
 {
     match kind {
-        Kind::Li => match Stop::read(line) {
-            Ok(stop) => Ok(Record::Stop(stop)),
-            Err(why) => Err(why),
-        },
-        Kind::Cr => match Change::read(line) {
-            Ok(change) => Ok(Record::Change(change)),
-            Err(why) => Err(why),
-        },
-        Kind::Lt => match Terminus::read(line) {
-            Ok(terminus) => Ok(Record::Terminus(terminus)),
-            Err(why) => Err(why),
-        },
-        Kind::Lo => match Origin::read(line) {
-            Ok(origin) => Ok(Record::Origin(origin)),
-            Err(why) => Err(why),
-        },
-        Kind::Bx => match Extra::read(line) {
-            Ok(extra) => Ok(Record::Extra(extra)),
-            Err(why) => Err(why),
-        },
-        Kind::Bs => match Basic::read(line) {
-            Ok(basic) => Ok(Record::Basic(basic)),
-            Err(why) => Err(why),
-        },
-        Kind::Aa => match Association::read(line) {
-            Ok(association) => Ok(Record::Association(association)),
-            Err(why) => Err(why),
-        },
-        Kind::Ti => match Tiploc::read(line) {
-            Ok(tiploc) => Ok(Record::Tiploc(tiploc)),
-            Err(why) => Err(why),
-        },
-        Kind::Hd => match Header::read(line) {
-            Ok(header) => Ok(Record::Header(header)),
-            Err(why) => Err(why),
-        },
-        Kind::Zz => match Trailer::read(line) {
-            Ok(_) => Ok(Record::Trailer),
-            Err(why) => Err(why),
-        },
+        Kind::Li => Ok(Record::Stop(Stop::read(line)?)),
+        Kind::Cr => Ok(Record::Change(Change::read(line)?)),
+        Kind::Lt => Ok(Record::Terminus(Terminus::read(line)?)),
+        Kind::Lo => Ok(Record::Origin(Origin::read(line)?)),
+        Kind::Bx => Ok(Record::Extra(Extra::read(line)?)),
+        Kind::Bs => Ok(Record::Basic(Basic::read(line)?)),
+        Kind::Aa => Ok(Record::Association(Association::read(line)?)),
+        Kind::Ti => Ok(Record::Tiploc(Tiploc::read(line)?)),
+        Kind::Hd => Ok(Record::Header(Header::read(line)?)),
+        Kind::Zz => {
+            Trailer::read(line)?;
+            Ok(Record::Trailer)
+        }
         Kind::Ta | Kind::Td => Err(Refusal::NotFull),
     }
 }

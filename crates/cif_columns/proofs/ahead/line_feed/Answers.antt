@@ -1,11 +1,9 @@
--- The first byte that is a line feed has the place (`place_here`, `place_later`).
-use Rattle.std.proofs.Common.{arith}
-use Rattle.cif_columns.proofs.FeedPlaces.{place_here, place_later}
+-- What is found in the first bytes is so of all (`place_found`, `place_missed`).
+use Rattle.cif_columns.proofs.FeedPlaces.{place_found, place_missed}
 use Rattle.cif_columns.proofs.ahead.line_feed.Goals as goal
 
-pub returns-then-bytes-at-eq10-clause-found : goal.returns-then-bytes-at-eq10-clause-found
-returns-then-bytes-at-eq10-clause-found g c =
-    place_here c.args.bytes.now c.loop-at.at (omega arith) c.loop-at.invariant c.if-bytes-at-eq10.true
+pub returns-clause-found : goal.returns-clause-found
+returns-clause-found g c = place_found c.args.bytes.now c.min.result c.memchr.result c.memchr.ensures
 
-pub loop-at-preserved : goal.loop-at-preserved
-loop-at-preserved g c = place_later c.args.bytes.now c.loop-at.at (omega arith) c.loop-at.invariant c.if-bytes-at-eq10.false
+pub returns-clause-none : goal.returns-clause-none
+returns-clause-none g c = place_missed c.args.bytes.now c.min.result g.row.MOST c.memchr.result c.min.ensures c.memchr.ensures

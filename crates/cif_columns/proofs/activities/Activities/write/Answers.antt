@@ -4,14 +4,21 @@ use Rattle.cif_columns.specs.Activities.{AreCodes, packed}
 use Rattle.cif_columns.specs.Text.{left_justified}
 use Rattle.cif_columns.proofs.Codes.{codes_in-codes_columns, stands-codes_columns, elements-packed, printable-packed, length-packed}
 use Rattle.cif_columns.proofs.activities.Activities.write.Goals as goal
+use Rattle.cif_columns.proofs.activities.Activities.write.Goals.{After-as_flattened}
+
+written : (c : After-as_flattened) → c.as_flattened.result.now ≡ packed c.self.inside.codes.items
+written c = c.as_flattened.ensures.value ∙ elements-packed c.as_slice.result.now ∙ ap packed c.as_slice.ensures.value
 
 pub left_justified-requires : goal.left_justified-requires
 left_justified-requires c =
-    let written : c.as_flattened.result.now ≡ packed c.self.inside.codes.items =
-    c.as_flattened.ensures.value ∙ elements-packed c.as_slice.result.now ∙ ap packed c.as_slice.ensures.value in
     let fits : length c.as_flattened.result.now ≤ 12 =
-    rw written (omega (arith, c.self.invariant.few, length-packed _ c.self.invariant.each)) in
-    (omega arith, (fits, rw written (printable-packed _ c.self.invariant.each)))
+    rw (written c) (omega (arith, c.self.invariant.few, length-packed _ c.self.invariant.each)) in
+    (omega arith, fits)
+
+pub returns-clause-printable : goal.returns-clause-printable
+returns-clause-printable c =
+    c.left_justified.ensures.printable (rw (written (goal.at.returns-clause-printable c).After-as_flattened)
+    (printable-packed _ c.self.invariant.each))
 
 pub returns-clause-columns : goal.returns-clause-columns
 returns-clause-columns c =

@@ -23,8 +23,8 @@ widen-requires-clause-printable c =
 pub widen-requires-in-None-clause-printable : goal.widen-requires-in-None-clause-printable
 widen-requires-in-None-clause-printable c =
     let k = kept (goal.at.widen-requires-in-None-clause-printable c).After-first_chunk in
-    columns_printable _ _ k c.requires _ refl c.padded.result
-    (columns_in_padded _ _ k c.requires _ refl c.split_at.result.1.now _ c.split_at.ensures.back c.padded.ensures)
+    columns_printable _ _ k c.requires _ refl c.left_justified.result
+    (columns_in_padded _ _ k c.requires _ refl c.split_at.result.1.now _ c.split_at.ensures.back c.left_justified.ensures.columns)
 
 pub returns-in-Some : goal.returns-in-Some
 returns-in-Some c =
@@ -35,5 +35,5 @@ returns-in-Some c =
 pub returns-in-None : goal.returns-in-None
 returns-in-None c =
     let k = kept (goal.at.returns-in-None c).After-first_chunk in
-    c.widen-in-None.ensures ∙ ap (λ l. l ++ 10 ∷ []) (columns_wide _ _ k c.requires _ refl c.padded.result
-    (columns_in_padded _ _ k c.requires _ refl c.split_at.result.1.now _ c.split_at.ensures.back c.padded.ensures))
+    c.widen-in-None.ensures ∙ ap (λ l. l ++ 10 ∷ []) (columns_wide _ _ k c.requires _ refl c.left_justified.result
+    (columns_in_padded _ _ k c.requires _ refl c.split_at.result.1.now _ c.split_at.ensures.back c.left_justified.ensures.columns))

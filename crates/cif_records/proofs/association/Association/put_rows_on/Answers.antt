@@ -26,13 +26,15 @@ module _ (key : AssocKey) (first last : ℕ) (days : List Bool) (letter : Stp) (
 pub returns-clause-columns : goal.returns-clause-columns
 returns-clause-columns c =
     let r = c.args.self.now in
-    let rows : Bor AssocBody → List Row = λ b. association_rows r.key c.args.first c.args.last r.days r.letter (Some b.now) in
-    let put = subst (λ b. c.put_fields.new.line ≡ put_all [] (rows b)) c.unwrap_or.ensures c.put_fields.ensures.columns in
-    rw (← c.as_ref.ensures.value) (put ∙ written r.key c.args.first c.args.last r.days r.letter _ c.blank-blank.ensures c.as_ref.result)
+    let d = c.args.dates in
+    let rows : Bor AssocBody → List Row = λ b. association_rows r.key d.first d.last r.days r.letter (Some b.now) in
+    let put = subst (λ b. c.put_fields.new.line ≡ put_all [] (rows b)) c.unwrap_or-body.ensures c.put_fields.ensures.columns in
+    rw (← c.as_ref.ensures.value) (put ∙ written r.key d.first d.last r.days r.letter _ c.blank-blank.ensures c.as_ref.result)
 
 pub returns-clause-fits : goal.returns-clause-fits
 returns-clause-fits c =
     let r = c.args.self.now in
-    let put = subst (λ (b : Bor AssocBody). AllFit (association_rows r.key c.args.first c.args.last r.days r.letter (Some b.now)))
-    c.unwrap_or.ensures c.put_fields.ensures.fits in
-    rw (← c.as_ref.ensures.value) (fit r.key c.args.first c.args.last r.days r.letter _ c.blank-blank.ensures c.as_ref.result put)
+    let d = c.args.dates in
+    let put = subst (λ (b : Bor AssocBody). AllFit (association_rows r.key d.first d.last r.days r.letter (Some b.now)))
+    c.unwrap_or-body.ensures c.put_fields.ensures.fits in
+    rw (← c.as_ref.ensures.value) (fit r.key d.first d.last r.days r.letter _ c.blank-blank.ensures c.as_ref.result put)
