@@ -1,5 +1,4 @@
 pub mod AppendedTexts
-pub mod BothRead
 pub mod ByPairs
 pub mod CanonForm
 pub mod CanonLines
@@ -11,7 +10,6 @@ pub mod DifferentDays
 pub mod DifferentTiplocs
 pub mod DistinctTiplocs
 pub mod FoundRecords
-pub mod HandedFaults
 pub mod KeyDifferences
 pub mod KeptExtract
 pub mod KeyRecords

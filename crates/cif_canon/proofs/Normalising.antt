@@ -1,19 +1,23 @@
 -- What an input that is read and narrowed comes to.
-use Rattle.std.proofs.Common.{◌≡◌, ◌≢◌, ◌≤◌, ℕ, List, [], Option, Some, None, Result, Ok, Err, IfErr, refl, sym, ap, ◌∙◌, subst, arith}
+use Rattle.std.proofs.Common.{◌≡◌, ◌≢◌, ◌≤◌, ℕ, false, List, [], Option, Result, Ok, Err, inr, refl, sym, ap, ◌∙◌, subst, arith}
+use Rattle.std.proofs.Common.{⊎_elim}
+use Rattle.std.specs.Prelude.{IfErr, IfOk, MatchResult}
 use Rattle.cif_calendar.proofs.FirstClash.{first_clash-clear}
-use Rattle.cif_columns.specs.Sink.{HasFailed}
+use Rattle.cif_columns.specs.Sink.{HasFailed, HasWritten}
 use Rattle.cif_columns.proofs.GivenLinesLaws.{known_so}
+use Rattle.cif_extract.specs.ReadFault.{is_read, reading_extract}
+use Rattle.cif_extract.specs.declared.extract.Extract.{Extract}
 use Rattle.cif_extract.specs.declared.fault.Clash.TheVariants.{Association, Train}
 use Rattle.cif_extract.specs.declared.fault.Fault.TheVariants as fault
+use Rattle.cif_extract.proofs.ReadCalls.{HandsOn, Makes, Refuses, at-fault, of_any}
 use Rattle.cif_extract.proofs.SpelledBytes.{one_spelled, spelled-refused}
 use Rattle.cif_canon.specs.Accepted.{IsAcceptedWithin, SpellsNarrowed}
-use Rattle.cif_canon.specs.Fault.{IsDeviceOrMemory, IsNormaliseFault, IsReadNarrowedFault}
-use Rattle.cif_canon.specs.Normalised.{FaultWrites, IsNormalised, Normalises}
-use Rattle.cif_extract.proofs.FirstRefusals.{if_error}
+use Rattle.cif_canon.specs.Fault.{IsDeviceOrMemory, IsNormaliseFault, IsReadNarrowedFault, reading_narrowed}
+use Rattle.cif_canon.specs.Normalised.{FaultWrites, HasCanon, IsCanonOfInput, IsNormalised, Normalises, checking, normalising}
+use Rattle.cif_canon.specs.Normalised.{reading_canon}
 use Rattle.cif_canon.proofs.Words.{Asked, AskedDatesAreWithin, BytesSpellWithin, CanonParts, Clash, Counts, ExtractParts, Fault, Form}
 use Rattle.cif_canon.proofs.Words.{IfSome, IsCanonFault, IsCanonOf, IsClearExtract, IsErrAnd, IsFirstClashIn, IsNarrowed, IsNarrowingFault}
-use Rattle.cif_canon.proofs.Words.{IsOfCheck, IsOfNormalise, IsOfReadNarrowed, Sink, Unread, window_asked}
-use Rattle.cif_canon.proofs.HandedFaults.{at-fault, known-fault}
+use Rattle.cif_canon.proofs.Words.{IsOfCheck, Sink, Unread, extract_parts, window_asked}
 use Rattle.cif_canon.proofs.NormalForms.{one-narrowed}
 
 module _ (max : ℕ) (asked : Asked) (bytes : List ℕ) where
@@ -68,7 +72,7 @@ module _ (max : ℕ) (asked : Asked) (bytes : List ℕ) where
   blames-none after x a _ h = tt
 
   -- the canonical form of what is read and narrowed
-  pub is-normalised : (form : Form) (x : ExtractParts) → SpellsNarrowed max asked x bytes → (c : CanonParts) → IsCanonOf form x c →
+  abbrev pub is-normalised : (form : Form) (x : ExtractParts) → SpellsNarrowed max asked x bytes → (c : CanonParts) → IsCanonOf form x c →
       IsNormalised form asked max bytes c.text c.counts
   is-normalised form x s c is = record {
     meant = x;
@@ -80,115 +84,139 @@ module _ (max : ℕ) (asked : Asked) (bytes : List ℕ) where
     counted = is.counted;
   }
 
-  -- ---- the same, as the calls say it
-
-  pub spells-narrowed : (whole x : ExtractParts) → BytesSpellWithin max bytes whole → IsNarrowed asked whole x →
-      SpellsNarrowed max asked x bytes
-  spells-narrowed whole x s n = record { whole = whole; spelled = s; narrowed = n }
-
-  pub blamed : {A : Type 0} (after : Unread) (result : Result A Fault) (f : Fault) → result ≡ Err f →
-      IsNormaliseFault max asked bytes after f → (x : ExtractParts) → IsAcceptedWithin max asked x bytes → IfErr result IsDeviceOrMemory
-  blamed after result f is h x a = if_error IsDeviceOrMemory result f is (blames-none after x a f h)
-
   pub counted-text : (form : Form) (x : ExtractParts) → SpellsNarrowed max asked x bytes → (c : CanonParts) → IsCanonOf form x c →
       (n : Counts) → n ≡ c.counts → (text : List ℕ) × IsNormalised form asked max bytes text n
   counted-text form x s c is n same = (c.text, subst (IsNormalised form asked max bytes c.text) (sym same) (is-normalised form x s c is))
 
-  pub normalises-whole : (form : Form) (x : ExtractParts) → SpellsNarrowed max asked x bytes → (c : CanonParts) → IsCanonOf form x c →
-      (n : Counts) → n ≡ c.counts → Normalises form asked max bytes c.text (Ok n)
-  normalises-whole form x s c is n same = subst (IsNormalised form asked max bytes c.text) (sym same) (is-normalised form x s c is)
+-- what is narrowed has a canonical form, or none
+pub canon-narrowed : (form : Form) (asked : Asked) (whole x : ExtractParts) → IsNarrowed asked whole x →
+    (result : Result CanonParts Fault) → IfOk result (IsCanonOf form x) → IfErr result (IsCanonFault x) → HasCanon form asked whole result
+canon-narrowed form asked whole x narrowed (Ok c) is h = (x, narrowed, is)
+canon-narrowed form asked whole x narrowed (Err f) is h = inr (x, narrowed, h)
 
-  pub normalises-prefix : (form : Form) (x : ExtractParts) → SpellsNarrowed max asked x bytes → (c : CanonParts) → IsCanonOf form x c →
-      (result : Result Counts Fault) (f : Fault) → result ≡ Err f → f ≡ fault.Write → Normalises form asked max bytes c.text result
-  normalises-prefix form x s c is result f failed write =
-      subst (Normalises form asked max bytes c.text) (sym (failed ∙ ap Err write)) (c.counts, is-normalised form x s c is)
+-- ---- what the calls come to
 
--- a prefix of the text went out
-pub fault-writes : {W A : Type 0} (contents : W → Option (List ℕ)) (errors : W → Option ℕ) (text : List ℕ) (old new : Sink W)
-    (result : Result A Fault) (f : Fault) → result ≡ Err f → f ≡ fault.Write → HasFailed contents errors text old new →
-    FaultWrites contents errors text old new result
-fault-writes contents errors text old new result f failed write h =
-    subst (FaultWrites contents errors text old new) (sym (failed ∙ ap Err write)) h
+module _ (max : ℕ) (asked : Asked) where
+  -- reading, and then narrowing
+  pub reads-narrowed : (f : Fault) → HandsOn (reading_extract max) (reading_narrowed max asked) f
+  reads-narrowed fault.OutsideWindow = record { fault = λ bytes after h. absurd h; answers = λ h. tt; same = refl }
+  reads-narrowed fault.WindowReversed = record { fault = λ bytes after h. absurd h; answers = λ h. tt; same = refl }
+  reads-narrowed _ = record { fault = λ bytes after h. h; answers = λ h. h; same = refl }
 
-pub unsaid : (bytes : Option (List ℕ)) → IfSome bytes (λ known. Unit {0})
-unsaid (Some known) = tt
-unsaid None = tt
+  pub narrows : (x y : Extract) → IsNarrowed asked (extract_parts x) (extract_parts y) →
+      Makes (reading_extract max) (reading_narrowed max asked) x y
+  narrows x y narrowed = record {
+    answer = λ bytes spelled. record { whole = extract_parts x; spelled = spelled; narrowed = narrowed };
+    whole = λ whole. tt;
+  }
 
-pub whatever : (start : Option (List ℕ)) (P : List ℕ → ExtractParts → Type 0) →
-    IfSome start (λ bytes. (x : ExtractParts) → P bytes x → Unit {0})
-whatever (Some bytes) P = λ x accepted. tt
-whatever None P = tt
+  pub narrows-not : (x : Extract) (f : Fault) → IsNarrowingFault asked x.header f →
+      Refuses (reading_extract max) (reading_narrowed max asked) x f
+  narrows-not x fault.OutsideWindow h = record {
+    fault = λ bytes after spelled. narrowing-fault max asked bytes after (extract_parts x) spelled fault.OutsideWindow h;
+    answers = tt;
+    other = refl;
+  }
+  narrows-not x fault.WindowReversed h = record {
+    fault = λ bytes after spelled. narrowing-fault max asked bytes after (extract_parts x) spelled fault.WindowReversed h;
+    answers = tt;
+    other = refl;
+  }
+  narrows-not x _ h = absurd h
 
--- a fault before anything is written
+  module _ (form : Form) where
+    -- and then the canonical form
+    pub reads-canon : (f : Fault) → HandsOn (reading_extract max) (reading_canon form asked max) f
+    reads-canon (fault.Refused line why) = record { fault = λ bytes after h. h; answers = λ h. h; same = refl }
+    reads-canon fault.Read = record { fault = λ bytes after h. h; answers = λ h. h; same = refl }
+    reads-canon fault.Memory = record { fault = λ bytes after h. h; answers = λ h. h; same = refl }
+    reads-canon fault.Write = record { fault = λ bytes after h. tt; answers = λ h. absurd h; same = refl }
+    reads-canon _ = record { fault = λ bytes after h. absurd h; answers = λ h. absurd h; same = refl }
+
+    pub canon-blamed : (bytes : List ℕ) (after : Unread) (whole : ExtractParts) → BytesSpellWithin max bytes whole → (f : Fault) →
+        HasCanon form asked whole (Err f) → IsNormaliseFault max asked bytes after f
+    canon-blamed bytes after whole s f = ⊎_elim
+        (λ h. narrowed-fault max asked bytes after f (narrowing-fault max asked bytes after whole s f h))
+        (λ h. canon-fault max asked bytes after h.0 (record { whole = whole; spelled = s; narrowed = h.1 }) f h.2)
+
+    -- whose fault is none of these
+    pub of-canon : (whole : ExtractParts) (P : Fault → Type 0) → ((clash : Clash) → P (fault.Ambiguous clash)) → P fault.OutsideWindow →
+        P fault.WindowReversed → P fault.Memory → (f : Fault) → HasCanon form asked whole (Err f) → P f
+    of-canon whole P ambiguous outside reversed memory (fault.Ambiguous clash) h = ambiguous clash
+    of-canon whole P ambiguous outside reversed memory fault.OutsideWindow h = outside
+    of-canon whole P ambiguous outside reversed memory fault.WindowReversed h = reversed
+    of-canon whole P ambiguous outside reversed memory fault.Memory h = memory
+    of-canon whole P ambiguous outside reversed memory _ h = absurd (⊎_elim (λ no. no) (λ no. no.2) h)
+
+    pub has-canon : (x : Extract) (result : Result CanonParts Fault) → HasCanon form asked (extract_parts x) result → MatchResult result
+        (Makes (reading_extract max) (reading_canon form asked max) x) (Refuses (reading_extract max) (reading_canon form asked max) x)
+    has-canon x (Ok c) h = record {
+      answer = λ bytes spelled. record {
+        meant = h.0;
+        spelled = record { whole = extract_parts x; spelled = spelled; narrowed = h.1 };
+        is_canon = h.2;
+      };
+      whole = λ whole. tt;
+    }
+    has-canon x (Err f) h = record {
+      fault = λ bytes after spelled. canon-blamed bytes after (extract_parts x) spelled f h;
+      answers = of-canon (extract_parts x) (IsOfCheck max) (λ clash. tt) tt tt tt f h;
+      other = of-canon (extract_parts x) (λ f. is_read f ≡ false) (λ clash. refl) refl refl refl f h;
+    }
+
+    -- and then its counts, or its text
+    pub counts-canon : (f : Fault) → HandsOn (reading_canon form asked max) (checking form asked max) f
+    counts-canon f = record { fault = λ bytes after h. h; answers = λ h. h; same = refl }
+
+    pub counts : (c : CanonParts) (n : Counts) → n ≡ c.counts → Makes (reading_canon form asked max) (checking form asked max) c n
+    counts c n same = record {
+      answer = λ bytes h. counted-text max asked bytes form h.meant h.spelled c h.is_canon n same;
+      whole = λ whole. tt;
+    }
+
+    pub writes-canon : (f : Fault) → HandsOn (reading_canon form asked max) (normalising form asked max) f
+    writes-canon fault.Write = record { fault = λ bytes after h. h; answers = λ h. tt; same = refl }
+    writes-canon _ = record { fault = λ bytes after h. h; answers = λ h. h; same = refl }
+
+    pub writes : (c : CanonParts) (n : Counts) → n ≡ c.counts → Makes (reading_canon form asked max) (normalising form asked max) c n
+    writes c n same = let counted = counts c n same in record { answer = counted.answer; whole = counted.whole }
+
+    pub writes-not : (c : CanonParts) (f : Fault) → f ≡ fault.Write →
+        Refuses (reading_canon form asked max) (normalising form asked max) c f
+    writes-not c f is = rw is (record { fault = λ bytes after h. tt; answers = tt; other = refl })
+
+-- ---- what `normalise` writes
+
 module _ {W : Type 0} (contents : W → Option (List ℕ)) (errors : W → Option ℕ) (start : Option (List ℕ)) (form : Form) (asked : Asked)
-    (max : ℕ) (old : Sink W) where
-  abbrev IsSilent : Result Counts Fault → Type 0
-  IsSilent result = (text : List ℕ) × FaultWrites contents errors text old old result
+    (max : ℕ) (old new : Sink W) where
+  abbrev Normal : Result Counts Fault → Type 0
+  Normal result = (text : List ℕ) × FaultWrites contents errors text old new result
       × IfSome start (λ bytes. Normalises form asked max bytes text result)
 
-  silent : (f : Fault) → f ≢ fault.Write → IsSilent (Err f)
-  silent fault.Write other = absurd (other refl)
-  silent _ other = ([], refl, unsaid start)
+  -- nothing, where there is no canonical form
+  silent : (f : Fault) → f ≢ fault.Write → new ≡ old → Normal (Err f)
+  silent fault.Write other same = absurd (other refl)
+  silent _ other same = ([], same, of_any start _ (λ bytes. tt))
 
-  pub fails-silently : (result : Result Counts Fault) (f : Fault) → result ≡ Err f → f ≢ fault.Write → IsSilent result
-  fails-silently result f is other = subst IsSilent (sym is) (silent f other)
+  pub normal-silent : (f : Fault) → f ≢ fault.Write → new ≡ old → (result : Result Counts Fault) → IsErrAnd result (λ e. e ≡ f) →
+      Normal result
+  normal-silent f other same result handed = subst Normal (sym (at-fault result f handed)) (silent f other same)
 
--- ---- the same where the bytes may be unknown, of the fault that `?` hands on
+  module _ (c : CanonParts) (is : IfSome start (λ bytes. IsCanonOfInput form asked max bytes c)) where
+    -- a prefix of its text
+    pub normal-prefix : (f : Fault) → f ≡ fault.Write → HasFailed contents errors c.text old new → (result : Result Counts Fault) →
+        IsErrAnd result (λ e. e ≡ f) → Normal result
+    normal-prefix f write failed result handed = subst Normal (sym (at-fault result f handed ∙ ap Err write)) (
+      c.text,
+      failed,
+      known_so start _ _ (λ bytes h. (c.counts, is-normalised max asked bytes form h.meant h.spelled c h.is_canon)) is,
+    )
 
-module _ (max : ℕ) (asked : Asked) (start : Option (List ℕ)) (after : Unread) {A : Type 0} (result : Result A Fault) (f : Fault)
-    (handed : IsErrAnd result (λ e. e ≡ f)) where
-  pub known-accepted : IfSome start (λ bytes. IsNormaliseFault max asked bytes after f) →
-      IfSome start (λ bytes. (x : ExtractParts) → IsAcceptedWithin max asked x bytes → IfErr result IsDeviceOrMemory)
-  known-accepted h = known_so start _ _ (λ bytes b. blamed max asked bytes after result f (at-fault result f handed) b) h
-
-  pub known-narrowing : (whole : ExtractParts) → IsNarrowingFault asked whole.header f →
-      IfSome start (λ bytes. BytesSpellWithin max bytes whole) →
-      IfSome start (λ bytes. IfErr result (IsReadNarrowedFault max asked bytes after))
-  known-narrowing whole h s =
-      known-fault result f handed start _ _ (λ bytes spelled. narrowing-fault max asked bytes after whole spelled f h) s
-
-  module _ (h : IfSome start (λ bytes. IsReadNarrowedFault max asked bytes after f)) where
-    pub known-read_fault : IfSome start (λ bytes. IfErr result (IsNormaliseFault max asked bytes after))
-    known-read_fault = known-fault result f handed start _ _ (λ bytes. narrowed-fault max asked bytes after f) h
-
-    pub known-read_accepted : IfSome start (λ bytes. (x : ExtractParts) → IsAcceptedWithin max asked x bytes →
-        IfErr result IsDeviceOrMemory)
-    known-read_accepted = known-accepted (known_so start _ _ (λ bytes. narrowed-fault max asked bytes after f) h)
-
-  module _ (x : ExtractParts) (h : IsCanonFault x f) (s : IfSome start (SpellsNarrowed max asked x)) where
-    pub known-canon_fault : IfSome start (λ bytes. IfErr result (IsNormaliseFault max asked bytes after))
-    known-canon_fault = known-fault result f handed start _ _ (λ bytes spelled. canon-fault max asked bytes after x spelled f h) s
-
-    pub known-canon_accepted : IfSome start (λ bytes. (y : ExtractParts) → IsAcceptedWithin max asked y bytes →
-        IfErr result IsDeviceOrMemory)
-    known-canon_accepted = known-accepted (known_so start _ _ (λ bytes spelled. canon-fault max asked bytes after x spelled f h) s)
-
--- ---- a fault of the canonical form says nothing of devices
-
-pub canon-of_check : (max : ℕ) (x : ExtractParts) (f : Fault) → IsCanonFault x f → IsOfCheck max f × IsOfNormalise max f
-canon-of_check max x (fault.Ambiguous clash) h = (tt, tt)
-canon-of_check max x fault.Memory h = (tt, tt)
-canon-of_check max x _ h = absurd h
-
--- ---- nor does a failure to write
-
-module _ (max : ℕ) (asked : Asked) (start : Option (List ℕ)) (after : Unread) {A : Type 0} (result : Result A Fault)
-    (is : result ≡ Err fault.Write) where
-  pub write-fault : IfSome start (λ bytes. IfErr result (IsNormaliseFault max asked bytes after))
-  write-fault =
-      subst (λ (r : Result A Fault). IfSome start (λ bytes. IfErr r (IsNormaliseFault max asked bytes after))) (sym is) (unsaid start)
-
-  pub write-accepted : IfSome start (λ bytes. (x : ExtractParts) → IsAcceptedWithin max asked x bytes → IfErr result IsDeviceOrMemory)
-  write-accepted =
-      subst (λ (r : Result A Fault). IfSome start (λ bytes. (x : ExtractParts) → IsAcceptedWithin max asked x bytes →
-      IfErr r IsDeviceOrMemory)) (sym is) (whatever start (λ bytes x. IsAcceptedWithin max asked x bytes))
-
-  pub write-answers : IfErr result (IsOfNormalise max)
-  write-answers = subst (λ (r : Result A Fault). IfErr r (IsOfNormalise max)) (sym is) tt
-
--- a fault of `read_narrowed` is one of `check` and of `normalise`
-pub narrowed-of_check : (max : ℕ) (f : Fault) → IsOfReadNarrowed max f → IsOfCheck max f × IsOfNormalise max f
-narrowed-of_check max (fault.Ambiguous clash) h = absurd h
-narrowed-of_check max fault.WindowsDiffer h = absurd h
-narrowed-of_check max fault.Write h = absurd h
-narrowed-of_check max _ h = (h, h)
+    -- or all of it
+    pub normal-whole : (n : Counts) → n ≡ c.counts → HasWritten contents errors c.text old new → Normal (Ok n)
+    normal-whole n same written = (
+      c.text,
+      written,
+      known_so start _ _ (λ bytes h. subst (IsNormalised form asked max bytes c.text) (sym same)
+          (is-normalised max asked bytes form h.meant h.spelled c h.is_canon)) is,
+    )

@@ -1,47 +1,50 @@
--- Two inputs that spell extracts, narrowed to what is asked for of both.
-use Rattle.std.proofs.Common.{◌≡◌, ◌≢◌, ℕ, Bool, List, Option, Result, Ok, Err, inl, inr, subst}
-use Rattle.std.specs.Prelude.{IfOk}
+-- Two extracts, narrowed to what is asked for of both, or why they aren't.
+use Rattle.std.proofs.Common.{◌≡◌, ℕ, Bool, List, Option, Result, Ok, Err, inl, inr, subst, sym, ⊎_elim}
 use Rattle.cif_columns.specs.declared.line_reader.TheConstants.{MAX_LINES}
-use Rattle.cif_columns.proofs.GivenLinesLaws.{known_so}
-use Rattle.cif_extract.specs.declared.fault.Fault.TheVariants.{OutsideWindow, Read, WindowReversed}
-use Rattle.cif_records.specs.declared.header.Header.{Header}
+use Rattle.cif_columns.specs.declared.source.Source.{Source}
+use Rattle.cif_extract.specs.ReadCall.{IsResultOfBoth}
+use Rattle.cif_extract.specs.ReadFault.{IsOfReading, reading_extract}
+use Rattle.cif_extract.specs.declared.extract.Extract.{Extract}
+use Rattle.cif_extract.proofs.ReadCalls.{at-fault}
 use Rattle.cif_canon.specs.Fault.{IsOfReadNarrowed}
-use Rattle.cif_canon.specs.Pair.{AreNarrowed, IsPairFault, IsPairRefusal, IsRightRefusal, asked_of_both}
-use Rattle.cif_canon.proofs.Words.{Asked, BytesSpellWithin, ExtractParts, Fault, IfSome, IsNarrowed, IsNarrowingFault, Unread}
+use Rattle.cif_canon.proofs.Normalising.{narrows-not, reads-narrowed}
+use Rattle.cif_canon.specs.Pair.{AreNarrowed, IsNarrowedPair, IsPairRefusal, asked_of_both}
+use Rattle.cif_canon.proofs.Words.{Asked, ExtractParts, Fault, IsErrAnd, IsNarrowed, IsNarrowingFault, extract_parts}
 
--- a left input that spells an extract, and a reader that gives one, aren't read where the two extracts aren't narrowed
-pub spelled-refused : (asked : Asked) (common : Bool) (right : Option (List ℕ)) (bytes : List ℕ) (after right_after : Unread)
-    (Untouched : Type 0) (one other : ExtractParts) → BytesSpellWithin MAX_LINES bytes one →
-    IfSome right (λ b. BytesSpellWithin MAX_LINES b other) → (f : Fault) →
-    IsPairRefusal (asked_of_both common asked one other) one other f → IsPairFault asked common bytes after Untouched right right_after f
-spelled-refused asked common right bytes after right_after Untouched one other s t f h = inr (
-  one,
-  s,
-  known_so right (λ b. BytesSpellWithin MAX_LINES b other) (λ b. IsRightRefusal asked common one b right_after f)
-      (λ b spelled. inr (other, spelled, h)) t,
-)
+module _ (asked : Asked) (common : Bool) (left right : Extract) (wanted : Asked)
+    (is : wanted ≡ asked_of_both common asked (extract_parts left) (extract_parts right)) where
+  pair-refused : (f : Fault) → IsPairRefusal wanted (extract_parts left) (extract_parts right) f →
+      (result : Result (Extract × Extract) Fault) → IsErrAnd result (λ e. e ≡ f) → IsNarrowedPair asked common left right result
+  pair-refused f h result handed =
+      subst (IsNarrowedPair asked common left right) (sym (at-fault result f handed))
+      (subst (λ (w : Asked). IsPairRefusal w (extract_parts left) (extract_parts right) f) is h)
 
--- two whole extracts, narrowed to what is asked for of both, if the second is
-pub are-narrowed : {A E : Type 0} (asked : Asked) (common : Bool) (one other x y : ExtractParts) (wanted : Asked) (result : Result A E) →
-    wanted ≡ asked_of_both common asked one other → IsNarrowed wanted one x → IfOk result (λ _. IsNarrowed wanted other y) →
-    IfOk result (λ _. AreNarrowed asked common one other x y)
-are-narrowed asked common one other x y wanted (Ok done) is m n = record {
-  left = subst (λ (w : Asked). IsNarrowed w one x) is m;
-  right = subst (λ (w : Asked). IsNarrowed w other y) is n;
-}
-are-narrowed asked common one other x y wanted (Err fault) is m n = tt
+  pub left-refused : (f : Fault) → IsNarrowingFault wanted left.header f → (result : Result (Extract × Extract) Fault) →
+      IsErrAnd result (λ e. e ≡ f) → IsNarrowedPair asked common left right result
+  left-refused f h = pair-refused f (inl h)
 
--- a refusal of them isn't one to read
-pub refusal-not_read : (asked : Asked) (one other : ExtractParts) (f : Fault) → IsPairRefusal asked one other f → f ≢ Read
-refusal-not_read asked one other f (inl h) read = subst (IsNarrowingFault asked one.header) read h
-refusal-not_read asked one other f (inr (left, narrowed, h)) read = subst (IsNarrowingFault asked other.header) read h
+  pub right-refused : (x : ExtractParts) → IsNarrowed wanted (extract_parts left) x → (f : Fault) → IsNarrowingFault wanted right.header f →
+      (result : Result (Extract × Extract) Fault) → IsErrAnd result (λ e. e ≡ f) → IsNarrowedPair asked common left right result
+  right-refused x narrowed f h = pair-refused f (inr (x, narrowed, h))
 
-narrowing-answers : (asked : Asked) (header : Header) (f : Fault) → IsNarrowingFault asked header f → IsOfReadNarrowed MAX_LINES f
-narrowing-answers asked header OutsideWindow h = tt
-narrowing-answers asked header WindowReversed h = tt
-narrowing-answers asked header _ h = absurd h
+  pub both-narrowed : (x y : Extract) → IsNarrowed wanted (extract_parts left) (extract_parts x) →
+      IsNarrowed wanted (extract_parts right) (extract_parts y) → IsNarrowedPair asked common left right (Ok (x, y))
+  both-narrowed x y m n = record {
+    left = subst (λ (w : Asked). IsNarrowed w (extract_parts left) (extract_parts x)) is m;
+    right = subst (λ (w : Asked). IsNarrowed w (extract_parts right) (extract_parts y)) is n;
+  }
 
-pub refusal-answers : (asked : Asked) (one other : ExtractParts) (f : Fault) → IsPairRefusal asked one other f →
+-- a fault of reading two extracts is one of reading one, or of narrowing it
+pub pair-may : {R : Type 0} (remaining : R → Option (List ℕ)) (errors : R → Option ℕ) (asked : Asked) (common : Bool)
+    (left left_new right right_new : Source R) (f : Fault) →
+    IsResultOfBoth remaining errors (reading_extract MAX_LINES) (IsNarrowedPair asked common) left left_new right right_new (Err f) →
     IsOfReadNarrowed MAX_LINES f
-refusal-answers asked one other f (inl h) = narrowing-answers asked one.header f h
-refusal-answers asked one other f (inr (left, narrowed, h)) = narrowing-answers asked other.header f h
+pair-may remaining errors asked common left left_new right right_new f = ⊎_elim
+    (λ l. unread l.0 l.1 l.2.answers)
+    (λ l. ⊎_elim (λ r. unread r.0 r.1 r.2.answers) (λ r. ⊎_elim
+    (λ h. (narrows-not MAX_LINES (asked_of_both common asked (extract_parts l.0) (extract_parts r.0)) l.0 f h).answers)
+    (λ h. (narrows-not MAX_LINES (asked_of_both common asked (extract_parts l.0) (extract_parts r.0)) r.0 f h.2).answers) r.2) l.2)
+  where
+    unread : (e : Fault) → ◌≡◌ {A = Result (Extract × Extract) Fault} (Err f) (Err e) → IsOfReading MAX_LINES e →
+        IsOfReadNarrowed MAX_LINES f
+    unread e is h = let same : f ≡ e = cc in subst (IsOfReadNarrowed MAX_LINES) (sym same) ((reads-narrowed MAX_LINES asked e).answers h)

@@ -3,9 +3,11 @@ use Rattle.std.specs.Prelude.{ℕ, ⊤, List}
 use Rattle.std.specs.Ordering.{nat_cmp}
 use Rattle.std.specs.Cmp.Lexicographic.{slice_cmp}
 use Rattle.cif_calendar.specs.Keys.{AreClear, IsFirstClashOf}
-use Rattle.cif_extract.specs.ExtractParts.{ExtractParts}
-use Rattle.cif_extract.specs.ReadFault.{IsOfReading, IsReadFault}
+use Rattle.cif_extract.specs.ExtractParts.{ExtractParts, extract_parts}
+use Rattle.cif_extract.specs.ReadCall.{ReadCall, reading}
+use Rattle.cif_extract.specs.ReadFault.{IsOfReading, IsReadFault, is_read}
 use Rattle.cif_extract.specs.SpellsExtract.{BytesSpellWithin}
+use Rattle.cif_extract.specs.declared.extract.Extract.{Extract}
 use Rattle.cif_extract.specs.declared.fault.Clash.{Clash}
 use Rattle.cif_extract.specs.declared.fault.Clash.TheVariants.{Association, Train}
 use Rattle.cif_extract.specs.declared.fault.Fault.{Fault}
@@ -78,3 +80,9 @@ IsDeviceOrMemory Read = ⊤
 IsDeviceOrMemory Write = ⊤
 IsDeviceOrMemory Memory = ⊤
 IsDeviceOrMemory _ = ⊥
+
+-- what reading an extract for a window that is asked for may come to
+abbrev pub reading_narrowed : ℕ → Asked → ReadCall Extract Fault
+reading_narrowed max asked =
+    reading is_read (λ bytes extract. SpellsNarrowed max asked (extract_parts extract) bytes) (IsReadNarrowedFault max asked)
+    (IsOfReadNarrowed max)

@@ -1,13 +1,17 @@
-//! The laws that canonical bytes are unique, and that differences are listed by pairs.
+//! The laws that accepted inputs have canonical bytes, that these are unique, and that differences are
+//! listed by pairs.
 ghost use Rattle.std.specs.Prelude.{◌≡◌, ℕ, List};
 ghost use Rattle.std.specs.Cmp.Lexicographic.{slice_cmp};
 ghost use Rattle.std.specs.Ordering.{nat_cmp};
+ghost use Rattle.cif_columns.specs.Source.{Unread};
 ghost use Rattle.cif_extract.specs.ExtractParts.{ExtractParts};
+ghost use Rattle.cif_extract.specs.declared.fault.Fault.{Fault};
 ghost use Rattle.cif_records.specs.AssocKey.{key_cmp};
 ghost use Rattle.cif_weeks.specs.declared.form.Form.{Form};
-ghost use Rattle.cif_canon.specs.Accepted.{IsAccepted};
+ghost use Rattle.cif_canon.specs.Accepted.{IsAccepted, IsAcceptedWithin};
 ghost use Rattle.cif_canon.specs.Canonical.{IsCanonicalOf};
 ghost use Rattle.cif_canon.specs.Differences.{AreDifferences, DifferencesParts};
+ghost use Rattle.cif_canon.specs.Fault.{IsDeviceOrMemory, IsNormaliseFault};
 ghost use Rattle.cif_canon.specs.NormalForm.{IsNormalFormAgain, IsReachedFromForms, IsUnique};
 ghost use Rattle.cif_canon.specs.Pairs.{AreByPairs, by_pairs};
 ghost use Rattle.cif_canon.specs.declared.asked.Asked.{Asked};
@@ -26,6 +30,14 @@ pub fn canonical_bytes_are_unique()
     ensures forms { (form : Form) (asked : Asked) (input : List ℕ) (x : ExtractParts)
         (bytes : List ℕ) → IsAccepted asked x input → IsCanonicalOf form x bytes
         → IsReachedFromForms form asked x bytes }
+{}
+
+/// An input that is accepted has its canonical bytes: no fault of `normalise`, `check` or `read_canon`
+/// comes of it, but one of a device, or Memory.
+pub fn accepted_inputs_have_canonical_bytes()
+    ensures { (max : ℕ) (asked : Asked) (input : List ℕ) (after : Unread)
+        (x : ExtractParts) (fault : Fault) → IsAcceptedWithin max asked x input
+        → IsNormaliseFault max asked input after fault → IsDeviceOrMemory fault }
 {}
 
 /// The records in which two extracts differ are listed by pairs: each two that are a pair as one.

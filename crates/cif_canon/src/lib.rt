@@ -25,9 +25,7 @@ pub use canonical_form::{Canon, Counts, write_counts};
 pub use comparison::{Comparison, compare, write_comparison};
 pub use differing::differences;
 pub use listed_differences::{Differences, Side, Sided};
-pub use normal_form::{
-    canon, check, check_keeping, normalise, normalise_keeping, read_narrowed, report,
-};
+pub use normal_form::{canon, check, narrowed_canon, normalise, read_canon, read_narrowed, report};
 pub use pair::read_pair;
 pub use pairs::{DifferenceListing, list_differences};
 pub use rows::{Format, Shape};

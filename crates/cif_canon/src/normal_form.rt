@@ -3,14 +3,12 @@ ghost use Rattle.std.specs.Prelude.{◌≤◌, ◌≡◌, ℕ, List, IfErr, IfOk
 ghost use Rattle.cif_columns.specs.Sink.{Writes};
 ghost use Rattle.cif_columns.specs.Source.{reader_of};
 ghost use Rattle.cif_columns.specs.declared.line_reader.TheConstants.{MAX_LINES};
-ghost use Rattle.cif_extract.specs.ExtractParts.{ExtractParts, extract_parts};
-ghost use Rattle.cif_extract.specs.ReadFault.{FaultOf, FaultReads, LeavesNothing};
-ghost use Rattle.cif_canon.specs.Accepted.{IsAcceptedWithin, SpellsNarrowed};
+ghost use Rattle.cif_extract.specs.ExtractParts.{extract_parts};
+ghost use Rattle.cif_extract.specs.ReadCall.{IsResultOf};
 ghost use Rattle.cif_canon.specs.Canon.{IsCanonOf};
-ghost use Rattle.cif_canon.specs.Fault.{IsDeviceOrMemory, IsNormaliseFault, IsOfCheck};
-ghost use Rattle.cif_canon.specs.Fault.{IsOfNormalise, IsOfReadNarrowed, IsCanonFault};
-ghost use Rattle.cif_canon.specs.Fault.{IsReadNarrowedFault};
-ghost use Rattle.cif_canon.specs.Normalised.{FaultWrites, IsNormalised, Normalises};
+ghost use Rattle.cif_canon.specs.Fault.{IsCanonFault, reading_narrowed};
+ghost use Rattle.cif_canon.specs.Normalised.{FaultWrites, HasCanon, Normalises, reading_canon};
+ghost use Rattle.cif_canon.specs.Normalised.{checking, normalising};
 ghost use Rattle.cif_canon.specs.Report.{fault_line};
 
 use crate::records::extract_runs;
@@ -41,45 +39,11 @@ pub fn normalise<R: ReadDevice, W: WriteDevice>(
         × FaultWrites W.contents W.write_errors text sink.old sink.new result
         × IfSome (R.remaining (reader_of source.old)) (λ bytes.
         Normalises form asked.now max_lines bytes text result) }
-    ensures fault { FaultOf R.remaining (IsNormaliseFault max_lines asked.now)
-        source.old source.new result }
-    ensures accepted { IfSome (R.remaining (reader_of source.old)) (λ bytes. (x : ExtractParts)
-        → IsAcceptedWithin max_lines asked.now x bytes → IfErr result IsDeviceOrMemory) }
-    ensures answers { IfErr result (IsOfNormalise max_lines) }
-    ensures source { FaultReads R.read_errors source.old source.new result }
-    ensures end { LeavesNothing R.remaining source.old source.new result }
+    ensures reads { IsResultOf R.remaining R.read_errors
+        (normalising form asked.now max_lines) source.old source.new result }
 {
     let mut kept = None;
-    normalise_keeping(alloc, source, sink, max_lines, asked, form, &mut kept)
-}
-
-/// Does what `normalise` does, and leaves the extract that it read in `kept`. To free each of its bodies
-/// takes time, which a program that ends right after this can spare.
-pub fn normalise_keeping<R: ReadDevice, W: WriteDevice>(
-    alloc: Global,
-    source: &mut Source<R>,
-    sink: &mut Sink<W>,
-    max_lines: u64,
-    asked: &Asked,
-    form: Form,
-    kept: &mut Option<Extract>,
-) -> Result<Counts, Fault>
-    requires within { max_lines ≤ MAX_LINES }
-    ensures normal { (text : List ℕ)
-        × FaultWrites W.contents W.write_errors text sink.old sink.new result
-        × IfSome (R.remaining (reader_of source.old)) (λ bytes.
-        Normalises form asked.now max_lines bytes text result) }
-    ensures fault { FaultOf R.remaining (IsNormaliseFault max_lines asked.now)
-        source.old source.new result }
-    ensures accepted { IfSome (R.remaining (reader_of source.old)) (λ bytes. (x : ExtractParts)
-        → IsAcceptedWithin max_lines asked.now x bytes → IfErr result IsDeviceOrMemory) }
-    ensures answers { IfErr result (IsOfNormalise max_lines) }
-    ensures source { FaultReads R.read_errors source.old source.new result }
-    ensures end { LeavesNothing R.remaining source.old source.new result }
-{
-    let extract = read_narrowed(alloc, source, max_lines, asked)?;
-    let extract = kept.insert(extract);
-    let canon = canon(alloc, extract, form)?;
+    let canon = read_canon(alloc, source, max_lines, asked, form, &mut kept)?;
     canon.write(sink)?;
     Ok(canon.counts())
 }
@@ -94,46 +58,46 @@ pub fn check<R: ReadDevice>(
     form: Form,
 ) -> Result<Counts, Fault>
     requires within { max_lines ≤ MAX_LINES }
-    ensures ok { IfSome (R.remaining (reader_of source.old)) (λ bytes. IfOk result (λ counts.
-        (text : List ℕ) × IsNormalised form asked.now max_lines bytes text counts)) }
-    ensures fault { FaultOf R.remaining (IsNormaliseFault max_lines asked.now)
+    ensures { IsResultOf R.remaining R.read_errors (checking form asked.now max_lines)
         source.old source.new result }
-    ensures accepted { IfSome (R.remaining (reader_of source.old)) (λ bytes. (x : ExtractParts)
-        → IsAcceptedWithin max_lines asked.now x bytes → IfErr result IsDeviceOrMemory) }
-    ensures answers { IfErr result (IsOfCheck max_lines) }
-    ensures source { FaultReads R.read_errors source.old source.new result }
-    ensures end { LeavesNothing R.remaining source.old source.new result }
 {
     let mut kept = None;
-    check_keeping(alloc, source, max_lines, asked, form, &mut kept)
+    let counts = read_canon(alloc, source, max_lines, asked, form, &mut kept)?.counts();
+    Ok(counts)
 }
 
-/// Does what `check` does, and leaves the extract that it read in `kept`, as `normalise_keeping` does.
-pub fn check_keeping<R: ReadDevice>(
+/// The canonical form of what is read, for the window that is asked for. The extract is left in `kept`: to
+/// free each of its bodies takes time, which a program that ends right after this can spare.
+pub fn read_canon<'a, R: ReadDevice>(
     alloc: Global,
     source: &mut Source<R>,
     max_lines: u64,
     asked: &Asked,
     form: Form,
-    kept: &mut Option<Extract>,
-) -> Result<Counts, Fault>
+    kept: &'a mut Option<Extract>,
+) -> Result<Canon<'a>, Fault>
     requires within { max_lines ≤ MAX_LINES }
-    ensures ok { IfSome (R.remaining (reader_of source.old)) (λ bytes. IfOk result (λ counts.
-        (text : List ℕ) × IsNormalised form asked.now max_lines bytes text counts)) }
-    ensures fault { FaultOf R.remaining (IsNormaliseFault max_lines asked.now)
+    ensures { IsResultOf R.remaining R.read_errors (reading_canon form asked.now max_lines)
         source.old source.new result }
-    ensures accepted { IfSome (R.remaining (reader_of source.old)) (λ bytes. (x : ExtractParts)
-        → IsAcceptedWithin max_lines asked.now x bytes → IfErr result IsDeviceOrMemory) }
-    ensures answers { IfErr result (IsOfCheck max_lines) }
-    ensures source { FaultReads R.read_errors source.old source.new result }
-    ensures end { LeavesNothing R.remaining source.old source.new result }
 {
-    let extract = read_narrowed(alloc, source, max_lines, asked)?;
+    let extract = read_extract(alloc, source, max_lines)?;
+    narrowed_canon(alloc, extract, asked, form, kept)
+}
+
+/// The canonical form of the extract, narrowed to the window that is asked for. A fault is that of
+/// `narrow`, or else that of `canon`. The extract is left in `kept`.
+pub fn narrowed_canon<'a>(
+    alloc: Global,
+    mut extract: Extract,
+    asked: &Asked,
+    form: Form,
+    kept: &'a mut Option<Extract>,
+) -> Result<Canon<'a>, Fault>
+    ensures { HasCanon form asked.now (extract_parts extract) result }
+{
+    narrow(&mut extract, asked)?;
     let extract = kept.insert(extract);
-    match canon(alloc, extract, form) {
-        Ok(canon) => Ok(canon.counts()),
-        Err(fault) => Err(fault),
-    }
+    canon(alloc, extract, form)
 }
 
 /// The extract that the source's lines spell, narrowed to the window that is asked for. A fault is
@@ -145,13 +109,8 @@ pub fn read_narrowed<R: ReadDevice>(
     asked: &Asked,
 ) -> Result<Extract, Fault>
     requires within { max_lines ≤ MAX_LINES }
-    ensures ok { IfSome (R.remaining (reader_of source.old)) (λ bytes. IfOk result (λ extract.
-        SpellsNarrowed max_lines asked.now (extract_parts extract) bytes)) }
-    ensures fault { FaultOf R.remaining (IsReadNarrowedFault max_lines asked.now)
+    ensures { IsResultOf R.remaining R.read_errors (reading_narrowed max_lines asked.now)
         source.old source.new result }
-    ensures answers { IfErr result (IsOfReadNarrowed max_lines) }
-    ensures source { FaultReads R.read_errors source.old source.new result }
-    ensures end { LeavesNothing R.remaining source.old source.new result }
 {
     let mut extract = read_extract(alloc, source, max_lines)?;
     narrow(&mut extract, asked)?;

@@ -1,12 +1,10 @@
 //! Two extracts, in a window that is asked for of both.
-ghost use Rattle.std.specs.Prelude.{◌≡◌, IfErr, IfOk};
-ghost use Rattle.cif_columns.specs.Source.{reader_of};
+ghost use Rattle.std.specs.Prelude.{◌≡◌};
 ghost use Rattle.cif_columns.specs.declared.line_reader.TheConstants.{MAX_LINES};
 ghost use Rattle.cif_extract.specs.ExtractParts.{extract_parts};
-ghost use Rattle.cif_extract.specs.ReadFault.{LeavesNothing};
-ghost use Rattle.cif_canon.specs.Fault.{IsOfReadNarrowed};
-ghost use Rattle.cif_canon.specs.Pair.{AreNarrowed, FaultOfBoth, IsPairFault, IsPairRefusal};
-ghost use Rattle.cif_canon.specs.Pair.{ReadAsPair, ReadsBoth, asked_of_both};
+ghost use Rattle.cif_extract.specs.ReadCall.{IsResultOfBoth};
+ghost use Rattle.cif_extract.specs.ReadFault.{reading_extract};
+ghost use Rattle.cif_canon.specs.Pair.{IsNarrowedPair, asked_of_both};
 
 use crate::{Asked, narrow};
 use cif_columns::{MAX_LINES, ReadDevice, Source};
@@ -27,39 +25,27 @@ pub fn read_pair<R: ReadDevice>(
     asked: &Asked,
     common: bool,
 ) -> Result<(Extract, Extract), Fault>
-    ensures ok { IfOk result (λ pair. ReadAsPair asked.now common
-        (R.remaining (reader_of left.old)) (R.remaining (reader_of right.old))
-        (extract_parts pair.0) (extract_parts pair.1)) }
-    ensures fault { FaultOfBoth R.remaining (IsPairFault asked.now common)
-        left.old left.new right.old right.new result }
-    ensures answers { IfErr result (IsOfReadNarrowed MAX_LINES) }
-    ensures sources { ReadsBoth R.read_errors left.old left.new right.old right.new result }
-    ensures left_end { LeavesNothing R.remaining left.old left.new result }
-    ensures right_end { LeavesNothing R.remaining right.old right.new result }
+    ensures { IsResultOfBoth R.remaining R.read_errors (reading_extract MAX_LINES)
+        (IsNarrowedPair asked.now common) left.old left.new right.old right.new result }
 {
-    let mut left = read_extract(alloc, left, MAX_LINES)?;
-    let mut right = read_extract(alloc, right, MAX_LINES)?;
-    narrow_both(&mut left, &mut right, asked, common)?;
-    Ok((left, right))
+    let left = read_extract(alloc, left, MAX_LINES)?;
+    let right = read_extract(alloc, right, MAX_LINES)?;
+    narrow_both(left, right, asked, common)
 }
 
 /// Narrows two extracts to what is asked for of both.
 fn narrow_both(
-    left: &mut Extract,
-    right: &mut Extract,
+    mut left: Extract,
+    mut right: Extract,
     asked: &Asked,
     common: bool,
-) -> Result<(), Fault>
-    ensures ok { IfOk result (λ _. AreNarrowed asked.now common
-        (extract_parts left.old) (extract_parts right.old)
-        (extract_parts left.new) (extract_parts right.new)) }
-    ensures fault { IfErr result (IsPairRefusal
-        (asked_of_both common asked.now (extract_parts left.old) (extract_parts right.old))
-        (extract_parts left.old) (extract_parts right.old)) }
+) -> Result<(Extract, Extract), Fault>
+    ensures { IsNarrowedPair asked.now common left right result }
 {
-    let asked = asked_of_both(asked, common, left, right);
-    narrow(left, &asked)?;
-    narrow(right, &asked)
+    let asked = asked_of_both(asked, common, &left, &right);
+    narrow(&mut left, &asked)?;
+    narrow(&mut right, &asked)?;
+    Ok((left, right))
 }
 
 /// What is asked for of two extracts.

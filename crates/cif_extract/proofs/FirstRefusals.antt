@@ -27,7 +27,7 @@ use Rattle.cif_columns.proofs.PrintableBytes.{printable_fact, printable_true}
 use Rattle.cif_extract.specs.Fault.{of_line_fault}
 use Rattle.cif_extract.specs.FirstRefusal.{NoneRefused, IsCutBeforeRefusal, IsFirstRefusal, IsRefusedLine, order_refusal, refusal_of}
 use Rattle.cif_extract.specs.OrderOfRecords.{place_behind}
-use Rattle.cif_extract.specs.ReadFault.{FaultReads, IsOfReading, IsReadFault}
+use Rattle.cif_extract.specs.ReadFault.{IsReadFault}
 use Rattle.cif_extract.specs.declared.fault.Fault.{Fault}
 use Rattle.cif_records.specs.Checks.{first_of}
 use Rattle.cif_records.specs.Kind.{kind_in}
@@ -135,18 +135,3 @@ module _ (max : ℕ) where
           numbered = is;
           reason = reason;
         }))
-
--- what a call that hands a fault of the lines on owes its source
-pub fault_handed_on : {R A : Type 0} (errors : R → Option ℕ) (s t u : Source R) (l : LineFault) (result : Result A Fault)
-    → result ≡ Err (of_line_fault l) → HasReadOn errors s t → LineReads {A = Option Line} errors t u (Err l) → FaultReads errors s u result
-fault_handed_on errors s t u (line_fault.Refused number why) result e p h = rw e (read_on_both errors s t u p h)
-fault_handed_on errors s t u line_fault.Read result e p h = rw e (failed_after errors s t u p h)
-
--- what is said of the error is said of the result
-pub if_error : {A E : Type 0} (P : E → Type 0) (r : Result A E) (e : E) → r ≡ Err e → P e → IfErr r P
-if_error P r e is h = rw is h
-
--- a fault of the lines is one of reading
-pub line_fault_of_reading : (max count : ℕ) (l : LineFault) → count ≤ max → IsNextFault count l → IsOfReading max (of_line_fault l)
-line_fault_of_reading max count (line_fault.Refused number why) within h = (omega (arith, h.0), omega (arith, h.0))
-line_fault_of_reading max count line_fault.Read within h = tt

@@ -11,6 +11,7 @@ pub mod KeptLines
 pub mod OneExtract
 pub mod OrderLaws
 pub mod OrderOfLines
+pub mod ReadCalls
 pub mod Places
 pub mod PlainRecords
 pub mod PlainTexts

@@ -3,17 +3,25 @@ use Rattle.std.proofs.Common.{◌≡◌, ◌≤◌, ℕ, ◌<◌, Bool, true, fa
 use Rattle.std.proofs.Common.{refl, sym, ap, ◌∙◌, subst, is_some, cond, IfSome, IfErr, IfOk, inr, ◌+◌, true≢false}
 use Rattle.std.proofs.lemmas.List.Elements.{All-cons, All-nil, All-append}
 use Rattle.std.specs.Prelude.{All}
-use Rattle.cif_columns.specs.GivenLines.{AreAllLines, IsDecided}
+use Rattle.cif_columns.specs.GivenLines.{AreAllLines, AreLinesToFault, IsDecided}
 use Rattle.cif_columns.specs.Line.{IsLine}
-use Rattle.cif_columns.specs.Source.{Unread}
+use Rattle.cif_columns.specs.LineReader.{IsNextFault, LineReads}
+use Rattle.cif_columns.specs.Source.{HasReadOn, reader_of, source_failed, unread_of}
+use Rattle.cif_columns.specs.declared.line.Line.{Line}
+use Rattle.cif_columns.specs.declared.refusal.LineFault.{LineFault}
+use Rattle.cif_columns.specs.declared.refusal.LineFault.TheVariants as line_fault
 use Rattle.cif_columns.specs.declared.refusal.Refusal.{Refusal}
 use Rattle.cif_columns.specs.declared.refusal.Refusal.TheVariants as refusal
+use Rattle.cif_columns.specs.declared.source.Source.{Source}
 use Rattle.cif_columns.proofs.GivenLinesLaws.{known_so}
+use Rattle.cif_columns.proofs.ReadSources.{failed_after, read_on_both}
 use Rattle.cif_extract.specs.ExtractParts.{ExtractParts, extract_parts}
+use Rattle.cif_extract.specs.Fault.{of_line_fault}
 use Rattle.cif_extract.specs.FirstRefusal.{NoneRefused, IsFirstRefusal, refusal_of}
 use Rattle.cif_extract.specs.Grammar.{AreExtract}
 use Rattle.cif_extract.specs.OrderOfRecords.{may_stand}
-use Rattle.cif_extract.specs.ReadFault.{IsLineNumber, IsOfReading, IsReadFault}
+use Rattle.cif_extract.specs.ReadCall.{IsResultOf, IsReadWhole}
+use Rattle.cif_extract.specs.ReadFault.{IsReadFault, reading_extract}
 use Rattle.cif_extract.specs.Steps.Reading.{GoesOnPlainly, HasReadAt, IsTaken, IsWhole, Progress, begun, no_progress}
 use Rattle.cif_extract.specs.Steps.Reading.{fault_at_line, parts_with_header, refusal_here, step}
 use Rattle.cif_extract.specs.SpellsExtract.{BytesSpellWithin, SpellAll, SpellExtract}
@@ -36,8 +44,9 @@ use Rattle.cif_records.specs.declared.record.Kind.{Kind}
 use Rattle.cif_records.specs.declared.record.Kind.TheVariants.{Zz}
 use Rattle.cif_records.specs.declared.record.Record.{Record}
 use Rattle.cif_records.specs.declared.record.Record.TheVariants as of
-use Rattle.cif_extract.proofs.FirstRefusals.{none_refused-more, none_refused-none}
+use Rattle.cif_extract.proofs.FirstRefusals.{at_fault, none_refused-more, none_refused-none}
 use Rattle.cif_extract.proofs.JourneySteps.{has_read_more}
+use Rattle.cif_extract.proofs.ReadCalls.{answers, of_any, refuses}
 use Rattle.cif_extract.proofs.Places.{place_more, place_past, refused_at}
 use Rattle.cif_records.proofs.Records.{kind_of as record_kind, kind_there as spelled_kind}
 
@@ -180,53 +189,66 @@ all_lines_spell max bytes lines all x spelled =
     (λ are_lines within s. record { spell = record { are_lines = are_lines; spelled = s }; within = within })
     all.are_lines all.within spelled
 
--- the end of the input, where a reading is whole
-pub whole_result : (start : Option (List ℕ)) (max : ℕ) (lines : List (List ℕ)) (result : Result Extract Fault) →
-    IfSome start (λ bytes. AreAllLines max bytes lines) → IfOk result (λ extract. SpellExtract lines (extract_parts extract)) →
-    IfSome start (λ bytes. IfOk result (λ extract. BytesSpellWithin max bytes (extract_parts extract)))
-whole_result start max lines (Ok extract) all spelled =
-    known_so start _ _ (λ bytes a. all_lines_spell max bytes lines a (extract_parts extract) spelled) all
-whole_result start max lines (Err f) all spelled = known_so start _ _ (λ bytes a. tt) all
-
--- and where it isn't
-pub unfinished_result : (start : Option (List ℕ)) (after : Unread) (max : ℕ) (lines : List (List ℕ)) (number : ℕ)
-    (result : Result Extract Fault) → after.ended ≡ true → IfSome start (λ bytes. AreAllLines max bytes lines) → NoneRefused max lines →
-    number ≡ length lines → IfErr result (λ f. f ≡ fault.Refused (number + 1) refusal.Truncated) →
-    IfErr result (λ _. All IsNoTrailer lines) → IfSome start (λ bytes. IfErr result (IsReadFault max bytes after))
-unfinished_result start after max lines number (Ok extract) told all fine is truncated unfinished = known_so start _ _ (λ bytes a. tt) all
-unfinished_result start after max lines number (Err f) told all fine is truncated unfinished =
-    rw truncated (known_so start _ _ (λ bytes a. (
-      inr (record {
-        fine = rw a.contents fine;
-        no_trailer = rw a.contents unfinished;
-        numbered = ap (λ n. n + 1) is ∙ ap (λ c. length c + 1) (sym a.contents);
-        reason = refl;
-      }),
-      λ not. absurd (true≢false (sym told ∙ not)),
-    )) all)
-
--- why a line is not taken, as the result at that line
-pub untaken_result : (start : Option (List ℕ)) (after : Unread) (max number : ℕ) (s : TakeFault) →
-    ((why : Refusal) → s ≡ untaken.Refused why → IfSome start
-    (λ bytes. IsFirstRefusal max bytes number why × IsDecided max bytes after number)) →
-    IfSome start (λ bytes. IsReadFault max bytes after (fault_at_line number s))
-untaken_result start after max number (untaken.Refused why) h = h why refl
-untaken_result None after max number untaken.Memory h = tt
-untaken_result (Some bytes) after max number untaken.Memory h = tt
-
 -- the reason for which a line that isn't taken is refused
 pub refused_reason : (refusal : Option Refusal) (line : List ℕ) (before after : Progress) (s : TakeFault) (why : Refusal) →
     IsTaken refusal line before (Err s) after → s ≡ untaken.Refused why → refusal ≡ Some why
 refused_reason refusal line before after (untaken.Refused x) why taken e = taken ∙ (let same : x ≡ why = cc in ap Some same)
 refused_reason refusal line before after untaken.Memory why taken e = cc
 
--- why a line is not taken is a fault of reading
-pub untaken_of_reading : (max number : ℕ) (s : TakeFault) → 1 ≤ number → number ≤ max → IsOfReading max (fault_at_line number s)
-untaken_of_reading max number (untaken.Refused why) first h = (first, omega arith)
-untaken_of_reading max number untaken.Memory first h = tt
+-- ---- what a reading comes to
 
--- and so is the want of a trailer
-pub unfinished_of_reading : (max number : ℕ) (result : Result Extract Fault) → number ≤ max →
-    IfErr result (λ f. f ≡ fault.Refused (number + 1) refusal.Truncated) → IfErr result (IsOfReading max)
-unfinished_of_reading max number (Ok extract) within h = tt
-unfinished_of_reading max number (Err f) within h = let bound : IsLineNumber max (number + 1) = (omega arith, omega arith) in rw h bound
+module _ {R : Type 0} (remaining : R → Option (List ℕ)) (errors : R → Option ℕ) (max : ℕ) (old new : Source R) where
+  abbrev Comes : Result Extract Fault → Type 0
+  Comes = IsResultOf remaining errors (reading_extract max) old new
+
+  -- memory runs out
+  pub comes-memory : HasReadOn errors old new → Comes (Err fault.Memory)
+  comes-memory = refuses remaining errors old new (reading_extract max) fault.Memory (of_any _ _ (λ bytes. tt)) tt
+
+  -- a line isn't taken
+  pub comes-untaken : (number : ℕ) (s : TakeFault) → 1 ≤ number → number ≤ max → HasReadOn errors old new →
+      ((why : Refusal) → s ≡ untaken.Refused why → IfSome (remaining (reader_of old))
+      (λ bytes. IsFirstRefusal max bytes number why × IsDecided max bytes (unread_of remaining new) number)) →
+      Comes (Err (fault_at_line number s))
+  comes-untaken number (untaken.Refused why) first within read_on h =
+      refuses remaining errors old new (reading_extract max) (fault.Refused number why) (h why refl) (first, omega arith) read_on
+  comes-untaken number untaken.Memory first within read_on h = comes-memory read_on
+
+  module _ (ls : List (List ℕ)) (fine : NoneRefused max ls) where
+    -- the next line can't be read
+    pub comes-line_fault : (between : Source R) → HasReadOn errors old between → (count : ℕ) → count ≤ max → (l : LineFault) →
+        IfSome (remaining (reader_of old)) (λ bytes. AreLinesToFault max bytes (unread_of remaining new) ls l) → IsNextFault count l →
+        LineReads {A = Option Line} errors between new (Err l) → Comes (Err (of_line_fault l))
+    comes-line_fault between read_on count within (line_fault.Refused number why) given next reads =
+        let l = line_fault.Refused number why in
+        let is = next.0 in
+        refuses remaining errors old new (reading_extract max) (of_line_fault l)
+        (at_fault max (remaining (reader_of old)) ls fine (unread_of remaining new) l given)
+        (omega (arith, is), omega (arith, is)) (read_on_both errors old between new read_on reads)
+    comes-line_fault between read_on count within line_fault.Read given next reads =
+        refuses remaining errors old new (reading_extract max) fault.Read
+        (at_fault max (remaining (reader_of old)) ls fine (unread_of remaining new) line_fault.Read given) tt
+        (failed_after errors old between new read_on reads)
+
+    -- there is none
+    pub comes-end : IfSome (remaining (reader_of old)) (λ bytes. AreAllLines max bytes ls) → IsReadWhole remaining old new →
+        source_failed old ≡ false → HasReadOn errors old new → (number : ℕ) → number ≡ length ls → number ≤ max →
+        (result : Result Extract Fault) → IfOk result (λ extract. SpellExtract ls (extract_parts extract)) →
+        IfErr result (λ f. f ≡ fault.Refused (number + 1) refusal.Truncated) → IfErr result (λ _. All IsNoTrailer ls) → Comes result
+    comes-end all read fresh read_on number is within (Ok extract) spelled truncated unfinished =
+        answers remaining errors old new (reading_extract max) extract
+        (known_so _ _ _ (λ bytes a. all_lines_spell max bytes ls a (extract_parts extract) spelled) all) fresh read_on read
+    comes-end all read fresh read_on number is within (Err f) spelled truncated unfinished =
+        rw truncated
+        (refuses remaining errors old new (reading_extract max) (fault.Refused (number + 1) refusal.Truncated)
+        (known_so (remaining (reader_of old)) (λ bytes. AreAllLines max bytes ls)
+        (λ bytes. IsReadFault max bytes (unread_of remaining new) (fault.Refused (number + 1) refusal.Truncated)) (λ bytes a. (
+          inr (record {
+            fine = rw a.contents fine;
+            no_trailer = rw a.contents unfinished;
+            numbered = ap (λ n. n + 1) is ∙ ap (λ c. length c + 1) (sym a.contents);
+            reason = refl;
+          }),
+          λ not. absurd (true≢false (sym read.0 ∙ not)),
+        )) all)
+        (omega arith, omega arith) read_on)

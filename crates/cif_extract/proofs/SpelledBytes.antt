@@ -55,18 +55,3 @@ module _ (max : ℕ) (bytes : List ℕ) (x : ExtractParts) (spells : BytesSpellW
   read_as after (Err fault.Read) ok err = tt
   read_as after (Err fault.Memory) ok err = tt
   read_as after (Err _) ok err = absurd err
-
--- the same of bytes that may be known
-pub only_read : (start : Option (List ℕ)) (max : ℕ) (after : Unread) (result : Result Extract Fault) →
-    IfSome start (λ bytes. IfOk result (λ extract. BytesSpellWithin max bytes (extract_parts extract))) →
-    IfSome start (λ bytes. IfErr result (IsReadFault max bytes after)) →
-    IfSome start (λ bytes. (x : ExtractParts) → BytesSpellWithin max bytes x → IsReadAs x result)
-only_read None max after result ok err = tt
-only_read (Some bytes) max after result ok err = λ x spells. read_as max bytes x spells after result ok err
-
-pub only_fault : (start : Option (List ℕ)) (max : ℕ) (after : Unread) (result : Result Extract Fault) (f : Fault) →
-    result ≡ Err f →
-    IfSome start (λ bytes. IfErr result (IsReadFault max bytes after)) →
-    IfSome start (λ bytes. (x : ExtractParts) → BytesSpellWithin max bytes x → IsReadAs x result)
-only_fault None max after result f is err = tt
-only_fault (Some bytes) max after result f is err = λ x spells. read_as max bytes x spells after result (rw is tt) err

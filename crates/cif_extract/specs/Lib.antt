@@ -8,6 +8,7 @@ pub mod FirstRefusal
 pub mod Grammar
 pub mod Laws
 pub mod OrderOfRecords
+pub mod ReadCall
 pub mod ReadFault
 pub mod SpellsExtract
 pub mod Steps

@@ -1,14 +1,14 @@
 -- Why bytes are no extract, or can't be read.
-use Rattle.std.specs.Prelude.{◌≡◌, ◌≤◌, ◌+◌, ⊤, ℕ, true, List, [], Option, Some, IfErr, IfSome, IsSomeAnd}
-use Rattle.std.specs.Prelude.{Result, Ok, Err}
+use Rattle.std.specs.Prelude.{◌≡◌, ◌≤◌, ◌+◌, ℕ, Bool, true, false, List, IsSomeAnd, Result, Ok, Err}
 use Rattle.cif_columns.specs.GivenLines.{IsDecided}
-use Rattle.cif_columns.specs.Source.{HasFailedToRead, HasReadOn, Unread, reader_of, source_ended, unread_of}
-use Rattle.cif_columns.specs.declared.source.Source.{Source}
+use Rattle.cif_columns.specs.Source.{Unread}
 use Rattle.cif_extract.specs.ExtractParts.{ExtractParts, extract_parts}
-use Rattle.cif_extract.specs.FirstRefusal.{IsFirstRefusal, IsCutBeforeRefusal}
+use Rattle.cif_extract.specs.FirstRefusal.{IsCutBeforeRefusal, IsFirstRefusal}
+use Rattle.cif_extract.specs.ReadCall.{ReadCall, reading}
+use Rattle.cif_extract.specs.SpellsExtract.{BytesSpellWithin}
 use Rattle.cif_extract.specs.declared.extract.Extract.{Extract}
 use Rattle.cif_extract.specs.declared.fault.Fault.{Fault}
-use Rattle.cif_extract.specs.declared.fault.Fault.TheVariants.{Refused, Read, Memory}
+use Rattle.cif_extract.specs.declared.fault.Fault.TheVariants.{Memory, Read, Refused}
 
 -- Why these bytes are no extract, or can't be read, where `after` is left then: their first refusal, of a line that is decided, or a
 -- failure of the source before one was. No contract foretells that memory runs out.
@@ -29,27 +29,19 @@ IsOfReading max Read = Unit {0}
 IsOfReading max Memory = Unit {0}
 IsOfReading max _ = ⊥
 
+-- whether the fault says that the source failed
+abbrev pub is_read : Fault → Bool
+is_read Read = true
+is_read _ = false
+
+-- what reading an extract of at most max lines may come to
+abbrev pub reading_extract : ℕ → ReadCall Extract Fault
+reading_extract max =
+    reading is_read (λ bytes extract. BytesSpellWithin max bytes (extract_parts extract)) (IsReadFault max) (IsOfReading max)
+
 -- what is answered where the bytes spell an extract of these parts: it, unless the source fails or memory runs out
 abbrev pub IsReadAs : ExtractParts → Result Extract Fault → Type 0
 IsReadAs x (Ok extract) = extract_parts extract ≡ x
 IsReadAs x (Err Read) = Unit {0}
 IsReadAs x (Err Memory) = Unit {0}
 IsReadAs x (Err _) = ⊥
-
--- what a call that may answer a fault owes its source: it fails to read exactly where it answers Read
-abbrev pub FaultReads : {R A : Type 0} → (R → Option ℕ) → Source R → Source R → Result A Fault → Type 0
-FaultReads errors old new (Ok done) = HasReadOn errors old new
-FaultReads errors old new (Err Read) = HasFailedToRead errors old new
-FaultReads errors old new (Err fault) = HasReadOn errors old new
-
--- where the bytes that a reader gives are known, a fault is one of these for them and for what is left then
-abbrev pub FaultOf : {R A F : Type 0} → (R → Option (List ℕ)) → (List ℕ → Unread → F → Type 0) → Source R → Source R →
-    Result A F → Type 0
-FaultOf remaining IsFault old new result =
-    IfSome (remaining (reader_of old)) (λ bytes. IfErr result (IsFault bytes (unread_of remaining new)))
-
--- where a call answers, the source told its end, and nothing is left of what the reader had
-abbrev pub LeavesNothing : {R A E : Type 0} → (R → Option (List ℕ)) → Source R → Source R → Result A E → Type 0
-LeavesNothing remaining old new (Ok done) =
-    (source_ended new ≡ true) × IfSome (remaining (reader_of old)) (λ bytes. remaining (reader_of new) ≡ Some [])
-LeavesNothing remaining old new (Err fault) = ⊤

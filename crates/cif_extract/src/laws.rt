@@ -1,14 +1,18 @@
 //! Laws for proofs: which extract bytes spell, and what the text of an extract spells.
-ghost use Rattle.std.specs.Prelude.{◌≡◌, ◌≤◌, ℕ, All, List, [], ◌∷◌, length};
+ghost use Rattle.std.specs.Prelude.{◌≡◌, ◌≤◌, ℕ, All, List, [], ◌∷◌, length, IfErr, IfOk, Result};
 ghost use Rattle.cif_columns.specs.Contents.{contents_of};
 ghost use Rattle.cif_columns.specs.Line.{IsLine};
+ghost use Rattle.cif_columns.specs.Source.{Unread};
 ghost use Rattle.cif_extract.specs.ExtractParts.{ExtractParts};
 ghost use Rattle.cif_extract.specs.FirstRefusal.{NoneRefused};
 ghost use Rattle.cif_extract.specs.Grammar.{BeginExtract};
 ghost use Rattle.cif_extract.specs.OrderOfRecords.{AreInOrder};
+ghost use Rattle.cif_extract.specs.ReadFault.{IsReadAs, reading_extract};
 ghost use Rattle.cif_extract.specs.SpellsExtract.{BytesSpell, BytesSpellWithin};
 ghost use Rattle.cif_extract.specs.SpellsExtract.{SpellAll, SpellExtract};
 ghost use Rattle.cif_extract.specs.Texts.{FitsColumns, extract_lines, extract_text};
+ghost use Rattle.cif_extract.specs.declared.extract.Extract.{Extract};
+ghost use Rattle.cif_extract.specs.declared.fault.Fault.{Fault};
 ghost use Rattle.cif_records.specs.declared.record.Record.{Record};
 
 /// Lines, and bytes, spell one extract at most.
@@ -20,6 +24,15 @@ pub fn bytes_spell_one_extract()
     // The limit only counts the lines: what is spelled within one is spelled within a greater one.
     ensures greater { (max greater : ℕ) (bytes : List ℕ) (x : ExtractParts)
         → BytesSpellWithin max bytes x → max ≤ greater → BytesSpellWithin greater bytes x }
+{}
+
+/// What bytes spell is what is read of them, where it is a result of
+/// `read_extract`, unless the source fails or memory runs out.
+pub fn what_bytes_spell_is_read()
+    ensures { (max : ℕ) (bytes : List ℕ) (after : Unread) (x : ExtractParts)
+        (result : Result Extract Fault) → BytesSpellWithin max bytes x
+        → IfOk result ((reading_extract max).IsAnswer bytes)
+        → IfErr result ((reading_extract max).IsFault bytes after) → IsReadAs x result }
 {}
 
 /// The text of an extract spells it, in so many lines as the extract has plain lines, where what it

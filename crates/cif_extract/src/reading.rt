@@ -2,12 +2,10 @@
 ghost use Rattle.std.specs.Prelude.{◌≡◌, ◌≤◌, ◌+◌, ◌^◌, ◌<◌, ◌++◌, ◌∷◌, [], ℕ, List, Some, Ok, true, false};
 ghost use Rattle.std.specs.Prelude.{All, IfOk, IfErr, IfNone, IfSome, IsTrue};
 ghost use Rattle.cif_columns.specs.Line.{ArePrintable, IsLine};
-ghost use Rattle.cif_columns.specs.Source.{reader_of, source_failed};
 ghost use Rattle.cif_columns.specs.declared.line_reader.TheConstants.{MAX_LINES};
-ghost use Rattle.cif_extract.specs.ExtractParts.{ExtractParts, extract_parts};
-ghost use Rattle.cif_extract.specs.ReadFault.{FaultOf, FaultReads, IsOfReading, IsReadAs, IsReadFault};
-ghost use Rattle.cif_extract.specs.ReadFault.{LeavesNothing};
-ghost use Rattle.cif_extract.specs.SpellsExtract.{BytesSpellWithin};
+ghost use Rattle.cif_extract.specs.ExtractParts.{extract_parts};
+ghost use Rattle.cif_extract.specs.ReadCall.{IsResultOf};
+ghost use Rattle.cif_extract.specs.ReadFault.{reading_extract};
 ghost use Rattle.cif_records.specs.Association.{association_refusal};
 ghost use Rattle.cif_records.specs.Basic.{basic_refusal};
 ghost use Rattle.cif_records.specs.Bodies.{has_body};
@@ -37,15 +35,8 @@ pub fn read_extract<R: ReadDevice>(
     max_lines: u64,
 ) -> Result<Extract, Fault>
     requires within { max_lines ≤ MAX_LINES }
-    ensures ok { IfSome (R.remaining (reader_of source.old)) (λ bytes. IfOk result (λ extract.
-        BytesSpellWithin max_lines bytes (extract_parts extract))) }
-    ensures only { IfSome (R.remaining (reader_of source.old)) (λ bytes. (x : ExtractParts)
-        → BytesSpellWithin max_lines bytes x → IsReadAs x result) }
-    ensures fault { FaultOf R.remaining (IsReadFault max_lines) source.old source.new result }
-    ensures answers { IfErr result (IsOfReading max_lines) }
-    ensures end { LeavesNothing R.remaining source.old source.new result }
-    ensures endless { IfOk result (λ _. source_failed source.old ≡ false) }
-    ensures device { FaultReads R.read_errors source.old source.new result }
+    ensures { IsResultOf R.remaining R.read_errors (reading_extract max_lines)
+        source.old source.new result }
 {
     let mut lines = LineReader::new(max_lines);
     let mut reading = Reading::new(alloc);

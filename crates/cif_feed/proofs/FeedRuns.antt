@@ -17,8 +17,9 @@ use Rattle.cif_columns.specs.FirstLine.{first_content, is_printable}
 use Rattle.cif_columns.specs.GivenLines.{AreAllContents, AreContentsToFailure, AreContentsToFault, AreContentsToRefusal}
 use Rattle.cif_columns.specs.GivenLines.{AreWholeContentsAndRest, IsContentDecidedOrLast}
 use Rattle.cif_columns.specs.Line.{IsLine}
-use Rattle.cif_columns.specs.LineReader.{HasPassedComment, IsNext, IsNoComment, left}
-use Rattle.cif_columns.specs.Source.{HasReadOn, Unread, reader_of, source_ended}
+use Rattle.cif_columns.specs.LineReader.{HasPassedComment, IsNext, IsNextFault, IsNoComment, LineReads, left}
+use Rattle.cif_columns.specs.Source.{HasReadOn, Unread, reader_of, source_failed, unread_of}
+use Rattle.cif_columns.specs.declared.line.Line.{Line}
 use Rattle.cif_columns.specs.declared.line_reader.LineReader.{LineReader}
 use Rattle.cif_columns.specs.declared.refusal.LineFault.{LineFault}
 use Rattle.cif_columns.specs.declared.refusal.LineFault.TheVariants as line_fault
@@ -28,21 +29,25 @@ use Rattle.cif_columns.specs.declared.source.Source.{Source}
 use Rattle.cif_columns.proofs.DecidedLines.{contents_first}
 use Rattle.cif_columns.proofs.GivenLinesLaws.{IsReadingContents, KnownContents, contents_given, known_so, reading_content}
 use Rattle.cif_columns.proofs.PrintableBytes.{printable_fact, printable_true}
+use Rattle.cif_columns.proofs.ReadSources.{failed_after, read_on_both}
 use Rattle.cif_extract.specs.Fault.{of_line_fault}
-use Rattle.cif_extract.specs.ReadFault.{IsLineNumber, LeavesNothing}
+use Rattle.cif_extract.specs.ReadCall.{IsOwed, IsReadWhole, IsResultOf}
+use Rattle.cif_extract.specs.ReadFault.{IsLineNumber}
 use Rattle.cif_extract.specs.Taken.{IsNoTrailer}
 use Rattle.cif_extract.specs.declared.fault.Fault.TheVariants as fault
 use Rattle.cif_extract.specs.declared.reading.TakeFault.{TakeFault}
 use Rattle.cif_extract.specs.declared.reading.TakeFault.TheVariants as untaken
 use Rattle.cif_extract.proofs.FirstRefusals.{not_true, or_none}
+use Rattle.cif_extract.proofs.ReadCalls.{answers, of_any, refuses}
 use Rattle.cif_records.specs.Checks.{first_of, unless}
 use Rattle.cif_records.specs.Kind.{kind_in}
 use Rattle.cif_records.specs.declared.record.Kind.{Kind}
 use Rattle.cif_records.specs.declared.record.Kind.TheVariants.{Hd, Zz}
-use Rattle.cif_feed.specs.FeedFault.{FeedReads, IsFeedFault, IsOfFeed}
+use Rattle.cif_feed.specs.FeedFault.{IsFeedFault, IsOfFeed}
 use Rattle.cif_feed.specs.ProfileLine.{as_it_stands, is_note, notes_may_stand, profile_line, profile_line_by, is_record_line, profile_lines}
 use Rattle.cif_feed.specs.FeedRefusal.{IsFeedContent, IsFeedCut, IsFirstOfFeed, NoneOfFeedRefused, fault_for, feed_refusal, line_refusal}
 use Rattle.cif_feed.specs.FeedRefusal.{not_full, untaken_fault}
+use Rattle.cif_feed.specs.FeedFault.{is_feed_read, reading_feed}
 use Rattle.cif_feed.specs.SpellsFeed.{BytesSpellFeed, SpellFeed, feed_parts}
 use Rattle.cif_feed.specs.Steps.FeedReading.{IsFeedHeld, IsFeedTaken}
 use Rattle.cif_feed.specs.declared.feed.Feed.{Feed}
@@ -53,11 +58,6 @@ use Rattle.cif_feed.specs.declared.holiday_code.HolidayCodes.{HolidayCodes}
 use Rattle.cif_feed.specs.declared.feed_reading.FeedReading.{FeedReading}
 use Rattle.cif_feed.specs.declared.feed_reading.FeedExtract.{FeedExtract}
 use Rattle.cif_feed.proofs.FeedSteps.{comment_kind, named_line}
-
--- a fact of any bytes
-pub known_any : (start : Option (List ℕ)) (P : List ℕ → Type 0) → ((bytes : List ℕ) → P bytes) → IfSome start P
-known_any None P so = tt
-known_any (Some bytes) P so = so bytes
 
 -- ---- why a content is refused
 
@@ -222,29 +222,6 @@ module _ (feed : Feed) (allowed : HolidayCodes) (max : ℕ) where
           is = ap (λ n. fault_for feed n (kind_in c) why) is;
         })
 
-    -- where all contents were taken, and the trailer came
-    pub feed_whole : (result : Result FeedExtract FeedFault) → IfSome start (λ bytes. AreAllContents IsFeedContent max bytes cs)
-        → IfOk result (IsFeedHeld feed allowed cs)
-        → IfSome start (λ bytes. IfOk result (λ x. BytesSpellFeed feed allowed max bytes (feed_parts x)))
-    feed_whole (Err f) all held = known_so start _ _ (λ bytes a. tt) all
-    feed_whole (Ok x) all held = known_so start _ _ (λ bytes a. let both = at (contents_of bytes) a.contents a.are_lines a.within in
-        record { spell = both.0; within = both.1 }) all
-      where
-        at : (contents : List (List ℕ)) → contents ≡ cs → All IsFeedContent cs → length cs ≤ max
-            → (s : SpellFeed feed allowed contents (feed_parts x)) × (length contents ≤ max)
-        at contents is are within = (
-          rw is (record {
-            are_contents = are;
-            notes_stand = λ k below note. note_stands (take k cs) (slice_index_or cs k []) (fine.fine k below) note;
-            extract = held.extract;
-            tiploc_marks = held.tiploc_marks;
-            association_marks = held.association_marks;
-            schedule_marks = held.schedule_marks;
-            passed = held.passed;
-          }),
-          rw is within,
-        )
-
     -- at a fault of the lines
     module _ {R : Type 0} (remaining : R → Option (List ℕ)) (reader : LineReader) (source : Source R)
         (so_far : IsReadingContents IsFeedContent remaining start max reader source cs) (after : Unread) where
@@ -296,61 +273,104 @@ module _ (feed : Feed) (allowed : HolidayCodes) (max : ℕ) where
           at bytes None r = absurd r
           at bytes (Some others) r = record { contents = cs; given = r; fine = fine }
 
-    -- where the trailer is missing
-    pub feed_truncated : (after : Unread) (number : ℕ) (result : Result FeedExtract FeedFault) → after.ended ≡ true
-        → IfSome start (λ bytes. AreAllContents IsFeedContent max bytes cs) → number ≡ length cs
-        → IfErr result (λ f. f ≡ Extract (fault.Refused (number + 1) refusal.Truncated))
-        → IfErr result (λ f. All IsNoTrailer (profile_lines feed allowed cs))
-        → IfSome start (λ bytes. IfErr result (IsFeedFault feed allowed max bytes after))
-    feed_truncated after number (Ok x) told all is err none = known_so start _ _ (λ bytes a. tt) all
-    feed_truncated after number (Err f) told all is err none =
-        rw err (known_so start _ _ (λ bytes a. (
-          inr (record {
-            fine = rw a.contents fine;
-            no_trailer = rw a.contents (no_trailers cs none);
-            is = ap (λ n. Extract (fault.Refused (n + 1) refusal.Truncated)) (is ∙ ap length (sym a.contents));
-          }),
-          λ not. absurd (true≢false (sym told ∙ not)),
-        )) all)
-
-    -- a line that isn't taken
-    pub feed_untaken : (after : Unread) (number : ℕ) (kind : Option Kind) (s : TakeFault)
-        → ((why : Refusal) → s ≡ untaken.Refused why → IfSome start (λ bytes.
-        IsFirstOfFeed feed allowed max (contents_of bytes) (fault_for feed number kind why)
-        × IsContentDecidedOrLast IsFeedContent max bytes after number))
-        → IfSome start (λ bytes. IsFeedFault feed allowed max bytes after (untaken_fault feed number kind s))
-    feed_untaken after number kind (untaken.Refused why) why_so =
-        known_so start _ _ (λ bytes. named_fault (λ f. IsFirstOfFeed feed allowed max (contents_of bytes) f
-        × IsContentDecidedOrLast IsFeedContent max bytes after number → IsFeedFault feed allowed max bytes after f)
-        number kind why (λ w both. both) (λ both. both) (λ both. both)) (why_so why refl)
-    feed_untaken after number kind untaken.Memory why_so = known_any start _ (λ bytes. tt)
-
-  -- its number is that of a line
-  pub untaken_of_feed : (number : ℕ) (kind : Option Kind) (s : TakeFault) → 1 ≤ number → number ≤ max
-      → IsOfFeed max (untaken_fault feed number kind s)
-  untaken_of_feed number kind (untaken.Refused why) first within =
-      let here : IsLineNumber max number = (first, omega arith) in
-      named_fault (IsOfFeed max) number kind why (λ w. here) here here
-  untaken_of_feed number kind untaken.Memory first within = tt
-
-  -- and it was read
-  pub untaken_reads : {R : Type 0} (errors : R → Option ℕ) (s t : Source R) (number : ℕ) (kind : Option Kind) (f : TakeFault)
-      → HasReadOn errors s t → FeedReads {A = FeedExtract} errors s t (Err (untaken_fault feed number kind f))
-  untaken_reads errors s t number kind (untaken.Refused why) read =
-      named_fault (λ f. FeedReads {A = FeedExtract} errors s t (Err f)) number kind why (λ w. read) read read
-  untaken_reads errors s t number kind untaken.Memory read = read
-
 -- the reason for which a line that isn't taken is refused
 pub feed_reason : (feed : Feed) (allowed : HolidayCodes) (cs : List (List ℕ)) (c : List ℕ) (s : TakeFault) (why : Refusal) (r : FeedReading)
     → IsFeedTaken feed allowed cs c (Err s) r → s ≡ untaken.Refused why → line_refusal feed allowed cs c ≡ Some why
 feed_reason feed allowed cs c (untaken.Refused x) why r taken e = taken ∙ (let same : x ≡ why = cc in ap Some same)
 feed_reason feed allowed cs c untaken.Memory why r taken e = cc
 
--- nothing is left, whether there is an extract or not
-pub if_done : {R A E : Type 0} (remaining : R → Option (List ℕ)) (old new : Source R) (r : Result A E) → source_ended new ≡ true →
-    IfSome (remaining (reader_of old)) (λ bytes. remaining (reader_of new) ≡ Some []) → LeavesNothing remaining old new r
-if_done remaining old new (Ok a) told left = (told, left)
-if_done remaining old new (Err e) told left = tt
+-- ---- what a reading comes to
+
+module _ (feed : Feed) (allowed : HolidayCodes) (max : ℕ) {R : Type 0} (remaining : R → Option (List ℕ)) (errors : R → Option ℕ)
+    (old new : Source R) where
+  abbrev Comes : Result FeedExtract FeedFault → Type 0
+  Comes = IsResultOf remaining errors (reading_feed feed allowed max) old new
+
+  -- memory runs out
+  pub comes-memory : HasReadOn errors old new → Comes (Err (Extract fault.Memory))
+  comes-memory = refuses remaining errors old new (reading_feed feed allowed max) (Extract fault.Memory) (of_any _ _ (λ bytes. tt)) tt
+
+  -- a line isn't taken
+  pub comes-untaken : (number : ℕ) (kind : Option Kind) (s : TakeFault) → 1 ≤ number → number ≤ max → HasReadOn errors old new
+      → ((why : Refusal) → s ≡ untaken.Refused why → IfSome (remaining (reader_of old)) (λ bytes.
+      IsFirstOfFeed feed allowed max (contents_of bytes) (fault_for feed number kind why)
+      × IsContentDecidedOrLast IsFeedContent max bytes (unread_of remaining new) number)) → Comes (Err (untaken_fault feed number kind s))
+  comes-untaken number kind (untaken.Refused why) first within read_on h =
+      let here : IsLineNumber max number = (first, omega arith) in
+      refuses remaining errors old new (reading_feed feed allowed max) (fault_for feed number kind why)
+      (known_so (remaining (reader_of old)) (λ bytes. IsFirstOfFeed feed allowed max (contents_of bytes) (fault_for feed number kind why)
+      × IsContentDecidedOrLast IsFeedContent max bytes (unread_of remaining new) number)
+      (λ bytes. IsFeedFault feed allowed max bytes (unread_of remaining new) (fault_for feed number kind why))
+      (λ bytes. named_fault feed allowed max (λ f. IsFirstOfFeed feed allowed max (contents_of bytes) f
+      × IsContentDecidedOrLast IsFeedContent max bytes (unread_of remaining new) number
+      → IsFeedFault feed allowed max bytes (unread_of remaining new) f)
+      number kind why (λ w both. both) (λ both. both) (λ both. both)) (h why refl))
+      (named_fault feed allowed max (IsOfFeed max) number kind why (λ w. here) here here)
+      (named_fault feed allowed max (λ f. IsOwed {A = FeedExtract} errors is_feed_read old new (Err f)) number kind why
+      (λ w. read_on) read_on read_on)
+  comes-untaken number kind untaken.Memory first within read_on h = comes-memory read_on
+
+  module _ (cs : List (List ℕ)) (fine : NoneOfFeedRefused feed allowed max cs) where
+    -- the next content can't be read
+    pub comes-line_fault : (reader : LineReader) (between : Source R)
+        → IsReadingContents IsFeedContent remaining (remaining (reader_of old)) max reader between cs → HasReadOn errors old between
+        → (count : ℕ) → count ≤ max → (l : LineFault)
+        → IfSome (remaining (reader_of old)) (λ bytes. AreContentsToFault IsFeedContent max bytes (unread_of remaining new) cs l)
+        → (l ≢ line_fault.Read → IsNoComment remaining reader between) → IsNextFault count l
+        → LineReads {A = Option Line} errors between new (Err l) → Comes (Err (Extract (of_line_fault l)))
+    comes-line_fault reader between so_far read_on count within (line_fault.Refused number why) faults none next reads =
+        let l = line_fault.Refused number why in
+        let is = next.0 in
+        refuses remaining errors old new (reading_feed feed allowed max) (Extract (of_line_fault l))
+        (at_feed_fault feed allowed max (remaining (reader_of old)) cs fine remaining reader between so_far (unread_of remaining new) l
+        faults none) (omega (arith, is), omega (arith, is)) (read_on_both errors old between new read_on reads)
+    comes-line_fault reader between so_far read_on count within line_fault.Read faults none next reads =
+        refuses remaining errors old new (reading_feed feed allowed max) (Extract fault.Read)
+        (at_feed_fault feed allowed max (remaining (reader_of old)) cs fine remaining reader between so_far (unread_of remaining new)
+        line_fault.Read faults none) tt (failed_after errors old between new read_on reads)
+
+    -- there is none
+    pub comes-end : IfSome (remaining (reader_of old)) (λ bytes. AreAllContents IsFeedContent max bytes cs)
+        → IsReadWhole remaining old new → source_failed old ≡ false → HasReadOn errors old new → (number : ℕ) → number ≡ length cs
+        → number ≤ max → (result : Result FeedExtract FeedFault) → IfOk result (IsFeedHeld feed allowed cs)
+        → IfErr result (λ f. f ≡ Extract (fault.Refused (number + 1) refusal.Truncated))
+        → IfErr result (λ f. All IsNoTrailer (profile_lines feed allowed cs)) → Comes result
+    comes-end all read fresh read_on number is within (Ok x) held truncated unfinished =
+        answers remaining errors old new (reading_feed feed allowed max) x
+        (known_so (remaining (reader_of old)) (λ bytes. AreAllContents IsFeedContent max bytes cs)
+        (λ bytes. BytesSpellFeed feed allowed max bytes (feed_parts x)) (λ bytes a.
+        let both = at (contents_of bytes) a.contents a.are_lines a.within in record { spell = both.0; within = both.1 }) all)
+        fresh read_on read
+      where
+        at : (contents : List (List ℕ)) → contents ≡ cs → All IsFeedContent cs → length cs ≤ max
+            → (s : SpellFeed feed allowed contents (feed_parts x)) × (length contents ≤ max)
+        at contents is are within = (
+          rw is (record {
+            are_contents = are;
+            notes_stand = λ k below note.
+                note_stands feed allowed max (take k cs) (slice_index_or cs k []) (fine.fine k below) note;
+            extract = held.extract;
+            tiploc_marks = held.tiploc_marks;
+            association_marks = held.association_marks;
+            schedule_marks = held.schedule_marks;
+            passed = held.passed;
+          }),
+          rw is within,
+        )
+    comes-end all read fresh read_on number is within (Err f) held truncated unfinished =
+        rw truncated
+        (refuses remaining errors old new (reading_feed feed allowed max) (Extract (fault.Refused (number + 1) refusal.Truncated))
+        (known_so (remaining (reader_of old)) (λ bytes. AreAllContents IsFeedContent max bytes cs)
+        (λ bytes. IsFeedFault feed allowed max bytes (unread_of remaining new) (Extract (fault.Refused (number + 1) refusal.Truncated)))
+        (λ bytes a. (
+          inr (record {
+            fine = rw a.contents fine;
+            no_trailer = rw a.contents (no_trailers feed allowed max cs unfinished);
+            is = ap (λ n. Extract (fault.Refused (n + 1) refusal.Truncated)) (is ∙ ap length (sym a.contents));
+          }),
+          λ not. absurd (true≢false (sym read.0 ∙ not)),
+        )) all)
+        (omega arith, omega arith) read_on)
 
 -- some of the contents are at most all
 pub fewer : (p : List ℕ → Bool) (cs : List (List ℕ)) → length (filter p cs) ≤ length cs

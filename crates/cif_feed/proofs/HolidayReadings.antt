@@ -1,7 +1,7 @@
 -- The text of holidays, byte by byte.
 use Rattle.std.proofs.Common.{◌≡◌, ◌≢◌, ◌⊎◌, inl, inr, ⊎_elim, ◌↔◌, ℕ, ◌+◌, ◌-◌, ◌<◌, ◌≤◌, ◌==◌, Bool, true, false, cond}
 use Rattle.std.proofs.Common.{List, [], ◌∷◌, ◌++◌, length, take, drop, get_or, map, Option, Some, None, Result, Ok, Err}
-use Rattle.std.proofs.Common.{IfErr, IfSome, IsSomeAnd, All, Contains, refl, sym, ap, ◌∙◌, subst, arith}
+use Rattle.std.proofs.Common.{IfErr, IfOk, IfSome, IsSomeAnd, All, Contains, refl, sym, ap, ◌∙◌, subst, arith}
 use Rattle.std.proofs.Common.{append_assoc, append-nil, length-append, length-take, take-append-drop}
 use Rattle.std.specs.Io.KnownBytes.{Consumes, IsAtEnd}
 use Rattle.std.specs.List.{slice_split}
@@ -15,13 +15,17 @@ use Rattle.std.proofs.lemmas.List.Splits.{slice_split_none}
 use Rattle.cif_calendar.proofs.Elements.{Contains-first}
 use Rattle.cif_columns.specs.Contents.{contents_of}
 use Rattle.cif_columns.specs.FirstLine.{is_line_feed}
-use Rattle.cif_columns.specs.Source.{HasReadOn, Unread}
+use Rattle.cif_columns.specs.Source.{HasReadOn, Unread, reader_of, source_ended, source_failed, unread_of}
 use Rattle.cif_columns.specs.declared.source.Source.{Source}
+use Rattle.cif_columns.proofs.GivenLinesLaws.{known_so}
 use Rattle.cif_columns.proofs.WholeLines.{lines_to_feed, lines_whole}
+use Rattle.cif_extract.specs.ReadCall.{IsResultOf}
+use Rattle.cif_extract.proofs.ReadCalls.{answers, of_any, refuses}
 use Rattle.cif_feed.specs.HolidayText.{AreHolidayLines, AreHolidayLinesAndRest, AreHolidaysOf, AreRead, AreWhole, DecidesNoLine}
-use Rattle.cif_feed.specs.HolidayText.{HolidayReads, IsBadLine, IsCutBeforeBadLine, IsFirstBadLine, IsHolidayFault, IsHolidayLine}
-use Rattle.cif_feed.specs.HolidayText.{IsLineDecided, IsLineDecidedBy, IsOfHolidays, LineNames, LineSays, SomeLine, SpellHolidays}
+use Rattle.cif_feed.specs.HolidayText.{IsBadLine, IsCutBeforeBadLine, IsFirstBadLine, IsHolidayFault, IsHolidayLine}
+use Rattle.cif_feed.specs.HolidayText.{IsLineDecided, IsLineDecidedBy, LineNames, LineSays, SomeLine, SpellHolidays}
 use Rattle.cif_feed.specs.Holidays.{IsHoliday, Names}
+use Rattle.cif_feed.specs.HolidayText.{reading_holidays}
 use Rattle.cif_feed.specs.Steps.HolidayReading.{AreLinesAndRest, HasLineMore, IsLineFault, IsRefusal, IsRefusalBehind}
 use Rattle.cif_feed.specs.declared.holiday_code.HolidayCode.{HolidayCode}
 use Rattle.cif_feed.specs.declared.holiday_text.HolidayFault.{HolidayFault}
@@ -321,36 +325,15 @@ at-place taken bytes i below =
 -- ---- the source
 
 -- bytes that are refused behind what was read
-pub refused_of_start : (start : Option (List ℕ)) (after : Unread) (taken : List ℕ) (fault : HolidayFault) → Consumes start after.bytes taken
-    → IsRefusalBehind taken fault → IfSome start (λ bytes. IsHolidayFault bytes after fault)
-refused_of_start start after taken (BadHoliday line) consumed (decides, bad) = at start after.bytes consumed
-  where
-    at : (s a : Option (List ℕ)) → Consumes s a taken → IfSome s (λ bytes. IsFirstBadLine (contents_of bytes) line
-        × (after.ended ≡ false → IsSomeAnd a (λ unread. IsLineDecided bytes unread line)))
-    at None a consumed = tt
-    at (Some bytes) None consumed = absurd consumed
-    at (Some bytes) (Some unread) consumed = (
-      subst (λ (l : List ℕ). IsFirstBadLine (contents_of l) line) (sym consumed) (bad unread),
-      λ going. record { before = taken; parts = consumed; decided = decides },
-    )
-refused_of_start start after taken Read consumed bad = absurd bad
-refused_of_start None after taken Memory consumed bad = tt
-refused_of_start (Some bytes) after taken Memory consumed bad = tt
-
--- a bad line is one that may come, or the one behind them
-pub behind_of_holidays : (taken : List ℕ) (fault : HolidayFault) → IsRefusalBehind taken fault → IsOfHolidays fault
-behind_of_holidays taken (BadHoliday line) (decides, bad) =
-    let within = decides.whole_lines_and_rest.are_lines.within in
-    (omega (arith, decides.numbered), omega (arith, decides.numbered, within))
-behind_of_holidays taken Read bad = absurd bad
-behind_of_holidays taken Memory bad = tt
-
-pub finished_of_holidays : (taken : List ℕ) (r : Result Holidays HolidayFault) → IfErr r (IsRefusal taken) → IfErr r IsOfHolidays
-finished_of_holidays taken (Ok h) bad = tt
-finished_of_holidays taken (Err (BadHoliday line)) bad =
-    let within = bad.none_before.within in (omega (arith, bad.numbered), omega (arith, bad.numbered, within))
-finished_of_holidays taken (Err Read) bad = absurd bad
-finished_of_holidays taken (Err Memory) bad = tt
+refused_of_start : (start unread : Option (List ℕ)) (ended : Bool) (taken : List ℕ) (line : ℕ) → Consumes start unread taken
+    → IsRefusalBehind taken (BadHoliday line)
+    → IfSome start (λ bytes. IsHolidayFault bytes (record { bytes = unread; ended = ended }) (BadHoliday line))
+refused_of_start None unread ended taken line consumed bad = tt
+refused_of_start (Some bytes) None ended taken line consumed bad = absurd consumed
+refused_of_start (Some bytes) (Some unread) ended taken line consumed (decides, bad) = (
+  subst (λ (l : List ℕ). IsFirstBadLine (contents_of l) line) (sym consumed) (bad unread),
+  λ going. record { before = taken; parts = consumed; decided = decides },
+)
 
 module _ (start : Option (List ℕ)) (after : Unread) (taken : List ℕ) (consumed : Consumes start after.bytes taken)
     (at_end : IsAtEnd after.bytes) (told : after.ended ≡ true) where
@@ -362,30 +345,8 @@ module _ (start : Option (List ℕ)) (after : Unread) (taken : List ℕ) (consum
       all (Some bytes) None consumed end = absurd consumed
       all (Some bytes) (Some unread) consumed end = sym (consumed ∙ ap (λ l. taken ++ l) end ∙ append-nil taken)
 
-  -- or the refusal
-  pub fault_of_start : (r : Result Holidays HolidayFault) → IfErr r (IsRefusal taken)
-      → IfSome start (λ bytes. IfErr r (IsHolidayFault bytes after))
-  fault_of_start r bad = at start all_taken
-    where
-      by_fault : (fault : HolidayFault) → IsRefusal taken fault → (bytes : List ℕ) → taken ≡ bytes → IsHolidayFault bytes after fault
-      by_fault (BadHoliday line) refusal bytes same = (
-        subst (λ (l : List ℕ). IsFirstBadLine (contents_of l) line) same refusal,
-        λ going. absurd (false≢true (sym going ∙ told)),
-      )
-      by_fault Read refusal bytes same = absurd refusal
-      by_fault Memory refusal bytes same = tt
-
-      by_result : (q : Result Holidays HolidayFault) → IfErr q (IsRefusal taken) → (bytes : List ℕ) → taken ≡ bytes
-          → IfErr q (IsHolidayFault bytes after)
-      by_result (Ok h) refusal bytes same = tt
-      by_result (Err fault) refusal bytes same = by_fault fault refusal bytes same
-
-      at : (s : Option (List ℕ)) → IfSome s (λ bytes. taken ≡ bytes) → IfSome s (λ bytes. IfErr r (IsHolidayFault bytes after))
-      at None all = tt
-      at (Some bytes) all = by_result r bad bytes all
-
   -- and nothing is left
-  pub nothing_left_of_start : IfSome start (λ bytes. after.bytes ≡ Some [])
+  nothing_left_of_start : IfSome start (λ bytes. after.bytes ≡ Some [])
   nothing_left_of_start = at start after.bytes consumed at_end
     where
       at : (s a : Option (List ℕ)) → Consumes s a taken → IsAtEnd a → IfSome s (λ bytes. a ≡ Some [])
@@ -405,20 +366,48 @@ spelled-fine bytes h number spells first = ⊎_elim
     first.bad
 
 -- so that they are read
-pub read_of_start : (start : Option (List ℕ)) (after : Unread) (r : Result Holidays HolidayFault)
-    → IfSome start (λ bytes. IfErr r (IsHolidayFault bytes after))
-    → IfSome start (λ bytes. (h : Holidays) → SpellHolidays bytes h → AreRead r)
-read_of_start None after r fault = tt
-read_of_start (Some bytes) after (Err (BadHoliday line)) fault = λ other spells. absurd (spelled-fine bytes other line spells fault.0)
-read_of_start (Some bytes) after _ fault = λ other spells. tt
+pub holidays_as : (bytes : List ℕ) (after : Unread) (h : Holidays) (r : Result Holidays HolidayFault) → SpellHolidays bytes h
+    → IfErr r (IsHolidayFault bytes after) → AreRead r
+holidays_as bytes after h (Err (BadHoliday line)) spells fault = absurd (spelled-fine bytes h line spells fault.0)
+holidays_as bytes after h _ spells fault = tt
 
-module _ {R : Type 0} (errors : R → Option ℕ) (old new : Source R) (on : HasReadOn errors old new) where
-  -- no fault of the bytes is one of the source
-  pub refused_reads : (taken : List ℕ) (fault : HolidayFault) → IsRefusalBehind taken fault
-      → HolidayReads {A = Holidays} errors old new (Err fault)
-  refused_reads taken Read bad = absurd bad
-  refused_reads taken _ bad = on
+-- ---- what a reading comes to
 
-  pub finished_reads : (taken : List ℕ) (r : Result Holidays HolidayFault) → IfErr r (IsRefusal taken) → HolidayReads errors old new r
-  finished_reads taken (Err Read) bad = absurd bad
-  finished_reads taken _ bad = on
+module _ {R : Type 0} (remaining : R → Option (List ℕ)) (errors : R → Option ℕ) (old new : Source R) (on : HasReadOn errors old new)
+    (taken : List ℕ) (consumed : Consumes (remaining (reader_of old)) (remaining (reader_of new)) taken) where
+  abbrev Comes : Result Holidays HolidayFault → Type 0
+  Comes = IsResultOf remaining errors reading_holidays old new
+
+  -- a line is refused
+  pub comes-refused : (f : HolidayFault) → IsRefusalBehind taken f → Comes (Err f)
+  comes-refused (BadHoliday line) bad =
+      let within = bad.0.whole_lines_and_rest.are_lines.within in
+      let is = bad.0.numbered in
+      refuses remaining errors old new reading_holidays (BadHoliday line)
+      (refused_of_start (remaining (reader_of old)) (remaining (reader_of new)) (source_ended new) taken line consumed bad)
+      (omega (arith, is), omega (arith, is, within)) on
+  comes-refused Read bad = absurd bad
+  comes-refused Memory bad = refuses remaining errors old new reading_holidays Memory (of_any _ _ (λ bytes. tt)) tt on
+
+  -- all is taken
+  pub comes-finished : IsAtEnd (remaining (reader_of new)) → source_ended new ≡ true → source_failed old ≡ false
+      → (r : Result Holidays HolidayFault) → IfOk r (SpellHolidays taken) → IfErr r (IsRefusal taken) → Comes r
+  comes-finished at_end told fresh (Ok h) spells bad =
+      answers remaining errors old new reading_holidays h
+      (known_so (remaining (reader_of old)) (λ bytes. taken ≡ bytes) (λ bytes. SpellHolidays bytes h)
+      (λ bytes same. subst (λ (l : List ℕ). SpellHolidays l h) same spells)
+      (all_taken (remaining (reader_of old)) (unread_of remaining new) taken consumed at_end told)) fresh on
+      (told, nothing_left_of_start (remaining (reader_of old)) (unread_of remaining new) taken consumed at_end told)
+  comes-finished at_end told fresh (Err (BadHoliday line)) spells bad =
+      let within = bad.none_before.within in
+      let is = bad.numbered in
+      refuses remaining errors old new reading_holidays (BadHoliday line)
+      (known_so (remaining (reader_of old)) (λ bytes. taken ≡ bytes)
+      (λ bytes. IsHolidayFault bytes (unread_of remaining new) (BadHoliday line)) (λ bytes same. (
+        subst (λ (l : List ℕ). IsFirstBadLine (contents_of l) line) same bad,
+        λ going. absurd (false≢true (sym going ∙ told)),
+      )) (all_taken (remaining (reader_of old)) (unread_of remaining new) taken consumed at_end told))
+      (omega (arith, is), omega (arith, is, within)) on
+  comes-finished at_end told fresh (Err Read) spells bad = absurd bad
+  comes-finished at_end told fresh (Err Memory) spells bad =
+      refuses remaining errors old new reading_holidays Memory (of_any _ _ (λ bytes. tt)) tt on

@@ -6,14 +6,14 @@ use Rattle.std.proofs.lemmas.Bool.Decides.{nat_tests}
 use Rattle.std.proofs.lemmas.List.Elements.{All-contains, All-head, All-map, All-tail}
 use Rattle.std.proofs.lemmas.List.{get_or_default}
 use Rattle.std.specs.List.{list_all, list_any}
-use Rattle.std.specs.Prelude.{All, Contains}
+use Rattle.std.specs.Prelude.{All, Contains, MatchResult}
 use Rattle.std.specs.Str.Lines.{lines_of_parts, strip_carriage_return}
 use Rattle.cif_columns.specs.ContentReader.{IsNextOf}
 use Rattle.cif_columns.specs.Contents.{contents_of}
 use Rattle.cif_columns.specs.FirstLine.{is_printable, line_of}
 use Rattle.cif_columns.specs.JudgedContents.{IsGiven, MayGoOn, has_overlong, is_overlong, judged_contents, parts_of}
 use Rattle.cif_columns.specs.Line.{IsLine}
-use Rattle.cif_columns.specs.Source.{HasReadOn, Unread, reader_of, source_ended, unread_of}
+use Rattle.cif_columns.specs.Source.{HasReadOn, Unread, reader_of, source_ended, source_failed, unread_of}
 use Rattle.cif_columns.specs.declared.content_reader.ContentReader.{ContentReader}
 use Rattle.cif_columns.specs.declared.refusal.LineFault.{LineFault}
 use Rattle.cif_columns.specs.declared.refusal.LineFault.TheVariants as line_fault
@@ -23,21 +23,25 @@ use Rattle.cif_columns.specs.declared.source.Source.{Source}
 use Rattle.cif_columns.proofs.ContentRuns.{AreAll, HasGiven, given_failed, given_too_many}
 use Rattle.cif_columns.proofs.GivenLinesLaws.{known_so}
 use Rattle.cif_columns.proofs.JudgedContents.{judged_all}
+use Rattle.cif_columns.proofs.ReadSources.{failed_after, read_on_both}
 use Rattle.cif_extract.specs.ExtractParts.{ExtractParts, extract_parts}
 use Rattle.cif_extract.specs.Fault.{of_line_fault}
 use Rattle.cif_extract.specs.FirstRefusal.{IsRefusedLine, IsTruncated, order_refusal, refusal_of}
 use Rattle.cif_extract.specs.OrderOfRecords.{place_behind}
-use Rattle.cif_extract.specs.ReadFault.{FaultReads, IsOfReading}
+use Rattle.cif_extract.specs.ReadCall.{IsReadWhole, IsResultOf}
+use Rattle.cif_extract.specs.ReadFault.{IsLineNumber}
 use Rattle.cif_extract.specs.SpellsExtract.{BytesSpellWithin, SpellExtract}
 use Rattle.cif_extract.specs.declared.fault.Fault.{Fault}
 use Rattle.cif_extract.specs.declared.fault.Fault.TheVariants as fault
 use Rattle.cif_extract.proofs.OrderLaws.{spelled_fine}
+use Rattle.cif_extract.proofs.ReadCalls.{answers, of_any, refuses}
 use Rattle.cif_extract.proofs.SpelledBytes.{one_spelled, spelled-refused}
 use Rattle.cif_records.specs.Checks.{first_of, unless}
 use Rattle.cif_records.specs.Kind.{kind_in}
 use Rattle.cif_records.specs.Record.{record_refusal}
-use Rattle.cif_feed.specs.Judged.{HaveReasons, IsJudgedAs, IsJudgedFault, IsJudgedWhole, IsOutOfPlace, IsReadAsJudged, JudgedLeaves}
+use Rattle.cif_feed.specs.Judged.{HaveReasons, IsJudgedAs, IsJudgedFault, IsJudgedWhole, IsOutOfPlace, IsReadAsJudged}
 use Rattle.cif_feed.specs.Judged.{NoneHasReason}
+use Rattle.cif_feed.specs.Judged.{judging}
 use Rattle.cif_feed.specs.Reasons.{TellReasons, own_reason, reasons_of}
 use Rattle.cif_feed.specs.Steps.Judging.{HasJudged, IsFinished, IsInOrder, SomeHasReason}
 use Rattle.cif_feed.specs.declared.judged.Judging.{Judging}
@@ -109,26 +113,18 @@ module _ (max : ℕ) (bytes : List ℕ) (x : ExtractParts) (spells : BytesSpellW
       let is : Some why ≡ None = All-contains (λ (r : Option Refusal). r ≡ None) (reasons_of contents) (Some why) all there in
       absurd (cc)
 
-  judged_only : (after : Unread) (result : Result Judged Fault) → IfOk result (IsJudgedAs max bytes after)
+  pub judged_as : (after : Unread) (result : Result Judged Fault) → IfOk result (IsJudgedAs max bytes after)
       → IfErr result (IsJudgedFault max bytes after) → IsReadAsJudged x result
-  judged_only after (Ok (judged.Extract extract)) ok err =
+  judged_as after (Ok (judged.Extract extract)) ok err =
       one_spelled bytes (extract_parts extract) x ok.spell.spell spells.spell
-  judged_only after (Ok (judged.Reasons told)) ok err =
+  judged_as after (Ok (judged.Reasons told)) ok err =
       absurd (none_is (judged_contents bytes) (rw all_judged none_of_spelled) ok.why ok.some)
-  judged_only after (Err (fault.Refused line refusal.TooManyLines)) ok err =
+  judged_as after (Err (fault.Refused line refusal.TooManyLines)) ok err =
       absurd (omega (arith, err.over, ap length all_judged, spells.within))
-  judged_only after (Err (fault.Refused line why)) ok err = absurd (spelled-refused max bytes x spells line why err.first)
-  judged_only after (Err fault.Read) ok err = tt
-  judged_only after (Err fault.Memory) ok err = tt
-  judged_only after (Err _) ok err = absurd err
-
--- the same of bytes that may be known
-pub only_judged : (start : Option (List ℕ)) (max : ℕ) (after : Unread) (result : Result Judged Fault)
-    → IfSome start (λ bytes. IfOk result (IsJudgedAs max bytes after))
-    → IfSome start (λ bytes. IfErr result (IsJudgedFault max bytes after))
-    → IfSome start (λ bytes. (x : ExtractParts) → BytesSpellWithin max bytes x → IsReadAsJudged x result)
-only_judged None max after result ok err = tt
-only_judged (Some bytes) max after result ok err = λ x spells. judged_only max bytes x spells after result ok err
+  judged_as after (Err (fault.Refused line why)) ok err = absurd (spelled-refused max bytes x spells line why err.first)
+  judged_as after (Err fault.Read) ok err = tt
+  judged_as after (Err fault.Memory) ok err = tt
+  judged_as after (Err _) ok err = absurd err
 
 -- ---- a line more
 
@@ -169,70 +165,61 @@ module _ (max : ℕ) (cs : List (List ℕ)) (within : length cs ≤ max) (after 
   told_whole bytes = λ not. absurd (true≢false (sym ended ∙ not))
 
   all_as : (bytes : List ℕ) → AreAll bytes cs → (result : Result Judged Fault) → IsFinished max cs result
-      → IfOk result (IsJudgedAs max bytes after) × IfErr result (IsJudgedFault max bytes after)
-  all_as bytes all (Ok (judged.Reasons told)) is = (
-    record {
-      within = omega (arith, ap length all.judged_are, within);
-      why = is.0.0;
-      some = subst (λ l. Contains (reasons_of l) (Some is.0.0)) (sym all.judged_are) is.0.1;
-      tell = subst (λ l. TellReasons (reasons_of l) told) (sym all.judged_are) is.1;
-      whole = told_whole bytes;
-    },
-    tt,
-  )
-  all_as bytes all (Ok (judged.Extract x)) is = (
-    record {
-      none = subst NoneHasReason (sym all.judged_are) is.0;
+      → MatchResult result (IsJudgedAs max bytes after) (IsJudgedFault max bytes after)
+  all_as bytes all (Ok (judged.Reasons told)) is = record {
+    within = omega (arith, ap length all.judged_are, within);
+    why = is.0.0;
+    some = subst (λ l. Contains (reasons_of l) (Some is.0.0)) (sym all.judged_are) is.0.1;
+    tell = subst (λ l. TellReasons (reasons_of l) told) (sym all.judged_are) is.1;
+    whole = told_whole bytes;
+  }
+  all_as bytes all (Ok (judged.Extract x)) is = record {
+    none = subst NoneHasReason (sym all.judged_are) is.0;
+    spell = record {
       spell = record {
-        spell = record {
-          are_lines = subst (λ l. All IsLine l) (sym all.contents_are) (λ k d below. own_none _ (is.0 k d below));
-          spelled = subst (λ l. SpellExtract l (extract_parts x)) (sym all.contents_are) is.1;
-        };
-        within = omega (arith, ap length all.contents_are, within);
+        are_lines = subst (λ l. All IsLine l) (sym all.contents_are) (λ k d below. own_none _ (is.0 k d below));
+        spelled = subst (λ l. SpellExtract l (extract_parts x)) (sym all.contents_are) is.1;
       };
-    },
-    tt,
-  )
-  all_as bytes all (Err (fault.Refused line why)) is = (
-    tt,
-    as_out_of_place max bytes after line why is.2 (record {
-      none = subst NoneHasReason (sym all.judged_are) is.0;
-      first = subst (λ l. IsRefusedLine max l line why ⊎ IsTruncated max l line why) (sym all.contents_are) is.1;
-      ended = ended;
-    }),
-  )
+      within = omega (arith, ap length all.contents_are, within);
+    };
+  }
+  all_as bytes all (Err (fault.Refused line why)) is = as_out_of_place max bytes after line why is.2 (record {
+    none = subst NoneHasReason (sym all.judged_are) is.0;
+    first = subst (λ l. IsRefusedLine max l line why ⊎ IsTruncated max l line why) (sym all.contents_are) is.1;
+    ended = ended;
+  })
   all_as bytes all (Err _) is = absurd is
 
-  pub finished_ok : (start : Option (List ℕ)) → IfSome start (λ bytes. AreAll bytes cs) → (result : Result Judged Fault)
-      → IsFinished max cs result → IfSome start (λ bytes. IfOk result (IsJudgedAs max bytes after))
-  finished_ok start all result is = known_so start _ _ (λ bytes a. (all_as bytes a result is).0) all
-
-  pub finished_fault : (start : Option (List ℕ)) → IfSome start (λ bytes. AreAll bytes cs) → (result : Result Judged Fault)
-      → IsFinished max cs result → IfSome start (λ bytes. IfErr result (IsJudgedFault max bytes after))
-  finished_fault start all result is = known_so start _ _ (λ bytes a. (all_as bytes a result is).1) all
-
-  pub finished_of_reading : (result : Result Judged Fault) → IsFinished max cs result → IfErr result (IsOfReading max)
-  finished_of_reading (Ok done) is = tt
-  finished_of_reading (Err (fault.Refused line why)) is =
-      ⊎_elim
+  -- what comes of it
+  finished_may : (line : ℕ) (why : Refusal) → IsRefusedLine max cs line why ⊎ IsTruncated max cs line why → IsLineNumber max line
+  finished_may line why = ⊎_elim
       (λ r. let here = refused_number max cs line why r in (here.0, omega (arith, here.1, within)))
       (λ (t : IsTruncated max cs line why). (omega (arith, t.numbered), omega (arith, t.numbered, within)))
-      is.1
-  finished_of_reading (Err _) is = absurd is
 
--- a fault isn't Read, so the source was read on
-pub finished_reads : {R : Type 0} (errors : R → Option ℕ) (max : ℕ) (cs : List (List ℕ)) (s t : Source R) (result : Result Judged Fault)
-    → IsFinished max cs result → HasReadOn errors s t → FaultReads errors s t result
-finished_reads errors max cs s t (Ok done) is read = read
-finished_reads errors max cs s t (Err (fault.Refused line why)) is read = read
-finished_reads errors max cs s t (Err _) is read = absurd is
+module _ {R : Type 0} (remaining : R → Option (List ℕ)) (errors : R → Option ℕ) (max : ℕ) (old new : Source R) where
+  abbrev Comes : Result Judged Fault → Type 0
+  Comes = IsResultOf remaining errors (judging max (unread_of remaining new)) old new
 
-pub finished_leaves : {R : Type 0} (remaining : R → Option (List ℕ)) (old new : Source R) (result : Result Judged Fault)
-    → source_ended new ≡ true → IfSome (remaining (reader_of old)) (λ bytes. remaining (reader_of new) ≡ Some [])
-    → JudgedLeaves remaining old new result
-finished_leaves remaining old new (Ok (judged.Extract x)) told left = (told, left)
-finished_leaves remaining old new (Ok (judged.Reasons r)) told left = tt
-finished_leaves remaining old new (Err f) told left = tt
+  module _ (cs : List (List ℕ)) (within : length cs ≤ max) (read_on : HasReadOn errors old new) where
+    pub comes-finished : IfSome (remaining (reader_of old)) (λ bytes. AreAll bytes cs) → IsReadWhole remaining old new
+        → source_failed old ≡ false → (result : Result Judged Fault) → IsFinished max cs result → Comes result
+    comes-finished all read fresh (Ok judged) is =
+        answers remaining errors old new (judging max (unread_of remaining new)) judged
+        (known_so (remaining (reader_of old)) (λ bytes. AreAll bytes cs)
+        (λ bytes. IsJudgedAs max bytes (unread_of remaining new) judged)
+        (λ bytes a. all_as max cs within (unread_of remaining new) read.0 bytes a (Ok judged) is) all) fresh read_on read
+    comes-finished all read fresh (Err (fault.Refused line why)) is =
+        refuses remaining errors old new (judging max (unread_of remaining new)) (fault.Refused line why)
+        (known_so (remaining (reader_of old)) (λ bytes. AreAll bytes cs)
+        (λ bytes. IsJudgedFault max bytes (unread_of remaining new) (fault.Refused line why))
+        (λ bytes a. all_as max cs within (unread_of remaining new) read.0 bytes a (Err (fault.Refused line why)) is) all)
+        (finished_may max cs within (unread_of remaining new) read.0 line why is.1) read_on
+    comes-finished all read fresh (Err _) is = absurd is
+
+  -- memory runs out
+  pub comes-memory : HasReadOn errors old new → (f : Fault) → f ≡ fault.Memory → Comes (Err f)
+  comes-memory read_on f is =
+      rw is (refuses remaining errors old new (judging max (unread_of remaining new)) fault.Memory (of_any _ _ (λ bytes. tt)) tt read_on)
 
 -- at a line that is overlong
 pub overlong_ok : (max : ℕ) (cs : List (List ℕ)) (long : List ℕ) → length cs < max → (start after : Option (List ℕ)) (ended : Bool)
@@ -268,14 +255,19 @@ too_many_fault max (Some bytes) after ended number is over gave = record { over 
     at (Some unread) g = record { before = g.before; parts = g.parts; fact = λ goes. omega (arith, g.fact, goes.within) }
 
 -- at a fault of the lines
-module _ {R : Type 0} (remaining : R → Option (List ℕ)) (errors : R → Option ℕ) (start : Option (List ℕ)) (max : ℕ) (reader : ContentReader)
-    (source : Source R) (cs : List (List ℕ)) (so_far : HasGiven remaining start max reader source cs) (reader' : ContentReader)
-    (source' : Source R) where
-  pub line_fault_judged : (l : LineFault) → IsNextOf remaining errors reader source (Err l) reader' source'
-      → IfSome start (λ bytes. IsJudgedFault max bytes (unread_of remaining source') (of_line_fault l))
-  line_fault_judged (line_fault.Refused number why) next =
-      let (numbered, same, over, gave) = given_too_many remaining errors start max reader source cs so_far reader' source' number why next
-      in
-      subst (λ (w : Refusal). IfSome start (λ bytes. IsJudgedFault max bytes (unread_of remaining source') (fault.Refused number w)))
-      (sym same) (too_many_fault max start (remaining (reader_of source')) (source_ended source') number numbered over gave)
-  line_fault_judged line_fault.Read next = given_failed remaining errors start max reader source cs so_far reader' source' next
+pub comes-line_fault : {R : Type 0} (remaining : R → Option (List ℕ)) (errors : R → Option ℕ) (max : ℕ) (reader : ContentReader)
+    (old between : Source R) (cs : List (List ℕ)) → HasGiven remaining (remaining (reader_of old)) max reader between cs
+    → HasReadOn errors old between → (reader' : ContentReader) (new : Source R) (l : LineFault)
+    → IsNextOf remaining errors reader between (Err l) reader' new
+    → IsResultOf remaining errors (judging max (unread_of remaining new)) old new (Err (of_line_fault l))
+comes-line_fault remaining errors max reader old between cs so_far read_on reader' new (line_fault.Refused number why) next =
+    let start = remaining (reader_of old) in
+    let (numbered, same, over, gave) = given_too_many remaining errors start max reader between cs so_far reader' new number why next in
+    refuses remaining errors old new (judging max (unread_of remaining new)) (fault.Refused number why)
+    (subst (λ (w : Refusal). IfSome start (λ bytes. IsJudgedFault max bytes (unread_of remaining new) (fault.Refused number w)))
+    (sym same) (too_many_fault max start (remaining (reader_of new)) (source_ended new) number numbered over gave))
+    (omega (arith, numbered), omega (arith, numbered)) (read_on_both errors old between new read_on next.device)
+comes-line_fault remaining errors max reader old between cs so_far read_on reader' new line_fault.Read next =
+    refuses remaining errors old new (judging max (unread_of remaining new)) fault.Read
+    (given_failed remaining errors (remaining (reader_of old)) max reader between cs so_far reader' new next) tt
+    (failed_after errors old between new read_on next.device)

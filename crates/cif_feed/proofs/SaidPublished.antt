@@ -1,27 +1,34 @@
 -- A published extract is what its lines say, and there is one at most.
-use Rattle.std.proofs.Common.{◌≡◌, ℕ, Bool, List, [], ◌∷◌, Option, Some, None, Result, Ok, Err, IfOk, IfSome, IsTrue, refl, sym, ap, ◌∙◌}
+use Rattle.std.proofs.Common.{◌≡◌, ℕ, Bool, List, [], ◌∷◌, Option, Result, Ok, Err, IfErr, IfOk, IsTrue, refl, sym, ap, ◌∙◌}
 use Rattle.std.proofs.Common.{subst}
 use Rattle.std.proofs.Props.{props}
 use mathlib.Core.HLevel.{Σ_prop_path}
+use Rattle.cif_columns.specs.Contents.{contents_of}
+use Rattle.cif_columns.specs.Source.{Unread}
 use Rattle.cif_extract.specs.declared.extract.Schedule.{Schedule}
+use Rattle.cif_extract.specs.declared.fault.Fault.TheVariants.{Memory}
+use Rattle.cif_extract.proofs.ReadCalls.{HandsOn, Makes, Refuses}
 use Rattle.cif_records.specs.declared.association.Association.{Association}
 use Rattle.cif_records.specs.declared.header.Header.{Header}
 use Rattle.cif_records.specs.declared.tiploc.Tiploc.{Tiploc}
-use Rattle.cif_feed.specs.FeedFault.{IsReadAs}
+use Rattle.cif_feed.specs.FeedFault.{IsFeedFault, IsReadAs}
 use Rattle.cif_feed.specs.FromLines.{AreTriples}
 use Rattle.cif_feed.specs.LastDay.{last_day}
 use Rattle.cif_feed.specs.PublishedParts.{BytesSpellPublished, IsPublishedAssociation, IsPublishedSchedule, PublishedParts, SayPublished}
 use Rattle.cif_feed.specs.PublishedParts.{SpellPublished, published_parts}
-use Rattle.cif_feed.specs.SpellsFeed.{BytesSpellFeed, FeedParts, feed_parts}
+use Rattle.cif_feed.specs.PublishedParts.{IsPublishedOf, reading_published}
+use Rattle.cif_feed.specs.FeedFault.{reading_feed}
+use Rattle.cif_feed.specs.SpellsFeed.{FeedParts, feed_parts}
 use Rattle.cif_feed.specs.declared.feed.Feed.TheVariants.{Full}
 use Rattle.cif_feed.specs.declared.feed.FeedFault.{FeedFault}
+use Rattle.cif_feed.specs.declared.feed.FeedFault.TheVariants.{Extract}
 use Rattle.cif_feed.specs.declared.feed_reading.FeedExtract.{FeedExtract}
 use Rattle.cif_feed.specs.declared.holiday_code.HolidayCode.{HolidayCode}
 use Rattle.cif_feed.specs.declared.holiday_code.HolidayCodes.{HolidayCodes}
 use Rattle.cif_feed.specs.declared.published.PublishedAssociation.{PublishedAssociation}
 use Rattle.cif_feed.specs.declared.published.PublishedSchedule.{PublishedSchedule}
 use Rattle.cif_feed.specs.declared.published_extract.PublishedExtract.{PublishedExtract}
-use Rattle.cif_feed.proofs.SpelledFeeds.{one_feed}
+use Rattle.cif_feed.proofs.SpelledFeeds.{blames_none, one_feed}
 
 -- ---- one at most
 
@@ -79,26 +86,29 @@ one_published allowed cs p q s t =
 -- ---- what is read
 
 module _ (allowed : HolidayCodes) (max : ℕ) where
-  pub said_ok : (start : Option (List ℕ)) (lines : FeedExtract) (result : Result PublishedExtract FeedFault)
-      → IfSome start (λ bytes. BytesSpellFeed Full allowed max bytes (feed_parts lines))
-      → IfOk result (λ x. SayPublished (feed_parts lines) (published_parts x))
-      → IfSome start (λ bytes. IfOk result (λ x. BytesSpellPublished allowed max bytes (published_parts x)))
-  said_ok None lines result spelled says = tt
-  said_ok (Some bytes) lines (Err f) spelled says = tt
-  said_ok (Some bytes) lines (Ok x) spelled says =
-      record { spell = record { lines = feed_parts lines; spelled = spelled.spell; says = says }; within = spelled.within }
+  pub reads-published : (f : FeedFault) → HandsOn (reading_feed Full allowed max) (reading_published allowed max) f
+  reads-published f = record { fault = λ bytes after h. h; answers = λ h. h; same = refl }
 
-  pub said_only : (start : Option (List ℕ)) (lines : FeedExtract) (x : PublishedExtract)
-      → IfSome start (λ bytes. (y : FeedParts) → BytesSpellFeed Full allowed max bytes y → feed_parts lines ≡ y)
-      → SayPublished (feed_parts lines) (published_parts x)
-      → IfSome start (λ bytes. (y : PublishedParts) → BytesSpellPublished allowed max bytes y → published_parts x ≡ y)
-  said_only None lines x only says = tt
-  said_only (Some bytes) lines x only says = λ y s.
-      let same = only s.spell.lines (record { spell = s.spell.spelled; within = s.within }) in
-      one_said (feed_parts lines) (published_parts x) y says (subst (λ l. SayPublished l y) (sym same) s.spell.says)
+  pub makes-published : (lines : FeedExtract) (x : PublishedExtract) → SayPublished (feed_parts lines) (published_parts x)
+      → x.passed ≡ lines.passed → Makes (reading_feed Full allowed max) (reading_published allowed max) lines x
+  makes-published lines x says passed = record {
+    answer = λ bytes s. record {
+      spelled = record {
+        spell = record { lines = feed_parts lines; spelled = s.spell; says = says };
+        within = s.within;
+      };
+      passed = passed ∙ s.spell.passed;
+    };
+    whole = λ whole. tt;
+  }
 
-  pub fault_only : (start : Option (List ℕ)) (f : FeedFault)
-      → IfSome start (λ bytes. (y : FeedParts) → BytesSpellFeed Full allowed max bytes y → IsReadAs feed_parts y (Err f))
-      → IfSome start (λ bytes. (y : PublishedParts) → BytesSpellPublished allowed max bytes y → IsReadAs published_parts y (Err f))
-  fault_only None f only = tt
-  fault_only (Some bytes) f only = λ y s. only s.spell.lines (record { spell = s.spell.spelled; within = s.within })
+  pub keeps-no-more : (lines : FeedExtract)
+      → Refuses (reading_feed Full allowed max) (reading_published allowed max) lines (Extract Memory)
+  keeps-no-more lines = record { fault = λ bytes after s. tt; answers = tt; other = refl }
+
+  pub published_as : (bytes : List ℕ) (after : Unread) (x : PublishedParts) (result : Result PublishedExtract FeedFault)
+      → BytesSpellPublished allowed max bytes x → IfOk result (IsPublishedOf allowed max bytes)
+      → IfErr result (IsFeedFault Full allowed max bytes after) → IsReadAs published_parts x result
+  published_as bytes after x (Ok y) s ok err = one_published allowed (contents_of bytes) (published_parts y) x ok.spelled.spell s.spell
+  published_as bytes after x (Err f) s ok err =
+      blames_none Full allowed max bytes s.spell.lines (record { spell = s.spell.spelled; within = s.within }) after f err

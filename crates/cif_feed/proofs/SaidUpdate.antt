@@ -1,23 +1,29 @@
 -- An update is what its lines say, and there is one at most.
-use Rattle.std.proofs.Common.{◌≡◌, ℕ, List, Option, Some, None, Result, Ok, Err, IfOk, IfSome, sym, ap, ◌∙◌, subst}
+use Rattle.std.proofs.Common.{◌≡◌, ℕ, List, Result, Ok, Err, IfErr, IfOk, refl, sym, ap, ◌∙◌, subst}
 use Rattle.cif_columns.specs.Contents.{contents_of}
+use Rattle.cif_columns.specs.Source.{Unread}
+use Rattle.cif_extract.specs.declared.fault.Fault.TheVariants.{Memory}
+use Rattle.cif_extract.proofs.ReadCalls.{HandsOn, Makes, Refuses}
 use Rattle.cif_records.specs.declared.header.Header.{Header}
 use Rattle.cif_records.specs.declared.tiploc.Tiploc.{Tiploc}
-use Rattle.cif_feed.specs.FeedFault.{IsReadAs}
+use Rattle.cif_feed.specs.FeedFault.{IsFailure, IsFeedFault, IsReadAs}
 use Rattle.cif_feed.specs.HolidayCode.{all_codes}
-use Rattle.cif_feed.specs.SpellsFeed.{BytesSpellFeed, FeedParts, SpellFeed, feed_parts}
+use Rattle.cif_feed.specs.UpdateParts.{IsUpdateOf, reading_update}
+use Rattle.cif_feed.specs.FeedFault.{reading_feed}
+use Rattle.cif_feed.specs.SpellsFeed.{FeedParts, SpellFeed, feed_parts}
 use Rattle.cif_feed.specs.UpdateParts.{AssociationKey, BytesSpellUpdate, IsAssociationChange, IsScheduleChange, SayUpdate, ScheduleKey}
 use Rattle.cif_feed.specs.UpdateParts.{SpellUpdate, UpdateParts, change_by, update_parts}
 use Rattle.cif_feed.specs.declared.changes.Change.{Change}
 use Rattle.cif_feed.specs.declared.feed.Feed.TheVariants as feed
 use Rattle.cif_feed.specs.declared.feed.FeedFault.{FeedFault}
+use Rattle.cif_feed.specs.declared.feed.FeedFault.TheVariants.{Extract}
 use Rattle.cif_feed.specs.declared.feed_reading.FeedExtract.{FeedExtract}
 use Rattle.cif_feed.specs.declared.holiday_code.HolidayCodes.{HolidayCodes}
 use Rattle.cif_feed.specs.declared.published.PublishedAssociation.{PublishedAssociation}
 use Rattle.cif_feed.specs.declared.published.PublishedSchedule.{PublishedSchedule}
 use Rattle.cif_feed.specs.declared.update.Update.{Update}
 use Rattle.cif_feed.proofs.SaidPublished.{same_association, same_schedule, same_triples}
-use Rattle.cif_feed.proofs.SpelledFeeds.{one_feed}
+use Rattle.cif_feed.proofs.SpelledFeeds.{blames_none, one_feed}
 
 one_said : (lines : FeedParts) (p q : UpdateParts) → SayUpdate lines p → SayUpdate lines q → p ≡ q
 one_said lines p q s t =
@@ -42,36 +48,39 @@ one_update cs u v s t =
 -- ---- what is read
 
 module _ (max : ℕ) (allowed : HolidayCodes) (each : allowed ≡ all_codes) where
-  pub update_ok : (start : Option (List ℕ)) (lines : FeedExtract) (result : Result Update FeedFault)
-      → IfSome start (λ bytes. BytesSpellFeed feed.Update allowed max bytes (feed_parts lines))
-      → IfOk result (λ u. SayUpdate (feed_parts lines) (update_parts u))
-      → IfSome start (λ bytes. IfOk result (λ u. BytesSpellUpdate max bytes (update_parts u)))
-  update_ok None lines result spelled says = tt
-  update_ok (Some bytes) lines (Err f) spelled says = tt
-  update_ok (Some bytes) lines (Ok u) spelled says = record {
-    spell = record {
-      lines = feed_parts lines;
-      spelled = subst (λ a. SpellFeed feed.Update a (contents_of bytes) (feed_parts lines)) each spelled.spell;
-      says = says;
-    };
-    within = spelled.within;
+  pub reads-update : (f : FeedFault) → HandsOn (reading_feed feed.Update allowed max) (reading_update max) f
+  reads-update f = record {
+    fault = λ bytes after. subst (λ a. IsFeedFault feed.Update a max bytes after f) each;
+    answers = λ h. h;
+    same = refl;
   }
 
-  pub update_only : (start : Option (List ℕ)) (lines : FeedExtract) (u : Update)
-      → IfSome start (λ bytes. (y : FeedParts) → BytesSpellFeed feed.Update allowed max bytes y → feed_parts lines ≡ y)
-      → SayUpdate (feed_parts lines) (update_parts u)
-      → IfSome start (λ bytes. (y : UpdateParts) → BytesSpellUpdate max bytes y → update_parts u ≡ y)
-  update_only None lines u only says = tt
-  update_only (Some bytes) lines u only says = λ y s.
-      let spelled = subst (λ a. SpellFeed feed.Update a (contents_of bytes) s.spell.lines) (sym each) s.spell.spelled in
-      let same = only s.spell.lines (record { spell = spelled; within = s.within }) in
-      one_said (feed_parts lines) (update_parts u) y says (subst (λ l. SayUpdate l y) (sym same) s.spell.says)
+  pub makes-update : (lines : FeedExtract) (u : Update) → SayUpdate (feed_parts lines) (update_parts u) → u.passed ≡ lines.passed
+      → Makes (reading_feed feed.Update allowed max) (reading_update max) lines u
+  makes-update lines u says passed = record {
+    answer = λ bytes s. record {
+      spelled = record {
+        spell = record {
+          lines = feed_parts lines;
+          spelled = subst (λ a. SpellFeed feed.Update a (contents_of bytes) (feed_parts lines)) each s.spell;
+          says = says;
+        };
+        within = s.within;
+      };
+      passed = passed ∙ s.spell.passed;
+    };
+    whole = λ whole. tt;
+  }
 
-  pub fault_only : (start : Option (List ℕ)) (f : FeedFault)
-      → IfSome start (λ bytes. (y : FeedParts) → BytesSpellFeed feed.Update allowed max bytes y → IsReadAs feed_parts y (Err f))
-      → IfSome start (λ bytes. (y : UpdateParts) → BytesSpellUpdate max bytes y → IsReadAs update_parts y (Err f))
-  fault_only None f only = tt
-  fault_only (Some bytes) f only = λ y s. only s.spell.lines (record {
-    spell = subst (λ a. SpellFeed feed.Update a (contents_of bytes) s.spell.lines) (sym each) s.spell.spelled;
-    within = s.within;
-  })
+  pub keeps-no-more : (lines : FeedExtract) → Refuses (reading_feed feed.Update allowed max) (reading_update max) lines (Extract Memory)
+  keeps-no-more lines = record { fault = λ bytes after s. tt; answers = tt; other = refl }
+
+module _ (max : ℕ) (bytes : List ℕ) (after : Unread) (x : UpdateParts) (s : BytesSpellUpdate max bytes x) where
+  pub update_blames_none : (f : FeedFault) → IsFeedFault feed.Update all_codes max bytes after f → IsFailure f
+  update_blames_none =
+      blames_none feed.Update all_codes max bytes s.spell.lines (record { spell = s.spell.spelled; within = s.within }) after
+
+  pub update_as : (result : Result Update FeedFault) → IfOk result (IsUpdateOf max bytes)
+      → IfErr result (IsFeedFault feed.Update all_codes max bytes after) → IsReadAs update_parts x result
+  update_as (Ok u) ok err = one_update (contents_of bytes) (update_parts u) x ok.spelled.spell s.spell
+  update_as (Err f) ok err = update_blames_none f err

@@ -18,7 +18,7 @@ use Rattle.cif_extract.proofs.OneExtract.{one_extract}
 use Rattle.cif_extract.proofs.SpelledLines.{spelled_behind, spelled_trailer}
 use Rattle.cif_records.specs.Checks.{unless}
 use Rattle.cif_records.proofs.Judging.{none-some}
-use Rattle.cif_feed.specs.FeedFault.{IsFeedFault, IsReadAs}
+use Rattle.cif_feed.specs.FeedFault.{IsFailure, IsFeedFault}
 use Rattle.cif_feed.specs.ProfileLine.{is_note, notes_may_stand, profile_line, is_record_line, profile_lines}
 use Rattle.cif_feed.specs.FeedRefusal.{IsFeedContent, IsFeedTruncated, IsFirstOfFeed, IsRefusedContent, line_refusal}
 use Rattle.cif_feed.specs.SpellsFeed.{BytesSpellFeed, FeedParts, SpellFeed, feed_parts}
@@ -130,29 +130,12 @@ module _ (feed : Feed) (allowed : HolidayCodes) (max : ℕ) where
     pub spelled_first : (f : FeedFault) → SpellFeed feed allowed cs x → IsFirstOfFeed feed allowed max cs f → ⊥
     spelled_first f s = ⊎_elim (spelled_refused f s) (spelled_whole f s)
 
-  -- what is answered, by what the answers say of the bytes
-  read_as : (bytes : List ℕ) (x : FeedParts) → BytesSpellFeed feed allowed max bytes x → (after : Unread)
-      → (result : Result FeedExtract FeedFault) → IfOk result (λ published. BytesSpellFeed feed allowed max bytes (feed_parts published))
-      → IfErr result (IsFeedFault feed allowed max bytes after) → IsReadAs feed_parts x result
-  read_as bytes x s after (Ok p) ok err = one_feed (contents_of bytes) (feed_parts p) x ok.spell s.spell
-  read_as bytes x s after (Err (Extract (fault.Refused line why))) ok err =
-      absurd (spelled_first (contents_of bytes) x s.within _ s.spell err.0)
-  read_as bytes x s after (Err (Extract fault.Read)) ok err = tt
-  read_as bytes x s after (Err (Extract fault.Memory)) ok err = tt
-  read_as bytes x s after (Err (NotUpdate line)) ok err = absurd (spelled_first (contents_of bytes) x s.within _ s.spell err.0)
-  read_as bytes x s after (Err (BadTransaction line)) ok err = absurd (spelled_first (contents_of bytes) x s.within _ s.spell err.0)
-  read_as bytes x s after (Err _) ok err = absurd err
-
-  -- the same of bytes that may be known
-  pub only_feed : (start : Option (List ℕ)) (after : Unread) (result : Result FeedExtract FeedFault)
-      → IfSome start (λ bytes. IfOk result (λ published. BytesSpellFeed feed allowed max bytes (feed_parts published)))
-      → IfSome start (λ bytes. IfErr result (IsFeedFault feed allowed max bytes after))
-      → IfSome start (λ bytes. (x : FeedParts) → BytesSpellFeed feed allowed max bytes x → IsReadAs feed_parts x result)
-  only_feed None after result ok err = tt
-  only_feed (Some bytes) after result ok err = λ x s. read_as bytes x s after result ok err
-
-  pub only_feed_fault : (start : Option (List ℕ)) (after : Unread) (f : FeedFault)
-      → IfSome start (λ bytes. IsFeedFault feed allowed max bytes after f)
-      → IfSome start (λ bytes. (x : FeedParts) → BytesSpellFeed feed allowed max bytes x → IsReadAs feed_parts x (Err f))
-  only_feed_fault None after f err = tt
-  only_feed_fault (Some bytes) after f err = λ x s. read_as bytes x s after (Err f) tt err
+  -- so that no fault blames them
+  pub blames_none : (bytes : List ℕ) (x : FeedParts) → BytesSpellFeed feed allowed max bytes x → (after : Unread) (f : FeedFault)
+      → IsFeedFault feed allowed max bytes after f → IsFailure f
+  blames_none bytes x s after (Extract (fault.Refused line why)) h = absurd (spelled_first (contents_of bytes) x s.within _ s.spell h.0)
+  blames_none bytes x s after (Extract fault.Read) h = tt
+  blames_none bytes x s after (Extract fault.Memory) h = tt
+  blames_none bytes x s after (NotUpdate line) h = absurd (spelled_first (contents_of bytes) x s.within _ s.spell h.0)
+  blames_none bytes x s after (BadTransaction line) h = absurd (spelled_first (contents_of bytes) x s.within _ s.spell h.0)
+  blames_none bytes x s after _ h = absurd h

@@ -1,25 +1,30 @@
 -- A prepared extract that was written, or why it wasn't.
-use Rattle.std.proofs.Common.{◌≡◌, ◌↔◌, ℕ, Bool, true, false, List, [], Option, Some, None, Result, Ok, Err, IfErr, IfOk, IfSome, IsTrue}
-use Rattle.std.proofs.Common.{refl, sym, ap, ◌∙◌, subst}
+use Rattle.std.proofs.Common.{◌≡◌, ◌↔◌, ℕ, Bool, true, false, List, [], Option, Some, None, Result, Ok, Err, IfSome, IsTrue}
+use Rattle.std.proofs.Common.{Global, Vec, refl, sym, ap, ◌∙◌, subst}
+use Rattle.std.specs.Prelude.{MatchResult}
 use Rattle.cif_columns.specs.Contents.{contents_of}
 use Rattle.cif_columns.specs.Field.{AllFit}
 use Rattle.cif_columns.specs.Source.{Unread}
 use Rattle.cif_columns.specs.declared.sink.Sink.{Sink}
+use Rattle.cif_columns.specs.declared.source.Source.{Source}
+use Rattle.cif_columns.proofs.GivenLinesLaws.{known_so}
 use Rattle.cif_extract.specs.ExtractParts.{ExtractParts}
+use Rattle.cif_extract.specs.ReadCall.{IsResultOf}
 use Rattle.cif_extract.specs.Texts.{FitsColumns, extract_text}
 use Rattle.cif_extract.specs.declared.fault.Clash.{Clash}
 use Rattle.cif_extract.specs.declared.fault.Fault.TheVariants as fault
 use Rattle.cif_extract.proofs.PlainTexts.{text-spells}
+use Rattle.cif_extract.proofs.ReadCalls.{HandsOn, Makes, Refuses, of_any}
 use Rattle.cif_records.specs.Header.{header_table}
 use Rattle.cif_records.specs.declared.header.Header.{Header}
 use Rattle.cif_feed.specs.Dropped.{AreDropped, AreThose}
-use Rattle.cif_feed.specs.FeedFault.{IsFailure, IsFeedFault, IsReadAs}
 use Rattle.cif_feed.specs.HolidayCode.{has_code}
 use Rattle.cif_feed.specs.Holidays.{Names}
-use Rattle.cif_feed.specs.PublishedParts.{BytesSpellPublished, PublishedParts, published_parts}
-use Rattle.cif_feed.specs.SpellsFeed.{passed_of}
+use Rattle.cif_feed.specs.PublishedParts.{BytesSpellPublished, IsPublishedOf, PublishedParts, published_parts}
+use Rattle.cif_feed.specs.WrittenPrepared.{preparing}
+use Rattle.cif_feed.specs.PublishedParts.{reading_published}
 use Rattle.cif_feed.specs.WrittenPrepared.{FeedWrites, IsDeviceOrMemory, IsDroppedIf, IsPrepareFault, IsPreparedAs, IsPreparedText}
-use Rattle.cif_feed.specs.WrittenPrepared.{IsReadOf, Prepares, WritesPrepared, codes_named}
+use Rattle.cif_feed.specs.WrittenPrepared.{Prepares, WritesPrepared, codes_named}
 use Rattle.cif_feed.specs.declared.feed.Feed.TheVariants.{Full}
 use Rattle.cif_feed.specs.declared.feed.FeedFault.{FeedFault}
 use Rattle.cif_feed.specs.declared.feed.FeedFault.TheVariants.{Extract}
@@ -32,9 +37,10 @@ use Rattle.cif_feed.proofs.ChangeLaws.{bools}
 use Rattle.cif_feed.proofs.FittingUpdates.{AssociationFits, Each, ScheduleFits, TiplocFits, each-filter, each_fits, fits_each}
 use Rattle.cif_feed.proofs.PreparedFits.{prepared_fits}
 use Rattle.cif_feed.proofs.PublishedTexts.{said_fits}
+use Rattle.cif_feed.proofs.SpelledFeeds.{blames_none}
 
 -- these are the codes that the holidays name
-pub codes_are : (h : Holidays) (allowed : HolidayCodes) → ((code : HolidayCode) → IsTrue (has_code allowed code) ↔ Names h code)
+codes_are : (h : Holidays) (allowed : HolidayCodes) → ((code : HolidayCode) → IsTrue (has_code allowed code) ↔ Names h code)
     → allowed ≡ codes_named h
 codes_are h a are =
     ap (λ (b : Bool). record a { bank = b }) (bools a.bank h.bank.is_named (are X).0 (are X).1)
@@ -79,86 +85,53 @@ module _ (h : Holidays) (drops : Bool) (max : ℕ) where
         (prepared_fits h p is.whole (said_fits (codes_named h) (contents_of bytes) p spelled.spell) is.prepared));
   }
 
-  known_text : (start : Option (List ℕ)) (p : PublishedParts) (x : ExtractParts) (clashes : List Clash)
-      → IfSome start (λ bytes. BytesSpellPublished (codes_named h) max bytes p) → IsPreparedAs h drops p x clashes
-      → IfSome start (λ bytes. IsPreparedText h drops max bytes (extract_text x) clashes)
-  known_text None p x clashes spelled is = tt
-  known_text (Some bytes) p x clashes spelled is = prepared_text bytes p x clashes spelled is
+  module _ {W A : Type 0} (contents : W → Option (List ℕ)) (errors : W → Option ℕ) (told : A → List Clash) (old new : Sink W)
+      (start : Option (List ℕ)) (p : PublishedExtract) (read : IfSome start (λ bytes. IsPublishedOf (codes_named h) max bytes p)) where
+    known_text : (x : ExtractParts) (clashes : List Clash) → IsPreparedAs h drops (published_parts p) x clashes → (Q : List ℕ → Type 0)
+        → ((bytes : List ℕ) → IsPreparedText h drops max bytes (extract_text x) clashes → Q bytes) → IfSome start Q
+    known_text x clashes is Q so = known_so start (λ bytes. IsPublishedOf (codes_named h) max bytes p) Q
+        (λ bytes r. so bytes (prepared_text bytes (published_parts p) x clashes r.spelled is)) read
 
-  known_write : (start : Option (List ℕ)) (p : PublishedParts) (x : ExtractParts) (clashes : List Clash)
-      → IfSome start (λ bytes. BytesSpellPublished (codes_named h) max bytes p) → IsPreparedAs h drops p x clashes
-      → IfSome start (λ bytes. (clashes : List Clash) × IsPreparedText h drops max bytes (extract_text x) clashes)
-  known_write None p x clashes spelled is = tt
-  known_write (Some bytes) p x clashes spelled is = (clashes, prepared_text bytes p x clashes spelled is)
-
-  known_nothing : (start : Option (List ℕ)) → IfSome start (λ bytes. Unit {0})
-  known_nothing None = tt
-  known_nothing (Some bytes) = tt
-
-  module _ {W A : Type 0} (contents : W → Option (List ℕ)) (errors : W → Option ℕ) (told : A → List Clash) (old new : Sink W) where
     -- what was read was prepared
-    pub read_prepared : (start : Option (List ℕ)) (p : PublishedParts) (result : Result A FeedFault)
-        → IfSome start (λ bytes. BytesSpellPublished (codes_named h) max bytes p)
-        → WritesPrepared contents errors told h drops p old new result → (text : List ℕ) × FeedWrites contents errors text old new result
+    pub read_prepared : (result : Result A FeedFault) → WritesPrepared contents errors told h drops (published_parts p) old new result
+        → (text : List ℕ) × FeedWrites contents errors text old new result
         × IfSome start (λ bytes. Prepares told h drops max bytes text result)
-    read_prepared start p (Ok done) spelled w = (extract_text w.0, w.2, known_text start p w.0 (told done) spelled w.1)
-    read_prepared start p (Err (Extract fault.Write)) spelled w = (extract_text w.0, w.3, known_write start p w.0 w.1 spelled w.2)
-    read_prepared start p (Err (Extract fault.Memory)) spelled w = ([], w, known_nothing start)
-    read_prepared start p (Err _) spelled w = absurd w
+    read_prepared (Ok done) w = (extract_text w.0, w.2, known_text w.0 (told done) w.1 _ (λ bytes is. is))
+    read_prepared (Err (Extract fault.Write)) w = (extract_text w.0, w.3, known_text w.0 w.1 w.2 _ (λ bytes is. (w.1, is)))
+    read_prepared (Err (Extract fault.Memory)) w = ([], w, of_any start _ (λ bytes. tt))
+    read_prepared (Err _) w = absurd w
 
-    -- what is answered after an extract was read
-    pub read_fault : (start : Option (List ℕ)) (after : Unread) (p : PublishedParts) (result : Result A FeedFault)
-        → WritesPrepared contents errors told h drops p old new result
-        → IfSome start (λ bytes. IfErr result (IsPrepareFault h max bytes after))
-    read_fault None after p result w = tt
-    read_fault (Some bytes) after p (Ok done) w = tt
-    read_fault (Some bytes) after p (Err (Extract fault.Write)) w = tt
-    read_fault (Some bytes) after p (Err (Extract fault.Memory)) w = tt
-    read_fault (Some bytes) after p (Err _) w = absurd w
-
-    read_device : (p : PublishedParts) (result : Result A FeedFault) → WritesPrepared contents errors told h drops p old new result
-        → IfErr result IsDeviceOrMemory
-    read_device p (Ok done) w = tt
-    read_device p (Err (Extract fault.Write)) w = tt
-    read_device p (Err (Extract fault.Memory)) w = tt
-    read_device p (Err _) w = absurd w
-
-    pub read_accepted : (start : Option (List ℕ)) (p : PublishedParts) (result : Result A FeedFault)
-        → WritesPrepared contents errors told h drops p old new result
-        → IfSome start (λ bytes. (q : PublishedParts) → BytesSpellPublished (codes_named h) max bytes q → IfErr result IsDeviceOrMemory)
-    read_accepted None p result w = tt
-    read_accepted (Some bytes) p result w = λ q spelled. read_device p result w
-
--- ---- nothing was read
+  -- and so it has its answer, or none since a device failed or memory ran out
+  pub prepares : {W : Type 0} (contents : W → Option (List ℕ)) (errors : W → Option ℕ) (told : Vec Clash Global → List Clash)
+      (old new : Sink W) (x : PublishedExtract) (result : Result (Vec Clash Global) FeedFault)
+      → WritesPrepared contents errors told h drops (published_parts x) old new result
+      → MatchResult result (Makes (reading_published (codes_named h) max) (preparing h max (Some x)) x)
+      (Refuses (reading_published (codes_named h) max) (preparing h max (Some x)) x)
+  prepares contents errors told old new x (Ok done) w = record { answer = λ bytes is. is; whole = λ whole. tt }
+  prepares contents errors told old new x (Err (Extract fault.Write)) w =
+      record { fault = λ bytes after is. tt; answers = tt; other = refl }
+  prepares contents errors told old new x (Err (Extract fault.Memory)) w =
+      record { fault = λ bytes after is. tt; answers = tt; other = refl }
+  prepares contents errors told old new x (Err _) w = absurd w
 
 module _ (h : Holidays) (max : ℕ) where
-  as_prepare : (bytes : List ℕ) (after : Unread) (f : FeedFault) → IsFeedFault Full (codes_named h) max bytes after f
-      → IsPrepareFault h max bytes after f
-  as_prepare bytes after (Extract fault.Write) is = tt
-  as_prepare bytes after f is = is
+  -- the codes that may stand are those that the holidays name
+  pub reads-named : {R : Type 0} (remaining : R → Option (List ℕ)) (errors : R → Option ℕ) (old new : Source R)
+      (allowed : HolidayCodes) (result : Result PublishedExtract FeedFault)
+      → ((code : HolidayCode) → IsTrue (has_code allowed code) ↔ Names h code)
+      → IsResultOf remaining errors (reading_published allowed max) old new result
+      → IsResultOf remaining errors (reading_published (codes_named h) max) old new result
+  reads-named remaining errors old new allowed result are =
+      subst (λ (a : HolidayCodes). IsResultOf remaining errors (reading_published a max) old new result) (codes_are h allowed are)
 
-  pub unread_fault : (start : Option (List ℕ)) (after : Unread) (f : FeedFault)
-      → IfSome start (λ bytes. IsFeedFault Full (codes_named h) max bytes after f)
-      → IfSome start (λ bytes. IsPrepareFault h max bytes after f)
-  unread_fault None after f is = tt
-  unread_fault (Some bytes) after f is = as_prepare bytes after f is
+  pub reads-preparing : (kept : Option PublishedExtract) (f : FeedFault)
+      → HandsOn (reading_published (codes_named h) max) (preparing h max kept) f
+  reads-preparing kept (Extract fault.Write) = record { fault = λ bytes after is. tt; answers = λ is. tt; same = refl }
+  reads-preparing kept _ = record { fault = λ bytes after is. is; answers = λ is. is; same = refl }
 
-  as_device : (f : FeedFault) → IsFailure f → IsDeviceOrMemory f
-  as_device (Extract fault.Write) is = tt
-  as_device f is = is
-
-  pub unread_accepted : (start : Option (List ℕ)) (f : FeedFault)
-      → IfSome start (λ bytes. (p : PublishedParts) → BytesSpellPublished (codes_named h) max bytes p
-      → IsReadAs {A = PublishedExtract} published_parts p (Err f))
-      → IfSome start (λ bytes. (p : PublishedParts) → BytesSpellPublished (codes_named h) max bytes p → IsDeviceOrMemory f)
-  unread_accepted None f only = tt
-  unread_accepted (Some bytes) f only = λ p spelled. as_device f (only p spelled)
-
--- what was read is kept
-pub known_kept : {A : Type 0} (h : Holidays) (max : ℕ) (start : Option (List ℕ)) (x : PublishedExtract)
-    → IfSome start (λ bytes. BytesSpellPublished (codes_named h) max bytes (published_parts x))
-    → IfSome start (λ bytes. x.passed ≡ passed_of (contents_of bytes)) → (result : Result A FeedFault)
-    → IfSome start (λ bytes. IfOk result (λ done. IsReadOf h max bytes x))
-known_kept h max None x spelled passed result = tt
-known_kept h max (Some bytes) x spelled passed (Ok done) = record { spelled = spelled; passed = passed }
-known_kept h max (Some bytes) x spelled passed (Err f) = tt
+  -- what is spelled isn't blamed
+  pub prepared_blames_none : (bytes : List ℕ) (after : Unread) (p : PublishedParts) → BytesSpellPublished (codes_named h) max bytes p
+      → (f : FeedFault) → IsPrepareFault h max bytes after f → IsDeviceOrMemory f
+  prepared_blames_none bytes after p s (Extract fault.Write) is = tt
+  prepared_blames_none bytes after p s f is =
+      blames_none Full (codes_named h) max bytes s.spell.lines (record { spell = s.spell.spelled; within = s.within }) after f is

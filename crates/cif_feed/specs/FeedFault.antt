@@ -1,15 +1,17 @@
 -- Why bytes are no published extract, or no update, or can't be read.
-use Rattle.std.specs.Prelude.{◌≡◌, ℕ, List, Option, IsSomeAnd, Result, Ok, Err}
+use Rattle.std.specs.Prelude.{◌≡◌, ℕ, Bool, false, List, IsSomeAnd, Result, Ok, Err}
 use Rattle.cif_columns.specs.Contents.{contents_of}
 use Rattle.cif_columns.specs.GivenLines.{IsContentDecidedOrLast}
-use Rattle.cif_columns.specs.Source.{HasFailedToRead, HasReadOn, Unread}
-use Rattle.cif_columns.specs.declared.source.Source.{Source}
-use Rattle.cif_extract.specs.ReadFault.{IsLineNumber}
+use Rattle.cif_columns.specs.Source.{Unread}
+use Rattle.cif_extract.specs.ReadCall.{ReadCall, reading}
+use Rattle.cif_extract.specs.ReadFault.{IsLineNumber, is_read}
 use Rattle.cif_extract.specs.declared.fault.Fault.TheVariants.{Refused, Read, Memory}
 use Rattle.cif_feed.specs.FeedRefusal.{IsFeedContent, IsFeedCut, IsFirstOfFeed}
+use Rattle.cif_feed.specs.SpellsFeed.{BytesSpellFeed, feed_parts}
 use Rattle.cif_feed.specs.declared.feed.Feed.{Feed}
 use Rattle.cif_feed.specs.declared.feed.FeedFault.{FeedFault}
 use Rattle.cif_feed.specs.declared.feed.FeedFault.TheVariants.{Extract, NotUpdate, BadTransaction}
+use Rattle.cif_feed.specs.declared.feed_reading.FeedExtract.{FeedExtract}
 use Rattle.cif_feed.specs.declared.holiday_code.HolidayCodes.{HolidayCodes}
 
 -- Why these bytes are none, or can't be read, where `after` is left then: their first refusal, of a content that is decided, or a failure
@@ -48,8 +50,13 @@ abbrev pub IsReadAs : {A B : Type 0} → (A → B) → B → Result A FeedFault 
 IsReadAs parts x (Ok read) = parts read ≡ x
 IsReadAs parts x (Err fault) = IsFailure fault
 
--- what a call that may answer such a fault owes its source: it fails to read exactly where it answers Read
-abbrev pub FeedReads : {R A : Type 0} → (R → Option ℕ) → Source R → Source R → Result A FeedFault → Type 0
-FeedReads errors old new (Ok done) = HasReadOn errors old new
-FeedReads errors old new (Err (Extract Read)) = HasFailedToRead errors old new
-FeedReads errors old new (Err fault) = HasReadOn errors old new
+-- whether the fault says that the source failed
+abbrev pub is_feed_read : FeedFault → Bool
+is_feed_read (Extract fault) = is_read fault
+is_feed_read _ = false
+
+-- reading what the lines of a feed say
+abbrev pub reading_feed : Feed → HolidayCodes → ℕ → ReadCall FeedExtract FeedFault
+reading_feed feed allowed max =
+    reading is_feed_read (λ bytes lines. BytesSpellFeed feed allowed max bytes (feed_parts lines)) (IsFeedFault feed allowed max)
+    (IsOfFeed max)

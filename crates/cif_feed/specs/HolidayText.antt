@@ -1,12 +1,12 @@
 -- The text of holidays, line by line, and the first line that is refused.
 use Rattle.std.specs.Prelude.{◌≡◌, ◌⊎◌, ◌↔◌, ℕ, ◌+◌, ◌<◌, ◌≤◌, ◌≢◌, ◌==◌, Bool, List, [], ◌∷◌, ◌++◌, length, All, Contains}
-use Rattle.std.specs.Prelude.{Option, Some, Result, Ok, Err, IsSomeAnd, slice_get, drop, false}
+use Rattle.std.specs.Prelude.{Option, Some, Result, Ok, Err, IsSomeAnd, slice_get, drop, true, false}
 use Rattle.std.specs.List.{before_first}
 use Rattle.cif_columns.specs.Contents.{contents_of}
 use Rattle.cif_columns.specs.Day.{StandsInYymmdd}
-use Rattle.cif_columns.specs.Source.{HasFailedToRead, HasReadOn, Unread}
+use Rattle.cif_columns.specs.Source.{Unread}
 use Rattle.cif_columns.specs.declared.line_reader.TheConstants.{MAX_LINES}
-use Rattle.cif_columns.specs.declared.source.Source.{Source}
+use Rattle.cif_extract.specs.ReadCall.{ReadCall, reading}
 use Rattle.cif_extract.specs.ReadFault.{IsLineNumber}
 use Rattle.cif_feed.specs.HolidayCode.{letter}
 use Rattle.cif_feed.specs.Holidays.{Names, IsHoliday}
@@ -153,9 +153,11 @@ AreRead (Err Read) = Unit {0}
 AreRead (Err Memory) = Unit {0}
 AreRead (Err _) = ⊥
 
--- what a call that may answer such a fault owes its source: it fails to read exactly where it answers Read
-abbrev pub HolidayReads : {R A : Type 0} → (R → Option ℕ) → Source R → Source R → Result A HolidayFault → Type 0
-HolidayReads errors old new (Ok done) = HasReadOn errors old new
-HolidayReads errors old new (Err (BadHoliday line)) = HasReadOn errors old new
-HolidayReads errors old new (Err Read) = HasFailedToRead errors old new
-HolidayReads errors old new (Err Memory) = HasReadOn errors old new
+-- whether the fault says that the source failed
+abbrev pub is_holiday_read : HolidayFault → Bool
+is_holiday_read Read = true
+is_holiday_read _ = false
+
+-- reading holidays
+abbrev pub reading_holidays : ReadCall Holidays HolidayFault
+reading_holidays = reading is_holiday_read SpellHolidays IsHolidayFault IsOfHolidays

@@ -5,10 +5,10 @@ use Rattle.cif_columns.specs.JudgedContents.{IsGiven, MayGoOn, judged_contents}
 use Rattle.cif_columns.specs.Source.{Unread}
 use Rattle.cif_columns.specs.declared.refusal.Refusal.{Refusal}
 use Rattle.cif_columns.specs.declared.refusal.Refusal.TheVariants.{TooManyLines}
-use Rattle.cif_columns.specs.declared.source.Source.{Source}
 use Rattle.cif_extract.specs.ExtractParts.{ExtractParts, extract_parts}
 use Rattle.cif_extract.specs.FirstRefusal.{IsFirstRefusal}
-use Rattle.cif_extract.specs.ReadFault.{LeavesNothing}
+use Rattle.cif_extract.specs.ReadCall.{ReadCall, reading}
+use Rattle.cif_extract.specs.ReadFault.{IsOfReading, is_read}
 use Rattle.cif_extract.specs.SpellsExtract.{BytesSpellWithin}
 use Rattle.cif_extract.specs.declared.fault.Fault.{Fault}
 use Rattle.cif_extract.specs.declared.fault.Fault.TheVariants.{Refused, Read, Memory}
@@ -72,8 +72,12 @@ IsReadAsJudged x (Err Read) = Unit {0}
 IsReadAsJudged x (Err Memory) = Unit {0}
 IsReadAsJudged x (Err _) = ⊥
 
--- where an extract is answered, nothing is left
-abbrev pub JudgedLeaves : {R E : Type 0} → (R → Option (List ℕ)) → Source R → Source R → Result Judged E → Type 0
-JudgedLeaves remaining old new (Ok (Extract x)) = LeavesNothing {A = ExtractParts} {E = Fault} remaining old new (Ok (extract_parts x))
-JudgedLeaves remaining old new (Ok (Reasons told)) = ⊤
-JudgedLeaves remaining old new (Err fault) = ⊤
+-- an extract is answered at the end of an input, and reasons where the first lines have some
+abbrev pub IsAtEnd : Judged → Type 0
+IsAtEnd (Extract x) = ⊤
+IsAtEnd (Reasons told) = ⊥
+
+-- judging each line by itself, where `after` is left
+abbrev pub judging : ℕ → Unread → ReadCall Judged Fault
+judging max after =
+    record (reading is_read (λ bytes. IsJudgedAs max bytes after) (IsJudgedFault max) (IsOfReading max)) { IsWhole = IsAtEnd }

@@ -3,6 +3,7 @@ use Rattle.std.specs.Prelude.{◌≡◌, ℕ, ◌≤◌, List, [], ◌∷◌, �
 use Rattle.std.specs.List.{flat_map}
 use Rattle.cif_columns.specs.Contents.{contents_of, lines_text}
 use Rattle.cif_columns.specs.Field.{plain_line}
+use Rattle.cif_extract.specs.ReadCall.{ReadCall, reading}
 use Rattle.cif_extract.specs.Texts.{body_tables, rows_on}
 use Rattle.cif_calendar.specs.Entries.{association_terms, schedule_terms}
 use Rattle.cif_extract.specs.BodyParts.{BodyParts}
@@ -16,12 +17,14 @@ use Rattle.cif_records.specs.declared.association.AssocKey.{AssocKey}
 use Rattle.cif_records.specs.declared.association.Association.{Association}
 use Rattle.cif_records.specs.declared.header.Header.{Header}
 use Rattle.cif_records.specs.declared.tiploc.Tiploc.{Tiploc}
+use Rattle.cif_feed.specs.FeedFault.{IsFeedFault, IsOfFeed, is_feed_read}
 use Rattle.cif_feed.specs.FromLines.{AreTriples}
 use Rattle.cif_feed.specs.HolidayCode.{letter}
 use Rattle.cif_feed.specs.ProfileLine.{with_columns}
 use Rattle.cif_feed.specs.Published.{PublishedTerms}
-use Rattle.cif_feed.specs.SpellsFeed.{FeedParts, SpellFeed}
+use Rattle.cif_feed.specs.SpellsFeed.{FeedParts, SpellFeed, passed_of}
 use Rattle.cif_feed.specs.declared.feed.Feed.TheVariants.{Full}
+use Rattle.cif_feed.specs.declared.feed.FeedFault.{FeedFault}
 use Rattle.cif_feed.specs.declared.holiday_code.HolidayCode.{HolidayCode}
 use Rattle.cif_feed.specs.declared.holiday_code.HolidayCodes.{HolidayCodes}
 use Rattle.cif_feed.specs.declared.mark.Numbered.{Numbered}
@@ -122,3 +125,12 @@ published_lines p = plain_line (header_table p.header) ∷ (map (λ (t : Tiploc)
 -- its text: its lines, each with a line feed, and nothing else
 abbrev pub published_text : PublishedParts → List ℕ
 published_text p = lines_text (published_lines p)
+
+-- the published extract that the bytes spell, and how many comments and notes were passed over
+pub record IsPublishedOf (allowed : HolidayCodes) (max : ℕ) (bytes : List ℕ) (x : PublishedExtract) : Type 0 where
+  pub spelled : BytesSpellPublished allowed max bytes (published_parts x)
+  pub passed : x.passed ≡ passed_of (contents_of bytes)
+
+-- reading one
+abbrev pub reading_published : HolidayCodes → ℕ → ReadCall PublishedExtract FeedFault
+reading_published allowed max = reading is_feed_read (IsPublishedOf allowed max) (IsFeedFault Full allowed max) (IsOfFeed max)

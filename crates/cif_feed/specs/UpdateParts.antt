@@ -2,20 +2,23 @@
 use Rattle.std.specs.Prelude.{◌≡◌, ℕ, ◌≤◌, List, [], ◌∷◌, ◌++◌, length, if◌then◌else◌}
 use Rattle.cif_columns.specs.Contents.{contents_of}
 use Rattle.cif_columns.specs.declared.stp.Stp.{Stp}
+use Rattle.cif_extract.specs.ReadCall.{ReadCall, reading}
 use Rattle.cif_extract.specs.declared.extract.Schedule.{Schedule}
 use Rattle.cif_records.specs.Checks.{are}
 use Rattle.cif_records.specs.declared.association.AssocKey.{AssocKey}
 use Rattle.cif_records.specs.declared.association.Association.{Association}
 use Rattle.cif_records.specs.declared.header.Header.{Header}
 use Rattle.cif_records.specs.declared.tiploc.Tiploc.{Tiploc}
+use Rattle.cif_feed.specs.FeedFault.{IsFeedFault, IsOfFeed, is_feed_read}
 use Rattle.cif_feed.specs.FromLines.{AreTriples}
 use Rattle.cif_feed.specs.HolidayCode.{all_codes}
 use Rattle.cif_feed.specs.PublishedParts.{IsPublishedAssociation, IsPublishedSchedule}
 use Rattle.cif_feed.specs.RecordKeys.{tiploc_key}
-use Rattle.cif_feed.specs.SpellsFeed.{FeedParts, SpellFeed}
+use Rattle.cif_feed.specs.SpellsFeed.{FeedParts, SpellFeed, passed_of}
 use Rattle.cif_feed.specs.declared.changes.Action.TheVariants.{New, Revised, Deleted}
 use Rattle.cif_feed.specs.declared.changes.Change.{Change}
 use Rattle.cif_feed.specs.declared.feed.Feed.TheVariants.{Update}
+use Rattle.cif_feed.specs.declared.feed.FeedFault.{FeedFault}
 use Rattle.cif_feed.specs.declared.mark.Numbered.{Numbered}
 use Rattle.cif_feed.specs.declared.mark.RecordMark.{RecordMark}
 use Rattle.cif_feed.specs.declared.mark.TiplocMark.{TiplocMark}
@@ -105,3 +108,12 @@ pub record SpellUpdate (contents : List (List ℕ)) (u : UpdateParts) : Type 0 w
 pub record BytesSpellUpdate (max : ℕ) (bytes : List ℕ) (u : UpdateParts) : Type 0 where
   pub spell : SpellUpdate (contents_of bytes) u
   pub within : length (contents_of bytes) ≤ max
+
+-- the update that the bytes spell, and how many comments and notes were passed over
+pub record IsUpdateOf (max : ℕ) (bytes : List ℕ) (u : declared.Update) : Type 0 where
+  pub spelled : BytesSpellUpdate max bytes (update_parts u)
+  pub passed : u.passed ≡ passed_of (contents_of bytes)
+
+-- reading one
+abbrev pub reading_update : ℕ → ReadCall declared.Update FeedFault
+reading_update max = reading is_feed_read (IsUpdateOf max) (IsFeedFault Update all_codes max) (IsOfFeed max)

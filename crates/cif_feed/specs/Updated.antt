@@ -1,8 +1,9 @@
 -- What an update does to a published extract.
 use Rattle.std.specs.Prelude.{◌≡◌, ◌⊎◌, ℕ, ◌==◌, Bool, true, false, List, [], ◌∷◌, ◌++◌, Some, slice_get, if◌then◌else◌}
 use Rattle.cif_columns.specs.Source.{Unread}
+use Rattle.cif_extract.specs.ReadCall.{ReadCall, reading}
 use Rattle.cif_feed.specs.Changes.{AreAfter, AreRefused}
-use Rattle.cif_feed.specs.FeedFault.{IsFeedFault, IsOfFeed}
+use Rattle.cif_feed.specs.FeedFault.{IsFeedFault, IsOfFeed, is_feed_read}
 use Rattle.cif_feed.specs.HolidayCode.{all_codes}
 use Rattle.cif_feed.specs.PublishedParts.{PublishedParts}
 use Rattle.cif_feed.specs.RecordKeys.{association_key, schedule_key, tiploc_key}
@@ -13,6 +14,7 @@ use Rattle.cif_feed.specs.declared.feed.FeedFault.{FeedFault}
 use Rattle.cif_feed.specs.declared.feed.FeedFault.TheVariants.{NotThere, AlreadyThere}
 use Rattle.cif_feed.specs.declared.published.PublishedAssociation.{PublishedAssociation}
 use Rattle.cif_feed.specs.declared.published.PublishedSchedule.{PublishedSchedule}
+use Rattle.cif_feed.specs.declared.update.Outcome.{Outcome}
 
 -- the keys of the records of a published extract
 abbrev pub published_association_key : PublishedAssociation → AssociationKey
@@ -85,3 +87,9 @@ abbrev pub IsOfUpdate : ℕ → FeedFault → Type 0
 IsOfUpdate max (NotThere line) = Unit {0}
 IsOfUpdate max (AlreadyThere line) = Unit {0}
 IsOfUpdate max fault = IsOfFeed max fault
+
+-- reading an update and doing it, which makes `new` of `old`
+abbrev pub updating : Bool → PublishedParts → PublishedParts → ℕ → ReadCall Outcome FeedFault
+updating lenient old new max =
+    reading is_feed_read (λ bytes done. IsUpdatedBy lenient old max bytes new done.waived.items) (IsUpdateFault lenient old max)
+    (IsOfUpdate max)

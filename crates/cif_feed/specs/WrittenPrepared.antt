@@ -1,19 +1,19 @@
 -- What comes of preparing what a source gives, and writing it.
-use Rattle.std.specs.Prelude.{◌≡◌, ℕ, ⊤, Bool, true, false, List, [], Option, Result, Ok, Err}
-use Rattle.cif_columns.specs.Contents.{contents_of}
+use Rattle.std.specs.Prelude.{◌≡◌, ℕ, ⊤, Bool, true, false, List, [], Option, Result, Ok, Err, IsSomeAnd, Vec}
+use Rattle.std.specs.Global.{Global}
 use Rattle.cif_columns.specs.Sink.{HasFailed, HasWritten}
 use Rattle.cif_columns.specs.Source.{Unread}
 use Rattle.cif_columns.specs.declared.sink.Sink.{Sink}
 use Rattle.cif_extract.specs.ExtractParts.{ExtractParts}
+use Rattle.cif_extract.specs.ReadCall.{ReadCall, reading}
 use Rattle.cif_extract.specs.SpellsExtract.{BytesSpell}
 use Rattle.cif_extract.specs.Texts.{extract_text}
 use Rattle.cif_extract.specs.declared.fault.Clash.{Clash}
 use Rattle.cif_extract.specs.declared.fault.Fault.TheVariants.{Write, Memory}
 use Rattle.cif_feed.specs.Dropped.{AreDropped}
-use Rattle.cif_feed.specs.FeedFault.{IsFailure, IsFeedFault, IsOfFeed}
+use Rattle.cif_feed.specs.FeedFault.{IsFailure, IsFeedFault, IsOfFeed, is_feed_read}
 use Rattle.cif_feed.specs.PreparedParts.{IsPrepared}
-use Rattle.cif_feed.specs.PublishedParts.{BytesSpellPublished, PublishedParts, published_parts}
-use Rattle.cif_feed.specs.SpellsFeed.{passed_of}
+use Rattle.cif_feed.specs.PublishedParts.{BytesSpellPublished, IsPublishedOf, PublishedParts}
 use Rattle.cif_feed.specs.declared.feed.Feed.TheVariants.{Full}
 use Rattle.cif_feed.specs.declared.feed.FeedFault.{FeedFault}
 use Rattle.cif_feed.specs.declared.feed.FeedFault.TheVariants.{Extract}
@@ -57,11 +57,6 @@ pub record IsPreparedText (h : Holidays) (drops : Bool) (max : ℕ) (bytes text 
   pub text_is : text ≡ extract_text prepared
   pub spells : BytesSpell text prepared
 
--- what was read of these bytes: the published extract that they spell, and how many comments and notes were passed over
-pub record IsReadOf (h : Holidays) (max : ℕ) (bytes : List ℕ) (x : PublishedExtract) : Type 0 where
-  pub spelled : BytesSpellPublished (codes_named h) max bytes (published_parts x)
-  pub passed : x.passed ≡ passed_of (contents_of bytes)
-
 -- what a text is to an input, where it was written, or a prefix of it was
 abbrev pub Prepares : {A : Type 0} → (A → List Clash) → Holidays → Bool → ℕ → List ℕ → List ℕ → Result A FeedFault → Type 0
 Prepares told h drops max bytes text (Ok done) = IsPreparedText h drops max bytes text (told done)
@@ -88,3 +83,9 @@ IsDeviceOrMemory fault = IsFailure fault
 abbrev pub IsOfPrepare : ℕ → FeedFault → Type 0
 IsOfPrepare max (Extract Write) = Unit {0}
 IsOfPrepare max fault = IsOfFeed max fault
+
+-- reading a published extract, which is kept, and writing what is prepared of it
+abbrev pub preparing : Holidays → ℕ → Option PublishedExtract → ReadCall (Vec Clash Global) FeedFault
+preparing h max kept =
+    reading is_feed_read (λ bytes clashes. IsSomeAnd kept (IsPublishedOf (codes_named h) max bytes)) (IsPrepareFault h max)
+    (IsOfPrepare max)

@@ -1,17 +1,16 @@
 //! Reading a published extract, or an update, content by content.
 ghost use Rattle.std.specs.Prelude.{◌≡◌, ◌<◌, ◌≤◌, ◌+◌, ◌^◌, ◌++◌, ◌∷◌, [], ℕ, List, false, true, length};
-ghost use Rattle.std.specs.Prelude.{IfErr, IfOk, IfSome, All};
+ghost use Rattle.std.specs.Prelude.{IfErr, IfOk, All};
 ghost use Rattle.cif_columns.specs.Comment.{is_comment};
 ghost use Rattle.cif_columns.specs.Line.{IsLine};
-ghost use Rattle.cif_columns.specs.Source.{reader_of, source_failed};
 ghost use Rattle.cif_columns.specs.declared.line_reader.TheConstants.{MAX_LINES};
-ghost use Rattle.cif_extract.specs.ReadFault.{FaultOf, LeavesNothing};
+ghost use Rattle.cif_extract.specs.ReadCall.{IsResultOf};
 ghost use Rattle.cif_extract.specs.Steps.Reading.{GoesOnPlainly, progress_of};
 ghost use Rattle.cif_extract.specs.Taken.{IsNoTrailer};
-ghost use Rattle.cif_feed.specs.FeedFault.{FeedReads, IsFeedFault, IsOfFeed, IsReadAs};
 ghost use Rattle.cif_feed.specs.FeedRefusal.{not_full, untaken_fault};
 ghost use Rattle.cif_feed.specs.ProfileLine.{is_basic, is_trailer, profile_lines};
-ghost use Rattle.cif_feed.specs.SpellsFeed.{BytesSpellFeed, FeedParts, feed_parts};
+ghost use Rattle.cif_feed.specs.FeedFault.{reading_feed};
+ghost use Rattle.cif_feed.specs.SpellsFeed.{feed_parts};
 ghost use Rattle.cif_feed.specs.Steps.FeedReading.{HasTakenFeed, IsFeedHeld, IsFeedTaken, IsMarked, IsNoteTaken};
 ghost use Rattle.cif_feed.specs.Steps.FeedReading.{IsStopTaken, UnlessMemory};
 ghost use Rattle.cif_feed.specs.Steps.Marked.{HasMarks};
@@ -57,17 +56,10 @@ pub(crate) fn read_feed<R: ReadDevice>(
     allowed: HolidayCodes,
 ) -> Result<FeedExtract, FeedFault>
     requires within { max_lines ≤ MAX_LINES }
-    ensures ok { IfSome (R.remaining (reader_of source.old)) (λ bytes. IfOk result
-        (λ feed_extract. BytesSpellFeed feed allowed max_lines bytes (feed_parts feed_extract))) }
-    ensures only { IfSome (R.remaining (reader_of source.old)) (λ bytes. (x : FeedParts)
-        → BytesSpellFeed feed allowed max_lines bytes x → IsReadAs feed_parts x result) }
     // Each record has a mark, and an open end is the last day there is.
     ensures marked { IfOk result (λ feed_extract. HasMarks (feed_parts feed_extract)) }
-    ensures fault { FaultOf R.remaining (IsFeedFault feed allowed max_lines) source.old source.new result }
-    ensures answers { IfErr result (IsOfFeed max_lines) }
-    ensures end { LeavesNothing R.remaining source.old source.new result }
-    ensures endless { IfOk result (λ _. source_failed source.old ≡ false) }
-    ensures device { FeedReads R.read_errors source.old source.new result }
+    ensures reads { IsResultOf R.remaining R.read_errors (reading_feed feed allowed max_lines)
+        source.old source.new result }
 {
     let mut lines = LineReader::new(max_lines);
     let mut reading = FeedReading::new(alloc);

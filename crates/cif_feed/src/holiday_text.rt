@@ -2,9 +2,8 @@
 ghost use Rattle.std.specs.Prelude.{◌≡◌, ◌<◌, ◌≤◌, ◌+◌, ◌*◌, ◌++◌, ◌∷◌, [], ◌==◌, ℕ, List, All, false};
 ghost use Rattle.std.specs.Prelude.{IfErr, IfOk, IfSome, Some, length};
 ghost use Rattle.cif_columns.specs.Day.{StandsInYymmdd};
-ghost use Rattle.cif_columns.specs.Source.{reader_of, source_failed};
 ghost use Rattle.cif_columns.specs.declared.line_reader.TheConstants.{MAX_LINES};
-ghost use Rattle.cif_extract.specs.ReadFault.{FaultOf, LeavesNothing};
+ghost use Rattle.cif_extract.specs.ReadCall.{IsResultOf};
 ghost use Rattle.cif_feed.specs.Words.{words_in};
 
 use crate::words::{before_byte, first_word};
@@ -34,9 +33,7 @@ pub enum HolidayFault {
 }
 
 impl Holidays {
-    ghost use Rattle.cif_feed.specs.HolidayText.{AreRead, HolidayReads, IsHolidayFault, IsOfHolidays};
-    ghost use Rattle.cif_feed.specs.HolidayText.{SpellHolidays};
-    ghost use Rattle.cif_feed.specs.declared.holidays.Holidays.{Holidays};
+    ghost use Rattle.cif_feed.specs.HolidayText.{reading_holidays};
 
     /// The holidays of a text. Each line has at most 1,000 bytes. What begins with a `#` is a remark.
     /// What stands before it is empty, or a code and any number of dates `yymmdd`, with spaces
@@ -48,15 +45,8 @@ impl Holidays {
         alloc: Global,
         source: &mut Source<R>,
     ) -> Result<Holidays, HolidayFault>
-        ensures ok { IfSome (R.remaining (reader_of source.old)) (λ bytes.
-            IfOk result (SpellHolidays bytes)) }
-        ensures only { IfSome (R.remaining (reader_of source.old)) (λ bytes. (h : Holidays)
-            → SpellHolidays bytes h → AreRead result) }
-        ensures fault { FaultOf R.remaining IsHolidayFault source.old source.new result }
-        ensures answers { IfErr result IsOfHolidays }
-        ensures end { LeavesNothing R.remaining source.old source.new result }
-        ensures endless { IfOk result (λ _. source_failed source.old ≡ false) }
-        ensures device { HolidayReads R.read_errors source.old source.new result }
+        ensures { IsResultOf R.remaining R.read_errors reading_holidays
+            source.old source.new result }
     {
         let mut reading = HolidayReading::new(alloc);
         let mut piece = [0; PIECE];

@@ -1,12 +1,10 @@
 //! Judging each line of an input by itself, and reading the extract where no line is refused so.
 ghost use Rattle.std.specs.Prelude.{◌≡◌, ◌<◌, ◌≤◌, ◌+◌, ◌^◌, ◌++◌, ◌∷◌, [], ℕ, List, None, Some, false};
-ghost use Rattle.std.specs.Prelude.{IfErr, IfOk, IfSome, length};
+ghost use Rattle.std.specs.Prelude.{IfErr, IfOk, length};
 ghost use Rattle.cif_columns.specs.FirstLine.{line_of};
-ghost use Rattle.cif_columns.specs.Source.{reader_of, source_failed, unread_of};
+ghost use Rattle.cif_columns.specs.Source.{unread_of};
 ghost use Rattle.cif_columns.specs.declared.line_reader.TheConstants.{MAX_LINES};
-ghost use Rattle.cif_extract.specs.ExtractParts.{ExtractParts};
-ghost use Rattle.cif_extract.specs.ReadFault.{FaultOf, FaultReads, IsOfReading};
-ghost use Rattle.cif_extract.specs.SpellsExtract.{BytesSpellWithin};
+ghost use Rattle.cif_extract.specs.ReadCall.{IsResultOf};
 ghost use Rattle.cif_feed.specs.Reasons.{own_reason};
 ghost use Rattle.cif_records.specs.Record.{record_refusal};
 ghost use Rattle.cif_feed.specs.Steps.Judging.{HasJudged, IsFinished, IsInOrder};
@@ -27,7 +25,7 @@ pub enum Judged {
 }
 
 impl Judged {
-    ghost use Rattle.cif_feed.specs.Judged.{IsJudgedAs, IsJudgedFault, IsReadAsJudged, JudgedLeaves};
+    ghost use Rattle.cif_feed.specs.Judged.{judging};
 
     /// What comes of the source's lines, of which at most `max_lines` may come, each judged by itself.
     ///
@@ -44,15 +42,8 @@ impl Judged {
         max_lines: u64,
     ) -> Result<Judged, Fault>
         requires within { max_lines ≤ MAX_LINES }
-        ensures ok { IfSome (R.remaining (reader_of source.old)) (λ bytes. IfOk result
-            (IsJudgedAs max_lines bytes (unread_of R.remaining source.new))) }
-        ensures only { IfSome (R.remaining (reader_of source.old)) (λ bytes. (x : ExtractParts)
-            → BytesSpellWithin max_lines bytes x → IsReadAsJudged x result) }
-        ensures fault { FaultOf R.remaining (IsJudgedFault max_lines) source.old source.new result }
-        ensures answers { IfErr result (IsOfReading max_lines) }
-        ensures end { JudgedLeaves R.remaining source.old source.new result }
-        ensures endless { IfOk result (λ _. source_failed source.old ≡ false) }
-        ensures device { FaultReads R.read_errors source.old source.new result }
+        ensures { IsResultOf R.remaining R.read_errors
+            (judging max_lines (unread_of R.remaining source.new)) source.old source.new result }
     {
         let mut contents = ContentReader::new(max_lines);
         let mut judging = Judging::new(alloc);

@@ -1,5 +1,20 @@
 //! Laws: which published extract and which update bytes spell, and what a prepared extract and an update say.
 ghost use Rattle.std.specs.Prelude.{◌≡◌, ◌↔◌, ◌≤◌, ◌++◌, ℕ, Bool, List, Option, None, Contains, false, length};
+ghost use Rattle.std.specs.Prelude.{IfErr, IfOk, Result};
+ghost use Rattle.cif_columns.specs.Source.{Unread};
+ghost use Rattle.cif_extract.specs.declared.fault.Fault.{Fault};
+ghost use Rattle.cif_feed.specs.FeedFault.{IsFailure, IsFeedFault, IsReadAs};
+ghost use Rattle.cif_feed.specs.HolidayText.{AreRead, IsHolidayFault, SpellHolidays};
+ghost use Rattle.cif_feed.specs.Judged.{IsJudgedAs, IsJudgedFault, IsReadAsJudged};
+ghost use Rattle.cif_feed.specs.PublishedParts.{IsPublishedOf};
+ghost use Rattle.cif_feed.specs.UpdateParts.{IsUpdateOf};
+ghost use Rattle.cif_feed.specs.WrittenPrepared.{IsDeviceOrMemory, IsPrepareFault, codes_named};
+ghost use Rattle.cif_feed.specs.declared.feed.Feed.TheVariants.{Full};
+ghost use Rattle.cif_feed.specs.declared.feed.Feed.TheVariants as feed;
+ghost use Rattle.cif_feed.specs.declared.holiday_text.HolidayFault.{HolidayFault};
+ghost use Rattle.cif_feed.specs.declared.judged.Judged.{Judged};
+ghost use Rattle.cif_feed.specs.declared.published_extract.PublishedExtract.{PublishedExtract};
+ghost use Rattle.cif_feed.specs.declared.update.Update.{Update};
 ghost use Rattle.cif_calendar.specs.Applies.{Applies};
 ghost use Rattle.cif_calendar.specs.Clash.{IsClear};
 ghost use Rattle.cif_calendar.specs.Entries.{association_entries, schedule_entries};
@@ -16,7 +31,7 @@ ghost use Rattle.cif_records.specs.declared.association.AssocKey.{AssocKey};
 ghost use Rattle.cif_feed.specs.Prepared.{AreClosed, ArePrepared, HaveSameWinners, SayTheSame, part_terms};
 ghost use Rattle.cif_feed.specs.PreparedParts.{IsPrepared};
 ghost use Rattle.cif_feed.specs.Published.{AppliesAsPublished, CountOn, PublishedTerms};
-ghost use Rattle.cif_feed.specs.PublishedParts.{PublishedParts, published_associations, published_schedules};
+ghost use Rattle.cif_feed.specs.PublishedParts.{PublishedParts, published_associations, published_parts, published_schedules};
 ghost use Rattle.cif_feed.specs.LastDay.{last_day};
 ghost use Rattle.cif_extract.specs.SpellsExtract.{BytesSpellWithin};
 ghost use Rattle.cif_columns.specs.Contents.{contents_of};
@@ -26,7 +41,7 @@ ghost use Rattle.cif_feed.specs.OfProfile.{as_published, of_profile};
 ghost use Rattle.cif_feed.specs.PublishedParts.{BytesSpellPublished, SpellPublished};
 ghost use Rattle.cif_feed.specs.PublishedParts.{published_lines, published_text};
 ghost use Rattle.cif_feed.specs.UpdateParts.{BytesSpellUpdate};
-ghost use Rattle.cif_feed.specs.Updated.{IsUpdated};
+ghost use Rattle.cif_feed.specs.Updated.{IsUpdateFault, IsUpdated, MayBeDone};
 ghost use Rattle.cif_feed.specs.UpdatesInTurn.{IsRefused, IsWritten};
 ghost use Rattle.cif_columns.specs.Line.{IsLine};
 ghost use Rattle.cif_extract.specs.OrderOfRecords.{place_behind};
@@ -41,13 +56,39 @@ ghost use Rattle.cif_feed.specs.declared.changes.RefusedLine.{RefusedLine};
 ghost use Rattle.cif_feed.specs.declared.feed.FeedFault.{FeedFault};
 ghost use Rattle.cif_extract.specs.SpellsExtract.{BytesSpell};
 ghost use Rattle.cif_extract.specs.Texts.{extract_text};
-ghost use Rattle.cif_feed.specs.UpdateParts.{SpellUpdate, UpdateParts};
+ghost use Rattle.cif_feed.specs.UpdateParts.{SpellUpdate, UpdateParts, update_parts};
 ghost use Rattle.cif_feed.specs.declared.holiday_code.HolidayCodes.{HolidayCodes};
 ghost use Rattle.cif_feed.specs.declared.holiday_code.HolidayCode.{HolidayCode};
 ghost use Rattle.cif_feed.specs.declared.holidays.Holidays.{Holidays};
 ghost use Rattle.cif_feed.specs.declared.part.Part.{Part};
 
 use cif_calendar::Entry;
+
+/// What bytes spell is what is read of them, where it is a result of `PublishedExtract::read`,
+/// `Update::read`, `update_from`, `Judged::read`, `Holidays::read` or `write_prepared`, unless a device
+/// fails or memory runs out.
+pub fn what_bytes_spell_is_read()
+    ensures published { (allowed : HolidayCodes) (max : ℕ) (bytes : List ℕ) (after : Unread)
+        (x : PublishedParts) (result : Result PublishedExtract FeedFault)
+        → BytesSpellPublished allowed max bytes x → IfOk result (IsPublishedOf allowed max bytes)
+        → IfErr result (IsFeedFault Full allowed max bytes after) → IsReadAs published_parts x result }
+    ensures update { (max : ℕ) (bytes : List ℕ) (after : Unread) (x : UpdateParts)
+        (result : Result Update FeedFault) → BytesSpellUpdate max bytes x → IfOk result (IsUpdateOf max bytes)
+        → IfErr result (IsFeedFault feed.Update all_codes max bytes after) → IsReadAs update_parts x result }
+    ensures updated { (lenient : Bool) (max : ℕ) (old : PublishedParts) (bytes : List ℕ) (after : Unread)
+        (u : UpdateParts) (fault : FeedFault) → BytesSpellUpdate max bytes u → MayBeDone lenient old u
+        → IsUpdateFault lenient old max bytes after fault → IsFailure fault }
+    ensures judged { (max : ℕ) (bytes : List ℕ) (after : Unread) (x : ExtractParts)
+        (result : Result Judged Fault) → BytesSpellWithin max bytes x
+        → IfOk result (IsJudgedAs max bytes after) → IfErr result (IsJudgedFault max bytes after)
+        → IsReadAsJudged x result }
+    ensures holidays { (bytes : List ℕ) (after : Unread) (h : Holidays)
+        (result : Result Holidays HolidayFault) → SpellHolidays bytes h
+        → IfErr result (IsHolidayFault bytes after) → AreRead result }
+    ensures prepared { (h : Holidays) (max : ℕ) (bytes : List ℕ) (after : Unread) (x : PublishedParts)
+        (fault : FeedFault) → BytesSpellPublished (codes_named h) max bytes x
+        → IsPrepareFault h max bytes after fault → IsDeviceOrMemory fault }
+{}
 
 /// The parts of a record apply on exactly the dates on which it applies as published.
 pub fn parts_apply_as_published<E: Entry>()

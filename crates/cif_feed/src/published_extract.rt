@@ -1,14 +1,10 @@
 //! Published extracts: reading and writing them.
-ghost use Rattle.std.specs.Prelude.{◌≡◌, ◌≤◌, IfErr, IfOk, IfSome, false};
-ghost use Rattle.cif_columns.specs.Contents.{contents_of};
-ghost use Rattle.cif_columns.specs.Source.{reader_of, source_failed};
+ghost use Rattle.std.specs.Prelude.{◌≡◌, ◌≤◌, IfOk};
 ghost use Rattle.cif_columns.specs.declared.line_reader.TheConstants.{MAX_LINES};
-ghost use Rattle.cif_extract.specs.ReadFault.{FaultOf, LeavesNothing};
-ghost use Rattle.cif_feed.specs.FeedFault.{FeedReads, IsFeedFault, IsOfFeed, IsReadAs};
+ghost use Rattle.cif_extract.specs.ReadCall.{IsResultOf};
 ghost use Rattle.cif_feed.specs.PublishedParts.{with_code, with_open_end};
-ghost use Rattle.cif_feed.specs.SpellsFeed.{feed_parts, passed_of};
+ghost use Rattle.cif_feed.specs.SpellsFeed.{feed_parts};
 ghost use Rattle.cif_feed.specs.Steps.Marked.{HasMarks};
-ghost use Rattle.cif_feed.specs.declared.feed.Feed.TheVariants.{Full};
 
 use crate::feed_reading::{FeedExtract, read_feed};
 use crate::from_lines::{FromLine, from_lines};
@@ -40,8 +36,8 @@ pub struct PublishedExtract {
 }
 
 impl PublishedExtract {
-    ghost use Rattle.cif_feed.specs.PublishedParts.{BytesSpellPublished, PublishedParts, SayPublished};
-    ghost use Rattle.cif_feed.specs.PublishedParts.{published_parts};
+    ghost use Rattle.cif_feed.specs.PublishedParts.{SayPublished, published_parts};
+    ghost use Rattle.cif_feed.specs.PublishedParts.{reading_published};
 
     /// The published extract that the source's contents spell, of which at most `max_lines` may come.
     /// `allowed` are the holiday codes that may stand in it.
@@ -56,18 +52,8 @@ impl PublishedExtract {
         allowed: HolidayCodes,
     ) -> Result<PublishedExtract, FeedFault>
         requires within { max_lines ≤ MAX_LINES }
-        ensures ok { IfSome (R.remaining (reader_of source.old)) (λ bytes. IfOk result
-            (λ extract. BytesSpellPublished allowed max_lines bytes (published_parts extract))) }
-        ensures only { IfSome (R.remaining (reader_of source.old)) (λ bytes. (x : PublishedParts)
-            → BytesSpellPublished allowed max_lines bytes x → IsReadAs published_parts x result) }
-        ensures passed { IfSome (R.remaining (reader_of source.old)) (λ bytes. IfOk result
-            (λ extract. extract.passed ≡ passed_of (contents_of bytes))) }
-        ensures fault { FaultOf R.remaining (IsFeedFault Full allowed max_lines) source.old source.new
-            result }
-        ensures answers { IfErr result (IsOfFeed max_lines) }
-        ensures end { LeavesNothing R.remaining source.old source.new result }
-        ensures endless { IfOk result (λ _. source_failed source.old ≡ false) }
-        ensures device { FeedReads R.read_errors source.old source.new result }
+        ensures { IsResultOf R.remaining R.read_errors (reading_published allowed max_lines)
+            source.old source.new result }
     {
         match read_feed(alloc, source, max_lines, Feed::Full, allowed) {
             Ok(lines) => match PublishedExtract::of_lines(alloc, lines) {

@@ -1,13 +1,9 @@
 //! Updates: reading one, and doing what it says to a published extract.
-ghost use Rattle.std.specs.Prelude.{◌≡◌, ◌≢◌, ◌≤◌, ◌++◌, ◌∷◌, [], IfErr, IfOk, IfSome, length, false, reverse};
-ghost use Rattle.cif_columns.specs.Contents.{contents_of};
-ghost use Rattle.cif_columns.specs.Source.{reader_of, source_failed};
+ghost use Rattle.std.specs.Prelude.{◌≡◌, ◌≢◌, ◌≤◌, ◌++◌, ◌∷◌, [], IfErr, IfOk, length, false, reverse};
 ghost use Rattle.cif_columns.specs.declared.line_reader.TheConstants.{MAX_LINES};
-ghost use Rattle.cif_extract.specs.ReadFault.{FaultOf, LeavesNothing};
-ghost use Rattle.cif_feed.specs.FeedFault.{FeedReads, IsFailure, IsFeedFault, IsOfFeed, IsReadAs};
-ghost use Rattle.cif_feed.specs.HolidayCode.{all_codes};
+ghost use Rattle.cif_extract.specs.ReadCall.{IsResultOf};
 ghost use Rattle.cif_feed.specs.PublishedParts.{published_parts};
-ghost use Rattle.cif_feed.specs.SpellsFeed.{feed_parts, passed_of};
+ghost use Rattle.cif_feed.specs.SpellsFeed.{feed_parts};
 ghost use Rattle.cif_feed.specs.Steps.Marked.{HasMarks};
 ghost use Rattle.cif_feed.specs.UpdateParts.{change_by, tiploc_changes, tiploc_changes_by};
 ghost use Rattle.cif_feed.specs.Updated.{told_once};
@@ -45,7 +41,8 @@ pub struct Update {
 }
 
 impl Update {
-    ghost use Rattle.cif_feed.specs.UpdateParts.{BytesSpellUpdate, SayUpdate, UpdateParts, update_parts};
+    ghost use Rattle.cif_feed.specs.UpdateParts.{reading_update};
+    ghost use Rattle.cif_feed.specs.UpdateParts.{SayUpdate, update_parts};
 
     /// The update that the source's contents spell, of which at most `max_lines` may come.
     ///
@@ -58,18 +55,8 @@ impl Update {
         max_lines: u64,
     ) -> Result<Update, FeedFault>
         requires within { max_lines ≤ MAX_LINES }
-        ensures ok { IfSome (R.remaining (reader_of source.old)) (λ bytes. IfOk result
-            (λ update. BytesSpellUpdate max_lines bytes (update_parts update))) }
-        ensures only { IfSome (R.remaining (reader_of source.old)) (λ bytes. (u : UpdateParts)
-            → BytesSpellUpdate max_lines bytes u → IsReadAs update_parts u result) }
-        ensures passed { IfSome (R.remaining (reader_of source.old)) (λ bytes. IfOk result
-            (λ update. update.passed ≡ passed_of (contents_of bytes))) }
-        ensures fault { FaultOf R.remaining (IsFeedFault feed.Update all_codes max_lines) source.old
-            source.new result }
-        ensures answers { IfErr result (IsOfFeed max_lines) }
-        ensures end { LeavesNothing R.remaining source.old source.new result }
-        ensures endless { IfOk result (λ _. source_failed source.old ≡ false) }
-        ensures device { FeedReads R.read_errors source.old source.new result }
+        ensures { IsResultOf R.remaining R.read_errors (reading_update max_lines)
+            source.old source.new result }
     {
         match read_feed(alloc, source, max_lines, Feed::Update, HolidayCodes::all()) {
             Ok(lines) => match Update::of_lines(alloc, lines) {
@@ -116,9 +103,9 @@ impl Update {
 }
 
 impl PublishedExtract {
-    ghost use Rattle.cif_feed.specs.UpdateParts.{BytesSpellUpdate, UpdateParts, update_parts};
-    ghost use Rattle.cif_feed.specs.Updated.{AreRefusedLines, IsOfUpdate, IsUpdateFault, IsUpdated, IsUpdatedBy};
-    ghost use Rattle.cif_feed.specs.Updated.{MayBeDone};
+    ghost use Rattle.cif_feed.specs.Updated.{updating};
+    ghost use Rattle.cif_feed.specs.UpdateParts.{update_parts};
+    ghost use Rattle.cif_feed.specs.Updated.{AreRefusedLines, IsUpdated};
 
     /// Applies the update. Returns the lines that don't fit, in their order, each once; they are applied
     /// anyway.
@@ -160,18 +147,9 @@ impl PublishedExtract {
         lenient: bool,
     ) -> Result<Outcome, FeedFault>
         requires within { max_lines ≤ MAX_LINES }
-        ensures ok { IfSome (R.remaining (reader_of source.old)) (λ bytes. IfOk result (λ done.
-            IsUpdatedBy lenient (published_parts self.old) max_lines bytes (published_parts self.new)
-            done.waived.items)) }
-        ensures only { IfSome (R.remaining (reader_of source.old)) (λ bytes. (u : UpdateParts)
-            → BytesSpellUpdate max_lines bytes u → MayBeDone lenient (published_parts self.old) u
-            → IfErr result IsFailure) }
-        ensures fault { FaultOf R.remaining (IsUpdateFault lenient (published_parts self.old) max_lines)
+        ensures { IsResultOf R.remaining R.read_errors
+            (updating lenient (published_parts self.old) (published_parts self.new) max_lines)
             source.old source.new result }
-        ensures answers { IfErr result (IsOfUpdate max_lines) }
-        ensures end { LeavesNothing R.remaining source.old source.new result }
-        ensures endless { IfOk result (λ _. source_failed source.old ≡ false) }
-        ensures device { FeedReads R.read_errors source.old source.new result }
     {
         match Update::read(alloc, source, max_lines) {
             Ok(update) => {

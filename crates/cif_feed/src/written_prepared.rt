@@ -1,12 +1,10 @@
 //! Preparing what a source gives, and writing it.
-ghost use Rattle.std.specs.Prelude.{◌≤◌, ℕ, List, IfErr, IfOk, IfSome, IsSomeAnd};
+ghost use Rattle.std.specs.Prelude.{◌≤◌, ℕ, List, IfOk, IfSome};
 ghost use Rattle.cif_columns.specs.Source.{reader_of};
 ghost use Rattle.cif_columns.specs.declared.line_reader.TheConstants.{MAX_LINES};
-ghost use Rattle.cif_extract.specs.ReadFault.{FaultOf, LeavesNothing};
-ghost use Rattle.cif_feed.specs.FeedFault.{FeedReads};
-ghost use Rattle.cif_feed.specs.PublishedParts.{BytesSpellPublished, PublishedParts};
-ghost use Rattle.cif_feed.specs.WrittenPrepared.{FeedWrites, IsDeviceOrMemory, IsDroppedIf, IsOfPrepare};
-ghost use Rattle.cif_feed.specs.WrittenPrepared.{IsPrepareFault, IsReadOf, Prepares, codes_named};
+ghost use Rattle.cif_extract.specs.ReadCall.{IsResultOf};
+ghost use Rattle.cif_feed.specs.WrittenPrepared.{preparing};
+ghost use Rattle.cif_feed.specs.WrittenPrepared.{FeedWrites, IsDroppedIf, Prepares};
 
 use crate::{FeedFault, Holidays, Prepared, PublishedExtract};
 use cif_columns::{ReadDevice, Sink, Source, WriteDevice, WriteFault};
@@ -34,14 +32,8 @@ pub fn write_prepared<R: ReadDevice, W: WriteDevice>(
         × FeedWrites W.contents W.write_errors text sink.old sink.new result
         × IfSome (R.remaining (reader_of source.old)) (λ bytes.
         Prepares (λ clashes. clashes.items) holidays.now drops_clashes max_lines bytes text result) }
-    ensures fault { FaultOf R.remaining (IsPrepareFault holidays.now max_lines) source.old source.new result }
-    ensures accepted { IfSome (R.remaining (reader_of source.old)) (λ bytes. (p : PublishedParts)
-        → BytesSpellPublished (codes_named holidays.now) max_lines bytes p → IfErr result IsDeviceOrMemory) }
-    ensures answers { IfErr result (IsOfPrepare max_lines) }
-    ensures source { FeedReads R.read_errors source.old source.new result }
-    ensures end { LeavesNothing R.remaining source.old source.new result }
-    ensures kept { IfSome (R.remaining (reader_of source.old)) (λ bytes. IfOk result (λ _.
-        IsSomeAnd kept.new (IsReadOf holidays.now max_lines bytes))) }
+    ensures reads { IsResultOf R.remaining R.read_errors
+        (preparing holidays.now max_lines kept.new) source.old source.new result }
 {
     match PublishedExtract::read(alloc, source, max_lines, holidays.codes()) {
         Ok(extract) => {

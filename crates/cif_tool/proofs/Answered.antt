@@ -1,17 +1,24 @@
 -- What a command owes its sink, by the calls that it makes.
-use Rattle.std.proofs.Common.{◌≡◌, ◌≢◌, ℕ, List, [], Option, Result, Ok, Err, IfOk, IfErr, refl, sym, subst, append-nil, ap, ◌∙◌}
+use Rattle.std.proofs.Common.{◌≡◌, ◌≢◌, ℕ, false, List, [], Option, Result, Ok, Err, IfOk, IfErr, refl, sym, subst, append-nil, ap, ◌∙◌}
 use Rattle.std.specs.Prelude.{IsErrAnd, MatchResult}
 use Rattle.std.proofs.lemmas.Result.{IfOk-weaker, err_from_is_err_and}
 use Rattle.cif_columns.specs.Sink.{HasFailed, HasWritten, Writes}
 use Rattle.cif_columns.specs.declared.line_reader.TheConstants.{MAX_LINES}
 use Rattle.cif_columns.specs.declared.sink.Sink.{Sink}
 use Rattle.cif_columns.proofs.WrittenTexts.{failed_second, written_both}
+use Rattle.cif_columns.specs.Source.{Unread}
+use Rattle.cif_columns.specs.declared.source.Source.{Source}
+use Rattle.cif_extract.specs.ReadCall.{IsResultOf, ReadCall}
+use Rattle.cif_extract.specs.ReadFault.{is_read}
 use Rattle.cif_extract.specs.declared.fault.Fault.{Fault}
 use Rattle.cif_extract.specs.declared.fault.Fault.TheVariants as fault
-use Rattle.cif_canon.specs.Fault.{IsOfReadNarrowed}
-use Rattle.cif_canon.specs.Normalised.{FaultWrites, IfWritten}
-use Rattle.cif_canon.proofs.HandedFaults.{at-fault}
-use Rattle.cif_tool.specs.Answer.{Answers, Finishes, IfAnswered}
+use Rattle.cif_extract.proofs.ReadCalls.{Makes, Refuses, at-fault, goes-on, hands-on}
+use Rattle.cif_weeks.specs.declared.form.Form.{Form}
+use Rattle.cif_canon.specs.Canon.{CanonParts}
+use Rattle.cif_canon.specs.Fault.{IsNormaliseFault, IsOfReadNarrowed}
+use Rattle.cif_canon.specs.Normalised.{FaultWrites, IfWritten, reading_canon}
+use Rattle.cif_canon.specs.declared.asked.Asked.{Asked}
+use Rattle.cif_tool.specs.Answer.{Answers, Finishes, IfAnswered, answering}
 
 -- what holds where a text was written, and what follows from it
 pub written-then : (A P Q : Type 0) (written : Result A Fault) → (P → Q) → IfWritten written P → IfWritten written Q
@@ -125,9 +132,67 @@ module _ {W : Type 0} (contents : W → Option (List ℕ)) (errors : W → Optio
   only-fails A Q status (Ok done) mid new result is q h = only-write Q result h.2 q
   only-fails A Q status (Err f) mid new result is q h = subst (λ r. IfErr r Q) (sym h.0) (subst Q (sym is) q)
 
+  -- an answer is the status
+  pub status-is : (A : Type 0) (status : ℕ) (written : Result A Fault) (mid new : Sink W) (result : Result ℕ Fault) →
+      Finishes contents errors status written mid new result → IfOk result (λ s. s ≡ status)
+  status-is A status (Ok done) mid new result h = h.1
+  status-is A status (Err f) mid new result h = subst (λ r. IfOk r (λ s. s ≡ status)) (sym h.0) tt
+
   -- what is said of the writing's fault, and of a failure to hand the text on
   pub handed-fault : (A : Type 0) (P Q : Fault → Type 0) (status : ℕ) (written : Result A Fault) (mid new : Sink W)
       (result : Result ℕ Fault) → ((f : Fault) → P f → Q f) → IfErr written P → IfWritten written (P fault.Write) →
       Finishes contents errors status written mid new result → IfErr result Q
   handed-fault A P Q status (Ok done) mid new result so e w h = only-write Q result h.2 (so fault.Write w)
   handed-fault A P Q status (Err f) mid new result so e w h = subst (λ r. IfErr r Q) (sym h.0) (so f e)
+
+-- ---- what a command comes to, by the call that reads for it
+
+not-read : (f : Fault) → f ≢ fault.Read → is_read f ≡ false
+not-read fault.Read other = absurd (other refl)
+not-read _ other = refl
+
+module _ {A : Type 0} (one : ReadCall A Fault) (IsFault : List ℕ → Unread → Fault → Type 0) {R : Type 0}
+    (remaining : R → Option (List ℕ)) (errors : R → Option ℕ) (old new : Source R) where
+  abbrev Comes : Result ℕ Fault → Type 0
+  Comes = IsResultOf remaining errors (answering IsFault) old new
+
+  -- a fault of reading
+  pub unread : (f : Fault) → ((bytes : List ℕ) (after : Unread) → one.IsFault bytes after f → IsFault bytes after f) →
+      one.is_read f ≡ is_read f → IsResultOf remaining errors one old new (Err f) → (result : Result ℕ Fault) →
+      IsErrAnd result (λ e. e ≡ f) → Comes result
+  unread f so same =
+      hands-on one (answering IsFault) remaining errors old new f (record { fault = so; answers = λ h. tt; same = same })
+
+  module _ (x : A) (whole : one.IsWhole x) (call : IsResultOf remaining errors one old new (Ok x)) (result : Result ℕ Fault) where
+    -- one of what was read
+    pub record Blames (f : Fault) : Type 0 where
+      pub other : f ≢ fault.Read
+      pub fault : (bytes : List ℕ) (after : Unread) → one.IsAnswer bytes x → IsFault bytes after f
+
+    pub ends : IfErr result Blames → Comes result
+    ends h = goes-on one (answering IsFault) remaining errors old new x call result (at result h)
+      where
+        at : (r : Result ℕ Fault) → IfErr r Blames → MatchResult r (Makes one (answering IsFault) x) (Refuses one (answering IsFault) x)
+        at (Ok status) h = record { answer = λ bytes is. tt; whole = λ asked. whole }
+        at (Err f) h = record { fault = h.fault; answers = tt; other = not-read f h.other }
+
+    -- which is Write alone
+    pub ends-written : ((bytes : List ℕ) (after : Unread) → one.IsAnswer bytes x → IsFault bytes after fault.Write) →
+        IfErr result (λ f. f ≡ fault.Write) → Comes result
+    ends-written so is = ends (only-write Blames result is (record { fault = so; other = λ e. cc }))
+
+-- ---- a command that reads a canonical form, and writes what it has of it
+
+module _ (form : Form) (asked : Asked) {R : Type 0} (remaining : R → Option (List ℕ)) (errors : R → Option ℕ) (old new : Source R)
+    (result : Result ℕ Fault) where
+  pub canon-unread : (f : Fault) → IsResultOf remaining errors (reading_canon form asked MAX_LINES) old new (Err f) →
+      IsErrAnd result (λ e. e ≡ f) → IsResultOf remaining errors (answering (IsNormaliseFault MAX_LINES asked)) old new result
+  canon-unread f call handed =
+      unread (reading_canon form asked MAX_LINES) (IsNormaliseFault MAX_LINES asked) remaining errors old new f (λ bytes after h. h) refl
+      call result handed
+
+  pub canon-written : (c : CanonParts) → IsResultOf remaining errors (reading_canon form asked MAX_LINES) old new (Ok c) →
+      IfErr result (λ f. f ≡ fault.Write) → IsResultOf remaining errors (answering (IsNormaliseFault MAX_LINES asked)) old new result
+  canon-written c call =
+      ends-written (reading_canon form asked MAX_LINES) (IsNormaliseFault MAX_LINES asked) remaining errors old new c tt call result
+      (λ bytes after is. tt)

@@ -1,36 +1,30 @@
 -- What `check --all` answers, by what its calls answer: of bytes that are known.
-use Rattle.std.proofs.Common.{ℕ, List, Option, IfSome, inl, inr, refl}
+use Rattle.std.proofs.Common.{◌≡◌, ℕ, false, List, Option, IfErr, IfOk, IfSome, Result, Ok, Err, ap, inl, inr, refl}
+use Rattle.std.specs.Prelude.{MatchResult}
 use Rattle.cif_columns.specs.declared.line_reader.TheConstants.{MAX_LINES}
 use Rattle.cif_columns.proofs.GivenLinesLaws.{known_so}
 use Rattle.cif_columns.specs.Source.{Unread}
-use Rattle.cif_extract.specs.ExtractParts.{ExtractParts}
-use Rattle.cif_extract.specs.SpellsExtract.{BytesSpellWithin}
+use Rattle.cif_extract.specs.ExtractParts.{ExtractParts, extract_parts}
+use Rattle.cif_extract.specs.ReadFault.{is_read}
+use Rattle.cif_extract.specs.declared.extract.Extract.{Extract}
 use Rattle.cif_extract.specs.declared.fault.Fault.{Fault}
 use Rattle.cif_extract.specs.declared.fault.Fault.TheVariants as fault
-use Rattle.cif_records.specs.declared.header.Header.{Header}
-use Rattle.cif_canon.specs.Asked.{IsNarrowingFault}
+use Rattle.cif_extract.proofs.ReadCalls.{Makes, Refuses}
+use Rattle.cif_weeks.specs.declared.form.Form.{Form}
+use Rattle.cif_canon.specs.Canon.{CanonParts}
 use Rattle.cif_canon.specs.Counts.{counts_line}
-use Rattle.cif_canon.specs.Fault.{IsCanonFault, IsNormaliseFault}
-use Rattle.cif_canon.specs.Normalised.{IsNormalised}
+use Rattle.cif_canon.specs.Fault.{IsNormaliseFault}
+use Rattle.cif_canon.specs.Normalised.{HasCanon}
 use Rattle.cif_canon.specs.declared.asked.Asked.{Asked}
 use Rattle.cif_canon.specs.declared.canonical_form.Counts.{Counts}
-use Rattle.cif_feed.specs.Judged.{HaveNone, HaveReasons, IsJudgedFault}
+use Rattle.cif_canon.proofs.Normalising.{canon-blamed, is-normalised, of-canon}
+use Rattle.cif_feed.specs.Judged.{HaveNone, HaveReasons, IsJudgedFault, judging}
 use Rattle.cif_feed.specs.Reasons.{told_text}
+use Rattle.cif_feed.specs.declared.judged.Judged.{Judged}
+use Rattle.cif_feed.specs.declared.judged.Judged.TheVariants as judged
 use Rattle.cif_feed.specs.declared.reasons.Reasons.{Reasons}
 use Rattle.cif_feed.proofs.ToldReasons.{told_as}
-use Rattle.cif_tool.specs.Answer.{CanonicalJob, IsCheckAllAnswer, IsCheckAllFault, IsCountFault}
-
--- ---- the faults of counting
-
-pub narrowing_counts : (asked : Asked) (header : Header) (f : Fault) → IsNarrowingFault asked header f → IsCountFault f
-narrowing_counts asked header fault.OutsideWindow h = tt
-narrowing_counts asked header fault.WindowReversed h = tt
-narrowing_counts asked header _ h = absurd h
-
-pub canon_counts : (x : ExtractParts) (f : Fault) → IsCanonFault x f → IsCountFault f
-canon_counts x (fault.Ambiguous clash) h = tt
-canon_counts x fault.Memory h = tt
-canon_counts x _ h = absurd h
+use Rattle.cif_tool.specs.Answer.{CanonicalJob, IsCheckAllAnswer, IsCheckAllFault, answering_all}
 
 -- ---- the answers
 
@@ -48,36 +42,58 @@ module _ (start : Option (List ℕ)) (job : CanonicalJob) where
       })) h
 
   -- counts
-  pub counts_answer : (x : ExtractParts) (counts : Counts) → IfSome start (λ bytes. HaveNone MAX_LINES bytes x)
-      → ((bytes : List ℕ) → BytesSpellWithin MAX_LINES bytes x
-      → (text : List ℕ) × IsNormalised job.form job.asked MAX_LINES bytes text counts)
+  pub counts_answer : (x : ExtractParts) (c : CanonParts) → HasCanon job.form job.asked x (Ok c)
+      → IfSome start (λ bytes. HaveNone MAX_LINES bytes x) → (counts : Counts) → counts ≡ c.counts
       → IfSome start (λ bytes. IsCheckAllAnswer job bytes (counts_line counts) 0)
-  counts_answer x counts h so =
-      known_so start _ _ (λ bytes is.
-      let normal = so bytes is.spell in
-      inr (
+  counts_answer x c has h counts same =
+      known_so start _ _ (λ bytes is. inr (
         is.none,
-        record { canonical = normal.0; counts = counts; normalised = normal.1; text_is = refl; status_is = refl },
+        record {
+          canonical = c.text;
+          counts = c.counts;
+          normalised = is-normalised MAX_LINES job.asked bytes job.form has.0
+              (record { whole = x; spelled = is.spell; narrowed = has.1 }) c has.2;
+          text_is = ap counts_line same;
+          status_is = refl;
+        },
       )) h
 
--- ---- the faults
+-- ---- what comes of the source
 
-module _ (start : Option (List ℕ)) (asked : Asked) (after : Unread) where
-  -- of reading
-  pub judged_fault : (f : Fault) → IfSome start (λ bytes. IsJudgedFault MAX_LINES bytes after f)
-      → IfSome start (λ bytes. IsCheckAllFault asked bytes after f)
+module _ (asked : Asked) (bytes : List ℕ) (after : Unread) where
+  -- a fault of reading
+  pub judged_fault : (f : Fault) → IsJudgedFault MAX_LINES bytes after f → IsCheckAllFault asked bytes after f
+  judged_fault fault.Write h = tt
+  judged_fault fault.Memory h = tt
   judged_fault (fault.Refused line why) h = h
   judged_fault fault.Read h = h
-  judged_fault fault.Write h = known_so start _ _ (λ bytes is. tt) h
-  judged_fault fault.Memory h = known_so start _ _ (λ bytes is. tt) h
-  judged_fault _ h = known_so start _ _ (λ bytes is. absurd is) h
+  judged_fault _ h = absurd h
 
-  -- of counting
-  pub counts_fault : (x : ExtractParts) (f : Fault) → IsCountFault f → IfSome start (λ bytes. HaveNone MAX_LINES bytes x)
-      → ((bytes : List ℕ) (after : Unread) → BytesSpellWithin MAX_LINES bytes x → IsNormaliseFault MAX_LINES asked bytes after f)
-      → IfSome start (λ bytes. IsCheckAllFault asked bytes after f)
-  counts_fault x (fault.Ambiguous clash) counts h so = known_so start _ _ (λ bytes is. (is.none, so bytes after is.spell)) h
-  counts_fault x fault.OutsideWindow counts h so = known_so start _ _ (λ bytes is. (is.none, so bytes after is.spell)) h
-  counts_fault x fault.WindowReversed counts h so = known_so start _ _ (λ bytes is. (is.none, so bytes after is.spell)) h
-  counts_fault x fault.Memory counts h so = known_so start _ _ (λ bytes is. tt) h
-  counts_fault x _ counts h so = absurd counts
+module _ (asked : Asked) (after : Unread) where
+  abbrev Ends : Judged → Result ℕ Fault → Type 0
+  Ends judged result = MatchResult result (Makes (judging MAX_LINES after) (answering_all asked) judged)
+      (Refuses (judging MAX_LINES after) (answering_all asked) judged)
+
+  -- reasons are written, with a status that says so
+  pub reasons-written : (told : Reasons) (result : Result ℕ Fault) → IfOk result (λ status. status ≡ 3)
+      → IfErr result (λ f. f ≡ fault.Write) → Ends (judged.Reasons told) result
+  reasons-written told (Ok status) is write = record { answer = λ bytes h. tt; whole = λ none. absurd (cc) }
+  reasons-written told (Err f) is write = rw write (record { fault = λ bytes rest h. tt; answers = tt; other = refl })
+
+  module _ (x : Extract) where
+    -- counts are
+    pub counts-written : (result : Result ℕ Fault) → IfErr result (λ f. f ≡ fault.Write) → Ends (judged.Extract x) result
+    counts-written (Ok status) write = record { answer = λ bytes h. tt; whole = λ none. tt }
+    counts-written (Err f) write = rw write (record { fault = λ bytes rest h. tt; answers = tt; other = refl })
+
+    -- or there are none
+    pub counts-not : (form : Form) (f : Fault) → HasCanon form asked (extract_parts x) (Err f)
+        → Refuses (judging MAX_LINES after) (answering_all asked) (judged.Extract x) f
+    counts-not form f has = record {
+      fault = λ bytes rest h. of-canon MAX_LINES asked form (extract_parts x)
+          (λ f. IsNormaliseFault MAX_LINES asked bytes rest f → IsCheckAllFault asked bytes rest f) (λ clash blamed. (h.none, blamed))
+          (λ blamed. (h.none, blamed)) (λ blamed. (h.none, blamed)) (λ blamed. tt) f has
+          (canon-blamed MAX_LINES asked form bytes rest (extract_parts x) h.spell f has);
+      answers = tt;
+      other = of-canon MAX_LINES asked form (extract_parts x) (λ f. is_read f ≡ false) (λ clash. refl) refl refl refl f has;
+    }

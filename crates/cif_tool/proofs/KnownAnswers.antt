@@ -1,35 +1,43 @@
 -- What the commands answer, by what their calls answer: of bytes that are known.
-use Rattle.std.proofs.Common.{◌≡◌, ◌↔◌, ◌⊎◌, ℕ, Bool, true, false, List, [], Option, IfSome, Result, Err, IfErr, IsTrue, inl, inr}
-use Rattle.std.proofs.Common.{ap, refl, sym, true≢false}
+use Rattle.std.proofs.Common.{◌≡◌, ◌↔◌, ◌⊎◌, ℕ, Bool, true, false, List, [], Option, IfSome, Result, Ok, Err, IfErr, IsTrue, inl, inr}
+use Rattle.std.proofs.Common.{⊎_elim, ap, refl, sym, true≢false}
+use Rattle.std.specs.Prelude.{IsErrAnd}
+use Rattle.cif_columns.specs.Source.{Unread, reader_of}
 use Rattle.cif_columns.specs.declared.line_reader.TheConstants.{MAX_LINES}
+use Rattle.cif_columns.specs.declared.source.Source.{Source}
 use Rattle.cif_columns.proofs.GivenLinesLaws.{known_so}
-use Rattle.cif_columns.specs.Source.{Unread}
-use Rattle.cif_extract.specs.ExtractParts.{ExtractParts}
+use Rattle.cif_extract.specs.ExtractParts.{ExtractParts, extract_parts}
+use Rattle.cif_extract.specs.ReadCall.{IsResultOfBoth}
+use Rattle.cif_extract.specs.ReadFault.{reading_extract}
 use Rattle.cif_extract.specs.SpellsExtract.{BytesSpellWithin}
+use Rattle.cif_extract.specs.declared.extract.Extract.{Extract}
 use Rattle.cif_extract.specs.declared.fault.Clash.{Clash}
 use Rattle.cif_extract.specs.declared.fault.Fault.{Fault}
 use Rattle.cif_extract.specs.declared.fault.Fault.TheVariants as fault
+use Rattle.cif_extract.proofs.ReadCalls.{both-go-on, both-hand-on}
+use Rattle.cif_weeks.specs.declared.form.Form.{Form}
 use Rattle.cif_canon.specs.Accepted.{SpellsNarrowed}
-use Rattle.cif_canon.specs.Canon.{CanonParts, IsCanonOf}
+use Rattle.cif_canon.specs.Canon.{CanonParts}
 use Rattle.cif_canon.specs.Comparison.{AreCompared, IsCompareFault, comparison_line}
-use Rattle.cif_views.specs.Clashes.{AreAllClashes, clashes_text}
 use Rattle.cif_canon.specs.Counts.{counts_line}
 use Rattle.cif_canon.specs.Differences.{AreDifferences, AreNone, DifferencesParts}
 use Rattle.cif_canon.specs.Fault.{IsNormaliseFault, IsReadNarrowedFault}
-use Rattle.cif_views.specs.Explanation.{IsExplanation}
-use Rattle.cif_canon.specs.Normalised.{IfWritten, IsNormalised, Normalises}
-use Rattle.cif_canon.specs.Pair.{IsCompareRefusal, ReadAsPair, SpellPair}
-use Rattle.cif_views.specs.Listing.{IsDayListing, IsTrainListing}
-use Rattle.cif_views.specs.Tables.{table_text}
+use Rattle.cif_canon.specs.Normalised.{IsCanonOfInput}
+use Rattle.cif_canon.specs.Pair.{IsNarrowedPair, SpellPair}
 use Rattle.cif_canon.specs.Views.{IsTrainFault}
 use Rattle.cif_canon.specs.declared.asked.Asked.{Asked}
 use Rattle.cif_canon.specs.declared.comparison.Comparison.{Comparison}
 use Rattle.cif_canon.specs.declared.canonical_form.Counts.{Counts}
-use Rattle.cif_canon.proofs.Normalising.{canon-fault}
+use Rattle.cif_canon.proofs.Normalising.{canon-fault, is-normalised}
+use Rattle.cif_views.specs.Clashes.{AreAllClashes, clashes_text}
+use Rattle.cif_views.specs.Explanation.{IsExplanation}
+use Rattle.cif_views.specs.Listing.{IsDayListing, IsTrainListing}
+use Rattle.cif_views.specs.Tables.{table_text}
 use Rattle.cif_views.specs.WeekCalendar.{IsWeekCalendar, IsWeekCalendarFault}
-use Rattle.cif_tool.specs.Answer.{CalendarJob, CanonicalJob, CompareJob, DayJob, DiffJob, ExplainJob, IsCalendarAnswer, IsCheckAnswer}
-use Rattle.cif_tool.specs.Answer.{IsClashesAnswer, IsClashlessRefusal, IsCompareAnswer, IsDayAnswer, IsDiffAnswer, IsExplainAnswer}
-use Rattle.cif_tool.specs.Answer.{IsListedStatus, IsNormaliseAnswer, IsTableAnswer, IsTrainAnswer, TableJob, TrainJob, differences_in}
+use Rattle.cif_tool.specs.Answer.{AreComparedAs, CalendarJob, CanonicalJob, CompareJob, DayJob, DiffJob, ExplainJob, IsCalendarAnswer}
+use Rattle.cif_tool.specs.Answer.{IsCheckAnswer, IsClashesAnswer, IsClashlessRefusal, IsCompareAnswer, IsDayAnswer, IsDiffAnswer}
+use Rattle.cif_tool.specs.Answer.{IsExplainAnswer, IsListedStatus, IsNormaliseAnswer, IsTableAnswer, IsTrainAnswer, TableJob, TrainJob}
+use Rattle.cif_tool.specs.Answer.{differences_in}
 use Rattle.cif_tool.specs.Status.{listed_status, outcome_of}
 
 -- the status of a list, of which it is told whether there is none
@@ -38,29 +46,38 @@ listed None true tells = inl (refl, tells.0 refl)
 listed None false tells = inr (refl, λ n. true≢false (sym (tells.1 n)))
 
 module _ (start : Option (List ℕ)) where
-  module _ (job : CanonicalJob) (counts : Counts) where
-    pub normalise-answer : (text : List ℕ) → IfSome start (λ bytes. IsNormalised job.form job.asked MAX_LINES bytes text counts) →
-        IfSome start (λ bytes. IsNormaliseAnswer job bytes text 0)
-    normalise-answer text h =
-        known_so start (λ bytes. IsNormalised job.form job.asked MAX_LINES bytes text counts) (λ bytes. IsNormaliseAnswer job bytes text 0)
-        (λ bytes is. record { counts = counts; normalised = is; status_is = refl }) h
+  -- the canonical form of what is read: its text, its counts, or a table of it
+  module _ (job : CanonicalJob) (c : CanonParts) (read : IfSome start (λ bytes. IsCanonOfInput job.form job.asked MAX_LINES bytes c)) where
+    abbrev canon : List ℕ → Type 0
+    canon bytes = IsCanonOfInput job.form job.asked MAX_LINES bytes c
 
-    pub check-answer : IfSome start (λ bytes. (text : List ℕ) × IsNormalised job.form job.asked MAX_LINES bytes text counts) →
-        IfSome start (λ bytes. IsCheckAnswer job bytes (counts_line counts) 0)
-    check-answer h =
-        known_so start (λ bytes. (text : List ℕ) × IsNormalised job.form job.asked MAX_LINES bytes text counts)
-        (λ bytes. IsCheckAnswer job bytes (counts_line counts) 0)
-        (λ bytes is. record { canonical = is.0; counts = counts; normalised = is.1; text_is = refl; status_is = refl }) h
+    pub normalise-answer : IfSome start (λ bytes. IsNormaliseAnswer job bytes c.text 0)
+    normalise-answer = known_so start canon (λ bytes. IsNormaliseAnswer job bytes c.text 0) (λ bytes h. record {
+      counts = c.counts;
+      normalised = is-normalised MAX_LINES job.asked bytes job.form h.meant h.spelled c h.is_canon;
+      status_is = refl;
+    }) read
 
-  -- a fault of `normalise`
-  pub normalise-failed : (job : CanonicalJob) (text : List ℕ) (f : Fault) →
-      IfSome start (λ bytes. Normalises job.form job.asked MAX_LINES bytes text (Err f)) →
-      IfWritten {A = Counts} (Err f) (IfSome start (λ bytes. IsNormaliseAnswer job bytes text 0))
-  normalise-failed job text fault.Write h =
-      known_so start (λ bytes. Normalises job.form job.asked MAX_LINES bytes text (Err fault.Write))
-      (λ bytes. IsNormaliseAnswer job bytes text 0)
-      (λ bytes is. record { counts = is.0; normalised = is.1; status_is = refl }) h
-  normalise-failed job text _ h = tt
+    pub check-answer : (counts : Counts) → counts ≡ c.counts → IfSome start (λ bytes. IsCheckAnswer job bytes (counts_line counts) 0)
+    check-answer counts same = known_so start canon (λ bytes. IsCheckAnswer job bytes (counts_line counts) 0) (λ bytes h. record {
+      canonical = c.text;
+      counts = c.counts;
+      normalised = is-normalised MAX_LINES job.asked bytes job.form h.meant h.spelled c h.is_canon;
+      text_is = ap counts_line same;
+      status_is = refl;
+    }) read
+
+  pub table-answer : (job : TableJob) (c : CanonParts) → IfSome start (λ bytes. IsCanonOfInput job.form job.asked MAX_LINES bytes c) →
+      IfSome start (λ bytes. IsTableAnswer job bytes (table_text job.table c.lines) 0)
+  table-answer job c read =
+      known_so start (λ bytes. IsCanonOfInput job.form job.asked MAX_LINES bytes c)
+      (λ bytes. IsTableAnswer job bytes (table_text job.table c.lines) 0) (λ bytes h. record {
+        canonical = c.text;
+        counts = c.counts;
+        normalised = is-normalised MAX_LINES job.asked bytes job.form h.meant h.spelled c h.is_canon;
+        text_is = ap (table_text job.table) h.is_canon.lines_are;
+        status_is = refl;
+      }) read
 
   module _ (x : ExtractParts) (spelled : IfSome start (λ bytes. BytesSpellWithin MAX_LINES bytes x)) where
     pub day-answer : (job : DayJob) (text : List ℕ) → IsDayListing job.listing x job.day text →
@@ -101,69 +118,40 @@ module _ (start : Option (List ℕ)) where
         status_is = listed (clashes ≡ []) none tells;
       }) spelled
 
-  pub table-answer : (job : TableJob) (x : ExtractParts) → IfSome start (SpellsNarrowed MAX_LINES job.asked x) → (c : CanonParts)
-      → IsCanonOf job.form x c → IfSome start (λ bytes. IsTableAnswer job bytes (table_text job.table c.lines) 0)
-  table-answer job x spelled c is =
-      known_so start (SpellsNarrowed MAX_LINES job.asked x) (λ bytes. IsTableAnswer job bytes (table_text job.table c.lines) 0)
-      (λ bytes s. record {
-        canonical = c.text;
-        counts = c.counts;
-        normalised = record {
-          meant = x;
-          accepted = record { spelled = s; clear = is.clear };
-          canonical = is.canonical;
-          unique = is.unique;
-          again = is.again job.asked s.whole s.narrowed;
-          reached = is.reached job.asked s.whole s.narrowed;
-          counted = is.counted;
-        };
-        text_is = ap (table_text job.table) is.lines_are;
-        status_is = refl;
-      }) spelled
-
 -- two readers, of which what they give is read as these extracts
-module _ (asked : Asked) (common : Bool) (left right : Option (List ℕ)) (x y : ExtractParts)
-    (read : ReadAsPair asked common left right x y) where
+module _ {R : Type 0} (remaining : R → Option (List ℕ)) (errors : R → Option ℕ) (left left_new right right_new : Source R)
+    (x y : Extract) where
+  abbrev AreRead : Asked → Bool → Type 0
+  AreRead asked common =
+      IsResultOfBoth remaining errors (reading_extract MAX_LINES) (IsNarrowedPair asked common) left left_new right right_new (Ok (x, y))
+
   -- what follows from what the bytes spell, where these are known
-  pub known-pair : (P : List ℕ → List ℕ → Type 0) → ((a b : List ℕ) → SpellPair asked common a b x y → P a b) →
-      IfSome left (λ a. IfSome right (P a))
-  known-pair P so =
-      known_so left (λ a. BytesSpellWithin MAX_LINES a read.left_whole) (λ a. IfSome right (P a)) (λ a s.
-      known_so right (λ b. BytesSpellWithin MAX_LINES b read.right_whole) (P a) (λ b t. so a b record {
-        left_whole = read.left_whole;
-        right_whole = read.right_whole;
+  known-pair : (asked : Asked) (common : Bool) → AreRead asked common → (P : List ℕ → List ℕ → Type 0) →
+      ((a b : List ℕ) → SpellPair asked common a b (extract_parts x) (extract_parts y) → P a b) →
+      IfSome (remaining (reader_of left)) (λ a. IfSome (remaining (reader_of right)) (P a))
+  known-pair asked common read P so = ⊎_elim
+      (λ l. let no : ◌≡◌ {A = Result (Extract × Extract) Fault} (Ok (x, y)) (Err l.0) = l.1 in absurd (cc))
+      (λ l. ⊎_elim
+      (λ r. let no : ◌≡◌ {A = Result (Extract × Extract) Fault} (Ok (x, y)) (Err r.0) = r.1 in absurd (cc))
+      (λ r. known_so (remaining (reader_of left)) (λ a. BytesSpellWithin MAX_LINES a (extract_parts l.0))
+      (λ a. IfSome (remaining (reader_of right)) (P a)) (λ a s.
+      known_so (remaining (reader_of right)) (λ b. BytesSpellWithin MAX_LINES b (extract_parts r.0)) (P a) (λ b t. so a b record {
+        left_whole = extract_parts l.0;
+        right_whole = extract_parts r.0;
         left_spelled = s;
         right_spelled = t;
-        narrowed = read.narrowed;
-      }) read.right_spelled) read.left_spelled
+        narrowed = r.2;
+      }) r.1.ok) l.1.ok) l.2) read
 
-  -- they aren't compared, or the answer can't be written: what holds of an answer, of which holds what holds of this fault
-  pub compare-refused : (after right_after : Unread) (Untouched : Type 0) (result : Result ℕ Fault) (f : Fault) →
-      ((P : Fault → Type 0) → P f → IfErr result P) → IsCompareFault x y f ⊎ (f ≡ fault.Write) →
-      IfSome left (λ bytes. IfErr result (IsCompareRefusal asked common bytes after Untouched right right_after))
-  compare-refused after right_after Untouched result f hands h =
-      known_so left (λ bytes. BytesSpellWithin MAX_LINES bytes read.left_whole) _ (λ bytes s.
-      hands (IsCompareRefusal asked common bytes after Untouched right right_after) (inr (
-        x,
-        y,
-        record {
-          left_whole = read.left_whole;
-          right_whole = read.right_whole;
-          left_spelled = s;
-          right_spelled = read.right_spelled;
-          narrowed = read.narrowed;
-        },
-        h,
-      ))) read.left_spelled
-
-module _ (left right : Option (List ℕ)) (x y : ExtractParts) where
-  pub compare-answer : (job : CompareJob) → ReadAsPair job.asked job.common left right x y → (c : Comparison) → AreCompared x y c →
-      IfSome left (λ a. IfSome right (λ b. IsCompareAnswer job a b (comparison_line c) (outcome_of c)))
+  pub compare-answer : (job : CompareJob) → AreRead job.asked job.common → (c : Comparison) →
+      AreCompared (extract_parts x) (extract_parts y) c →
+      IfSome (remaining (reader_of left)) (λ a. IfSome (remaining (reader_of right))
+      (λ b. IsCompareAnswer job a b (comparison_line c) (outcome_of c)))
   compare-answer job read c compared =
-      known-pair job.asked job.common left right x y read (λ a b. IsCompareAnswer job a b (comparison_line c) (outcome_of c))
+      known-pair job.asked job.common read (λ a b. IsCompareAnswer job a b (comparison_line c) (outcome_of c))
       (λ a b spelled. record {
-        left = x;
-        right = y;
+        left = extract_parts x;
+        right = extract_parts y;
         spelled = spelled;
         comparison = c;
         compared = compared;
@@ -171,20 +159,44 @@ module _ (left right : Option (List ℕ)) (x y : ExtractParts) where
         status_is = refl;
       })
 
-  pub diff-answer : (job : DiffJob) → ReadAsPair job.asked job.common left right x y → (d : DifferencesParts) (none : Bool) →
-      AreDifferences x y d → IsTrue none ↔ AreNone d →
-      IfSome left (λ a. IfSome right (λ b. IsDiffAnswer job a b (differences_in job.format d) (listed_status none)))
+  pub diff-answer : (job : DiffJob) → AreRead job.asked job.common → (d : DifferencesParts) (none : Bool) →
+      AreDifferences (extract_parts x) (extract_parts y) d → IsTrue none ↔ AreNone d →
+      IfSome (remaining (reader_of left)) (λ a. IfSome (remaining (reader_of right))
+      (λ b. IsDiffAnswer job a b (differences_in job.format d) (listed_status none)))
   diff-answer job read d none are tells =
-      known-pair job.asked job.common left right x y read (λ a b. IsDiffAnswer job a b (differences_in job.format d) (listed_status none))
+      known-pair job.asked job.common read (λ a b. IsDiffAnswer job a b (differences_in job.format d) (listed_status none))
       (λ a b spelled. record {
-        left = x;
-        right = y;
+        left = extract_parts x;
+        right = extract_parts y;
         spelled = spelled;
         differences = d;
         are_differences = are;
         text_is = refl;
         status_is = listed (AreNone d) none tells;
       })
+
+  -- what is made of them: an answer, or none, since they aren't compared or it can't be written
+  pub compared : (asked : Asked) (common : Bool) → AreRead asked common → (result : Result ℕ Fault) →
+      IfErr result (λ f. IsCompareFault (extract_parts x) (extract_parts y) f ⊎ (f ≡ fault.Write)) →
+      IsResultOfBoth remaining errors (reading_extract MAX_LINES) (AreComparedAs asked common) left left_new right right_new result
+  compared asked common read result h =
+      both-go-on remaining errors (reading_extract MAX_LINES) (IsNarrowedPair asked common) (AreComparedAs asked common) left left_new right
+      right_new (x, y) read result (at result h)
+    where
+      at : (r : Result ℕ Fault) → IfErr r (λ f. IsCompareFault (extract_parts x) (extract_parts y) f ⊎ (f ≡ fault.Write)) →
+          (one other : Extract) → IsNarrowedPair asked common one other (Ok (x, y)) → AreComparedAs asked common one other r
+      at (Ok status) h one other narrowed = tt
+      at (Err f) h one other narrowed = inr (extract_parts x, extract_parts y, narrowed, h)
+
+-- two readers of which one can't be read, or which aren't narrowed
+pub uncompared : {R : Type 0} (remaining : R → Option (List ℕ)) (errors : R → Option ℕ) (left left_new right right_new : Source R)
+    (asked : Asked) (common : Bool) (f : Fault) →
+    IsResultOfBoth remaining errors (reading_extract MAX_LINES) (IsNarrowedPair asked common) left left_new right right_new (Err f) →
+    (result : Result ℕ Fault) → IsErrAnd result (λ e. e ≡ f) →
+    IsResultOfBoth remaining errors (reading_extract MAX_LINES) (AreComparedAs asked common) left left_new right right_new result
+uncompared remaining errors left left_new right right_new asked common f =
+    both-hand-on remaining errors (reading_extract MAX_LINES) (IsNarrowedPair asked common) (AreComparedAs asked common) left left_new right
+    right_new f (λ x y. inl)
 
 -- ---- the faults of bytes that are known
 

@@ -7,11 +7,13 @@ use Rattle.cif_columns.specs.Source.{Unread, reader_of}
 use Rattle.cif_columns.specs.declared.line_reader.TheConstants.{MAX_LINES}
 use Rattle.cif_columns.specs.declared.sink.Sink.{Sink}
 use Rattle.cif_columns.specs.declared.source.Source.{Source}
-use Rattle.cif_extract.specs.ExtractParts.{ExtractParts}
-use Rattle.cif_extract.specs.ReadFault.{FaultOf, FaultReads, IsReadFault, LeavesNothing}
+use Rattle.cif_extract.specs.ExtractParts.{ExtractParts, extract_parts}
+use Rattle.cif_extract.specs.ReadCall.{IsResultOf, IsResultOfBoth, ReadCall, reading}
+use Rattle.cif_extract.specs.ReadFault.{IsReadFault, is_read, reading_extract}
 use Rattle.cif_extract.specs.SpellsExtract.{BytesSpellWithin}
+use Rattle.cif_extract.specs.declared.extract.Extract.{Extract}
 use Rattle.cif_extract.specs.declared.fault.Fault.{Fault}
-use Rattle.cif_extract.specs.declared.fault.Fault.TheVariants.{Ambiguous, Memory, OutsideWindow, Read, Refused, WindowReversed, Write}
+use Rattle.cif_extract.specs.declared.fault.Fault.TheVariants.{Memory, Read, Refused, Write}
 use Rattle.cif_feed.specs.Judged.{IsJudgedFault, NoneHasReason}
 use Rattle.cif_feed.specs.Reasons.{reasons_in, reasons_text}
 use Rattle.cif_canon.specs.Accepted.{SpellsNarrowed}
@@ -19,14 +21,14 @@ use Rattle.cif_extract.specs.declared.fault.Clash.{Clash}
 use Rattle.cif_views.specs.Clashes.{AreAllClashes, clashes_text}
 use Rattle.cif_views.specs.DifferenceTable.{difference_table}
 use Rattle.cif_views.specs.WeekCalendar.{IsWeekCalendar}
-use Rattle.cif_canon.specs.Comparison.{AreCompared, comparison_line}
+use Rattle.cif_canon.specs.Comparison.{AreCompared, IsCompareFault, comparison_line}
 use Rattle.cif_canon.specs.Counts.{counts_line}
 use Rattle.cif_canon.specs.Differences.{AreDifferences, AreNone, DifferencesParts, differences_text}
 use Rattle.cif_views.specs.Explanation.{IsExplanation, IsExplanationFault}
 use Rattle.cif_canon.specs.Fault.{IsNormaliseFault, IsReadNarrowedFault}
 use Rattle.cif_canon.specs.Lines.{lines_of}
 use Rattle.cif_canon.specs.Normalised.{FaultWrites, IsNormalised}
-use Rattle.cif_canon.specs.Pair.{FaultOfBoth, IsCompareRefusal, ReadsBoth, SpellPair}
+use Rattle.cif_canon.specs.Pair.{AreNarrowed, IsNarrowedPair, SpellPair}
 use Rattle.cif_canon.specs.Views.{IsDayFault}
 use Rattle.cif_views.specs.Listing.{IsDayListing, IsTrainListing}
 use Rattle.cif_views.specs.Tables.{table_text}
@@ -176,14 +178,6 @@ IsCheckAllFault asked bytes after Write = ⊤
 IsCheckAllFault asked bytes after fault =
     NoneHasReason (judged_contents bytes) × IsNormaliseFault MAX_LINES asked bytes after fault
 
--- the faults of counting the records of an extract that is read
-abbrev pub IsCountFault : Fault → Type 0
-IsCountFault (Ambiguous clash) = ⊤
-IsCountFault OutsideWindow = ⊤
-IsCountFault WindowReversed = ⊤
-IsCountFault Memory = ⊤
-IsCountFault fault = ⊥
-
 -- Why `day` has no answer to these bytes, where `after` is what the reader has left then: the first refusal, or else what the view
 -- refuses.
 abbrev pub IsDayRefusal : ℕ → List ℕ → Unread → Fault → Type 0
@@ -208,31 +202,26 @@ abbrev pub IsClashlessRefusal : Asked → List ℕ → Unread → Fault → Type
 IsClashlessRefusal asked bytes after Write = (extract : ExtractParts) × SpellsNarrowed MAX_LINES asked extract bytes
 IsClashlessRefusal asked bytes after fault = IsReadNarrowedFault MAX_LINES asked bytes after fault
 
+-- what a command with one input may come to: any status, or one of these faults
+abbrev pub answering : (List ℕ → Unread → Fault → Type 0) → ReadCall ℕ Fault
+answering IsFault = reading is_read (λ bytes status. ⊤) IsFault (λ fault. ⊤)
+
+-- where `check --all` lists reasons, it reads no more than the first lines of an input that has one without an end
+abbrev pub answering_all : Asked → ReadCall ℕ Fault
+answering_all asked = record (answering (IsCheckAllFault asked)) { IsWhole = λ status. status ≡ 0 }
+
+-- What `compare` and `diff` make of two whole extracts: an answer; or none since they aren't narrowed, or else aren't compared, or since
+-- the answer can't be written.
+abbrev pub AreComparedAs : Asked → Bool → Extract → Extract → Result ℕ Fault → Type 0
+AreComparedAs asked common left right (Ok status) = ⊤
+AreComparedAs asked common left right (Err fault) = IsNarrowedPair asked common left right (Err fault)
+    ⊎ ((x y : ExtractParts) × AreNarrowed asked common (extract_parts left) (extract_parts right) x y
+    × (IsCompareFault x y fault ⊎ (fault ≡ Write)))
+
 -- where a command answers, its sink's writer holds nothing back: the whole answer is handed on
 abbrev pub IsHandedOn : {W A E : Type 0} → (W → Type 0) → Sink W → Result A E → Type 0
 IsHandedOn holds_nothing new (Ok done) = holds_nothing (writer_of new)
 IsHandedOn holds_nothing new (Err fault) = ⊤
-
--- What the job's command owes its sources: `compare` and `diff` read both, one after the other, and each other command its input
--- alone. Where it answers, nothing is left of what it has read; but `check --all` reads no more than the first lines of an input that has
--- one without an end.
-abbrev pub ReadsInputs : {R A : Type 0} → (R → Option (List ℕ)) → (R → Option ℕ) → Job → Source R → Source R → Source R → Source R →
-    Result A Fault → Type 0
-ReadsInputs remaining errors (Compare job) left left_new right right_new result =
-    ReadsBoth errors left left_new right right_new result × LeavesNothing remaining left left_new result
-    × LeavesNothing remaining right right_new result
-ReadsInputs remaining errors (Diff job) left left_new right right_new result =
-    ReadsBoth errors left left_new right right_new result × LeavesNothing remaining left left_new result
-    × LeavesNothing remaining right right_new result
-ReadsInputs remaining errors (CheckAll job) source source_new right right_new result =
-    FaultReads errors source source_new result × (right_new ≡ right)
-ReadsInputs remaining errors _ source source_new right right_new result =
-    FaultReads errors source source_new result × LeavesNothing remaining source source_new result × (right_new ≡ right)
-
--- where `check --all` lists no reasons, nothing is left
-abbrev pub LeavesUnlessListed : {R : Type 0} → (R → Option (List ℕ)) → Source R → Source R → Result ℕ Fault → Type 0
-LeavesUnlessListed remaining old new (Ok status) = status ≡ 0 → LeavesNothing {A = ℕ} {E = Fault} remaining old new (Ok status)
-LeavesUnlessListed remaining old new (Err fault) = ⊤
 
 -- what the job's command answers of what the readers of its input and of a second one give
 abbrev pub IsJobAnswer : {R : Type 0} → (R → Option (List ℕ)) → Job → Source R → Source R → List ℕ → ℕ → Type 0
@@ -248,27 +237,31 @@ IsJobAnswer remaining (Clashes asked) source right = OfInput remaining (IsClashe
 IsJobAnswer remaining (Table job) source right = OfInput remaining (IsTableAnswer job) source
 IsJobAnswer remaining (Calendar job) source right = OfInput remaining (IsCalendarAnswer job) source
 
--- why it has no answer
-abbrev pub IsJobFault : {R A : Type 0} → (R → Option (List ℕ)) → Job → Source R → Source R → Source R → Source R →
-    Result A Fault → Type 0
-IsJobFault remaining (Normalise job) source source_new right right_new =
-    FaultOf remaining (IsNormaliseFault MAX_LINES job.asked) source source_new
-IsJobFault remaining (Check job) source source_new right right_new =
-    FaultOf remaining (IsNormaliseFault MAX_LINES job.asked) source source_new
-IsJobFault remaining (CheckAll job) source source_new right right_new = FaultOf remaining (IsCheckAllFault job.asked) source source_new
-IsJobFault remaining (Compare job) source source_new right right_new =
-    FaultOfBoth remaining (IsCompareRefusal job.asked job.common) source source_new right right_new
-IsJobFault remaining (Diff job) source source_new right right_new =
-    FaultOfBoth remaining (IsCompareRefusal job.asked job.common) source source_new right right_new
-IsJobFault remaining (Day job) source source_new right right_new = FaultOf remaining (IsDayRefusal job.day) source source_new
-IsJobFault remaining (Train job) source source_new right right_new =
-    FaultOf remaining (IsNormaliseFault MAX_LINES job.asked) source source_new
-IsJobFault remaining (Explain job) source source_new right right_new = FaultOf remaining (IsExplainRefusal job.day) source source_new
-IsJobFault remaining (Clashes asked) source source_new right right_new = FaultOf remaining (IsClashlessRefusal asked) source source_new
-IsJobFault remaining (Table job) source source_new right right_new =
-    FaultOf remaining (IsNormaliseFault MAX_LINES job.asked) source source_new
-IsJobFault remaining (Calendar job) source source_new right right_new =
-    FaultOf remaining (IsClashlessRefusal job.asked) source source_new
+-- why a command with one input has none
+abbrev pub IsJobFault : Job → List ℕ → Unread → Fault → Type 0
+IsJobFault (CheckAll job) = IsCheckAllFault job.asked
+IsJobFault (Normalise job) = IsNormaliseFault MAX_LINES job.asked
+IsJobFault (Check job) = IsNormaliseFault MAX_LINES job.asked
+IsJobFault (Train job) = IsNormaliseFault MAX_LINES job.asked
+IsJobFault (Table job) = IsNormaliseFault MAX_LINES job.asked
+IsJobFault (Day job) = IsDayRefusal job.day
+IsJobFault (Explain job) = IsExplainRefusal job.day
+IsJobFault (Clashes asked) = IsClashlessRefusal asked
+IsJobFault (Calendar job) = IsClashlessRefusal job.asked
+IsJobFault _ = λ bytes after fault. ⊥
+
+-- What comes of the sources of the job's command: `compare` and `diff` read both, one after the other, and each other command its input
+-- alone.
+abbrev pub IsJobResult : {R : Type 0} → (R → Option (List ℕ)) → (R → Option ℕ) → Job → Source R → Source R → Source R → Source R →
+    Result ℕ Fault → Type 0
+IsJobResult remaining errors (Compare job) =
+    IsResultOfBoth remaining errors (reading_extract MAX_LINES) (AreComparedAs job.asked job.common)
+IsJobResult remaining errors (Diff job) =
+    IsResultOfBoth remaining errors (reading_extract MAX_LINES) (AreComparedAs job.asked job.common)
+IsJobResult remaining errors (CheckAll job) = λ source source_new right right_new result.
+    IsResultOf remaining errors (answering_all job.asked) source source_new result × (right_new ≡ right)
+IsJobResult remaining errors job = λ source source_new right right_new result.
+    IsResultOf remaining errors (answering (IsJobFault job)) source source_new result × (right_new ≡ right)
 
 -- this status, once what was written is handed on; a fault of the writing is the answer
 abbrev pub Finishes : {W A : Type 0} → (W → Option (List ℕ)) → (W → Option ℕ) → ℕ → Result A Fault → Sink W → Sink W → Result ℕ Fault →

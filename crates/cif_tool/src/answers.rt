@@ -1,31 +1,26 @@
 //! What each command answers, for any devices, and which of them a job asks for.
-ghost use Rattle.std.specs.Prelude.{◌≡◌, ℕ, List, IfErr, IfOk};
+ghost use Rattle.std.specs.Prelude.{◌≡◌, IfErr};
 ghost use Rattle.cif_canon.specs.Fault.{IsNormaliseFault};
-ghost use Rattle.cif_canon.specs.Normalised.{IsNormalised};
-ghost use Rattle.cif_canon.specs.Pair.{FaultOfBoth, IsCompareRefusal, ReadsBoth};
 ghost use Rattle.cif_columns.specs.Sink.{Writes};
-ghost use Rattle.cif_columns.specs.Source.{Unread};
 ghost use Rattle.cif_columns.specs.declared.line_reader.TheConstants.{MAX_LINES};
-ghost use Rattle.cif_extract.specs.ExtractParts.{extract_parts};
-ghost use Rattle.cif_extract.specs.ReadFault.{FaultOf, FaultReads, LeavesNothing};
-ghost use Rattle.cif_extract.specs.SpellsExtract.{BytesSpellWithin};
+ghost use Rattle.cif_extract.specs.ReadCall.{IsResultOf, IsResultOfBoth};
+ghost use Rattle.cif_extract.specs.ReadFault.{reading_extract};
 ghost use Rattle.cif_extract.specs.declared.fault.Fault.TheVariants.{Write};
-ghost use Rattle.cif_tool.specs.Answer.{IsCountFault};
-ghost use Rattle.cif_tool.specs.Answer.{Answers, IsCalendarAnswer, IsCheckAllAnswer, IsCheckAllFault};
-ghost use Rattle.cif_tool.specs.Answer.{IsCheckAnswer, IsClashesAnswer, IsClashlessRefusal};
-ghost use Rattle.cif_tool.specs.Answer.{LeavesUnlessListed};
-ghost use Rattle.cif_tool.specs.Answer.{IsCompareAnswer, IsDayAnswer, IsDayRefusal, IsDiffAnswer};
+ghost use Rattle.cif_tool.specs.Answer.{Answers, AreComparedAs, Finishes, IsCalendarAnswer};
+ghost use Rattle.cif_tool.specs.Answer.{IsCheckAllAnswer, IsCheckAnswer, IsClashesAnswer};
+ghost use Rattle.cif_tool.specs.Answer.{IsClashlessRefusal, IsCompareAnswer};
+ghost use Rattle.cif_tool.specs.Answer.{IsDayAnswer, IsDayRefusal, IsDiffAnswer};
 ghost use Rattle.cif_tool.specs.Answer.{IsExplainAnswer, IsExplainRefusal, IsHandedOn, IsJobAnswer};
-ghost use Rattle.cif_tool.specs.Answer.{IsJobFault, IsNormaliseAnswer, IsTableAnswer, IsTrainAnswer, OfBoth};
-ghost use Rattle.cif_tool.specs.Answer.{Finishes, OfInput, ReadsInputs, differences_in};
+ghost use Rattle.cif_tool.specs.Answer.{IsJobResult, IsNormaliseAnswer, IsTableAnswer, IsTrainAnswer};
+ghost use Rattle.cif_tool.specs.Answer.{OfBoth, OfInput, answering, answering_all, differences_in};
 
 use crate::job::{
     CalendarJob, CanonicalJob, CompareJob, DayJob, DiffJob, ExplainJob, Job, TableJob, TrainJob,
 };
 use crate::status::{DONE, REFUSED, listed, outcome};
 use cif_canon::{
-    Asked, Counts, Differences, Format, canon, check_keeping, compare, differences, narrow,
-    normalise_keeping, read_narrowed, read_pair, write_comparison, write_counts,
+    Asked, Differences, Format, compare, differences, narrowed_canon, read_canon, read_narrowed,
+    read_pair, write_comparison, write_counts,
 };
 use cif_columns::{MAX_LINES, ReadDevice, Sink, Source, WriteDevice};
 use cif_extract::{Extract, Fault, read_extract};
@@ -58,14 +53,12 @@ pub fn answer_normalise<R: ReadDevice, W: WriteDevice>(
     ensures answer { Answers W.contents W.write_errors
         (OfInput R.remaining (IsNormaliseAnswer job.now) source.old)
         sink.old sink.new result }
-    ensures fault { FaultOf R.remaining (IsNormaliseFault MAX_LINES job.now.asked)
+    ensures reads { IsResultOf R.remaining R.read_errors (answering (IsNormaliseFault MAX_LINES job.now.asked))
         source.old source.new result }
-    ensures source { FaultReads R.read_errors source.old source.new result }
-    ensures end { LeavesNothing R.remaining source.old source.new result }
     ensures handed_on { IsHandedOn W.holds_nothing sink.new result }
 {
-    normalise_keeping(alloc, source, sink, MAX_LINES, &job.asked, job.form, kept)?;
-    finish(Ok(()), sink, DONE)
+    let canon = read_canon(alloc, source, MAX_LINES, &job.asked, job.form, kept)?;
+    finish(canon.write(sink), sink, DONE)
 }
 
 /// Writes how many records the canonical extract of what the source gives has, and answers
@@ -80,14 +73,12 @@ pub fn answer_check<R: ReadDevice, W: WriteDevice>(
     ensures answer { Answers W.contents W.write_errors
         (OfInput R.remaining (IsCheckAnswer job.now) source.old)
         sink.old sink.new result }
-    ensures fault { FaultOf R.remaining (IsNormaliseFault MAX_LINES job.now.asked)
+    ensures reads { IsResultOf R.remaining R.read_errors (answering (IsNormaliseFault MAX_LINES job.now.asked))
         source.old source.new result }
-    ensures source { FaultReads R.read_errors source.old source.new result }
-    ensures end { LeavesNothing R.remaining source.old source.new result }
     ensures handed_on { IsHandedOn W.holds_nothing sink.new result }
 {
-    let counts = check_keeping(alloc, source, MAX_LINES, &job.asked, job.form, kept)?;
-    let written = write_counts(&counts, sink).map_err(Fault::from);
+    let canon = read_canon(alloc, source, MAX_LINES, &job.asked, job.form, kept)?;
+    let written = write_counts(&canon.counts(), sink).map_err(Fault::from);
     finish(written, sink, DONE)
 }
 
@@ -103,9 +94,8 @@ pub fn answer_check_all<R: ReadDevice, W: WriteDevice>(
     ensures answer { Answers W.contents W.write_errors
         (OfInput R.remaining (IsCheckAllAnswer job.now) source.old)
         sink.old sink.new result }
-    ensures fault { FaultOf R.remaining (IsCheckAllFault job.now.asked) source.old source.new result }
-    ensures source { FaultReads R.read_errors source.old source.new result }
-    ensures end { LeavesUnlessListed R.remaining source.old source.new result }
+    ensures reads { IsResultOf R.remaining R.read_errors (answering_all job.now.asked)
+        source.old source.new result }
     ensures handed_on { IsHandedOn W.holds_nothing sink.new result }
 {
     match Judged::read(alloc, source, MAX_LINES)? {
@@ -115,35 +105,10 @@ pub fn answer_check_all<R: ReadDevice, W: WriteDevice>(
             finish(written, sink, REFUSED)
         }
         Judged::Extract(extract) => {
-            let counts = counted(alloc, extract, job, &mut kept.left)?;
-            let written = write_counts(&counts, sink).map_err(Fault::from);
+            let canon = narrowed_canon(alloc, extract, &job.asked, job.form, &mut kept.left)?;
+            let written = write_counts(&canon.counts(), sink).map_err(Fault::from);
             finish(written, sink, DONE)
         }
-    }
-}
-
-/// How many records the canonical extract has of this one, narrowed to the window that is asked for, or
-/// why there is none. The extract is left in `kept`.
-fn counted(
-    alloc: Global,
-    extract: Extract,
-    job: &CanonicalJob,
-    kept: &mut Option<Extract>,
-) -> Result<Counts, Fault>
-    ensures ok { IfOk result (λ counts. (bytes : List ℕ)
-        → BytesSpellWithin MAX_LINES bytes (extract_parts extract)
-        → (text : List ℕ) × IsNormalised job.now.form job.now.asked MAX_LINES bytes text counts) }
-    ensures fault { IfErr result (λ fault. (bytes : List ℕ) (after : Unread)
-        → BytesSpellWithin MAX_LINES bytes (extract_parts extract)
-        → IsNormaliseFault MAX_LINES job.now.asked bytes after fault) }
-    ensures silent { IfErr result IsCountFault }
-{
-    let mut extract = extract;
-    narrow(&mut extract, &job.asked)?;
-    let extract = kept.insert(extract);
-    match canon(alloc, extract, job.form) {
-        Ok(canon) => Ok(canon.counts()),
-        Err(fault) => Err(fault),
     }
 }
 
@@ -160,11 +125,8 @@ pub fn answer_compare<R: ReadDevice, W: WriteDevice>(
     ensures answer { Answers W.contents W.write_errors
         (OfBoth R.remaining (IsCompareAnswer job.now) left.old right.old)
         sink.old sink.new result }
-    ensures fault { FaultOfBoth R.remaining (IsCompareRefusal job.now.asked job.now.common)
-        left.old left.new right.old right.new result }
-    ensures sources { ReadsBoth R.read_errors left.old left.new right.old right.new result }
-    ensures left_end { LeavesNothing R.remaining left.old left.new result }
-    ensures right_end { LeavesNothing R.remaining right.old right.new result }
+    ensures reads { IsResultOfBoth R.remaining R.read_errors (reading_extract MAX_LINES)
+        (AreComparedAs job.now.asked job.now.common) left.old left.new right.old right.new result }
     ensures handed_on { IsHandedOn W.holds_nothing sink.new result }
 {
     let (left, right) = read_pair(alloc, left, right, &job.asked, job.common)?;
@@ -189,11 +151,8 @@ pub fn answer_diff<R: ReadDevice, W: WriteDevice>(
     ensures answer { Answers W.contents W.write_errors
         (OfBoth R.remaining (IsDiffAnswer job.now) left.old right.old)
         sink.old sink.new result }
-    ensures fault { FaultOfBoth R.remaining (IsCompareRefusal job.now.asked job.now.common)
-        left.old left.new right.old right.new result }
-    ensures sources { ReadsBoth R.read_errors left.old left.new right.old right.new result }
-    ensures left_end { LeavesNothing R.remaining left.old left.new result }
-    ensures right_end { LeavesNothing R.remaining right.old right.new result }
+    ensures reads { IsResultOfBoth R.remaining R.read_errors (reading_extract MAX_LINES)
+        (AreComparedAs job.now.asked job.now.common) left.old left.new right.old right.new result }
     ensures handed_on { IsHandedOn W.holds_nothing sink.new result }
 {
     let (left, right) = read_pair(alloc, left, right, &job.asked, job.common)?;
@@ -231,9 +190,8 @@ pub fn answer_day<R: ReadDevice, W: WriteDevice>(
     ensures answer { Answers W.contents W.write_errors
         (OfInput R.remaining (IsDayAnswer job.now) source.old)
         sink.old sink.new result }
-    ensures fault { FaultOf R.remaining (IsDayRefusal job.now.day) source.old source.new result }
-    ensures source { FaultReads R.read_errors source.old source.new result }
-    ensures end { LeavesNothing R.remaining source.old source.new result }
+    ensures reads { IsResultOf R.remaining R.read_errors (answering (IsDayRefusal job.now.day))
+        source.old source.new result }
     ensures handed_on { IsHandedOn W.holds_nothing sink.new result }
 {
     let extract = read_extract(alloc, source, MAX_LINES)?;
@@ -253,10 +211,8 @@ pub fn answer_train<R: ReadDevice, W: WriteDevice>(
     ensures answer { Answers W.contents W.write_errors
         (OfInput R.remaining (IsTrainAnswer job.now) source.old)
         sink.old sink.new result }
-    ensures fault { FaultOf R.remaining (IsNormaliseFault MAX_LINES job.now.asked)
+    ensures reads { IsResultOf R.remaining R.read_errors (answering (IsNormaliseFault MAX_LINES job.now.asked))
         source.old source.new result }
-    ensures source { FaultReads R.read_errors source.old source.new result }
-    ensures end { LeavesNothing R.remaining source.old source.new result }
     ensures handed_on { IsHandedOn W.holds_nothing sink.new result }
 {
     let extract = read_narrowed(alloc, source, MAX_LINES, &job.asked)?;
@@ -276,9 +232,8 @@ pub fn answer_explain<R: ReadDevice, W: WriteDevice>(
     ensures answer { Answers W.contents W.write_errors
         (OfInput R.remaining (IsExplainAnswer job.now) source.old)
         sink.old sink.new result }
-    ensures fault { FaultOf R.remaining (IsExplainRefusal job.now.day) source.old source.new result }
-    ensures source { FaultReads R.read_errors source.old source.new result }
-    ensures end { LeavesNothing R.remaining source.old source.new result }
+    ensures reads { IsResultOf R.remaining R.read_errors (answering (IsExplainRefusal job.now.day))
+        source.old source.new result }
     ensures handed_on { IsHandedOn W.holds_nothing sink.new result }
 {
     let extract = read_extract(alloc, source, MAX_LINES)?;
@@ -297,9 +252,8 @@ pub fn answer_clashes<R: ReadDevice, W: WriteDevice>(
     ensures answer { Answers W.contents W.write_errors
         (OfInput R.remaining (IsClashesAnswer asked.now) source.old)
         sink.old sink.new result }
-    ensures fault { FaultOf R.remaining (IsClashlessRefusal asked.now) source.old source.new result }
-    ensures source { FaultReads R.read_errors source.old source.new result }
-    ensures end { LeavesNothing R.remaining source.old source.new result }
+    ensures reads { IsResultOf R.remaining R.read_errors (answering (IsClashlessRefusal asked.now))
+        source.old source.new result }
     ensures handed_on { IsHandedOn W.holds_nothing sink.new result }
 {
     let extract = read_narrowed(alloc, source, MAX_LINES, asked)?;
@@ -318,15 +272,11 @@ pub fn answer_table<R: ReadDevice, W: WriteDevice>(
     ensures answer { Answers W.contents W.write_errors
         (OfInput R.remaining (IsTableAnswer job.now) source.old)
         sink.old sink.new result }
-    ensures fault { FaultOf R.remaining (IsNormaliseFault MAX_LINES job.now.asked)
+    ensures reads { IsResultOf R.remaining R.read_errors (answering (IsNormaliseFault MAX_LINES job.now.asked))
         source.old source.new result }
-    ensures source { FaultReads R.read_errors source.old source.new result }
-    ensures end { LeavesNothing R.remaining source.old source.new result }
     ensures handed_on { IsHandedOn W.holds_nothing sink.new result }
 {
-    let extract = read_narrowed(alloc, source, MAX_LINES, &job.asked)?;
-    let extract = kept.insert(extract);
-    let canon = canon(alloc, extract, job.form)?;
+    let canon = read_canon(alloc, source, MAX_LINES, &job.asked, job.form, kept)?;
     finish(write_table(&canon, job.table, sink), sink, DONE)
 }
 
@@ -341,9 +291,8 @@ pub fn answer_calendar<R: ReadDevice, W: WriteDevice>(
     ensures answer { Answers W.contents W.write_errors
         (OfInput R.remaining (IsCalendarAnswer job.now) source.old)
         sink.old sink.new result }
-    ensures fault { FaultOf R.remaining (IsClashlessRefusal job.now.asked) source.old source.new result }
-    ensures source { FaultReads R.read_errors source.old source.new result }
-    ensures end { LeavesNothing R.remaining source.old source.new result }
+    ensures reads { IsResultOf R.remaining R.read_errors (answering (IsClashlessRefusal job.now.asked))
+        source.old source.new result }
     ensures handed_on { IsHandedOn W.holds_nothing sink.new result }
 {
     let extract = read_narrowed(alloc, source, MAX_LINES, &job.asked)?;
@@ -377,9 +326,7 @@ pub fn answer<R: ReadDevice, W: WriteDevice>(
 ) -> Result<u8, Fault>
     ensures answer { Answers W.contents W.write_errors
         (IsJobAnswer R.remaining job.now source.old right.old) sink.old sink.new result }
-    ensures fault { IsJobFault R.remaining job.now
-        source.old source.new right.old right.new result }
-    ensures sources { ReadsInputs R.remaining R.read_errors job.now
+    ensures reads { IsJobResult R.remaining R.read_errors job.now
         source.old source.new right.old right.new result }
     ensures handed_on { IsHandedOn W.holds_nothing sink.new result }
 {

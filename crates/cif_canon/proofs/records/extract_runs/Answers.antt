@@ -3,7 +3,7 @@ use Rattle.cif_extract.specs.declared.fault.Clash.TheVariants.{Association, Trai
 use Rattle.cif_canon.proofs.Words.{AreCanonicalRecords, IsCanonFault, IsRecordsFault, association_entries, extract_parts, header_window}
 use Rattle.cif_canon.proofs.Words.{key_cmp, nat_cmp, schedule_entries, slice_cmp}
 use Rattle.cif_canon.proofs.CanonForm.{associations-fault, of_slice, schedules-fault}
-use Rattle.cif_canon.proofs.HandedFaults.{hands}
+use Rattle.cif_extract.proofs.ReadCalls.{hands}
 use Rattle.cif_canon.proofs.records.extract_runs.Goals as goal
 use Rattle.cif_canon.proofs.records.extract_runs.Goals.{In_ok-associations}
 

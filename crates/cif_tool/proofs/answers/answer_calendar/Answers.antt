@@ -1,15 +1,12 @@
 -- The text is that of the calendar of what was narrowed (`calendar-answer`); its faults are of known bytes (`calendar-fault`).
 -- `read`: what was read, of the extract that is kept.
-use Rattle.std.proofs.Common.{◌≢◌, subst}
-use Rattle.cif_columns.proofs.GivenLinesLaws.{known_so}
-use Rattle.cif_columns.specs.Source.{unread_of}
+use Rattle.std.proofs.Common.{refl, subst}
+use Rattle.cif_columns.specs.declared.line_reader.TheConstants.{MAX_LINES}
 use Rattle.cif_extract.specs.ExtractParts.{extract_parts}
-use Rattle.cif_extract.specs.declared.fault.Fault.TheVariants.{Read}
-use Rattle.cif_canon.proofs.BothRead.{read-on}
-use Rattle.cif_canon.proofs.HandedFaults.{known-fault}
+use Rattle.cif_canon.specs.Fault.{reading_narrowed}
 use Rattle.cif_views.specs.WeekCalendar.{IsWeekCalendarFault}
 use Rattle.cif_tool.specs.Answer.{IsClashlessRefusal}
-use Rattle.cif_tool.proofs.Answered.{fails-to-read, handed, handed-fault, written-then}
+use Rattle.cif_tool.proofs.Answered.{ends, fails-to-read, handed, handed-fault, unread, written-then}
 use Rattle.cif_tool.proofs.KnownAnswers.{calendar-answer, calendar-fault, clashless-fault}
 use Rattle.cif_tool.proofs.answers.answer_calendar.Goals as goal
 
@@ -17,13 +14,6 @@ pub returns-in_err-extract-clause-answer : goal.returns-in_err-extract-clause-an
 returns-in_err-extract-clause-answer g c =
     fails-to-read _ _ _ c.args.sink.now c.from_residual.result c.in_err-extract.field-0.0 c.from_residual.ensures.1
     c.in_err-extract.ensures.answers
-
-pub returns-in_err-extract-clause-fault : goal.returns-in_err-extract-clause-fault
-returns-in_err-extract-clause-fault g c =
-    let after = unread_of g.R.Read.remaining c.read_narrowed.new.source in
-    let f = c.in_err-extract.field-0.0 in
-    known-fault c.from_residual.result f c.from_residual.ensures.1 _ _ _ (λ bytes. clashless-fault c.args.job.now.asked bytes after f)
-    c.in_err-extract.ensures.fault
 
 pub returns-clause-answer : goal.returns-clause-answer
 returns-clause-answer g c =
@@ -34,21 +24,22 @@ returns-clause-answer g c =
     (written-then _ _ _ call.result (calendar-answer _ c.args.job.now (extract_parts c.insert-extract.result.now) read
     view.0) view.2) c.finish.ensures.finishes
 
-pub returns-clause-fault : goal.returns-clause-fault
-returns-clause-fault g c =
-    let read = rw (← c.insert-extract.ensures.value) at c.in_ok-extract.ensures.ok in
-    let after = unread_of g.R.Read.remaining c.read_narrowed.new.source in
-    let call = c.week_calendar in
-    known_so _ _ _ (λ bytes spelled.
-    handed-fault _ _ _ IsWeekCalendarFault (IsClashlessRefusal c.args.job.now.asked bytes after) 0 call.result call.new.sink
-    c.finish.new.sink c.finish.result
-    (calendar-fault c.args.job.now.asked bytes after (extract_parts c.insert-extract.result.now) spelled) call.ensures.fault
-    (written-then _ _ _ call.result (λ view. tt) call.ensures.view.2) c.finish.ensures.finishes) read
+pub returns-in_err-extract-clause-reads : goal.returns-in_err-extract-clause-reads
+returns-in_err-extract-clause-reads g c =
+    let job = c.args.job.now in
+    let f = c.in_err-extract.field-0.0 in
+    unread (reading_narrowed MAX_LINES job.asked) (IsClashlessRefusal job.asked) _ _ _ _ f
+    (λ bytes after. clashless-fault job.asked bytes after f) refl c.in_err-extract.ensures _ c.from_residual.ensures.1
 
-pub returns-clause-source : goal.returns-clause-source
-returns-clause-source g c =
+pub returns-clause-reads : goal.returns-clause-reads
+returns-clause-reads g c =
+    let job = c.args.job.now in
+    let narrowed = c.in_ok-extract.extract in
+    let x = extract_parts narrowed in
     let call = c.week_calendar in
-    read-on _ _ _ c.finish.result
-    (handed-fault _ _ _ IsWeekCalendarFault (λ f. f ≢ Read) 0 call.result call.new.sink c.finish.new.sink c.finish.result
-    (λ f is read. subst IsWeekCalendarFault read is) call.ensures.fault
-    (written-then _ _ _ call.result (λ view. tt) call.ensures.view.2) c.finish.ensures.finishes) c.in_ok-extract.ensures.source
+    let faults = call.ensures.fault in
+    ends (reading_narrowed MAX_LINES job.asked) (IsClashlessRefusal job.asked) _ _ _ _ narrowed tt c.in_ok-extract.ensures c.finish.result
+    (handed-fault _ _ _ (IsWeekCalendarFault) _ 0 call.result call.new.sink c.finish.new.sink c.finish.result (λ f is. record {
+      fault = λ bytes after spelled. calendar-fault job.asked bytes after x spelled f is;
+      other = λ read. subst IsWeekCalendarFault read is;
+    }) faults (written-then _ _ _ call.result (λ view. tt) call.ensures.view.2) c.finish.ensures.finishes)

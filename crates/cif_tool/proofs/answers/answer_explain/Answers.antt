@@ -1,14 +1,12 @@
 -- The text has to be named: that of the view, flushed or a prefix; of known bytes `explain-answer` says that it answers.
 -- `read`: what was read, of the extract that is kept.
-use Rattle.std.proofs.Common.{◌≢◌, inr, subst}
-use Rattle.cif_columns.proofs.GivenLinesLaws.{known_so}
-use Rattle.cif_columns.specs.Source.{unread_of}
+use Rattle.std.proofs.Common.{inl, inr, refl, subst}
+use Rattle.cif_columns.specs.declared.line_reader.TheConstants.{MAX_LINES}
 use Rattle.cif_extract.specs.ExtractParts.{extract_parts}
-use Rattle.cif_extract.specs.declared.fault.Fault.TheVariants.{Read}
+use Rattle.cif_extract.specs.ReadFault.{reading_extract}
 use Rattle.cif_views.specs.Explanation.{IsExplanationFault}
 use Rattle.cif_tool.specs.Answer.{IsExplainRefusal}
-use Rattle.cif_tool.proofs.Answered.{handed, handed-fault, written-then}
-use Rattle.cif_canon.proofs.BothRead.{read-on}
+use Rattle.cif_tool.proofs.Answered.{ends, handed, handed-fault, unread, written-then}
 use Rattle.cif_tool.proofs.KnownAnswers.{explain-answer}
 use Rattle.cif_tool.proofs.answers.answer_explain.Goals as goal
 
@@ -22,24 +20,22 @@ returns-clause-answer g c =
     (written-then _ _ _ call.result (explain-answer _ x read c.args.job.now view.0) view.2)
     c.finish.ensures.finishes
 
-pub returns-clause-fault : goal.returns-clause-fault
-returns-clause-fault g c =
-    let read = rw (← c.insert-extract.ensures.value) at c.in_ok-extract.ensures.ok in
-    let after = unread_of g.R.Read.remaining c.read_extract.new.source in
-    let day = c.args.job.now.day in
-    let x = extract_parts c.insert-extract.result.now in
-    let call = c.explain_listing-written in
-    known_so _ _ _ (λ bytes spelled.
-    handed-fault _ _ _ (IsExplanationFault x day) (IsExplainRefusal day bytes after) 0 call.result call.new.sink
-    c.finish.new.sink c.finish.result (λ f is. inr (x, spelled, is)) call.ensures.fault
-    (written-then _ _ _ call.result (λ view. view.within) call.ensures.view.2) c.finish.ensures.finishes) read
+pub returns-in_err-extract-clause-reads : goal.returns-in_err-extract-clause-reads
+returns-in_err-extract-clause-reads g c =
+    let f = c.in_err-extract.field-0.0 in
+    unread (reading_extract MAX_LINES) (IsExplainRefusal c.args.job.now.day) _ _ _ _ f (λ bytes after. inl) refl c.in_err-extract.ensures _
+    c.from_residual.ensures.1
 
-pub returns-clause-source : goal.returns-clause-source
-returns-clause-source g c =
+pub returns-clause-reads : goal.returns-clause-reads
+returns-clause-reads g c =
     let day = c.args.job.now.day in
-    let x = extract_parts c.insert-extract.result.now in
+    let whole = c.in_ok-extract.extract in
+    let x = extract_parts whole in
     let call = c.explain_listing-written in
-    read-on _ _ _ c.finish.result
-    (handed-fault _ _ _ (IsExplanationFault x day) (λ f. f ≢ Read) 0 call.result call.new.sink c.finish.new.sink c.finish.result
-    (λ f is read. subst (IsExplanationFault x day) read is) call.ensures.fault
-    (written-then _ _ _ call.result (λ view. view.within) call.ensures.view.2) c.finish.ensures.finishes) c.in_ok-extract.ensures.device
+    let faults = rw c.insert-extract.ensures.value at call.ensures.fault in
+    let view = rw c.insert-extract.ensures.value at call.ensures.view in
+    ends (reading_extract MAX_LINES) (IsExplainRefusal day) _ _ _ _ whole tt c.in_ok-extract.ensures c.finish.result
+    (handed-fault _ _ _ (IsExplanationFault x day) _ 0 call.result call.new.sink c.finish.new.sink c.finish.result (λ f is. record {
+      fault = λ bytes after spelled. inr (x, spelled, is);
+      other = λ read. subst (IsExplanationFault x day) read is;
+    }) faults (written-then _ _ _ call.result (λ view. view.within) view.2) c.finish.ensures.finishes)

@@ -1,46 +1,33 @@
--- The text has to be named: what `normalise` wrote, flushed or a prefix; of known bytes `normalise-answer` says that it answers.
-use Rattle.std.proofs.Common.{◌≢◌, subst, sym}
+-- The text is that of the canonical form (`normalise-answer`); a fault is that of reading it, or Write.
+use Rattle.std.proofs.Common.{refl, subst}
 use Rattle.cif_columns.specs.declared.line_reader.TheConstants.{MAX_LINES}
-use Rattle.cif_columns.proofs.GivenLinesLaws.{known_so}
-use Rattle.cif_columns.specs.Source.{unread_of}
-use Rattle.cif_extract.specs.ReadFault.{FaultOf}
-use Rattle.cif_extract.specs.declared.fault.Fault.TheVariants.{Read}
-use Rattle.cif_canon.specs.Fault.{IsNormaliseFault}
-use Rattle.cif_canon.proofs.HandedFaults.{at-fault}
-use Rattle.cif_canon.specs.declared.canonical_form.Counts.{Counts}
-use Rattle.cif_tool.proofs.Answered.{fails, flushed, only-write}
-use Rattle.cif_canon.proofs.BothRead.{read-on}
-use Rattle.cif_tool.proofs.KnownAnswers.{normalise-answer, normalise-failed}
+use Rattle.cif_extract.proofs.ReadCalls.{at-fault}
+use Rattle.cif_canon.specs.Fault.{IsOfCheck}
+use Rattle.cif_tool.proofs.Answered.{canon-unread, canon-written, fails-silently, handed-text, only-fails}
+use Rattle.cif_tool.proofs.KnownAnswers.{normalise-answer}
 use Rattle.cif_tool.proofs.answers.answer_normalise.Goals as goal
 
-pub returns-in_err-normalise_keeping-clause-answer : goal.returns-in_err-normalise_keeping-clause-answer
-returns-in_err-normalise_keeping-clause-answer g c =
-    let f = c.in_err-normalise_keeping.field-0.0 in
-    let is = at-fault c.from_residual.result f c.from_residual.ensures.1 in
-    let made = c.in_err-normalise_keeping.ensures.normal in
-    fails _ _ _ _ made.0 0 Counts c.normalise_keeping.new.sink c.from_residual.result f is made.1
-    (normalise-failed _ c.args.job.now made.0 f made.2)
+pub returns-in_err-canon-clause-answer : goal.returns-in_err-canon-clause-answer
+returns-in_err-canon-clause-answer g c =
+    let f = c.in_err-canon.field-0.0 in
+    fails-silently _ _ _ c.args.sink.now c.from_residual.result f (at-fault c.from_residual.result f c.from_residual.ensures.1)
+    (λ write. subst (IsOfCheck MAX_LINES) write c.in_err-canon.ensures.answers)
 
-pub returns-in_err-normalise_keeping-clause-fault : goal.returns-in_err-normalise_keeping-clause-fault
-returns-in_err-normalise_keeping-clause-fault g c =
-    subst (FaultOf g.R.Read.remaining (IsNormaliseFault MAX_LINES c.args.job.now.asked) c.args.source.now c.normalise_keeping.new.source)
-    (sym (at-fault c.from_residual.result c.in_err-normalise_keeping.field-0.0 c.from_residual.ensures.1))
-    c.in_err-normalise_keeping.ensures.fault
+pub returns-in_err-canon-clause-reads : goal.returns-in_err-canon-clause-reads
+returns-in_err-canon-clause-reads g c =
+    let job = c.args.job.now in
+    canon-unread job.form job.asked _ _ _ _ _ c.in_err-canon.field-0.0 c.in_err-canon.ensures c.from_residual.ensures.1
 
 pub returns-clause-answer : goal.returns-clause-answer
 returns-clause-answer g c =
-    let made = c.in_ok-normalise_keeping.ensures.normal in
-    let hands = c.finish.ensures.finishes in
-    flushed _ _ _ _ made.0 0 c.normalise_keeping.new.sink c.finish.new.sink c.finish.result made.1 hands.0 hands.1 hands.2
-    (normalise-answer _ c.args.job.now c.in_ok-normalise_keeping.field-0 made.0 made.2)
+    let canon = c.in_ok-canon.canon in
+    let call = c.write in
+    handed-text _ _ _ _ canon.text 0 _ 0 call.result call.new.sink c.finish.new.sink c.finish.result refl
+    call.ensures.writes call.ensures.fault (normalise-answer _ c.args.job.now canon c.in_ok-canon.ensures.ok) c.finish.ensures.finishes
 
-pub returns-clause-fault : goal.returns-clause-fault
-returns-clause-fault g c =
-    let after = unread_of g.R.Read.remaining c.normalise_keeping.new.source in
-    known_so _ _ _ (λ bytes is. only-write (IsNormaliseFault MAX_LINES c.args.job.now.asked bytes after) c.finish.result
-    c.finish.ensures.finishes.2 tt) c.in_ok-normalise_keeping.ensures.normal.2
-
-pub returns-clause-source : goal.returns-clause-source
-returns-clause-source g c =
-    read-on _ _ _ c.finish.result (only-write (λ f. f ≢ Read) c.finish.result c.finish.ensures.finishes.2 (λ is. cc))
-    c.in_ok-normalise_keeping.ensures.source
+pub returns-clause-reads : goal.returns-clause-reads
+returns-clause-reads g c =
+    let job = c.args.job.now in
+    let call = c.write in
+    canon-written job.form job.asked _ _ _ _ _ c.in_ok-canon.canon c.in_ok-canon.ensures
+    (only-fails _ _ _ _ 0 call.result call.new.sink c.finish.new.sink c.finish.result call.ensures.fault refl c.finish.ensures.finishes)

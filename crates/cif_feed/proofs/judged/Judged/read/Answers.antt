@@ -1,15 +1,11 @@
 -- The invariant names the contents so far: one more (`given_more`), one too many, one that is overlong, and the end are said of them all.
-use Rattle.std.proofs.Common.{◌≡◌, ◌+◌, ◌<◌, ◌≤◌, ◌∙◌, arith, IfSome, inl, inr, length, [], ◌++◌, ◌∷◌, Ok, Err, refl, subst, sym, ⊎_elim}
+use Rattle.std.proofs.Common.{◌≡◌, ◌+◌, ◌<◌, ◌≤◌, ◌∙◌, arith, inl, inr, length, [], ◌++◌, ◌∷◌, refl, sym, ⊎_elim}
 use Rattle.cif_columns.proofs.ContentRuns.{given_all, given_more, given_none, given_overlong}
 use Rattle.cif_columns.proofs.ReadSources.{read_nothing, read_on_both}
-use Rattle.cif_columns.specs.Source.{source_ended, unread_of}
+use Rattle.cif_columns.specs.Source.{source_ended}
 use Rattle.cif_columns.specs.declared.refusal.Refusal.TheVariants.{BadLength}
-use Rattle.cif_extract.specs.declared.fault.Fault.{Fault}
-use Rattle.cif_feed.specs.Judged.{IsJudgedFault}
-use Rattle.cif_feed.specs.declared.judged.Judged.TheVariants.{Reasons}
-use Rattle.cif_feed.proofs.FeedRuns.{known_any}
-use Rattle.cif_feed.proofs.JudgedRuns.{finished_fault, finished_leaves, finished_of_reading, finished_ok, finished_reads, line_fault_judged}
-use Rattle.cif_feed.proofs.JudgedRuns.{only_judged, overlong_ok}
+use Rattle.cif_extract.proofs.ReadCalls.{of_any}
+use Rattle.cif_feed.proofs.JudgedRuns.{comes-finished, comes-line_fault, comes-memory, overlong_ok}
 use Rattle.cif_feed.proofs.OwnReasons.{own_of_long, some_has_here}
 use Rattle.cif_feed.proofs.judged.Judged.read.Goals as goal
 
@@ -40,8 +36,8 @@ loop-content-preserved g c =
       inr (⊎_elim (λ none. sym read_on.going ∙ next.fresh none) (λ begun. begun) begun),
     )
 
-pub returns-in-Ok-Overlong-clause-ok : goal.returns-in-Ok-Overlong-clause-ok
-returns-in-Ok-Overlong-clause-ok g c =
+pub returns-in-Ok-Overlong : goal.returns-in-Ok-Overlong
+returns-in-Ok-Overlong g c =
     let (cs, so_far, judged, read_on, begun) = c.loop-content.invariant in
     let next = rw c.in-Ok-Overlong.field-0-is at c.in-Ok-Overlong.ensures in
     let (last, gave) = given_overlong g.R.Read.remaining g.R.ReadDevice.read_errors _ _ _ _ cs so_far c.next.new.self c.next.new.source next
@@ -52,76 +48,42 @@ returns-in-Ok-Overlong-clause-ok g c =
     let number = c.line_number-number-in-Ok-Overlong in
     let numbered : number.result + 1 ≡ length cs + 1 = omega (arith, number.ensures, next.holds.2, so_far.counted) in
     let now = c.refuse.ensures c.args.max_lines cs long judged numbered own in
-    overlong_ok c.args.max_lines cs long room (g.R.Read.remaining c.args.source.now.reader) (g.R.Read.remaining c.next.new.source.reader)
-    (source_ended c.next.new.source) is gave c.refuse.new.self.reasons (some_has_here cs long BadLength own) now.told
-
-pub returns-in-Ok-Overlong-clause-only : goal.returns-in-Ok-Overlong-clause-only
-returns-in-Ok-Overlong-clause-only g c =
-    only_judged (g.R.Read.remaining c.args.source.now.reader) c.args.max_lines (unread_of g.R.Read.remaining c.next.new.source)
-    (Ok (Reasons c.refuse.new.self.reasons)) (returns-in-Ok-Overlong-clause-ok g c) (known_any _ _ (λ bytes. tt))
-
-pub returns-in-Ok-End-clause-ok : goal.returns-in-Ok-End-clause-ok
-returns-in-Ok-End-clause-ok g c =
-    let (cs, so_far, judged, read_on, begun) = c.loop-content.invariant in
-    let next = rw c.in-Ok-End.field-0-is at c.in-Ok-End.ensures in
-    let within : length cs ≤ c.args.max_lines = omega (arith, so_far.counted, so_far.same_limit, c.loop-content.contents.counted) in
-    let ended = given_all g.R.Read.remaining g.R.ReadDevice.read_errors _ _ _ _ cs so_far c.next.new.self c.next.new.source next in
-    finished_ok c.args.max_lines cs within (unread_of g.R.Read.remaining c.next.new.source) (next.told refl)
-    (g.R.Read.remaining c.args.source.now.reader) ended.0 c.finish.result
-    (c.finish.ensures c.args.max_lines cs judged (c.line_number.ensures ∙ next.holds ∙ so_far.counted))
-
-pub returns-in-Ok-End-clause-fault : goal.returns-in-Ok-End-clause-fault
-returns-in-Ok-End-clause-fault g c =
-    let (cs, so_far, judged, read_on, begun) = c.loop-content.invariant in
-    let next = rw c.in-Ok-End.field-0-is at c.in-Ok-End.ensures in
-    let within : length cs ≤ c.args.max_lines = omega (arith, so_far.counted, so_far.same_limit, c.loop-content.contents.counted) in
-    let ended = given_all g.R.Read.remaining g.R.ReadDevice.read_errors _ _ _ _ cs so_far c.next.new.self c.next.new.source next in
-    finished_fault c.args.max_lines cs within (unread_of g.R.Read.remaining c.next.new.source) (next.told refl)
-    (g.R.Read.remaining c.args.source.now.reader) ended.0 c.finish.result
-    (c.finish.ensures c.args.max_lines cs judged (c.line_number.ensures ∙ next.holds ∙ so_far.counted))
-
-pub returns-in-Ok-End-clause-only : goal.returns-in-Ok-End-clause-only
-returns-in-Ok-End-clause-only g c =
-    only_judged (g.R.Read.remaining c.args.source.now.reader) c.args.max_lines (unread_of g.R.Read.remaining c.next.new.source)
-    c.finish.result (returns-in-Ok-End-clause-ok g c) (returns-in-Ok-End-clause-fault g c)
-
-pub returns-in-Ok-End-clause-answers : goal.returns-in-Ok-End-clause-answers
-returns-in-Ok-End-clause-answers g c =
-    let (cs, so_far, judged, read_on, begun) = c.loop-content.invariant in
-    let next = rw c.in-Ok-End.field-0-is at c.in-Ok-End.ensures in
-    let within : length cs ≤ c.args.max_lines = omega (arith, so_far.counted, so_far.same_limit, c.loop-content.contents.counted) in
-    finished_of_reading c.args.max_lines cs within (unread_of g.R.Read.remaining c.next.new.source) (next.told refl) c.finish.result
-    (c.finish.ensures c.args.max_lines cs judged (c.line_number.ensures ∙ next.holds ∙ so_far.counted))
-
-pub returns-in-Ok-End-clause-end : goal.returns-in-Ok-End-clause-end
-returns-in-Ok-End-clause-end g c =
-    let (cs, so_far, judged, read_on, begun) = c.loop-content.invariant in
-    let next = rw c.in-Ok-End.field-0-is at c.in-Ok-End.ensures in
-    let ended = given_all g.R.Read.remaining g.R.ReadDevice.read_errors _ _ _ _ cs so_far c.next.new.self c.next.new.source next in
-    finished_leaves g.R.Read.remaining c.args.source.now c.next.new.source c.finish.result (next.told refl) ended.1
-
-pub returns-in-Ok-End-clause-device : goal.returns-in-Ok-End-clause-device
-returns-in-Ok-End-clause-device g c =
-    let (cs, so_far, judged, read_on, begun) = c.loop-content.invariant in
-    let next = rw c.in-Ok-End.field-0-is at c.in-Ok-End.ensures in
-    finished_reads g.R.ReadDevice.read_errors c.args.max_lines cs c.args.source.now c.next.new.source c.finish.result
-    (c.finish.ensures c.args.max_lines cs judged (c.line_number.ensures ∙ next.holds ∙ so_far.counted))
-    (read_on_both _ _ _ _ read_on next.device)
-
-pub returns-in-Err-clause-fault : goal.returns-in-Err-clause-fault
-returns-in-Err-clause-fault g c =
-    let (cs, so_far, judged, read_on, begun) = c.loop-content.invariant in
-    subst (λ (f : Fault). IfSome (g.R.Read.remaining c.args.source.now.reader)
-    (λ bytes. IsJudgedFault c.args.max_lines bytes (unread_of g.R.Read.remaining c.next.new.source) f)) (sym c.from.ensures)
-    (line_fault_judged g.R.Read.remaining g.R.ReadDevice.read_errors _ _ _ _ cs so_far c.next.new.self c.next.new.source c.in-Err.fault
-    c.in-Err.ensures)
-
-pub returns-in-Err-clause-only : goal.returns-in-Err-clause-only
-returns-in-Err-clause-only g c =
-    only_judged (g.R.Read.remaining c.args.source.now.reader) c.args.max_lines (unread_of g.R.Read.remaining c.next.new.source)
-    (Err c.from.result) (known_any _ _ (λ bytes. tt)) (returns-in-Err-clause-fault g c)
+    record {
+      ok = overlong_ok c.args.max_lines cs long room (g.R.Read.remaining c.args.source.now.reader)
+          (g.R.Read.remaining c.next.new.source.reader) (source_ended c.next.new.source) is gave c.refuse.new.self.reasons
+          (some_has_here cs long BadLength own) now.told;
+      fault = of_any _ _ (λ bytes. tt);
+      answers = tt;
+      source = (
+        ⊎_elim (λ none. sym read_on.going ∙ next.fresh none) (λ begun. begun) begun,
+        read_on_both _ _ _ _ read_on next.device,
+      );
+      end = λ whole. absurd whole;
+    }
 
 pub loop-content-smaller : goal.loop-content-smaller
 loop-content-smaller g c =
     let next = rw c.in-Ok-Content.field-0-is at c.in-Ok-Content.ensures in
     omega (arith, next.holds.0, next.holds.1, c.next.new.self.counted)
+
+pub returns-in-Err-take : goal.returns-in-Err-take
+returns-in-Err-take g c =
+    let (cs, so_far, judged, read_on, begun) = c.loop-content.invariant in
+    let next = rw c.in-Ok-Content.field-0-is at c.in-Ok-Content.ensures in
+    comes-memory _ _ c.args.max_lines _ _ (read_on_both _ _ _ _ read_on next.device) c.in-Err-take.fault c.in-Err-take.ensures.memory
+
+pub returns-in-Ok-End : goal.returns-in-Ok-End
+returns-in-Ok-End g c =
+    let (cs, so_far, judged, read_on, begun) = c.loop-content.invariant in
+    let next = rw c.in-Ok-End.field-0-is at c.in-Ok-End.ensures in
+    let within : length cs ≤ c.args.max_lines = omega (arith, so_far.counted, so_far.same_limit, c.loop-content.contents.counted) in
+    let ended = given_all g.R.Read.remaining g.R.ReadDevice.read_errors _ _ _ _ cs so_far c.next.new.self c.next.new.source next in
+    comes-finished _ _ c.args.max_lines _ _ cs within (read_on_both _ _ _ _ read_on next.device) ended.0 (next.told refl, ended.1)
+    (sym read_on.going ∙ next.endless refl) c.finish.result
+    (c.finish.ensures c.args.max_lines cs judged (c.line_number.ensures ∙ next.holds ∙ so_far.counted))
+
+pub returns-in-Err : goal.returns-in-Err
+returns-in-Err g c =
+    let (cs, so_far, judged, read_on, begun) = c.loop-content.invariant in
+    rw c.from.ensures
+    (comes-line_fault _ _ c.args.max_lines _ _ c.loop-content.source cs so_far read_on _ c.next.new.source c.in-Err.fault c.in-Err.ensures)

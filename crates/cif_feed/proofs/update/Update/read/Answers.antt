@@ -1,21 +1,16 @@
--- What the lines say is one update at most (`update_ok`, `update_only`).
-use Rattle.std.proofs.Common.{Ok}
-use Rattle.cif_feed.proofs.SaidUpdate.{fault_only, update_ok, update_only}
+-- What the lines say is one update (`makes-update`).
+use Rattle.std.proofs.Common.{Ok, refl}
+use Rattle.cif_extract.proofs.ReadCalls.{goes-on, hands-on}
+use Rattle.cif_feed.proofs.SaidUpdate.{makes-update, reads-update}
 use Rattle.cif_feed.proofs.update.Update.read.Goals as goal
 
-pub returns-in-Ok-of_lines-clause-ok : goal.returns-in-Ok-of_lines-clause-ok
-returns-in-Ok-of_lines-clause-ok g c =
-    update_ok c.args.max_lines c.all.result c.all.ensures (g.R.Read.remaining c.args.source.now.reader) c.in-Ok.lines
-    (Ok c.in-Ok-of_lines.update)
-    c.in-Ok.ensures.ok c.in-Ok-of_lines.ensures.says
+pub returns-in-Ok-of_lines : goal.returns-in-Ok-of_lines
+returns-in-Ok-of_lines g c =
+    goes-on _ _ _ _ _ _ c.in-Ok.lines c.in-Ok.ensures.reads (Ok c.in-Ok-of_lines.update)
+    (makes-update c.args.max_lines c.all.result c.all.ensures c.in-Ok.lines c.in-Ok-of_lines.update c.in-Ok-of_lines.ensures.says
+    c.in-Ok-of_lines.ensures.passed)
 
-pub returns-in-Ok-of_lines-clause-only : goal.returns-in-Ok-of_lines-clause-only
-returns-in-Ok-of_lines-clause-only g c =
-    update_only c.args.max_lines c.all.result c.all.ensures
-    (g.R.Read.remaining c.args.source.now.reader) c.in-Ok.lines c.in-Ok-of_lines.update
-    c.in-Ok.ensures.only c.in-Ok-of_lines.ensures.says
-
-pub returns-in-Err-clause-only : goal.returns-in-Err-clause-only
-returns-in-Err-clause-only g c =
-    fault_only c.args.max_lines c.all.result c.all.ensures
-    (g.R.Read.remaining c.args.source.now.reader) c.in-Err.fault c.in-Err.ensures.only
+pub returns-in-Err : goal.returns-in-Err
+returns-in-Err g c =
+    hands-on _ _ _ _ _ _ c.in-Err.fault (reads-update c.args.max_lines c.all.result c.all.ensures c.in-Err.fault) c.in-Err.ensures.reads _
+    refl
