@@ -36,6 +36,6 @@ pub mod StillLines
 pub mod FittingUpdates
 pub mod UpdatesInTurn
 pub mod PreparedFits
-pub mod WrittenOver
+pub mod Cells
 pub mod FeedLayouts
 pub mod WrittenPrepared

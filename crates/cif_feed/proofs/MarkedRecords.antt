@@ -1,10 +1,8 @@
 -- The marks of contents are those of the records that their profile lines spell.
-use Rattle.std.proofs.Common.{◌≡◌, ℕ, ◌+◌, ◌-◌, ◌≤◌, Bool, true, false, cond, not, ◌&&◌, List, [], ◌∷◌, ◌++◌, length, take, drop, filter}
-use Rattle.std.proofs.Common.{map, Option, Some, None, refl, sym, ap, ◌∙◌, subst, arith, codes, IsTrue, length-append, length-take}
-use Rattle.std.proofs.Common.{length-drop, append-nil, ⊎_elim, lit<, slice_index, IfOk, Result, Ok, Err}
-use Rattle.std.proofs.lemmas.Bool.{cond_both}
+use Rattle.std.proofs.Common.{◌≡◌, ℕ, ◌+◌, ◌-◌, ◌≤◌, Bool, true, false, cond, not, ◌&&◌, List, [], ◌∷◌, ◌++◌, length, filter}
+use Rattle.std.proofs.Common.{map, Option, Some, None, refl, sym, ap, ◌∙◌, subst, arith, codes, IsTrue, length-append}
+use Rattle.std.proofs.Common.{append-nil, ⊎_elim, lit<, slice_index, IfOk, Result, Ok, Err}
 use Rattle.std.proofs.lemmas.Grind.{flat_map-append}
-use Rattle.std.proofs.lemmas.List.{drop-append-le, drop-take, drop_at, take-append-le, take-take, take_at}
 use Rattle.std.proofs.lemmas.List.Elements.{All-cons, All-head, All-nil, All-tail}
 use Rattle.std.specs.List.{enumerate_from, flat_map}
 use Rattle.std.specs.Prelude.{All, find}
@@ -62,6 +60,7 @@ use Rattle.cif_feed.specs.declared.mark.RecordMark.{RecordMark}
 use Rattle.cif_feed.specs.declared.mark.TiplocMark.{TiplocMark}
 use Rattle.cif_feed.specs.declared.mark.Transaction.{Transaction}
 use Rattle.cif_feed.specs.declared.mark.Transaction.TheVariants.{New, Revised, Deleted}
+use Rattle.cif_feed.proofs.Cells.{decided_date, wide_still}
 use Rattle.cif_feed.proofs.Enumerated.{enumerate_filter}
 use Rattle.cif_feed.proofs.FeedRuns.{contents_are}
 use Rattle.cif_feed.proofs.KnownLines.{pairs-append}
@@ -140,52 +139,6 @@ is_last cs n is stands =
     let both : ◌≡◌ {A = Option ℕ} (Some n) (Some last_day) = sym one ∙ other in
     cc
 
--- what is written stands there
-written_there : (first to : ℕ) (d l : List ℕ) → 1 ≤ first → first ≤ length l → length d ≡ to - (first - 1)
-    → columns first to (with_columns first d l) ≡ d
-unfolding with_columns
-written_there first to d l from within wide =
-    let front = take (first - 1) l in
-    let rest = drop (first - 1 + length d) l in
-    let long : length front ≡ first - 1 = omega (arith, within, length-take (first - 1) l) in
-    ap (take (to - (first - 1))) (drop_at front (d ++ rest) (first - 1) long) ∙ take_at d rest (to - (first - 1)) wide
-
-closed_there : (first to : ℕ) (l : List ℕ) → 1 ≤ first → first ≤ length l → to - (first - 1) ≡ 6 → is_open first l ≡ true
-    → columns first to (closed first l) ≡ yymmdd_of last_day
-closed_there first to l from within six ends =
-    ap (λ b. columns first to (cond b (with_columns first (yymmdd_of last_day) l) l)) ends
-    ∙ written_there first to (yymmdd_of last_day) l from within (last_wide ∙ sym six)
-
--- a code that is taken out leaves the dates
-code_leaves : (code : Option HolidayCode) (l : List ℕ) → 28 ≤ length l → columns 16 21 (without_code code l) ≡ columns 16 21 l
-unfolding with_columns
-code_leaves None l long = refl
-code_leaves (Some code) l long =
-    let front = take 28 l in
-    let rest = codes " " ++ drop (29 - 1 + length (codes " ")) l in
-    let wide : length front ≡ 28 = omega (arith, long, length-take 28 l) in
-    let some : 6 ≤ length (drop 15 front) = omega (arith, wide, length-drop 15 front) in
-    ap (take 6) (drop-append-le 15 front rest (omega (arith, wide))) ∙ take-append-le 6 (drop 15 front) rest some
-    ∙ ap (take 6) (drop-take 15 13 l) ∙ take-take 6 13 (drop 15 l) (omega arith)
-
--- the lines keep their widths
-pub wide_still : (first : ℕ) (d l : List ℕ) → 1 ≤ first → first - 1 + length d ≤ length l → length (with_columns first d l) ≡ length l
-unfolding with_columns
-wide_still first d l from within =
-    omega (
-      arith,
-      length-append (take (first - 1) l) (d ++ drop (first - 1 + length d) l),
-      length-append d (drop (first - 1 + length d) l),
-      length-take (first - 1) l,
-      length-drop (first - 1 + length d) l,
-      within,
-    )
-
-pub wide_closed : (first : ℕ) (l : List ℕ) → 1 ≤ first → first + 5 ≤ length l → length (closed first l) ≡ length l
-wide_closed first l from within =
-    cond_both (is_open first l) (with_columns first (yymmdd_of last_day) l) l (λ m. length m ≡ length l)
-    (λ is. wide_still first (yymmdd_of last_day) l from (omega (arith, last_wide, within))) (λ is. refl)
-
 -- the columns of an open end are those of the last day
 abbrev ClosedFor : LineMark → List ℕ → Type 0
 ClosedFor (mark.Association m) l = IsTrue m.open_end → columns 22 27 l ≡ yymmdd_of last_day
@@ -209,8 +162,10 @@ module _ (allowed : HolidayCodes) (c : List ℕ) (is_line : IsLine c) where
 
   -- an AA and a BS
   closed_association_line : (l : List ℕ) → length l ≡ length c → is_open 22 l ≡ true → columns 22 27 (closed 22 l) ≡ yymmdd_of last_day
+  unfolding with_columns
   closed_association_line l same ends =
-      let w = is_line.width in closed_there 22 27 l (omega arith) (omega (arith, same, w)) (omega arith) ends
+      ap (λ b. columns 22 27 (cond b (with_columns 22 (yymmdd_of last_day) l) l)) ends
+      ∙ decided_date (λ d k. columns 22 27 (with_columns 22 d k)) (λ d k. d) (yymmdd_of last_day) l last_wide (same ∙ is_line.width) refl
 
   abbrev revised : List ℕ
   revised = with_columns 3 (codes "N") c
@@ -226,11 +181,16 @@ module _ (allowed : HolidayCodes) (c : List ℕ) (is_line : IsLine c) where
 
   closed_basic_line : (l : List ℕ) → length l ≡ length c → is_open 16 l ≡ true
       → columns 16 21 (without_code (code_of allowed l) (closed 16 l)) ≡ yymmdd_of last_day
+  unfolding with_columns
   closed_basic_line l same ends =
-      let w = is_line.width in
-      let wide = wide_closed 16 l (omega arith) (omega (arith, same, w)) in
-      code_leaves (code_of allowed l) (closed 16 l) (omega (arith, wide, same, w))
-      ∙ closed_there 16 21 l (omega arith) (omega (arith, same, w)) (omega arith) ends
+      ap (λ b. columns 16 21 (without_code (code_of allowed l) (cond b (with_columns 16 (yymmdd_of last_day) l) l))) ends
+      ∙ at (code_of allowed l)
+    where
+      at : (code : Option HolidayCode) → columns 16 21 (without_code code (with_columns 16 (yymmdd_of last_day) l)) ≡ yymmdd_of last_day
+      at None = decided_date (λ d k. columns 16 21 (with_columns 16 d k)) (λ d k. d) (yymmdd_of last_day) l last_wide
+          (same ∙ is_line.width) refl
+      at (Some code) = decided_date (λ d k. columns 16 21 (with_columns 29 (codes " ") (with_columns 16 d k))) (λ d k. d)
+          (yymmdd_of last_day) l last_wide (same ∙ is_line.width) refl
 
   basic_marked : (t : Option Transaction) → MarkFor (Some Bs) (update_basic_by allowed t c).mark
       × ClosedFor (update_basic_by allowed t c).mark (update_basic_by allowed t c).line

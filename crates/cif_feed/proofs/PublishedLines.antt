@@ -1,10 +1,8 @@
 -- The lines that are written of an association and of a BS: their profile lines are the plain lines, and their marks say the rest.
 use Rattle.std.proofs.Common.{◌≡◌, ℕ, ◌+◌, ◌-◌, ◌≤◌, Bool, true, false, cond, List, [], ◌∷◌, ◌++◌, length, take, drop, Option, Some, None}
-use Rattle.std.proofs.Common.{refl, sym, ap, ◌∙◌, subst, codes, arith, IsTrue, append_assoc, length-append, length-take, length-drop, lit<}
+use Rattle.std.proofs.Common.{refl, sym, ap, ◌∙◌, subst, codes, arith, IsTrue, lit<, lit≤}
 use Rattle.std.proofs.Common.{slice_index}
-use Rattle.std.proofs.lemmas.List.{drop-drop, drop_at, get_or_at, take-append-drop, take_at}
 use Rattle.std.proofs.lemmas.List.Elements.{All-append, All-drop, All-take}
-use Rattle.std.specs.Prelude.{find}
 use Rattle.cif_columns.specs.Day.{StandsInYymmdd}
 use Rattle.cif_columns.specs.DayDigits.{yymmdd_of}
 use Rattle.cif_columns.specs.Field.{columns, date}
@@ -13,8 +11,7 @@ use Rattle.cif_columns.proofs.Dates.{one_yymmdd}
 use Rattle.cif_columns.proofs.PlainLines.{printable-plain_columns}
 use Rattle.cif_columns.proofs.PrintableBytes.{printable_fact}
 use Rattle.cif_records.specs.Checks.{are}
-use Rattle.cif_records.specs.Kind.{is_identity, kind_in, kinds}
-use Rattle.cif_records.specs.declared.record.Kind.{Kind}
+use Rattle.cif_records.specs.Kind.{kind_in}
 use Rattle.cif_records.specs.declared.record.Kind.TheVariants.{Aa, Bs}
 use Rattle.cif_records.proofs.Judging.{no_open_end}
 use Rattle.cif_feed.specs.HolidayCode.{code_in, has_code, letter}
@@ -24,8 +21,8 @@ use Rattle.cif_feed.specs.PublishedParts.{with_code, with_open_end}
 use Rattle.cif_feed.specs.declared.holiday_code.HolidayCode.{HolidayCode}
 use Rattle.cif_feed.specs.declared.holiday_code.HolidayCode.TheVariants.{X, E, G}
 use Rattle.cif_feed.specs.declared.holiday_code.HolidayCodes.{HolidayCodes}
-use Rattle.cif_feed.proofs.MarkedRecords.{last_stands, last_wide, wide_still}
-use Rattle.cif_feed.proofs.ProfileKinds.{HasKind, further, same_line}
+use Rattle.cif_feed.proofs.Cells.{decided, decided_date, wide_still}
+use Rattle.cif_feed.proofs.MarkedRecords.{last_stands, last_wide}
 
 -- ---- columns that are written over those of a line
 
@@ -43,70 +40,79 @@ line_still first d l is_line new from within = record {
 pub last_printable : ArePrintable (yymmdd_of last_day)
 last_printable = printable-plain_columns 6 (date last_day) (refl, lit< tt)
 
-module _ (first : ℕ) (front own rest : List ℕ) (from : 1 ≤ first) (place : length front ≡ first - 1) where
-  written_over : (d : List ℕ) → length d ≡ length own → with_columns first d (front ++ (own ++ rest)) ≡ front ++ (d ++ rest)
-  unfolding with_columns
-  written_over d same =
-      ap (λ l. l ++ (d ++ drop (first - 1 + length d) (front ++ (own ++ rest)))) (take_at front (own ++ rest) (first - 1) place)
-      ∙ ap (λ l. front ++ (d ++ l)) (ap (drop (first - 1 + length d)) (sym (append_assoc front own rest))
-      ∙ drop_at (front ++ own) rest (first - 1 + length d) (omega (arith, length-append front own, place, same)))
-
-  stand_there : (to : ℕ) → length own ≡ to - (first - 1) → columns first to (front ++ (own ++ rest)) ≡ own
-  stand_there to wide =
-      ap (take (to - (first - 1))) (drop_at front (own ++ rest) (first - 1) place) ∙ take_at own rest (to - (first - 1)) wide
-
--- a list in three parts
-parted : (n w : ℕ) (l : List ℕ) → l ≡ take n l ++ (take w (drop n l) ++ drop (n + w) l)
-parted n w l =
-    sym (take-append-drop n l)
-    ∙ ap (λ k. take n l ++ k) (sym (take-append-drop w (drop n l)) ∙ ap (λ k. take w (drop n l) ++ k) (drop-drop w n l))
-
--- ---- the columns of an end
-
 abbrev nines : List ℕ
 nines = codes "999999"
 
-abbrev end_columns : Bool → List ℕ → List ℕ
-end_columns no_end own = cond no_end nines own
+abbrev last_columns : List ℕ
+last_columns = yymmdd_of last_day
 
-module _ (no_end : Bool) (own : List ℕ) (last : ℕ) (stands : StandsInYymmdd own last) (closes : no_end ≡ true → last ≡ last_day) where
-  own_wide : length own ≡ 6
-  own_wide = ap length stands.spelled
+-- ---- the columns of an end, from this one to that
 
-  ends_wide : (b : Bool) → length (end_columns b own) ≡ 6
-  ends_wide true = refl
-  ends_wide false = own_wide
+-- columns that are written over by an open end: it stands there, other ones can be written over it, and those that were there give back
+-- the line
+record MayBeOpen (first to : ℕ) : Type 0 where
+  from : 1 ≤ first
+  within : first ≤ 75
+  put : (l : List ℕ) → length l ≡ 80 → is_open first (with_columns first nines l) ≡ true
+  again : (d l : List ℕ) → length d ≡ 6 → length l ≡ 80 → with_columns first d (with_columns first nines l) ≡ with_columns first d l
+  back : (l : List ℕ) → length l ≡ 80 → with_columns first (columns first to l) l ≡ l
+  read : (l : List ℕ) → is_open first l ≡ are (columns first to l) nines
+  kind : (l : List ℕ) → length l ≡ 80 → kind_in (with_columns first nines l) ≡ kind_in l
 
-  ends_tell : (b : Bool) → are (end_columns b own) nines ≡ b
-  ends_tell true = refl
-  ends_tell false = no_open_end own last stands
+end_of_association : MayBeOpen 22 27
+unfolding with_columns
+end_of_association = record {
+  from = lit≤ tt;
+  within = lit≤ tt;
+  put = λ l wide. decided (λ k. is_open 22 (with_columns 22 nines k)) (λ k. true) l wide refl;
+  again = λ d l six wide.
+      decided_date (λ e k. with_columns 22 e (with_columns 22 nines k)) (λ e k. with_columns 22 e k) d l six wide refl;
+  back = λ l wide. decided (λ k. with_columns 22 (columns 22 27 k) k) (λ k. k) l wide refl;
+  read = λ l. refl;
+  kind = λ l wide. decided (λ k. kind_in (with_columns 22 nines k)) kind_in l wide refl;
+}
 
-  -- of an open end they are those of the last day
-  own_last : no_end ≡ true → yymmdd_of last_day ≡ own
-  own_last is = one_yymmdd _ own last_day last_stands (subst (StandsInYymmdd own) (closes is) stands)
+end_of_basic : MayBeOpen 16 21
+unfolding with_columns
+end_of_basic = record {
+  from = lit≤ tt;
+  within = lit≤ tt;
+  put = λ l wide. decided (λ k. is_open 16 (with_columns 16 nines k)) (λ k. true) l wide refl;
+  again = λ d l six wide.
+      decided_date (λ e k. with_columns 16 e (with_columns 16 nines k)) (λ e k. with_columns 16 e k) d l six wide refl;
+  back = λ l wide. decided (λ k. with_columns 16 (columns 16 21 k) k) (λ k. k) l wide refl;
+  read = λ l. refl;
+  kind = λ l wide. decided (λ k. kind_in (with_columns 16 nines k)) kind_in l wide refl;
+}
 
-  module _ (first : ℕ) (front rest : List ℕ) (from : 1 ≤ first) (place : length front ≡ first - 1) where
-    abbrev end_line : Bool → List ℕ
-    end_line b = front ++ (end_columns b own ++ rest)
+-- a line with this end, by its plain line
+record IsEnded (first : ℕ) (l c : List ℕ) (no_end : Bool) : Type 0 where
+  is_line : IsLine c
+  kind : kind_in c ≡ kind_in l
+  line : closed first c ≡ l
+  open_end : is_open first c ≡ no_end
 
-    is_open_line : (b : Bool) → is_open first (end_line b) ≡ b
-    is_open_line b =
-        ap (λ l. are l nines)
-        (stand_there first front (end_columns b own) rest from place (first + 6 - 1) (ends_wide b ∙ omega (arith, from))) ∙ ends_tell b
-
-    opened : (b : Bool) → b ≡ no_end → with_open_end b first (front ++ (own ++ rest)) ≡ end_line b
-    opened true is = written_over first front own rest from place nines (sym own_wide)
-    opened false is = refl
-
-    closed_line : (b : Bool) → b ≡ no_end → closed first (end_line b) ≡ front ++ (own ++ rest)
-    closed_line b is =
-        ap (λ o. cond o (with_columns first (yymmdd_of last_day) (end_line b)) (end_line b)) (is_open_line b) ∙ by b is
-      where
-        by : (b : Bool) → b ≡ no_end → cond b (with_columns first (yymmdd_of last_day) (end_line b)) (end_line b) ≡ front ++ (own ++ rest)
-        by true is =
-            written_over first front nines rest from place (yymmdd_of last_day) last_wide
-            ∙ ap (λ l. front ++ (l ++ rest)) (own_last (sym is))
-        by false is = refl
+ended : (first to : ℕ) → MayBeOpen first to → (l : List ℕ) (last : ℕ) (no_end : Bool) → IsLine l → StandsInYymmdd (columns first to l) last
+    → (no_end ≡ true → last ≡ last_day) → IsEnded first l (with_open_end no_end first l) no_end
+ended first to may l last true is_line stands closes =
+    let w = is_line.width in
+    let own : last_columns ≡ columns first to l =
+    one_yymmdd _ (columns first to l) last_day last_stands (subst (StandsInYymmdd (columns first to l)) (closes refl) stands) in
+    record {
+      is_line = line_still first nines l is_line (printable_fact nines refl) may.from (let a = may.within in omega (arith, a));
+      kind = may.kind l w;
+      line = ap (λ b. cond b (with_columns first last_columns (with_columns first nines l)) (with_columns first nines l)) (may.put l w)
+          ∙ may.again last_columns l last_wide w ∙ ap (λ d. with_columns first d l) own ∙ may.back l w;
+      open_end = may.put l w;
+    }
+ended first to may l last false is_line stands closes =
+    let shut : is_open first l ≡ false = may.read l ∙ no_open_end (columns first to l) last stands in
+    record {
+      is_line = is_line;
+      kind = refl;
+      line = ap (λ b. cond b (with_columns first last_columns l) l) shut;
+      open_end = shut;
+    }
 
 -- ---- an AA
 
@@ -117,49 +123,13 @@ pub record IsWrittenAssociation (l c : List ℕ) (no_end : Bool) : Type 0 where
   pub line : closed 22 c ≡ l
   pub open_end : is_open 22 c ≡ no_end
 
-same_kind : (l c : List ℕ) (k : Kind) → HasKind l c → kind_in l ≡ Some k → kind_in c ≡ Some k
-same_kind l c k has named = ap (λ letters. find (is_identity letters) kinds) has.same ∙ named
-
-long_line : (l : List ℕ) → IsLine l → 2 ≤ length l
-long_line l is_line = let w = is_line.width in omega (arith, w)
-
-open_still : (first : ℕ) (l : List ℕ) (b : Bool) → IsLine l → 1 ≤ first → first ≤ 75 → IsLine (with_open_end b first l)
-open_still first l true is_line from within =
-    line_still first nines l is_line (printable_fact nines refl) from (omega (arith, from, within))
-open_still first l false is_line from within = is_line
-
-open_kind : (first : ℕ) (l : List ℕ) (b : Bool) → 3 ≤ first → HasKind l l → HasKind l (with_open_end b first l)
-open_kind first l true from has = further l first nines l from has
-open_kind first l false from has = has
-
 pub association_written : (l : List ℕ) (last : ℕ) (no_end : Bool) → IsLine l → kind_in l ≡ Some Aa → StandsInYymmdd (columns 22 27 l) last
     → (no_end ≡ true → last ≡ last_day) → IsWrittenAssociation l (with_open_end no_end 22 l) no_end
 association_written l last no_end is_line named stands closes =
-    let w = is_line.width in
-    let front = take 21 l in
-    let own = columns 22 27 l in
-    let rest = drop 27 l in
-    let split : l ≡ front ++ (own ++ rest) = parted 21 6 l in
-    let place : length front ≡ 22 - 1 = omega (arith, w, length-take 21 l) in
-    let put : with_open_end no_end 22 l ≡ end_line no_end own last stands closes 22 front rest (omega arith) place no_end =
-    ap (with_open_end no_end 22) split ∙ opened no_end own last stands closes 22 front rest (omega arith) place no_end refl in
-    record {
-      is_line = open_still 22 l no_end is_line (omega arith) (omega arith);
-      named = same_kind l (with_open_end no_end 22 l) Aa (open_kind 22 l no_end (omega arith) (same_line l (long_line l is_line))) named;
-      line = ap (closed 22) put ∙ closed_line no_end own last stands closes 22 front rest (omega arith) place no_end refl ∙ sym split;
-      open_end = ap (is_open 22) put ∙ is_open_line no_end own last stands closes 22 front rest (omega arith) place no_end;
-    }
+    let e = ended 22 27 end_of_association l last no_end is_line stands closes in
+    record { is_line = e.is_line; named = e.kind ∙ named; line = e.line; open_end = e.open_end }
 
 -- ---- a BS
-
--- column 29
-abbrev code_columns : Option HolidayCode → List ℕ
-code_columns None = codes " "
-code_columns (Some code) = letter code ∷ []
-
-abbrev code_column : Option HolidayCode → ℕ
-code_column None = 32
-code_column (Some code) = letter code
 
 code_back : (allowed : HolidayCodes) (code : HolidayCode) → has_code allowed code ≡ true
     → if_allowed allowed (code_in (letter code)) ≡ Some code
@@ -167,47 +137,10 @@ code_back allowed X may = ap (λ b. cond b (Some X) None) may
 code_back allowed E may = ap (λ b. cond b (Some E) None) may
 code_back allowed G may = ap (λ b. cond b (Some G) None) may
 
--- the columns of a line round those of its last date and of its code
-module _ (a c e : List ℕ) (a_wide : length a ≡ 15) (c_wide : length c ≡ 7) where
-  abbrev basic_columns : List ℕ → List ℕ → List ℕ
-  basic_columns b d = a ++ (b ++ (c ++ (d ++ e)))
-
-  regrouped : (b d : List ℕ) → basic_columns b d ≡ (a ++ (b ++ c)) ++ (d ++ e)
-  regrouped b d = ap (λ l. a ++ l) (sym (append_assoc b c (d ++ e))) ∙ sym (append_assoc a (b ++ c) (d ++ e))
-
-  up_to_code : (b : List ℕ) → length b ≡ 6 → length (a ++ (b ++ c)) ≡ 28
-  up_to_code b b_wide = omega (arith, a_wide, b_wide, c_wide, length-append a (b ++ c), length-append b c)
-
-  code_put : (b old new : List ℕ) → length b ≡ 6 → length old ≡ 1 → length new ≡ 1
-      → with_columns 29 new (basic_columns b old) ≡ basic_columns b new
-  code_put b old new b_wide one other =
-      ap (with_columns 29 new) (regrouped b old)
-      ∙ written_over 29 (a ++ (b ++ c)) old e (omega arith) (up_to_code b b_wide) new (other ∙ sym one) ∙ sym (regrouped b new)
-
-  coded : (b : List ℕ) (code : Option HolidayCode) → length b ≡ 6
-      → with_code code (basic_columns b (codes " ")) ≡ basic_columns b (code_columns code)
-  coded b None b_wide = refl
-  coded b (Some code) b_wide = code_put b (codes " ") (letter code ∷ []) b_wide refl refl
-
-  uncoded : (b : List ℕ) (code : Option HolidayCode) → length b ≡ 6
-      → without_code code (basic_columns b (code_columns code)) ≡ basic_columns b (codes " ")
-  uncoded b None b_wide = refl
-  uncoded b (Some code) b_wide = code_put b (letter code ∷ []) (codes " ") b_wide refl refl
-
-  code_there : (allowed : HolidayCodes) (b : List ℕ) (code : Option HolidayCode) → length b ≡ 6
-      → ((k : HolidayCode) → code ≡ Some k → IsTrue (has_code allowed k)) → code_of allowed (basic_columns b (code_columns code)) ≡ code
-  code_there allowed b code b_wide may = ap (λ n. if_allowed allowed (code_in n)) (there code) ∙ back code may
-    where
-      there : (code : Option HolidayCode) → slice_index (basic_columns b (code_columns code)) 28 ≡ code_column code
-      there None =
-          ap (λ l. slice_index l 28) (regrouped b (codes " ")) ∙ get_or_at (a ++ (b ++ c)) 32 e 0 28 (up_to_code b b_wide)
-      there (Some k) =
-          ap (λ l. slice_index l 28) (regrouped b (letter k ∷ [])) ∙ get_or_at (a ++ (b ++ c)) (letter k) e 0 28 (up_to_code b b_wide)
-
-      back : (code : Option HolidayCode) → ((k : HolidayCode) → code ≡ Some k → IsTrue (has_code allowed k))
-          → if_allowed allowed (code_in (code_column code)) ≡ code
-      back None may = refl
-      back (Some k) may = code_back allowed k (may k refl)
+code_printable : (code : HolidayCode) → ArePrintable (letter code ∷ [])
+code_printable X = printable_fact (letter X ∷ []) refl
+code_printable E = printable_fact (letter E ∷ []) refl
+code_printable G = printable_fact (letter G ∷ []) refl
 
 pub record IsWrittenBasic (allowed : HolidayCodes) (l c : List ℕ) (no_end : Bool) (code : Option HolidayCode) : Type 0 where
   pub is_line : IsLine c
@@ -216,55 +149,72 @@ pub record IsWrittenBasic (allowed : HolidayCodes) (l c : List ℕ) (no_end : Bo
   pub open_end : is_open 16 c ≡ no_end
   pub told : code_of allowed c ≡ code
 
-code_printable : (code : HolidayCode) → ArePrintable (letter code ∷ [])
-code_printable X = printable_fact (letter X ∷ []) refl
-code_printable E = printable_fact (letter E ∷ []) refl
-code_printable G = printable_fact (letter G ∷ []) refl
+-- a code that is written into a line, whose end may be open
+module _ (allowed : HolidayCodes) (l m : List ℕ) (no_end : Bool) (e : IsEnded 16 l m no_end) (is_line : IsLine l)
+    (space : columns 29 29 l ≡ codes " ") where
+  wide : length m ≡ 80
+  wide = e.is_line.width
 
-code_still : (l : List ℕ) (code : Option HolidayCode) → IsLine l → IsLine (with_code code l)
-code_still l None is_line = is_line
-code_still l (Some code) is_line = line_still 29 (letter code ∷ []) l is_line (code_printable code) (omega arith) (omega arith)
+  -- column 29 of the line with this end is that of the plain line
+  column : slice_index m 28 ≡ 32
+  unfolding with_columns
+  column =
+      at (is_open 16 m) ∙ ap (λ k. slice_index k 28) e.line ∙ decided (λ k. slice_index k 28) (λ k. slice_index (columns 29 29 k) 0) l
+      is_line.width refl ∙ ap (λ v. slice_index v 0) space
+    where
+      at : (b : Bool) → slice_index m 28 ≡ slice_index (cond b (with_columns 16 last_columns m) m) 28
+      at true = decided_date (λ d k. slice_index k 28) (λ d k. slice_index (with_columns 16 d k) 28) last_columns m last_wide wide refl
+      at false = refl
 
-code_kind : (l c : List ℕ) (code : Option HolidayCode) → HasKind l c → HasKind l (with_code code c)
-code_kind l c None has = has
-code_kind l c (Some code) has = further l 29 (letter code ∷ []) c (omega arith) has
+  -- and so where the code is written
+  code_written : (k : HolidayCode) → closed 16 (with_columns 29 (letter k ∷ []) m) ≡ with_columns 29 (letter k ∷ []) l
+  unfolding with_columns
+  code_written k =
+      ap (λ b. cond b (with_columns 16 last_columns (with_columns 29 (letter k ∷ []) m)) (with_columns 29 (letter k ∷ []) m))
+      (decided (λ x. is_open 16 (with_columns 29 (letter k ∷ []) x)) (is_open 16) m wide refl)
+      ∙ at (is_open 16 m) ∙ ap (with_columns 29 (letter k ∷ [])) e.line
+    where
+      at : (b : Bool) → cond b (with_columns 16 last_columns (with_columns 29 (letter k ∷ []) m)) (with_columns 29 (letter k ∷ []) m)
+          ≡ with_columns 29 (letter k ∷ []) (cond b (with_columns 16 last_columns m) m)
+      at true = decided_date (λ d x. with_columns 16 d (with_columns 29 (letter k ∷ []) x))
+          (λ d x. with_columns 29 (letter k ∷ []) (with_columns 16 d x)) last_columns m last_wide wide refl
+      at false = refl
+
+  code_out : (k : HolidayCode) → with_columns 29 (codes " ") (with_columns 29 (letter k ∷ []) l) ≡ l
+  unfolding with_columns
+  code_out k =
+      decided (λ x. with_columns 29 (codes " ") (with_columns 29 (letter k ∷ []) x)) (λ x. with_columns 29 (codes " ") x) l is_line.width
+      refl ∙ ap (λ v. with_columns 29 v l) (sym space) ∙ decided (λ x. with_columns 29 (columns 29 29 x) x) (λ x. x) l is_line.width refl
+
+  basic_with : (code : Option HolidayCode) → kind_in l ≡ Some Bs → ((k : HolidayCode) → code ≡ Some k → IsTrue (has_code allowed k))
+      → IsWrittenBasic allowed l (with_code code m) no_end code
+  unfolding with_columns
+  basic_with None named may =
+      let told : code_of allowed m ≡ None = ap (λ (n : ℕ). if_allowed allowed (code_in n)) column in
+      record {
+        is_line = e.is_line;
+        named = e.kind ∙ named;
+        line = ap (λ k. without_code k (closed 16 m)) told ∙ e.line;
+        open_end = e.open_end;
+        told = told;
+      }
+  basic_with (Some k) named may =
+      let c = with_columns 29 (letter k ∷ []) m in
+      let told : code_of allowed c ≡ Some k =
+      ap (λ (n : ℕ). if_allowed allowed (code_in n))
+      (decided (λ x. slice_index (with_columns 29 (letter k ∷ []) x) 28) (λ x. letter k) m wide refl) ∙ code_back allowed k (may k refl) in
+      record {
+        is_line = line_still 29 (letter k ∷ []) m e.is_line (code_printable k) (lit≤ tt) (lit≤ tt);
+        named = decided (λ x. kind_in (with_columns 29 (letter k ∷ []) x)) kind_in m wide refl ∙ e.kind ∙ named;
+        line = ap (λ o. without_code o (closed 16 c)) told ∙ ap (with_columns 29 (codes " ")) (code_written k) ∙ code_out k;
+        open_end = decided (λ x. is_open 16 (with_columns 29 (letter k ∷ []) x)) (is_open 16) m wide refl ∙ e.open_end;
+        told = told;
+      }
 
 pub basic_written : (allowed : HolidayCodes) (l : List ℕ) (last : ℕ) (no_end : Bool) (code : Option HolidayCode) → IsLine l
     → kind_in l ≡ Some Bs → StandsInYymmdd (columns 16 21 l) last → columns 29 29 l ≡ codes " " → (no_end ≡ true → last ≡ last_day)
     → ((k : HolidayCode) → code ≡ Some k → IsTrue (has_code allowed k))
     → IsWrittenBasic allowed l (with_code code (with_open_end no_end 16 l)) no_end code
 basic_written allowed l last no_end code is_line named stands space closes may =
-    let w = is_line.width in
-    let a = take 15 l in
-    let own = columns 16 21 l in
-    let c = take 7 (drop 21 l) in
-    let e = drop 29 l in
-    let a_wide : length a ≡ 15 = omega (arith, w, length-take 15 l) in
-    let c_wide : length c ≡ 7 = omega (arith, w, length-take 7 (drop 21 l), length-drop 21 l) in
-    let b = end_columns no_end own in
-    let b_wide : length b ≡ 6 = ends_wide no_end own last stands closes no_end in
-    let o_wide : length own ≡ 6 = ap length stands.spelled in
-    let tail : drop 21 l ≡ c ++ (codes " " ++ e) =
-    parted 7 1 (drop 21 l) ∙ ap (λ k. c ++ (take 1 k ++ drop 8 (drop 21 l))) (drop-drop 7 21 l)
-    ∙ ap (λ k. c ++ (k ++ drop 8 (drop 21 l))) space ∙ ap (λ k. c ++ (codes " " ++ k)) (drop-drop 8 21 l) in
-    let split : l ≡ basic_columns a c e a_wide c_wide own (codes " ") =
-    parted 15 6 l ∙ ap (λ k. a ++ (own ++ k)) tail in
-    let opens : with_open_end no_end 16 l ≡ basic_columns a c e a_wide c_wide b (codes " ") =
-    ap (with_open_end no_end 16) split ∙ opened no_end own last stands closes 16 a (c ++ (codes " " ++ e))
-    (omega arith) a_wide no_end refl in
-    let put : with_code code (with_open_end no_end 16 l) ≡ basic_columns a c e a_wide c_wide b (code_columns code) =
-    ap (with_code code) opens ∙ coded a c e a_wide c_wide b code b_wide in
-    let rest = c ++ (code_columns code ++ e) in
-    let told : code_of allowed (with_code code (with_open_end no_end 16 l)) ≡ code =
-    ap (code_of allowed) put ∙ code_there a c e a_wide c_wide allowed b code b_wide may in
-    record {
-      is_line = code_still (with_open_end no_end 16 l) code (open_still 16 l no_end is_line (omega arith) (omega arith));
-      named = same_kind l (with_code code (with_open_end no_end 16 l)) Bs
-          (code_kind l (with_open_end no_end 16 l) code (open_kind 16 l no_end (omega arith) (same_line l (long_line l is_line)))) named;
-      line = ap (λ k. without_code k (closed 16 (with_code code (with_open_end no_end 16 l)))) told
-          ∙ ap (λ k. without_code code (closed 16 k)) put
-          ∙ ap (without_code code) (closed_line no_end own last stands closes 16 a rest (omega arith) a_wide no_end refl)
-          ∙ uncoded a c e a_wide c_wide own code o_wide ∙ sym split;
-      open_end = ap (is_open 16) put ∙ is_open_line no_end own last stands closes 16 a rest (omega arith) a_wide no_end;
-      told = told;
-    }
+    basic_with allowed l (with_open_end no_end 16 l) no_end (ended 16 21 end_of_basic l last no_end is_line stands closes) is_line space
+    code named may
