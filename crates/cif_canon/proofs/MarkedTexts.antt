@@ -1,11 +1,7 @@
 -- Lines behind a mark.
-use Rattle.std.proofs.Common.{◌≡◌, ℕ, Bool, List, [], ◌∷◌, ◌++◌, Some, map, sym, ◌∙◌, append_assoc, append-nil, refl, ap}
-use Rattle.cif_extract.specs.Body.{KeepAll}
-use Rattle.cif_extract.specs.BodyParts.{body_records}
-use Rattle.cif_extract.proofs.WrittenLines.{kept_plain}
-use Rattle.cif_records.specs.Record.{record_table}
-use Rattle.cif_canon.specs.Differences.{mark}
-use Rattle.cif_canon.proofs.Words.{BodyParts, P, Side, basic_rows, flat_map, marked_text, plain_line, schedule_lines}
+use Rattle.std.proofs.Common.{◌≡◌, ℕ, List, [], ◌∷◌, ◌++◌, sym, ◌∙◌, append_assoc, append-nil, refl, ap}
+use Rattle.cif_canon.specs.Differences.{mark, marked_schedule}
+use Rattle.cif_canon.proofs.Words.{BodyParts, Permanent, Side, flat_map, marked_text, schedule_lines, schedule_plain}
 
 -- the text of one line
 pub marked-line : (side : Side) (line : List ℕ) → mark side ++ (line ++ (10 ∷ [])) ≡ marked_text side (line ∷ [])
@@ -27,17 +23,10 @@ pub marked-first : (side : Side) (line : List ℕ) (lines : List (List ℕ)) →
 marked-first side line lines =
     ap (λ (l : List ℕ). l ++ marked_text side lines) (append-nil ((mark side ++ line) ++ (10 ∷ [])))
 
--- the text of a schedule is that of its first line and of those kept
-module _ (side : Side) (uid : List ℕ) (first last : ℕ) (days : List Bool) (p : BodyParts) (basic : List ℕ)
-    (is : basic ≡ plain_line (basic_rows uid first last days P (Some p.detail))) where
-  schedule-all : (rest : List (List ℕ)) → rest ≡ map plain_line (map record_table (body_records p)) →
-      basic ∷ rest ≡ schedule_lines uid first last days P (Some p)
-  unfolding schedule_lines
-  schedule-all rest are =
-      ap (λ (line : List ℕ). line ∷ rest) is
-      ∙ ap (λ (lines : List (List ℕ)). plain_line (basic_rows uid first last days P (Some p.detail)) ∷ lines) are
-
-  pub marked-kept : (rest : List (List ℕ)) → KeepAll rest (map record_table (body_records p)) →
-      marked_text side (basic ∷ []) ++ marked_text side rest ≡ marked_text side (schedule_lines uid first last days P (Some p))
-  marked-kept rest kept =
-      marked-first side basic rest ∙ ap (marked_text side) (schedule-all rest (kept_plain rest (map record_table (body_records p)) kept))
+-- the text of a schedule is that of its first line and of the others
+pub marked-all : (side : Side) (e : List ℕ × Permanent BodyParts) (basic : List ℕ) (further : List (List ℕ)) →
+    basic ≡ (schedule_plain e).basic → further ≡ (schedule_plain e).further →
+    marked_text side (basic ∷ []) ++ marked_text side further ≡ marked_schedule (record { side = side; it = e })
+unfolding schedule_lines
+marked-all side e basic further first rest =
+    marked-first side basic further ∙ (λ i. marked_text side (first i ∷ rest i))

@@ -4,14 +4,10 @@ use Rattle.std.proofs.Common.{refl, subst, sym, take, true≢false, ◌∙◌}
 use Rattle.std.specs.Cmp.{booleans_Decides}
 use Rattle.std.proofs.lemmas.Bool.Decides.{Decides-and, Decides-eqb}
 use Rattle.std.proofs.lemmas.List.{take_all}
-use Rattle.std.proofs.lemmas.List.Folds.{flat_map-map}
-use Rattle.cif_canon.specs.Pairs.{listed_as, schedule_lines}
-use Rattle.cif_canon.specs.Steps.ByPairs.{HasWrittenFirst, IsListedFirst, listed_tiploc}
-use Rattle.cif_canon.proofs.Words.{ArePair, Decides, DifferencesParts, IsAppended, IsTrue, Left, Listed, Ordering, Permanent, Right, Run}
-use Rattle.cif_canon.proofs.Words.{ScheduleLines, Side, Sided, Sink, Terms, Tiploc, are_pair, association_lines, association_plain, at_side}
-use Rattle.cif_canon.proofs.Words.{by_pairs, flat_map, if◌then◌else◌, is_eq, is_side, key_cmp, line_of_tiploc, nat_cmp, pointwise_decides}
-use Rattle.cif_canon.proofs.Words.{record_at, schedule_plain, sided_records, slice_cmp, tiploc_lines, with_record, ◌↔◌}
-use Rattle.cif_canon.proofs.AppendedTexts.{both, text-is}
+use Rattle.cif_canon.specs.Steps.ByPairs.{HasWrittenFirst, IsListedFirst}
+use Rattle.cif_canon.proofs.Words.{ArePair, Decides, IsAppended, IsTrue, Left, Listed, Ordering, Permanent, Right, Run, Side, Sided, Sink}
+use Rattle.cif_canon.proofs.Words.{Terms, are_pair, at_side, by_pairs, if◌then◌else◌, is_eq, is_side, pointwise_decides, record_at}
+use Rattle.cif_canon.proofs.Words.{sided_records, with_record, ◌↔◌}
 
 -- ---- the test of a pair
 
@@ -132,45 +128,17 @@ module _ {K B : Type 0} (xs ys : List (K × Terms B)) (runs : List (Sided Run)) 
     abbrev with : K × Permanent B → List (Sided Run) → List (Listed (K × Permanent B))
     with other l = (own, Some other) ∷ by_pairs cmp (sided_records xs ys l)
 
-    pub written-pair : (other : K × Permanent B) → run.side ≡ Left → 0 < length later → IsListedFirst cmp xs ys own (Some other) later →
-        IsAppended contents errors (text (record { side = Left; it = it }, Some other)) old new →
+    pub written-pair : (other : K × Permanent B) → 0 < length later → IsListedFirst cmp xs ys own (Some other) later →
+        IsAppended contents errors (text (own, Some other)) old new →
         HasWrittenFirst contents errors text cmp xs ys runs (take (length later - 1) (drop 1 later)) old new
-    written-pair other left more listed written =
+    written-pair other more listed written =
         let one = fewer runs some in
         let two = fewer later more in record {
           item = (own, Some other);
           first = own-first ∙ listed
               ∙ ap (with other) (sym (tail-is later));
-          written = subst (λ (side : Side). IsAppended contents errors (text (record { side = side; it = it }, Some other)) old new)
-              (sym left) written;
+          written = written;
           count = 2;
           behind = tail-is later ∙ ap (λ (l : List (Sided Run)). drop 1 l) (tail-is runs) ∙ two-on runs;
           fewer = omega (arith, one, two);
         }
-
--- the three parts of what is listed, one behind another
-module _ {W : Type 0} (contents : W → Option (List ℕ)) (errors : W → Option ℕ) (tiploc_text : Sided (List ℕ) → List ℕ)
-    (association_text : Listed (List ℕ) → List ℕ) (schedule_text : Listed ScheduleLines → List ℕ) (d : DifferencesParts) where
-  abbrev first : List ℕ
-  first = flat_map tiploc_text (tiploc_lines d)
-
-  abbrev second : List ℕ
-  second = flat_map association_text (association_lines d)
-
-  abbrev third : List ℕ
-  third = flat_map schedule_text (schedule_lines d)
-
-  pub lists-appended : (s t u v : Sink W) → IsAppended contents errors (flat_map (listed_tiploc tiploc_text) d.tiplocs) s t →
-      IsAppended contents errors (flat_map (λ e. association_text (listed_as association_plain e)) (by_pairs key_cmp d.associations)) t u →
-      IsAppended contents errors (flat_map (λ e. schedule_text (listed_as schedule_plain e)) (by_pairs (slice_cmp nat_cmp) d.schedules)) u
-      v →
-      IsAppended contents errors (first ++ (second ++ third)) s v
-  lists-appended s t u v a b c =
-      both contents errors first (second ++ third) s t v
-      (text-is contents errors (flat_map (listed_tiploc tiploc_text) d.tiplocs) first s t
-      (sym (flat_map-map tiploc_text (λ (l : Sided Tiploc). record { side = l.side; it = line_of_tiploc l.it }) d.tiplocs)) a)
-      (both contents errors second third t u v
-      (text-is contents errors _ second t u
-      (sym (flat_map-map association_text (listed_as association_plain) (by_pairs key_cmp d.associations))) b)
-      (text-is contents errors _ third u v
-      (sym (flat_map-map schedule_text (listed_as schedule_plain) (by_pairs (slice_cmp nat_cmp) d.schedules))) c))

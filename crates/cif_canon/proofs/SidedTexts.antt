@@ -15,23 +15,11 @@ module _ {K B : Type 0} (xs ys : List (K × Terms B)) where
     one-text side None rest = refl
     one-text side (Some e) rest = refl
 
-    by-side : (s : Sided Run) (side : Side) → s.side ≡ side →
-        text_if (λ e. text (record { side = side; it = e })) (record_at (at_side xs ys side) s.it)
-        ≡ text_if (at_side (λ e. text (record { side = Left; it = e })) (λ e. text (record { side = Right; it = e })) side)
-        (record_at (at_side xs ys side) s.it)
-    by-side s Left is = refl
-    by-side s Right is = refl
-
-    pub sided-text : (runs : List (Sided Run)) →
-        flat_map (sided_run_text (λ e. text (record { side = Left; it = e })) xs (λ e. text (record { side = Right; it = e })) ys) runs
-        ≡ flat_map text (sided_records xs ys runs)
+    pub sided-text : (runs : List (Sided Run)) → flat_map (sided_run_text text xs ys) runs ≡ flat_map text (sided_records xs ys runs)
     sided-text [] = refl
     sided-text (s ∷ runs) =
-        sym (one-text s.side (record_at (at_side xs ys s.side) s.it) (sided_records xs ys runs)
-        ∙ ap (λ (l : List ℕ). l ++ flat_map text (sided_records xs ys runs)) (by-side s s.side refl)
-        ∙ ap (λ (l : List ℕ).
-        sided_run_text (λ e. text (record { side = Left; it = e })) xs (λ e. text (record { side = Right; it = e })) ys s ++ l)
-        (sym (sided-text runs)))
+        ap (λ (l : List ℕ). sided_run_text text xs ys s ++ l) (sided-text runs)
+        ∙ sym (one-text s.side (record_at (at_side xs ys s.side) s.it) (sided_records xs ys runs))
 
   -- the record of a run with its side
   record-there : (s : Sided Run) (e : Sided (K × Permanent B)) → IsSidedRunOf xs ys s e →

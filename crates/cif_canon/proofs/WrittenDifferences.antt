@@ -2,23 +2,17 @@
 use Rattle.std.proofs.Common.{ℕ, List, ◌++◌, Option}
 use Rattle.std.specs.List.{flat_map}
 use Rattle.cif_canon.specs.Differences.{marked_association, marked_schedule}
-use Rattle.cif_canon.proofs.Words.{AssocBody, AssocKey, Association, BodyParts, IsAppended, Left, Permanent, Right, Run, Schedule, Sided}
+use Rattle.cif_canon.proofs.Words.{Association, IsAppended, Run, Schedule, Sided}
 use Rattle.cif_canon.proofs.Words.{Sink, Tiploc, association_entries, marked_tiploc, schedule_entries, sided_records, sided_run_text}
 use Rattle.cif_canon.proofs.AppendedTexts.{both, text-is}
 use Rattle.cif_canon.proofs.SidedTexts.{sided-text}
 
 -- the text of runs of associations, of schedules
 abbrev pub associations_text : List Association → List Association → List (Sided Run) → List ℕ
-associations_text xs ys runs =
-    flat_map (sided_run_text (λ (e : AssocKey × Permanent AssocBody). marked_association (record { side = Left; it = e }))
-    (association_entries xs) (λ (e : AssocKey × Permanent AssocBody). marked_association (record { side = Right; it = e }))
-    (association_entries ys)) runs
+associations_text xs ys runs = flat_map (sided_run_text marked_association (association_entries xs) (association_entries ys)) runs
 
 abbrev pub schedules_text : List Schedule → List Schedule → List (Sided Run) → List ℕ
-schedules_text xs ys runs =
-    flat_map (sided_run_text (λ (e : List ℕ × Permanent BodyParts). marked_schedule (record { side = Left; it = e }))
-    (schedule_entries xs) (λ (e : List ℕ × Permanent BodyParts). marked_schedule (record { side = Right; it = e }))
-    (schedule_entries ys)) runs
+schedules_text xs ys runs = flat_map (sided_run_text marked_schedule (schedule_entries xs) (schedule_entries ys)) runs
 
 module _ {W : Type 0} (contents : W → Option (List ℕ)) (errors : W → Option ℕ) (tiplocs : List (Sided Tiploc))
     (la ra : List Association) (associations : List (Sided Run)) (ls rs : List Schedule) (schedules : List (Sided Run)) where

@@ -1,78 +1,24 @@
 //! The lines of a canonical form, one by one.
-ghost use Rattle.std.specs.Prelude.{◌≡◌, ◌<◌, ◌≤◌, All, length, map};
+ghost use Rattle.std.specs.Prelude.{◌≡◌, ◌<◌, All, length, map};
 ghost use Rattle.std.specs.List.{enumerate_from, flat_map};
 ghost use Rattle.cif_calendar.specs.Entries.{schedule_entries};
 ghost use Rattle.cif_canon.specs.Appended.{IsAppended};
 ghost use Rattle.cif_canon.specs.Lines.{line_of_tiploc};
 ghost use Rattle.cif_canon.specs.Steps.Texts.{HasRecord, numbered_text};
 
-use crate::canonical_form::{Canon, RecordLines, body_of, look_ahead_at, write_runs};
-use cif_columns::{Line, LineSlice, Sink, Uid, WriteDevice};
-use cif_extract::{Body, Schedule};
-use cif_records::{AssocBody, AssocKey, Association, Basic, Tiploc};
+use crate::canon_record::{CanonRecord, CanonSchedule, record_of};
+use crate::canonical_form::{Canon, look_ahead_at, write_runs};
+use crate::writing::Texts;
+use cif_columns::{Line, Sink, WriteDevice};
+use cif_extract::Schedule;
+use cif_records::{AssocBody, AssocKey, Tiploc};
 use cif_weeks::Run;
-use std::marker::Model;
-
-/// A schedule of a canonical form. A clause sees its lines.
-#[derive(Debug, Drop)]
-pub struct CanonSchedule<'a> {
-    uid: &'a Uid,
-    body: &'a Body,
-    run: &'a Run,
-}
-
-impl<'a> Model for CanonSchedule<'a> {
-    ghost use Rattle.std.specs.Prelude.{◌≤◌};
-    ghost use Rattle.cif_canon.specs.Lines.{ScheduleLines};
-    ghost use Rattle.cif_canon.specs.Lines.{schedule_plain};
-    ghost use Rattle.cif_weeks.specs.Runs.{record_of};
-
-    ghost Value = { ScheduleLines };
-
-    ghost view = { λ s. schedule_plain (s.uid.now, record_of s.run.now s.body.now) };
-
-    ghost invariant = { λ s. s.run.now.first ≤ s.run.now.last };
-}
-
-impl<'a> CanonSchedule<'a> {
-    ghost use Rattle.cif_canon.specs.Lines.{schedule_plain};
-    ghost use Rattle.cif_weeks.specs.Runs.{record_of};
-
-    /// The schedule of a run, with this UID and body.
-    pub(crate) fn of(uid: &'a Uid, body: &'a Body, run: &'a Run) -> CanonSchedule<'a>
-        requires { run.now.first ≤ run.now.last }
-        ensures { result ≡ schedule_plain (uid.now, record_of run.now body.now) }
-    {
-        CanonSchedule { uid, body, run }
-    }
-
-    /// The line of its BS.
-    pub fn basic(&self) -> Line
-        ensures { result ≡ self.now.basic }
-    {
-        let run = self.run;
-        Basic::permanent_line(
-            self.uid,
-            &self.body.detail_line(),
-            run.first,
-            run.last,
-            run.days,
-        )
-    }
-
-    /// The lines that follow its BS.
-    pub fn further(&self) -> LineSlice<'a>
-        ensures { result ≡ self.now.further }
-    {
-        self.body.further_lines()
-    }
-}
 
 /// What is listed of a canonical form: a text for each association, and one for each schedule with
 /// its number.
 pub trait CanonListing {
     ghost use Rattle.std.specs.Prelude.{ℕ, List};
-    ghost use Rattle.cif_canon.specs.Lines.{ScheduleLines};
+    ghost use Rattle.cif_canon.specs.Lines.{ScheduleLines, schedule_plain};
 
     // The text of an association, by its line.
     ghost association_text: { Self → List ℕ → List ℕ };
@@ -92,7 +38,7 @@ pub trait CanonListing {
         sink: &mut Sink<W>,
     )
         ensures { IsAppended W.contents W.write_errors
-            (schedule_text self.now number schedule.now) sink.old sink.new };
+            (schedule_text self.now number (schedule_plain schedule.now)) sink.old sink.new };
 }
 
 impl<'a> Canon<'a> {
@@ -150,20 +96,17 @@ struct ListedLines<'a, L> {
     listing: &'a L,
 }
 
-impl<'a, L: CanonListing> RecordLines<Association> for ListedLines<'a, L> {
+impl<'a, 'b, L: CanonListing> Texts<CanonRecord<'b, AssocKey, AssocBody>> for ListedLines<'a, L> {
     ghost use Rattle.cif_canon.specs.Lines.{association_plain};
 
     ghost text = { λ lines e. L.association_text lines.listing.now (association_plain e) };
 
-    fn write_record<W: WriteDevice>(
+    fn write<W: WriteDevice>(
         &self,
-        key: &AssocKey,
-        body: &AssocBody,
-        run: &Run,
+        item: &CanonRecord<'b, AssocKey, AssocBody>,
         sink: &mut Sink<W>,
     ) {
-        let line = Association::permanent_line(key, body, run.first, run.last, run.days);
-        self.listing.write_association(&line, sink);
+        self.listing.write_association(&item.line(), sink);
     }
 }
 
@@ -182,11 +125,6 @@ fn list_runs<L: CanonListing, W: WriteDevice>(
 {
     for (at, run) in runs.iter().enumerate() {
         look_ahead_at(schedules, runs, at);
-        let schedule = CanonSchedule {
-            uid: &schedules[run.source].uid,
-            body: body_of(schedules, run),
-            run,
-        };
-        listing.write_schedule(at + 1, &schedule, sink);
+        listing.write_schedule(at + 1, &record_of(schedules, run), sink);
     }
 }

@@ -4,14 +4,14 @@ ghost use Rattle.std.specs.List.{flat_map};
 ghost use Rattle.cif_calendar.specs.Keys.{keyed};
 ghost use Rattle.cif_columns.specs.Sink.{Writes};
 ghost use Rattle.cif_extract.specs.declared.fault.Fault.TheVariants.{Write};
-ghost use Rattle.cif_weeks.specs.Runs.{record_of};
 ghost use Rattle.cif_canon.specs.Counts.{counts_line};
 ghost use Rattle.cif_calendar.specs.Entries.{schedule_entries};
-ghost use Rattle.cif_canon.specs.Steps.Texts.{HasRecord, body_at, run_text, schedule_run_text, tiploc_text};
+ghost use Rattle.cif_canon.specs.Steps.Texts.{HasRecord, body_at, run_text, schedule_run_text};
 ghost use Rattle.cif_canon.specs.Appended.{IsAppended};
 
+use crate::canon_record::{CanonRecord, record_of};
 use crate::records::AT_ONCE;
-use crate::writing::answer;
+use crate::writing::{Texts, answer, write_each};
 use arrayvec::ArrayString;
 use cif_calendar::Entry;
 use cif_columns::{Sink, WriteDevice, WriteFault};
@@ -19,7 +19,7 @@ use cif_extract::{
     Body, Extract, Fault, Schedule, ScheduleWriter, write_association, write_head, write_tiploc,
     write_trailer,
 };
-use cif_records::{AssocBody, AssocKey, Association, Tiploc};
+use cif_records::{AssocBody, AssocKey, Tiploc};
 use cif_weeks::Run;
 use itoa::Buffer;
 use std::marker::Model;
@@ -83,7 +83,7 @@ impl<'a> Canon<'a> {
         // The sink keeps the failure of each part.
         let extract = self.extract;
         let _ = write_head(&extract.header, sink);
-        write_tiplocs(self.tiplocs.as_slice(), sink);
+        write_each(&PlainLines, self.tiplocs.as_slice(), sink);
         write_runs(
             &PlainLines,
             extract.associations.as_slice(),
@@ -97,15 +97,6 @@ impl<'a> Canon<'a> {
         );
         let _ = write_trailer(sink);
         answer(sink)
-    }
-}
-
-/// Appends the lines of the locations.
-fn write_tiplocs<W: WriteDevice>(tiplocs: &[Tiploc], sink: &mut Sink<W>)
-    ensures { IsAppended W.contents W.write_errors (flat_map tiploc_text tiplocs.now) sink.old sink.new }
-{
-    for tiploc in tiplocs {
-        let _ = write_tiploc(tiploc, sink);
     }
 }
 
@@ -146,42 +137,26 @@ fn line_of(counts: &Counts) -> ArrayString<LONGEST_COUNTS>
     line
 }
 
-/// What is written of canonical records.
-pub(crate) trait RecordLines<E: Entry> {
-    ghost use Rattle.std.specs.Prelude.{ℕ, List};
-    ghost use Rattle.cif_weeks.specs.Permanent.{Permanent};
-
-    // The text of a record with its key.
-    ghost text: { Self → E.Key × Permanent E.Body → List ℕ };
-
-    /// Appends the text of the record with this key and this body, and the dates and the mask of the run.
-    fn write_record<W: WriteDevice>(
-        &self,
-        key: &E::Key,
-        body: &E::Body,
-        run: &Run,
-        sink: &mut Sink<W>,
-    )
-        requires in_order { run.now.first ≤ run.now.last }
-        ensures { IsAppended W.contents W.write_errors
-            (text self.now (key.now, record_of run.now body.now)) sink.old sink.new };
-}
-
-/// Appends the lines of the runs' records.
-pub(crate) fn write_runs<E: Entry, L: RecordLines<E>, W: WriteDevice>(
-    lines: &L,
-    entries: &[E],
-    runs: &[Run],
+/// Appends the texts of the runs' records.
+pub(crate) fn write_runs<
+    'a,
+    E: Entry,
+    L: Texts<CanonRecord<'a, E::Key, E::Body>>,
+    W: WriteDevice,
+>(
+    texts: &L,
+    entries: &'a [E],
+    runs: &'a [Run],
     sink: &mut Sink<W>,
 )
     requires within { All (λ run. run.source < length entries.now) runs.now }
     requires records { All (HasRecord (keyed E.key E.terms entries.now)) runs.now }
     ensures { IsAppended W.contents W.write_errors
-        (flat_map (run_text (L.text lines.now) (keyed E.key E.terms entries.now)) runs.now)
+        (flat_map (run_text (L.text texts.now) (keyed E.key E.terms entries.now)) runs.now)
         sink.old sink.new }
 {
     for run in runs {
-        write_run(lines, entries, run, sink);
+        texts.write(&record_of(entries, run), sink);
     }
 }
 
@@ -267,42 +242,31 @@ fn set_body<'a>(
     }
 }
 
-/// Appends the lines of the run's record.
-pub(crate) fn write_run<E: Entry, L: RecordLines<E>, W: WriteDevice>(
-    lines: &L,
-    entries: &[E],
-    run: &Run,
-    sink: &mut Sink<W>,
-)
-    requires within { run.now.source < length entries.now }
-    requires record { HasRecord (keyed E.key E.terms entries.now) run.now }
-    ensures { IsAppended W.contents W.write_errors
-        (run_text (L.text lines.now) (keyed E.key E.terms entries.now) run.now)
-        sink.old sink.new }
-{
-    let entry = &entries[run.source];
-    match entry.body() {
-        Some(body) => lines.write_record(entry.key(), body, run, sink),
-        None => unreachable!(),
-    }
-}
-
 /// The plain lines of records, as an extract has them.
 #[derive(Clone, Copy)]
 pub(crate) struct PlainLines;
 
-impl RecordLines<Association> for PlainLines {
+impl Texts<Tiploc> for PlainLines {
+    ghost use Rattle.cif_canon.specs.Steps.Texts.{tiploc_text};
+
+    ghost text = { λ lines. tiploc_text };
+
+    fn write<W: WriteDevice>(&self, item: &Tiploc, sink: &mut Sink<W>) {
+        let _ = write_tiploc(item, sink);
+    }
+}
+
+impl<'a> Texts<CanonRecord<'a, AssocKey, AssocBody>> for PlainLines {
     ghost use Rattle.cif_canon.specs.Steps.Texts.{association_text};
 
     ghost text = { λ lines. association_text };
 
-    fn write_record<W: WriteDevice>(
+    fn write<W: WriteDevice>(
         &self,
-        key: &AssocKey,
-        body: &AssocBody,
-        run: &Run,
+        item: &CanonRecord<'a, AssocKey, AssocBody>,
         sink: &mut Sink<W>,
     ) {
-        let _ = write_association(key, body, run.first, run.last, run.days, sink);
+        let run = item.run;
+        let _ = write_association(item.key, item.body, run.first, run.last, run.days, sink);
     }
 }

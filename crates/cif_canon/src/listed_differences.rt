@@ -4,17 +4,17 @@ ghost use Rattle.std.specs.List.{flat_map};
 ghost use Rattle.cif_calendar.specs.Keys.{keyed};
 ghost use Rattle.cif_columns.specs.Sink.{Writes};
 ghost use Rattle.cif_extract.specs.declared.fault.Fault.TheVariants.{Write};
-ghost use Rattle.cif_canon.specs.Differences.{at_side, mark, marked_text, marked_tiploc};
+ghost use Rattle.cif_canon.specs.Differences.{at_side, mark, marked_text};
 ghost use Rattle.cif_canon.specs.Steps.OnlySides.{HasMovedOf};
 ghost use Rattle.cif_canon.specs.Steps.Sides.{HasSidedRecord, sided_run_text};
 ghost use Rattle.cif_canon.specs.Appended.{IsAppended};
 
-use crate::canonical_form::{RecordLines, write_run};
-use crate::writing::{answer, append};
+use crate::canon_record::{CanonRecord, CanonSchedule, sided_record};
+use crate::writing::{Texts, answer, append, write_each};
 use cif_calendar::Entry;
-use cif_columns::{Line, LineSlice, Sink, Uid, WriteDevice};
-use cif_extract::{Body, Extract, Fault, Schedule};
-use cif_records::{AssocBody, AssocKey, Association, Basic, Tiploc};
+use cif_columns::{Line, LineSlice, Sink, WriteDevice};
+use cif_extract::{Extract, Fault};
+use cif_records::{AssocBody, AssocKey, Tiploc};
 use cif_weeks::Run;
 use std::alloc::AllocError;
 use std::marker::Model;
@@ -93,91 +93,71 @@ fn write_marked_lines<W: WriteDevice>(side: Side, lines: &LineSlice<'_>, sink: &
     }
 }
 
-/// The plain lines of records, behind the mark of a side.
+/// The plain lines of locations and of records, behind the marks of their sides.
 #[derive(Clone, Copy)]
-pub(crate) struct MarkedLines {
-    pub(crate) side: Side,
+struct MarkedLines;
+
+impl Texts<Sided<Tiploc>> for MarkedLines {
+    ghost use Rattle.cif_canon.specs.Differences.{marked_tiploc};
+
+    ghost text = { λ lines. marked_tiploc };
+
+    fn write<W: WriteDevice>(&self, item: &Sided<Tiploc>, sink: &mut Sink<W>) {
+        write_marked(item.side, &item.it.write(), sink);
+    }
 }
 
-impl RecordLines<Association> for MarkedLines {
+impl<'a> Texts<Sided<CanonRecord<'a, AssocKey, AssocBody>>> for MarkedLines {
     ghost use Rattle.cif_canon.specs.Differences.{marked_association};
 
-    ghost text = { λ lines e. marked_association (record { side = lines.side; it = e }) };
+    ghost text = { λ lines. marked_association };
 
-    fn write_record<W: WriteDevice>(
+    fn write<W: WriteDevice>(
         &self,
-        key: &AssocKey,
-        body: &AssocBody,
-        run: &Run,
+        item: &Sided<CanonRecord<'a, AssocKey, AssocBody>>,
         sink: &mut Sink<W>,
     ) {
-        let line = Association::permanent_line(key, body, run.first, run.last, run.days);
-        write_marked(self.side, &line, sink);
+        write_marked(item.side, &item.it.line(), sink);
     }
 }
 
-impl RecordLines<Schedule> for MarkedLines {
+impl<'a> Texts<Sided<CanonSchedule<'a>>> for MarkedLines {
     ghost use Rattle.cif_canon.specs.Differences.{marked_schedule};
 
-    ghost text = { λ lines e. marked_schedule (record { side = lines.side; it = e }) };
+    ghost text = { λ lines. marked_schedule };
 
-    fn write_record<W: WriteDevice>(&self, uid: &Uid, body: &Body, run: &Run, sink: &mut Sink<W>) {
-        let basic = Basic::permanent_line(uid, &body.detail_line(), run.first, run.last, run.days);
-        write_marked(self.side, &basic, sink);
-        write_marked_lines(self.side, &body.further_lines(), sink);
+    fn write<W: WriteDevice>(&self, item: &Sided<CanonSchedule<'a>>, sink: &mut Sink<W>) {
+        write_marked(item.side, &item.it.basic(), sink);
+        write_marked_lines(item.side, &item.it.further(), sink);
     }
 }
 
-/// Appends the lines of the locations.
-pub(crate) fn write_marked_tiplocs<W: WriteDevice>(tiplocs: &[Sided<Tiploc>], sink: &mut Sink<W>)
-    ensures { IsAppended W.contents W.write_errors (flat_map marked_tiploc tiplocs.now)
-        sink.old sink.new }
-{
-    for tiploc in tiplocs {
-        write_marked(tiploc.side, &tiploc.it.write(), sink);
-    }
-}
-
-/// Appends the lines of the run's record, which is of an entry of its side.
-fn write_sided_run<E: Entry, L: RecordLines<E>, W: WriteDevice>(
-    left_lines: &L,
-    left: &[E],
-    right_lines: &L,
-    right: &[E],
-    run: &Sided<Run>,
-    sink: &mut Sink<W>,
-)
-    requires within { run.now.it.source < length (at_side left.now right.now run.now.side) }
-    requires record { HasSidedRecord (keyed E.key E.terms left.now) (keyed E.key E.terms right.now) run.now }
-    ensures { IsAppended W.contents W.write_errors
-        (sided_run_text (L.text left_lines.now) (keyed E.key E.terms left.now)
-        (L.text right_lines.now) (keyed E.key E.terms right.now) run.now)
-        sink.old sink.new }
-{
-    match run.side {
-        Side::Left => write_run(left_lines, left, &run.it, sink),
-        Side::Right => write_run(right_lines, right, &run.it, sink),
-    }
-}
-
-/// Appends the lines of the runs' records, each of which is of an entry of its side.
-pub(crate) fn write_sided_runs<E: Entry, L: RecordLines<E>, W: WriteDevice>(
-    left_lines: &L,
-    left: &[E],
-    right_lines: &L,
-    right: &[E],
-    runs: &[Sided<Run>],
+/// Appends the texts of the runs' records, each of which is of an entry of its side.
+fn write_sided_runs<
+    'a,
+    E: Entry,
+    L: Texts<Sided<CanonRecord<'a, E::Key, E::Body>>>,
+    W: WriteDevice,
+>(
+    texts: &L,
+    left: &'a [E],
+    right: &'a [E],
+    runs: &'a [Sided<Run>],
     sink: &mut Sink<W>,
 )
     requires within { All (λ run. run.it.source < length (at_side left.now right.now run.side)) runs.now }
     requires records { All (HasSidedRecord (keyed E.key E.terms left.now) (keyed E.key E.terms right.now)) runs.now }
     ensures { IsAppended W.contents W.write_errors
-        (flat_map (sided_run_text (L.text left_lines.now) (keyed E.key E.terms left.now)
-        (L.text right_lines.now) (keyed E.key E.terms right.now)) runs.now)
+        (flat_map (sided_run_text (L.text texts.now) (keyed E.key E.terms left.now) (keyed E.key E.terms right.now)) runs.now)
         sink.old sink.new }
 {
     for run in runs {
-        write_sided_run(left_lines, left, right_lines, right, run, sink);
+        let record = sided_record(left, right, run);
+        let item = Sided {
+            side: run.side,
+            it: record,
+        };
+        texts.write(&item, sink);
     }
 }
 
@@ -275,21 +255,17 @@ impl<'a> Differences<'a> {
         ensures fault { IfErr result (λ fault. fault ≡ Write) }
     {
         let (left, right) = (self.left, self.right);
-        let left_lines = MarkedLines { side: Side::Left };
-        let right_lines = MarkedLines { side: Side::Right };
-        write_marked_tiplocs(self.tiplocs.as_slice(), sink);
+        write_each(&MarkedLines, self.tiplocs.as_slice(), sink);
         write_sided_runs(
-            &left_lines,
+            &MarkedLines,
             left.associations.as_slice(),
-            &right_lines,
             right.associations.as_slice(),
             self.associations.as_slice(),
             sink,
         );
         write_sided_runs(
-            &left_lines,
+            &MarkedLines,
             left.schedules.as_slice(),
-            &right_lines,
             right.schedules.as_slice(),
             self.schedules.as_slice(),
             sink,

@@ -10,15 +10,16 @@ ghost use Rattle.cif_canon.specs.Views.{IsDayFault, IsDayListed, IsDayView, IsTr
 ghost use Rattle.cif_canon.specs.Views.{IsTrainListed, IsTrainView};
 
 use crate::asked::check_within;
-use crate::canonical_form::{RecordLines, write_runs};
+use crate::canon_record::CanonRecord;
+use crate::canonical_form::write_runs;
 use crate::records::extract_runs;
 use crate::rows::{Format, LONGEST_ROW, association_row, schedule_row, train_row};
-use crate::writing::{answer, append};
+use crate::writing::{Texts, answer, append};
 use arrayvec::ArrayString;
 use cif_calendar::Dates;
 use cif_columns::{Day, Sink, Uid, WriteDevice};
-use cif_extract::{Body, Extract, Fault, Schedule};
-use cif_records::{AssocBody, AssocKey, Association};
+use cif_extract::{Body, Extract, Fault};
+use cif_records::{AssocBody, AssocKey};
 use cif_weeks::{Form, Run};
 use std::alloc::Global;
 
@@ -188,32 +189,30 @@ struct OnDay<'a, L> {
     lines: &'a L,
 }
 
-impl<'a, L: DayLines> RecordLines<Association> for OnDay<'a, L> {
+impl<'a, 'b, L: DayLines> Texts<CanonRecord<'b, AssocKey, AssocBody>> for OnDay<'a, L> {
     ghost use Rattle.cif_canon.specs.Steps.Views.{listed_on};
 
     ghost text = { λ on. listed_on (L.association on.lines.now) on.day };
 
-    fn write_record<W: WriteDevice>(
+    fn write<W: WriteDevice>(
         &self,
-        key: &AssocKey,
-        body: &AssocBody,
-        run: &Run,
+        item: &CanonRecord<'b, AssocKey, AssocBody>,
         sink: &mut Sink<W>,
     ) {
-        if applies_on(run, self.day) {
-            self.lines.write_association(key, body, sink);
+        if applies_on(item.run, self.day) {
+            self.lines.write_association(item.key, item.body, sink);
         }
     }
 }
 
-impl<'a, L: DayLines> RecordLines<Schedule> for OnDay<'a, L> {
+impl<'a, 'b, L: DayLines> Texts<CanonRecord<'b, Uid, Body>> for OnDay<'a, L> {
     ghost use Rattle.cif_canon.specs.Steps.Views.{listed_on};
 
     ghost text = { λ on. listed_on (L.train on.lines.now) on.day };
 
-    fn write_record<W: WriteDevice>(&self, uid: &Uid, body: &Body, run: &Run, sink: &mut Sink<W>) {
-        if applies_on(run, self.day) {
-            self.lines.write_train(uid, body, sink);
+    fn write<W: WriteDevice>(&self, item: &CanonRecord<'b, Uid, Body>, sink: &mut Sink<W>) {
+        if applies_on(item.run, self.day) {
+            self.lines.write_train(item.key, item.body, sink);
         }
     }
 }
@@ -276,14 +275,14 @@ struct OfTrain<'a, L> {
     lines: &'a L,
 }
 
-impl<'a, L: TrainLines> RecordLines<Schedule> for OfTrain<'a, L> {
+impl<'a, 'b, L: TrainLines> Texts<CanonRecord<'b, Uid, Body>> for OfTrain<'a, L> {
     ghost use Rattle.cif_canon.specs.Steps.Views.{listed_of};
 
     ghost text = { λ of. listed_of (L.schedule of.lines.now) of.uid };
 
-    fn write_record<W: WriteDevice>(&self, uid: &Uid, body: &Body, run: &Run, sink: &mut Sink<W>) {
-        if *uid == self.uid {
-            self.lines.write_schedule(run, body, sink);
+    fn write<W: WriteDevice>(&self, item: &CanonRecord<'b, Uid, Body>, sink: &mut Sink<W>) {
+        if *item.key == self.uid {
+            self.lines.write_schedule(item.run, item.body, sink);
         }
     }
 }

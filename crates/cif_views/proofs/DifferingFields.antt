@@ -1,91 +1,129 @@
 -- The rows of fields that differ.
-use Rattle.std.proofs.Common.{◌≡◌, ℕ, ◌+◌, ◌<◌, zero, suc, Bool, true, false, Bor, IsTrue, List, [], ◌∷◌, ◌++◌, cond, codes, if◌then◌else◌}
-use Rattle.std.proofs.Common.{◌∙◌, append-nil, append_assoc, ap, ap₂, arith, drop, get_or, length, refl, slice_index_or, sym, take}
-use Rattle.std.specs.Prelude.{◌&&◌, nat_eq}
-use Rattle.std.proofs.lemmas.Bool.{and_parts, false≢true}
+use Rattle.std.proofs.Common.{◌≡◌, ℕ, ◌+◌, ◌<◌, ◌≤◌, zero, suc, Bool, true, false, Bor, IsTrue, List, [], ◌∷◌, ◌++◌, cond, if◌then◌else◌}
+use Rattle.std.proofs.Common.{◌∙◌, append-nil, append_assoc, ap, ap₂, arith, drop, get_or, length, map, refl, slice_index_or, sym, take}
+use Rattle.std.specs.Prelude.{◌&&◌, nat_eq, nat_le}
+use Rattle.std.proofs.lemmas.Bool.{and_parts, false≢true, leb-true}
 use Rattle.std.proofs.lemmas.List.{take-take}
+use Rattle.cif_canon.proofs.ViewLines.{both-after}
 use Rattle.cif_records.specs.Kind.{is_identity, kinds}
-use Rattle.cif_views.specs.DifferenceTable.{in_journey}
-use Rattle.cif_views.specs.Steps.DifferenceRows.{are_named, field_row, fields_of_kind, is_named}
-use Rattle.cif_views.specs.Tables.{names, own_call_fields}
-use Rattle.cif_views.specs.declared.difference_table.FieldPlace.{FieldPlace}
-use Rattle.cif_views.proofs.Words.{Change, Field, JourneyKind, Origin, Other, Stop, TableFields, Terminus, Trimmed, Tsv, after}
-use Rattle.cif_views.proofs.Words.{bytes_decides, call_fields_of, columns, count_of_calls, differing_row, differing_rows, find, flat_map}
-use Rattle.cif_views.proofs.Words.{is_call, is_change, journey_kind, kind_of_line, line_of, lines_rows, named_fields, nothing, own_fields}
-use Rattle.cif_views.proofs.Words.{pointwise, replicate, row_fields, rows_of_place, same_places, shown, start_of, text_at, trimmed}
-use Rattle.cif_views.proofs.DifferenceRows.{start-row}
-use Rattle.cif_views.proofs.TableRows.{HasPushed, one-pushed, origin-fields, stop-fields, terminus-fields}
+use Rattle.cif_views.specs.DifferenceTable.{in_journey, text}
+use Rattle.cif_views.specs.Steps.Columns.{is_span, is_within, shown_at, span_in}
+use Rattle.cif_views.specs.Steps.DifferenceRows.{are_texts, is_text, is_text_place}
+use Rattle.cif_views.specs.Tables.{names, own_call_fields, own_change_fields}
+use Rattle.cif_views.specs.declared.columns.Place.{Place}
+use Rattle.cif_views.specs.declared.columns.Place.TheVariants as place
+use Rattle.cif_views.specs.Steps.Columns.{call_columns, change_columns, column, named}
+use Rattle.cif_views.proofs.Words.{Change, Column, Field, JourneyKind, Origin, Other, Stop, TableFields, Terminus, Tsv, after}
+use Rattle.cif_views.proofs.Words.{bytes_decides, columns, count_of_calls, differing_row, differing_rows, field_in, field_row, fields_in, find}
+use Rattle.cif_views.proofs.Words.{flat_map, is_call, is_change, journey_kind, kind_of_line, number, own_columns, own_fields, place_behind}
+use Rattle.cif_views.proofs.Words.{places_behind, pointwise, row_behind, row_fields, same_places, shown, trimmed, Whole}
+use Rattle.cif_views.proofs.TableRows.{behind-row, call-fields, within-span}
 
--- one field more, of which the code has what is shown
-pub shown-pushed : (old mid new : List ℕ) (done : List Field) (c cs : List ℕ) → HasPushed old mid done → new ≡ mid ++ (9 ∷ c) →
-    c ≡ trimmed cs → HasPushed old new (done ++ ((Trimmed, cs) ∷ []))
-shown-pushed old mid new done c cs before is shows =
-    one-pushed old mid new done Trimmed cs cs before (is ∙ ap (λ (l : List ℕ). mid ++ (9 ∷ l)) shows) refl
+-- ---- one field
 
--- what a row begins with, and the fields behind it, are a line
-pub pushed-line : (at : FieldPlace) (start row : List ℕ) (more : List Field) → start ≡ after Tsv (start_of at) → HasPushed start row more →
-    drop 1 row ++ codes "\n" ≡ line_of Tsv (start_of at ++ more)
-pushed-line at start row more is pushed =
-    ap (λ (l : List ℕ). drop 1 l ++ codes "\n") (pushed.text ∙ ap (λ (l : List ℕ). l ++ after Tsv more) is) ∙ start-row at more
+pub text-shown : (at : Place) → IsTrue (is_text_place at) → (there : List ℕ) → shown Tsv (shown_at at there) ≡ trimmed there
+text-shown (place.Text _ _) is there = refl
+text-shown (place.Call _ _ _) is there = refl
+text-shown (place.Whole _ _) is there = absurd (false≢true is)
+text-shown (place.Date _ _) is there = absurd (false≢true is)
+text-shown (place.DayFirst _ _) is there = absurd (false≢true is)
 
--- a test of what is shown of two cells
-pub tested : (one other c d : List ℕ) (answer test : Bool) → answer ≡ pointwise nat_eq one other → answer ≡ test → one ≡ trimmed c →
-    other ≡ trimmed d → pointwise nat_eq (trimmed c) (trimmed d) ≡ test
-tested one other c d answer test told is left right =
-    ap (λ (l : List ℕ). pointwise nat_eq l (trimmed d)) (sym left) ∙ ap (λ (l : List ℕ). pointwise nat_eq one l) (sym right) ∙ sym told ∙ is
+module _ (it : Column) (is : IsTrue (is_text it)) where
+  place-parts : IsTrue (is_text_place it.1) × IsTrue (is_within it.1)
+  place-parts = and_parts (is_text_place it.1) (is_within it.1) (and_parts (nat_le (length it.0) 20) _ is).1
 
-module _ (start : List Field) where
-  -- the row of a field, by that test
-  module _ (name : List ℕ) (left right : Field) where
-    pub same-cells : pointwise nat_eq (shown Tsv left) (shown Tsv right) ≡ true → [] ≡ field_row start name left right
+  pub short-name : length it.0 ≤ 20
+  short-name = leb-true (length it.0) 20 (and_parts (nat_le (length it.0) 20) _ is).0
+
+  pub text-span : (kind : JourneyKind) → IsTrue (is_span (span_in kind it.1))
+  text-span kind = within-span kind it.1 place-parts.1
+
+  -- its cells, as the code has them
+  module _ (begun : List ℕ) (kind : JourneyKind) (left right one other : List ℕ) (span : ℕ × ℕ) (is-span : span ≡ span_in kind it.1)
+      (one_is : one ≡ trimmed (columns span.0 span.1 left)) (other_is : other ≡ trimmed (columns span.0 span.1 right)) where
+    shown-one : one ≡ shown Tsv (field_in kind left it.1)
+    shown-one = one_is ∙ ap (λ (s : ℕ × ℕ). trimmed (columns s.0 s.1 left)) is-span ∙ sym (text-shown it.1 place-parts.0 _)
+
+    shown-other : other ≡ shown Tsv (field_in kind right it.1)
+    shown-other = other_is ∙ ap (λ (s : ℕ × ℕ). trimmed (columns s.0 s.1 right)) is-span ∙ sym (text-shown it.1 place-parts.0 _)
+
+    tested : (answer : Bool) → answer ≡ pointwise nat_eq one other → (test : Bool) → answer ≡ test →
+        test ≡ pointwise nat_eq (shown Tsv (field_in kind left it.1)) (shown Tsv (field_in kind right it.1))
+    tested answer told test is = sym is ∙ told ∙ ap₂ (λ (a b : List ℕ). pointwise nat_eq a b) shown-one shown-other
+
+    abbrev fields : List Field
+    fields = text it.0 ∷ field_in kind left it.1 ∷ field_in kind right it.1 ∷ []
+
+    pub same-cells : (answer : Bool) → answer ≡ pointwise nat_eq one other → answer ≡ true → [] ≡ field_row begun kind left right it
     unfolding field_row
-    same-cells same = ap (λ (b : Bool). if b then [] else differing_row start name left right) (sym same)
+    same-cells answer told is = ap (λ (b : Bool). if b then [] else row_behind begun fields) (tested answer told true is)
 
-    pub other-cells : pointwise nat_eq (shown Tsv left) (shown Tsv right) ≡ false →
-        differing_row start name left right ≡ field_row start name left right
+    pub other-cells : (answer : Bool) → answer ≡ pointwise nat_eq one other → answer ≡ false →
+        row_behind begun (text it.0 ∷ (Whole, one) ∷ (Whole, other) ∷ []) ≡ field_row begun kind left right it
     unfolding field_row
-    other-cells other = ap (λ (b : Bool). if b then [] else differing_row start name left right) (sym other)
+    other-cells answer told is =
+        ap₂ (λ (a b : List ℕ). row_behind begun (text it.0 ∷ (Whole, a) ∷ (Whole, b) ∷ [])) shown-one shown-other
+        ∙ ap (λ (b : Bool). if b then [] else row_behind begun fields) (tested answer told false is)
 
-  -- cells without columns don't differ
-  no-cells : (name : List ℕ) → field_row start name nothing nothing ≡ []
-  unfolding field_row
-  no-cells name = refl
+pub text-at : (given : List (Bor (List ℕ) × Place)) → IsTrue (are_texts (named given)) → (i : ℕ) (none : Bor (List ℕ) × Place) →
+    i < length given → IsTrue (is_text (column (get_or given i none)))
+text-at [] all i none below = absurd (omega (arith, below))
+text-at (c ∷ given) all zero none below = (and_parts (is_text (column c)) (are_texts (named given)) all).0
+text-at (c ∷ given) all (suc i) none below =
+    text-at given (and_parts (is_text (column c)) (are_texts (named given)) all).1 i none (omega (arith, below))
 
-  -- the rows of fields that the code names, field by field
-  module _ (left right : List ℕ) where
-    abbrev pub row_of_named : Bor (List ℕ) × ℕ × ℕ → List ℕ
-    row_of_named f = field_row start f.0.now (text_at f.1 f.2 left) (text_at f.1 f.2 right)
+-- ---- the rows of fields
 
-    pub named-rows : (fields : List (Bor (List ℕ) × ℕ × ℕ)) →
-        flat_map row_of_named fields ≡ differing_rows start (named_fields fields) left right
-    unfolding field_row
-    named-rows [] = refl
-    named-rows (f ∷ fields) = ap (λ (l : List ℕ). row_of_named f ++ l) (named-rows fields)
+-- by their names and cells
+cells_behind : List ℕ → List (List ℕ) → List Field → List Field → List ℕ
+cells_behind begun [] lefts rights = []
+cells_behind begun (name ∷ names) [] rights = []
+cells_behind begun (name ∷ names) (left ∷ lefts) [] = []
+cells_behind begun (name ∷ names) (left ∷ lefts) (right ∷ rights) =
+    (if pointwise nat_eq (shown Tsv left) (shown Tsv right) then [] else row_behind begun (text name ∷ left ∷ right ∷ []))
+    ++ cells_behind begun names lefts rights
 
-  -- the rows of fields, by their names and cells
-  pub cell_rows : List (List ℕ) → List Field → List Field → List ℕ
-  cell_rows [] lefts rights = []
-  cell_rows (name ∷ names) [] rights = []
-  cell_rows (name ∷ names) (left ∷ lefts) [] = []
-  cell_rows (name ∷ names) (left ∷ lefts) (right ∷ rights) = field_row start name left right ++ cell_rows names lefts rights
+by-columns : (begun : List ℕ) (kind : JourneyKind) (left right : List ℕ) (columns : List Column) →
+    flat_map (field_row begun kind left right) columns
+    ≡ cells_behind begun (map (λ c. c.0) columns) (fields_in kind columns left) (fields_in kind columns right)
+unfolding field_row cells_behind
+by-columns begun kind left right [] = refl
+by-columns begun kind left right (column ∷ columns) =
+    ap (λ (l : List ℕ). field_row begun kind left right column ++ l) (by-columns begun kind left right columns)
 
-  by-cells : (fields : TableFields (List ℕ)) (left right : List ℕ) →
-      differing_rows start fields left right ≡ cell_rows (names fields) (row_fields fields left) (row_fields fields right)
-  unfolding field_row cell_rows
-  by-cells [] left right = refl
-  by-cells (f ∷ fields) left right =
-      ap (λ (l : List ℕ). field_row start f.0 (f.1 left) (f.1 right) ++ l) (by-cells fields left right)
+module _ (first : Field) (start : List Field) (begun : List ℕ) (is : begun ≡ after Tsv (first ∷ start)) where
+  by-fields : (fields : TableFields (List ℕ)) (left right : List ℕ) →
+      cells_behind begun (names fields) (row_fields fields left) (row_fields fields right)
+      ≡ differing_rows (first ∷ start) fields left right
+  unfolding cells_behind
+  by-fields [] left right = refl
+  by-fields (f ∷ fields) left right =
+      ap₂ (λ (row rows : List ℕ).
+      (if pointwise nat_eq (shown Tsv (f.1 left)) (shown Tsv (f.1 right)) then [] else row) ++ rows)
+      (behind-row begun first start (text f.0 ∷ f.1 left ∷ f.1 right ∷ []) is) (by-fields fields left right)
 
-  both-cells : (names : List (List ℕ)) (a b c d : List Field) → a ≡ b → c ≡ d → cell_rows names a c ≡ cell_rows names b d
-  both-cells names a b c d p q = ap (λ (l : List Field). cell_rows names l c) p ∙ ap (λ (l : List Field). cell_rows names b l) q
+  -- fields that stand in these columns
+  pub differing : (fields : TableFields (List ℕ)) (columns : List Column) (kind : JourneyKind) (left right : List ℕ) →
+      names fields ≡ map (λ c. c.0) columns → row_fields fields left ≡ fields_in kind columns left →
+      row_fields fields right ≡ fields_in kind columns right →
+      flat_map (field_row begun kind left right) columns ≡ differing_rows (first ∷ start) fields left right
+  differing fields columns kind left right named one other =
+      by-columns begun kind left right columns
+      ∙ (λ i. cells_behind begun (sym named i) (sym one i) (sym other i))
+      ∙ by-fields fields left right
 
--- each of the fields is within a line
-pub named-at : (fields : List (Bor (List ℕ) × ℕ × ℕ)) → IsTrue (are_named fields) → (i : ℕ) (none : Bor (List ℕ) × ℕ × ℕ) →
-    i < length fields → IsTrue (is_named (get_or fields i none))
-named-at [] all i none below = absurd (omega (arith, below))
-named-at (f ∷ fields) all zero none below = (and_parts (is_named f) (are_named fields) all).0
-named-at (f ∷ fields) all (suc i) none below =
-    named-at fields (and_parts (is_named f) (are_named fields) all).1 i none (omega (arith, below))
+-- the same line twice has no rows
+pub no-rows : (begun : List ℕ) (kind : JourneyKind) (left right : List ℕ) (columns : List Column) → left ≡ right →
+    flat_map (field_row begun kind left right) columns ≡ []
+unfolding field_row
+no-rows begun kind left right [] same = refl
+no-rows begun kind left right (column ∷ columns) same =
+    ap₂ (λ (b : Bool) (rows : List ℕ).
+    (if b then [] else row_behind begun (text column.0 ∷ field_in kind left column.1 ∷ field_in kind right column.1 ∷ [])) ++ rows)
+    ((bytes_decides _ _).1 (ap (λ (line : List ℕ). shown Tsv (field_in kind line column.1)) same))
+    (no-rows begun kind left right columns same)
+
+-- ---- places of journeys
 
 -- lines with the same first columns are of one kind
 pub same-kind : (line other : List ℕ) → columns 1 10 line ≡ columns 1 10 other → kind_of_line other ≡ kind_of_line line
@@ -93,37 +131,31 @@ same-kind line other same =
     ap (λ (two : List ℕ). journey_kind (find (is_identity two) kinds))
     (sym (take-take 2 10 (drop 0 other) (omega arith)) ∙ ap (take 2) (sym same) ∙ take-take 2 10 (drop 0 line) (omega arith))
 
--- a line of no kind has none of the fields of a call
-no-fields : (line : List ℕ) → kind_of_line line ≡ Other → call_fields_of line ≡ replicate 12 nothing
-no-fields line e = rw e refl
+module _ (first : Field) (start : List Field) (begun : List ℕ) (is : begun ≡ after Tsv (first ∷ start)) (call : ℕ) (line other : List ℕ) where
+  abbrev begins : List Field
+  begins = number call ∷ fields_in Other (take 2 call_columns) line
 
-module _ (head : List Field) (call : ℕ) (line other : List ℕ) where
-  abbrev start : List Field
-  start = in_journey head call line
+  begun-so : begun ++ after Tsv begins ≡ after Tsv ((first ∷ start) ++ begins)
+  begun-so = ap (λ (l : List ℕ). l ++ after Tsv begins) is ∙ both-after Tsv [] (first ∷ start) begins
 
-  -- the rows of a call, by its cells
-  call-rows : (lefts rights : List Field) → is_change (kind_of_line line) ≡ false → call_fields_of line ≡ lefts →
-      call_fields_of other ≡ rights → rows_of_place head call line other ≡ cell_rows start (names own_call_fields) lefts rights
-  call-rows lefts rights called left right =
-      ap (λ change. differing_rows start (own_fields change) line other) called
-      ∙ by-cells start own_call_fields line other
-      ∙ both-cells start (names own_call_fields) _ lefts _ rights left right
+  called : (kind : JourneyKind) → kind_of_line line ≡ kind → kind_of_line other ≡ kind →
+      flat_map (field_row (begun ++ after Tsv begins) kind line other) (drop 3 call_columns)
+      ≡ differing_rows (in_journey (first ∷ start) call line) own_call_fields line other
+  called kind e f =
+      differing first (start ++ begins) (begun ++ after Tsv begins) begun-so own_call_fields (drop 3 call_columns) kind line other refl
+      (call-fields line kind e) (call-fields other kind f)
 
   -- the rows of a place, by the kind of its lines
   pub place-rows : (kind : JourneyKind) → kind_of_line line ≡ kind → kind_of_line other ≡ kind →
-      differing_rows start (fields_of_kind kind) line other ≡ rows_of_place head call line other
-  unfolding cell_rows
-  place-rows Origin e f =
-      by-cells start (fields_of_kind Origin) line other
-      ∙ sym (call-rows _ _ (ap is_change e) (origin-fields line e) (origin-fields other f) ∙ simp no-cells)
-  place-rows Stop e f =
-      by-cells start (fields_of_kind Stop) line other
-      ∙ sym (call-rows _ _ (ap is_change e) (stop-fields line e) (stop-fields other f))
-  place-rows Terminus e f =
-      by-cells start (fields_of_kind Terminus) line other
-      ∙ sym (call-rows _ _ (ap is_change e) (terminus-fields line e) (terminus-fields other f) ∙ simp no-cells)
-  place-rows Change e f = ap (λ change. differing_rows start (own_fields change) line other) (sym (ap is_change e))
-  place-rows Other e f = sym (call-rows _ _ (ap is_change e) (no-fields line e) (no-fields other f) ∙ simp no-cells)
+      place_behind begun call kind line other
+      ≡ differing_rows (in_journey (first ∷ start) call line) (own_fields (is_change kind)) line other
+  place-rows Origin e f = called Origin e f
+  place-rows Stop e f = called Stop e f
+  place-rows Terminus e f = called Terminus e f
+  place-rows Other e f = called Other e f
+  place-rows Change e f =
+      differing first (start ++ begins) (begun ++ after Tsv begins) begun-so own_change_fields (drop 2 change_columns) Change line other refl refl
+      refl
 
 -- whether journeys with lines have the same places, by a test of what stands in the first lines
 by-first : (lefts rights : List (List ℕ)) → 0 < length lefts → 0 < length rights →
@@ -143,23 +175,13 @@ firsts-tested lefts rights line other one two test some more left right one_is t
     (ap₂ (λ (a b : List ℕ). pointwise nat_eq a b) (ap (columns 1 10) (sym left) ∙ sym one_is) (ap (columns 1 10) (sym right) ∙ sym two_is)
     ∙ is)
 
--- journeys with the same places have as many lines, and the first of both have one place
+-- journeys with the same places have as many lines
 pub as-many : (lefts rights : List (List ℕ)) → IsTrue (same_places lefts rights) → length lefts ≡ length rights
 as-many [] [] same = refl
 as-many [] (other ∷ rights) same = absurd (false≢true same)
 as-many (line ∷ lefts) [] same = absurd (false≢true same)
 as-many (line ∷ lefts) (other ∷ rights) same =
     ap suc (as-many lefts rights (and_parts (pointwise nat_eq (columns 1 10 line) (columns 1 10 other)) (same_places lefts rights) same).1)
-
-pub first-places : (lefts rights : List (List ℕ)) (line other : List ℕ) → IsTrue (same_places lefts rights) → 0 < length lefts →
-    line ≡ slice_index_or lefts 0 [] → other ≡ slice_index_or rights 0 [] → columns 1 10 line ≡ columns 1 10 other
-first-places [] rights line other same some left right = absurd (omega (arith, some))
-first-places (l ∷ lefts) [] line other same some left right = absurd (false≢true same)
-first-places (l ∷ lefts) (r ∷ rights) line other same some left right =
-    ap (columns 1 10) left
-    ∙ (bytes_decides (columns 1 10 l) (columns 1 10 r)).0
-    (and_parts (pointwise nat_eq (columns 1 10 l) (columns 1 10 r)) (same_places lefts rights) same).0
-    ∙ ap (columns 1 10) (sym right)
 
 -- and so have the lines behind
 pub rest-places : (lefts rights more others : List (List ℕ)) → IsTrue (same_places lefts rights) → 0 < length lefts →
@@ -170,16 +192,16 @@ rest-places (l ∷ lefts) (r ∷ rights) more others same some left right =
     rw (left, right) (and_parts (pointwise nat_eq (columns 1 10 l) (columns 1 10 r)) (same_places lefts rights) same).1
 
 -- the rows of the lines so far, and of those that are left, are all
-module _ (head : List Field) (whole : List ℕ) where
+module _ (begun whole : List ℕ) where
   abbrev pub PlacesAreLeft : List ℕ → ℕ → List (List ℕ) → List (List ℕ) → Type 0
-  PlacesAreLeft text call lefts rights = text ++ lines_rows head call lefts rights ≡ whole
+  PlacesAreLeft text call lefts rights = text ++ places_behind begun call lefts rights ≡ whole
 
   pub one-place : (text : List ℕ) (call next : ℕ) (kind : JourneyKind) (lefts rights : List (List ℕ)) (line other : List ℕ)
       (more others : List (List ℕ)) → lefts ≡ line ∷ more → rights ≡ other ∷ others → kind ≡ kind_of_line line →
       next ≡ cond (is_call kind) (call + 1) call → PlacesAreLeft text call lefts rights →
-      PlacesAreLeft (text ++ rows_of_place head call line other) next more others
+      PlacesAreLeft (text ++ place_behind begun call kind line other) next more others
   one-place text call next kind lefts rights line other more others left right of_line after_line is =
-      rw (after_line, of_line) (append_assoc text (rows_of_place head call line other) _ ∙ rw (left, right) at is)
+      rw (after_line, of_line) (append_assoc text (place_behind begun call (kind_of_line line) line other) _ ∙ rw (left, right) at is)
 
   pub no-place : (text : List ℕ) (call : ℕ) (lefts rights : List (List ℕ)) → length lefts ≡ 0 → PlacesAreLeft text call lefts rights →
       text ≡ whole

@@ -1,7 +1,6 @@
 mod AllFields
 pub mod CallTexts
 pub mod ClashLists
-mod DifferenceRows
 mod DifferingCells
 pub mod DifferingFields
 mod ExplainedMarks

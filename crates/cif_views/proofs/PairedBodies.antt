@@ -1,7 +1,7 @@
 -- Where a pair of schedules has no row, their bodies are the same; and so it is with associations.
-use Rattle.std.proofs.Common.{◌≡◌, ℕ, ◌+◌, ◌<◌, Bool, true, false, List, [], ◌∷◌, ◌++◌, Option, None, Some, codes, cond, length, get_or}
-use Rattle.std.proofs.Common.{◌∙◌, ap, ap₂, arith, map, refl, replicate, subst, sym}
-use Rattle.std.specs.Prelude.{IsTrue, find}
+use Rattle.std.proofs.Common.{◌≡◌, ℕ, ◌+◌, ◌<◌, Bool, true, false, List, [], ◌∷◌, ◌++◌, Option, None, Some, codes, cond, drop, length, get_or}
+use Rattle.std.proofs.Common.{◌∙◌, ap, ap₂, arith, map, refl, replicate, subst, sym, take}
+use Rattle.std.specs.Prelude.{IsTrue}
 use Rattle.std.specs.Cmp.Lexicographic.{bytes_decides}
 use Rattle.std.proofs.lemmas.Bool.{and_parts, false≢true}
 use Rattle.cif_columns.specs.Field.{plain_line, row}
@@ -17,33 +17,31 @@ use Rattle.cif_extract.proofs.Bodies.{same_parts}
 use Rattle.cif_records.specs.Association as aa
 use Rattle.cif_records.specs.Basic.{basic_back, basic_rows}
 use Rattle.cif_records.specs.Detail.{detail_rows, detail_table}
-use Rattle.cif_records.specs.Kind.{is_identity, kind_in, kinds}
+use Rattle.cif_records.specs.Kind.{kind_in}
 use Rattle.cif_records.specs.Record.{SpellsRecord, record_table}
-use Rattle.cif_records.specs.declared.change.Change.{Change}
 use Rattle.cif_records.specs.declared.extra.Extra.{Extra}
 use Rattle.cif_records.specs.declared.origin.Origin.{Origin}
 use Rattle.cif_records.specs.declared.record.Kind.TheVariants.{Bx, Lo}
 use Rattle.cif_records.specs.declared.record.Record.{Record}
 use Rattle.cif_records.specs.declared.record.Record.TheVariants as of
-use Rattle.cif_records.specs.declared.stop.Stop.{Stop}
 use Rattle.cif_records.specs.declared.terminus.Terminus.{Terminus}
 use Rattle.cif_records.proofs.Details.{one_detail}
 use Rattle.cif_records.proofs.Records as records
-use Rattle.cif_records.proofs.Rows.{◌&◌}
-use Rattle.cif_views.specs.DifferenceTable.{association_differences, association_head, changed, differing_rows, in_journey, in_record}
-use Rattle.cif_views.specs.DifferenceTable.{journey_differences, journey_of, own_fields, schedule_differences, schedule_head}
-use Rattle.cif_views.specs.DifferenceTable.{without_extra}
-use Rattle.cif_views.specs.Steps.DifferenceRows.{count_of_calls, journeys_of, lines_rows, rows_of_place, same_places}
-use Rattle.cif_views.specs.Tables.{category_fields, detail_fields, extra_fields, extra_identity, extra_in, is_call, is_change, is_extra}
-use Rattle.cif_views.specs.Tables.{journey_kind, kind_of_line, number, own_call_fields, row_fields, type_fields}
+use Rattle.cif_views.specs.DifferenceTable.{association_differences, association_head, changed, differing_rows, in_record}
+use Rattle.cif_views.specs.DifferenceTable.{journey_differences, journey_of, schedule_differences, schedule_head, without_extra}
+use Rattle.cif_views.specs.Steps.DifferenceRows.{call_counts, count_of_calls}
+use Rattle.cif_views.specs.Tables.{category_fields, detail_fields, extra_fields, extra_identity, extra_in, is_call, is_extra}
+use Rattle.cif_views.specs.Tables.{journey_kind, kind_of_line, row_fields, type_fields}
+use Rattle.cif_views.specs.Steps.Columns.{association_columns, basic_columns, extra_columns}
 use Rattle.cif_views.specs.declared.tables.JourneyKind.{JourneyKind}
-use Rattle.cif_views.proofs.Words.{AllFit, AllStandIn, AssocBody, AssocKey, At, BodyParts, Call, Detail, Field, IsLine, Left, P, Permanent}
-use Rattle.cif_views.proofs.Words.{Row, StandsIn, Trimmed, Tsv, Turn, association_plain, columns, line_of, nothing, schedule_plain, shown}
-use Rattle.cif_views.proofs.Words.{spare, text, trimmed}
-use Rattle.cif_views.proofs.DifferingCells.{AllSame, SameAt, all-moved, both-none, same-at, same-cells, same-identity, same-location}
-use Rattle.cif_views.proofs.DifferingCells.{same-suffix, some-row}
+use Rattle.cif_views.specs.declared.tables.JourneyKind.TheVariants as kinds_of
+use Rattle.cif_views.proofs.Words.{AllFit, AllStandIn, AssocBody, AssocKey, At, BodyParts, Call, Column, Detail, IsLine, Left, P, Permanent}
+use Rattle.cif_views.proofs.Words.{Row, StandsIn, Tsv, Turn, after, association_plain, columns, fields_in, journeys_behind, own_columns}
+use Rattle.cif_views.proofs.Words.{place_behind, places_behind, same_places, schedule_plain, shown, spare, text, trimmed}
+use Rattle.cif_views.proofs.DifferingCells.{AllSame, all-covered, all-moved, are_covered, both-none, covered, is_there, same-at, same-cells}
+use Rattle.cif_views.proofs.DifferingCells.{same-cells_in, some-behind}
+use Rattle.cif_views.proofs.DifferingFields.{same-kind}
 use Rattle.cif_views.proofs.PairedJourneys.{journeys-by-lines}
-use Rattle.cif_views.proofs.TableRows.{origin-fields, stop-fields, terminus-fields}
 
 -- the records of a journey
 abbrev pub IsPlace : Record → Type 0
@@ -57,76 +55,23 @@ abbrev pub ArePlaces : List Record → Type 0
 ArePlaces [] = Unit {0}
 ArePlaces (r ∷ rs) = IsPlace r × ArePlaces rs
 
-abbrev nth : ℕ → List (List ℕ) → List ℕ
-nth n cells = get_or cells n []
-
 -- ---- one place of two journeys
 
-module _ (head : List Field) (call : ℕ) (l m : List ℕ) (left : IsLine l) (right : IsLine m)
-    (place : columns 1 10 l ≡ columns 1 10 m) (none : rows_of_place head call l m ≡ []) where
-  abbrev cells : Bool → List ℕ → List (List ℕ)
-  cells change line = map (shown Tsv) (row_fields (own_fields change) line)
+module _ (begun : List ℕ) (call : ℕ) (l m : List ℕ) (left : IsLine l) (right : IsLine m)
+    (place : columns 1 10 l ≡ columns 1 10 m) (none : place_behind begun call (kind_of_line l) l m ≡ []) where
+  -- where the cells of all fields that a line of a kind has cover a record of the kind, what the other line spells this one does
+  by-cells : (kind : JourneyKind) (r : Record) → kind_of_line m ≡ kind →
+      IsTrue (are_covered l m 10 kind (own_columns kind) (record_table r)) → AllSame l m (record_table r)
+  by-cells kind r is covered =
+      all-covered l m 10 kind place (same-at l m left right) (own_columns kind) (record_table r) covered
+      (subst (λ k. map (shown Tsv) (fields_in k (own_columns k) l) ≡ map (shown Tsv) (fields_in k (own_columns k) m))
+      (sym (same-kind l m place) ∙ is) (same-cells_in _ (kind_of_line l) l m (own_columns (kind_of_line l)) none))
 
-  told : (change : Bool) → is_change (kind_of_line l) ≡ change → cells change l ≡ cells change m
-  told change is =
-      subst (λ c. cells c l ≡ cells c m) is (same-cells (in_journey head call l) l m (own_fields (is_change (kind_of_line l))) none)
-
-  at : SameAt l m
-  at = same-at l m left right
-
-  -- both lines are of one kind
-  one-kind : kind_of_line l ≡ kind_of_line m
-  one-kind = ap (λ (c : List ℕ). journey_kind (find (is_identity c) kinds)) (same-identity l m place)
-
-  -- the cells of a call, by the kind of both lines
-  called : {k : JourneyKind} {fields : List ℕ → List Field} →
-      ((line : List ℕ) → kind_of_line line ≡ k → row_fields own_call_fields line ≡ fields line) → is_change k ≡ false →
-      kind_of_line m ≡ k → map (shown Tsv) (fields l) ≡ map (shown Tsv) (fields m)
-  called by_kind call here =
-      let there = one-kind ∙ here in
-      sym (ap (map (shown Tsv)) (by_kind l there)) ∙ told false (ap is_change there ∙ call) ∙ ap (map (shown Tsv)) (by_kind m here)
-
-  origin : (r : Origin) → SpellsRecord m (of.Origin r) → AllSame l m (record_table (of.Origin r))
-  origin r h =
-      let same = called origin-fields refl (ap journey_kind (records.kind_there m (of.Origin r) h)) in
-      same-identity l m place & same-location l m place & same-suffix l m place & at 11 15 refl (ap (nth 1) same)
-      & at 16 19 refl (ap (nth 4) same) & at 20 22 refl (ap (nth 5) same) & at 23 25 refl (ap (nth 6) same)
-      & at 26 27 refl (ap (nth 9) same) & at 28 29 refl (ap (nth 10) same) & at 30 41 refl (ap (nth 8) same)
-      & at 42 43 refl (ap (nth 11) same) & tt & tt
-
-  stop : (r : Stop) → SpellsRecord m (of.Stop r) → AllSame l m (record_table (of.Stop r))
-  stop r h =
-      let same = called stop-fields refl (ap journey_kind (records.kind_there m (of.Stop r) h)) in
-      same-identity l m place & same-location l m place & same-suffix l m place & at 11 15 refl (ap (nth 0) same)
-      & at 16 20 refl (ap (nth 1) same) & at 21 25 refl (ap (nth 2) same) & at 26 29 refl (ap (nth 3) same)
-      & at 30 33 refl (ap (nth 4) same) & at 34 36 refl (ap (nth 5) same) & at 37 39 refl (ap (nth 6) same)
-      & at 40 42 refl (ap (nth 7) same) & at 43 54 refl (ap (nth 8) same) & at 55 56 refl (ap (nth 9) same)
-      & at 57 58 refl (ap (nth 10) same) & at 59 60 refl (ap (nth 11) same) & tt & tt
-
-  terminus : (r : Terminus) → SpellsRecord m (of.Terminus r) → AllSame l m (record_table (of.Terminus r))
-  terminus r h =
-      let same = called terminus-fields refl (ap journey_kind (records.kind_there m (of.Terminus r) h)) in
-      same-identity l m place & same-location l m place & same-suffix l m place & at 11 15 refl (ap (nth 0) same)
-      & at 16 19 refl (ap (nth 3) same) & at 20 22 refl (ap (nth 5) same) & at 23 25 refl (ap (nth 7) same)
-      & at 26 37 refl (ap (nth 8) same) & tt & tt
-
-  change : (r : Change) → SpellsRecord m (of.Change r) → AllSame l m (record_table (of.Change r))
-  change r h =
-      let same = told true (ap is_change (one-kind ∙ ap journey_kind (records.kind_there m (of.Change r) h))) in
-      same-identity l m place & same-location l m place & same-suffix l m place & at 11 12 refl (ap (nth 0) same)
-      & at 13 16 refl (ap (nth 1) same) & at 17 20 refl (ap (nth 2) same) & at 21 21 refl (ap (nth 3) same)
-      & at 22 29 refl (ap (nth 4) same) & at 30 30 refl (ap (nth 5) same) & at 31 33 refl (ap (nth 6) same)
-      & at 34 37 refl (ap (nth 7) same) & at 38 40 refl (ap (nth 8) same) & at 41 46 refl (ap (nth 9) same)
-      & at 47 47 refl (ap (nth 10) same) & at 48 48 refl (ap (nth 11) same) & at 49 49 refl (ap (nth 12) same)
-      & at 50 50 refl (ap (nth 13) same) & at 51 54 refl (ap (nth 14) same) & at 55 58 refl (ap (nth 15) same)
-      & at 59 62 refl (ap (nth 16) same) & at 63 67 refl (ap (nth 17) same) & at 68 75 refl (ap (nth 18) same) & tt & tt
-
-  -- what the other line spells this one does
   same-place : (r : Record) → IsPlace r → SpellsRecord m r → AllSame l m (record_table r)
-  same-place (of.Origin r) is h = origin r h
-  same-place (of.Stop r) is h = stop r h
-  same-place (of.Change r) is h = change r h
-  same-place (of.Terminus r) is h = terminus r h
+  same-place (of.Origin r) is h = by-cells kinds_of.Origin (of.Origin r) (ap journey_kind (records.kind_there m (of.Origin r) h)) refl
+  same-place (of.Stop r) is h = by-cells kinds_of.Stop (of.Stop r) (ap journey_kind (records.kind_there m (of.Stop r) h)) refl
+  same-place (of.Change r) is h = by-cells kinds_of.Change (of.Change r) (ap journey_kind (records.kind_there m (of.Change r) h)) refl
+  same-place (of.Terminus r) is h = by-cells kinds_of.Terminus (of.Terminus r) (ap journey_kind (records.kind_there m (of.Terminus r) h)) refl
   same-place _ is h = absurd is
 
 -- ---- two journeys
@@ -134,10 +79,10 @@ module _ (head : List Field) (call : ℕ) (l m : List ℕ) (left : IsLine l) (ri
 abbrev lines_of : List Record → List (List ℕ)
 lines_of rs = map plain_line (map record_table rs)
 
-module _ (head : List Field) where
+module _ (begun : List ℕ) where
   same-journeys : (call : ℕ) (rs qs : List Record) → ArePlaces qs → AllTablesFit (map record_table rs) →
       AllTablesFit (map record_table qs) → IsTrue (same_places (lines_of rs) (lines_of qs)) →
-      lines_rows head call (lines_of rs) (lines_of qs) ≡ [] → lines_of rs ≡ lines_of qs
+      places_behind begun call (lines_of rs) (lines_of qs) ≡ [] → lines_of rs ≡ lines_of qs
   same-journeys call [] [] are one other places none = refl
   same-journeys call [] (q ∷ qs) are one other places none = absurd (false≢true places)
   same-journeys call (r ∷ rs) [] are one other places none = absurd (false≢true places)
@@ -147,12 +92,13 @@ module _ (head : List Field) where
       let (first, later) = and_parts _ _ places in
       let place = (bytes_decides (columns 1 10 l) (columns 1 10 m)).0 first in
       let next = cond (is_call (kind_of_line l)) (call + 1) call in
-      let (here, behind) = both-none (rows_of_place head call l m) (lines_rows head next (lines_of rs) (lines_of qs)) none in
+      let (here, behind) = both-none (place_behind begun call (kind_of_line l) l m)
+      (places_behind begun next (lines_of rs) (lines_of qs)) none in
       let left = records.line r one.0 in
       let right = records.line q other.0 in
       let spelled = records.spells q other.0 in
       let same = records.one_record l r q (records.spells r one.0)
-      (all-moved l m (record_table q) (same-place head call l m left right place here q are.0 spelled) spelled) in
+      (all-moved l m (record_table q) (same-place begun call l m left right place here q are.0 spelled) spelled) in
       ap₂ (λ (line : List ℕ) (lines : List (List ℕ)). line ∷ lines) (ap (λ (p : Record). plain_line (record_table p)) same)
       (same-journeys next rs qs are.1 one.1 other.1 later behind)
 
@@ -252,6 +198,9 @@ are-further (Some e) o rs fits =
     }
 
 -- what a schedule's table shows of its BX
+abbrev first_cell : List (List ℕ) → List ℕ
+first_cell cells = get_or cells 0 []
+
 abbrev identity_of_extra : List ℕ → List ℕ
 identity_of_extra line = trimmed (columns 1 2 line)
 
@@ -273,10 +222,8 @@ same-extra (Some e) None one other identity same = absurd (shown-extra e one.0 i
 same-extra (Some e) (Some f) one other identity same =
     let l = plain_line (record_table (of.Extra e)) in
     let m = plain_line (record_table (of.Extra f)) in
-    let at : SameAt l m = same-at l m (records.line (of.Extra e) one.0) (records.line (of.Extra f) other.0) in
-    let all : AllSame l m (record_table (of.Extra f)) =
-    at 1 2 refl identity & at 3 6 refl (ap (nth 0) same) & at 7 11 refl (ap (nth 1) same) & at 12 13 refl (ap (nth 2) same)
-    & at 14 14 refl (ap (nth 3) same) & at 15 22 refl (ap (nth 4) same) & at 23 23 refl (ap (nth 5) same) & tt & tt in
+    let all = all-covered l m 0 kinds_of.Other refl (same-at l m (records.line (of.Extra e) one.0) (records.line (of.Extra f) other.0)) extra_columns
+    (record_table (of.Extra f)) refl (ap₂ (λ (c : List ℕ) (cells : List (List ℕ)). c ∷ cells) identity same) in
     let spelled = records.spells (of.Extra f) other.0 in
     let record_is = records.one_record l (of.Extra e) (of.Extra f) (records.spells (of.Extra e) one.0)
     (all-moved l m (record_table (of.Extra f)) all spelled) in
@@ -321,14 +268,8 @@ module _ (e g : List ℕ × Permanent BodyParts) (one : FitsLines e) (other : Fi
   same-detail same =
       let l = plain_line (basic_line e) in
       let m = plain_line (basic_line g) in
-      let at : SameAt l m = same-at l m (is-line e one) (is-line g other) in
-      let all : AllSame l m (detail_rows (Some g.1.body.detail)) =
-      at 30 30 refl (ap (nth 0) same) & at 31 32 refl (ap (nth 1) same) & at 33 36 refl (ap (nth 2) same)
-      & at 37 40 refl (ap (nth 3) same) & at 41 41 refl (ap (nth 4) same) & at 42 49 refl (ap (nth 5) same)
-      & at 50 50 refl (ap (nth 6) same) & at 51 53 refl (ap (nth 7) same) & at 54 57 refl (ap (nth 8) same)
-      & at 58 60 refl (ap (nth 9) same) & at 61 66 refl (ap (nth 10) same) & at 67 67 refl (ap (nth 11) same)
-      & at 68 68 refl (ap (nth 12) same) & at 69 69 refl (ap (nth 13) same) & at 70 70 refl (ap (nth 14) same)
-      & at 71 74 refl (ap (nth 15) same) & at 75 78 refl (ap (nth 16) same) & tt in
+      let all = all-covered l m 0 kinds_of.Other refl (same-at l m (is-line e one) (is-line g other)) (drop 4 basic_columns)
+      (detail_rows (Some g.1.body.detail)) refl same in
       one_detail l e.1.body.detail g.1.body.detail (detail-stands e one)
       (all-moved l m (detail_rows (Some g.1.body.detail)) all (detail-stands g other))
 
@@ -355,20 +296,19 @@ module _ (e g : List ℕ × Permanent BodyParts) (one : FitsLines e) (other : Fi
       let b = are-further q.extra q.origin (map call_record q.calls ++ (of.Terminus q.terminus ∷ [])) other.further in
       let detail_is = same-detail (same-cells start s.basic t.basic detail_fields no_detail) in
       let extra_is = same-extra p.extra q.extra (extra-fits e one) (extra-fits g other)
-      (ap identity_of_extra (sym a.extra_is) ∙ ap (nth 0) (same-cells start x y extra_identity no_identity)
+      (ap identity_of_extra (sym a.extra_is) ∙ ap first_cell (same-cells start x y extra_identity no_identity)
       ∙ ap identity_of_extra b.extra_is)
       (ap extra_cells (sym a.extra_is) ∙ same-cells behind x y extra_fields no_extra ∙ ap extra_cells b.extra_is) in
       let rs = journey_records p.origin p.calls p.terminus in
       let qs = journey_records q.origin q.calls q.terminus in
-      let by_lines : journeys_of head (lines_of rs) (lines_of qs) ≡ [] =
-      ap₂ (journeys_of head) (sym a.journey_is) (sym b.journey_is)
-      ∙ sym (journeys-by-lines head (without_extra s.further) (without_extra t.further)) ∙ no_journey in
-      let numbers : List Field =
-      nothing ∷ nothing ∷ nothing ∷ (Trimmed, codes "journey") ∷ number (count_of_calls (lines_of rs))
-      ∷ number (count_of_calls (lines_of qs)) ∷ [] in
-      let (places, rows) = told-places (same_places (lines_of rs) (lines_of qs)) (lines_rows head 1 (lines_of rs) (lines_of qs))
-      (line_of Tsv (head ++ numbers)) by_lines (some-row (head ++ numbers)) in
-      let lines = same-journeys head 1 rs qs (are-places q.origin q.calls q.terminus) (journey-fits e one) (journey-fits g other)
+      let begun = after Tsv head in
+      let by_lines : journeys_behind begun (lines_of rs) (lines_of qs) ≡ [] =
+      ap₂ (journeys_behind begun) (sym a.journey_is) (sym b.journey_is)
+      ∙ sym (journeys-by-lines changed (drop 1 head) begun refl (without_extra s.further) (without_extra t.further)) ∙ no_journey in
+      let (places, rows) = told-places (same_places (lines_of rs) (lines_of qs)) (places_behind begun 1 (lines_of rs) (lines_of qs))
+      _ by_lines
+      (some-behind begun (call_counts (count_of_calls (lines_of rs)) (count_of_calls (lines_of qs)))) in
+      let lines = same-journeys begun 1 rs qs (are-places q.origin q.calls q.terminus) (journey-fits e one) (journey-fits g other)
       places rows in
       let journey = one-journey p.detail (detail-fits e one) p q (journey-fits e one) (journey-fits g other) lines in
       same_values p q detail_is extra_is (ap (λ (b : BodyParts). b.origin) journey) (ap (λ (b : BodyParts). b.calls) journey)
@@ -378,6 +318,10 @@ module _ (e g : List ℕ × Permanent BodyParts) (one : FitsLines e) (other : Fi
 
 abbrev pub association_line : AssocKey × Permanent AssocBody → List Row
 association_line e = aa.association_rows e.0 e.1.first e.1.last e.1.days P (Some e.1.body)
+
+-- the fields that a pair is compared by
+abbrev compared : List Column
+compared = take 2 (drop 5 association_columns) ++ drop 10 association_columns
 
 same_values-association : (p q : AssocBody) → p.category ≡ q.category → p.date_indicator ≡ q.date_indicator → p.diagram ≡ q.diagram →
     p.kind ≡ q.kind → p ≡ q
@@ -401,12 +345,13 @@ module _ (e g : AssocKey × Permanent AssocBody) (one : AllFit (association_line
       let a = (stands-plain_line (association_line e) refl one).1.1.1.1.1.1.1 in
       let b = (stands-plain_line (association_line g) refl other).1.1.1.1.1.1.1 in
       let same = same-cells (in_record (association_head changed l) (codes "AA")) l m (category_fields ++ type_fields) none in
-      let at : SameAt l m = same-at l m left right in
+      let there : (from to : ℕ) → IsTrue (is_there l m kinds_of.Other compared from to) → columns from to l ≡ columns from to m =
+      λ from to is. covered l m 0 kinds_of.Other refl (same-at l m left right) from to compared is same in
       let both : (from to : ℕ) (v w : List ℕ) → columns from to l ≡ columns from to m → StandsIn (columns from to l) (text v) →
       StandsIn (columns from to m) (text w) → v ≡ w =
       λ from to v w same h k. one_text_value (columns from to l) v w h (subst (λ c. StandsIn c (text w)) (sym same) k) in
       same_values-association p q
-      (both 35 36 p.category q.category (at 35 36 refl (ap (nth 0) same)) a.0 b.0)
-      (both 37 37 p.date_indicator q.date_indicator (at 37 37 refl (ap (nth 1) same)) a.1.0 b.1.0)
-      (both 47 47 p.diagram q.diagram (at 47 47 refl (ap (nth 2) same)) a.1.1.1.1.1.0 b.1.1.1.1.1.0)
-      (both 48 48 p.kind q.kind (at 48 48 refl (ap (nth 3) same)) a.1.1.1.1.1.1.0 b.1.1.1.1.1.1.0)
+      (both 35 36 p.category q.category (there 35 36 refl) a.0 b.0)
+      (both 37 37 p.date_indicator q.date_indicator (there 37 37 refl) a.1.0 b.1.0)
+      (both 47 47 p.diagram q.diagram (there 47 47 refl) a.1.1.1.1.1.0 b.1.1.1.1.1.0)
+      (both 48 48 p.kind q.kind (there 48 48 refl) a.1.1.1.1.1.1.0 b.1.1.1.1.1.1.0)

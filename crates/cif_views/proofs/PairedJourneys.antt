@@ -1,15 +1,24 @@
--- The rows of pairs of schedules, as they are written: of their fields, and of their journeys by lines.
-use Rattle.std.proofs.Common.{◌≡◌, ℕ, ◌+◌, Bool, true, false, List, [], ◌∷◌, ◌++◌, Option, Some, codes, cond, length, map, ◌∙◌}
-use Rattle.std.proofs.Common.{ap, arith, nat_eq, refl, sym}
+-- The rows of pairs, as they are written: of their fields, and of their journeys by lines.
+use Rattle.std.proofs.Common.{◌≡◌, ℕ, ◌+◌, Bool, true, false, IsTrue, List, [], ◌∷◌, ◌++◌, Option, Some, codes, cond, length, map, ◌∙◌}
+use Rattle.std.proofs.Common.{ap, ap₂, append_assoc, arith, drop, if◌then◌else◌, nat_eq, refl, sym, take}
 use Rattle.std.specs.Cmp.Lexicographic.{pointwise}
+use Rattle.std.proofs.lemmas.Bool.{and_parts, false≢true}
+use Rattle.std.proofs.lemmas.Grind.{flat_map-append}
 use Rattle.cif_columns.specs.declared.sink.Sink.{Sink}
 use Rattle.cif_canon.proofs.AppendedTexts.{both, text-is}
+use Rattle.cif_canon.proofs.ViewLines.{both-after}
 use Rattle.cif_views.specs.DifferenceTable.{call_count, journey_differences, journey_of, place_columns, place_rows}
-use Rattle.cif_views.specs.Tables.{detail_fields, extra_fields, extra_identity}
-use Rattle.cif_views.proofs.Words.{Field, IsAppended, Left, Numbered, Right, ScheduleLines, Side, Trimmed, change_of, changed, columns}
-use Rattle.cif_views.proofs.Words.{count_of_calls, differing_row, differing_rows, extra_in, in_record, is_call, journeys_of, kind_of_line}
-use Rattle.cif_views.proofs.Words.{lines_rows, nothing, number, numbered_from, replicate, rows_of_place, same_places}
-use Rattle.cif_views.proofs.Words.{schedule_differences, schedule_head, without_extra}
+use Rattle.cif_views.specs.DifferenceTable.{text}
+use Rattle.cif_views.specs.Tables.{category_fields, detail_fields, extra_fields, extra_identity, names, type_fields}
+use Rattle.cif_views.specs.Steps.Columns.{association_columns, basic_columns, extra_columns}
+use Rattle.cif_views.proofs.Words.{Column, Field, IsAppended, Left, Numbered, Other, Right, ScheduleLines, Side, TableFields, Trimmed, Tsv, after}
+use Rattle.cif_views.proofs.Words.{association_differences, association_head, bytes_decides, change_of, changed, columns, count_of_calls}
+use Rattle.cif_views.proofs.Words.{differing_row, differing_rows, extra_in, field_row, fields_in, flat_map, in_record, is_call}
+use Rattle.cif_views.proofs.Words.{journeys_behind, kind_of_line, line_of, nothing, number, numbered_from, places_behind, replicate}
+use Rattle.cif_views.proofs.Words.{row_behind, row_fields, same_places, schedule_differences, schedule_head, shown, without_extra}
+use Rattle.cif_views.specs.Steps.DifferenceRows.{call_counts}
+use Rattle.cif_views.proofs.DifferingFields.{differing, place-rows, same-kind}
+use Rattle.cif_views.proofs.TableRows.{behind-row}
 
 -- what says which side has it
 pub shown-change : (side : Side) (change : List ℕ) → change ≡ (change_of side).1 → (Trimmed, change) ≡ change_of side
@@ -34,28 +43,81 @@ calls-of schedule call (line ∷ lines) =
     counted (is_call (kind_of_line line)) (record { schedule = schedule; call = call; line = line }) _ (count_of_calls lines)
     (calls-of schedule (cond (is_call (kind_of_line line)) (call + 1) call) lines)
 
-module _ (head : List Field) where
-  by-lines : (call next : ℕ) (lefts rights : List (List ℕ)) →
-      place_rows head (numbered_from 0 call lefts) (numbered_from 0 next rights) ≡ lines_rows head call lefts rights
-  by-lines call next [] rights = refl
-  by-lines call next (line ∷ lefts) [] = refl
-  by-lines call next (line ∷ lefts) (other ∷ rights) =
-      ap (λ (l : List ℕ). rows_of_place head call line other ++ l)
-      (by-lines (cond (is_call (kind_of_line line)) (call + 1) call) (cond (is_call (kind_of_line other)) (next + 1) next) lefts rights)
-
-  pub journeys-by-lines : (lefts rights : List (List ℕ)) →
-      journey_differences head (numbered_from 0 1 lefts) (numbered_from 0 1 rights) ≡ journeys_of head lefts rights
-  journeys-by-lines lefts rights = λ i.
-      cond (pointwise (pointwise nat_eq) (places-of 0 1 lefts i) (places-of 0 1 rights i)) (by-lines 1 1 lefts rights i)
-      (differing_row (head ++ replicate 3 nothing) (codes "journey") (number (calls-of 0 1 lefts i)) (number (calls-of 0 1 rights i)))
+-- one of two, by a test
+by-test : (test : Bool) (a b c d : List ℕ) → (IsTrue test → a ≡ b) → c ≡ d → cond test a c ≡ cond test b d
+by-test true a b c d same other = same refl
+by-test false a b c d same other = other
 
 -- journeys with other places have one row
-pub other-places : (head : List Field) (lefts rights : List (List ℕ)) → same_places lefts rights ≡ false →
-    differing_row (head ++ replicate 3 nothing) (codes "journey") (number (count_of_calls lefts)) (number (count_of_calls rights))
-    ≡ journeys_of head lefts rights
-other-places head lefts rights other =
-    sym (ap (λ (b : Bool). cond b (lines_rows head 1 lefts rights) (differing_row (head ++ replicate 3 nothing) (codes "journey")
-    (number (count_of_calls lefts)) (number (count_of_calls rights)))) other)
+pub other-places : (begun : List ℕ) (lefts rights : List (List ℕ)) (m n : ℕ) → m ≡ count_of_calls lefts → n ≡ count_of_calls rights →
+    same_places lefts rights ≡ false →
+    row_behind begun (call_counts m n) ≡ journeys_behind begun lefts rights
+other-places begun lefts rights m n one two other =
+    (λ i. row_behind begun (call_counts (one i) (two i)))
+    ∙ sym (ap (λ (b : Bool). cond b (places_behind begun 1 lefts rights)
+    (row_behind begun (call_counts (count_of_calls lefts) (count_of_calls rights)))) other)
+
+-- behind fields
+module _ (first : Field) (start : List Field) (begun : List ℕ) (is : begun ≡ after Tsv (first ∷ start)) where
+  by-lines : (call next : ℕ) (lefts rights : List (List ℕ)) → IsTrue (same_places lefts rights) →
+      place_rows (first ∷ start) (numbered_from 0 call lefts) (numbered_from 0 next rights) ≡ places_behind begun call lefts rights
+  by-lines call next [] rights same = refl
+  by-lines call next (line ∷ lefts) [] same = refl
+  by-lines call next (line ∷ lefts) (other ∷ rights) same =
+      let (place, later) = and_parts (pointwise nat_eq (columns 1 10 line) (columns 1 10 other)) (same_places lefts rights) same in
+      ap₂ (λ (row rows : List ℕ). row ++ rows)
+      (sym (place-rows first start begun is call line other (kind_of_line line) refl
+      (same-kind line other ((bytes_decides (columns 1 10 line) (columns 1 10 other)).0 place))))
+      (by-lines (cond (is_call (kind_of_line line)) (call + 1) call) (cond (is_call (kind_of_line other)) (next + 1) next) lefts rights later)
+
+  pub journeys-by-lines : (lefts rights : List (List ℕ)) →
+      journey_differences (first ∷ start) (numbered_from 0 1 lefts) (numbered_from 0 1 rights) ≡ journeys_behind begun lefts rights
+  journeys-by-lines lefts rights =
+      let cells : List Field =
+      text (codes "journey") ∷ number (count_of_calls lefts) ∷ number (count_of_calls rights) ∷ [] in
+      (λ i. cond (pointwise (pointwise nat_eq) (places-of 0 1 lefts i) (places-of 0 1 rights i))
+      (place_rows (first ∷ start) (numbered_from 0 1 lefts) (numbered_from 0 1 rights))
+      (differing_row ((first ∷ start) ++ replicate 3 nothing) (codes "journey") (number (calls-of 0 1 lefts i))
+      (number (calls-of 0 1 rights i))))
+      ∙ by-test (same_places lefts rights) _ _ _ _ (by-lines 1 1 lefts rights)
+      (ap (line_of Tsv) (append_assoc (first ∷ start) (replicate 3 nothing) cells)
+      ∙ sym (behind-row begun first start (replicate 3 nothing ++ cells) is))
+
+  -- the rows of fields of a record without calls
+  in-record : (identity : List ℕ) (fields : TableFields (List ℕ)) (own : List Column) (left right : List ℕ) →
+      names fields ≡ map (λ c. c.0) own → row_fields fields left ≡ fields_in Other own left →
+      row_fields fields right ≡ fields_in Other own right →
+      flat_map (field_row (begun ++ after Tsv (nothing ∷ text identity ∷ nothing ∷ [])) Other left right) own
+      ≡ differing_rows (in_record (first ∷ start) identity) fields left right
+  in-record identity fields own left right =
+      let more : List Field = nothing ∷ text identity ∷ nothing ∷ [] in
+      differing first (start ++ more) (begun ++ after Tsv more)
+      (ap (λ (l : List ℕ). l ++ after Tsv more) is ∙ both-after Tsv [] (first ∷ start) more) fields own Other left right
+
+-- ---- a pair of associations
+
+module _ (l m : List ℕ) {W : Type 0} (contents : W → Option (List ℕ)) (errors : W → Option ℕ) (row : List ℕ)
+    (row_is : row ≡ after Tsv (association_head changed l)) where
+  abbrev behind_association : List Column → List ℕ
+  behind_association own = flat_map (field_row (row ++ after Tsv (nothing ∷ text (codes "AA") ∷ nothing ∷ [])) Other l m) own
+
+  abbrev begins : List Field
+  begins = in_record (association_head changed l) (codes "AA")
+
+  pub association-written : (s t u : Sink W) → IsAppended contents errors (behind_association (take 2 (drop 5 association_columns))) s t →
+      IsAppended contents errors (behind_association (drop 10 association_columns)) t u →
+      IsAppended contents errors (association_differences (record { side = Left; it = l }, Some m)) s u
+  association-written s t u one two =
+      let written : (fields : TableFields (List ℕ)) (own : List Column) → names fields ≡ map (λ c. c.0) own →
+      row_fields fields l ≡ fields_in Other own l → row_fields fields m ≡ fields_in Other own m →
+      behind_association own ≡ differing_rows begins fields l m =
+      λ fields own. in-record changed (drop 1 (association_head changed l)) row row_is (codes "AA") fields own l m in
+      text-is contents errors (differing_rows begins category_fields l m ++ differing_rows begins type_fields l m)
+      (differing_rows begins (category_fields ++ type_fields) l m) s u
+      (sym (flat_map-append (λ f. if pointwise nat_eq (shown Tsv (f.1 l)) (shown Tsv (f.1 m)) then [] else differing_row begins f.0 (f.1 l)
+      (f.1 m)) category_fields type_fields))
+      (both contents errors _ _ s t u (text-is contents errors _ _ s t (written category_fields (take 2 (drop 5 association_columns)) refl refl refl) one)
+      (text-is contents errors _ _ t u (written type_fields (drop 10 association_columns) refl refl refl) two))
 
 -- ---- a pair of schedules
 
@@ -65,26 +127,42 @@ module _ (s t : ScheduleLines) {W : Type 0} (contents : W → Option (List ℕ))
   abbrev head : List ℕ → List Field
   head line = schedule_head changed line
 
-  -- what is written of it
-  pub schedule-written : (k l m n o : Sink W) →
-      IsAppended contents errors (differing_rows (in_record (head a) (codes "BS")) detail_fields a b) k l →
-      IsAppended contents errors (differing_rows (in_record (head a) (codes "BS")) extra_identity x y) l m →
-      IsAppended contents errors (differing_rows (in_record (head a) (codes "BX")) extra_fields x y) m n →
-      IsAppended contents errors (journeys_of (head a) ls rs) n o →
-      IsAppended contents errors (schedule_differences (record { side = Left; it = s }, Some t)) k o
-  schedule-written k l m n o one two three four =
-      let details = differing_rows (in_record (head a) (codes "BS")) detail_fields a b in
-      let identities = differing_rows (in_record (head a) (codes "BS")) extra_identity x y in
-      let extras = differing_rows (in_record (head a) (codes "BX")) extra_fields x y in
-      let journeys = journeys_of (head a) ls rs in
-      let journeys_are : journeys ≡ journey_differences (head s.basic) (journey_of s) (journey_of t) =
-      (λ i. journeys_of (head (a_is i)) (ls_is i) (rs_is i))
-      ∙ sym (journeys-by-lines (head s.basic) (without_extra s.further) (without_extra t.further)) in
-      text-is contents errors (details ++ (identities ++ (extras ++ journeys)))
-      (schedule_differences (record { side = Left; it = s }, Some t)) k o
-      (λ i.
-      differing_rows (in_record (head (a_is i)) (codes "BS")) detail_fields (a_is i) (b_is i)
-      ++ (differing_rows (in_record (head (a_is i)) (codes "BS")) extra_identity (x_is i) (y_is i)
-      ++ (differing_rows (in_record (head (a_is i)) (codes "BX")) extra_fields (x_is i) (y_is i) ++ journeys_are i)))
-      (both contents errors details (identities ++ (extras ++ journeys)) k l o one
-      (both contents errors identities (extras ++ journeys) l m o two (both contents errors extras journeys m n o three four)))
+  -- what is written of it behind a row
+  module _ (row : List ℕ) (row_is : row ≡ after Tsv (head a)) where
+    abbrev behind_schedule : List ℕ → List Column → List ℕ → List ℕ → List ℕ
+    behind_schedule identity own left right =
+        flat_map (field_row (row ++ after Tsv (nothing ∷ text identity ∷ nothing ∷ [])) Other left right) own
+
+    written : (identity : List ℕ) (fields : TableFields (List ℕ)) (own : List Column) (left right : List ℕ) →
+        names fields ≡ map (λ c. c.0) own → row_fields fields left ≡ fields_in Other own left →
+        row_fields fields right ≡ fields_in Other own right →
+        behind_schedule identity own left right ≡ differing_rows (in_record (head a) identity) fields left right
+    written = in-record changed (drop 1 (head a)) row row_is
+
+    pub schedule-written : (k l m n o : Sink W) →
+        IsAppended contents errors (behind_schedule (codes "BS") (drop 4 basic_columns) a b) k l →
+        IsAppended contents errors (behind_schedule (codes "BS") (take 1 extra_columns) x y) l m →
+        IsAppended contents errors (behind_schedule (codes "BX") (drop 1 extra_columns) x y) m n →
+        IsAppended contents errors (journeys_behind row ls rs) n o →
+        IsAppended contents errors (schedule_differences (record { side = Left; it = s }, Some t)) k o
+    schedule-written k l m n o p q r j =
+        let details = differing_rows (in_record (head a) (codes "BS")) detail_fields a b in
+        let identities = differing_rows (in_record (head a) (codes "BS")) extra_identity x y in
+        let extras = differing_rows (in_record (head a) (codes "BX")) extra_fields x y in
+        let journeys = journeys_behind row ls rs in
+        let journeys_are : journeys ≡ journey_differences (head s.basic) (journey_of s) (journey_of t) =
+        (λ i. journeys_behind row (ls_is i) (rs_is i))
+        ∙ sym (journeys-by-lines changed (drop 1 (head s.basic)) row (row_is ∙ ap (λ line. after Tsv (head line)) a_is)
+        (without_extra s.further) (without_extra t.further)) in
+        text-is contents errors (details ++ (identities ++ (extras ++ journeys)))
+        (schedule_differences (record { side = Left; it = s }, Some t)) k o
+        (λ i.
+        differing_rows (in_record (head (a_is i)) (codes "BS")) detail_fields (a_is i) (b_is i)
+        ++ (differing_rows (in_record (head (a_is i)) (codes "BS")) extra_identity (x_is i) (y_is i)
+        ++ (differing_rows (in_record (head (a_is i)) (codes "BX")) extra_fields (x_is i) (y_is i) ++ journeys_are i)))
+        (both contents errors details (identities ++ (extras ++ journeys)) k l o
+        (text-is contents errors _ details k l (written (codes "BS") detail_fields (drop 4 basic_columns) a b refl refl refl) p)
+        (both contents errors identities (extras ++ journeys) l m o
+        (text-is contents errors _ identities l m (written (codes "BS") extra_identity (take 1 extra_columns) x y refl refl refl) q)
+        (both contents errors extras journeys m n o
+        (text-is contents errors _ extras m n (written (codes "BX") extra_fields (drop 1 extra_columns) x y refl refl refl) r) j)))

@@ -1,10 +1,11 @@
 -- The rows of tables, as they are made field by field.
-use Rattle.std.proofs.Common.{◌≡◌, ◌≢◌, ℕ, ◌+◌, ◌<◌, ◌≤◌, Bool, true, false, List, [], ◌∷◌, ◌++◌, codes, cond, drop, length, ◌∙◌}
+use Rattle.std.proofs.Common.{◌≡◌, ◌≢◌, ℕ, ◌+◌, ◌-◌, ◌<◌, ◌≤◌, Bool, true, false, Bor, IsTrue, List, [], ◌∷◌, ◌++◌, codes, cond, drop, length, ◌∙◌}
 use Rattle.std.proofs.Common.{append-nil, append_assoc, ap, arith, inl, inr, length-append, refl, subst, sym, take}
 use borrow.Rule.Slice.PartMut.{put_mid}
 use Rattle.std.specs.Prelude.{◌⊎◌, slice_index_or, slice_set}
 use Rattle.std.specs.Bool.{◌==◌}
 use Rattle.std.specs.List.{enumerate_from, filter, flat_map}
+use Rattle.std.proofs.lemmas.Bool.{and_parts, leb-true}
 use Rattle.std.proofs.lemmas.Bool.Decides.{nat_tests}
 use Rattle.std.proofs.lemmas.Grind.{flat_map-append}
 use Rattle.std.proofs.lemmas.List.{at_drop_all, length-set, length-take, length-take-le, take-take, take_more_set}
@@ -15,45 +16,42 @@ use Rattle.cif_canon.specs.Fields.{in_table}
 use Rattle.cif_canon.specs.Lines.{ExtractLines}
 use Rattle.cif_canon.specs.declared.rows.Shape.{Shape}
 use Rattle.cif_canon.proofs.ViewLines.{both-after, joined}
-use Rattle.cif_views.specs.Steps.TableRows.{Place, are_within, field_at, schedule_rows}
-use Rattle.cif_views.specs.Tables.{calls_of, change_fields, changes_of}
+use Rattle.cif_views.specs.Steps.Columns.{are_within, is_short, is_span, is_within, named, span_in}
+use Rattle.cif_views.specs.Steps.TableRows.{journey_rows, row_of_kind, rows_of, schedule_rows}
+use Rattle.cif_views.specs.Tables.{calls_of, change_fields, changes_of, own_call_fields, row_fields}
+use Rattle.cif_views.specs.declared.columns.Place.{Place}
+use Rattle.cif_views.specs.declared.columns.Place.TheVariants as place
+use Rattle.cif_views.specs.Steps.Columns.{call_columns, change_columns}
 use Rattle.cif_views.specs.declared.tables.Table.{Table}
 use Rattle.cif_views.specs.declared.tables.Table.TheVariants.{Calls, Changes, Schedules}
-use Rattle.cif_views.proofs.Words.{CHANGE, Change, Field, JourneyKind, Numbered, Origin, Other, ScheduleLines, Stop, Terminus, Tsv, after}
-use Rattle.cif_views.proofs.Words.{call_fields, call_fields_of, call_row_behind, call_rows, change_row_behind, change_rows, columns}
-use Rattle.cif_views.proofs.Words.{fields_at, is_call, is_change, row_behind, row_of_table, rows_of}
-use Rattle.cif_views.proofs.Words.{journey_rows, kind_of_line, line_of, nothing, number, numbered_from, numbered_schedule, place_fields}
-use Rattle.cif_views.proofs.Words.{room_for, row_line, schedule_fields, table_rows, text_at}
+use Rattle.cif_views.proofs.Words.{Change, Column, Field, JourneyKind, Numbered, Origin, Other, ScheduleLines, Stop, Terminus, Tsv, after}
+use Rattle.cif_views.proofs.Words.{call_fields, fields_in, is_call, is_change, kind_of_line, line_of, name_fields, number, numbered_from}
+use Rattle.cif_views.proofs.Words.{numbered_schedule, room_for, row_behind, row_line, schedule_fields, table_rows}
 
 -- fields with a tab before each are a row without the first tab
 pub row-text : (first : Field) (fields : List Field) → drop 1 (after Tsv (first ∷ fields)) ++ codes "\n" ≡ line_of Tsv (first ∷ fields)
 row-text first fields = ap (λ (l : List ℕ). l ++ codes "\n") (joined Tsv first fields)
 
--- fields behind a number are a row
-behind-number : (n : ℕ) (fields : List Field) → row_behind (after Tsv (number n ∷ [])) fields ≡ line_of Tsv (number n ∷ fields)
-behind-number n fields =
-    ap (λ (l : List ℕ). drop 1 l ++ codes "\n") (both-after Tsv [] (number n ∷ []) fields) ∙ row-text (number n) fields
+-- fields behind a row that has some are a row
+pub behind-row : (begun : List ℕ) (first : Field) (rest more : List Field) → begun ≡ after Tsv (first ∷ rest) →
+    row_behind begun more ≡ line_of Tsv ((first ∷ rest) ++ more)
+behind-row begun first rest more is =
+    ap (λ (l : List ℕ). row_behind l more) is
+    ∙ ap (λ (l : List ℕ). drop 1 l ++ codes "\n") (both-after Tsv [] (first ∷ rest) more)
+    ∙ row-text first (rest ++ more)
 
 -- these fields have been appended
 pub record HasPushed (old new : List ℕ) (fields : List Field) : Type 0 where
   pub text : new ≡ old ++ after Tsv fields
 
-pub none-pushed : (old : List ℕ) → HasPushed old old []
-none-pushed old = record { text = sym (append-nil old) }
+pub first-pushed : (old new : List ℕ) (fields : List Field) → new ≡ old ++ after Tsv fields → HasPushed old new fields
+first-pushed old new fields is = record { text = is }
 
 pub begun-row : (row : List ℕ) → row ≡ [] → HasPushed [] row []
 begun-row row none = record { text = none }
 
--- one field more, and several
-pub one-pushed : (old mid new : List ℕ) (done : List Field) (shape : Shape) (c cs : List ℕ) → HasPushed old mid done →
-    new ≡ mid ++ (9 ∷ in_table shape c) → c ≡ cs → HasPushed old new (done ++ ((shape, cs) ∷ []))
-one-pushed old mid new done shape c cs before is same = record {
-  text = is
-      ∙ ap (λ (l : List ℕ). l ++ (9 ∷ in_table shape c)) before.text
-      ∙ ap (λ (l : List ℕ). (old ++ after Tsv done) ++ (9 ∷ in_table shape l)) same
-      ∙ ap (λ (l : List ℕ). (old ++ after Tsv done) ++ l) (sym (append-nil (9 ∷ in_table shape cs)))
-      ∙ both-after Tsv old done ((shape, cs) ∷ []);
-}
+pub copied : (old new : List ℕ) → new ≡ old → HasPushed old new []
+copied old new is = record { text = is ∙ sym (append-nil old) }
 
 pub more-pushed : (old mid new : List ℕ) (done more : List Field) → HasPushed old mid done → new ≡ mid ++ after Tsv more →
     HasPushed old new (done ++ more)
@@ -61,19 +59,61 @@ more-pushed old mid new done more before is = record {
   text = is ∙ ap (λ (l : List ℕ). l ++ after Tsv more) before.text ∙ both-after Tsv old done more;
 }
 
--- they are a row without the first tab
+-- of one field the code has the text
+pub as-field : (old new : List ℕ) (shape : Shape) (c : List ℕ) → new ≡ old ++ (9 ∷ in_table shape c) →
+    new ≡ old ++ after Tsv ((shape, c) ∷ [])
+as-field old new shape c is = is ∙ ap (λ (l : List ℕ). old ++ l) (sym (append-nil (9 ∷ in_table shape c)))
+
+-- they are a row behind what it begins with, and without the first tab a row
+pub row-is : (old new : List ℕ) (fields : List Field) → HasPushed old new fields → drop 1 new ++ codes "\n" ≡ row_behind old fields
+row-is old new fields h = ap (λ (l : List ℕ). drop 1 l ++ codes "\n") h.text
+
 pub row-pushed : (row : List ℕ) (first : Field) (fields : List Field) → HasPushed [] row (first ∷ fields) →
     drop 1 row ++ codes "\n" ≡ line_of Tsv (first ∷ fields)
-row-pushed row first fields h = ap (λ (l : List ℕ). drop 1 l ++ codes "\n") h.text ∙ row-text first fields
+row-pushed row first fields h = row-is [] row (first ∷ fields) h ∙ row-text first fields
 
-pub places-row : (places : List Place) (line row : List ℕ) → 0 < length places → HasPushed [] row (fields_at places line) →
-    drop 1 row ++ codes "\n" ≡ line_of Tsv (fields_at places line)
-places-row [] line row some h = absurd (omega (arith, some))
-places-row (place ∷ places) line row some h = row-pushed row (field_at line place) (fields_at places line) h
+-- three groups of names are a row that is a heading
+behind-tab : (row heading : List ℕ) → row ++ codes "\n" ≡ 9 ∷ heading → (drop 1 row ++ codes "\n" ≡ heading) × (0 < length row)
+behind-tab [] heading is = absurd (let other : 10 ≡ 9 = ap (λ (l : List ℕ). slice_index_or l 0 0) is in omega (arith, other))
+behind-tab (b ∷ row) heading is = (ap (drop 1) is, omega arith)
 
-pub pushed-some : (places : List Place) (line row : List ℕ) → 0 < length places → HasPushed [] row (fields_at places line) → 0 < length row
-pushed-some [] line row some h = absurd (omega (arith, some))
-pushed-some (place ∷ places) line row some h = let long = ap length h.text in omega (arith, long)
+pub heading-row : (none one two three : List ℕ) (a b c : List Column) (heading : List ℕ) → none ≡ [] →
+    one ≡ none ++ after Tsv (name_fields a) → two ≡ one ++ after Tsv (name_fields b) → three ≡ two ++ after Tsv (name_fields c) →
+    after Tsv ((name_fields a ++ name_fields b) ++ name_fields c) ++ codes "\n" ≡ 9 ∷ heading →
+    (drop 1 three ++ codes "\n" ≡ heading) × (0 < length three)
+heading-row none one two three a b c heading empty p q r is =
+    let h1 = more-pushed _ _ _ _ (name_fields a) (begun-row none empty) p in
+    let h2 = more-pushed _ _ _ _ (name_fields b) h1 q in
+    let h3 = more-pushed _ _ _ _ (name_fields c) h2 r in
+    behind-tab three heading (ap (λ (l : List ℕ). l ++ codes "\n") h3.text ∙ is)
+
+pub columns-row : (kind : JourneyKind) (given : List (Bor (List ℕ) × Place)) (line row : List ℕ) → 0 < length given →
+    HasPushed [] row (fields_in kind (named given) line) →
+    (drop 1 row ++ codes "\n" ≡ line_of Tsv (fields_in kind (named given) line)) × (0 < length row)
+columns-row kind [] line row some h = absurd (omega (arith, some))
+columns-row kind (c ∷ given) line row some h =
+    (row-pushed row _ (fields_in kind (named given) line) h, let long = ap length h.text in omega (arith, long))
+
+-- a row that has been appended to is no shorter
+pub no-shorter : (old new : List ℕ) (fields : List Field) → HasPushed old new fields → length old ≤ length new
+no-shorter old new fields h = let long = ap length h.text ∙ length-append old (after Tsv fields) in omega (arith, long)
+
+-- what has been appended is written behind the old row, and cut off again
+pub record IsBehind (old new : List ℕ) (fields : List Field) (n : ℕ) : Type 0 where
+  pub some : 0 < length old → 0 < length new
+  pub begun : n ≤ length new
+  pub text : drop 1 new ++ codes "\n" ≡ row_behind old fields
+  pub same : take n new ≡ old
+
+pub behind : (old new : List ℕ) (fields : List Field) (n : ℕ) → new ≡ old ++ after Tsv fields → n ≡ length old →
+    IsBehind old new fields n
+behind old new fields n e is =
+    let long = no-shorter old new fields (record { text = e }) in record {
+      some = λ first. omega (arith, long, first);
+      begun = omega (arith, long, is);
+      text = ap (λ (l : List ℕ). drop 1 l ++ codes "\n") e;
+      same = ap (λ k. take k new) is ∙ ap (take (length old)) e ∙ take-append_seam old (after Tsv fields);
+    }
 
 -- the bytes of a row with a tab and columns behind them, of which so many count
 pub row-more : (bytes columns copied : List ℕ) (len count k : ℕ) → len < length bytes → copied ≡ columns → count ≤ length columns →
@@ -94,19 +134,35 @@ row-more bytes columns copied len count k below same some =
     ∙ append_assoc (take len bytes) (9 ∷ []) (take count copied)
     ∙ ap (λ (cs : List ℕ). take len bytes ++ (9 ∷ take count cs)) same
 
--- with the fields of the places that are left, the row is whole, and no longer than it may be
-pub record IsGrowing (line whole : List ℕ) (most : ℕ) (row : List ℕ) (left : List Place) : Type 0 where
-  pub text : row ++ after Tsv (fields_at left line) ≡ whole
+-- with the fields of the columns that are left, the row is whole, and no longer than it may be
+pub record IsGrowing (kind : JourneyKind) (line whole : List ℕ) (most : ℕ) (row : List ℕ) (left : List Column) : Type 0 where
+  pub text : row ++ after Tsv (fields_in kind left line) ≡ whole
   pub room : length row + room_for left ≤ most
   pub within : are_within left ≡ true
 
-module _ (line whole : List ℕ) (most : ℕ) (xs : List Place) (i : ℕ) where
-  -- no place is left
-  pub all-places : length xs ≤ i → (row : List ℕ) → IsGrowing line whole most row (drop i xs) → (row ≡ whole) × (length row ≤ most)
-  all-places past row is =
-      let end = subst (IsGrowing line whole most row) (at_drop_all (λ (ps : List Place). ps) xs i past) is in
+module _ (kind : JourneyKind) (line whole : List ℕ) (most : ℕ) (xs : List (Bor (List ℕ) × Place)) (i : ℕ) where
+  -- no column is left
+  pub all-columns : length xs ≤ i → (row : List ℕ) → IsGrowing kind line whole most row (named (drop i xs)) →
+      (row ≡ whole) × (length row ≤ most)
+  all-columns past row is =
+      let end = subst (IsGrowing kind line whole most row) (at_drop_all named xs i past) is in
       let room = end.room in
       (sym (append-nil row) ∙ end.text, omega (arith, room))
+
+-- what the place of a field says of its columns in a line of this kind
+short-span : (span : ℕ × ℕ) → IsTrue (is_short span) → IsTrue (is_span span)
+short-span span short = (and_parts (is_span span) _ short).0
+
+pub within-span : (kind : JourneyKind) (at : Place) → IsTrue (is_within at) → IsTrue (is_span (span_in kind at))
+within-span kind (place.Text first last) within = within
+within-span kind (place.Whole first last) within = within
+within-span kind (place.Date first last) within = (and_parts (is_span (first, last)) _ within).0
+within-span kind (place.DayFirst first last) within = (and_parts (is_span (first, last)) _ within).0
+within-span Origin (place.Call o s t) within = short-span o (and_parts (is_short o) _ within).0
+within-span Stop (place.Call o s t) within = short-span s (and_parts (is_short s) (is_short t) (and_parts (is_short o) _ within).1).0
+within-span Terminus (place.Call o s t) within = short-span t (and_parts (is_short s) (is_short t) (and_parts (is_short o) _ within).1).1
+within-span Change (place.Call o s t) within = refl
+within-span Other (place.Call o s t) within = refl
 
 -- what is listed of items that pass a test
 passing : {A : Type 0} (test : Bool) (text : A → List ℕ) (x : A) (xs : List A) (rest : List ℕ) → flat_map text xs ≡ rest →
@@ -146,11 +202,11 @@ listed-rows table x (inr (inl e)) = rw e (sym (calls-rows x))
 listed-rows table x (inr (inr e)) = rw e (sym (changes-rows x))
 
 -- the rows of a journey, line by line
-pub calls-of_lines : (n : ℕ) (s : ScheduleLines) → journey_rows call_rows n s.further ≡ schedule_rows Calls n s
+pub calls-of_lines : (n : ℕ) (s : ScheduleLines) → journey_rows true n s.further ≡ schedule_rows Calls n s
 calls-of_lines n s =
     sym (filtered (λ p. is_call (kind_of_line p.line)) (row_line call_fields) (numbered_from n 1 s.further))
 
-pub changes-of_lines : (n : ℕ) (s : ScheduleLines) → journey_rows change_rows n s.further ≡ schedule_rows Changes n s
+pub changes-of_lines : (n : ℕ) (s : ScheduleLines) → journey_rows false n s.further ≡ schedule_rows Changes n s
 changes-of_lines n s =
     sym (filtered (λ p. is_change (kind_of_line p.line)) (row_line change_fields) (numbered_from n 1 s.further))
 
@@ -194,81 +250,24 @@ pub next-call : (is : Bool) (call next count : ℕ) (lines rest : List (List ℕ
 next-call true call next count lines rest line is e few = let many = ap length is in omega (arith, many, e, few)
 next-call false call next count lines rest line is e few = let many = ap length is in omega (arith, many, e, few)
 
--- the fields of a call behind its location, by the kind of its line
-pub origin-fields : (line : List ℕ) → kind_of_line line ≡ Origin →
-    call_fields_of line
-    ≡ nothing ∷ text_at 11 15 line ∷ nothing ∷ nothing ∷ text_at 16 19 line ∷ text_at 20 22 line ∷ text_at 23 25 line ∷ nothing
-    ∷ text_at 30 41 line ∷ text_at 26 27 line ∷ text_at 28 29 line ∷ text_at 42 43 line ∷ []
-origin-fields line e = rw e refl
+-- the fields of a call behind its suffix, by the kind of its line
+pub call-fields : (line : List ℕ) (kind : JourneyKind) → kind_of_line line ≡ kind →
+    row_fields own_call_fields line ≡ fields_in kind (drop 3 call_columns) line
+call-fields line Origin e = rw e refl
+call-fields line Stop e = rw e refl
+call-fields line Terminus e = rw e refl
+call-fields line Change e = rw e refl
+call-fields line Other e = rw e refl
 
-pub stop-fields : (line : List ℕ) → kind_of_line line ≡ Stop →
-    call_fields_of line
-    ≡ text_at 11 15 line ∷ text_at 16 20 line ∷ text_at 21 25 line ∷ text_at 26 29 line ∷ text_at 30 33 line ∷ text_at 34 36 line
-    ∷ text_at 37 39 line ∷ text_at 40 42 line ∷ text_at 43 54 line ∷ text_at 55 56 line ∷ text_at 57 58 line ∷ text_at 59 60 line ∷ []
-stop-fields line e = rw e refl
-
-pub terminus-fields : (line : List ℕ) → kind_of_line line ≡ Terminus →
-    call_fields_of line
-    ≡ text_at 11 15 line ∷ nothing ∷ nothing ∷ text_at 16 19 line ∷ nothing ∷ text_at 20 22 line ∷ nothing ∷ text_at 23 25 line
-    ∷ text_at 26 37 line ∷ nothing ∷ nothing ∷ nothing ∷ []
-terminus-fields line e = rw e refl
-
--- no kind but one is that of a change
-no-change : (kind : JourneyKind) → kind ≢ Change → is_change kind ≡ false
-no-change Change other = absurd (other refl)
-no-change Origin other = refl
-no-change Stop other = refl
-no-change Terminus other = refl
-no-change Other other = refl
-
--- the row of a line behind what it begins with, by the kind of the line; other lines have none
-pub call-row : (begun : List ℕ) (call : ℕ) (line row : List ℕ) (kind : JourneyKind) → kind_of_line line ≡ kind → is_call kind ≡ true →
-    HasPushed begun row (place_fields call line ++ call_fields_of line) →
-    drop 1 row ++ codes "\n" ≡ call_row_behind begun call line
-call-row begun call line row kind is called h =
-    ap (λ (l : List ℕ). drop 1 l ++ codes "\n") h.text
-    ∙ ap (λ b. cond b (row_behind begun (place_fields call line ++ call_fields_of line)) []) (sym (ap is_call is ∙ called))
-
-pub no-call-row : (begun : List ℕ) (call : ℕ) (line : List ℕ) (kind : JourneyKind) → kind_of_line line ≡ kind → is_call kind ≡ false →
-    [] ≡ call_row_behind begun call line
-no-call-row begun call line kind is other =
-    ap (λ b. cond b (row_behind begun (place_fields call line ++ call_fields_of line)) []) (sym (ap is_call is ∙ other))
-
-pub change-row : (begun : List ℕ) (call : ℕ) (line row : List ℕ) → kind_of_line line ≡ Change →
-    HasPushed begun row (number call ∷ fields_at CHANGE line) → drop 1 row ++ codes "\n" ≡ change_row_behind begun call line
-change-row begun call line row is h =
-    ap (λ (l : List ℕ). drop 1 l ++ codes "\n") h.text
-    ∙ ap (λ b. cond b (row_behind begun (number call ∷ fields_at CHANGE line)) []) (sym (ap is_change is))
-
-pub no-change-row : (begun : List ℕ) (call : ℕ) (line : List ℕ) (kind : JourneyKind) → kind ≡ kind_of_line line → kind ≢ Change →
-    [] ≡ change_row_behind begun call line
-no-change-row begun call line kind is other =
-    ap (λ b. cond b (row_behind begun (number call ∷ fields_at CHANGE line)) []) (sym (no-change kind other) ∙ ap is_change is)
-
--- a row that has been appended to twice is no shorter
-pub still-some : (old mid new one other : List ℕ) → mid ≡ old ++ one → new ≡ mid ++ other → 0 < length old → 0 < length new
-still-some old mid new one other first then some =
-    let long = ap length first ∙ length-append old one in
-    let longer = ap length then ∙ length-append mid other in
-    omega (arith, some, long, longer)
-
--- a row that has been appended to begins as before
-pub begins-alike : (old new : List ℕ) (fields : List Field) → HasPushed old new fields → take (length old) new ≡ old
-begins-alike old new fields h = ap (take (length old)) h.text ∙ take-append_seam old (after Tsv fields)
-
--- and is no shorter
-pub no-shorter : (n : ℕ) (old new : List ℕ) → n ≡ length old → take (length old) new ≡ old → n ≤ length new
-no-shorter n old new is begun = let long = sym (ap length begun) ∙ length-take (length old) new in omega (arith, is, long)
-
--- with the number of the schedule before it, it is that of the table
+-- with the number of the schedule before it, the row of a line is that of the table
 pub numbered-row : (calls : Bool) (begun : List ℕ) (p : Numbered) → begun ≡ after Tsv (number p.schedule ∷ []) →
-    row_of_table calls begun p.call p.line ≡ rows_of calls p
-numbered-row calls begun p is =
-    ap (λ (l : List ℕ). row_of_table calls l p.call p.line) is
-    ∙ ap (λ (l : List ℕ). cond calls (cond (is_call (kind_of_line p.line)) l []) (change_row_behind begun-by-number p.call p.line))
-    (behind-number p.schedule (place_fields p.call p.line ++ call_fields_of p.line))
-    ∙ ap (λ (l : List ℕ). cond calls (call_rows p) (cond (is_change (kind_of_line p.line)) l []))
-    (behind-number p.schedule (number p.call ∷ fields_at CHANGE p.line))
-  where
-    begun-by-number : List ℕ
-    begun-by-number = after Tsv (number p.schedule ∷ [])
+    row_of_kind calls begun p.call (kind_of_line p.line) p.line ≡ rows_of calls p
+numbered-row true begun p is =
+    let kind = kind_of_line p.line in
+    let first = fields_in kind (take 3 call_columns) p.line in
+    ap (λ (l : List ℕ). cond (is_call kind) l [])
+    (behind-row begun (number p.schedule) [] (number p.call ∷ fields_in kind call_columns p.line) is
+    ∙ ap (λ (own : List Field). line_of Tsv (number p.schedule ∷ number p.call ∷ (first ++ own))) (sym (call-fields p.line kind refl)))
+numbered-row false begun p is =
+    ap (λ (l : List ℕ). cond (is_change (kind_of_line p.line)) l [])
+    (behind-row begun (number p.schedule) [] (number p.call ∷ fields_in (kind_of_line p.line) change_columns p.line) is)

@@ -50,20 +50,18 @@ pub use Rattle.cif_views.specs.DifferenceTable.{differing_row, differing_rows, i
 pub use Rattle.cif_views.specs.DifferenceTable.{single_row, tiploc_head, tiploc_row, without_extra}
 unfoldable pub use Rattle.cif_views.specs.DifferenceTable.{difference_table}
 pub use Rattle.cif_views.specs.Listing.{date_field, day_names}
-pub use Rattle.cif_views.specs.Steps.DifferenceRows.{count_of_calls, head_fields, journeys_of, lines_rows, named_fields, rows_of_place}
-pub use Rattle.cif_views.specs.Steps.DifferenceRows.{same_places, start_of}
+pub use Rattle.cif_views.specs.Steps.Columns.{Column, field_in, fields_in, name_fields, named, room_for, room_for_names, row_behind}
+pub use Rattle.cif_views.specs.Steps.DifferenceRows.{count_of_calls, journeys_behind, own_columns, place_behind, places_behind, same_places}
+unfoldable pub use Rattle.cif_views.specs.Steps.DifferenceRows.{field_row}
 pub use Rattle.cif_views.specs.Steps.Explanation.{AreMarked, ArePlacedBelow, ArePlacedInOrder, IsLike, IsMarkAt, IsMarkOf, Placed}
 pub use Rattle.cif_views.specs.Steps.Explanation.{marked_as, placed_at, placed_cmp, placed_of}
 pub use Rattle.cif_views.specs.Steps.Rows.{first_field, names_behind, row_lines}
-pub use Rattle.cif_views.specs.Steps.TableRows.{call_fields_of, call_row_behind, call_rows, change_row_behind, change_rows, fields_at}
-pub use Rattle.cif_views.specs.Steps.TableRows.{journey_rows, place_fields, room_for, row_behind, row_of_table, rows_of}
+pub use Rattle.cif_views.specs.Steps.TableRows.{journey_rows, rows_of}
 pub use Rattle.cif_views.specs.Steps.WeekCalendar.{state_in}
 pub use Rattle.cif_views.specs.Tables.{Numbered, TableFields, call_fields, extra_in, is_call}
 pub use Rattle.cif_views.specs.Tables.{is_change, journey_kind, kind_of_line, names_line, number, numbered_from, numbered_schedule}
 pub use Rattle.cif_views.specs.Tables.{row_fields, row_line, schedule_fields, table_rows, text_at, tiploc_fields, yymmdd_from}
 pub use Rattle.cif_views.specs.WeekCalendar.{calendar_text, week_line}
-pub use Rattle.cif_views.specs.declared.difference_table.RowKind.{RowKind}
 pub use Rattle.cif_views.specs.declared.marks.Mark.{Mark}
 pub use Rattle.cif_views.specs.declared.tables.JourneyKind.{JourneyKind}
 pub use Rattle.cif_views.specs.declared.tables.JourneyKind.TheVariants.{Change, Origin, Other, Stop, Terminus}
-pub use Rattle.cif_views.specs.declared.tables.TheConstants.{CHANGE}

@@ -5,6 +5,7 @@
 mod calendar_weeks;
 mod calls;
 mod clash_list;
+mod columns;
 mod difference_table;
 mod explanation;
 mod find_clashes;

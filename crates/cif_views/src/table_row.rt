@@ -1,24 +1,24 @@
 //! The rows of tables, field by field.
-ghost use Rattle.std.specs.Prelude.{◌≡◌, ◌<◌, ◌≤◌, ◌+◌, ◌++◌, ◌∷◌, [], IsTrue, codes, decimal, drop, length, take};
-ghost use Rattle.cif_columns.specs.Field.{columns, columns_from};
+ghost use Rattle.std.specs.Prelude.{◌≡◌, ◌<◌, ◌≤◌, ◌+◌, ◌-◌, ◌++◌, ◌∷◌, [], IsTrue, codes, drop, length, replicate, take};
+ghost use Rattle.cif_columns.specs.Field.{columns};
 ghost use Rattle.cif_canon.specs.Appended.{IsAppended};
-ghost use Rattle.cif_canon.specs.Fields.{after, in_table, trimmed, width_of};
+ghost use Rattle.cif_canon.specs.Fields.{after, in_table, nothing, width_of};
 ghost use Rattle.cif_canon.specs.declared.rows.Format.TheVariants.{Tsv};
-ghost use Rattle.cif_canon.specs.declared.rows.Shape.TheVariants.{Whole};
-ghost use Rattle.cif_views.specs.Steps.TableRows.{IsOfShape, are_within, fields_at, is_within, room_for};
-ghost use Rattle.cif_views.specs.Steps.TableRows.{room_of};
+ghost use Rattle.cif_views.specs.Steps.Columns.{IsOfShape, are_within, field_in, fields_in, is_span, is_within};
+ghost use Rattle.cif_views.specs.Steps.Columns.{name_fields, named, room_for, room_for_names, room_of};
+ghost use Rattle.cif_views.specs.DifferenceTable.{text};
+ghost use Rattle.cif_views.specs.Tables.{number, yymmdd_from};
 
+use crate::columns::{Column, Place, Span, span_in};
+use crate::tables::JourneyKind;
 use cif_canon::Shape;
 use cif_canon::rows::{long_date, used_columns};
-use cif_columns::{Line, Sink, WriteDevice, columns_at};
+use cif_columns::{Line, Sink, WriteDevice};
 use itoa::Buffer;
 use std::marker::Model;
 
-/// The bytes of the longest row: the fields of a schedule, with their tabs and the line feed.
-const ROOM: usize = 256;
-
-/// Columns of a line, from one to another, which are counted from 1, and how a table shows them.
-pub(crate) type Place = (Shape, usize, usize);
+/// The bytes of the longest row: two whole lines behind all else that the row of a difference has.
+const ROOM: usize = 320;
 
 /// The fields of a row so far, a tab before each. A clause sees their text.
 #[derive(Drop)]
@@ -34,7 +34,7 @@ impl Model for TableRow {
 
     ghost view = { λ r. take r.len r.bytes };
 
-    ghost invariant = { λ r. r.len ≤ 256 };
+    ghost invariant = { λ r. r.len ≤ 320 };
 }
 
 impl TableRow {
@@ -77,47 +77,96 @@ impl TableRow {
         }
     }
 
-    /// Appends a tab, and nothing behind it.
-    #[inline(always)]
-    pub(crate) fn push_nothing(&mut self)
-        requires room { length self.old + 1 ≤ ROOM }
-        ensures text { self.new ≡ self.old ++ (9 ∷ []) }
-        ensures len { length self.new ≤ length self.old + 1 }
+    /// Appends so many tabs, and nothing behind each.
+    pub(crate) fn push_nothing(&mut self, count: usize)
+        requires { length self.old + count ≤ ROOM }
+        ensures text { self.new ≡ self.old ++ after Tsv (replicate count nothing) }
+        ensures len { length self.new ≡ length self.old + count }
     {
-        self.push(Shape::Whole, b"");
+        for _ in 0..count {
+            self.push(Shape::Whole, b"");
+        }
     }
 
-    /// Appends a tab and the `N` columns of the line from `first` on, counted from 1, up to the last
-    /// that is no space.
-    #[inline(always)]
-    pub(crate) fn push_text<const N: usize>(&mut self, line: &Line, first: usize)
-        requires from_one { 1 ≤ first }
-        requires within { first + N ≤ 81 }
-        requires room { length self.old + N + 1 ≤ ROOM }
-        ensures text { self.new ≡ self.old ++ (9 ∷ trimmed (columns_from first N line.now)) }
-        ensures len { length self.new ≤ length self.old + N + 1 }
+    /// Appends a tab and a text, which doesn't end in a space.
+    pub(crate) fn push_text(&mut self, value: &str)
+        requires room { length self.old + length value.now + 1 ≤ ROOM }
+        ensures text { self.new ≡ self.old ++ after Tsv (text value.now ∷ []) }
+        ensures len { length self.new ≤ length self.old + length value.now + 1 }
     {
-        self.push(Shape::Trimmed, &columns_at::<N>(line, first));
+        self.push(Shape::Trimmed, value.as_bytes());
     }
 
     /// Appends a tab and a number.
-    pub(crate) fn push_number(&mut self, number: usize)
+    pub(crate) fn push_number(&mut self, count: usize)
         requires room { length self.old + 41 ≤ ROOM }
-        ensures text { self.new ≡ self.old ++ (9 ∷ in_table Whole (decimal number)) }
+        ensures text { self.new ≡ self.old ++ after Tsv (number count ∷ []) }
         ensures len { length self.new ≤ length self.old + 41 }
     {
-        self.push(Shape::Whole, Buffer::new().format(number).as_bytes());
+        self.push(Shape::Whole, Buffer::new().format(count).as_bytes());
     }
 
-    /// Appends what stands at these places of the line, a tab before each field.
-    pub(crate) fn push_each(&mut self, places: &[Place], line: &Line)
-        requires within { IsTrue (are_within places.now) }
-        requires room { length self.old + room_for places.now ≤ ROOM }
-        ensures text { self.new ≡ self.old ++ after Tsv (fields_at places.now line.now) }
-        ensures len { length self.new ≤ length self.old + room_for places.now }
+    /// Appends the names of the fields, a tab before each.
+    pub(crate) fn push_names(&mut self, columns: &[Column])
+        requires room { length self.old + room_for_names (named columns.now) ≤ ROOM }
+        ensures text { self.new ≡ self.old ++ after Tsv (name_fields (named columns.now)) }
+        ensures len { length self.new ≤ length self.old + room_for_names (named columns.now) }
     {
-        for place in places {
-            self.push(place.0, columns_of(line, place));
+        for column in columns {
+            self.push_text(column.0);
+        }
+    }
+
+    /// Appends the fields of a line of this kind, a tab before each.
+    #[inline(always)]
+    pub(crate) fn push_each(&mut self, columns: &[Column], kind: JourneyKind, line: &Line)
+        requires within { IsTrue (are_within (named columns.now)) }
+        requires room { length self.old + room_for (named columns.now) ≤ ROOM }
+        ensures text { self.new ≡ self.old ++ after Tsv (fields_in kind (named columns.now) line.now) }
+        ensures len { length self.new ≤ length self.old + room_for (named columns.now) }
+    {
+        for column in columns {
+            self.push_field(&column.1, kind, line);
+        }
+    }
+
+    /// Appends a tab and the field that has this place in a line of this kind.
+    #[inline(always)]
+    fn push_field(&mut self, place: &Place, kind: JourneyKind, line: &Line)
+        requires within { IsTrue (is_within place.now) }
+        requires room { length self.old + room_of place.now ≤ ROOM }
+        ensures text { self.new ≡ self.old ++ after Tsv (field_in kind line.now place.now ∷ []) }
+        ensures len { length self.new ≤ length self.old + room_of place.now }
+    {
+        let columns = columns_of(line, span_in(kind, place));
+        match place {
+            Place::Text(_, _) => self.push(Shape::Trimmed, columns),
+            Place::Call(_, _, _) => self.push(Shape::Trimmed, columns),
+            Place::Whole(_, _) => self.push_shaped(Shape::Whole, columns),
+            Place::Date(_, _) => self.push_shaped(Shape::Date, columns),
+            Place::DayFirst(_, _) => self.push_shaped(Shape::Date, &year_first(columns)),
+        }
+    }
+
+    /// Appends a tab and a field, as `push` does.
+    // Not inlined, so that a loop over few columns is short enough to be unrolled.
+    #[inline(never)]
+    fn push_shaped(&mut self, shape: Shape, columns: &[u8])
+        requires room { length self.old + width_of shape columns.now + 1 ≤ ROOM }
+        requires field { IsOfShape shape columns.now }
+        ensures text { self.new ≡ self.old ++ (9 ∷ in_table shape columns.now) }
+        ensures len { length self.new ≤ length self.old + width_of shape columns.now + 1 }
+    {
+        self.push(shape, columns);
+    }
+
+    /// The same row.
+    pub(crate) fn copy(&self) -> TableRow
+        ensures { result ≡ self.now }
+    {
+        TableRow {
+            bytes: self.bytes,
+            len: self.len,
         }
     }
 
@@ -146,15 +195,36 @@ impl TableRow {
         self.bytes[self.len] = b'\n';
         let _ = sink.write_all(&self.bytes[1..self.len + 1]);
     }
+
+    /// The same, and then keeps the first `begun` bytes of the row alone.
+    pub(crate) fn write_and_keep<W: WriteDevice>(&mut self, begun: usize, sink: &mut Sink<W>)
+        requires some { 0 < length self.old }
+        requires room { length self.old + 1 ≤ ROOM }
+        requires begun { begun ≤ length self.old }
+        ensures text { IsAppended W.contents W.write_errors (drop 1 self.old ++ codes "\n") sink.old sink.new }
+        ensures begun { self.new ≡ take begun self.old }
+    {
+        self.write(sink);
+        self.truncate(begun);
+    }
 }
 
-/// The columns at the place.
+/// These columns of the line.
 #[inline(always)]
-fn columns_of<'a>(line: &'a Line, place: &Place) -> &'a [u8]
-    requires { IsTrue (is_within place.now) }
-    ensures columns { result.now ≡ columns place.now.1 place.now.2 line.now }
-    ensures field { IsOfShape place.now.0 result.now }
-    ensures room { width_of place.now.0 result.now + 1 ≤ room_of place.now.0 place.now.1 place.now.2 }
+pub(crate) fn columns_of(line: &Line, span: Span) -> &[u8]
+    requires { IsTrue (is_span span) }
+    ensures columns { result.now ≡ columns span.0 span.1 line.now }
+    ensures len { length result.now ≡ span.1 + 1 - span.0 }
 {
-    &line.bytes()[place.1 - 1..place.2]
+    &line.bytes()[span.0 - 1..span.1]
+}
+
+/// The digits YYMMDD of a date DDMMYY.
+fn year_first(ddmmyy: &[u8]) -> [u8; 6]
+    requires { length ddmmyy.now ≡ 6 }
+    ensures { result ≡ yymmdd_from ddmmyy.now }
+{
+    [
+        ddmmyy[4], ddmmyy[5], ddmmyy[2], ddmmyy[3], ddmmyy[0], ddmmyy[1],
+    ]
 }

@@ -3,18 +3,12 @@ use Rattle.std.specs.Prelude.{◌≡◌, ℕ, ◌<◌, List, ◌∷◌, Option, 
 use Rattle.std.specs.declared.cmp.Ordering.{Ordering}
 use Rattle.cif_calendar.specs.Terms.{Terms}
 use Rattle.cif_columns.specs.declared.sink.Sink.{Sink}
-use Rattle.cif_records.specs.declared.tiploc.Tiploc.{Tiploc}
 use Rattle.cif_weeks.specs.Permanent.{Permanent}
 use Rattle.cif_weeks.specs.declared.run.Run.{Run}
 use Rattle.cif_canon.specs.Appended.{IsAppended}
-use Rattle.cif_canon.specs.Lines.{line_of_tiploc}
 use Rattle.cif_canon.specs.Pairs.{Listed, by_pairs}
 use Rattle.cif_canon.specs.Steps.Sides.{sided_records}
 use Rattle.cif_canon.specs.declared.listed_differences.Sided.{Sided}
-
--- the text of a location, by its line
-abbrev pub listed_tiploc : (Sided (List ℕ) → List ℕ) → Sided Tiploc → List ℕ
-listed_tiploc text t = text (record { side = t.side; it = line_of_tiploc t.it })
 
 -- the runs that are left behind a record with or without a partner
 abbrev pub left_behind : {A : Type 0} → Option A → List (Sided Run) → List (Sided Run)

@@ -23,7 +23,7 @@ abbrev pub sided_records : {K B : Type 0} → List (K × Terms B) → List (K ×
 sided_records xs ys [] = []
 sided_records xs ys (s ∷ rest) = with_record s.side (record_at (at_side xs ys s.side) s.it) (sided_records xs ys rest)
 
--- the text of a run, by its side
-abbrev pub sided_run_text : {K B : Type 0} → (K × Permanent B → List ℕ) → List (K × Terms B) → (K × Permanent B → List ℕ)
-    → List (K × Terms B) → Sided Run → List ℕ
-sided_run_text left_text xs right_text ys s = run_text (at_side left_text right_text s.side) (at_side xs ys s.side) s.it
+-- the text of a run: that of its record, with its side
+abbrev pub sided_run_text : {K B : Type 0} → (Sided (K × Permanent B) → List ℕ) → List (K × Terms B) → List (K × Terms B)
+    → Sided Run → List ℕ
+sided_run_text text xs ys s = run_text (λ e. text (record { side = s.side; it = e })) (at_side xs ys s.side) s.it

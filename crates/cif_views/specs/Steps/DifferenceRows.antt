@@ -1,61 +1,44 @@
 -- The rows of differences as the code makes them. No public clause cites them.
-use Rattle.std.specs.Prelude.{ℕ, ◌+◌, ◌&&◌, Bool, true, List, [], ◌∷◌, ◌++◌, codes, cond, length, map, nat_eq, nat_le}
-use Rattle.std.specs.Prelude.{replicate, if◌then◌else◌}
-use Rattle.std.specs.Borrow.{Bor}
+use Rattle.std.specs.Prelude.{ℕ, ◌+◌, ◌&&◌, Bool, true, false, List, [], ◌∷◌, ◌++◌, codes, cond, drop, length, map, nat_eq, nat_le}
+use Rattle.std.specs.Prelude.{replicate, take, if◌then◌else◌}
+use Rattle.std.specs.List.{flat_map}
 use Rattle.std.specs.Cmp.Lexicographic.{pointwise}
 use Rattle.cif_columns.specs.Field.{columns}
-use Rattle.cif_canon.specs.Fields.{Field, nothing, shown}
+use Rattle.cif_canon.specs.Fields.{Field, after, nothing, shown}
 use Rattle.cif_canon.specs.declared.rows.Format.TheVariants.{Tsv}
-use Rattle.cif_views.specs.DifferenceTable.{association_head, changed, differing_row, differing_rows, in_journey, in_record}
-use Rattle.cif_views.specs.DifferenceTable.{own_fields, schedule_head, tiploc_head}
-use Rattle.cif_views.specs.Tables.{TableFields, is_call, is_change, kind_of_line, number, text_at}
-use Rattle.cif_views.specs.declared.difference_table.FieldPlace.{FieldPlace}
-use Rattle.cif_views.specs.declared.difference_table.FieldPlace.TheVariants as place
-use Rattle.cif_views.specs.declared.difference_table.RowKind.{RowKind}
-use Rattle.cif_views.specs.declared.difference_table.RowKind.TheVariants.{Association, Schedule, Tiploc}
-use Rattle.cif_views.specs.declared.difference_table.TheConstants.{CHANGE, ORIGIN, STOP, TERMINUS}
+use Rattle.cif_views.specs.DifferenceTable.{text}
+use Rattle.cif_views.specs.Steps.Columns.{Column, call_columns, change_columns, field_in, fields_in, is_within, row_behind}
+use Rattle.cif_views.specs.Tables.{is_call, is_change, kind_of_line, number}
+use Rattle.cif_views.specs.declared.columns.Place.{Place}
+use Rattle.cif_views.specs.declared.columns.Place.TheVariants.{Call, Date, DayFirst, Text, Whole}
 use Rattle.cif_views.specs.declared.tables.JourneyKind.{JourneyKind}
-use Rattle.cif_views.specs.declared.tables.JourneyKind.TheVariants.{Change, Origin, Other, Stop, Terminus}
+use Rattle.cif_views.specs.declared.tables.JourneyKind.TheVariants.{Other}
 
--- what a row begins with
-abbrev pub head_fields : RowKind → Field → List ℕ → List Field
-head_fields Tiploc change line = tiploc_head change line
-head_fields Association change line = association_head change line
-head_fields Schedule change line = schedule_head change line
+-- fields that are shown as text, and whose names are short
+abbrev pub is_text_place : Place → Bool
+is_text_place (Text _ _) = true
+is_text_place (Call _ _ _) = true
+is_text_place (Whole _ _) = false
+is_text_place (Date _ _) = false
+is_text_place (DayFirst _ _) = false
 
--- what the rows of a pair begin with, by where the field stands
-abbrev pub start_of : FieldPlace → List Field
-start_of (place.Association line) = in_record (association_head changed line.now) (codes "AA")
-start_of (place.Basic basic) = in_record (schedule_head changed basic.now) (codes "BS")
-start_of (place.Extra basic) = in_record (schedule_head changed basic.now) (codes "BX")
-start_of (place.Journey basic call line) = in_journey (schedule_head changed basic.now) call line.now
+abbrev pub is_text : Column → Bool
+is_text c = nat_le (length c.0) 20 && (is_text_place c.1 && is_within c.1)
 
--- fields by their names and columns; they are within a line
-abbrev pub named_fields : List (Bor (List ℕ) × ℕ × ℕ) → TableFields (List ℕ)
-named_fields fields = map (λ f. (f.0.now, text_at f.1 f.2)) fields
+abbrev pub are_texts : List Column → Bool
+are_texts [] = true
+are_texts (c ∷ columns) = is_text c && are_texts columns
 
-abbrev pub is_named : Bor (List ℕ) × ℕ × ℕ → Bool
-is_named f = nat_le (length f.0.now) 20 && (nat_le 1 f.1 && (nat_le f.1 f.2 && (nat_le f.2 80 && nat_le f.2 (f.1 + 11))))
+-- the row of a field behind what it begins with, if its cells differ
+unfoldable pub field_row : List ℕ → JourneyKind → List ℕ → List ℕ → Column → List ℕ
+field_row begun kind left right c =
+    let one = field_in kind left c.1 in
+    let other = field_in kind right c.1 in
+    if pointwise nat_eq (shown Tsv one) (shown Tsv other) then [] else row_behind begun (text c.0 ∷ one ∷ other ∷ [])
 
-abbrev pub are_named : List (Bor (List ℕ) × ℕ × ℕ) → Bool
-are_named [] = true
-are_named (f ∷ fields) = is_named f && are_named fields
-
--- those that a line of a journey has behind its suffix
-abbrev pub over : {A B : Type 0} → List A → (A → B) → List B
-over items f = map f items
-
-abbrev pub fields_of_kind : JourneyKind → TableFields (List ℕ)
-fields_of_kind Origin = over ORIGIN (λ f. (f.0.now, text_at f.1 f.2))
-fields_of_kind Stop = over STOP (λ f. (f.0.now, text_at f.1 f.2))
-fields_of_kind Terminus = over TERMINUS (λ f. (f.0.now, text_at f.1 f.2))
-fields_of_kind Change = over CHANGE (λ f. (f.0.now, text_at f.1 f.2))
-fields_of_kind Other = []
-
--- the row of one field, if its cells differ
-unfoldable pub field_row : List Field → List ℕ → Field → Field → List ℕ
-field_row start name left right =
-    if pointwise nat_eq (shown Tsv left) (shown Tsv right) then [] else differing_row start name left right
+-- the fields that a line of a journey has behind its suffix
+abbrev pub own_columns : JourneyKind → List Column
+own_columns kind = cond (is_change kind) (drop 2 change_columns) (drop 3 call_columns)
 
 -- the lines of two journeys have the same places
 abbrev pub same_places : List (List ℕ) → List (List ℕ) → Bool
@@ -65,20 +48,24 @@ abbrev pub count_of_calls : List (List ℕ) → ℕ
 count_of_calls [] = 0
 count_of_calls (line ∷ lines) = cond (is_call (kind_of_line line)) (count_of_calls lines + 1) (count_of_calls lines)
 
--- the rows of one place of both journeys
-abbrev pub rows_of_place : List Field → ℕ → List ℕ → List ℕ → List ℕ
-rows_of_place head call line other =
-    differing_rows (in_journey head call line) (own_fields (is_change (kind_of_line line))) line other
+-- the rows of one place of both journeys, behind what they begin with
+abbrev pub place_behind : List ℕ → ℕ → JourneyKind → List ℕ → List ℕ → List ℕ
+place_behind begun call kind line other =
+    flat_map (field_row (begun ++ after Tsv (number call ∷ fields_in Other (take 2 call_columns) line)) kind line other) (own_columns kind)
 
 -- the rows of lines with the same places; the first call that comes has this number
-abbrev pub lines_rows : List Field → ℕ → List (List ℕ) → List (List ℕ) → List ℕ
-lines_rows head call [] rights = []
-lines_rows head call (line ∷ lefts) [] = []
-lines_rows head call (line ∷ lefts) (other ∷ rights) =
-    rows_of_place head call line other
-    ++ lines_rows head (cond (is_call (kind_of_line line)) (call + 1) call) lefts rights
+abbrev pub places_behind : List ℕ → ℕ → List (List ℕ) → List (List ℕ) → List ℕ
+places_behind begun call [] rights = []
+places_behind begun call (line ∷ lefts) [] = []
+places_behind begun call (line ∷ lefts) (other ∷ rights) =
+    place_behind begun call (kind_of_line line) line other
+    ++ places_behind begun (cond (is_call (kind_of_line line)) (call + 1) call) lefts rights
 
-abbrev pub journeys_of : List Field → List (List ℕ) → List (List ℕ) → List ℕ
-journeys_of head lefts rights =
-    cond (same_places lefts rights) (lines_rows head 1 lefts rights)
-    (differing_row (head ++ replicate 3 nothing) (codes "journey") (number (count_of_calls lefts)) (number (count_of_calls rights)))
+-- and those of two journeys
+abbrev pub call_counts : ℕ → ℕ → List Field
+call_counts one other = replicate 3 nothing ++ (text (codes "journey") ∷ number one ∷ number other ∷ [])
+
+abbrev pub journeys_behind : List ℕ → List (List ℕ) → List (List ℕ) → List ℕ
+journeys_behind begun lefts rights =
+    cond (same_places lefts rights) (places_behind begun 1 lefts rights)
+    (row_behind begun (call_counts (count_of_calls lefts) (count_of_calls rights)))

@@ -1,7 +1,7 @@
 -- The text is a fold over runs: one more goes behind it (`one-more`); each run has a record.
-use Rattle.std.proofs.Common.{◌<◌, length, sym, subst}
-use Rattle.cif_canon.proofs.Words.{HasRecord, Run, keyed, run_text}
-use Rattle.cif_canon.proofs.AppendedTexts.{all-items, nothing, one-more}
+use Rattle.std.proofs.Common.{◌<◌, ap, length, sym, subst}
+use Rattle.cif_canon.proofs.Words.{HasRecord, Run, keyed, run_text, text_if}
+use Rattle.cif_canon.proofs.AppendedTexts.{all-items, nothing, one-more, text-is}
 use Rattle.cif_canon.proofs.canonical_form.write_runs.Goals as goal
 
 pub loop-run-init : goal.loop-run-init
@@ -9,21 +9,22 @@ loop-run-init g c = nothing _ _ _
 
 pub loop-run-preserved : goal.loop-run-preserved
 loop-run-preserved g c =
-    one-more _ _ (run_text (g.L.RecordLines.text c.args.lines.now) (keyed g.E.Entry.key g.E.Entry.terms c.args.entries.now))
+    let text = g.L.Texts.text c.args.texts.now in
+    one-more _ _ (run_text text (keyed g.E.Entry.key g.E.Entry.terms c.args.entries.now))
     c.args.runs.now c.loop-run.run-index _ _ c.loop-run.invariant c.run-item.result _ c.loop-run-test.true c.run-item.is
-    c.write_run.ensures
+    (text-is _ _ _ _ _ _ (ap (text_if text) (sym c.record_of.ensures)) c.write.ensures)
 
-pub write_run-requires-clause-within : goal.write_run-requires-clause-within
-write_run-requires-clause-within g c =
+pub record_of-requires-clause-within : goal.record_of-requires-clause-within
+record_of-requires-clause-within g c =
     subst (λ (run : Run). run.source < length c.args.entries.now) (sym c.run-item.is)
     (c.requires.within c.loop-run.run-index c.run-item.result c.loop-run-test.true)
 
-pub write_run-requires-clause-record : goal.write_run-requires-clause-record
-write_run-requires-clause-record g c =
+pub record_of-requires-clause-record : goal.record_of-requires-clause-record
+record_of-requires-clause-record g c =
     subst (HasRecord (keyed g.E.Entry.key g.E.Entry.terms c.args.entries.now)) (sym c.run-item.is)
     (c.requires.records c.loop-run.run-index c.run-item.result c.loop-run-test.true)
 
 pub returns : goal.returns
 returns g c =
-    all-items _ _ (run_text (g.L.RecordLines.text c.args.lines.now) (keyed g.E.Entry.key g.E.Entry.terms c.args.entries.now))
+    all-items _ _ (run_text (g.L.Texts.text c.args.texts.now) (keyed g.E.Entry.key g.E.Entry.terms c.args.entries.now))
     c.args.runs.now c.loop-run.run-index _ _ c.loop-run.invariant c.loop-run-test.false

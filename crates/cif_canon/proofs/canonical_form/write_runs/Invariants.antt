@@ -6,5 +6,5 @@ use Rattle.cif_canon.proofs.canonical_form.write_runs.Given as goal
 abbrev pub invariant-loop-run : goal.invariant-loop-run
 invariant-loop-run g l =
     IsAppended g.W.Write.contents g.W.WriteDevice.write_errors
-    (flat_map (run_text (g.L.RecordLines.text l.lines) (keyed g.E.Entry.key g.E.Entry.terms l.entries)) (take l.run-index l.runs))
+    (flat_map (run_text (g.L.Texts.text l.texts) (keyed g.E.Entry.key g.E.Entry.terms l.entries)) (take l.run-index l.runs))
     l.initial.sink l.sink

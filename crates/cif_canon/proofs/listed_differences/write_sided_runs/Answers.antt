@@ -1,7 +1,7 @@
 -- The text is a fold over runs: one more goes behind it (`one-more`); each run has a record on its side.
-use Rattle.std.proofs.Common.{◌<◌, length, sym, subst}
-use Rattle.cif_canon.proofs.Words.{HasSidedRecord, Run, Sided, at_side, keyed, sided_run_text}
-use Rattle.cif_canon.proofs.AppendedTexts.{all-items, nothing, one-more}
+use Rattle.std.proofs.Common.{◌<◌, ap, length, sym, subst}
+use Rattle.cif_canon.proofs.Words.{HasSidedRecord, Run, Sided, at_side, keyed, sided_run_text, text_if}
+use Rattle.cif_canon.proofs.AppendedTexts.{all-items, nothing, one-more, text-is}
 use Rattle.cif_canon.proofs.listed_differences.write_sided_runs.Goals as goal
 
 pub loop-run-init : goal.loop-run-init
@@ -9,24 +9,26 @@ loop-run-init g c = nothing _ _ _
 
 pub loop-run-preserved : goal.loop-run-preserved
 loop-run-preserved g c =
-    one-more _ _ (sided_run_text (g.L.RecordLines.text c.args.left_lines.now) (keyed g.E.Entry.key g.E.Entry.terms c.args.left.now)
-    (g.L.RecordLines.text c.args.right_lines.now) (keyed g.E.Entry.key g.E.Entry.terms c.args.right.now))
+    let text = g.L.Texts.text c.args.texts.now in
+    one-more _ _ (sided_run_text text (keyed g.E.Entry.key g.E.Entry.terms c.args.left.now)
+    (keyed g.E.Entry.key g.E.Entry.terms c.args.right.now))
     c.args.runs.now c.loop-run.run-index _ _ c.loop-run.invariant c.run-item.result _ c.loop-run-test.true c.run-item.is
-    c.write_sided_run.ensures
+    (text-is _ _ _ _ _ _ (ap (text_if (λ e. text (record { side = c.run-item.result.side; it = e }))) (sym c.sided_record-record.ensures))
+    c.write.ensures)
 
-pub write_sided_run-requires-clause-within : goal.write_sided_run-requires-clause-within
-write_sided_run-requires-clause-within g c =
+pub sided_record-record-requires-clause-within : goal.sided_record-record-requires-clause-within
+sided_record-record-requires-clause-within g c =
     subst (λ (run : Sided Run). run.it.source < length (at_side c.args.left.now c.args.right.now run.side)) (sym c.run-item.is)
     (c.requires.within c.loop-run.run-index c.run-item.result c.loop-run-test.true)
 
-pub write_sided_run-requires-clause-record : goal.write_sided_run-requires-clause-record
-write_sided_run-requires-clause-record g c =
+pub sided_record-record-requires-clause-record : goal.sided_record-record-requires-clause-record
+sided_record-record-requires-clause-record g c =
     subst (HasSidedRecord (keyed g.E.Entry.key g.E.Entry.terms c.args.left.now) (keyed g.E.Entry.key g.E.Entry.terms c.args.right.now))
     (sym c.run-item.is)
     (c.requires.records c.loop-run.run-index c.run-item.result c.loop-run-test.true)
 
 pub returns : goal.returns
 returns g c =
-    all-items _ _ (sided_run_text (g.L.RecordLines.text c.args.left_lines.now) (keyed g.E.Entry.key g.E.Entry.terms c.args.left.now)
-    (g.L.RecordLines.text c.args.right_lines.now) (keyed g.E.Entry.key g.E.Entry.terms c.args.right.now))
+    all-items _ _ (sided_run_text (g.L.Texts.text c.args.texts.now) (keyed g.E.Entry.key g.E.Entry.terms c.args.left.now)
+    (keyed g.E.Entry.key g.E.Entry.terms c.args.right.now))
     c.args.runs.now c.loop-run.run-index _ _ c.loop-run.invariant c.loop-run-test.false

@@ -1,7 +1,7 @@
 -- The next run's record is the first of the later ones, and is listed with this one if they are a pair (`listed-pair`, `listed-one`).
 use Rattle.std.proofs.Common.{arith, subst, sym}
 use Rattle.std.proofs.lemmas.Bool.Decides.{nat_tests}
-use Rattle.cif_canon.proofs.Words.{HasSidedRecord, keyed, record_of}
+use Rattle.cif_canon.proofs.Words.{HasSidedRecord, keyed}
 use Rattle.cif_canon.proofs.PairedRecords.{keys-decided, listed-one, listed-pair}
 use Rattle.cif_canon.proofs.pairs.partner.Goals as goal
 
@@ -16,24 +16,20 @@ pub returns-then-are_pair-clause-listed : goal.returns-then-are_pair-clause-list
 returns-then-are_pair-clause-listed g c =
     let test = c.if-is_empty.false in
     let told = c.is_empty.ensures in
-    let one = c.args.one.now in
-    let other = c.sided_record-other.result in
     listed-pair (keyed g.E.Entry.key g.E.Entry.terms c.args.left.now) (keyed g.E.Entry.key g.E.Entry.terms c.args.right.now)
-    c.args.later.now c.index-later-0.result (other.key.now, record_of other.run.now other.body.now)
-    (grind (arith, nat_tests, test, told)) c.index-later-0.is c.sided_record-other.ensures.record g.E.Key.Ord.cmp
+    c.args.later.now c.index-later-0.result c.sided_record-other.result
+    (grind (arith, nat_tests, test, told)) c.index-later-0.is c.sided_record-other.ensures g.E.Key.Ord.cmp
     (keys-decided g.E.Key.PartialEq.eq g.E.Key.Ord.cmp g.met.E.Key.Ord.matches_eq g.met.E.Entry.same_key)
-    (record { side = c.args.side; it = (one.key.now, record_of one.run.now one.body.now) }) c.are_pair.result c.are_pair.ensures
+    (record { side = c.args.side; it = c.args.one.now }) c.are_pair.result c.are_pair.ensures
     c.if-are_pair.true
 
 pub returns-else-are_pair-clause-listed : goal.returns-else-are_pair-clause-listed
 returns-else-are_pair-clause-listed g c =
     let test = c.if-is_empty.false in
     let told = c.is_empty.ensures in
-    let one = c.args.one.now in
-    let other = c.sided_record-other.result in
     listed-one (keyed g.E.Entry.key g.E.Entry.terms c.args.left.now) (keyed g.E.Entry.key g.E.Entry.terms c.args.right.now)
-    c.args.later.now c.index-later-0.result (other.key.now, record_of other.run.now other.body.now)
-    (grind (arith, nat_tests, test, told)) c.index-later-0.is c.sided_record-other.ensures.record g.E.Key.Ord.cmp
+    c.args.later.now c.index-later-0.result c.sided_record-other.result
+    (grind (arith, nat_tests, test, told)) c.index-later-0.is c.sided_record-other.ensures g.E.Key.Ord.cmp
     (keys-decided g.E.Key.PartialEq.eq g.E.Key.Ord.cmp g.met.E.Key.Ord.matches_eq g.met.E.Entry.same_key)
-    (record { side = c.args.side; it = (one.key.now, record_of one.run.now one.body.now) }) c.are_pair.result c.are_pair.ensures
+    (record { side = c.args.side; it = c.args.one.now }) c.are_pair.result c.are_pair.ensures
     c.if-are_pair.false

@@ -1,7 +1,7 @@
 -- The first run's record is listed with its partner or without one (`written-pair`, `written-one`).
 use Rattle.std.proofs.Common.{◌<◌, length, subst, sym}
 use Rattle.std.proofs.lemmas.List.Elements.{All-drop}
-use Rattle.cif_canon.proofs.Words.{All, HasSidedRecord, Run, Sided, at_side, keyed, record_of}
+use Rattle.cif_canon.proofs.Words.{All, HasSidedRecord, Run, Sided, at_side, keyed}
 use Rattle.cif_canon.proofs.PairedRecords.{tail-is, written-one, written-pair}
 use Rattle.cif_canon.proofs.pairs.write_first.Goals as goal
 
@@ -26,18 +26,14 @@ partner-requires-clause-records g c =
 
 pub returns-in-Some : goal.returns-in-Some
 returns-in-Some g c =
-    let one = c.sided_record-one.result in
-    let other = c.in-Some.other in
     written-pair (keyed g.E.Entry.key g.E.Entry.terms c.args.left.now) (keyed g.E.Entry.key g.E.Entry.terms c.args.right.now)
-    c.args.runs.now c.index-runs-0.result (one.key.now, record_of one.run.now one.body.now) c.requires.some c.index-runs-0.is
-    c.sided_record-one.ensures.record g.W.Write.contents g.W.WriteDevice.write_errors (g.L.PairLines.text c.args.lines.now)
-    g.E.Key.Ord.cmp _ _ (other.key.now, record_of other.run.now other.body.now) c.in-Some.ensures.pair.0 c.in-Some.ensures.pair.1
-    c.in-Some.ensures.listed c.write_pair.ensures
+    c.args.runs.now c.index-runs-0.result c.sided_record-one.result c.requires.some c.index-runs-0.is
+    c.sided_record-one.ensures g.W.Write.contents g.W.WriteDevice.write_errors (g.L.Texts.text c.args.texts.now)
+    g.E.Key.Ord.cmp _ _ c.in-Some.other c.in-Some.ensures.some c.in-Some.ensures.listed c.write.ensures
 
 pub returns-in-None : goal.returns-in-None
 returns-in-None g c =
-    let one = c.sided_record-one.result in
     written-one (keyed g.E.Entry.key g.E.Entry.terms c.args.left.now) (keyed g.E.Entry.key g.E.Entry.terms c.args.right.now)
-    c.args.runs.now c.index-runs-0.result (one.key.now, record_of one.run.now one.body.now) c.requires.some c.index-runs-0.is
-    c.sided_record-one.ensures.record g.W.Write.contents g.W.WriteDevice.write_errors (g.L.PairLines.text c.args.lines.now)
-    g.E.Key.Ord.cmp _ _ c.in-None.ensures.listed c.write_one.ensures
+    c.args.runs.now c.index-runs-0.result c.sided_record-one.result c.requires.some c.index-runs-0.is
+    c.sided_record-one.ensures g.W.Write.contents g.W.WriteDevice.write_errors (g.L.Texts.text c.args.texts.now)
+    g.E.Key.Ord.cmp _ _ c.in-None.ensures.listed c.write-in-None.ensures

@@ -14,17 +14,11 @@ loop-rest-init g c = record {
   written = ([], refl, nothing _ _ _);
 }
 
-pub write_first-rest-requires-clause-some : goal.write_first-rest-requires-clause-some
-write_first-rest-requires-clause-some g c =
+pub write_first-rest-requires : goal.write_first-rest-requires
+write_first-rest-requires g c κs =
     let test = c.loop-rest-test.true in
     let told = c.is_empty.ensures in
-    grind (arith, nat_tests, test, told)
-
-pub write_first-rest-requires-clause-within : goal.write_first-rest-requires-clause-within
-write_first-rest-requires-clause-within g c = c.loop-rest.invariant.within
-
-pub write_first-rest-requires-clause-records : goal.write_first-rest-requires-clause-records
-write_first-rest-requires-clause-records g c = c.loop-rest.invariant.records
+    ((refl, tt), (grind (arith, nat_tests, test, told), (c.loop-rest.invariant.within, c.loop-rest.invariant.records)))
 
 pub loop-rest-smaller : goal.loop-rest-smaller
 loop-rest-smaller g c = c.write_first-rest.ensures.fewer
@@ -46,7 +40,7 @@ loop-rest-preserved g c =
         done ++ f.item ∷ [],
         split ∙ ap (λ l. done ++ l) f.first
             ∙ sym (append_assoc done (f.item ∷ []) (by_pairs cmp (sided_records xs ys c.write_first-rest.result.now))),
-        behind _ _ (g.L.PairLines.text c.args.lines.now) done f.item _ _ _ written f.written,
+        behind _ _ (g.L.Texts.text c.args.texts.now) done f.item _ _ _ written f.written,
       );
     }
 
@@ -59,5 +53,5 @@ returns g c =
     let told = c.is_empty.ensures in
     let none : c.loop-rest.rest.now ≡ [] = nil_from_length c.loop-rest.rest.now (grind (arith, nat_tests, test, told)) in
     text-is _ _ _ _ _ _
-    (ap (flat_map (g.L.PairLines.text c.args.lines.now))
+    (ap (flat_map (g.L.Texts.text c.args.texts.now))
     (sym (split ∙ ap (λ l. done ++ by_pairs g.E.Key.Ord.cmp (sided_records xs ys l)) none ∙ append-nil done))) written

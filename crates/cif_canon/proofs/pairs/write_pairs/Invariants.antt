@@ -12,7 +12,7 @@ invariant-loop-rest g l =
       records : All (HasSidedRecord xs ys) l.rest;
       written : (done : List (Listed (g.row.E-Key.Denot × Permanent g.row.E-Body.Denot)))
           × (by_pairs g.E.Key.Ord.cmp (sided_records xs ys l.runs) ≡ done ++ by_pairs g.E.Key.Ord.cmp (sided_records xs ys l.rest))
-          × IsAppended g.W.Write.contents g.W.WriteDevice.write_errors (flat_map (g.L.PairLines.text l.lines) done) l.initial.sink l.sink;
+          × IsAppended g.W.Write.contents g.W.WriteDevice.write_errors (flat_map (g.L.Texts.text l.texts) done) l.initial.sink l.sink;
     }
 
 abbrev pub decreases-loop-rest : goal.decreases-loop-rest

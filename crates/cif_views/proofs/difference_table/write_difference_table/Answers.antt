@@ -1,17 +1,27 @@
--- The line of the names goes first, and then what is listed.
-use Rattle.std.proofs.Common.{◌++◌}
-use Rattle.cif_canon.specs.Pairs.{association_lines, schedule_lines, tiploc_lines}
-use Rattle.cif_canon.proofs.AppendedTexts.{answered, both}
-use Rattle.cif_views.proofs.Words.{association_differences, difference_names, difference_table, flat_map, names_line}
-use Rattle.cif_views.proofs.Words.{schedule_differences, tiploc_row}
+-- The line of the names goes first, and then what is listed: by lines, which are those of the records.
+use Rattle.std.proofs.Common.{◌++◌, sym}
+use Rattle.std.proofs.lemmas.List.Folds.{flat_map-map}
+use Rattle.cif_canon.specs.Pairs.{association_lines, by_pairs, listed_as, schedule_lines, tiploc_lines}
+use Rattle.cif_canon.proofs.AppendedTexts.{answered, both, text-is}
+use Rattle.cif_views.proofs.Words.{association_differences, association_plain, difference_names, difference_table, flat_map, key_cmp}
+use Rattle.cif_views.proofs.Words.{line_of_tiploc, names_line, nat_cmp, schedule_differences, schedule_plain, slice_cmp, tiploc_row}
 use Rattle.cif_views.proofs.difference_table.write_difference_table.Goals as goal
 
 pub returns-clause-writes : goal.returns-clause-writes
 unfolding difference_table
 returns-clause-writes g c =
     let d = c.args.found.now in
+    let one = flat_map tiploc_row (tiploc_lines d) in
+    let two = flat_map association_differences (association_lines d) in
+    let three = flat_map schedule_differences (schedule_lines d) in
     answered _ _ _ _ _ c.answer.result c.answer.ensures.ok c.answer.ensures.failed
-    (both _ _ (names_line difference_names)
-    (flat_map tiploc_row (tiploc_lines d)
-    ++ (flat_map association_differences (association_lines d) ++ flat_map schedule_differences (schedule_lines d)))
-    _ _ _ c.append.ensures c.list_differences.ensures)
+    (both _ _ (names_line difference_names) (one ++ (two ++ three)) _ _ _ c.append.ensures
+    (both _ _ one (two ++ three) _ _ _
+    (text-is _ _ _ _ _ _ (sym (flat_map-map tiploc_row (λ s. record { side = s.side; it = line_of_tiploc s.it }) d.tiplocs))
+    c.list_tiplocs.ensures)
+    (both _ _ two three _ _ _
+    (text-is _ _ _ _ _ _
+    (sym (flat_map-map association_differences (listed_as association_plain) (by_pairs key_cmp d.associations))) c.list_associations.ensures)
+    (text-is _ _ _ _ _ _
+    (sym (flat_map-map schedule_differences (listed_as schedule_plain) (by_pairs (slice_cmp nat_cmp) d.schedules)))
+    c.list_schedules.ensures))))

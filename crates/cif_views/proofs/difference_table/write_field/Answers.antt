@@ -1,29 +1,41 @@
--- The cells are as one (`same-cells`), or the fields are pushed one behind another and are the row (`pushed-line`, `other-cells`).
-use Rattle.std.proofs.Common.{◌∙◌}
+-- The cells are as one (`same-cells`), or else they go behind the row and are one (`other-cells`).
+use Rattle.std.proofs.Common.{◌∙◌, ◌∷◌, [], IsTrue, ap, arith, length, subst, sym, ℕ}
 use Rattle.cif_canon.proofs.AppendedTexts.{nothing, text-is}
-use Rattle.cif_views.proofs.Words.{Trimmed, columns, start_of}
-use Rattle.cif_views.proofs.DifferingFields.{other-cells, pushed-line, same-cells, shown-pushed, tested}
-use Rattle.cif_views.proofs.TableRows.{none-pushed, one-pushed}
+use Rattle.cif_views.specs.DifferenceTable.{text}
+use Rattle.cif_views.specs.Steps.Columns.{column, is_span}
+use Rattle.cif_views.proofs.Words.{Whole}
+use Rattle.cif_views.proofs.DifferingFields.{other-cells, same-cells, short-name, text-span}
+use Rattle.cif_views.proofs.TableRows.{as-field, copied, more-pushed, row-is}
 use Rattle.cif_views.proofs.difference_table.write_field.Goals as goal
 
-pub returns-then-eq-clause-text : goal.returns-then-eq-clause-text
-returns-then-eq-clause-text g c =
-    let f = c.args.field.now in
-    let left = columns f.1 f.2 c.args.left.now in
-    let right = columns f.1 f.2 c.args.right.now in
-    text-is _ _ _ _ _ _
-    (same-cells (start_of c.args.place) f.0.now (Trimmed, left) (Trimmed, right)
-    (tested _ _ left right _ _ c.eq.ensures c.if-eq.true c.shown_of-one.ensures.text c.shown_of-other.ensures.text)) (nothing _ _ _)
+pub text_of-one-requires : goal.text_of-one-requires
+text_of-one-requires g c =
+    subst (λ (s : ℕ × ℕ). IsTrue (is_span s)) (sym c.span_in-span.ensures) (text-span (column c.args.field.now) c.requires.field c.args.kind)
 
-pub returns-clause-text : goal.returns-clause-text
-returns-clause-text g c =
-    let f = c.args.field.now in
-    let left = columns f.1 f.2 c.args.left.now in
-    let right = columns f.1 f.2 c.args.right.now in
-    let h1 = one-pushed _ _ _ _ Trimmed _ f.0.now (none-pushed c.push_start.new.row) c.push.ensures.text c.as_bytes.ensures.value in
-    let h2 = shown-pushed _ _ _ _ _ left h1 c.push-2.ensures.text c.shown_of-one.ensures.text in
-    let h3 = shown-pushed _ _ _ _ _ right h2 c.push-3.ensures.text c.shown_of-other.ensures.text in
+pub text_of-other-requires : goal.text_of-other-requires
+text_of-other-requires g c =
+    subst (λ (s : ℕ × ℕ). IsTrue (is_span s)) (sym c.span_in-span.ensures) (text-span (column c.args.field.now) c.requires.field c.args.kind)
+
+pub push_text-requires : goal.push_text-requires
+push_text-requires g c =
+    omega (arith, c.requires.begun, short-name (column c.args.field.now) c.requires.field, ap length c.copy-row.ensures)
+
+pub returns-then-eq : goal.returns-then-eq
+returns-then-eq g c =
     text-is _ _ _ _ _ _
-    (pushed-line c.args.place _ _ _ c.push_start.ensures.text h3
-    ∙ other-cells (start_of c.args.place) f.0.now (Trimmed, left) (Trimmed, right)
-    (tested _ _ left right _ _ c.eq.ensures c.if-eq.false c.shown_of-one.ensures.text c.shown_of-other.ensures.text)) c.write.ensures.text
+    (same-cells (column c.args.field.now) c.requires.field c.args.begun.now c.args.kind c.args.left.now c.args.right.now
+    c.text_of-one.result.now c.text_of-other.result.now c.span_in-span.result c.span_in-span.ensures c.text_of-one.ensures.text
+    c.text_of-other.ensures.text _ c.eq.ensures c.if-eq.true) (nothing _ _ _)
+
+pub returns : goal.returns
+returns g c =
+    let one = c.text_of-one.result.now in
+    let other = c.text_of-other.result.now in
+    let h1 = more-pushed _ _ _ _ (text c.args.field.now.0.now ∷ []) (copied c.args.begun.now _ c.copy-row.ensures) c.push_text.ensures.text in
+    let h2 = more-pushed _ _ _ _ ((Whole, one) ∷ []) h1 (as-field _ _ Whole one c.push.ensures.text) in
+    let h3 = more-pushed _ _ _ _ ((Whole, other) ∷ []) h2 (as-field _ _ Whole other c.push-2.ensures.text) in
+    text-is _ _ _ _ _ _
+    (row-is _ _ _ h3
+    ∙ other-cells (column c.args.field.now) c.requires.field c.args.begun.now c.args.kind c.args.left.now c.args.right.now one other
+    c.span_in-span.result c.span_in-span.ensures c.text_of-one.ensures.text c.text_of-other.ensures.text _ c.eq.ensures c.if-eq.false)
+    c.write.ensures.text

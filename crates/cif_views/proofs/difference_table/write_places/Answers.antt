@@ -1,14 +1,13 @@
 -- One place more is written (`one-place`), until none is left (`no-place`).
 use Rattle.std.proofs.Common.{◌++◌, [], ap, arith, length, refl}
 use Rattle.cif_canon.proofs.AppendedTexts.{both, nothing, text-is}
-use Rattle.cif_views.specs.declared.difference_table.RowKind.TheVariants.{Schedule}
-use Rattle.cif_views.proofs.Words.{changed, head_fields, is_call, lines_rows, rows_of_place}
-use Rattle.cif_views.proofs.DifferingFields.{as-many, first-places, no-place, one-place, rest-places}
+use Rattle.cif_views.proofs.Words.{is_call, place_behind, places_behind}
+use Rattle.cif_views.proofs.DifferingFields.{as-many, no-place, one-place, rest-places}
 use Rattle.cif_views.proofs.TableRows.{first-and-rest, next-call, no-lines, some-lines}
 use Rattle.cif_views.proofs.difference_table.write_places.Goals as goal
 
 pub loop-lefts-init : goal.loop-lefts-init
-loop-lefts-init g c = ([], nothing _ _ _, refl, c.requires, omega arith)
+loop-lefts-init g c = ([], nothing _ _ _, refl, c.requires.places, omega arith)
 
 pub first-other-requires : goal.first-other-requires
 first-other-requires g c =
@@ -16,12 +15,6 @@ first-other-requires g c =
     let some = some-lines c.loop-lefts.lefts _ c.is_empty.ensures c.loop-lefts-test.true in
     let many = as-many c.loop-lefts.lefts c.loop-lefts.rights same in
     omega (arith, some, many)
-
-pub write_place-requires-clause-places : goal.write_place-requires-clause-places
-write_place-requires-clause-places g c =
-    let (text, written, left, same, few) = c.loop-lefts.invariant in
-    let some = some-lines c.loop-lefts.lefts _ c.is_empty.ensures c.loop-lefts-test.true in
-    first-places c.loop-lefts.lefts c.loop-lefts.rights _ _ same some c.first-one.ensures c.first-other.ensures
 
 pub rest-rights-requires : goal.rest-rights-requires
 rest-rights-requires g c =
@@ -46,12 +39,12 @@ loop-lefts-preserved g c =
     let call = c.loop-lefts.call in
     let next = c.call_after-call.result in
     let kind = c.kind_of_line-kind.result in
-    let head = head_fields Schedule changed c.args.head.now in
-    let rows = rows_of_place head call one other in
-    let whole = lines_rows head 1 c.args.left c.args.right in (
+    let begun = c.args.head.now in
+    let rows = place_behind begun call kind one other in
+    let whole = places_behind begun 1 c.args.left c.args.right in (
       text ++ rows,
       both _ _ text rows _ _ _ written c.write_place.ensures,
-      one-place head whole text call next kind lefts rights one other more others is is-other c.kind_of_line-kind.ensures
+      one-place begun whole text call next kind lefts rights one other more others is is-other c.kind_of_line-kind.ensures
           c.call_after-call.ensures left,
       rest-places lefts rights more others same some c.rest-lefts.ensures c.rest-rights.ensures,
       next-call (is_call kind) call next _ lefts more one is c.call_after-call.ensures few,
@@ -69,6 +62,6 @@ returns g c =
     let (text, written, left, same, few) = c.loop-lefts.invariant in
     let lefts = c.loop-lefts.lefts in
     let none = no-lines lefts _ c.is_empty.ensures c.loop-lefts-test.false in
-    let head = head_fields Schedule changed c.args.head.now in
-    let whole = lines_rows head 1 c.args.left c.args.right in
-    text-is _ _ text whole _ _ (no-place head whole text c.loop-lefts.call lefts c.loop-lefts.rights none left) written
+    let begun = c.args.head.now in
+    let whole = places_behind begun 1 c.args.left c.args.right in
+    text-is _ _ text whole _ _ (no-place begun whole text c.loop-lefts.call lefts c.loop-lefts.rights none left) written

@@ -1,16 +1,14 @@
 -- What is written, and the rows of the lines that are left, are all; these have the same places, and the calls aren't more than the lines.
 use Rattle.std.proofs.Common.{◌≤◌, ◌+◌, IsTrue, List, ℕ, length}
-use Rattle.cif_views.specs.declared.difference_table.RowKind.TheVariants.{Schedule}
-use Rattle.cif_views.proofs.Words.{IsAppended, changed, head_fields, lines_rows, same_places}
+use Rattle.cif_views.proofs.Words.{IsAppended, places_behind, same_places}
 use Rattle.cif_views.proofs.DifferingFields.{PlacesAreLeft}
 use Rattle.cif_views.proofs.difference_table.write_places.Given as goal
 
 abbrev pub invariant-loop-lefts : goal.invariant-loop-lefts
 invariant-loop-lefts g l =
-    let head = head_fields Schedule changed l.head in
     (text : List ℕ)
     × IsAppended g.W.Write.contents g.W.WriteDevice.write_errors text l.initial.sink l.sink
-    × PlacesAreLeft head (lines_rows head 1 l.initial.lefts l.initial.rights) text l.call l.lefts l.rights
+    × PlacesAreLeft l.head (places_behind l.head 1 l.initial.lefts l.initial.rights) text l.call l.lefts l.rights
     × IsTrue (same_places l.lefts l.rights)
     × (l.call + length l.lefts ≤ 1 + length l.initial.lefts)
 

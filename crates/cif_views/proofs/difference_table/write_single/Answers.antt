@@ -1,13 +1,11 @@
--- The first fields and the empty ones are the row (`head-row`).
-use Rattle.std.proofs.Common.{List, ℕ, ◌++◌, ◌∙◌, ap, drop}
+-- The empty fields go behind the row (`more-pushed`).
+use Rattle.std.proofs.Common.{replicate}
 use Rattle.cif_canon.proofs.AppendedTexts.{text-is}
-use Rattle.cif_views.proofs.Words.{Trimmed, Tsv, after, codes, nothing, replicate}
-use Rattle.cif_views.proofs.DifferenceRows.{head-row}
+use Rattle.cif_views.proofs.Words.{nothing}
+use Rattle.cif_views.proofs.TableRows.{copied, more-pushed, row-is}
 use Rattle.cif_views.proofs.difference_table.write_single.Goals as goal
 
 pub returns : goal.returns
 returns g c =
-    text-is _ _ _ _ _ _
-    (ap (λ (l : List ℕ). drop 1 l ++ codes "\n")
-    (c.push_nothing.ensures.text ∙ ap (λ (l : List ℕ). l ++ after Tsv (replicate 6 nothing)) c.push_head.ensures.text)
-    ∙ head-row (Trimmed, c.args.change.now) c.args.line.now (replicate 6 nothing) c.args.kind) c.write.ensures.text
+    let h = more-pushed _ _ _ _ (replicate 6 nothing) (copied c.args.head.now _ c.copy-row.ensures) c.push_nothing.ensures.text in
+    text-is _ _ _ _ _ _ (row-is _ _ _ h) c.write.ensures.text

@@ -1,8 +1,9 @@
 -- One line more is written (`one-line`), until none is left (`none-left`).
-use Rattle.std.proofs.Common.{◌+◌, ◌++◌, ◌∙◌, [], ap, arith, cond, decimal, length, refl}
+use Rattle.std.proofs.Common.{◌+◌, ◌++◌, ◌∷◌, ◌∙◌, [], ap, arith, cond, length, refl}
 use Rattle.cif_canon.proofs.AppendedTexts.{both, nothing, text-is}
-use Rattle.cif_views.proofs.Words.{Numbered, Whole, is_call, rows_of}
-use Rattle.cif_views.proofs.TableRows.{begun-row, first-and-rest, next-call, no-lines, none-left, numbered-row, one-line, one-pushed}
+use Rattle.cif_views.specs.Steps.TableRows.{row_of_kind}
+use Rattle.cif_views.proofs.Words.{Numbered, is_call, number, rows_of}
+use Rattle.cif_views.proofs.TableRows.{begun-row, first-and-rest, more-pushed, next-call, no-lines, none-left, numbered-row, one-line}
 use Rattle.cif_views.proofs.TableRows.{some-lines}
 use Rattle.cif_views.proofs.tables.write_journey.Goals as goal
 
@@ -11,7 +12,7 @@ loop-lines-init g c = (
   [],
   nothing _ _ _,
   refl,
-  (one-pushed _ _ _ [] Whole _ (decimal c.args.schedule) (begun-row _ c.new-row.ensures) c.push_number.ensures.text refl).text,
+  (more-pushed _ _ _ _ (number c.args.schedule ∷ []) (begun-row _ c.new-row.ensures) c.push_number.ensures.text).text,
   omega arith,
 )
 
@@ -26,7 +27,9 @@ loop-lines-preserved g c =
     let numbered : Numbered = record { schedule = c.args.schedule; call = c.loop-lines.call; line = line } in (
       text ++ rows numbered,
       both _ _ text _ _ _ _ written
-          (text-is _ _ _ _ _ _ (numbered-row c.args.calls _ numbered begun) c.write_numbered.ensures.text),
+          (text-is _ _ _ _ _ _
+          (ap (λ kind. row_of_kind c.args.calls c.loop-lines.row c.loop-lines.call kind line) c.kind_of_line-kind.ensures
+          ∙ numbered-row c.args.calls _ numbered begun) c.write_numbered.ensures.text),
       one-line rows c.args.schedule _ text c.loop-lines.call _ lines line _ is
           (c.call_after-call.ensures ∙ ap (λ kind. cond (is_call kind) (c.loop-lines.call + 1) c.loop-lines.call)
           c.kind_of_line-kind.ensures) left,

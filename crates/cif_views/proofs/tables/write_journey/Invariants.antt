@@ -9,7 +9,7 @@ abbrev pub invariant-loop-lines : goal.invariant-loop-lines
 invariant-loop-lines g l =
     (text : List ℕ)
     × IsAppended g.W.Write.contents g.W.WriteDevice.write_errors text l.initial.sink l.sink
-    × AreLeft (rows_of l.calls) l.schedule (journey_rows (rows_of l.calls) l.schedule l.initial.lines) text l.call l.lines
+    × AreLeft (rows_of l.calls) l.schedule (journey_rows l.calls l.schedule l.initial.lines) text l.call l.lines
     × (l.row ≡ after Tsv (number l.schedule ∷ []))
     × (l.call + length l.lines ≤ 1 + length l.initial.lines)
 

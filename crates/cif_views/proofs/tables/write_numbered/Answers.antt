@@ -1,27 +1,8 @@
--- Either row begins as before (`no-shorter`), so what is cut off is what has been appended.
-use Rattle.std.proofs.Common.{◌∙◌, ap, length, take}
-use Rattle.cif_views.proofs.TableRows.{no-shorter}
+-- The row is that of the kind of the line.
 use Rattle.cif_views.proofs.tables.write_numbered.Goals as goal
-use Rattle.cif_views.proofs.tables.write_numbered.Goals.{else-calls, then-calls}
 
-pub truncate-requires : goal.truncate-requires
-truncate-requires g c = elim c.if-calls.branch [
-  | then-calls w ↦
-      no-shorter _ _ _ c.len-begun.ensures (ap (take (length c.args.row.now)) w.row-is ∙ w.write_call.ensures.begun)
-  | else-calls w ↦
-      no-shorter _ _ _ c.len-begun.ensures (ap (take (length c.args.row.now)) w.row-is ∙ w.write_change.ensures.begun)
-]
+pub returns-in-Stop-clause-text : goal.returns-in-Stop-clause-text
+returns-in-Stop-clause-text g c = rw (c.if-calls.true, c.in-Stop.is) c.write_call-in-Stop.ensures.text
 
-pub returns-clause-text : goal.returns-clause-text
-returns-clause-text g c = elim c.if-calls.branch [
-  | then-calls w ↦ rw (w.if-calls.true, w.sink-is) w.write_call.ensures.text
-  | else-calls w ↦ rw (w.if-calls.false, w.sink-is) w.write_change.ensures.text
-]
-
-pub returns-clause-same : goal.returns-clause-same
-returns-clause-same g c =
-    c.truncate.ensures ∙ ap (λ n. take n c.if-calls.row) c.len-begun.ensures
-    ∙ elim c.if-calls.branch [
-      | then-calls w ↦ ap (take (length c.args.row.now)) w.row-is ∙ w.write_call.ensures.begun
-      | else-calls w ↦ ap (take (length c.args.row.now)) w.row-is ∙ w.write_change.ensures.begun
-    ]
+pub returns-in-Change-kind-clause-text : goal.returns-in-Change-kind-clause-text
+returns-in-Change-kind-clause-text g c = rw (c.if-calls.false, c.in-Change-kind.is) c.write_change.ensures.text

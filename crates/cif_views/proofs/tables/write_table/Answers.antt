@@ -12,14 +12,14 @@ unfolding table_text
 returns-clause-writes g c =
     let table = c.args.table in
     let x = c.args.canon.now.lines in
-    let rows : IsAppended g.W.Write.contents g.W.WriteDevice.write_errors (table_rows table x) c.append.new.sink c.match-table.sink =
+    let rows : IsAppended g.W.Write.contents g.W.WriteDevice.write_errors (table_rows table x) c.write_heading.new.sink c.match-table.sink =
     elim c.match-table.branch [
       | in-Header w ↦ rw (w.in-Header.is, w.sink-is)
-          (text-is _ _ _ _ _ _ (ap (row_line header_fields) w.header_line.ensures) w.write_header.ensures)
+          (text-is _ _ _ _ _ _ (ap (row_line header_fields) w.header_line.ensures) w.write_line.ensures)
       | in-Tiplocs w ↦ rw (w.in-Tiplocs.is, w.sink-is)
           (text-is _ _ _ _ _ _ (ap (flat_map (row_line tiploc_fields)) w.tiplocs.ensures) w.write_tiplocs.ensures)
       | in-Associations w ↦ rw (w.in-Associations.is, w.sink-is) w.list_associations.ensures
       | in-Schedules w ↦ rw w.sink-is (text-is _ _ _ _ _ _ (listed-rows table x w.in-Schedules.is) w.list_schedules.ensures)
     ] in
     answered _ _ _ _ _ c.answer.result c.answer.ensures.ok c.answer.ensures.failed
-    (both _ _ (table_heading table) (table_rows table x) _ _ _ (text-is _ _ _ _ _ _ c.heading.ensures c.append.ensures) rows)
+    (both _ _ (table_heading table) (table_rows table x) _ _ _ c.write_heading.ensures rows)

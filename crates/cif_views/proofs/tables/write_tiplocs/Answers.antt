@@ -12,7 +12,7 @@ pub loop-tiploc-preserved : goal.loop-tiploc-preserved
 loop-tiploc-preserved g c =
     one-more _ _ (λ t. row_line tiploc_fields (line_of_tiploc t)) c.args.tiplocs.now c.loop-tiploc.tiploc-index _ _
     c.loop-tiploc.invariant c.tiploc-item.result _ c.loop-tiploc-test.true c.tiploc-item.is
-    (text-is _ _ _ _ _ _ (ap (row_line tiploc_fields) c.write.ensures.plain) c.write_places.ensures)
+    (text-is _ _ _ _ _ _ (ap (row_line tiploc_fields) c.write.ensures.plain) c.write_line.ensures)
 
 pub returns : goal.returns
 returns g c =

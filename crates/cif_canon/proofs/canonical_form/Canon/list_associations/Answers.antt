@@ -1,5 +1,5 @@
 -- What is listed of the runs is what is listed of their lines (`parts-text`).
-use Rattle.std.proofs.Common.{ap, ◌∙◌}
+use Rattle.std.proofs.Common.{ap, ◌∙◌, refl}
 use Rattle.cif_canon.proofs.Words.{CanonParts, association_entries, association_entry, association_plain, canon_lines, flat_map}
 use Rattle.cif_canon.proofs.AppendedTexts.{text-is}
 use Rattle.cif_canon.proofs.CanonLines.{parts-text}
@@ -16,10 +16,12 @@ returns g c =
     ∙ ap (λ (v : CanonParts). flat_map text v.lines.associations) c.self.view_is)
     (rw (c.as_slice.ensures.value, c.as_slice-2.ensures.value) at c.write_runs.ensures)
 
-pub write_runs-requires-clause-within : goal.write_runs-requires-clause-within
-write_runs-requires-clause-within g c =
+pub write_runs-requires : goal.write_runs-requires
+write_runs-requires g c κs = (
+  (refl, tt),
+  (
     sources-within association_entry c.as_slice.result.now c.as_slice-2.result.now
-    (rw (c.as_slice.ensures.value, c.as_slice-2.ensures.value) c.self.invariant.0)
-
-pub write_runs-requires-clause-records : goal.write_runs-requires-clause-records
-write_runs-requires-clause-records g c = rw (c.as_slice.ensures.value, c.as_slice-2.ensures.value) c.self.invariant.0
+          (rw (c.as_slice.ensures.value, c.as_slice-2.ensures.value) c.self.invariant.0),
+    rw (c.as_slice.ensures.value, c.as_slice-2.ensures.value) c.self.invariant.0,
+  ),
+)

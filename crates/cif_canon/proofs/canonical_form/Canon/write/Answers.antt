@@ -1,5 +1,5 @@
 -- Five parts are appended one behind another (`canon-appended`).
-use Rattle.std.proofs.Common.{ap}
+use Rattle.std.proofs.Common.{ap, refl}
 use Rattle.cif_canon.proofs.Words.{CanonParts, association_entry, extract_parts, schedule_entry}
 use Rattle.cif_canon.proofs.AppendedTexts.{answered, appended, text-is}
 use Rattle.cif_canon.proofs.RunTexts.{sources-within}
@@ -13,18 +13,20 @@ returns-clause-writes g c =
     (text-is _ _ _ _ _ _ (ap (λ (v : CanonParts). v.text) c.self.view_is)
     (canon-appended _ _ (extract_parts e.extract.now) e.tiplocs.items e.associations.items e.schedules.items _ _ _ _ _ _
     (appended _ _ _ _ _ c.write_head.result c.write_head.ensures)
-    (rw c.as_slice.ensures.value at c.write_tiplocs.ensures)
+    (rw c.as_slice.ensures.value at c.write_each.ensures)
     (rw (c.as_slice-2.ensures.value, c.as_slice-3.ensures.value) at c.write_runs.ensures)
     (rw (c.as_slice-4.ensures.value, c.as_slice-5.ensures.value) at c.write_schedules.ensures)
     (appended _ _ _ _ _ c.write_trailer.result c.write_trailer.ensures)))
 
-pub write_runs-requires-clause-within : goal.write_runs-requires-clause-within
-write_runs-requires-clause-within g c =
+pub write_runs-requires : goal.write_runs-requires
+write_runs-requires g c κs = (
+  (refl, tt),
+  (
     sources-within association_entry c.as_slice-2.result.now c.as_slice-3.result.now
-    (rw (c.as_slice-2.ensures.value, c.as_slice-3.ensures.value) c.self.invariant.0)
-
-pub write_runs-requires-clause-records : goal.write_runs-requires-clause-records
-write_runs-requires-clause-records g c = rw (c.as_slice-2.ensures.value, c.as_slice-3.ensures.value) c.self.invariant.0
+          (rw (c.as_slice-2.ensures.value, c.as_slice-3.ensures.value) c.self.invariant.0),
+    rw (c.as_slice-2.ensures.value, c.as_slice-3.ensures.value) c.self.invariant.0,
+  ),
+)
 
 pub write_schedules-requires-clause-within : goal.write_schedules-requires-clause-within
 write_schedules-requires-clause-within g c =

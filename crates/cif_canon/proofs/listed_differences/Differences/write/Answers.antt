@@ -1,5 +1,5 @@
 -- Three parts are appended one behind another (`differences-appended`).
-use Rattle.std.proofs.Common.{ap}
+use Rattle.std.proofs.Common.{ap, refl}
 use Rattle.cif_calendar.specs.Entries.{association_entry, schedule_entry}
 use Rattle.cif_canon.specs.Differences.{differences_text}
 use Rattle.cif_canon.proofs.AppendedTexts.{answered, text-is}
@@ -15,24 +15,26 @@ returns-clause-writes g c =
     (text-is _ _ _ _ _ _ (ap differences_text c.self.view_is)
     (differences-appended _ _ e.tiplocs.items e.left.now.associations.items e.right.now.associations.items e.associations.items
     e.left.now.schedules.items e.right.now.schedules.items e.schedules.items _ _ _ _
-    (rw c.as_slice.ensures.value at c.write_marked_tiplocs.ensures)
+    (rw c.as_slice.ensures.value at c.write_each.ensures)
     (rw (c.as_slice-2.ensures.value, c.as_slice-3.ensures.value, c.as_slice-4.ensures.value) at c.write_sided_runs.ensures)
     (rw (c.as_slice-5.ensures.value, c.as_slice-6.ensures.value, c.as_slice-7.ensures.value) at c.write_sided_runs-2.ensures)))
 
-pub write_sided_runs-requires-clause-within : goal.write_sided_runs-requires-clause-within
-write_sided_runs-requires-clause-within g c =
+pub write_sided_runs-requires : goal.write_sided_runs-requires
+write_sided_runs-requires g c κs = (
+  (refl, tt),
+  (
     sided-within association_entry c.as_slice-2.result.now c.as_slice-3.result.now c.as_slice-4.result.now
-    (rw (c.as_slice-2.ensures.value, c.as_slice-3.ensures.value, c.as_slice-4.ensures.value) c.self.invariant.0)
+          (rw (c.as_slice-2.ensures.value, c.as_slice-3.ensures.value, c.as_slice-4.ensures.value) c.self.invariant.0),
+    rw (c.as_slice-2.ensures.value, c.as_slice-3.ensures.value, c.as_slice-4.ensures.value) c.self.invariant.0,
+  ),
+)
 
-pub write_sided_runs-requires-clause-records : goal.write_sided_runs-requires-clause-records
-write_sided_runs-requires-clause-records g c =
-    rw (c.as_slice-2.ensures.value, c.as_slice-3.ensures.value, c.as_slice-4.ensures.value) c.self.invariant.0
-
-pub write_sided_runs-requires-2-clause-within : goal.write_sided_runs-requires-2-clause-within
-write_sided_runs-requires-2-clause-within g c =
+pub write_sided_runs-requires-2 : goal.write_sided_runs-requires-2
+write_sided_runs-requires-2 g c κs = (
+  (refl, tt),
+  (
     sided-within schedule_entry c.as_slice-5.result.now c.as_slice-6.result.now c.as_slice-7.result.now
-    (rw (c.as_slice-5.ensures.value, c.as_slice-6.ensures.value, c.as_slice-7.ensures.value) c.self.invariant.1)
-
-pub write_sided_runs-requires-2-clause-records : goal.write_sided_runs-requires-2-clause-records
-write_sided_runs-requires-2-clause-records g c =
-    rw (c.as_slice-5.ensures.value, c.as_slice-6.ensures.value, c.as_slice-7.ensures.value) c.self.invariant.1
+          (rw (c.as_slice-5.ensures.value, c.as_slice-6.ensures.value, c.as_slice-7.ensures.value) c.self.invariant.1),
+    rw (c.as_slice-5.ensures.value, c.as_slice-6.ensures.value, c.as_slice-7.ensures.value) c.self.invariant.1,
+  ),
+)

@@ -1,20 +1,21 @@
 -- The rows of the lines that follow are those of the schedule (`calls-of_lines`, `changes-of_lines`).
-use Rattle.std.proofs.Common.{◌∙◌, ap}
+use Rattle.std.proofs.Common.{◌∙◌, ap, false, true}
 use Rattle.cif_canon.proofs.AppendedTexts.{nothing, text-is}
-use Rattle.cif_views.specs.Steps.TableRows.{call_rows, change_rows, journey_rows}
+use Rattle.cif_views.specs.Steps.TableRows.{journey_rows}
+use Rattle.cif_views.proofs.Words.{schedule_plain}
 use Rattle.cif_views.proofs.TableRows.{calls-of_lines, changes-of_lines}
 use Rattle.cif_views.proofs.tables.TableCanonListing.write_schedule.Goals as goal
 
 pub returns-in-Calls : goal.returns-in-Calls
 returns-in-Calls g c = rw c.in-Calls.is
     (text-is _ _ _ _ _ _
-    (ap (journey_rows call_rows c.args.number) c.further.ensures ∙ calls-of_lines c.args.number c.args.schedule.now)
+    (ap (journey_rows true c.args.number) c.further.ensures ∙ calls-of_lines c.args.number (schedule_plain c.args.schedule.now))
     c.write_journey.ensures)
 
 pub returns-in-Changes : goal.returns-in-Changes
 returns-in-Changes g c = rw c.in-Changes.is
     (text-is _ _ _ _ _ _
-    (ap (journey_rows change_rows c.args.number) c.further-in-Changes.ensures ∙ changes-of_lines c.args.number c.args.schedule.now)
+    (ap (journey_rows false c.args.number) c.further-in-Changes.ensures ∙ changes-of_lines c.args.number (schedule_plain c.args.schedule.now))
     c.write_journey-in-Changes.ensures)
 
 pub returns-in-Schedules : goal.returns-in-Schedules

@@ -1,0 +1,23 @@
+-- The runs have the records of the differences.
+use Rattle.std.proofs.Common.{ap, refl}
+use Rattle.std.specs.List.{flat_map}
+use Rattle.cif_calendar.specs.Entries.{schedule_entry}
+use Rattle.cif_canon.proofs.Words.{DifferencesParts, by_pairs, nat_cmp, slice_cmp}
+use Rattle.cif_canon.proofs.AppendedTexts.{text-is}
+use Rattle.cif_canon.proofs.SidedTexts.{sided-within}
+use Rattle.cif_canon.proofs.listed_differences.Differences.list_schedules.Goals as goal
+
+pub returns : goal.returns
+returns g c =
+    text-is _ _ _ _ _ _ (ap (λ (d : DifferencesParts). flat_map (g.L.Texts.text c.args.texts.now) (by_pairs (slice_cmp nat_cmp) d.schedules)) c.self.view_is)
+    (rw (c.as_slice.ensures.value, c.as_slice-2.ensures.value, c.as_slice-3.ensures.value) at c.write_pairs.ensures)
+
+pub write_pairs-requires : goal.write_pairs-requires
+write_pairs-requires g c κs = (
+  (refl, tt),
+  (
+    sided-within schedule_entry c.as_slice.result.now c.as_slice-2.result.now c.as_slice-3.result.now
+      (rw (c.as_slice.ensures.value, c.as_slice-2.ensures.value, c.as_slice-3.ensures.value) c.self.invariant.1),
+    rw (c.as_slice.ensures.value, c.as_slice-2.ensures.value, c.as_slice-3.ensures.value) c.self.invariant.1,
+  ),
+)

@@ -1,0 +1,16 @@
+-- A record that doesn't pass the test of the day has no text: `tested` ties the answer to that test.
+use Rattle.std.proofs.Common.{◌∙◌, [], Bool, ap, sym}
+use Rattle.std.specs.Prelude.{if◌then◌else◌}
+use Rattle.cif_canon.proofs.Words.{listed_on}
+use Rattle.cif_canon.proofs.AppendedTexts.{nothing, text-is}
+use Rattle.cif_canon.proofs.RunningRecords.{tested}
+use Rattle.cif_canon.proofs.views.OnDayTextsCanonRecordAssocKeyAssocBody.write.Goals as goal
+
+pub returns-else-applies_on : goal.returns-else-applies_on
+returns-else-applies_on g c =
+    let text = g.L.DayLines.association c.args.self.now.lines.now in
+    let e = c.item.inside in
+    text-is _ _ _ _ _ _
+    (ap (λ (b : Bool). if b then text (e.key.now, e.body.now) else [])
+    (sym c.if-applies_on.false ∙ tested e.run.now e.body.now c.args.self.now.day _ c.applies_on.ensures)
+    ∙ ap (listed_on text c.args.self.now.day) c.item.view_is) (nothing _ _ _)

@@ -1,0 +1,231 @@
+//! The columns of the tables: the name of each field, and where it stands in a line.
+ghost use Rattle.std.specs.Prelude.{◌≡◌};
+ghost use Rattle.cif_views.specs.Steps.Columns.{span_in};
+
+use crate::tables::JourneyKind;
+
+/// Columns of a line, from one to another, which are counted from 1.
+pub(crate) type Span = (usize, usize);
+
+/// No columns.
+const NOWHERE: Span = (1, 0);
+
+/// An empty field.
+const NOTHING: Column = ("", Text(1, 0));
+
+/// The location of TI.
+const TIPLOC_CODE: Column = ("tiploc", Text(3, 9));
+
+/// The UIDs of AA.
+const BASE_UID: Column = ("base_uid", Whole(4, 9));
+
+const ASSOCIATED_UID: Column = ("associated_uid", Whole(10, 15));
+
+/// Its dates and days.
+const HOLDS_FROM: Column = ("first_date", Date(16, 21));
+
+const HOLDS_TO: Column = ("last_date", Date(22, 27));
+
+const HOLDS_ON: Column = ("days_run", Text(28, 34));
+
+/// Its location, with the suffixes.
+const MEETS_AT: Column = ("location", Text(38, 44));
+
+const BASE_SUFFIX: Column = ("base_suffix", Text(45, 45));
+
+const ASSOCIATED_SUFFIX: Column = ("associated_suffix", Text(46, 46));
+
+/// The UID of BS.
+const UID: Column = ("uid", Whole(4, 9));
+
+/// Its dates and days.
+const RUNS_FROM: Column = ("first_date", Date(10, 15));
+
+const RUNS_TO: Column = ("last_date", Date(16, 21));
+
+const RUNS_ON: Column = ("days_run", Text(22, 28));
+
+/// The names of the numbers that rows of calls and of changes begin with; no columns have them.
+pub(crate) const NUMBERS: [Column; 2] = [("schedule", Text(1, 0)), ("call", Text(1, 0))];
+
+/// Where a field stands in a line, and how a table shows it.
+#[derive(Clone, Copy)]
+pub(crate) enum Place {
+    /// Without the spaces at its end.
+    Text(usize, usize),
+    /// As it stands.
+    Whole(usize, usize),
+    /// As a date YYYY-MM-DD: six digits YYMMDD.
+    Date(usize, usize),
+    /// As such a date: six digits DDMMYY.
+    DayFirst(usize, usize),
+    /// Without the spaces at its end: where it stands in LO, in LI and in LT.
+    Call(Span, Span, Span),
+}
+
+use self::Place::{Call, Date, DayFirst, Text, Whole};
+
+/// A field: its name, and where it stands.
+pub(crate) type Column = (&'static str, Place);
+
+/// Those of HD.
+pub(crate) const HEADER: [Column; 9] = [
+    ("mainframe_identity", Text(3, 22)),
+    ("extract_date", Text(23, 28)),
+    ("extract_time", Text(29, 32)),
+    ("current_reference", Text(33, 39)),
+    ("last_reference", Text(40, 46)),
+    ("update_indicator", Text(47, 47)),
+    ("version", Text(48, 48)),
+    ("first_date", DayFirst(49, 54)),
+    ("last_date", DayFirst(55, 60)),
+];
+
+/// Those of TI.
+pub(crate) const TIPLOC: [Column; 9] = [
+    TIPLOC_CODE,
+    ("capitals", Text(10, 11)),
+    ("nalco", Text(12, 17)),
+    ("nlc_check", Text(18, 18)),
+    ("tps_description", Text(19, 44)),
+    ("stanox", Text(45, 49)),
+    ("po_mcp_code", Text(50, 53)),
+    ("crs_code", Text(54, 56)),
+    ("description", Text(57, 72)),
+];
+
+/// Those of AA.
+pub(crate) const ASSOCIATION: [Column; 12] = [
+    BASE_UID,
+    ASSOCIATED_UID,
+    HOLDS_FROM,
+    HOLDS_TO,
+    HOLDS_ON,
+    ("category", Text(35, 36)),
+    ("date_indicator", Text(37, 37)),
+    MEETS_AT,
+    BASE_SUFFIX,
+    ASSOCIATED_SUFFIX,
+    ("diagram_type", Text(47, 47)),
+    ("association_type", Text(48, 48)),
+];
+
+/// Those of BS.
+pub(crate) const BASIC: [Column; 21] = [
+    UID,
+    RUNS_FROM,
+    RUNS_TO,
+    RUNS_ON,
+    ("status", Text(30, 30)),
+    ("category", Text(31, 32)),
+    ("identity", Text(33, 36)),
+    ("headcode", Text(37, 40)),
+    ("course", Text(41, 41)),
+    ("service_code", Text(42, 49)),
+    ("sector", Text(50, 50)),
+    ("power", Text(51, 53)),
+    ("timing_load", Text(54, 57)),
+    ("speed", Text(58, 60)),
+    ("characteristics", Text(61, 66)),
+    ("class", Text(67, 67)),
+    ("sleepers", Text(68, 68)),
+    ("reservations", Text(69, 69)),
+    ("connection", Text(70, 70)),
+    ("catering", Text(71, 74)),
+    ("branding", Text(75, 78)),
+];
+
+/// Those of BX.
+pub(crate) const EXTRA: [Column; 7] = [
+    ("extra", Text(1, 2)),
+    ("traction", Text(3, 6)),
+    ("uic", Text(7, 11)),
+    ("operator_code", Text(12, 13)),
+    ("timetable_code", Text(14, 14)),
+    ("reserved_a", Text(15, 22)),
+    ("reserved_b", Text(23, 23)),
+];
+
+/// Those of LO, LI and LT.
+pub(crate) const CALL: [Column; 15] = [
+    ("record", Text(1, 2)),
+    ("location", Text(3, 9)),
+    ("suffix", Text(10, 10)),
+    ("arrival", Call(NOWHERE, (11, 15), (11, 15))),
+    ("departure", Call((11, 15), (16, 20), NOWHERE)),
+    ("pass", Call(NOWHERE, (21, 25), NOWHERE)),
+    ("public_arrival", Call(NOWHERE, (26, 29), (16, 19))),
+    ("public_departure", Call((16, 19), (30, 33), NOWHERE)),
+    ("platform", Call((20, 22), (34, 36), (20, 22))),
+    ("line", Call((23, 25), (37, 39), NOWHERE)),
+    ("path", Call(NOWHERE, (40, 42), (23, 25))),
+    ("activities", Call((30, 41), (43, 54), (26, 37))),
+    ("engineering", Call((26, 27), (55, 56), NOWHERE)),
+    ("pathing", Call((28, 29), (57, 58), NOWHERE)),
+    ("performance", Call((42, 43), (59, 60), NOWHERE)),
+];
+
+/// Those of CR.
+pub(crate) const CHANGE: [Column; 21] = [
+    ("location", Text(3, 9)),
+    ("suffix", Text(10, 10)),
+    ("category", Text(11, 12)),
+    ("identity", Text(13, 16)),
+    ("headcode", Text(17, 20)),
+    ("course", Text(21, 21)),
+    ("service_code", Text(22, 29)),
+    ("sector", Text(30, 30)),
+    ("power", Text(31, 33)),
+    ("timing_load", Text(34, 37)),
+    ("speed", Text(38, 40)),
+    ("characteristics", Text(41, 46)),
+    ("class", Text(47, 47)),
+    ("sleepers", Text(48, 48)),
+    ("reservations", Text(49, 49)),
+    ("connection", Text(50, 50)),
+    ("catering", Text(51, 54)),
+    ("branding", Text(55, 58)),
+    ("traction", Text(59, 62)),
+    ("uic", Text(63, 67)),
+    ("reserved_a", Text(68, 75)),
+];
+
+/// The fields up to the days run of TI, in the table of differences.
+pub(crate) const TIPLOC_HEAD: [Column; 9] = [
+    TIPLOC_CODE, NOTHING, NOTHING, NOTHING, NOTHING, NOTHING, NOTHING, NOTHING, NOTHING,
+];
+
+/// Those of AA.
+pub(crate) const ASSOCIATION_HEAD: [Column; 9] = [
+    NOTHING,
+    BASE_UID,
+    ASSOCIATED_UID,
+    MEETS_AT,
+    BASE_SUFFIX,
+    ASSOCIATED_SUFFIX,
+    HOLDS_FROM,
+    HOLDS_TO,
+    HOLDS_ON,
+];
+
+/// Those of BS.
+pub(crate) const BASIC_HEAD: [Column; 9] = [
+    NOTHING, UID, NOTHING, NOTHING, NOTHING, NOTHING, RUNS_FROM, RUNS_TO, RUNS_ON,
+];
+
+/// The columns of the field in a line of this kind.
+#[inline(always)]
+pub(crate) fn span_in(kind: JourneyKind, place: &Place) -> Span
+    ensures { result ≡ span_in kind place.now }
+{
+    match place {
+        Text(first, last) | Whole(first, last) => (*first, *last),
+        Date(first, last) | DayFirst(first, last) => (*first, *last),
+        Call(origin, stop, terminus) => match kind {
+            JourneyKind::Origin => *origin,
+            JourneyKind::Stop => *stop,
+            JourneyKind::Terminus => *terminus,
+            JourneyKind::Change | JourneyKind::Other => NOWHERE,
+        },
+    }
+}
