@@ -1,15 +1,15 @@
 """What is tried of a case: runs of the program, each with the answer that is wanted.
 
 The first is the case itself. Beside it stand cases that have several faults, damaged copies of its input, and small extracts
-with a line of each sort, where each damage in one place has its turn, and of each command. Where the case is accepted there are
-further runs, whose answers have to agree with its own.
+with a line of each sort, where each damage in one place has its turn, and wrong columns have theirs in each command. Where the
+case is accepted there are further runs, whose answers have to agree with its own.
 """
 import re
 from collections import namedtuple
-from itertools import chain
+from itertools import chain, cycle, product
 
-from generator.cases import OFTEN, small_jobs, some_bytes, some_case
-from generator.damage import damaged, damaged_at, places_of_damage
+from generator.cases import OFTEN, small_jobs, small_views, some_bytes, some_case
+from generator.damage import damaged, damaged_at, places_of_damage, wrong_columns
 from generator.derived import changed_once, said_otherwise
 from generator.feeds import OfSmall, small_feeds
 from generator.spelling import PLAIN, spelled, with_one_moved
@@ -28,7 +28,7 @@ BOTH = ("left.cif", "right.cif")
 
 # How many damaged inputs, how many cases with faults, and how many small damaged extracts and feeds are tried beside each case:
 # each damage of a small extract has its turn within 300 cases.
-DAMAGED, FAULTY, SMALL = 3, 2, 4
+DAMAGED, FAULTY, SMALL, SMALL_FEEDS = 3, 2, 6, 3
 
 
 class Inconsistent(Exception):
@@ -262,10 +262,13 @@ def of_damage(rng, case, options):
 
 
 def of_small_extracts(rng, turn, options):
-    """What commands say of small extracts with one damage, and normalise of one with texts that stand further right."""
+    """What commands say of small extracts with one damage, and of others; and normalise of texts that stand further right."""
     timetable = each_sort(rng)
     data = spelled(rng, timetable.lines(), PLAIN)
-    yield from of_damage_in_turn(small_jobs(timetable) if options else [OfSmall(Job("check"), 0)], [data, data], turn)
+    jobs = small_jobs(timetable) if options else [OfSmall(Job("check"), 0)]
+    yield from of_damage_in_turn(jobs, [data, data], turns_of(turn, SMALL))
+    for job, inputs in small_views(rng, timetable) if options else ():
+        yield Trial("small", job, inputs, answer(job, inputs))
     data, job = spelled(rng, [with_one_moved(rng, line) for line in timetable.lines()], PLAIN), Job("normalise")
     yield Trial("small, with moved texts", job, [data], answer(job, [data]))
 
@@ -275,19 +278,24 @@ def of_small_feeds(rng, turn, options):
     sorts = small_feeds(rng)
     turn, sort = divmod(turn, len(sorts))
     jobs, inputs = sorts[sort]
-    yield from of_damage_in_turn(jobs if options else jobs[:1], inputs, turn)
+    yield from of_damage_in_turn(jobs if options else jobs[:1], inputs, turns_of(turn, SMALL_FEEDS))
 
 
-def of_damage_in_turn(jobs, inputs, turn):
-    """What jobs say of an input with one damage. Each damage has its turn; after the last one each has that of the next job."""
+def of_damage_in_turn(jobs, inputs, turns):
+    """What jobs say of an input with one damage: each job of the columns that each kind can have wrong, and then of all that
+    can be done in one place some job.
+    """
     lines = inputs[jobs[0].damaged].splitlines(keepends=True)
-    places = list(places_of_damage(lines))
-    for number in range(turn * SMALL, (turn + 1) * SMALL):
-        again, place = divmod(number, len(places))
-        job, at = jobs[(place + again) % len(jobs)]
+    found = list(product(jobs, wrong_columns(lines))) + list(zip(cycle(jobs), places_of_damage(lines)))
+    for turn in turns:
+        (job, at), damage = found[turn % len(found)]
         of_job = inputs[: len(names_of(job))]
-        of_job[at] = damaged_at(lines, *places[place])
+        of_job[at] = damaged_at(lines, *damage)
         yield Trial("small and damaged", job, of_job, answer(job, of_job))
+
+
+def turns_of(turn, count):
+    return range(turn * count, (turn + 1) * count)
 
 
 def of_faults(rng, commands, options):

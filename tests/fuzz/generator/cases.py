@@ -193,6 +193,19 @@ def small_jobs(timetable):
     return [OfSmall(job._replace(verbose=True), at) for job, at in found]
 
 
+def small_views(rng, timetable):
+    """Jobs about small extracts with their inputs: about a UID, and about two windows, which may share one date or none."""
+    records = timetable.associations + timetable.schedules
+    uid, data = rng.choice([*(uid_of(rng, record) for record in records), "NONE  "]), some_bytes(rng, timetable)
+    day, format_of = yymmdd(timetable.window[0]), rng.choice(["text", "tsv"])
+    jobs = [Job("calendar", uid=uid), Job("train", uid=uid, format=format_of), Job("explain", uid=uid, day=day, format=format_of)]
+    other = timetable.copy()
+    other.window = beside_it(rng, timetable.window)
+    two = Job(rng.choice(OF_TWO), ("left.cif", "right.cif"), common=rng.random() < 0.3)
+    found = (rng.choice(jobs), [data]), (two, [data, some_bytes(rng, other)])
+    return [(job._replace(verbose=True), inputs) for job, inputs in found]
+
+
 def some_case(rng, commands, options, odds):
     """A case of one of these commands; options says whether the job may have some."""
     command = rng.choices(commands, [COMMANDS[name] for name in commands])[0]

@@ -2,7 +2,8 @@
 from itertools import combinations, product
 
 from reference import values
-from reference.layouts import LAYOUTS
+from reference.faults import Refusal
+from reference.layouts import LAYOUTS, read
 
 NO_DATES = ("260230", "290229", "260001", "261301", "260100", "260132", "26 105", "26010A", "      ", "000000")
 IDENTITIES = ("HD", "TI", "TA", "TD", "AA", "BS", "BX", "LO", "LI", "CR", "LT", "ZZ", "TN", "LN", "/!!", "XX", "  ", "bs", "B ")
@@ -253,6 +254,19 @@ def places_of_damage(lines):
         at = sorts.index(sort)
         yield from ((at, lines[at] + empty_line(identity)) for identity in IDENTITIES)
         yield from ((at, line) for line in spoiled(lines[at], sort))
+
+
+def wrong_columns(lines):
+    """What may stand for a line so that it is refused: once for each kind, each reason and the columns of it."""
+    found, sorts = {kind: (0, lines[0] + empty_line(kind)) for kind in ("TA", "TD")}, sorts_of(lines)
+    for sort in sorted(set(sorts)):
+        at = sorts.index(sort)
+        for line in spoiled(lines[at], sort):
+            try:
+                read(sort[0], line.decode(), {})
+            except Refusal as refusal:
+                found.setdefault((sort[0], refusal.name, refusal.first), (at, line))
+    return list(found.values())
 
 
 def damaged_at(lines, at, instead):
