@@ -197,8 +197,8 @@ def small_views(rng, timetable):
     """Jobs about small extracts with their inputs: about a UID, and about two windows, which may share one date or none."""
     records = timetable.associations + timetable.schedules
     uid, data = rng.choice([*(uid_of(rng, record) for record in records), "NONE  "]), some_bytes(rng, timetable)
-    day, format_of = yymmdd(timetable.window[0]), rng.choice(["text", "tsv"])
-    jobs = [Job("calendar", uid=uid), Job("train", uid=uid, format=format_of), Job("explain", uid=uid, day=day, format=format_of)]
+    day, layout = yymmdd(timetable.window[0]), rng.choice(["text", "tsv"])
+    jobs = [Job("calendar", uid=uid), Job("train", uid=uid, format=layout), Job("explain", uid=uid, day=day, format=layout)]
     other = timetable.copy()
     other.window = beside_it(rng, timetable.window)
     two = Job(rng.choice(OF_TWO), ("left.cif", "right.cif"), common=rng.random() < 0.3)

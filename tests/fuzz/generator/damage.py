@@ -243,8 +243,8 @@ def of_other_bytes(line):
 
 
 def places_of_damage(lines):
-    """What may stand for the first line of each sort: it and a line behind it, or it with wrong fields; and for the first and
-    the last line: other bytes, and something in front.
+    """What may stand for the first line of each sort: it and a line behind it, or it with wrong fields; for the first and the
+    last line: lines of other bytes; and before the first line: another beginning, or a line.
     """
     sorts = sorts_of(lines)
     yield from ((0, beginning + lines[0]) for beginning in BEGINNINGS)

@@ -24,7 +24,8 @@ Answer = namedtuple("Answer", "stdout stderr status")
 UID = re.compile(r"[ -~]{6}")
 SOME = 1
 
-# The options that each command takes besides `--verbose`, and the commands that take two files; update takes two or more, the others one or none.
+# The options that each command takes besides `--verbose`, and the commands that take two files; update takes two or more, the
+# others one or none.
 OPTIONS = {
     "normalise": {"first", "last", "form"},
     "check": {"first", "last", "form", "all"},

@@ -1,4 +1,4 @@
-"""What `--verbose` adds on standard error: of an answer what was read, and of a fault which input it is about and what helps."""
+"""What `--verbose` adds on standard error: of an answer what was read, of a fault which input it is about and what helps."""
 import re
 from collections import namedtuple
 
