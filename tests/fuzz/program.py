@@ -18,6 +18,7 @@ def words_of(job):
     words += [] if job.holidays is None else ["--holidays", job.holidays]
     words += ["--drop-clashes"] if job.drop_clashes else []
     words += ["--lenient"] if job.lenient else []
+    words += ["--verbose"] if job.verbose else []
     return words + [word for word in (job.table, job.uid, job.day) if word is not None] + list(job.files)
 
 

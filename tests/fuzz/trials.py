@@ -1,20 +1,20 @@
 """What is tried of a case: runs of the program, each with the answer that is wanted.
 
 The first is the case itself. Beside it stand cases that have several faults, damaged copies of its input, and small extracts
-with a line of each sort, where each damage in one place has its turn. Where the case is accepted there are further runs, whose
-answers have to agree with its own.
+with a line of each sort, where each damage in one place has its turn, and wrong columns have theirs in each command. Where the
+case is accepted there are further runs, whose answers have to agree with its own.
 """
 import re
 from collections import namedtuple
-from itertools import chain
+from itertools import chain, cycle, product
 
-from generator.cases import OFTEN, some_bytes, some_case
-from generator.damage import damaged, damaged_in_turn
+from generator.cases import OFTEN, small_jobs, small_views, some_bytes, some_case
+from generator.damage import damaged, damaged_at, places_of_damage, wrong_columns
 from generator.derived import changed_once, said_otherwise
-from generator.feeds import SMALL as SMALL_FEEDS
+from generator.feeds import OfSmall, small_feeds
 from generator.spelling import PLAIN, spelled, with_one_moved
 from generator.timetables import each_sort
-from reference.answers import OF_FEEDS, SOME, Answer, Job, answer, date_of
+from reference.answers import OF_FEEDS, SOME, Answer, Job, answer, date_of, names_of
 from reference.dates import yymmdd
 from reference.extracts import common_of, read_extract
 from reference.faults import REFUSED
@@ -26,9 +26,9 @@ SAME = Answer(b"same\n", b"", 0)
 OTHER_FORM = {"1": "2", "2": "1", None: "1"}
 BOTH = ("left.cif", "right.cif")
 
-# How many damaged inputs, how many cases with faults and how many small damaged extracts are tried beside each case: each
-# damage of a small one has its turn within 300 cases.
-DAMAGED, FAULTY, SMALL = 3, 2, 3
+# How many damaged inputs, how many cases with faults, and how many small damaged extracts and feeds are tried beside each case:
+# each damage of a small extract has its turn within 300 cases.
+DAMAGED, FAULTY, SMALL, SMALL_FEEDS = 3, 2, 6, 3
 
 
 class Inconsistent(Exception):
@@ -261,22 +261,41 @@ def of_damage(rng, case, options):
         yield Trial("damaged", job, inputs, answer(job, inputs))
 
 
-def of_small_extracts(rng, turn):
-    """What check says of small extracts with one damage, and normalise of one with texts that stand further right."""
-    lines, job = each_sort(rng).lines(), Job("check")
-    for data in damaged_in_turn(spelled(rng, lines, PLAIN), range(turn * SMALL, (turn + 1) * SMALL)):
-        yield Trial("small and damaged", job, [data], answer(job, [data]))
-    data, job = spelled(rng, [with_one_moved(rng, line) for line in lines], PLAIN), Job("normalise")
+def of_small_extracts(rng, turn, options):
+    """What commands say of small extracts with one damage, and of others; and normalise of texts that stand further right."""
+    timetable = each_sort(rng)
+    data = spelled(rng, timetable.lines(), PLAIN)
+    jobs = small_jobs(timetable) if options else [OfSmall(Job("check"), 0)]
+    yield from of_damage_in_turn(jobs, [data, data], turns_of(turn, SMALL))
+    for job, inputs in small_views(rng, timetable) if options else ():
+        yield Trial("small", job, inputs, answer(job, inputs))
+    data, job = spelled(rng, [with_one_moved(rng, line) for line in timetable.lines()], PLAIN), Job("normalise")
     yield Trial("small, with moved texts", job, [data], answer(job, [data]))
 
 
-def of_small_feeds(rng, turn, command):
-    """The same of small inputs of prepare and update."""
-    make, damaged_one = SMALL_FEEDS[command]
-    job, inputs = make(rng)
-    for data in damaged_in_turn(inputs[damaged_one], range(turn * SMALL, (turn + 1) * SMALL)):
-        inputs = [*inputs[:damaged_one], data, *inputs[damaged_one + 1 :]]
-        yield Trial("small and damaged", job, inputs, answer(job, inputs))
+def of_small_feeds(rng, turn, options):
+    """The same of prepare, or of an input of update."""
+    sorts = small_feeds(rng)
+    turn, sort = divmod(turn, len(sorts))
+    jobs, inputs = sorts[sort]
+    yield from of_damage_in_turn(jobs if options else jobs[:1], inputs, turns_of(turn, SMALL_FEEDS))
+
+
+def of_damage_in_turn(jobs, inputs, turns):
+    """What jobs say of an input with one damage: each job of the columns that each kind can have wrong, and then of all that
+    can be done in one place some job.
+    """
+    lines = inputs[jobs[0].damaged].splitlines(keepends=True)
+    found = list(product(jobs, wrong_columns(lines))) + list(zip(cycle(jobs), places_of_damage(lines)))
+    for turn in turns:
+        (job, at), damage = found[turn % len(found)]
+        of_job = inputs[: len(names_of(job))]
+        of_job[at] = damaged_at(lines, *damage)
+        yield Trial("small and damaged", job, of_job, answer(job, of_job))
+
+
+def turns_of(turn, count):
+    return range(turn * count, (turn + 1) * count)
 
 
 def of_faults(rng, commands, options):
@@ -284,6 +303,12 @@ def of_faults(rng, commands, options):
     for _ in range(FAULTY):
         job, inputs, _ = some_case(rng, commands, options, OFTEN)
         yield Trial("with faults", job, inputs, answer(job, inputs))
+
+
+def without_more(want):
+    """The answer without what --verbose adds."""
+    lines = want.stderr.splitlines(keepends=True)
+    return want._replace(stderr=b"".join(line for line in lines if not line.startswith(b"  ")))
 
 
 def further_trials(rng, case, want, options):
@@ -315,11 +340,11 @@ FURTHER = {
 def trials_of(rng, turn, case, commands, options):
     """All trials of a case that are of these commands; turn counts the cases."""
     want = answer(case.job, case.inputs)
-    further = [[Trial("", case.job, case.inputs, want)], of_small_extracts(rng, turn), of_faults(rng, commands, options)]
-    if case.job.command in OF_FEEDS:
-        further.append(of_small_feeds(rng, turn, case.job.command))
+    further = [[Trial("", case.job, case.inputs, want)], of_faults(rng, commands, options)]
+    further += [of_small_extracts(rng, turn, options), of_small_feeds(rng, turn, options)]
     if case.timetable or case.job.command in OF_FEEDS and None not in case.inputs:
         further.append(of_damage(rng, case, options))
     if want.status in (0, SOME):
-        further.append(further_trials(rng, case, want, options))
+        quiet = case._replace(job=case.job._replace(verbose=False))
+        further.append(further_trials(rng, quiet, without_more(want), options))
     yield from (trial for trial in chain(*further) if trial.job.command in commands)

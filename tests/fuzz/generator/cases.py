@@ -7,7 +7,7 @@ from reference.tables import TABLES
 
 from .damage import damaged
 from .derived import changed_once, said_otherwise, with_other_bodies
-from .feeds import some_feed
+from .feeds import OfSmall, some_feed
 from .published import spelled_as_published
 from .spelling import some_habits, spelled
 from .timetables import UIDS, some_header, some_timetable
@@ -29,7 +29,8 @@ NO_TABLES = ("stops", "Calls", "call", "", "schedules ")
 FORMS = (None, None, "1", "1", "2")
 NO_FORMS = ("3", "0", "", "12", "1 ", "one")
 BAD_DATE_WORDS = ("260230", "2601141", "26014", "", "26 114", "999999", "abcdef", "260114 ", "26\u06611", "\u0662\u0666\u0661")
-BAD_UID_WORDS = ("C0012", "C001234", "", "C0012\t", "C0012\u00e9", "C001\u00e9", "C0012\x7f")
+BAD_DATE_WORDS += ("26\n114", "26\x01\r\x1f\x80\x9f\xa0", "\u2027\u2028\u202e\u202f", "\u2065\u2066\u2069\u206a")
+BAD_UID_WORDS = ("C0012", "C001234", "", "C0012\t", "C0012\u00e9", "C001\u00e9", "C0012\x7f", "C0\n\r12", "\x1bC0012~\\")
 
 # How likely a job has dates, and how likely each fault of a job or its inputs is: where most cases are to be accepted, and
 # where many are to have several faults, which show the fault that comes first.
@@ -177,14 +178,40 @@ def with_options(rng, job, timetable, odds):
         job = job._replace(all=rng.random() < 0.5)
     if "format" in taken and HAS_TABLES:
         job = job._replace(format=rng.choice(FORMATS if rng.random() > odds["mistake"] else NO_FORMATS))
-    return job
+    return job._replace(verbose=rng.random() < 0.5)
+
+
+def small_jobs(timetable):
+    """Jobs of each command of extracts, of which one input is to be damaged: a file, or standard input."""
+    uid, day = "C00123", yymmdd(timetable.window[0])
+    jobs = [Job("normalise"), Job("check"), Job("check", all=True), Job("day", day=day), Job("train", uid=uid)]
+    jobs += [Job("explain", uid=uid, day=day), Job("clashes"), Job("table", table="calls"), Job("calendar", uid=uid)]
+    found = [OfSmall(job._replace(files=files), 0) for job in jobs for files in ((), ("extract.cif",))]
+    for command in OF_TWO:
+        both = ("left.cif", "right.cif"), ("-", "right.cif"), ("left.cif", "right.cif"), ("left.cif", "-")
+        found += [OfSmall(Job(command, files), at) for files, at in zip(both, (0, 0, 1, 1))]
+    return [OfSmall(job._replace(verbose=True), at) for job, at in found]
+
+
+def small_views(rng, timetable):
+    """Jobs about small extracts with their inputs: about a UID, and about two windows, which may share one date or none."""
+    records = timetable.associations + timetable.schedules
+    uid, data = rng.choice([*(uid_of(rng, record) for record in records), "NONE  "]), some_bytes(rng, timetable)
+    day, layout = yymmdd(timetable.window[0]), rng.choice(["text", "tsv"])
+    jobs = [Job("calendar", uid=uid), Job("train", uid=uid, format=layout), Job("explain", uid=uid, day=day, format=layout)]
+    other = timetable.copy()
+    other.window = beside_it(rng, timetable.window)
+    two = Job(rng.choice(OF_TWO), ("left.cif", "right.cif"), common=rng.random() < 0.3)
+    found = (rng.choice(jobs), [data]), (two, [data, some_bytes(rng, other)])
+    return [(job._replace(verbose=True), inputs) for job, inputs in found]
 
 
 def some_case(rng, commands, options, odds):
     """A case of one of these commands; options says whether the job may have some."""
     command = rng.choices(commands, [COMMANDS[name] for name in commands])[0]
     if command in OF_FEEDS:
-        return Case(*some_feed(rng, command, odds), None)
+        job, inputs = some_feed(rng, command, odds)
+        return Case(job._replace(verbose=options and rng.random() < 0.5), inputs, None)
     clashes = rng.choice(CLASHES) if command in OF_CLASHES else odds["clash"]
     timetable = some_timetable(rng, clashes)
     job = some_job(rng, command, timetable, options, odds)

@@ -2,7 +2,8 @@
 from itertools import combinations, product
 
 from reference import values
-from reference.layouts import LAYOUTS
+from reference.faults import Refusal
+from reference.layouts import LAYOUTS, read
 
 NO_DATES = ("260230", "290229", "260001", "261301", "260100", "260132", "26 105", "26010A", "      ", "000000")
 IDENTITIES = ("HD", "TI", "TA", "TD", "AA", "BS", "BX", "LO", "LI", "CR", "LT", "ZZ", "TN", "LN", "/!!", "XX", "  ", "bs", "B ")
@@ -28,6 +29,9 @@ BAD_FIELDS = {
 }
 ODD_BYTES = (b"\t", b"\r", b"\n", b"\x00", b"\x1f", b"\x7f", b"\x80", b"\xc3\xa9", b"\xff", b" ", b"~", b"0", b"A")
 ENDINGS = (b"\r", b"\r\n", b"\r\r\n", b"\n\r", b"\n\n", b" \n", b" \r\n", b" ", b"")
+# What may stand before the first line: how inputs of other formats begin, and what is like it.
+BEGINNINGS = (b"\x1f\x8b", b"\x1f\x8c", b"PK\x03\x04", b"PK\x05\x06", b"\xef\xbb\xbf", b"\xff\xfe", b"\xff\xfe\x00\x00")
+BEGINNINGS += (b"\xfe\xff", b"\x00\x00\xfe\xff", b"\xef\xbb", b"{", b"[", b"(")
 BEHIND = (b"\n", b"\r", b"\r\n", b" ", b"\x1a", b"ZZ".ljust(80) + b"\n", b"AA".ljust(80) + b"\n", b"X" * 81, b"X" * 82)
 
 # ---- of bytes
@@ -229,9 +233,22 @@ def spoiled(line, sort):
             yield from (with_text(with_text(line, one, text), other, last) for text, last in product(ones[:2], others[:2]))
 
 
+def of_other_bytes(line):
+    """Lines that are shorter or longer than this one, or have another byte."""
+    content = line.rstrip(b"\n")
+    contents = [b"", content[:30], content[:-1], content + b"|", content + b"||", b"~" * 4095, b"~" * 4096]
+    contents += [b"/!!" + b"-" * 77, b"/!!" + b"-" * 78, b"/!! caf\xe9".ljust(80)]
+    contents += [content[:-1] + byte for byte in (b"\x1f", b"\x7f", b"~")]
+    yield from (other + ending for other in contents for ending in (b"\n", b"\r\n"))
+
+
 def places_of_damage(lines):
-    """What may stand for the first line of each sort: it and a line behind it, or it with wrong fields; and a line in front."""
+    """What may stand for the first line of each sort: it and a line behind it, or it with wrong fields; for the first and the
+    last line: lines of other bytes; and before the first line: another beginning, or a line.
+    """
     sorts = sorts_of(lines)
+    yield from ((0, beginning + lines[0]) for beginning in BEGINNINGS)
+    yield from ((at, line) for at in (0, len(lines) - 1) for line in of_other_bytes(lines[at]))
     yield from ((0, empty_line(identity) + lines[0]) for identity in IDENTITIES)
     for sort in sorted(set(sorts)):
         at = sorts.index(sort)
@@ -239,10 +256,18 @@ def places_of_damage(lines):
         yield from ((at, line) for line in spoiled(lines[at], sort))
 
 
-def damaged_in_turn(data, turns):
-    """The bytes after one damage, for each of these turns; all that places_of_damage knows have theirs."""
-    lines = data.splitlines(keepends=True)
-    damages = list(places_of_damage(lines))
-    for turn in turns:
-        at, instead = damages[turn % len(damages)]
-        yield b"".join([*lines[:at], instead, *lines[at + 1 :]])
+def wrong_columns(lines):
+    """What may stand for a line so that it is refused: once for each kind, each reason and the columns of it."""
+    found, sorts = {kind: (0, lines[0] + empty_line(kind)) for kind in ("TA", "TD")}, sorts_of(lines)
+    for sort in sorted(set(sorts)):
+        at = sorts.index(sort)
+        for line in spoiled(lines[at], sort):
+            try:
+                read(sort[0], line.decode(), {})
+            except Refusal as refusal:
+                found.setdefault((sort[0], refusal.name, refusal.first), (at, line))
+    return list(found.values())
+
+
+def damaged_at(lines, at, instead):
+    return b"".join([*lines[:at], instead, *lines[at + 1 :]])

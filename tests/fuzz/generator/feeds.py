@@ -1,4 +1,5 @@
 """Jobs of prepare and update, and their inputs."""
+from collections import namedtuple
 from dataclasses import replace
 
 from reference.answers import Job, names_of
@@ -80,17 +81,21 @@ def some_feed(rng, command, odds):
 # ---- small ones, with a line of each sort
 
 
+# A job, and the number of the one of its inputs that is to be damaged.
+OfSmall = namedtuple("OfSmall", "job damaged")
+
+
 def small_published(rng):
-    """A job and its inputs: an extract in which every sort of line of published extracts stands once."""
+    """An extract in which every sort of line of published extracts stands once, and its holidays."""
     first, *lines = each_sort(rng).lines()
     at = next(at for at, line in enumerate(lines) if line[:2] == "BS")
     coded = with_field(with_field(lines[at], "bank_holiday", "X"), "last", OPEN_END)
     lines = [first, some_comment(rng), *lines[:at], coded, some_note(rng), *lines[at + 1 :]]
-    return Job("prepare", holidays="holidays.txt"), ["\n".join(lines).encode() + b"\n", b"X\n"]
+    return ["\n".join(lines).encode() + b"\n", b"X\n"]
 
 
 def small_update(rng):
-    """The same of an update, in which each line finds what it needs."""
+    """A full extract, and such an update, in which each line finds what it needs."""
     timetable = each_sort(rng)
     [value] = timetable.tiplocs
     tiplocs = [plain("TD", {"identity": "TD", "tiploc": value[:7]}), plain("TI", {"tiploc": value})]
@@ -101,8 +106,15 @@ def small_update(rng):
             for record in records:
                 one, *behind = record.lines()
                 lines += [with_field(one, "transaction", transaction), *behind]
-    full, update = ("\n".join(of_one).encode() + b"\n" for of_one in (timetable.lines(), [*lines, plain("ZZ", {})]))
-    return Job("update", ("full.cif", "update.cif"), lenient=rng.random() < 0.5), [full, update]
+    return ["\n".join(of_one).encode() + b"\n" for of_one in (timetable.lines(), [*lines, plain("ZZ", {})])]
 
 
-SMALL = {"prepare": (small_published, 0), "update": (small_update, 1)}
+def small_feeds(rng):
+    """Jobs of prepare, those of update whose FULL is to be damaged, and those whose UPDATE is; each with the inputs."""
+    prepare = [Job("prepare", files, holidays="holidays.txt", verbose=True) for files in ((), ("extract.cif",))]
+    update = Job("update", lenient=rng.random() < 0.5, verbose=True)
+    full = [update._replace(files=(name, "update.cif")) for name in ("full.cif", "-")]
+    updates = [update._replace(files=("full.cif", name)) for name in ("update.cif", "-")]
+    published, full_and_update = small_published(rng), small_update(rng)
+    sorts = (prepare, 0, published), (full, 0, full_and_update), (updates, 1, full_and_update)
+    return [([OfSmall(job, at) for job in jobs], inputs) for jobs, at, inputs in sorts]

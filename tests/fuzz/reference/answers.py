@@ -2,21 +2,21 @@
 import re
 from collections import namedtuple
 
-from . import published, tables, texts
+from . import published, tables, texts, verbose
 from .calendars import calendar
 from .dates import from_yymmdd
 from .explanation import explanation
 from .extracts import common_of, narrowed, read_extract, window_of
-from .faults import Fault, REFUSED, WORDS
+from .faults import Fault, REFUSED, WORDS, of_input
 from .holidays import read_holidays
 from .meaning import Meaning, all_clashes, first_difference
-from .reasons import all_reasons
+from .reasons import all_reasons, listed
 
 # What the words of a command ask for. Dates, a UID and the name of a table are words as they were given, or None where there
 # is none; without a form it is 2, without a format text, and common, all and others say whether such an option is there. Files
 # and holidays are names; where there is no file, the command reads standard input, as it does where the name is `-`.
-NAMES = "command files day uid first last form common stops table format all holidays drop_clashes lenient"
-DEFAULTS = ((), None, None, None, None, None, False, False, None, None, False, None, False, False)
+NAMES = "command files day uid first last form common stops table format all holidays drop_clashes lenient verbose"
+DEFAULTS = ((), None, None, None, None, None, False, False, None, None, False, None, False, False, False)
 Job = namedtuple("Job", NAMES, defaults=DEFAULTS)
 
 Answer = namedtuple("Answer", "stdout stderr status")
@@ -24,7 +24,8 @@ Answer = namedtuple("Answer", "stdout stderr status")
 UID = re.compile(r"[ -~]{6}")
 SOME = 1
 
-# The options that each command takes, and the commands that take two files; update takes two or more, the others one or none.
+# The options that each command takes besides `--verbose`, and the commands that take two files; update takes two or more, the
+# others one or none.
 OPTIONS = {
     "normalise": {"first", "last", "form"},
     "check": {"first", "last", "form", "all"},
@@ -54,7 +55,7 @@ def date_of(word):
     """The date of a word; of no word there is none."""
     day = None if word is None else from_yymmdd(word)
     if word is not None and day is None:
-        raise Fault("bad date", WORDS)
+        raise Fault("bad date", WORDS, word=word)
     return day
 
 
@@ -64,45 +65,64 @@ def names_of(job):
 
 
 def output(job, inputs):
-    """The lines of standard output, the status, and the lines of standard error.
+    """The lines of standard output, the status, the lines of standard error, and those that `--verbose` adds.
 
     Inputs has the bytes of each input in the order of names_of, or None where it can't be read.
     """
     if job.uid is not None and not UID.fullmatch(job.uid):
-        raise Fault("bad UID", WORDS)
+        raise Fault("bad UID", WORDS, word=job.uid)
     day, asked = date_of(job.day), (date_of(job.first), date_of(job.last))
     if names_of(job).count("-") > 1:
         raise Fault(TWICE[job.command], WORDS)
     if job.command in OF_FEEDS:
-        lines, told = (of_prepare if job.command == "prepare" else of_update)(job, inputs)
-        return lines, 0, told
-    reasons = all_reasons(inputs[0]) if job.all else []
-    return (reasons, REFUSED, []) if reasons else (*of_extracts(job, day, asked, inputs), [])
+        return (of_prepare if job.command == "prepare" else of_update)(job, shown(job, inputs))
+    if job.all:
+        with of_input(0):
+            reasons = all_reasons(inputs[0])
+        if reasons:
+            return listed(reasons), REFUSED, [], verbose.of_reasons(shown(job, inputs)[0], reasons)
+    return of_extracts(job, day, asked, shown(job, inputs))
+
+
+def shown(job, inputs):
+    """The inputs with their names."""
+    return verbose.inputs_of(job, names_of(job), inputs)
 
 
 def of_prepare(job, inputs):
     """The lines of the prepared extract, and a line for each key that is dropped."""
-    holidays = {} if job.holidays is None else read_holidays(inputs[1])
-    records = published.prepared(published.read_published(inputs[0], holidays), holidays)
-    dropped = []
+    with of_input(1):
+        holidays = {} if job.holidays is None else read_holidays(inputs[1].data)
+    with of_input(0):
+        read = published.read_published(inputs[0].data, holidays)
+    records, dropped = published.prepared(read, holidays), []
     if job.drop_clashes:
         records, dropped = published.without_clashes(records)
-    return published.written(records), [f"dropped: {clash}" for clash in dropped]
+    more = verbose.of_prepared(inputs[0], read, holidays)
+    return published.written(records), 0, [f"dropped: {clash}" for clash in dropped], more
 
 
 def of_update(job, inputs):
     """The lines of the full extract after all updates, and a line for each line that is waived."""
     full, *updates = inputs
-    records, told = published.read_published(full), []
-    for data in updates:
-        records, waived = published.updated(records, published.read_update(data), job.lenient)
+    with of_input(0):
+        records, told = published.read_published(full.data), []
+    more = verbose.of_feed(full, records, "")
+    for at, update in enumerate(updates, 1):
+        with of_input(at):
+            read = published.read_update(update.data)
+            records, waived = published.updated(records, read, job.lenient)
         told += [f"{line} (waived)" for line in waived]
-    return published.written(records), told
+        more += verbose.of_update(update, read, waived)
+    return published.written(records), 0, told, more
 
 
 def of_extracts(job, day, asked, inputs):
-    """The lines and the status of the commands that read extracts of the profile."""
-    extracts = [read_extract(data) for data in inputs]
+    """The same of the commands that read extracts of the profile."""
+    extracts = []
+    for at, one in enumerate(inputs):
+        with of_input(at):
+            extracts.append(read_extract(one.data))
     if job.common:
         asked = [given or common for given, common in zip(asked, common_of(extracts))]
     extracts = [narrowed(extract, asked) for extract in extracts]
@@ -111,7 +131,8 @@ def of_extracts(job, day, asked, inputs):
         raise Fault("WindowsDiffer", REFUSED)
     if day is not None and not window[0] <= day <= window[1]:
         raise Fault("OutsideWindow", REFUSED)
-    return said(job, day, extracts)
+    lines, status = said(job, day, extracts)
+    return lines, status, [], verbose.of_extracts(job, inputs, extracts, lines)
 
 
 def said(job, day, extracts):
@@ -123,7 +144,11 @@ def said(job, day, extracts):
         return some_or_none(list(all_clashes(extracts[0]).values()))
     if job.command == "calendar":
         return calendar(extracts[0], job.uid), 0
-    meaning, *others = [Meaning(extract) for extract in extracts]
+    meanings = []
+    for at, extract in enumerate(extracts):
+        with of_input(at):
+            meanings.append(Meaning(extract))
+    meaning, *others = meanings
     form = job.form or "2"
     if job.command == "normalise":
         return texts.canonical(meaning, form)[0], 0
@@ -170,10 +195,12 @@ def answer(job, inputs):
     if is_mistake(job):
         return MISTAKE
     try:
-        lines, status, told = output(job, inputs)
+        lines, status, told, more = output(job, inputs)
     except Fault as fault:
-        return Answer(b"", f"cif: {fault.text}\n".encode(), fault.status)
-    return Answer(text_of(lines), text_of(f"cif: {line}" for line in told), status)
+        lines, status, told = [], fault.status, [fault.text]
+        more = verbose.of_fault(job, shown(job, inputs), fault)
+    errors = [f"cif: {line}" for line in told] + [f"  {line}" for line in more if job.verbose]
+    return Answer(text_of(lines), text_of(errors), status)
 
 
 def text_of(lines):

@@ -26,11 +26,18 @@ def explained(extract, uid, day):
     return found
 
 
+def line_of(mark, kind, entry):
+    fields_of = association_fields if kind == "AA" else train_fields
+    said = " ".join(entry.key) if entry.letter == "C" else fields_of(entry.key, entry.body)
+    return " ".join([mark, kind, entry.letter, yymmdd(entry.first), yymmdd(entry.last), entry.days, said])
+
+
 def explanation(extract, uid, day):
     """A line for each of these records."""
-    lines = []
-    for mark, kind, entry in explained(extract, uid, day):
-        fields_of = association_fields if kind == "AA" else train_fields
-        said = " ".join(entry.key) if entry.letter == "C" else fields_of(entry.key, entry.body)
-        lines.append(" ".join([mark, kind, entry.letter, yymmdd(entry.first), yymmdd(entry.last), entry.days, said]))
-    return lines
+    return [line_of(*found) for found in explained(extract, uid, day)]
+
+
+def clashing(entries, day):
+    """The lines of those records of one key that clash on the date."""
+    kind = "BS" if len(entries[0].key) == 1 else "AA"
+    return [line_of(mark, kind, entry) for mark, entry in marked(entries, day) if mark == CLASH]

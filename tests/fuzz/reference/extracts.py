@@ -60,14 +60,15 @@ def line_of(content):
     """The line that a content is."""
     if len(content) != layouts.WIDTH:
         raise Refusal("BadLength")
-    if not PRINTABLE.fullmatch(content):
-        raise Refusal("BadByte")
+    column = PRINTABLE.match(content).end() + 1
+    if column <= layouts.WIDTH:
+        raise Refusal("BadByte", column, column)
     return content.decode("ascii")
 
 
 def kind_of(line, kinds):
     if line[:2] not in kinds:
-        raise Refusal("UnknownRecord")
+        raise Refusal("UnknownRecord", 1, 2)
     return line[:2]
 
 
@@ -101,17 +102,17 @@ def records_of(data, sort):
             line = line_of(content)
             kind = kind_of(line, sort.kinds)
             if not may_follow(kind, before):
-                raise Refusal("OutOfOrder")
+                raise Refusal("OutOfOrder", 1, 2)
             fields = layouts.read(kind, line, sort.readers)
         except Refusal as refusal:
-            raise of_line(number, refusal.name) from None
+            raise of_line(number, refusal) from None
         if kind in OF_SCHEDULE[1:]:
             records[-1].lines.append(layouts.plain(kind, fields))
         elif kind not in NOTES:
             records.append(Record(number, kind, fields, []))
         before = place_behind(kind, fields, before)
     if before != "ZZ":
-        raise of_line(len(contents) + 1, "Truncated")
+        raise of_line(len(contents) + 1, Refusal("Truncated"))
     return records
 
 

@@ -28,7 +28,7 @@ def read_holidays(data):
     for number, content in enumerate(contents_of(data), 1):
         said = said_by(content)
         if said is None:
-            raise Fault(f"holidays: line {number}: BadHoliday", REFUSED)
+            raise Fault(f"holidays: line {number}: BadHoliday", REFUSED, "BadHoliday", number)
         code, dates = said
         if code in HOLIDAY_CODES:
             named.setdefault(code, set()).update(dates)

@@ -174,11 +174,15 @@ def read(kind, line, instead):
 
     Instead has the readers that stand for some of those of the layouts.
     """
-    fields = {}
+    fields, begins = {}, {}
     for field in read_fields(kind, line):
-        fields[field.name] = instead.get(field.read, field.read)(columns_of(line, field))
+        begins[field.name] = field.first
+        try:
+            fields[field.name] = instead.get(field.read, field.read)(columns_of(line, field))
+        except Refusal as refusal:
+            raise Refusal(refusal.name, field.first, field.last, field.read) from None
         if field.name == "last" and is_reversed(kind, fields):
-            raise Refusal("DatesReversed")
+            raise Refusal("DatesReversed", begins["first"], field.last)
     return fields
 
 

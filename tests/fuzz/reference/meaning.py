@@ -46,7 +46,8 @@ def running(entries, days):
             try:
                 body = body_on(of_key, day)
             except Clash:
-                raise Fault(f"Ambiguous: {name_of(key)} on {yymmdd(day)}", REFUSED) from None
+                text = f"Ambiguous: {name_of(key)} on {yymmdd(day)}"
+                raise Fault(text, REFUSED, "Ambiguous", clash=(of_key, day)) from None
             if body is not None:
                 found[key][day] = body
     return found

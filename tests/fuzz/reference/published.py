@@ -4,7 +4,7 @@ from itertools import pairwise
 from . import values
 from .dates import DAY, from_yymmdd, yymmdd
 from .extracts import KINDS, NOTES, Sort, extract_of, key_of, of_kind, records_of
-from .faults import of_line
+from .faults import Refusal, of_line
 from .layouts import BODIES, LAYOUTS, plain, window_of
 from .meaning import all_clashes
 
@@ -43,14 +43,23 @@ def written(records):
 # ---- prepared
 
 
+def span(record, window):
+    """The first and the last date of an association or a schedule; an open end is one of the window, or the first date."""
+    first, last = record.fields["first"], record.fields["last"]
+    return from_yymmdd(first), max(from_yymmdd(first), window[1]) if last == values.OPEN_END else from_yymmdd(last)
+
+
+def cuts(record, window, holidays):
+    """The holidays at which it is cut, rising."""
+    first, last = span(record, window)
+    days = holidays.get(record.fields.get("bank_holiday"), ())
+    return [day for day in sorted(days) if first <= day <= last and record.fields["days"][day.weekday()] == "1"]
+
+
 def parts(record, window, holidays):
-    """The records of the profile that stand for an association or a schedule, which is cut at its holidays."""
-    fields = record.fields
-    first = from_yymmdd(fields["first"])
-    last = max(first, window[1]) if fields["last"] == values.OPEN_END else from_yymmdd(fields["last"])
-    days = holidays.get(fields.get("bank_holiday"), ())
-    cuts = [day for day in sorted(days) if first <= day <= last and fields["days"][day.weekday()] == "1"]
-    for before, behind in pairwise([first - DAY, *cuts, last + DAY]):
+    """The records of the profile that stand for an association or a schedule."""
+    fields, (first, last) = record.fields, span(record, window)
+    for before, behind in pairwise([first - DAY, *cuts(record, window, holidays), last + DAY]):
         start, end = before + DAY, behind - DAY
         if start <= end:
             dates = {"first": yymmdd(start), "last": yymmdd(end), "bank_holiday": " "}
@@ -59,11 +68,25 @@ def parts(record, window, holidays):
 
 def prepared(records, holidays):
     """The records of the prepared extract."""
-    [header] = of_kind(records, "HD")
-    window, found = window_of("HD", header.fields), []
+    window, found = window_in(records), []
     for record in records:
         found += parts(record, window, holidays) if record.kind in BODIES else [record]
     return found
+
+
+def window_in(records):
+    [header] = of_kind(records, "HD")
+    return window_of("HD", header.fields)
+
+
+def count_cut(records, holidays):
+    """How many records are cut."""
+    window = window_in(records)
+    return sum(bool(cuts(record, window, holidays)) for record in records if record.kind in BODIES)
+
+
+def count_open_ends(records):
+    return sum(record.fields.get("last") == values.OPEN_END for record in records)
 
 
 def without_clashes(records):
@@ -87,14 +110,19 @@ def put_by(record):
     if record.kind == "TA":
         tiploc, new = record.fields["tiploc"], record.fields["new_tiploc"]
         return record._replace(kind="TI", fields={"tiploc": (tiploc[:7] if new == " " * 7 else new) + tiploc[7:]})
-    if record.kind == "TD" or record.fields.get("transaction") == "D":
+    if transaction_of(record) == "D":
         return None
     return record if record.kind == "TI" else record._replace(fields=record.fields | {"transaction": "N"})
 
 
+def transaction_of(record):
+    """What a line of an update does: `N` new, `R` revised or `D` deleted."""
+    return {"TI": "N", "TA": "R", "TD": "D"}.get(record.kind) or record.fields.get("transaction")
+
+
 def refusal_of(record, put, there):
     """Why a line of an update can't do what it says, or None; there has the keys of all records that are there."""
-    new = record.kind == "TI" or record.fields.get("transaction") == "N"
+    new = transaction_of(record) == "N"
     if not new and update_key(record) not in there:
         return "NotThere"
     also = put is not None and (new or update_key(put) != update_key(record)) and update_key(put) in there
@@ -112,7 +140,7 @@ def updated(records, update, lenient):
         put = put_by(record)
         refusal = refusal_of(record, put, {key for key, _ in there})
         if refusal and not lenient:
-            raise of_line(record.number, refusal)
+            raise of_line(record.number, Refusal(refusal))
         if refusal:
             waived.append(f"line {record.number}: {refusal}")
         taken_out = {update_key(one) for one in (record, put) if one}

@@ -30,11 +30,15 @@ def judged(data):
 
 
 def all_reasons(data):
-    """A line for each reason that a line has."""
+    """The reasons that lines have, each with the numbers of those lines."""
     if data is None:
         raise Fault("ReadFault", FAILED)
     lines = {}
     for number, content in enumerate(judged(data), 1):
         lines.setdefault(own_reason(content), []).append(number)
-    found = [(name, lines[name]) for name in REASONS if name in lines]
-    return [f"{name}: {len(at)} line{'s' * (len(at) > 1)}, first at line {at[0]}" for name, at in found]
+    return {name: lines[name] for name in REASONS if name in lines}
+
+
+def listed(reasons):
+    """A line for each reason."""
+    return [f"{name}: {len(at)} line{'s' * (len(at) > 1)}, first at line {at[0]}" for name, at in reasons.items()]

@@ -1,0 +1,245 @@
+"""What `--verbose` adds on standard error: of an answer what was read, of a fault which input it is about and what helps."""
+import re
+from collections import namedtuple
+
+from . import layouts, values
+from .dates import yymmdd
+from .explanation import clashing
+from .extracts import COMMENT, NOTES, contents_of
+from .published import count_cut, count_open_ends, of_kind, transaction_of
+
+# An input: its name as it is shown, its bytes, or None where it can't be read, and whether a line of it can be read again.
+Input = namedtuple("Input", "name data again")
+
+SIDES = {"compare": ("LEFT", "RIGHT"), "diff": ("LEFT", "RIGHT"), "prepare": ("", "holidays")}
+
+# A character that is escaped, and those that have a letter.
+HIDDEN = re.compile("[\x00-\x1f\x7f-\x9f]|([\u2028-\u202e\u2066-\u2069])")
+LETTERS = {"\t": r"\t", "\n": r"\n", "\r": r"\r"}
+
+# How many bytes are kept of an input that can't be read again, and how many are looked at of a line of another one.
+KEPT, LOOKED_AT = 82, 4096
+
+WANTED = {"bad date": "must be a valid date as six digits, YYMMDD", "bad UID": "must be six printable ASCII characters"}
+NO_FILE = "No such file or directory (os error 2)"
+BEGINNINGS = {
+    b"\x1f\x8b": "gzip: decompress it first",
+    b"PK\x03\x04": "a zip archive: extract it first",
+    b"\xef\xbb\xbf": "text with a byte order mark: remove its first three bytes",
+    b"\xff\xfe": "UTF-16: convert it to ASCII first",
+    b"\xfe\xff": "UTF-16: convert it to ASCII first",
+    b"{": "JSON: take the feed in the CIF format",
+    b"[": "JSON: take the feed in the CIF format",
+}
+HOLIDAY_LINE = "a line has a code, X, E or G, and dates YYMMDD, in at most 1,000 bytes; # begins a remark"
+
+# What must stand in columns that are refused: by the reason, or else by what stands there.
+MUST = {
+    "BadByte": "a byte is 0x20 to 0x7E",
+    "UnknownRecord": "no kind of record has this identity",
+    "OutOfOrder": "a record of this kind can't stand here",
+    "NotUpdate": "must be U, of an update",
+    "BadTransaction": "must be N, R or D",
+    "OpenEnd": "999999 is an open end, not a date",
+    "DatesReversed": "the first date is after the last",
+    values.full: "must be F, of a full extract",
+    values.new: "must be N, of a full extract",
+    values.of_update: "this is an update extract, not a full one",
+    values.header_date: "must be a valid date as six digits, DDMMYY",
+    values.first_date: "must be a valid date as six digits, YYMMDD",
+    values.last_date: "must be a valid date as six digits, YYMMDD",
+    values.days_run: "a day is 0 or 1",
+    values.bank_holiday: "bank holiday running must be a space",
+    values.letter: "the STP indicator is P, N, O or C",
+    values.working_time: "a working time is HHMM, then a space or H",
+    values.public_time: "a public time is HHMM",
+}
+NOT_NAMED, NO_CODE = "--holidays doesn't name this code", "a holiday code is a space, X, E or G"
+
+# ---- the commands that help
+
+PREPARE = "cif prepare makes an extract of a published one"
+PREPARE_WITH_HOLIDAYS = "cif prepare --holidays FILE makes an extract of a published one"
+UPDATE = "cif update applies an update to a full extract"
+
+# What helps with a line that isn't known, by its reason: after a fault, and besides among the reasons of check --all.
+OF_NO_LINE, AMONG_REASONS = {"OpenEnd": PREPARE, "BankHoliday": PREPARE_WITH_HOLIDAYS}, {"NotFull": UPDATE}
+
+
+def has_code(line):
+    return line[28:29].decode("latin-1") in values.HOLIDAY_CODES
+
+
+def is_of_update(line):
+    """Whether an update may have a line that is NotFull."""
+    if line[:2] in (b"TA", b"TD"):
+        return True
+    return line[46:47] == b"U" if line[:2] == b"HD" else line[2:3] in (b"R", b"D")
+
+
+def helps(reason, line):
+    """The command that accepts a line which others refuse, if there is one."""
+    if line is None:
+        return OF_NO_LINE.get(reason)
+    if reason == "OpenEnd" or reason == "UnknownRecord" and line[:2].decode("latin-1") in NOTES:
+        return PREPARE
+    if reason in ("BadLength", "UnknownRecord") and COMMENT.fullmatch(line):
+        return PREPARE
+    if reason == "BankHoliday" and has_code(line):
+        return PREPARE_WITH_HOLIDAYS
+    return UPDATE if reason == "NotFull" and is_of_update(line) else None
+
+
+def help_with_all(first_lines):
+    """The commands for the first lines of some reasons."""
+    found = {helps(*first) or first[1] is None and AMONG_REASONS.get(first[0]) for first in first_lines.items()}
+    if first_lines.get("NotFull") and UPDATE in found:
+        return [UPDATE]
+    return [command for command in (UPDATE, PREPARE, PREPARE_WITH_HOLIDAYS) if command in found]
+
+
+# ---- inputs
+
+
+def escaped(text):
+    def escape(found):
+        sign = found[0]
+        return LETTERS.get(sign) or (f"\\u{{{ord(sign):x}}}" if found[1] else f"\\x{ord(sign):02x}")
+
+    return HIDDEN.sub(escape, text)
+
+
+def inputs_of(job, names, data):
+    """The inputs of these names."""
+    sides = ("FULL", *["UPDATE"] * len(data)) if job.command == "update" else SIDES.get(job.command, ("",))
+    found = []
+    for side, name, content in zip(sides, names, data):
+        shown = "standard input" if name == "-" else escaped(name)
+        found.append(Input(f"{side} ({shown})" if side else shown, content, name != "-"))
+    return found
+
+
+def line_again(one, number):
+    """The content of the line of this number, or its first bytes, where it is still known."""
+    if one.again:
+        return contents_of(one.data)[number - 1]
+    return contents_of(one.data[:KEPT])[0] if number == 1 else None
+
+
+def shown(line):
+    return re.sub("[^ -~]", "?", line[: layouts.WIDTH].decode("latin-1"))
+
+
+def window(one):
+    """The line of the window of an input that begins with a header, or with comments and a header."""
+    header = next(line for line in contents_of(one.data) if not COMMENT.fullmatch(line)).decode()
+    fields = layouts.read("HD", header, {values.full: values.as_it_stands})
+    first, last = layouts.window_of("HD", fields)
+    return first, last, f"{one.name} has the window {yymmdd(first)} to {yymmdd(last)}"
+
+
+# ---- of an answer
+
+
+def of_reasons(one, reasons):
+    """What is said of the reasons of check --all, each with the numbers of its lines."""
+    return [f"in {one.name}", *help_with_all({name: line_again(one, at[0]) for name, at in reasons.items()})]
+
+
+def of_extracts(job, inputs, extracts, lines):
+    """What is said of the lines that were answered about these extracts."""
+    said = [window(one)[2] for one in inputs]
+    has_schedule = any(entry.key == (job.uid,) for entry in extracts[0].schedules)
+    is_missing = not has_schedule if job.command == "calendar" else len(lines) == (job.format == "tsv")
+    if job.uid and is_missing:
+        known = has_schedule or any(job.uid in entry.key[:2] for entry in extracts[0].associations)
+        said.append("there are records with this UID" if known else "no record has this UID")
+    return said
+
+
+def of_feed(one, records, more):
+    """What is said of an input of prepare or update with these records, and more of it."""
+    lines = contents_of(one.data)
+    comments = sum(bool(COMMENT.fullmatch(line)) for line in lines)
+    notes = sum(line[:2].decode("latin-1") in NOTES for line in lines)
+    counts = f"comments: {comments}, notes: {notes}, open ends: {count_open_ends(records)}"
+    return [window(one)[2], f"{one.name}: {counts}{more}"]
+
+
+def of_prepared(one, records, holidays):
+    return of_feed(one, records, f", records cut by holidays: {count_cut(records, holidays)}")
+
+
+def of_update(one, records, waived):
+    done = [transaction_of(record) for record in records]
+    new, revised, deleted = (done.count(transaction) for transaction in "NRD")
+    return of_feed(one, records, f", lines new: {new}, revised: {revised}, deleted: {deleted}, waived: {len(waived)}")
+
+
+# ---- of a fault
+
+
+def of_windows(inputs, fault):
+    firsts, lasts, said = zip(*map(window, inputs))
+    if max(firsts) > min(lasts):
+        return [*said, "they have no date in common"]
+    return [*said, *["--common compares the dates that both have"] * (fault.name == "WindowsDiffer")]
+
+
+def of_line(job, one, fault):
+    """What is said of a refused line."""
+    line = line_again(one, fault.line)
+    is_feed, refusal = job.command in ("prepare", "update"), fault.refusal
+    command = None if is_feed and fault.name != "NotFull" else helps(fault.name, line)
+    if line is None:
+        return [command] if command else []
+    said = [shown(line)]
+    if fault.name == "BadLength":
+        said.append(length(one, line))
+    elif refusal.first:
+        must = MUST.get(fault.name) or MUST[refusal.read]
+        if fault.name == "BankHoliday" and is_feed:
+            must = NOT_NAMED if has_code(line) else NO_CODE
+        said += columns(refusal.first, refusal.last, must)
+    return [*said, command] if command else said
+
+
+def length(one, line):
+    if not one.again and len(line) == KEPT:
+        return "the line has more than 80 columns"
+    return f"the line has {'thousands of' if len(line) >= LOOKED_AT else len(line)} columns, not 80"
+
+
+def columns(first, last, must):
+    name = f"column {first}" if first == last else f"columns {first}-{last}"
+    return [" " * (first - 1) + "^" * (last - first + 1), f"{name}: {must}"]
+
+
+def of_refused(job, one, fault):
+    """What is said of an input of which a line is refused."""
+    looks = [said for beginning, said in BEGINNINGS.items() if one.data.startswith(beginning)]
+    if fault.name in ("NotThere", "AlreadyThere", "BadHoliday"):
+        line = line_again(one, fault.line)
+        hint = HOLIDAY_LINE if fault.name == "BadHoliday" else "--lenient goes on after such a line"
+        return [*([] if line is None else [shown(line)]), hint]
+    if fault.line == 1 and looks:
+        return [f"the input looks like {looks[0]}"]
+    if fault.name == "Truncated":
+        return ["the input ends before its trailer, ZZ"]
+    return of_line(job, one, fault)
+
+
+def of_fault(job, inputs, fault):
+    """What is said of a fault."""
+    if fault.word is not None:
+        return [f"'{escaped(fault.word)}': {WANTED[fault.name]}"]
+    if fault.name in ("OutsideWindow", "WindowsDiffer"):
+        return of_windows(inputs, fault)
+    if fault.name == "WindowReversed":
+        return ["the date of --from is after the date of --to"]
+    if fault.at is None:
+        return []
+    one = inputs[fault.at]
+    if fault.name == "ReadFault":
+        return [f"in {one.name}: {NO_FILE}"]
+    return [f"in {one.name}", *(clashing(*fault.clash) if fault.clash else of_refused(job, one, fault))]
