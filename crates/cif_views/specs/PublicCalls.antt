@@ -5,26 +5,21 @@ use Rattle.std.specs.Prelude.{if◌then◌else◌}
 use Rattle.std.specs.Cmp.Lexicographic.{pointwise}
 use Rattle.std.specs.List.{filter, list_any}
 use Rattle.cif_columns.specs.Activities.{codes_in}
-use Rattle.cif_columns.specs.Digits.{two_digits}
 use Rattle.cif_columns.specs.Field.{columns}
 use Rattle.cif_canon.specs.Fields.{Field}
 use Rattle.cif_canon.specs.Lines.{ScheduleLines}
 use Rattle.cif_canon.specs.declared.rows.Shape.TheVariants.{Whole}
-use Rattle.cif_views.specs.Moments.{IsNearest, IsNext, in_day_from, midnight, public_seconds, work_seconds}
+use Rattle.cif_columns.specs.PublicTime.{public_seconds}
+use Rattle.cif_columns.specs.WorkTime.{work_seconds}
+use Rattle.cif_views.specs.Moments.{IsNearest, IsNext, in_day_from, midnight, time_text}
 use Rattle.cif_views.specs.Tables.{Numbered, TableFields, calls_of, is_call, kind_of_line, number, numbered_from, of_part, text_at}
+use Rattle.cif_views.specs.declared.public_calls.CallTimes.{CallTimes}
 use Rattle.cif_views.specs.declared.tables.JourneyKind.{JourneyKind}
 use Rattle.cif_views.specs.declared.tables.JourneyKind.TheVariants.{Change, Origin, Other, Stop, Terminus}
 
 -- ---- what is read of a call's line
 
--- the times of day of a call: the working times, and the public ones
-pub record CallTimes : Type 0 where
-  pub arrival : Option ℕ
-  pub pass : Option ℕ
-  pub departure : Option ℕ
-  pub public_arrival : Option ℕ
-  pub public_departure : Option ℕ
-
+-- the times of day of a call, in seconds: the working times, and the public ones
 abbrev pub times_in : JourneyKind → List ℕ → CallTimes
 times_in Origin line = record {
   arrival = None;
@@ -69,8 +64,12 @@ activities_in Stop line = codes_in (columns 43 54 line)
 activities_in Terminus line = codes_in (columns 26 37 line)
 activities_in kind line = []
 
-abbrev pub has_activity : List ℕ → List ℕ → Bool
-has_activity code line = list_any (pointwise nat_eq code) (activities_in (kind_of_line line) line)
+abbrev pub has_activity : List ℕ → JourneyKind → List ℕ → Bool
+has_activity code kind line = list_any (pointwise nat_eq code) (activities_in kind line)
+
+-- a call is advertised unless an activity says that it isn't, or that it is for staff
+abbrev pub is_advertised : JourneyKind → List ℕ → Bool
+is_advertised kind line = not (has_activity (codes "N ") kind line) && not (has_activity (codes "S ") kind line)
 
 -- ---- moments
 
@@ -100,12 +99,11 @@ pub record AreTimed (calls : List Numbered) (timed : List TimedCall) : Type 0 wh
 
 -- ---- public calls
 
--- A call is public if it has a public time, and no activity `N ` (not advertised) or `S ` (for staff).
+-- a call is public if it has a public time and is advertised
 abbrev pub is_public : TimedCall → Bool
 is_public t =
     let times = times_of t.call.line in
-    (is_some times.public_arrival || is_some times.public_departure)
-    && (not (has_activity (codes "N ") t.call.line) && not (has_activity (codes "S ") t.call.line))
+    (is_some times.public_arrival || is_some times.public_departure) && is_advertised (kind_of_line t.call.line) t.call.line
 
 -- The moments of its public arrival and departure. Where it has only one of these, that stands for the other.
 pub record ArePublicTimes (t : TimedCall) (arrival departure : ℕ) : Type 0 where
@@ -114,56 +112,49 @@ pub record ArePublicTimes (t : TimedCall) (arrival departure : ℕ) : Type 0 whe
   pub no_arrival : IsNone (times_of t.call.line).public_arrival → arrival ≡ departure
   pub no_departure : IsNone (times_of t.call.line).public_departure → departure ≡ arrival
 
--- a public call, with its times as the table shows them: in seconds from the midnight at which the schedule's date begins
+-- a public call, with the moments that the table shows
 pub record PublicCall : Type 0 where
   pub call : Numbered
   pub arrival : ℕ
   pub departure : ℕ
 
--- Shown times don't fall: one that is before the one before it is raised to that, and a first one that is before the midnight to that.
+-- Moments that are shown don't fall: one that is before the one before it is raised to that.
 abbrev pub AreShown : ℕ → List TimedCall → List PublicCall → Type 0
 AreShown before [] [] = ⊤
 AreShown before (t ∷ timed) (p ∷ shown) = IsShown × AreShown p.departure timed shown
   where
     IsShown : Type 0
     IsShown = (arrival departure : ℕ) × ArePublicTimes t arrival departure × (p.call ≡ t.call)
-        × (p.arrival ≡ max before (arrival - midnight)) × (p.departure ≡ max p.arrival (departure - midnight))
+        × (p.arrival ≡ max before arrival) × (p.departure ≡ max p.arrival departure)
 AreShown before timed shown = ⊥
 
--- these are the public calls of a schedule, in their order
+-- these are the public calls of a schedule, in their order; none is shown before the midnight at which its date begins
 pub record ArePublicCalls (s : ℕ × ScheduleLines) (shown : List PublicCall) : Type 0 where
   pub timed : List TimedCall
   pub are_timed : AreTimed (calls_of s) timed
-  pub are_shown : AreShown 0 (filter is_public timed) shown
+  pub are_shown : AreShown midnight (filter is_public timed) shown
 
 -- ---- their rows
 
--- a time as HH:MM:SS, where the hours go on past 24
-abbrev pub at_least_two_digits : ℕ → List ℕ
-at_least_two_digits n = if nat_lt n 10 then two_digits n else decimal n
-
-abbrev pub time_text : ℕ → List ℕ
-time_text seconds =
-    at_least_two_digits (seconds / 3600)
-    ++ (codes ":" ++ (two_digits (seconds / 60 % 60) ++ (codes ":" ++ two_digits (seconds % 60))))
-
 -- Whether riders may get off, and on: 0 yes, 1 no, 3 on request. Where no activity says so, its public times do.
-abbrev pub answer_of : Bool → List ℕ → ℕ
-answer_of may line = if may then (if has_activity (codes "R ") line then 3 else 0) else 1
+abbrev pub answer_of : Bool → JourneyKind → List ℕ → ℕ
+answer_of may kind line = if may then (if has_activity (codes "R ") kind line then 3 else 0) else 1
 
-abbrev pub says_set_down : List ℕ → Bool
-says_set_down line = has_activity (codes "T ") line || (has_activity (codes "D ") line || has_activity (codes "TF") line)
+abbrev pub says_set_down : JourneyKind → List ℕ → Bool
+says_set_down kind line =
+    has_activity (codes "T ") kind line || (has_activity (codes "D ") kind line || has_activity (codes "TF") kind line)
 
-abbrev pub says_pick_up : List ℕ → Bool
-says_pick_up line = has_activity (codes "T ") line || (has_activity (codes "U ") line || has_activity (codes "TB") line)
+abbrev pub says_pick_up : JourneyKind → List ℕ → Bool
+says_pick_up kind line =
+    has_activity (codes "T ") kind line || (has_activity (codes "U ") kind line || has_activity (codes "TB") kind line)
 
-abbrev pub set_down : List ℕ → ℕ
-set_down line =
-    answer_of (says_set_down line || (not (says_pick_up line) && is_some (times_of line).public_arrival)) line
+abbrev pub set_down : JourneyKind → List ℕ → ℕ
+set_down kind line =
+    answer_of (says_set_down kind line || (not (says_pick_up kind line) && is_some (times_in kind line).public_arrival)) kind line
 
-abbrev pub pick_up : List ℕ → ℕ
-pick_up line =
-    answer_of (says_pick_up line || (not (says_set_down line) && is_some (times_of line).public_departure)) line
+abbrev pub pick_up : JourneyKind → List ℕ → ℕ
+pick_up kind line =
+    answer_of (says_pick_up kind line || (not (says_set_down kind line) && is_some (times_in kind line).public_departure)) kind line
 
 -- the columns of its platform
 abbrev pub platform_in : JourneyKind → List ℕ → Field
@@ -176,68 +167,58 @@ public_fields =
     ∷ (codes "call", λ p. number p.call.call)
     ∷ (codes "location", λ p. text_at 3 9 p.call.line)
     ∷ (codes "platform", λ p. platform_in (kind_of_line p.call.line) p.call.line)
-    ∷ (codes "arrival", λ p. (Whole, time_text p.arrival))
-    ∷ (codes "departure", λ p. (Whole, time_text p.departure))
-    ∷ (codes "set_down", λ p. number (set_down p.call.line))
-    ∷ (codes "pick_up", λ p. number (pick_up p.call.line))
+    ∷ (codes "arrival", λ p. (Whole, time_text (p.arrival - midnight)))
+    ∷ (codes "departure", λ p. (Whole, time_text (p.departure - midnight)))
+    ∷ (codes "set_down", λ p. number (set_down (kind_of_line p.call.line) p.call.line))
+    ∷ (codes "pick_up", λ p. number (pick_up (kind_of_line p.call.line) p.call.line))
     ∷ []
 
 -- ---- as they are made
 
--- what goes on from call to call: the moment at which the last timed call was left, and the last time shown
-pub record Journey : Type 0 where
-  pub left : Option ℕ
-  pub shown : ℕ
-
+-- the moments at which a call with these times is reached and left, behind this moment, if it is timed
 abbrev pub reached_moment : Option ℕ → ℕ → ℕ
 reached_moment None seconds = midnight + seconds
 reached_moment (Some p) seconds = in_day_from (p - 3600) seconds
 
--- a call that is reached and left at these times of day, behind this moment
-abbrev pub timed_call : Numbered → Option ℕ → ℕ → ℕ → TimedCall
-timed_call call before reached left =
-    let at = reached_moment before reached in
-    record { call = call; reached = at; left = in_day_from (at - 3600) left }
+abbrev pub stay_at : Option ℕ → Option ℕ → Option ℕ → Option (ℕ × ℕ)
+stay_at before (Some reached) (Some left) =
+    let at = reached_moment before reached in Some (at, in_day_from (at - 3600) left)
+stay_at before reached left = None
 
-abbrev pub timed_among : Numbered → Option ℕ → Option ℕ → Option ℕ → Option TimedCall
-timed_among call before (Some reached) (Some left) = Some (timed_call call before reached left)
-timed_among call before reached left = None
+abbrev pub stay : Option ℕ → CallTimes → Option (ℕ × ℕ)
+stay before t = stay_at before (reached_at t) (left_at t)
 
--- the call, if it is timed
-abbrev pub timed_of : Option ℕ → Numbered → Option TimedCall
-timed_of before call = timed_among call before (reached_at (times_of call.line)) (left_at (times_of call.line))
+-- the moments of its public times, none before this one, where it is reached and left at these
+abbrev pub raised : ℕ → ℕ → ℕ → ℕ × ℕ
+raised before arrival departure = (max before arrival, max (max before arrival) departure)
 
 abbrev pub public_moment : ℕ → ℕ → ℕ
 public_moment there seconds = in_day_from (there - 43200) seconds
 
-abbrev pub shown_call : TimedCall → ℕ → ℕ → ℕ → PublicCall
-shown_call t before arrival departure =
-    let at = max before (arrival - midnight) in
-    record { call = t.call; arrival = at; departure = max at (departure - midnight) }
+abbrev pub shown_at : ℕ → ℕ × ℕ → Option ℕ → Option ℕ → Option (ℕ × ℕ)
+shown_at before at (Some arrival) (Some departure) =
+    Some (raised before (public_moment at.0 arrival) (public_moment at.1 departure))
+shown_at before at (Some arrival) None = let m = public_moment at.0 arrival in Some (raised before m m)
+shown_at before at None (Some departure) = let m = public_moment at.1 departure in Some (raised before m m)
+shown_at before at None None = None
 
-abbrev pub shown_among : TimedCall → ℕ → Option ℕ → Option ℕ → PublicCall
-shown_among t before (Some arrival) (Some departure) =
-    shown_call t before (public_moment t.reached arrival) (public_moment t.left departure)
-shown_among t before (Some arrival) None = shown_call t before (public_moment t.reached arrival) (public_moment t.reached arrival)
-shown_among t before None (Some departure) = shown_call t before (public_moment t.left departure) (public_moment t.left departure)
-shown_among t before None None = shown_call t before t.reached t.left
+-- those of a line of this kind with these times, if it is public
+abbrev pub shown_of : ℕ → ℕ × ℕ → CallTimes → JourneyKind → List ℕ → Option (ℕ × ℕ)
+shown_of before at t kind line =
+    if is_advertised kind line then shown_at before at t.public_arrival t.public_departure else None
 
-abbrev pub public_of : ℕ → TimedCall → PublicCall
-public_of before t = shown_among t before (times_of t.call.line).public_arrival (times_of t.call.line).public_departure
-
--- the public ones of timed calls, where this was shown last
-abbrev pub shown_from : ℕ → List TimedCall → List PublicCall
-shown_from before [] = []
-shown_from before (t ∷ timed) =
-    if is_public t then public_of before t ∷ shown_from (public_of before t).departure timed else shown_from before timed
-
-abbrev pub timed_from : Option ℕ → List Numbered → List TimedCall
-timed_from before [] = []
-timed_from before (call ∷ calls) = go (timed_of before call)
+-- the public calls of numbered lines, where the last call was left at this moment, and that was the last one shown
+abbrev pub public_from : Option ℕ → ℕ → List Numbered → List PublicCall
+public_from left shown [] = []
+public_from left shown (c ∷ lines) = of_stay (stay left (times_of c.line))
   where
-    go : Option TimedCall → List TimedCall
-    go None = timed_from before calls
-    go (Some t) = t ∷ timed_from (Some t.left) calls
+    of_stay : Option (ℕ × ℕ) → List PublicCall
+    of_shown : ℕ → Option (ℕ × ℕ) → List PublicCall
+    of_stay None = public_from left shown lines
+    of_stay (Some at) = of_shown at.1 (shown_of shown at (times_of c.line) (kind_of_line c.line) c.line)
+    of_shown gone None = public_from (Some gone) shown lines
+    of_shown gone (Some p) =
+        record { call = c; arrival = p.0; departure = p.1 } ∷ public_from (Some gone) p.1 lines
 
 abbrev pub public_calls : ℕ × ScheduleLines → List PublicCall
-public_calls s = shown_from 0 (timed_from None (calls_of s))
+public_calls s = public_from None midnight (numbered_from s.0 1 s.1.further)
