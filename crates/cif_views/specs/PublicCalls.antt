@@ -4,7 +4,7 @@ use Rattle.std.specs.Prelude.{Option, None, Some, IfSome, IsNone, codes, decimal
 use Rattle.std.specs.Prelude.{if◌then◌else◌}
 use Rattle.std.specs.Cmp.Lexicographic.{pointwise}
 use Rattle.std.specs.List.{filter, list_any}
-use Rattle.cif_columns.specs.Activities.{codes_in}
+use Rattle.cif_columns.specs.Activities.{codes_in, has_code}
 use Rattle.cif_columns.specs.Field.{columns}
 use Rattle.cif_canon.specs.Fields.{Field}
 use Rattle.cif_canon.specs.Lines.{ScheduleLines}
@@ -14,6 +14,8 @@ use Rattle.cif_columns.specs.WorkTime.{work_seconds}
 use Rattle.cif_views.specs.Moments.{IsNearest, IsNext, in_day_from, midnight, time_text}
 use Rattle.cif_views.specs.Tables.{Numbered, TableFields, calls_of, is_call, kind_of_line, number, numbered_from, of_part, text_at}
 use Rattle.cif_views.specs.declared.public_calls.CallTimes.{CallTimes}
+use Rattle.cif_views.specs.declared.public_calls.Shown.{Shown}
+use Rattle.cif_views.specs.declared.public_calls.Stay.{Stay}
 use Rattle.cif_views.specs.declared.tables.JourneyKind.{JourneyKind}
 use Rattle.cif_views.specs.declared.tables.JourneyKind.TheVariants.{Change, Origin, Other, Stop, Terminus}
 
@@ -57,19 +59,19 @@ left_at t = option_or t.departure (option_or t.pass t.arrival)
 abbrev pub is_timed : Numbered → Bool
 is_timed c = is_some (reached_at (times_of c.line))
 
--- its activities, and whether this code is one of them
+-- its activities
 abbrev pub activities_in : JourneyKind → List ℕ → List (List ℕ)
 activities_in Origin line = codes_in (columns 30 41 line)
 activities_in Stop line = codes_in (columns 43 54 line)
 activities_in Terminus line = codes_in (columns 26 37 line)
 activities_in kind line = []
 
-abbrev pub has_activity : List ℕ → JourneyKind → List ℕ → Bool
-has_activity code kind line = list_any (pointwise nat_eq code) (activities_in kind line)
+abbrev pub activities_of : List ℕ → List (List ℕ)
+activities_of line = activities_in (kind_of_line line) line
 
 -- a call is advertised unless an activity says that it isn't, or that it is for staff
-abbrev pub is_advertised : JourneyKind → List ℕ → Bool
-is_advertised kind line = not (has_activity (codes "N ") kind line) && not (has_activity (codes "S ") kind line)
+abbrev pub is_advertised : List (List ℕ) → Bool
+is_advertised activities = not (has_code activities (codes "N ")) && not (has_code activities (codes "S "))
 
 -- ---- moments
 
@@ -103,7 +105,7 @@ pub record AreTimed (calls : List Numbered) (timed : List TimedCall) : Type 0 wh
 abbrev pub is_public : TimedCall → Bool
 is_public t =
     let times = times_of t.call.line in
-    (is_some times.public_arrival || is_some times.public_departure) && is_advertised (kind_of_line t.call.line) t.call.line
+    (is_some times.public_arrival || is_some times.public_departure) && is_advertised (activities_of t.call.line)
 
 -- The moments of its public arrival and departure. Where it has only one of these, that stands for the other.
 pub record ArePublicTimes (t : TimedCall) (arrival departure : ℕ) : Type 0 where
@@ -137,24 +139,24 @@ pub record ArePublicCalls (s : ℕ × ScheduleLines) (shown : List PublicCall) :
 -- ---- their rows
 
 -- Whether riders may get off, and on: 0 yes, 1 no, 3 on request. Where no activity says so, its public times do.
-abbrev pub answer_of : Bool → JourneyKind → List ℕ → ℕ
-answer_of may kind line = if may then (if has_activity (codes "R ") kind line then 3 else 0) else 1
+abbrev pub answer_of : Bool → List (List ℕ) → ℕ
+answer_of may activities = if may then (if has_code activities (codes "R ") then 3 else 0) else 1
 
-abbrev pub says_set_down : JourneyKind → List ℕ → Bool
-says_set_down kind line =
-    has_activity (codes "T ") kind line || (has_activity (codes "D ") kind line || has_activity (codes "TF") kind line)
+abbrev pub says_set_down : List (List ℕ) → Bool
+says_set_down activities =
+    has_code activities (codes "T ") || (has_code activities (codes "D ") || has_code activities (codes "TF"))
 
-abbrev pub says_pick_up : JourneyKind → List ℕ → Bool
-says_pick_up kind line =
-    has_activity (codes "T ") kind line || (has_activity (codes "U ") kind line || has_activity (codes "TB") kind line)
+abbrev pub says_pick_up : List (List ℕ) → Bool
+says_pick_up activities =
+    has_code activities (codes "T ") || (has_code activities (codes "U ") || has_code activities (codes "TB"))
 
-abbrev pub set_down : JourneyKind → List ℕ → ℕ
-set_down kind line =
-    answer_of (says_set_down kind line || (not (says_pick_up kind line) && is_some (times_in kind line).public_arrival)) kind line
+abbrev pub set_down : List (List ℕ) → CallTimes → ℕ
+set_down activities t =
+    answer_of (says_set_down activities || (not (says_pick_up activities) && is_some t.public_arrival)) activities
 
-abbrev pub pick_up : JourneyKind → List ℕ → ℕ
-pick_up kind line =
-    answer_of (says_pick_up kind line || (not (says_set_down kind line) && is_some (times_in kind line).public_departure)) kind line
+abbrev pub pick_up : List (List ℕ) → CallTimes → ℕ
+pick_up activities t =
+    answer_of (says_pick_up activities || (not (says_set_down activities) && is_some t.public_departure)) activities
 
 -- the columns of its platform
 abbrev pub platform_in : JourneyKind → List ℕ → Field
@@ -169,8 +171,8 @@ public_fields =
     ∷ (codes "platform", λ p. platform_in (kind_of_line p.call.line) p.call.line)
     ∷ (codes "arrival", λ p. (Whole, time_text (p.arrival - midnight)))
     ∷ (codes "departure", λ p. (Whole, time_text (p.departure - midnight)))
-    ∷ (codes "set_down", λ p. number (set_down (kind_of_line p.call.line) p.call.line))
-    ∷ (codes "pick_up", λ p. number (pick_up (kind_of_line p.call.line) p.call.line))
+    ∷ (codes "set_down", λ p. number (set_down (activities_of p.call.line) (times_of p.call.line)))
+    ∷ (codes "pick_up", λ p. number (pick_up (activities_of p.call.line) (times_of p.call.line)))
     ∷ []
 
 -- ---- as they are made
@@ -180,45 +182,46 @@ abbrev pub reached_moment : Option ℕ → ℕ → ℕ
 reached_moment None seconds = midnight + seconds
 reached_moment (Some p) seconds = in_day_from (p - 3600) seconds
 
-abbrev pub stay_at : Option ℕ → Option ℕ → Option ℕ → Option (ℕ × ℕ)
+abbrev pub stay_at : Option ℕ → Option ℕ → Option ℕ → Option Stay
 stay_at before (Some reached) (Some left) =
-    let at = reached_moment before reached in Some (at, in_day_from (at - 3600) left)
+    let at = reached_moment before reached in Some (record { reached = at; left = in_day_from (at - 3600) left })
 stay_at before reached left = None
 
-abbrev pub stay : Option ℕ → CallTimes → Option (ℕ × ℕ)
+abbrev pub stay : Option ℕ → CallTimes → Option Stay
 stay before t = stay_at before (reached_at t) (left_at t)
 
--- the moments of its public times, none before this one, where it is reached and left at these
-abbrev pub raised : ℕ → ℕ → ℕ → ℕ × ℕ
-raised before arrival departure = (max before arrival, max (max before arrival) departure)
+-- moments of public times that are raised to this one, if they are before it
+abbrev pub raised : ℕ → ℕ → ℕ → Shown
+raised before arrival departure =
+    record { arrival = max before arrival; departure = max (max before arrival) departure }
 
 abbrev pub public_moment : ℕ → ℕ → ℕ
 public_moment there seconds = in_day_from (there - 43200) seconds
 
-abbrev pub shown_at : ℕ → ℕ × ℕ → Option ℕ → Option ℕ → Option (ℕ × ℕ)
+abbrev pub shown_at : ℕ → Stay → Option ℕ → Option ℕ → Option Shown
 shown_at before at (Some arrival) (Some departure) =
-    Some (raised before (public_moment at.0 arrival) (public_moment at.1 departure))
-shown_at before at (Some arrival) None = let m = public_moment at.0 arrival in Some (raised before m m)
-shown_at before at None (Some departure) = let m = public_moment at.1 departure in Some (raised before m m)
+    Some (raised before (public_moment at.reached arrival) (public_moment at.left departure))
+shown_at before at (Some arrival) None = let m = public_moment at.reached arrival in Some (raised before m m)
+shown_at before at None (Some departure) = let m = public_moment at.left departure in Some (raised before m m)
 shown_at before at None None = None
 
--- those of a line of this kind with these times, if it is public
-abbrev pub shown_of : ℕ → ℕ × ℕ → CallTimes → JourneyKind → List ℕ → Option (ℕ × ℕ)
-shown_of before at t kind line =
-    if is_advertised kind line then shown_at before at t.public_arrival t.public_departure else None
+-- those of a call with these times and activities, if it is public
+abbrev pub shown_of : ℕ → Stay → CallTimes → List (List ℕ) → Option Shown
+shown_of before at t activities =
+    if is_advertised activities then shown_at before at t.public_arrival t.public_departure else None
 
 -- the public calls of numbered lines, where the last call was left at this moment, and that was the last one shown
 abbrev pub public_from : Option ℕ → ℕ → List Numbered → List PublicCall
 public_from left shown [] = []
 public_from left shown (c ∷ lines) = of_stay (stay left (times_of c.line))
   where
-    of_stay : Option (ℕ × ℕ) → List PublicCall
-    of_shown : ℕ → Option (ℕ × ℕ) → List PublicCall
+    of_stay : Option Stay → List PublicCall
+    of_shown : ℕ → Option Shown → List PublicCall
     of_stay None = public_from left shown lines
-    of_stay (Some at) = of_shown at.1 (shown_of shown at (times_of c.line) (kind_of_line c.line) c.line)
+    of_stay (Some at) = of_shown at.left (shown_of shown at (times_of c.line) (activities_of c.line))
     of_shown gone None = public_from (Some gone) shown lines
     of_shown gone (Some p) =
-        record { call = c; arrival = p.0; departure = p.1 } ∷ public_from (Some gone) p.1 lines
+        record { call = c; arrival = p.arrival; departure = p.departure } ∷ public_from (Some gone) p.departure lines
 
 abbrev pub public_calls : ℕ × ScheduleLines → List PublicCall
 public_calls s = public_from None midnight (numbered_from s.0 1 s.1.further)

@@ -12,7 +12,7 @@ use crate::moment::{Moment, TimeOfDay};
 use crate::table_row::TableRow;
 use crate::tables::{JourneyKind, call_after, kind_of_line};
 use cif_canon::Shape;
-use cif_columns::{Line, LineSlice, PublicTime, Sink, WorkTime, WriteDevice, columns_at};
+use cif_columns::{Activities, Line, LineSlice, PublicTime, Sink, WorkTime, WriteDevice, columns_at};
 
 /// The times of day of a call: the working times, and the public ones.
 struct CallTimes {
@@ -22,6 +22,25 @@ struct CallTimes {
     public_arrival: Option<TimeOfDay>,
     public_departure: Option<TimeOfDay>,
 }
+
+/// The moments at which a call is reached and left.
+#[derive(Clone, Copy)]
+struct Stay {
+    reached: Moment,
+    left: Moment,
+}
+
+/// The moments that the table shows of a public call.
+#[derive(Clone, Copy)]
+struct Shown {
+    arrival: Moment,
+    departure: Moment,
+}
+
+/// The seconds by which a timetable may go back from one call to the next; more than that is a new day.
+const SLIP: u32 = 3_600;
+
+const HALF_A_DAY: u32 = 43_200;
 
 impl CallTimes {
     /// Those in a line of this kind.
@@ -55,6 +74,42 @@ impl CallTimes {
         }
         times
     }
+
+    /// When the call is reached and left, behind the moment at which the call before was left; `None` if it
+    /// isn't timed.
+    fn stay(&self, before: Option<Moment>) -> Option<Stay>
+        requires { IfSome before IsOnTheWay }
+        ensures { result ≡ stay before self.now }
+    {
+        let reached = self.arrival.or(self.pass).or(self.departure)?;
+        let left = self.departure.or(self.pass).or(self.arrival)?;
+        let reached = match before {
+            Some(moment) => moment.in_day_from(SLIP, reached),
+            None => Moment::on_date(reached),
+        };
+        Some(Stay {
+            reached,
+            left: reached.in_day_from(SLIP, left),
+        })
+    }
+
+    /// The moments of its public times, none of them before this one; `None` if it has no public time.
+    fn shown(&self, before: Moment, stay: &Stay) -> Option<Shown>
+        requires reached { IsOnTheWay stay.now.reached }
+        requires left { IsOnTheWay stay.now.left }
+        ensures { result ≡ shown_at before stay.now self.now.public_arrival self.now.public_departure }
+    {
+        let arrival = self
+            .public_arrival
+            .map(|time| stay.reached.in_day_from(HALF_A_DAY, time));
+        let departure = self
+            .public_departure
+            .map(|time| stay.left.in_day_from(HALF_A_DAY, time));
+        let (arrival, departure) = (arrival.or(departure)?, departure.or(arrival)?);
+        let arrival = before.or_later(arrival);
+        let departure = arrival.or_later(departure);
+        Some(Shown { arrival, departure })
+    }
 }
 
 /// The working time in the five columns from `first` on, if it is one.
@@ -77,16 +132,143 @@ fn public_seconds(line: &Line, first: usize) -> Option<TimeOfDay>
     Some(TimeOfDay::new(time.seconds()?))
 }
 
-/// The moments at which a call is reached and left.
-#[derive(Clone, Copy)]
-struct Stay {
-    reached: Moment,
-    left: Moment,
+/// The activities of a call in a line of this kind.
+fn activities_of(kind: JourneyKind, line: &Line) -> Activities
+    ensures { result ≡ activities_in kind line.now }
+{
+    let first = match kind {
+        JourneyKind::Origin => 30,
+        JourneyKind::Stop => 43,
+        JourneyKind::Terminus => 26,
+        JourneyKind::Change | JourneyKind::Other => return Activities::read(&[b' '; 12]),
+    };
+    Activities::read(&columns_at::<12>(line, first))
 }
 
-/// The moments that the table shows of a public call.
-#[derive(Clone, Copy)]
-struct Shown {
-    arrival: Moment,
-    departure: Moment,
+/// Whether a call with these activities is advertised.
+fn is_advertised(activities: &Activities) -> bool
+    ensures { result ≡ is_advertised activities.now }
+{
+    !activities.has(b"N ") && !activities.has(b"S ")
+}
+
+/// Whether riders may get off: 0 yes, 1 no, 3 on request.
+fn set_down(activities: &Activities, times: &CallTimes) -> usize
+    ensures { result ≡ set_down activities.now times.now }
+{
+    let by_times = !says_pick_up(activities) && times.public_arrival.is_some();
+    answer_of(says_set_down(activities) || by_times, activities)
+}
+
+/// Whether riders may get on, likewise.
+fn pick_up(activities: &Activities, times: &CallTimes) -> usize
+    ensures { result ≡ pick_up activities.now times.now }
+{
+    let by_times = !says_set_down(activities) && times.public_departure.is_some();
+    answer_of(says_pick_up(activities) || by_times, activities)
+}
+
+/// Whether an activity says that riders may get off.
+fn says_set_down(activities: &Activities) -> bool
+    ensures { result ≡ says_set_down activities.now }
+{
+    activities.has(b"T ") || activities.has(b"D ") || activities.has(b"TF")
+}
+
+/// Whether an activity says that riders may get on.
+fn says_pick_up(activities: &Activities) -> bool
+    ensures { result ≡ says_pick_up activities.now }
+{
+    activities.has(b"T ") || activities.has(b"U ") || activities.has(b"TB")
+}
+
+/// The number for whether riders may.
+fn answer_of(may: bool, activities: &Activities) -> usize
+    ensures { result ≡ answer_of may activities.now }
+{
+    match (may, activities.has(b"R ")) {
+        (false, _) => 1,
+        (true, true) => 3,
+        (true, false) => 0,
+    }
+}
+
+/// What goes on from call to call.
+struct Journey {
+    // When the last timed call was left.
+    left: Option<Moment>,
+    // The last moment that was shown; at first the midnight at which the schedule's date begins.
+    shown: Moment,
+}
+
+impl Journey {
+    /// Appends the row of the line behind what it begins with, if it is a public call.
+    fn write_call<W: WriteDevice>(
+        &mut self,
+        row: &mut TableRow,
+        call: usize,
+        kind: JourneyKind,
+        line: &Line,
+        sink: &mut Sink<W>,
+    )
+    {
+        let times = CallTimes::of(kind, line);
+        let Some(stay) = times.stay(self.left) else {
+            return;
+        };
+        self.left = Some(stay.left);
+        let Some(shown) = times.shown(self.shown, &stay) else {
+            return;
+        };
+        let activities = activities_of(kind, line);
+        if is_advertised(&activities) {
+            self.shown = shown.departure;
+            let begun = row.len();
+            row.push_number(call);
+            row.push_text::<7>(line, 3);
+            push_platform(row, kind, line);
+            row.push(Shape::Whole, shown.arrival.text().as_str().as_bytes());
+            row.push(Shape::Whole, shown.departure.text().as_str().as_bytes());
+            row.push_number(set_down(&activities, &times));
+            row.push_number(pick_up(&activities, &times));
+            row.write(sink);
+            row.truncate(begun);
+        }
+    }
+}
+
+/// Appends the platform of a call.
+fn push_platform(row: &mut TableRow, kind: JourneyKind, line: &Line) {
+    match kind {
+        JourneyKind::Stop => row.push_text::<3>(line, 34),
+        _ => row.push_text::<3>(line, 20),
+    }
+}
+
+/// Appends the rows of a schedule's public calls. They all begin with its number.
+pub(crate) fn write_public_calls<W: WriteDevice>(
+    schedule: usize,
+    lines: LineSlice<'_>,
+    sink: &mut Sink<W>,
+)
+    ensures { IsAppended W.contents W.write_errors
+        (flat_map (row_line public_fields) (public_from None midnight (numbered_from schedule 1 lines.entry)))
+        sink.old sink.new }
+{
+    let mut row = TableRow::new();
+    row.push_number(schedule);
+    let mut journey = Journey {
+        left: None,
+        shown: Moment::on_date(TimeOfDay::new(0)),
+    };
+    let mut call = 1;
+    let mut lines = lines;
+    lines.are_few();
+    while !lines.is_empty() {
+        let line = lines.first();
+        let kind = kind_of_line(&line);
+        journey.write_call(&mut row, call, kind, &line, sink);
+        call = call_after(call, kind);
+        lines = lines.rest();
+    }
 }
