@@ -7,7 +7,7 @@ abbrev pub day : ℕ
 day = 86400
 
 -- the midnight at which the schedule's date begins
-unfoldable pub midnight : ℕ
+abbrev pub midnight : ℕ
 midnight = day * 2 ^ 64
 
 -- m has this time of day, and lies in the day that begins at `from`
@@ -34,5 +34,14 @@ two_digits_or_more n = if nat_lt n 10 then codes "0" ++ decimal n else decimal n
 
 abbrev pub time_text : ℕ → List ℕ
 time_text seconds =
-    two_digits_or_more (seconds / 3600)
-    ++ (codes ":" ++ (two_digits_or_more (seconds / 60 % 60) ++ (codes ":" ++ two_digits_or_more (seconds % 60))))
+    (((two_digits_or_more (seconds / 3600) ++ codes ":") ++ two_digits_or_more (seconds / 60 % 60)) ++ codes ":")
+    ++ two_digits_or_more (seconds % 60)
+
+-- Where a journey can be after so many calls: each may lead back by two hours, and on by two days. And where it can be at all.
+pub record IsBy (n m : ℕ) : Type 0 where
+  pub late : midnight ≤ m + 7200 * n
+  pub early : m ≤ midnight + 172800 * n
+
+pub record IsOnTheWay (m : ℕ) : Type 0 where
+  pub late : day ≤ m
+  pub early : m < day * 2 ^ 100

@@ -1,19 +1,21 @@
 -- The public calls of a schedule, and when they are.
-use Rattle.std.specs.Prelude.{◌≡◌, ⊤, ℕ, ◌+◌, ◌-◌, ◌*◌, ◌/◌, ◌%◌, Bool, true, false, not, ◌&&◌, ◌||◌, List, [], ◌∷◌, ◌++◌}
-use Rattle.std.specs.Prelude.{Option, None, Some, IfSome, IsNone, codes, decimal, is_some, map, max, nat_eq, nat_lt, option_or, unwrap_or}
+use Rattle.std.specs.Prelude.{◌≡◌, ⊤, ℕ, ◌-◌, ◌+◌, ◌*◌, ◌^◌, ◌<◌, ◌≤◌, Bool, true, false, not, ◌&&◌, ◌||◌, List, [], ◌∷◌, ◌++◌}
+use Rattle.std.specs.Prelude.{Option, None, Some, IfSome, IsNone, codes, decimal, is_some, map, max, nat_eq, nat_lt}
 use Rattle.std.specs.Prelude.{if◌then◌else◌}
 use Rattle.std.specs.Cmp.Lexicographic.{pointwise}
-use Rattle.std.specs.List.{filter, list_any}
+use Rattle.std.specs.List.{filter}
+use Rattle.std.specs.Option.{option_and_then, option_or}
 use Rattle.cif_columns.specs.Activities.{codes_in, has_code}
 use Rattle.cif_columns.specs.Field.{columns}
 use Rattle.cif_canon.specs.Fields.{Field}
 use Rattle.cif_canon.specs.Lines.{ScheduleLines}
 use Rattle.cif_canon.specs.declared.rows.Shape.TheVariants.{Whole}
-use Rattle.cif_columns.specs.PublicTime.{public_seconds}
-use Rattle.cif_columns.specs.WorkTime.{work_seconds}
-use Rattle.cif_views.specs.Moments.{IsNearest, IsNext, in_day_from, midnight, time_text}
+use Rattle.cif_columns.specs.PublicTime.{public_seconds, public_time_in}
+use Rattle.cif_columns.specs.WorkTime.{work_seconds, work_time_in}
+use Rattle.cif_views.specs.Moments.{IsNearest, IsNext, day, in_day_from, midnight, time_text}
 use Rattle.cif_views.specs.Tables.{Numbered, TableFields, calls_of, is_call, kind_of_line, number, numbered_from, of_part, text_at}
 use Rattle.cif_views.specs.declared.public_calls.CallTimes.{CallTimes}
+use Rattle.cif_views.specs.declared.public_calls.Journey.{Journey}
 use Rattle.cif_views.specs.declared.public_calls.Shown.{Shown}
 use Rattle.cif_views.specs.declared.public_calls.Stay.{Stay}
 use Rattle.cif_views.specs.declared.tables.JourneyKind.{JourneyKind}
@@ -21,27 +23,34 @@ use Rattle.cif_views.specs.declared.tables.JourneyKind.TheVariants.{Change, Orig
 
 -- ---- what is read of a call's line
 
+-- the seconds of a working time, and of a public time, if the columns are one
+abbrev pub working : List ℕ → Option ℕ
+working columns = option_and_then work_seconds (work_time_in columns)
+
+abbrev pub advertised : List ℕ → Option ℕ
+advertised columns = option_and_then public_seconds (public_time_in columns)
+
 -- the times of day of a call, in seconds: the working times, and the public ones
 abbrev pub times_in : JourneyKind → List ℕ → CallTimes
 times_in Origin line = record {
   arrival = None;
   pass = None;
-  departure = work_seconds (columns 11 15 line);
+  departure = working (columns 11 15 line);
   public_arrival = None;
-  public_departure = public_seconds (columns 16 19 line);
+  public_departure = advertised (columns 16 19 line);
 }
 times_in Stop line = record {
-  arrival = work_seconds (columns 11 15 line);
-  pass = work_seconds (columns 21 25 line);
-  departure = work_seconds (columns 16 20 line);
-  public_arrival = public_seconds (columns 26 29 line);
-  public_departure = public_seconds (columns 30 33 line);
+  arrival = working (columns 11 15 line);
+  pass = working (columns 21 25 line);
+  departure = working (columns 16 20 line);
+  public_arrival = advertised (columns 26 29 line);
+  public_departure = advertised (columns 30 33 line);
 }
 times_in Terminus line = record {
-  arrival = work_seconds (columns 11 15 line);
+  arrival = working (columns 11 15 line);
   pass = None;
   departure = None;
-  public_arrival = public_seconds (columns 16 19 line);
+  public_arrival = advertised (columns 16 19 line);
   public_departure = None;
 }
 times_in kind line = record { arrival = None; pass = None; departure = None; public_arrival = None; public_departure = None }
@@ -177,6 +186,10 @@ public_fields =
 
 -- ---- as they are made
 
+-- what goes on from call to call: when the last timed call was left, and the last moment shown; none at first
+abbrev pub at_first : Journey
+at_first = record { left = None; shown = midnight }
+
 -- the moments at which a call with these times is reached and left, behind this moment, if it is timed
 abbrev pub reached_moment : Option ℕ → ℕ → ℕ
 reached_moment None seconds = midnight + seconds
@@ -210,18 +223,27 @@ abbrev pub shown_of : ℕ → Stay → CallTimes → List (List ℕ) → Option 
 shown_of before at t activities =
     if is_advertised activities then shown_at before at t.public_arrival t.public_departure else None
 
--- the public calls of numbered lines, where the last call was left at this moment, and that was the last one shown
-abbrev pub public_from : Option ℕ → ℕ → List Numbered → List PublicCall
-public_from left shown [] = []
-public_from left shown (c ∷ lines) = of_stay (stay left (times_of c.line))
+-- what a line of this kind leaves of a journey, and its moments if it is a public call
+abbrev pub step : Journey → JourneyKind → List ℕ → Journey × Option Shown
+step j kind line = of_stay (stay j.left (times_in kind line))
   where
-    of_stay : Option Stay → List PublicCall
-    of_shown : ℕ → Option Shown → List PublicCall
-    of_stay None = public_from left shown lines
-    of_stay (Some at) = of_shown at.left (shown_of shown at (times_of c.line) (activities_of c.line))
-    of_shown gone None = public_from (Some gone) shown lines
-    of_shown gone (Some p) =
-        record { call = c; arrival = p.arrival; departure = p.departure } ∷ public_from (Some gone) p.departure lines
+    of_shown : ℕ → Option Shown → Journey × Option Shown
+    of_shown gone None = (record { left = Some gone; shown = j.shown }, None)
+    of_shown gone (Some p) = (record { left = Some gone; shown = p.departure }, Some p)
+
+    of_stay : Option Stay → Journey × Option Shown
+    of_stay None = (j, None)
+    of_stay (Some at) = of_shown at.left (shown_of j.shown at (times_in kind line) (activities_in kind line))
+
+abbrev pub public_call : Numbered → Option Shown → List PublicCall
+public_call c None = []
+public_call c (Some p) = record { call = c; arrival = p.arrival; departure = p.departure } ∷ []
+
+-- the public calls of numbered lines
+abbrev pub public_from : Journey → List Numbered → List PublicCall
+public_from j [] = []
+public_from j (c ∷ lines) =
+    let next = step j (kind_of_line c.line) c.line in public_call c next.1 ++ public_from next.0 lines
 
 abbrev pub public_calls : ℕ × ScheduleLines → List PublicCall
-public_calls s = public_from None midnight (numbered_from s.0 1 s.1.further)
+public_calls s = public_from at_first (numbered_from s.0 1 s.1.further)

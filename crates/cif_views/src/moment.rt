@@ -31,6 +31,8 @@ impl Model for TimeOfDay {
     ghost view = { λ t. t.seconds };
 
     ghost invariant = { λ t. t.seconds < 86400 };
+
+    ghost inverse = { λ n. record { seconds = n } };
 }
 
 impl TimeOfDay {
@@ -47,15 +49,20 @@ impl TimeOfDay {
 #[derive(Clone, Copy)]
 pub(crate) struct Moment {
     day: u128,
-    time: TimeOfDay,
+    // The time of day.
+    seconds: u32,
 }
 
 impl Model for Moment {
-    ghost use Rattle.std.specs.Prelude.{ℕ, ◌+◌, ◌*◌};
+    ghost use Rattle.std.specs.Prelude.{ℕ, ◌+◌, ◌*◌, ◌/◌, ◌%◌, ◌<◌};
 
     ghost Value = { ℕ };
 
-    ghost view = { λ m. m.day * 86400 + m.time };
+    ghost view = { λ m. m.day * 86400 + m.seconds };
+
+    ghost invariant = { λ m. m.seconds < 86400 };
+
+    ghost inverse = { λ n. record { day = n / 86400; seconds = n % 86400 } };
 }
 
 impl Moment {
@@ -65,7 +72,7 @@ impl Moment {
     {
         Moment {
             day: FIRST_DAY,
-            time,
+            seconds: time.seconds,
         }
     }
 
@@ -78,7 +85,7 @@ impl Moment {
         ensures not_before { self ≤ result + before }
         ensures within { result < self + DAY }
     {
-        let (own, other) = (self.time.seconds, time.seconds + before);
+        let (own, other) = (self.seconds, time.seconds + before);
         let day = if other < own {
             self.day + 1
         } else if other >= own + DAY {
@@ -86,15 +93,17 @@ impl Moment {
         } else {
             self.day
         };
-        Moment { day, time }
+        Moment {
+            day,
+            seconds: time.seconds,
+        }
     }
 
     /// The later of both.
     pub(crate) fn or_later(self, other: Moment) -> Moment
         ensures { result ≡ max self other }
     {
-        let (own, others) = (self.time.seconds, other.time.seconds);
-        if self.day < other.day || self.day == other.day && own < others {
+        if self.day < other.day || self.day == other.day && self.seconds < other.seconds {
             other
         } else {
             self
@@ -107,7 +116,7 @@ impl Moment {
         requires early { self < DAY * 2 ^ 100 }
         ensures { result.bytes ≡ time_text (self - midnight) }
     {
-        let seconds = self.time.seconds;
+        let seconds = self.seconds;
         let hours = (self.day - FIRST_DAY) * 24 + (seconds / 3_600) as u128;
         let mut text = ArrayString::new();
         push_number(&mut text, hours);

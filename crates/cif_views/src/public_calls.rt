@@ -1,20 +1,28 @@
 //! The public calls of a schedule, as rows of a table.
-ghost use Rattle.std.specs.Prelude.{◌≡◌, ◌<◌, ◌≤◌, ◌+◌, ◌*◌, ◌∷◌, ℕ, List, Option, IfSome, Some, length};
+ghost use Rattle.std.specs.Prelude.{◌≡◌, ◌<◌, ◌≤◌, ◌+◌, ◌^◌, ◌++◌, ◌∷◌, [], ℕ, IfSome, length};
 ghost use Rattle.std.specs.List.{flat_map};
 ghost use Rattle.cif_columns.specs.Field.{columns_from};
-ghost use Rattle.cif_columns.specs.PublicTime.{public_seconds};
-ghost use Rattle.cif_columns.specs.WorkTime.{work_seconds};
 ghost use Rattle.cif_canon.specs.Appended.{IsAppended};
-ghost use Rattle.cif_views.specs.PublicCalls.{has_activity, public_calls, public_fields, times_in};
-ghost use Rattle.cif_views.specs.Tables.{kind_of_line, row_line};
+ghost use Rattle.cif_canon.specs.Fields.{after};
+ghost use Rattle.cif_canon.specs.declared.rows.Format.TheVariants.{Tsv};
+ghost use Rattle.cif_views.specs.Moments.{IsBy, IsOnTheWay};
+ghost use Rattle.cif_views.specs.PublicCalls.{activities_in, advertised, answer_of, at_first, is_advertised};
+ghost use Rattle.cif_views.specs.PublicCalls.{pick_up, platform_in, public_fields, public_from, says_pick_up};
+ghost use Rattle.cif_views.specs.PublicCalls.{says_set_down, set_down, shown_at, stay, step, times_in, working};
+ghost use Rattle.cif_views.specs.Steps.PublicRows.{IsJourneyBy, IsStayBy, IsToShow, behind_schedule};
+ghost use Rattle.cif_views.specs.Steps.TableRows.{row_behind};
+ghost use Rattle.cif_views.specs.Tables.{numbered_from, row_line};
 
 use crate::moment::{Moment, TimeOfDay};
 use crate::table_row::TableRow;
 use crate::tables::{JourneyKind, call_after, kind_of_line};
 use cif_canon::Shape;
-use cif_columns::{Activities, Line, LineSlice, PublicTime, Sink, WorkTime, WriteDevice, columns_at};
+use cif_columns::{
+    Activities, Line, LineSlice, PublicTime, Sink, WorkTime, WriteDevice, columns_at,
+};
 
 /// The times of day of a call: the working times, and the public ones.
+#[derive(Clone, Copy)]
 struct CallTimes {
     arrival: Option<TimeOfDay>,
     pass: Option<TimeOfDay>,
@@ -56,19 +64,19 @@ impl CallTimes {
         };
         match kind {
             JourneyKind::Origin => {
-                times.departure = work_seconds(line, 11);
-                times.public_departure = public_seconds(line, 16);
+                times.departure = working(line, 11);
+                times.public_departure = advertised(line, 16);
             }
             JourneyKind::Stop => {
-                times.arrival = work_seconds(line, 11);
-                times.departure = work_seconds(line, 16);
-                times.pass = work_seconds(line, 21);
-                times.public_arrival = public_seconds(line, 26);
-                times.public_departure = public_seconds(line, 30);
+                times.arrival = working(line, 11);
+                times.departure = working(line, 16);
+                times.pass = working(line, 21);
+                times.public_arrival = advertised(line, 26);
+                times.public_departure = advertised(line, 30);
             }
             JourneyKind::Terminus => {
-                times.arrival = work_seconds(line, 11);
-                times.public_arrival = public_seconds(line, 16);
+                times.arrival = working(line, 11);
+                times.public_arrival = advertised(line, 16);
             }
             JourneyKind::Change | JourneyKind::Other => {}
         }
@@ -79,7 +87,8 @@ impl CallTimes {
     /// isn't timed.
     fn stay(&self, before: Option<Moment>) -> Option<Stay>
         requires { IfSome before IsOnTheWay }
-        ensures { result ≡ stay before self.now }
+        ensures exact { result ≡ stay before self.now }
+        ensures by { (n : ℕ) → n ≤ 2 ^ 63 → IfSome before (IsBy n) → IfSome result (λ stay. IsStayBy (n + 1) stay) }
     {
         let reached = self.arrival.or(self.pass).or(self.departure)?;
         let left = self.departure.or(self.pass).or(self.arrival)?;
@@ -97,7 +106,10 @@ impl CallTimes {
     fn shown(&self, before: Moment, stay: &Stay) -> Option<Shown>
         requires reached { IsOnTheWay stay.now.reached }
         requires left { IsOnTheWay stay.now.left }
-        ensures { result ≡ shown_at before stay.now self.now.public_arrival self.now.public_departure }
+        ensures exact { result ≡ shown_at before stay.now self.now.public_arrival self.now.public_departure }
+        ensures from { IfSome result (λ shown. (before ≤ shown.arrival) × (shown.arrival ≤ shown.departure)) }
+        ensures upto { IfSome result (λ shown. (m : ℕ) → before ≤ m → stay.now.reached + 43200 ≤ m
+            → stay.now.left + 43200 ≤ m → shown.departure ≤ m) }
     {
         let arrival = self
             .public_arrival
@@ -113,20 +125,20 @@ impl CallTimes {
 }
 
 /// The working time in the five columns from `first` on, if it is one.
-fn work_seconds(line: &Line, first: usize) -> Option<TimeOfDay>
+fn working(line: &Line, first: usize) -> Option<TimeOfDay>
     requires from_one { 1 ≤ first }
     requires within { first ≤ 76 }
-    ensures { result ≡ work_seconds (columns_from first 5 line.now) }
+    ensures { result ≡ working (columns_from first 5 line.now) }
 {
     let time = WorkTime::read(&columns_at::<5>(line, first))?;
     Some(TimeOfDay::new(time.seconds()?))
 }
 
 /// The public time in the four columns from `first` on, if it is one.
-fn public_seconds(line: &Line, first: usize) -> Option<TimeOfDay>
+fn advertised(line: &Line, first: usize) -> Option<TimeOfDay>
     requires from_one { 1 ≤ first }
     requires within { first ≤ 77 }
-    ensures { result ≡ public_seconds (columns_from first 4 line.now) }
+    ensures { result ≡ advertised (columns_from first 4 line.now) }
 {
     let time = PublicTime::read(&columns_at::<4>(line, first))?;
     Some(TimeOfDay::new(time.seconds()?))
@@ -194,6 +206,7 @@ fn answer_of(may: bool, activities: &Activities) -> usize
 }
 
 /// What goes on from call to call.
+#[derive(Clone, Copy)]
 struct Journey {
     // When the last timed call was left.
     left: Option<Moment>,
@@ -202,43 +215,63 @@ struct Journey {
 }
 
 impl Journey {
-    /// Appends the row of the line behind what it begins with, if it is a public call.
-    fn write_call<W: WriteDevice>(
-        &mut self,
-        row: &mut TableRow,
-        call: usize,
-        kind: JourneyKind,
-        line: &Line,
-        sink: &mut Sink<W>,
-    )
+    /// The moments of the line, if it is a public call; the journey goes on behind it.
+    fn step(&mut self, kind: JourneyKind, line: &Line) -> Option<Shown>
+        requires { (n : ℕ) × (n ≤ 2 ^ 63) × IsJourneyBy n self.old }
+        ensures exact { (self.new, result) ≡ step self.old kind line.now }
+        ensures by { (n : ℕ) → n ≤ 2 ^ 63 → IsJourneyBy n self.old → IsJourneyBy (n + 1) self.new }
+        ensures shown { IfSome result IsToShow }
     {
         let times = CallTimes::of(kind, line);
         let Some(stay) = times.stay(self.left) else {
-            return;
+            return None;
         };
         self.left = Some(stay.left);
-        let Some(shown) = times.shown(self.shown, &stay) else {
-            return;
-        };
-        let activities = activities_of(kind, line);
-        if is_advertised(&activities) {
-            self.shown = shown.departure;
-            let begun = row.len();
-            row.push_number(call);
-            row.push_text::<7>(line, 3);
-            push_platform(row, kind, line);
-            row.push(Shape::Whole, shown.arrival.text().as_str().as_bytes());
-            row.push(Shape::Whole, shown.departure.text().as_str().as_bytes());
-            row.push_number(set_down(&activities, &times));
-            row.push_number(pick_up(&activities, &times));
-            row.write(sink);
-            row.truncate(begun);
+        let shown = times.shown(self.shown, &stay)?;
+        if !is_advertised(&activities_of(kind, line)) {
+            return None;
         }
+        self.shown = shown.departure;
+        Some(shown)
     }
 }
 
+/// Appends the row of a public call behind what it begins with.
+fn write_public_call<W: WriteDevice>(
+    row: &mut TableRow,
+    call: usize,
+    line: &Line,
+    shown: &Shown,
+    sink: &mut Sink<W>,
+)
+    requires begun { 0 < length row.old }
+    requires room { length row.old ≤ 41 }
+    requires shown { IsToShow shown.now }
+    ensures text { IsAppended W.contents W.write_errors
+        (row_behind row.old (behind_schedule call line.now shown.now)) sink.old sink.new }
+    ensures same { row.new ≡ row.old }
+{
+    let begun = row.len();
+    let kind = kind_of_line(line);
+    let times = CallTimes::of(kind, line);
+    let activities = activities_of(kind, line);
+    row.push_number(call);
+    row.push_text::<7>(line, 3);
+    push_platform(row, kind, line);
+    row.push(Shape::Whole, shown.arrival.text().as_str().as_bytes());
+    row.push(Shape::Whole, shown.departure.text().as_str().as_bytes());
+    row.push_number(set_down(&activities, &times));
+    row.push_number(pick_up(&activities, &times));
+    row.write(sink);
+    row.truncate(begun);
+}
+
 /// Appends the platform of a call.
-fn push_platform(row: &mut TableRow, kind: JourneyKind, line: &Line) {
+fn push_platform(row: &mut TableRow, kind: JourneyKind, line: &Line)
+    requires { length row.old ≤ 150 }
+    ensures text { row.new ≡ row.old ++ after Tsv (platform_in kind line.now ∷ []) }
+    ensures len { length row.new ≤ length row.old + 4 }
+{
     match kind {
         JourneyKind::Stop => row.push_text::<3>(line, 34),
         _ => row.push_text::<3>(line, 20),
@@ -252,7 +285,7 @@ pub(crate) fn write_public_calls<W: WriteDevice>(
     sink: &mut Sink<W>,
 )
     ensures { IsAppended W.contents W.write_errors
-        (flat_map (row_line public_fields) (public_from None midnight (numbered_from schedule 1 lines.entry)))
+        (flat_map (row_line public_fields) (public_from at_first (numbered_from schedule 1 lines.entry)))
         sink.old sink.new }
 {
     let mut row = TableRow::new();
@@ -267,7 +300,9 @@ pub(crate) fn write_public_calls<W: WriteDevice>(
     while !lines.is_empty() {
         let line = lines.first();
         let kind = kind_of_line(&line);
-        journey.write_call(&mut row, call, kind, &line, sink);
+        if let Some(shown) = journey.step(kind, &line) {
+            write_public_call(&mut row, call, &line, &shown, sink);
+        }
         call = call_after(call, kind);
         lines = lines.rest();
     }

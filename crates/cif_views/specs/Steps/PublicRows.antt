@@ -1,0 +1,39 @@
+-- The rows of public calls as the code makes them. No public clause cites them.
+use Rattle.std.specs.Prelude.{ℕ, ◌≤◌, ◌+◌, ◌*◌, ◌-◌, ◌^◌, ◌<◌, IfSome, List, [], ◌∷◌}
+use Rattle.cif_canon.specs.Fields.{Field}
+use Rattle.cif_canon.specs.declared.rows.Shape.TheVariants.{Whole}
+use Rattle.cif_views.specs.Moments.{IsBy, day, midnight, time_text}
+use Rattle.cif_views.specs.PublicCalls.{activities_of, pick_up, platform_in, set_down, times_of}
+use Rattle.cif_views.specs.Tables.{kind_of_line, number, text_at}
+use Rattle.cif_views.specs.declared.public_calls.Journey.{Journey}
+use Rattle.cif_views.specs.declared.public_calls.Shown.{Shown}
+use Rattle.cif_views.specs.declared.public_calls.Stay.{Stay}
+
+-- the fields of a public call behind the number of its schedule
+abbrev pub behind_schedule : ℕ → List ℕ → Shown → List Field
+behind_schedule call line shown =
+    number call
+    ∷ text_at 3 9 line
+    ∷ platform_in (kind_of_line line) line
+    ∷ (Whole, time_text (shown.arrival - midnight))
+    ∷ (Whole, time_text (shown.departure - midnight))
+    ∷ number (set_down (activities_of line) (times_of line))
+    ∷ number (pick_up (activities_of line) (times_of line))
+    ∷ []
+
+-- both moments of a call are where a journey can be after so many calls
+pub record IsStayBy (n : ℕ) (s : Stay) : Type 0 where
+  pub reached : IsBy n s.reached
+  pub left : IsBy n s.left
+
+-- so is a journey
+pub record IsJourneyBy (n : ℕ) (j : Journey) : Type 0 where
+  pub left : IfSome j.left (IsBy n)
+  pub late : midnight ≤ j.shown
+  pub early : j.shown ≤ midnight + 172800 * n + 43200
+
+-- moments that can be shown
+pub record IsToShow (s : Shown) : Type 0 where
+  pub arrival : midnight ≤ s.arrival
+  pub departure : s.arrival ≤ s.departure
+  pub early : s.departure < day * 2 ^ 100
