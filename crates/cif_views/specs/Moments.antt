@@ -1,6 +1,7 @@
 -- When a train is at its calls. A moment is counted in whole seconds, from a midnight so long before the one at which the schedule's
 -- date begins that no moment of a journey is before it.
-use Rattle.std.specs.Prelude.{◌≡◌, ℕ, ◌+◌, ◌-◌, ◌*◌, ◌/◌, ◌%◌, ◌^◌, ◌<◌, ◌≤◌, List, ◌++◌, codes, decimal, nat_lt, if◌then◌else◌}
+use Rattle.std.specs.Prelude.{◌≡◌, ℕ, ◌+◌, ◌-◌, ◌*◌, ◌/◌, ◌%◌, ◌^◌, ◌<◌, ◌≤◌, List, ◌∷◌, ◌++◌, codes, decimal, nat_lt, if◌then◌else◌}
+use Rattle.cif_columns.specs.Digits.{two_digits}
 
 -- the seconds of a day
 abbrev pub day : ℕ
@@ -34,13 +35,13 @@ two_digits_or_more n = if nat_lt n 10 then codes "0" ++ decimal n else decimal n
 
 abbrev pub time_text : ℕ → List ℕ
 time_text seconds =
-    (((two_digits_or_more (seconds / 3600) ++ codes ":") ++ two_digits_or_more (seconds / 60 % 60)) ++ codes ":")
-    ++ two_digits_or_more (seconds % 60)
+    two_digits_or_more (seconds / 3600)
+    ++ ((58 ∷ two_digits (seconds / 60 % 60)) ++ (58 ∷ two_digits (seconds % 60)))
 
--- Where a journey can be after so many calls: each may lead back by two hours, and on by two days. And where it can be at all.
+-- Where a journey can be after so many moments: each leads back by an hour at most, and on by a day. And where it can be at all.
 pub record IsBy (n m : ℕ) : Type 0 where
-  pub late : midnight ≤ m + 7200 * n
-  pub early : m ≤ midnight + 172800 * n
+  pub late : midnight ≤ m + 3600 * n
+  pub early : m ≤ midnight + day * n
 
 pub record IsOnTheWay (m : ℕ) : Type 0 where
   pub late : day ≤ m

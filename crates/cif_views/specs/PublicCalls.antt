@@ -148,8 +148,8 @@ pub record ArePublicCalls (s : ℕ × ScheduleLines) (shown : List PublicCall) :
 -- ---- their rows
 
 -- Whether riders may get off, and on: 0 yes, 1 no, 3 on request. Where no activity says so, its public times do.
-abbrev pub answer_of : Bool → List (List ℕ) → ℕ
-answer_of may activities = if may then (if has_code activities (codes "R ") then 3 else 0) else 1
+abbrev pub answer_of : Bool → List (List ℕ) → List ℕ
+answer_of may activities = if may then (if has_code activities (codes "R ") then codes "3" else codes "0") else codes "1"
 
 abbrev pub says_set_down : List (List ℕ) → Bool
 says_set_down activities =
@@ -159,11 +159,11 @@ abbrev pub says_pick_up : List (List ℕ) → Bool
 says_pick_up activities =
     has_code activities (codes "T ") || (has_code activities (codes "U ") || has_code activities (codes "TB"))
 
-abbrev pub set_down : List (List ℕ) → CallTimes → ℕ
+abbrev pub set_down : List (List ℕ) → CallTimes → List ℕ
 set_down activities t =
     answer_of (says_set_down activities || (not (says_pick_up activities) && is_some t.public_arrival)) activities
 
-abbrev pub pick_up : List (List ℕ) → CallTimes → ℕ
+abbrev pub pick_up : List (List ℕ) → CallTimes → List ℕ
 pick_up activities t =
     answer_of (says_pick_up activities || (not (says_set_down activities) && is_some t.public_departure)) activities
 
@@ -180,8 +180,8 @@ public_fields =
     ∷ (codes "platform", λ p. platform_in (kind_of_line p.call.line) p.call.line)
     ∷ (codes "arrival", λ p. (Whole, time_text (p.arrival - midnight)))
     ∷ (codes "departure", λ p. (Whole, time_text (p.departure - midnight)))
-    ∷ (codes "set_down", λ p. number (set_down (activities_of p.call.line) (times_of p.call.line)))
-    ∷ (codes "pick_up", λ p. number (pick_up (activities_of p.call.line) (times_of p.call.line)))
+    ∷ (codes "set_down", λ p. (Whole, set_down (activities_of p.call.line) (times_of p.call.line)))
+    ∷ (codes "pick_up", λ p. (Whole, pick_up (activities_of p.call.line) (times_of p.call.line)))
     ∷ []
 
 -- ---- as they are made

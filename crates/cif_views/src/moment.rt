@@ -1,21 +1,26 @@
 //! Moments of a journey.
-ghost use Rattle.std.specs.Prelude.{◌≡◌, ◌<◌, ◌≤◌, ◌+◌, ◌-◌, ◌*◌, ◌^◌, ◌++◌, max};
-ghost use Rattle.arrayvec.specs.ArrayString.{array_string_len};
-ghost use Rattle.cif_views.specs.Moments.{in_day_from, midnight, time_text, two_digits_or_more};
+ghost use Rattle.std.specs.Prelude.{◌≡◌, ◌<◌, ◌≤◌, ◌+◌, ◌-◌, ◌*◌, ◌^◌, ◌++◌, ℕ, max};
+ghost use Rattle.cif_views.specs.Moments.{IsBy, IsOnTheWay, in_day_from, midnight, time_text};
 
 use arrayvec::ArrayString;
+use cif_columns::as_text;
 use itoa::Buffer;
 use std::marker::Model;
 
 /// The seconds of a day.
 const DAY: u32 = 86_400;
 
+/// The seconds by which a timetable may go back from one time to the next; more than that is a new day.
+const SLIP: u32 = 3_600;
+
+const HALF_A_DAY: u32 = 43_200;
+
 /// The number of the day that is the schedule's date. Earlier ones have a number too, as a timetable may go
 /// back by an hour at a call.
 const FIRST_DAY: u128 = 1 << 64;
 
 /// The bytes of the longest text of a moment.
-pub(crate) const LONGEST_TIME: usize = 130;
+pub(crate) const LONGEST_TIME: usize = 47;
 
 /// A time of day. A clause sees its seconds from midnight.
 #[derive(Clone, Copy)]
@@ -77,10 +82,9 @@ impl Moment {
     }
 
     /// The moment with this time of day in the day that begins so many seconds before this one.
-    pub(crate) fn in_day_from(self, before: u32, time: TimeOfDay) -> Moment
+    fn in_day_from(self, before: u32, time: TimeOfDay) -> Moment
         requires before { before < DAY }
-        requires late { DAY ≤ self }
-        requires early { self < DAY * 2 ^ 100 }
+        requires on_the_way { IsOnTheWay self }
         ensures moment { result ≡ in_day_from (self - before) time }
         ensures not_before { self ≤ result + before }
         ensures within { result < self + DAY }
@@ -97,6 +101,24 @@ impl Moment {
             day,
             seconds: time.seconds,
         }
+    }
+
+    /// The next moment on the way with this time of day. Up to an hour back is a slip of the timetable.
+    pub(crate) fn next(self, time: TimeOfDay) -> Moment
+        requires { (n : ℕ) × (n ≤ 2 ^ 65) × IsBy n self }
+        ensures moment { result ≡ in_day_from (self - 3600) time }
+        ensures by { (n : ℕ) → IsBy n self → IsBy (n + 1) result }
+    {
+        self.in_day_from(SLIP, time)
+    }
+
+    /// The moment of this public time that is nearest to this one.
+    pub(crate) fn nearest(self, time: TimeOfDay) -> Moment
+        requires { IsOnTheWay self }
+        ensures moment { result ≡ in_day_from (self - 43200) time }
+        ensures within { result < self + DAY }
+    {
+        self.in_day_from(HALF_A_DAY, time)
     }
 
     /// The later of both.
@@ -116,26 +138,33 @@ impl Moment {
         requires early { self < DAY * 2 ^ 100 }
         ensures { result.bytes ≡ time_text (self - midnight) }
     {
-        let seconds = self.seconds;
-        let hours = (self.day - FIRST_DAY) * 24 + (seconds / 3_600) as u128;
+        let (hour, minute, second) = (
+            self.seconds / 3_600,
+            self.seconds / 60 % 60,
+            self.seconds % 60,
+        );
+        let hours = (self.day - FIRST_DAY) * 24 + hour as u128;
         let mut text = ArrayString::new();
-        push_number(&mut text, hours);
-        text.push_str(":");
-        push_number(&mut text, (seconds / 60 % 60) as u128);
-        text.push_str(":");
-        push_number(&mut text, (seconds % 60) as u128);
+        if hours < 10 {
+            text.push_str("0");
+        }
+        text.push_str(Buffer::new().format(hours));
+        text.push_str(as_text(&[
+            b':',
+            digit(minute / 10),
+            digit(minute % 10),
+            b':',
+            digit(second / 10),
+            digit(second % 10),
+        ]));
         text
     }
 }
 
-/// Appends a number with two digits at least.
-fn push_number(text: &mut ArrayString<LONGEST_TIME>, number: u128)
-    requires { array_string_len text.old + 41 ≤ LONGEST_TIME }
-    ensures bytes { text.new.bytes ≡ text.old.bytes ++ two_digits_or_more number }
-    ensures len { array_string_len text.new ≤ array_string_len text.old + 41 }
+/// The digit of a number.
+fn digit(number: u32) -> u8
+    requires { number < 10 }
+    ensures { result ≡ 48 + number }
 {
-    if number < 10 {
-        text.push_str("0");
-    }
-    text.push_str(Buffer::new().format(number));
+    b'0' + number as u8
 }

@@ -7,7 +7,7 @@ ghost use Rattle.cif_canon.specs.Fields.{after};
 ghost use Rattle.cif_canon.specs.declared.rows.Format.TheVariants.{Tsv};
 ghost use Rattle.cif_views.specs.Moments.{IsBy, IsOnTheWay};
 ghost use Rattle.cif_views.specs.PublicCalls.{activities_in, advertised, answer_of, at_first, is_advertised};
-ghost use Rattle.cif_views.specs.PublicCalls.{pick_up, platform_in, public_fields, public_from, says_pick_up};
+ghost use Rattle.cif_views.specs.PublicCalls.{pick_up, platform_in, public_fields, public_from, reached_moment, says_pick_up};
 ghost use Rattle.cif_views.specs.PublicCalls.{says_set_down, set_down, shown_at, stay, step, times_in, working};
 ghost use Rattle.cif_views.specs.Steps.PublicRows.{IsJourneyBy, IsStayBy, IsToShow, behind_schedule};
 ghost use Rattle.cif_views.specs.Steps.TableRows.{row_behind};
@@ -45,11 +45,6 @@ struct Shown {
     departure: Moment,
 }
 
-/// The seconds by which a timetable may go back from one call to the next; more than that is a new day.
-const SLIP: u32 = 3_600;
-
-const HALF_A_DAY: u32 = 43_200;
-
 impl CallTimes {
     /// Those in a line of this kind.
     fn of(kind: JourneyKind, line: &Line) -> CallTimes
@@ -86,19 +81,16 @@ impl CallTimes {
     /// When the call is reached and left, behind the moment at which the call before was left; `None` if it
     /// isn't timed.
     fn stay(&self, before: Option<Moment>) -> Option<Stay>
-        requires { IfSome before IsOnTheWay }
+        requires { (n : ℕ) × (n ≤ 2 ^ 64) × IfSome before (IsBy n) }
         ensures exact { result ≡ stay before self.now }
-        ensures by { (n : ℕ) → n ≤ 2 ^ 63 → IfSome before (IsBy n) → IfSome result (λ stay. IsStayBy (n + 1) stay) }
+        ensures by { (n : ℕ) → IfSome before (IsBy n) → IfSome result (IsStayBy n) }
     {
         let reached = self.arrival.or(self.pass).or(self.departure)?;
         let left = self.departure.or(self.pass).or(self.arrival)?;
-        let reached = match before {
-            Some(moment) => moment.in_day_from(SLIP, reached),
-            None => Moment::on_date(reached),
-        };
+        let reached = reached_behind(before, reached);
         Some(Stay {
             reached,
-            left: reached.in_day_from(SLIP, left),
+            left: reached.next(left),
         })
     }
 
@@ -108,19 +100,27 @@ impl CallTimes {
         requires left { IsOnTheWay stay.now.left }
         ensures exact { result ≡ shown_at before stay.now self.now.public_arrival self.now.public_departure }
         ensures from { IfSome result (λ shown. (before ≤ shown.arrival) × (shown.arrival ≤ shown.departure)) }
-        ensures upto { IfSome result (λ shown. (m : ℕ) → before ≤ m → stay.now.reached + 43200 ≤ m
-            → stay.now.left + 43200 ≤ m → shown.departure ≤ m) }
+        ensures upto { IfSome result (λ shown. (m : ℕ) → before ≤ m → stay.now.reached + 86400 ≤ m
+            → stay.now.left + 86400 ≤ m → shown.departure ≤ m) }
     {
-        let arrival = self
-            .public_arrival
-            .map(|time| stay.reached.in_day_from(HALF_A_DAY, time));
-        let departure = self
-            .public_departure
-            .map(|time| stay.left.in_day_from(HALF_A_DAY, time));
+        let arrival = self.public_arrival.map(|time| stay.reached.nearest(time));
+        let departure = self.public_departure.map(|time| stay.left.nearest(time));
         let (arrival, departure) = (arrival.or(departure)?, departure.or(arrival)?);
         let arrival = before.or_later(arrival);
         let departure = arrival.or_later(departure);
         Some(Shown { arrival, departure })
+    }
+}
+
+/// When a call with this time of day is reached, behind this moment.
+fn reached_behind(before: Option<Moment>, time: TimeOfDay) -> Moment
+    requires { (n : ℕ) × (n ≤ 2 ^ 64) × IfSome before (IsBy n) }
+    ensures exact { result ≡ reached_moment before time }
+    ensures by { (n : ℕ) → IfSome before (IsBy n) → IsBy (n + 1) result }
+{
+    match before {
+        Some(moment) => moment.next(time),
+        None => Moment::on_date(time),
     }
 }
 
@@ -165,16 +165,18 @@ fn is_advertised(activities: &Activities) -> bool
 }
 
 /// Whether riders may get off: 0 yes, 1 no, 3 on request.
-fn set_down(activities: &Activities, times: &CallTimes) -> usize
-    ensures { result ≡ set_down activities.now times.now }
+fn set_down(activities: &Activities, times: &CallTimes) -> &'static str
+    ensures text { result.now ≡ set_down activities.now times.now }
+    ensures len { length result.now ≡ 1 }
 {
     let by_times = !says_pick_up(activities) && times.public_arrival.is_some();
     answer_of(says_set_down(activities) || by_times, activities)
 }
 
 /// Whether riders may get on, likewise.
-fn pick_up(activities: &Activities, times: &CallTimes) -> usize
-    ensures { result ≡ pick_up activities.now times.now }
+fn pick_up(activities: &Activities, times: &CallTimes) -> &'static str
+    ensures text { result.now ≡ pick_up activities.now times.now }
+    ensures len { length result.now ≡ 1 }
 {
     let by_times = !says_set_down(activities) && times.public_departure.is_some();
     answer_of(says_pick_up(activities) || by_times, activities)
@@ -194,14 +196,15 @@ fn says_pick_up(activities: &Activities) -> bool
     activities.has(b"T ") || activities.has(b"U ") || activities.has(b"TB")
 }
 
-/// The number for whether riders may.
-fn answer_of(may: bool, activities: &Activities) -> usize
-    ensures { result ≡ answer_of may activities.now }
+/// The text for whether riders may.
+fn answer_of(may: bool, activities: &Activities) -> &'static str
+    ensures text { result.now ≡ answer_of may activities.now }
+    ensures len { length result.now ≡ 1 }
 {
     match (may, activities.has(b"R ")) {
-        (false, _) => 1,
-        (true, true) => 3,
-        (true, false) => 0,
+        (false, _) => "1",
+        (true, true) => "3",
+        (true, false) => "0",
     }
 }
 
@@ -217,9 +220,9 @@ struct Journey {
 impl Journey {
     /// The moments of the line, if it is a public call; the journey goes on behind it.
     fn step(&mut self, kind: JourneyKind, line: &Line) -> Option<Shown>
-        requires { (n : ℕ) × (n ≤ 2 ^ 63) × IsJourneyBy n self.old }
+        requires { (n : ℕ) × (n ≤ 2 ^ 64) × IsJourneyBy n self.old }
         ensures exact { (self.new, result) ≡ step self.old kind line.now }
-        ensures by { (n : ℕ) → n ≤ 2 ^ 63 → IsJourneyBy n self.old → IsJourneyBy (n + 1) self.new }
+        ensures by { (n : ℕ) → IsJourneyBy n self.old → IsJourneyBy (n + 2) self.new }
         ensures shown { IfSome result IsToShow }
     {
         let times = CallTimes::of(kind, line);
@@ -260,8 +263,8 @@ fn write_public_call<W: WriteDevice>(
     push_platform(row, kind, line);
     row.push(Shape::Whole, shown.arrival.text().as_str().as_bytes());
     row.push(Shape::Whole, shown.departure.text().as_str().as_bytes());
-    row.push_number(set_down(&activities, &times));
-    row.push_number(pick_up(&activities, &times));
+    row.push(Shape::Whole, set_down(&activities, &times).as_bytes());
+    row.push(Shape::Whole, pick_up(&activities, &times).as_bytes());
     row.write(sink);
     row.truncate(begun);
 }

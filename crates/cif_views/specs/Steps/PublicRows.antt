@@ -17,20 +17,20 @@ behind_schedule call line shown =
     ∷ platform_in (kind_of_line line) line
     ∷ (Whole, time_text (shown.arrival - midnight))
     ∷ (Whole, time_text (shown.departure - midnight))
-    ∷ number (set_down (activities_of line) (times_of line))
-    ∷ number (pick_up (activities_of line) (times_of line))
+    ∷ (Whole, set_down (activities_of line) (times_of line))
+    ∷ (Whole, pick_up (activities_of line) (times_of line))
     ∷ []
 
--- both moments of a call are where a journey can be after so many calls
+-- a call is reached, and then left, after so many moments
 pub record IsStayBy (n : ℕ) (s : Stay) : Type 0 where
-  pub reached : IsBy n s.reached
-  pub left : IsBy n s.left
+  pub reached : IsBy (n + 1) s.reached
+  pub left : IsBy (n + 2) s.left
 
--- so is a journey
+-- a journey after so many moments
 pub record IsJourneyBy (n : ℕ) (j : Journey) : Type 0 where
   pub left : IfSome j.left (IsBy n)
   pub late : midnight ≤ j.shown
-  pub early : j.shown ≤ midnight + 172800 * n + 43200
+  pub early : j.shown ≤ midnight + day * (n + 1)
 
 -- moments that can be shown
 pub record IsToShow (s : Shown) : Type 0 where
