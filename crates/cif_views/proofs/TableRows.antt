@@ -30,7 +30,7 @@ pub row-text : (first : Field) (fields : List Field) → drop 1 (after Tsv (firs
 row-text first fields = ap (λ (l : List ℕ). l ++ codes "\n") (joined Tsv first fields)
 
 -- fields behind a number are a row
-behind-number : (n : ℕ) (fields : List Field) → row_behind (after Tsv (number n ∷ [])) fields ≡ line_of Tsv (number n ∷ fields)
+pub behind-number : (n : ℕ) (fields : List Field) → row_behind (after Tsv (number n ∷ [])) fields ≡ line_of Tsv (number n ∷ fields)
 behind-number n fields =
     ap (λ (l : List ℕ). drop 1 l ++ codes "\n") (both-after Tsv [] (number n ∷ []) fields) ∙ row-text (number n) fields
 

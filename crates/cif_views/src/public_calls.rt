@@ -9,7 +9,7 @@ ghost use Rattle.cif_views.specs.Moments.{IsBy, IsOnTheWay};
 ghost use Rattle.cif_views.specs.PublicCalls.{activities_in, advertised, answer_of, at_first, is_advertised};
 ghost use Rattle.cif_views.specs.PublicCalls.{pick_up, platform_in, public_fields, public_from, reached_moment, says_pick_up};
 ghost use Rattle.cif_views.specs.PublicCalls.{says_set_down, set_down, shown_at, stay, step, times_in, working};
-ghost use Rattle.cif_views.specs.Steps.PublicRows.{IsJourneyBy, IsStayBy, IsToShow, behind_schedule};
+ghost use Rattle.cif_views.specs.Steps.PublicRows.{IsJourneyBy, IsStayBy, IsToShow, behind_schedule, row_of_step};
 ghost use Rattle.cif_views.specs.Steps.TableRows.{row_behind};
 ghost use Rattle.cif_views.specs.Tables.{numbered_from, row_line};
 
@@ -269,6 +269,30 @@ fn write_public_call<W: WriteDevice>(
     row.truncate(begun);
 }
 
+/// Appends the row of the line, if it is a public call. The journey goes on behind it.
+fn write_step<W: WriteDevice>(
+    journey: &mut Journey,
+    row: &mut TableRow,
+    call: usize,
+    kind: JourneyKind,
+    line: &Line,
+    sink: &mut Sink<W>,
+)
+    requires by { (n : ℕ) × (n ≤ 2 ^ 64) × IsJourneyBy n journey.old }
+    requires begun { 0 < length row.old }
+    requires room { length row.old ≤ 41 }
+    ensures text { IsAppended W.contents W.write_errors
+        (row_of_step row.old call line.now (step journey.old kind line.now).1) sink.old sink.new }
+    ensures journey { journey.new ≡ (step journey.old kind line.now).0 }
+    ensures by { (n : ℕ) → IsJourneyBy n journey.old → IsJourneyBy (n + 2) journey.new }
+    ensures same { row.new ≡ row.old }
+{
+    match journey.step(kind, line) {
+        Some(shown) => write_public_call(row, call, line, &shown, sink),
+        None => {}
+    }
+}
+
 /// Appends the platform of a call.
 fn push_platform(row: &mut TableRow, kind: JourneyKind, line: &Line)
     requires { length row.old ≤ 150 }
@@ -303,9 +327,7 @@ pub(crate) fn write_public_calls<W: WriteDevice>(
     while !lines.is_empty() {
         let line = lines.first();
         let kind = kind_of_line(&line);
-        if let Some(shown) = journey.step(kind, &line) {
-            write_public_call(&mut row, call, &line, &shown, sink);
-        }
+        write_step(&mut journey, &mut row, call, kind, &line, sink);
         call = call_after(call, kind);
         lines = lines.rest();
     }

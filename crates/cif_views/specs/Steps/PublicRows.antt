@@ -1,9 +1,10 @@
 -- The rows of public calls as the code makes them. No public clause cites them.
-use Rattle.std.specs.Prelude.{ℕ, ◌≤◌, ◌+◌, ◌*◌, ◌-◌, ◌^◌, ◌<◌, IfSome, List, [], ◌∷◌}
+use Rattle.std.specs.Prelude.{ℕ, ◌≤◌, ◌+◌, ◌*◌, ◌-◌, ◌^◌, ◌<◌, IfSome, List, [], ◌∷◌, None, Option, Some}
 use Rattle.cif_canon.specs.Fields.{Field}
 use Rattle.cif_canon.specs.declared.rows.Shape.TheVariants.{Whole}
 use Rattle.cif_views.specs.Moments.{IsBy, day, midnight, time_text}
 use Rattle.cif_views.specs.PublicCalls.{activities_of, pick_up, platform_in, set_down, times_of}
+use Rattle.cif_views.specs.Steps.TableRows.{row_behind}
 use Rattle.cif_views.specs.Tables.{kind_of_line, number, text_at}
 use Rattle.cif_views.specs.declared.public_calls.Journey.{Journey}
 use Rattle.cif_views.specs.declared.public_calls.Shown.{Shown}
@@ -20,6 +21,11 @@ behind_schedule call line shown =
     ∷ (Whole, set_down (activities_of line) (times_of line))
     ∷ (Whole, pick_up (activities_of line) (times_of line))
     ∷ []
+
+-- its row behind what it begins with; a line that is no public call has none
+abbrev pub row_of_step : List ℕ → ℕ → List ℕ → Option Shown → List ℕ
+row_of_step begun call line None = []
+row_of_step begun call line (Some shown) = row_behind begun (behind_schedule call line shown)
 
 -- a call is reached, and then left, after so many moments
 pub record IsStayBy (n : ℕ) (s : Stay) : Type 0 where
