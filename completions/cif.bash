@@ -72,7 +72,7 @@ _cif() {
     :0 | help:0) _cif_offer "$commands" ;;
     normalise:0 | check:0 | compare:[01] | diff:[01]) compopt -o default ;;
     day:1 | train:1 | explain:2 | clashes:0) compopt -o default ;;
-    table:0) _cif_offer 'header tiplocs associations schedules calls changes' ;;
+    table:0) _cif_offer 'header tiplocs associations schedules calls changes public' ;;
     table:1 | calendar:1 | prepare:0 | update:*) compopt -o default ;;
     esac
 }

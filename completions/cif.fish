@@ -73,7 +73,7 @@ complete -c cif -n '__cif_in normalise check compare diff day train explain clas
 complete -c cif -n '__cif_in normalise check compare diff day train explain clashes table calendar prepare update' -s h -l help -d 'Print help'
 
 complete -c cif -n '__cif_at 0 normalise check compare diff clashes prepare' -F
-complete -c cif -n '__cif_at 0 table' -a 'header tiplocs associations schedules calls changes'
+complete -c cif -n '__cif_at 0 table' -a 'header tiplocs associations schedules calls changes public'
 complete -c cif -n '__cif_at 1 compare diff day train table calendar' -F
 complete -c cif -n '__cif_at 2 explain' -F
 complete -c cif -n '__cif_from 0 update' -F

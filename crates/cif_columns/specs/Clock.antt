@@ -1,8 +1,8 @@
 -- Hours and minutes, which working and public times share.
-use Rattle.std.specs.Prelude.{◌≡◌, ℕ, ◌+◌, ◌-◌, ◌*◌, ◌<◌, Bool, ◌&&◌, ◌==◌, nat_lt, List, ◌++◌}
+use Rattle.std.specs.Prelude.{◌≡◌, ℕ, ◌+◌, ◌-◌, ◌*◌, ◌<◌, Bool, ◌&&◌, ◌==◌, nat_lt, List, ◌++◌, Option, None, Some, if◌then◌else◌}
 use Rattle.std.specs.Char.{is_ascii_digit}
 use Rattle.std.specs.List.{list_all}
-use Rattle.cif_columns.specs.Digits.{two_digits}
+use Rattle.cif_columns.specs.Digits.{number_at, two_digits}
 
 -- HHMM: two digits of an hour up to 23 and two of a minute up to 59
 pub record IsHourMinute (columns : List ℕ) : Type 0 where
@@ -21,3 +21,12 @@ is_clock a b c d =
 -- whether all columns are spaces
 abbrev pub is_blank : List ℕ → Bool
 is_blank columns = list_all (λ c. c == 32) columns
+
+-- the seconds from midnight to this hour and minute
+abbrev pub seconds_to : Option ℕ → Option ℕ → Option ℕ
+seconds_to (Some hour) (Some minute) = if nat_lt hour 24 && nat_lt minute 60 then Some (hour * 3600 + minute * 60) else None
+seconds_to hour minute = None
+
+-- those to the HHMM with which the columns begin
+abbrev pub clock_seconds : List ℕ → Option ℕ
+clock_seconds columns = seconds_to (number_at 0 columns) (number_at 2 columns)

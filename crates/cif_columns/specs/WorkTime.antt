@@ -1,7 +1,7 @@
 -- Working times: five columns as they stand.
-use Rattle.std.specs.Prelude.{◌≡◌, ℕ, Bool, ◌&&◌, ◌||◌, ◌==◌, ◌⊎◌, List, [], ◌∷◌, ◌++◌, replicate, Option, Some, None, slice_index}
-use Rattle.std.specs.Prelude.{if◌then◌else◌}
-use Rattle.cif_columns.specs.Clock.{IsHourMinute, is_clock, is_blank}
+use Rattle.std.specs.Prelude.{◌≡◌, ℕ, ◌+◌, Bool, ◌&&◌, ◌||◌, ◌==◌, ◌⊎◌, List, [], ◌∷◌, ◌++◌, replicate, Option, Some, None, slice_index}
+use Rattle.std.specs.Prelude.{if◌then◌else◌, option_map}
+use Rattle.cif_columns.specs.Clock.{IsHourMinute, clock_seconds, is_clock, is_blank}
 
 -- an hour and a minute, and then a space, or `H` for half a minute more
 pub record IsTimed (columns : List ℕ) : Type 0 where
@@ -30,3 +30,7 @@ is_work_time columns =
 -- the working time in five columns
 abbrev pub work_time_in : List ℕ → Option (List ℕ)
 work_time_in columns = if is_work_time columns then Some columns else None
+
+-- the seconds from midnight to the time in five columns; none where they are blank
+abbrev pub work_seconds : List ℕ → Option ℕ
+work_seconds columns = option_map (λ seconds. seconds + (if slice_index columns 4 == 72 then 30 else 0)) (clock_seconds columns)

@@ -1,6 +1,7 @@
 //! Working times and public times: an hour and a minute, or blank columns.
-ghost use Rattle.std.specs.Prelude.{◌≡◌, ℕ, List, Some, IfSome, length};
-ghost use Rattle.cif_columns.specs.Clock.{is_clock, is_blank as all_spaces};
+ghost use Rattle.std.specs.Prelude.{◌≡◌, ◌<◌, ◌≤◌, ℕ, List, Some, IfSome, length};
+ghost use Rattle.cif_columns.specs.Clock.{is_clock, is_blank as all_spaces, seconds_to};
+ghost use Rattle.cif_columns.specs.Digits.{number_in};
 ghost use Rattle.cif_columns.specs.Line.{ArePrintable};
 ghost use Rattle.cif_columns.specs.PublicTime.{is_public_time as is_public};
 ghost use Rattle.cif_columns.specs.WorkTime.{is_work_time as is_working};
@@ -9,6 +10,19 @@ use crate::day::number_of;
 use crate::line::debug;
 use std::fmt;
 use std::marker::Model;
+
+/// The seconds from midnight to `HHMM`; `None` where these aren't the digits of an hour and a minute.
+fn seconds_to(a: u8, b: u8, c: u8, d: u8) -> Option<u32>
+    ensures bound { IfSome result (λ seconds. seconds ≤ 86340) }
+    ensures exact { result ≡ seconds_to (number_in a b) (number_in c d) }
+{
+    match (number_of(a, b), number_of(c, d)) {
+        (Some(hour), Some(minute)) if hour < 24 && minute < 60 => {
+            Some(hour as u32 * 3_600 + minute as u32 * 60)
+        }
+        _ => None,
+    }
+}
 
 /// Whether these are the digits of an hour and a minute, `HHMM`.
 // Here and below each test is made, whatever the others say: that takes less than branches do.
@@ -65,7 +79,7 @@ impl fmt::Debug for WorkTime {
 }
 
 impl WorkTime {
-    ghost use Rattle.cif_columns.specs.WorkTime.{StandsIn, work_time_in};
+    ghost use Rattle.cif_columns.specs.WorkTime.{StandsIn, work_seconds, work_time_in};
 
     /// The time in these columns; `None` where they aren't of the form.
     pub fn read(columns: &[u8; 5]) -> Option<WorkTime>
@@ -89,6 +103,16 @@ impl WorkTime {
         ensures again { work_time_in result ≡ Some self.now }
     {
         self.columns
+    }
+
+    /// The seconds from midnight to the time; `None` where the columns are blank.
+    pub fn seconds(&self) -> Option<u32>
+        ensures bound { IfSome result (λ seconds. seconds < 86400) }
+        ensures exact { result ≡ work_seconds self.now }
+    {
+        let [a, b, c, d, half] = self.columns;
+        let seconds = seconds_to(a, b, c, d)?;
+        Some(if half == b'H' { seconds + 30 } else { seconds })
     }
 
     /// The same time.
@@ -136,7 +160,7 @@ impl fmt::Debug for PublicTime {
 }
 
 impl PublicTime {
-    ghost use Rattle.cif_columns.specs.PublicTime.{StandsIn, public_time_in};
+    ghost use Rattle.cif_columns.specs.PublicTime.{StandsIn, public_seconds, public_time_in};
 
     /// The time in these columns; `None` where they aren't of the form.
     pub fn read(columns: &[u8; 4]) -> Option<PublicTime>
@@ -160,6 +184,19 @@ impl PublicTime {
         ensures again { public_time_in result ≡ Some self.now }
     {
         self.columns
+    }
+
+    /// The seconds from midnight to the time; `None` where the columns are blank or `0000`, which stands for
+    /// no time.
+    pub fn seconds(&self) -> Option<u32>
+        ensures bound { IfSome result (λ seconds. seconds < 86400) }
+        ensures exact { result ≡ public_seconds self.now }
+    {
+        let [a, b, c, d] = self.columns;
+        match seconds_to(a, b, c, d) {
+            Some(0) => None,
+            seconds => seconds,
+        }
     }
 
     /// The same time.

@@ -32,7 +32,7 @@ use Rattle.cif_canon.proofs.Normalising.{canon-fault, is-normalised}
 use Rattle.cif_views.specs.Clashes.{AreAllClashes, clashes_text}
 use Rattle.cif_views.specs.Explanation.{IsExplanation}
 use Rattle.cif_views.specs.Listing.{IsDayListing, IsTrainListing}
-use Rattle.cif_views.specs.Tables.{table_text}
+use Rattle.cif_views.specs.TableText.{table_text}
 use Rattle.cif_views.specs.WeekCalendar.{IsWeekCalendar, IsWeekCalendarFault}
 use Rattle.cif_tool.specs.Answer.{AreComparedAs, CalendarJob, CanonicalJob, CompareJob, DayJob, DiffJob, ExplainJob, IsCalendarAnswer}
 use Rattle.cif_tool.specs.Answer.{IsCheckAnswer, IsClashesAnswer, IsClashlessRefusal, IsCompareAnswer, IsDayAnswer, IsDiffAnswer}

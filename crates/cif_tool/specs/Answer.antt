@@ -31,7 +31,7 @@ use Rattle.cif_canon.specs.Normalised.{FaultWrites, IsNormalised}
 use Rattle.cif_canon.specs.Pair.{AreNarrowed, IsNarrowedPair, SpellPair}
 use Rattle.cif_canon.specs.Views.{IsDayFault}
 use Rattle.cif_views.specs.Listing.{IsDayListing, IsTrainListing}
-use Rattle.cif_views.specs.Tables.{table_text}
+use Rattle.cif_views.specs.TableText.{table_text}
 use Rattle.cif_canon.specs.declared.asked.Asked.{Asked}
 use Rattle.cif_canon.specs.declared.comparison.Comparison.{Comparison}
 use Rattle.cif_canon.specs.declared.canonical_form.Counts.{Counts}

@@ -44,7 +44,8 @@ pub record AreChoices (choices : Choices) : Type 0 where
   pub forms : words_in choices.forms ≡ codes "1" ∷ codes "2" ∷ []
   pub formats : words_in choices.formats ≡ codes "text" ∷ codes "tsv" ∷ []
   pub tables : words_in choices.tables
-      ≡ codes "header" ∷ codes "tiplocs" ∷ codes "associations" ∷ codes "schedules" ∷ codes "calls" ∷ codes "changes" ∷ []
+      ≡ codes "header" ∷ codes "tiplocs" ∷ codes "associations" ∷ codes "schedules" ∷ codes "calls" ∷ codes "changes"
+      ∷ codes "public" ∷ []
 
 -- an argument whose value is one of these words
 abbrev pub one_of : Choice → Rule → Rule

@@ -123,6 +123,7 @@ pub(crate) fn all_choices() -> Choices<'static>
             "schedules",
             "calls",
             "changes",
+            "public",
         ],
     }
 }

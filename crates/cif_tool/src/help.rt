@@ -195,7 +195,9 @@ Prints field names in the first line, and then a row for each of these:
   calls         a call (LO, LI or LT), with the number of its schedule
   changes       a change en route (CR), with the numbers of its schedule and of
                 the call that follows
-Tabs separate fields, and dates are YYYY-MM-DD. The six tables together say what
+  public        a call that riders can use, with its times, counted on past
+                midnight, and whether they may get off and on
+Tabs separate fields, and dates are YYYY-MM-DD. The first six together say what
 the canonical extract says.
 Form 1 joins weeks that have the same days. Form 2 also joins a week that the
 window cuts, if its remaining days match the other week's.
@@ -290,7 +292,7 @@ pub(crate) const FULL: &str = "The full extract; - is standard input";
 
 pub(crate) const UPDATES: &str = "The update extracts, in their order; - is standard input";
 
-pub(crate) const TABLES: &str = "One of header, tiplocs, associations, schedules, calls, changes";
+pub(crate) const TABLES: &str = "One of header, tiplocs, associations, schedules, calls, changes, public";
 
 pub(crate) const DATE: &str = "The date, such as 260114 for 14 January 2026";
 

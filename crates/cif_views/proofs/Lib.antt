@@ -6,8 +6,10 @@ pub mod DifferingFields
 mod ExplainedMarks
 mod ExplainedTexts
 mod Explaining
+pub mod Moments
 mod PairedBodies
 mod PairedJourneys
+pub mod PublicRows
 mod RowsOfDifferences
 pub mod TableRows
 pub mod WeekLines

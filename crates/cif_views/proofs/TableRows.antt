@@ -23,7 +23,8 @@ use Rattle.cif_views.specs.declared.columns.Place.{Place}
 use Rattle.cif_views.specs.declared.columns.Place.TheVariants as place
 use Rattle.cif_views.specs.Steps.Columns.{call_columns, change_columns}
 use Rattle.cif_views.specs.declared.tables.Table.{Table}
-use Rattle.cif_views.specs.declared.tables.Table.TheVariants.{Calls, Changes, Schedules}
+use Rattle.cif_views.specs.PublicCalls.{public_calls, public_fields}
+use Rattle.cif_views.specs.declared.tables.Table.TheVariants.{Calls, Changes, Public, Schedules}
 use Rattle.cif_views.proofs.Words.{Change, Column, Field, JourneyKind, Numbered, Origin, Other, ScheduleLines, Stop, Terminus, Tsv, after}
 use Rattle.cif_views.proofs.Words.{call_fields, fields_in, is_call, is_change, kind_of_line, line_of, name_fields, number, numbered_from}
 use Rattle.cif_views.proofs.Words.{numbered_schedule, room_for, row_behind, row_line, schedule_fields, table_rows}
@@ -195,11 +196,17 @@ pub schedules-rows : (x : ExtractLines) →
     table_rows Schedules x ≡ flat_map (λ (s : ℕ × ScheduleLines). schedule_rows Schedules s.0 s.1) (enumerate_from 1 x.schedules)
 schedules-rows x = flat_map-map (row_line schedule_fields) numbered_schedule (enumerate_from 1 x.schedules)
 
-pub listed-rows : (table : Table) (x : ExtractLines) → (table ≡ Schedules) ⊎ ((table ≡ Calls) ⊎ (table ≡ Changes)) →
+public-rows : (x : ExtractLines) →
+    table_rows Public x ≡ flat_map (λ (s : ℕ × ScheduleLines). schedule_rows Public s.0 s.1) (enumerate_from 1 x.schedules)
+public-rows x = of-parts (row_line public_fields) public_calls (enumerate_from 1 x.schedules)
+
+pub listed-rows : (table : Table) (x : ExtractLines) →
+    (table ≡ Schedules) ⊎ ((table ≡ Calls) ⊎ ((table ≡ Changes) ⊎ (table ≡ Public))) →
     flat_map (λ (s : ℕ × ScheduleLines). schedule_rows table s.0 s.1) (enumerate_from 1 x.schedules) ≡ table_rows table x
 listed-rows table x (inl e) = rw e (sym (schedules-rows x))
 listed-rows table x (inr (inl e)) = rw e (sym (calls-rows x))
-listed-rows table x (inr (inr e)) = rw e (sym (changes-rows x))
+listed-rows table x (inr (inr (inl e))) = rw e (sym (changes-rows x))
+listed-rows table x (inr (inr (inr e))) = rw e (sym (public-rows x))
 
 -- the rows of a journey, line by line
 pub calls-of_lines : (n : ℕ) (s : ScheduleLines) → journey_rows true n s.further ≡ schedule_rows Calls n s

@@ -60,8 +60,9 @@ pub use Rattle.cif_views.specs.Steps.TableRows.{journey_rows, rows_of}
 pub use Rattle.cif_views.specs.Steps.WeekCalendar.{state_in}
 pub use Rattle.cif_views.specs.Tables.{Numbered, TableFields, call_fields, extra_in, is_call}
 pub use Rattle.cif_views.specs.Tables.{is_change, journey_kind, kind_of_line, names_line, number, numbered_from, numbered_schedule}
-pub use Rattle.cif_views.specs.Tables.{row_fields, row_line, schedule_fields, table_rows, text_at, tiploc_fields, yymmdd_from}
+pub use Rattle.cif_views.specs.Tables.{row_fields, row_line, schedule_fields, text_at, tiploc_fields, yymmdd_from}
 pub use Rattle.cif_views.specs.WeekCalendar.{calendar_text, week_line}
 pub use Rattle.cif_views.specs.declared.marks.Mark.{Mark}
 pub use Rattle.cif_views.specs.declared.tables.JourneyKind.{JourneyKind}
 pub use Rattle.cif_views.specs.declared.tables.JourneyKind.TheVariants.{Change, Origin, Other, Stop, Terminus}
+pub use Rattle.cif_views.specs.TableText.{table_rows}

@@ -4,7 +4,10 @@ pub mod Clashes
 pub mod DifferenceTable
 pub mod Explanation
 pub mod Listing
+pub mod Moments
+pub mod PublicCalls
 pub mod RowsOfDifferences
 pub mod Steps
+pub mod TableText
 pub mod Tables
 pub mod WeekCalendar

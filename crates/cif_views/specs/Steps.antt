@@ -3,6 +3,7 @@ pub mod Clashes
 pub mod Explanation
 pub mod Columns
 pub mod DifferenceRows
+pub mod PublicRows
 pub mod Rows
 pub mod TableRows
 pub mod WeekCalendar

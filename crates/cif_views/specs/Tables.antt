@@ -1,19 +1,17 @@
 -- Tables of a whole canonical extract: a line of names, and then a line for each row.
 use Rattle.std.specs.Prelude.{ℕ, ◌+◌, Bool, true, false, List, [], ◌∷◌, ◌++◌, Option, Some, codes, cond, decimal, map, replicate}
 use Rattle.std.specs.Prelude.{slice_index_or}
-use Rattle.std.specs.List.{enumerate_from, filter, flat_map, join_with_byte}
+use Rattle.std.specs.List.{filter, join_with_byte}
 use Rattle.cif_columns.specs.Field.{columns, columns_from}
 use Rattle.cif_records.specs.Kind.{kind_in}
 use Rattle.cif_records.specs.declared.record.Kind.{Kind}
 use Rattle.cif_records.specs.declared.record.Kind.TheVariants.{Bx, Cr, Li, Lo, Lt}
 use Rattle.cif_canon.specs.Fields.{Field, line_of, nothing}
-use Rattle.cif_canon.specs.Lines.{ExtractLines, ScheduleLines}
+use Rattle.cif_canon.specs.Lines.{ScheduleLines}
 use Rattle.cif_canon.specs.declared.rows.Format.TheVariants.{Tsv}
 use Rattle.cif_canon.specs.declared.rows.Shape.TheVariants.{Date, Trimmed, Whole}
 use Rattle.cif_views.specs.declared.tables.JourneyKind.{JourneyKind}
 use Rattle.cif_views.specs.declared.tables.JourneyKind.TheVariants.{Change, Origin, Other, Stop, Terminus}
-use Rattle.cif_views.specs.declared.tables.Table.{Table}
-use Rattle.cif_views.specs.declared.tables.Table.TheVariants.{Associations, Calls, Changes, Header, Schedules, Tiplocs}
 
 -- the columns of a table: each has a name, and what stands there in a row
 abbrev pub TableFields : Type 0 → Type 0
@@ -286,25 +284,3 @@ call_fields = number_fields ++ of_part (λ p. p.line) ((codes "record", text_at 
 
 abbrev pub change_fields : TableFields Numbered
 change_fields = number_fields ++ of_part (λ p. p.line) (location_and_suffix ++ own_change_fields)
-
--- the first line of a table
-abbrev pub table_heading : Table → List ℕ
-table_heading Header = heading header_fields
-table_heading Tiplocs = heading tiploc_fields
-table_heading Associations = heading association_fields
-table_heading Schedules = heading schedule_fields
-table_heading Calls = heading call_fields
-table_heading Changes = heading change_fields
-
--- The other lines, for an extract that has these lines. Its schedules are numbered from 1 on, and so are the calls of each.
-abbrev pub table_rows : Table → ExtractLines → List ℕ
-table_rows Header x = row_line header_fields x.header
-table_rows Tiplocs x = flat_map (row_line tiploc_fields) x.tiplocs
-table_rows Associations x = flat_map (row_line association_fields) x.associations
-table_rows Schedules x = flat_map (row_line schedule_fields) (map numbered_schedule (enumerate_from 1 x.schedules))
-table_rows Calls x = flat_map (row_line call_fields) (flat_map calls_of (enumerate_from 1 x.schedules))
-table_rows Changes x = flat_map (row_line change_fields) (flat_map changes_of (enumerate_from 1 x.schedules))
-
--- a table
-unfoldable pub table_text : Table → ExtractLines → List ℕ
-table_text table x = table_heading table ++ table_rows table x

@@ -165,6 +165,16 @@ pub(crate) const CALL: [Column; 15] = [
     ("performance", Call((42, 43), (59, 60), NOWHERE)),
 ];
 
+/// Those of a public call. Its times, and whether riders may get off and on, stand in no columns.
+pub(crate) const PUBLIC: [Column; 6] = [
+    ("location", Text(3, 9)),
+    ("platform", Call((20, 22), (34, 36), (20, 22))),
+    ("arrival", Text(1, 0)),
+    ("departure", Text(1, 0)),
+    ("set_down", Text(1, 0)),
+    ("pick_up", Text(1, 0)),
+];
+
 /// Those of CR.
 pub(crate) const CHANGE: [Column; 21] = [
     ("location", Text(3, 9)),
@@ -192,7 +202,15 @@ pub(crate) const CHANGE: [Column; 21] = [
 
 /// The fields up to the days run of TI, in the table of differences.
 pub(crate) const TIPLOC_HEAD: [Column; 9] = [
-    TIPLOC_CODE, NOTHING, NOTHING, NOTHING, NOTHING, NOTHING, NOTHING, NOTHING, NOTHING,
+    TIPLOC_CODE,
+    NOTHING,
+    NOTHING,
+    NOTHING,
+    NOTHING,
+    NOTHING,
+    NOTHING,
+    NOTHING,
+    NOTHING,
 ];
 
 /// Those of AA.

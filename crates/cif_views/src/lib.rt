@@ -12,6 +12,8 @@ mod find_clashes;
 pub mod laws;
 mod listing;
 mod marks;
+mod moment;
+mod public_calls;
 mod table_row;
 mod tables;
 

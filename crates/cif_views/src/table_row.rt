@@ -132,7 +132,7 @@ impl TableRow {
 
     /// Appends a tab and the field that has this place in a line of this kind.
     #[inline(always)]
-    fn push_field(&mut self, place: &Place, kind: JourneyKind, line: &Line)
+    pub(crate) fn push_field(&mut self, place: &Place, kind: JourneyKind, line: &Line)
         requires within { IsTrue (is_within place.now) }
         requires room { length self.old + room_of place.now ≤ ROOM }
         ensures text { self.new ≡ self.old ++ after Tsv (field_in kind line.now place.now ∷ []) }

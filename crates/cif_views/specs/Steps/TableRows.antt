@@ -2,12 +2,13 @@
 use Rattle.std.specs.Prelude.{ℕ, Bool, true, false, List, [], ◌∷◌, cond}
 use Rattle.std.specs.List.{flat_map}
 use Rattle.cif_canon.specs.Lines.{ScheduleLines}
+use Rattle.cif_views.specs.PublicCalls.{public_calls, public_fields}
 use Rattle.cif_views.specs.Steps.Columns.{call_columns, change_columns, fields_in, row_behind}
 use Rattle.cif_views.specs.Tables.{Numbered, call_fields, calls_of, change_fields, changes_of, is_call, is_change, kind_of_line}
 use Rattle.cif_views.specs.Tables.{number, numbered_from, numbered_schedule, row_line, schedule_fields}
 use Rattle.cif_views.specs.declared.tables.JourneyKind.{JourneyKind}
 use Rattle.cif_views.specs.declared.tables.Table.{Table}
-use Rattle.cif_views.specs.declared.tables.Table.TheVariants.{Associations, Calls, Changes, Header, Schedules, Tiplocs}
+use Rattle.cif_views.specs.declared.tables.Table.TheVariants.{Associations, Calls, Changes, Header, Public, Schedules, Tiplocs}
 
 -- the row of a line of this kind behind what it begins with, in the table of the calls or in that of the changes; other lines have none
 abbrev pub row_of_kind : Bool → List ℕ → ℕ → JourneyKind → List ℕ → List ℕ
@@ -31,3 +32,4 @@ schedule_rows Associations n s = []
 schedule_rows Schedules n s = row_line schedule_fields (numbered_schedule (n, s))
 schedule_rows Calls n s = flat_map (row_line call_fields) (calls_of (n, s))
 schedule_rows Changes n s = flat_map (row_line change_fields) (changes_of (n, s))
+schedule_rows Public n s = flat_map (row_line public_fields) (public_calls (n, s))

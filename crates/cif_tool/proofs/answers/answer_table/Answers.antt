@@ -3,7 +3,7 @@ use Rattle.std.proofs.Common.{refl, subst}
 use Rattle.cif_columns.specs.declared.line_reader.TheConstants.{MAX_LINES}
 use Rattle.cif_extract.proofs.ReadCalls.{at-fault}
 use Rattle.cif_canon.specs.Fault.{IsOfCheck}
-use Rattle.cif_views.specs.Tables.{table_text}
+use Rattle.cif_views.specs.TableText.{table_text}
 use Rattle.cif_tool.proofs.Answered.{canon-unread, canon-written, fails-silently, handed-text, only-fails}
 use Rattle.cif_tool.proofs.KnownAnswers.{table-answer}
 use Rattle.cif_tool.proofs.answers.answer_table.Goals as goal

@@ -1,7 +1,8 @@
 -- The line of the names goes first, and then the rows, by the table.
 use Rattle.std.proofs.Common.{ap}
 use Rattle.cif_canon.proofs.AppendedTexts.{answered, both, text-is}
-use Rattle.cif_views.specs.Tables.{header_fields, table_heading, table_text}
+use Rattle.cif_views.specs.TableText.{table_heading, table_text}
+use Rattle.cif_views.specs.Tables.{header_fields}
 use Rattle.cif_views.proofs.Words.{IsAppended, flat_map, row_line, table_rows, tiploc_fields}
 use Rattle.cif_views.proofs.TableRows.{listed-rows}
 use Rattle.cif_views.proofs.tables.write_table.Goals as goal

@@ -1,0 +1,81 @@
+-- The rows of public calls, as they are written line by line.
+use Rattle.std.proofs.Common.{◌≡◌, ℕ, ◌+◌, ◌-◌, List, [], ◌∷◌, ◌++◌, ◌∙◌, Option, None, Some, ap, append_assoc, append-nil}
+use Rattle.std.proofs.Common.{arith, cond, length, refl, sym}
+use Rattle.std.specs.List.{flat_map}
+use Rattle.std.proofs.lemmas.Grind.{flat_map-append}
+use Rattle.cif_views.specs.PublicCalls.{activities_in, activities_of, pick_up, public_call, public_fields, public_from, set_down, step}
+use Rattle.cif_views.specs.Moments.{midnight, time_text}
+use Rattle.cif_views.specs.PublicCalls.{platform_in, times_in, times_of}
+use Rattle.cif_views.specs.Steps.PublicRows.{behind_schedule, row_of_step}
+use Rattle.cif_views.specs.declared.public_calls.CallTimes.{CallTimes}
+use Rattle.cif_views.specs.declared.public_calls.Journey.{Journey}
+use Rattle.cif_views.specs.declared.public_calls.Shown.{Shown}
+use Rattle.cif_views.proofs.TableRows.{behind-row}
+use Rattle.cif_views.proofs.Words.{JourneyKind, Numbered, Tsv, Whole, after, is_call, kind_of_line, number, numbered_from, row_line, text_at}
+
+-- what is read of a line of this kind is what is read of the line
+module _ (kind : JourneyKind) (line : List ℕ) (activities : List (List ℕ)) (times : CallTimes) (is_kind : kind ≡ kind_of_line line)
+    (are_activities : activities ≡ activities_in kind line) (are_times : times ≡ times_in kind line) where
+  own-activities : activities ≡ activities_of line
+  own-activities = are_activities ∙ ap (λ (k : JourneyKind). activities_in k line) is_kind
+
+  own-times : times ≡ times_of line
+  own-times = are_times ∙ ap (λ (k : JourneyKind). times_in k line) is_kind
+
+  pub own-set-down : set_down activities times ≡ set_down (activities_of line) (times_of line)
+  own-set-down = ap (λ (a : List (List ℕ)). set_down a times) own-activities ∙ ap (set_down (activities_of line)) own-times
+
+  pub own-pick-up : pick_up activities times ≡ pick_up (activities_of line) (times_of line)
+  own-pick-up = ap (λ (a : List (List ℕ)). pick_up a times) own-activities ∙ ap (pick_up (activities_of line)) own-times
+
+-- the fields of a public call, as they are appended
+pub own-fields : (kind : JourneyKind) (call : ℕ) (line : List ℕ) (shown : Shown) (arrival departure down up : List ℕ) →
+    kind ≡ kind_of_line line → arrival ≡ time_text (shown.arrival - midnight) → departure ≡ time_text (shown.departure - midnight) →
+    down ≡ set_down (activities_of line) (times_of line) → up ≡ pick_up (activities_of line) (times_of line) →
+    number call ∷ text_at 3 9 line ∷ platform_in kind line ∷ (Whole, arrival) ∷ (Whole, departure) ∷ (Whole, down) ∷ (Whole, up) ∷ []
+    ≡ behind_schedule call line shown
+own-fields kind call line shown arrival departure down up is_kind is_arrival is_departure is_down is_up =
+    rw (is_kind, is_arrival, is_departure, is_down, is_up) refl
+
+module _ (schedule : ℕ) where
+  -- the rows of the lines that are left
+  abbrev pub rows_left : Journey → ℕ → List (List ℕ) → List ℕ
+  rows_left j call lines = flat_map (row_line public_fields) (public_from j (numbered_from schedule call lines))
+
+  -- a line is numbered so
+  abbrev pub numbered : ℕ → List ℕ → Numbered
+  numbered call line = record { schedule = schedule; call = call; line = line }
+
+  -- what is written of a line is its row
+  pub one-row : (call : ℕ) (line : List ℕ) (shown : Option Shown) →
+      row_of_step (after Tsv (number schedule ∷ [])) call line shown
+      ≡ flat_map (row_line public_fields) (public_call (numbered call line) shown)
+  one-row call line None = refl
+  one-row call line (Some shown) = behind-row _ (number schedule) [] (behind_schedule call line shown) refl ∙ sym (append-nil _)
+
+  -- the rows so far, and those of the lines that are left, are all
+  module _ (whole : List ℕ) where
+    abbrev pub AreLeft : List ℕ → Journey → ℕ → List (List ℕ) → Type 0
+    AreLeft text j call lines = text ++ rows_left j call lines ≡ whole
+
+    pub one-line : (text begun : List ℕ) (j next : Journey) (kind : JourneyKind) (call then : ℕ) (lines : List (List ℕ)) (line : List ℕ)
+        (rest : List (List ℕ)) → lines ≡ line ∷ rest → begun ≡ after Tsv (number schedule ∷ []) → kind ≡ kind_of_line line →
+        next ≡ (step j kind line).0 → then ≡ cond (is_call kind) (call + 1) call → AreLeft text j call lines →
+        AreLeft (text ++ row_of_step begun call line (step j kind line).1) next then rest
+    one-line text begun j next kind call then lines line rest is begun_is kind_is next_is then_is left =
+        let shown = step j (kind_of_line line) line in
+        let own = public_call (numbered call line) shown.1 in
+        let after_call = cond (is_call (kind_of_line line)) (call + 1) call in
+        let same : (text ++ row_of_step (after Tsv (number schedule ∷ [])) call line shown.1) ++ rows_left shown.0 after_call rest ≡ whole =
+        ap (λ (l : List ℕ). (text ++ l) ++ rows_left shown.0 after_call rest) (one-row call line shown.1)
+        ∙ append_assoc text (flat_map (row_line public_fields) own) (rows_left shown.0 after_call rest)
+        ∙ ap (λ (l : List ℕ). text ++ l) (sym (flat_map-append (row_line public_fields) own
+        (public_from shown.0 (numbered_from schedule after_call rest))))
+        ∙ ap (λ (ls : List (List ℕ)). text ++ rows_left j call ls) (sym is)
+        ∙ left in
+        rw (begun_is, next_is, then_is, kind_is) same
+
+    pub none-left : (text : List ℕ) (j : Journey) (call : ℕ) (lines : List (List ℕ)) → length lines ≡ 0 → AreLeft text j call lines →
+        text ≡ whole
+    none-left text j call [] none left = sym (append-nil text) ∙ left
+    none-left text j call (line ∷ lines) none left = absurd (omega (arith, none))

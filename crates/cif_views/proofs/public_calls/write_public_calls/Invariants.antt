@@ -1,0 +1,20 @@
+-- What is written, and the rows of the lines that are left, are all; the row has the number alone, the journey has two moments a line at
+-- most, and the calls aren't more than the lines.
+use Rattle.std.proofs.Common.{◌≡◌, ◌+◌, ◌*◌, ◌≤◌, ℕ, List, [], ◌∷◌, length}
+use Rattle.cif_views.specs.PublicCalls.{at_first}
+use Rattle.cif_views.specs.Steps.PublicRows.{IsJourneyBy}
+use Rattle.cif_views.proofs.PublicRows.{AreLeft, rows_left}
+use Rattle.cif_views.proofs.Words.{IsAppended, Tsv, after, number}
+use Rattle.cif_views.proofs.public_calls.write_public_calls.Given as goal
+
+abbrev pub invariant-loop-lines : goal.invariant-loop-lines
+invariant-loop-lines g l =
+    (text : List ℕ)
+    × IsAppended g.W.Write.contents g.W.WriteDevice.write_errors text l.initial.sink l.sink
+    × AreLeft l.schedule (rows_left l.schedule at_first 1 l.initial.lines) text l.journey l.call l.lines
+    × (l.row ≡ after Tsv (number l.schedule ∷ []))
+    × ((n : ℕ) × IsJourneyBy n l.journey × (n + 2 * length l.lines ≤ 2 * length l.initial.lines))
+    × (l.call + length l.lines ≤ 1 + length l.initial.lines)
+
+abbrev pub decreases-loop-lines : goal.decreases-loop-lines
+decreases-loop-lines g l = length l.lines

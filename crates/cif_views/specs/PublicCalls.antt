@@ -1,0 +1,249 @@
+-- The public calls of a schedule, and when they are.
+use Rattle.std.specs.Prelude.{◌≡◌, ⊤, ℕ, ◌-◌, ◌+◌, ◌*◌, ◌^◌, ◌<◌, ◌≤◌, Bool, true, false, not, ◌&&◌, ◌||◌, List, [], ◌∷◌, ◌++◌}
+use Rattle.std.specs.Prelude.{Option, None, Some, IfSome, IsNone, codes, decimal, is_some, map, max, nat_eq, nat_lt}
+use Rattle.std.specs.Prelude.{if◌then◌else◌}
+use Rattle.std.specs.Cmp.Lexicographic.{pointwise}
+use Rattle.std.specs.List.{filter}
+use Rattle.std.specs.Option.{option_and_then, option_or}
+use Rattle.cif_columns.specs.Activities.{codes_in, has_code}
+use Rattle.cif_columns.specs.Field.{columns}
+use Rattle.cif_canon.specs.Fields.{Field}
+use Rattle.cif_canon.specs.Lines.{ScheduleLines}
+use Rattle.cif_canon.specs.declared.rows.Shape.TheVariants.{Whole}
+use Rattle.cif_columns.specs.PublicTime.{public_seconds, public_time_in}
+use Rattle.cif_columns.specs.WorkTime.{work_seconds, work_time_in}
+use Rattle.cif_views.specs.Moments.{IsNearest, IsNext, day, in_day_from, midnight, time_text}
+use Rattle.cif_views.specs.Tables.{Numbered, TableFields, calls_of, is_call, kind_of_line, number, numbered_from, of_part, text_at}
+use Rattle.cif_views.specs.declared.public_calls.CallTimes.{CallTimes}
+use Rattle.cif_views.specs.declared.public_calls.Journey.{Journey}
+use Rattle.cif_views.specs.declared.public_calls.Shown.{Shown}
+use Rattle.cif_views.specs.declared.public_calls.Stay.{Stay}
+use Rattle.cif_views.specs.declared.tables.JourneyKind.{JourneyKind}
+use Rattle.cif_views.specs.declared.tables.JourneyKind.TheVariants.{Change, Origin, Other, Stop, Terminus}
+
+-- ---- what is read of a call's line
+
+-- the seconds of a working time, and of a public time, if the columns are one
+abbrev pub working : List ℕ → Option ℕ
+working columns = option_and_then work_seconds (work_time_in columns)
+
+abbrev pub advertised : List ℕ → Option ℕ
+advertised columns = option_and_then public_seconds (public_time_in columns)
+
+-- the times of day of a call, in seconds: the working times, and the public ones
+abbrev pub times_in : JourneyKind → List ℕ → CallTimes
+times_in Origin line = record {
+  arrival = None;
+  pass = None;
+  departure = working (columns 11 15 line);
+  public_arrival = None;
+  public_departure = advertised (columns 16 19 line);
+}
+times_in Stop line = record {
+  arrival = working (columns 11 15 line);
+  pass = working (columns 21 25 line);
+  departure = working (columns 16 20 line);
+  public_arrival = advertised (columns 26 29 line);
+  public_departure = advertised (columns 30 33 line);
+}
+times_in Terminus line = record {
+  arrival = working (columns 11 15 line);
+  pass = None;
+  departure = None;
+  public_arrival = advertised (columns 16 19 line);
+  public_departure = None;
+}
+times_in kind line = record { arrival = None; pass = None; departure = None; public_arrival = None; public_departure = None }
+
+abbrev pub times_of : List ℕ → CallTimes
+times_of line = times_in (kind_of_line line) line
+
+-- A call is reached at the first that it has of these, and left at the first that it has of those. One without any isn't timed.
+abbrev pub reached_at : CallTimes → Option ℕ
+reached_at t = option_or t.arrival (option_or t.pass t.departure)
+
+abbrev pub left_at : CallTimes → Option ℕ
+left_at t = option_or t.departure (option_or t.pass t.arrival)
+
+abbrev pub is_timed : Numbered → Bool
+is_timed c = is_some (reached_at (times_of c.line))
+
+-- its activities
+abbrev pub activities_in : JourneyKind → List ℕ → List (List ℕ)
+activities_in Origin line = codes_in (columns 30 41 line)
+activities_in Stop line = codes_in (columns 43 54 line)
+activities_in Terminus line = codes_in (columns 26 37 line)
+activities_in kind line = []
+
+abbrev pub activities_of : List ℕ → List (List ℕ)
+activities_of line = activities_in (kind_of_line line) line
+
+-- a call is advertised unless an activity says that it isn't, or that it is for staff
+abbrev pub is_advertised : List (List ℕ) → Bool
+is_advertised activities = not (has_code activities (codes "N ")) && not (has_code activities (codes "S "))
+
+-- ---- moments
+
+-- a timed call, with the moments at which it is reached and left
+pub record TimedCall : Type 0 where
+  pub call : Numbered
+  pub reached : ℕ
+  pub left : ℕ
+
+-- The moments are those of the calls, one after another, where this is the moment before them, if there is one: the first is on the
+-- schedule's date, and each further one is the next after the one before.
+abbrev pub AreMoments : Option ℕ → List TimedCall → Type 0
+AreMoments before [] = ⊤
+AreMoments before (t ∷ timed) =
+    IfSome (reached_at (times_of t.call.line)) (λ seconds. IsReached before seconds t.reached)
+    × IfSome (left_at (times_of t.call.line)) (λ seconds. IsNext t.reached seconds t.left)
+    × AreMoments (Some t.left) timed
+  where
+    IsReached : Option ℕ → ℕ → ℕ → Type 0
+    IsReached None seconds m = m ≡ midnight + seconds
+    IsReached (Some p) seconds m = IsNext p seconds m
+
+-- these are the timed ones of the calls, in their order
+pub record AreTimed (calls : List Numbered) (timed : List TimedCall) : Type 0 where
+  pub calls_are : map (λ t. t.call) timed ≡ filter is_timed calls
+  pub moments : AreMoments None timed
+
+-- ---- public calls
+
+-- a call is public if it has a public time and is advertised
+abbrev pub is_public : TimedCall → Bool
+is_public t =
+    let times = times_of t.call.line in
+    (is_some times.public_arrival || is_some times.public_departure) && is_advertised (activities_of t.call.line)
+
+-- The moments of its public arrival and departure. Where it has only one of these, that stands for the other.
+pub record ArePublicTimes (t : TimedCall) (arrival departure : ℕ) : Type 0 where
+  pub arrival_is : IfSome (times_of t.call.line).public_arrival (λ seconds. IsNearest t.reached seconds arrival)
+  pub departure_is : IfSome (times_of t.call.line).public_departure (λ seconds. IsNearest t.left seconds departure)
+  pub no_arrival : IsNone (times_of t.call.line).public_arrival → arrival ≡ departure
+  pub no_departure : IsNone (times_of t.call.line).public_departure → departure ≡ arrival
+
+-- a public call, with the moments that the table shows
+pub record PublicCall : Type 0 where
+  pub call : Numbered
+  pub arrival : ℕ
+  pub departure : ℕ
+
+-- Moments that are shown don't fall: one that is before the one before it is raised to that.
+abbrev pub AreShown : ℕ → List TimedCall → List PublicCall → Type 0
+AreShown before [] [] = ⊤
+AreShown before (t ∷ timed) (p ∷ shown) = IsShown × AreShown p.departure timed shown
+  where
+    IsShown : Type 0
+    IsShown = (arrival departure : ℕ) × ArePublicTimes t arrival departure × (p.call ≡ t.call)
+        × (p.arrival ≡ max before arrival) × (p.departure ≡ max p.arrival departure)
+AreShown before timed shown = ⊥
+
+-- these are the public calls of a schedule, in their order; none is shown before the midnight at which its date begins
+pub record ArePublicCalls (s : ℕ × ScheduleLines) (shown : List PublicCall) : Type 0 where
+  pub timed : List TimedCall
+  pub are_timed : AreTimed (calls_of s) timed
+  pub are_shown : AreShown midnight (filter is_public timed) shown
+
+-- ---- their rows
+
+-- Whether riders may get off, and on: 0 yes, 1 no, 3 on request. Where no activity says so, its public times do.
+abbrev pub answer_of : Bool → List (List ℕ) → List ℕ
+answer_of may activities = if may then (if has_code activities (codes "R ") then codes "3" else codes "0") else codes "1"
+
+abbrev pub says_set_down : List (List ℕ) → Bool
+says_set_down activities =
+    has_code activities (codes "T ") || (has_code activities (codes "D ") || has_code activities (codes "TF"))
+
+abbrev pub says_pick_up : List (List ℕ) → Bool
+says_pick_up activities =
+    has_code activities (codes "T ") || (has_code activities (codes "U ") || has_code activities (codes "TB"))
+
+abbrev pub set_down : List (List ℕ) → CallTimes → List ℕ
+set_down activities t =
+    answer_of (says_set_down activities || (not (says_pick_up activities) && is_some t.public_arrival)) activities
+
+abbrev pub pick_up : List (List ℕ) → CallTimes → List ℕ
+pick_up activities t =
+    answer_of (says_pick_up activities || (not (says_set_down activities) && is_some t.public_departure)) activities
+
+-- the columns of its platform
+abbrev pub platform_in : JourneyKind → List ℕ → Field
+platform_in Stop line = text_at 34 36 line
+platform_in kind line = text_at 20 22 line
+
+abbrev pub public_fields : TableFields PublicCall
+public_fields =
+    (codes "schedule", λ p. number p.call.schedule)
+    ∷ (codes "call", λ p. number p.call.call)
+    ∷ (codes "location", λ p. text_at 3 9 p.call.line)
+    ∷ (codes "platform", λ p. platform_in (kind_of_line p.call.line) p.call.line)
+    ∷ (codes "arrival", λ p. (Whole, time_text (p.arrival - midnight)))
+    ∷ (codes "departure", λ p. (Whole, time_text (p.departure - midnight)))
+    ∷ (codes "set_down", λ p. (Whole, set_down (activities_of p.call.line) (times_of p.call.line)))
+    ∷ (codes "pick_up", λ p. (Whole, pick_up (activities_of p.call.line) (times_of p.call.line)))
+    ∷ []
+
+-- ---- as they are made
+
+-- what goes on from call to call: when the last timed call was left, and the last moment shown; none at first
+abbrev pub at_first : Journey
+at_first = record { left = None; shown = midnight }
+
+-- the moments at which a call with these times is reached and left, behind this moment, if it is timed
+abbrev pub reached_moment : Option ℕ → ℕ → ℕ
+reached_moment None seconds = midnight + seconds
+reached_moment (Some p) seconds = in_day_from (p - 3600) seconds
+
+abbrev pub stay_at : Option ℕ → Option ℕ → Option ℕ → Option Stay
+stay_at before (Some reached) (Some left) =
+    let at = reached_moment before reached in Some (record { reached = at; left = in_day_from (at - 3600) left })
+stay_at before reached left = None
+
+abbrev pub stay : Option ℕ → CallTimes → Option Stay
+stay before t = stay_at before (reached_at t) (left_at t)
+
+-- moments of public times that are raised to this one, if they are before it
+abbrev pub raised : ℕ → ℕ → ℕ → Shown
+raised before arrival departure =
+    record { arrival = max before arrival; departure = max (max before arrival) departure }
+
+abbrev pub public_moment : ℕ → ℕ → ℕ
+public_moment there seconds = in_day_from (there - 43200) seconds
+
+abbrev pub shown_at : ℕ → Stay → Option ℕ → Option ℕ → Option Shown
+shown_at before at (Some arrival) (Some departure) =
+    Some (raised before (public_moment at.reached arrival) (public_moment at.left departure))
+shown_at before at (Some arrival) None = let m = public_moment at.reached arrival in Some (raised before m m)
+shown_at before at None (Some departure) = let m = public_moment at.left departure in Some (raised before m m)
+shown_at before at None None = None
+
+-- those of a call with these times and activities, if it is public
+abbrev pub shown_of : ℕ → Stay → CallTimes → List (List ℕ) → Option Shown
+shown_of before at t activities =
+    if is_advertised activities then shown_at before at t.public_arrival t.public_departure else None
+
+-- what a line of this kind leaves of a journey, and its moments if it is a public call
+abbrev pub step : Journey → JourneyKind → List ℕ → Journey × Option Shown
+step j kind line = of_stay (stay j.left (times_in kind line))
+  where
+    of_shown : ℕ → Option Shown → Journey × Option Shown
+    of_shown gone None = (record { left = Some gone; shown = j.shown }, None)
+    of_shown gone (Some p) = (record { left = Some gone; shown = p.departure }, Some p)
+
+    of_stay : Option Stay → Journey × Option Shown
+    of_stay None = (j, None)
+    of_stay (Some at) = of_shown at.left (shown_of j.shown at (times_in kind line) (activities_in kind line))
+
+abbrev pub public_call : Numbered → Option Shown → List PublicCall
+public_call c None = []
+public_call c (Some p) = record { call = c; arrival = p.arrival; departure = p.departure } ∷ []
+
+-- the public calls of numbered lines
+abbrev pub public_from : Journey → List Numbered → List PublicCall
+public_from j [] = []
+public_from j (c ∷ lines) =
+    let next = step j (kind_of_line c.line) c.line in public_call c next.1 ++ public_from next.0 lines
+
+abbrev pub public_calls : ℕ × ScheduleLines → List PublicCall
+public_calls s = public_from at_first (numbered_from s.0 1 s.1.further)

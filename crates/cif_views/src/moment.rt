@@ -1,0 +1,170 @@
+//! Moments of a journey.
+ghost use Rattle.std.specs.Prelude.{◌≡◌, ◌<◌, ◌≤◌, ◌+◌, ◌-◌, ◌*◌, ◌^◌, ◌++◌, ℕ, max};
+ghost use Rattle.cif_views.specs.Moments.{IsBy, IsOnTheWay, in_day_from, midnight, time_text};
+
+use arrayvec::ArrayString;
+use cif_columns::as_text;
+use itoa::Buffer;
+use std::marker::Model;
+
+/// The seconds of a day.
+const DAY: u32 = 86_400;
+
+/// The seconds by which a timetable may go back from one time to the next; more than that is a new day.
+const SLIP: u32 = 3_600;
+
+const HALF_A_DAY: u32 = 43_200;
+
+/// The number of the day that is the schedule's date. Earlier ones have a number too, as a timetable may go
+/// back by an hour at a call.
+const FIRST_DAY: u128 = 1 << 64;
+
+/// The bytes of the longest text of a moment.
+pub(crate) const LONGEST_TIME: usize = 47;
+
+/// A time of day. A clause sees its seconds from midnight.
+#[derive(Clone, Copy)]
+pub(crate) struct TimeOfDay {
+    seconds: u32,
+}
+
+impl Model for TimeOfDay {
+    ghost use Rattle.std.specs.Prelude.{ℕ, ◌<◌};
+
+    ghost Value = { ℕ };
+
+    ghost view = { λ t. t.seconds };
+
+    ghost invariant = { λ t. t.seconds < 86400 };
+
+    ghost inverse = { λ n. record { seconds = n } };
+}
+
+impl TimeOfDay {
+    /// The one so many seconds from midnight.
+    pub(crate) fn new(seconds: u32) -> TimeOfDay
+        requires { seconds < DAY }
+        ensures { result ≡ seconds }
+    {
+        TimeOfDay { seconds }
+    }
+}
+
+/// A moment of a journey. A clause sees it in seconds from the midnight from which moments are counted.
+#[derive(Clone, Copy)]
+pub(crate) struct Moment {
+    day: u128,
+    // The time of day.
+    seconds: u32,
+}
+
+impl Model for Moment {
+    ghost use Rattle.std.specs.Prelude.{ℕ, ◌+◌, ◌*◌, ◌/◌, ◌%◌, ◌<◌};
+
+    ghost Value = { ℕ };
+
+    ghost view = { λ m. m.day * 86400 + m.seconds };
+
+    ghost invariant = { λ m. m.seconds < 86400 };
+
+    ghost inverse = { λ n. record { day = n / 86400; seconds = n % 86400 } };
+}
+
+impl Moment {
+    /// The moment with this time of day on the schedule's date.
+    pub(crate) fn on_date(time: TimeOfDay) -> Moment
+        ensures { result ≡ midnight + time }
+    {
+        Moment {
+            day: FIRST_DAY,
+            seconds: time.seconds,
+        }
+    }
+
+    /// The moment with this time of day in the day that begins so many seconds before this one.
+    fn in_day_from(self, before: u32, time: TimeOfDay) -> Moment
+        requires before { before < DAY }
+        requires on_the_way { IsOnTheWay self }
+        ensures moment { result ≡ in_day_from (self - before) time }
+        ensures not_before { self ≤ result + before }
+        ensures within { result < self + DAY }
+    {
+        let (own, other) = (self.seconds, time.seconds + before);
+        let day = if other < own {
+            self.day + 1
+        } else if other >= own + DAY {
+            self.day - 1
+        } else {
+            self.day
+        };
+        Moment {
+            day,
+            seconds: time.seconds,
+        }
+    }
+
+    /// The next moment on the way with this time of day. Up to an hour back is a slip of the timetable.
+    pub(crate) fn next(self, time: TimeOfDay) -> Moment
+        requires { (n : ℕ) × (n ≤ 2 ^ 65) × IsBy n self }
+        ensures moment { result ≡ in_day_from (self - 3600) time }
+        ensures by { (n : ℕ) → IsBy n self → IsBy (n + 1) result }
+    {
+        self.in_day_from(SLIP, time)
+    }
+
+    /// The moment of this public time that is nearest to this one.
+    pub(crate) fn nearest(self, time: TimeOfDay) -> Moment
+        requires { IsOnTheWay self }
+        ensures moment { result ≡ in_day_from (self - 43200) time }
+        ensures within { result < self + DAY }
+    {
+        self.in_day_from(HALF_A_DAY, time)
+    }
+
+    /// The later of both.
+    pub(crate) fn or_later(self, other: Moment) -> Moment
+        ensures { result ≡ max self other }
+    {
+        if self.day < other.day || self.day == other.day && self.seconds < other.seconds {
+            other
+        } else {
+            self
+        }
+    }
+
+    /// Its time as HH:MM:SS, counted from the midnight at which the schedule's date begins.
+    pub(crate) fn text(self) -> ArrayString<LONGEST_TIME>
+        requires from { midnight ≤ self }
+        requires early { self < DAY * 2 ^ 100 }
+        ensures { result.bytes ≡ time_text (self - midnight) }
+    {
+        let (hour, minute, second) = (
+            self.seconds / 3_600,
+            self.seconds / 60 % 60,
+            self.seconds % 60,
+        );
+        let hours = (self.day - FIRST_DAY) * 24 + hour as u128;
+        let mut text = ArrayString::new();
+        if hours < 10 {
+            text.push_str("0");
+        }
+        text.push_str(Buffer::new().format(hours));
+        text.push_str(as_text(&[
+            b':',
+            digit(minute / 10),
+            digit(minute % 10),
+            b':',
+            digit(second / 10),
+            digit(second % 10),
+        ]));
+        text
+    }
+}
+
+/// The digit of a number.
+fn digit(number: u32) -> u8
+    requires { number < 10 }
+    ensures { result ≡ 48 + number }
+{
+    b'0' + number as u8
+}
