@@ -1,5 +1,25 @@
 -- Which members are known to have one body.
-use Rattle.std.proofs.Common.{◌≡◌, ℕ, List, Option, Some, None, get_or, length, replicate, ⊎_elim, sym, ◌∙◌, subst, ◌⊎◌, ◌↔◌, arith}
+use Rattle.std.proofs.Common.{
+  ◌≡◌,
+  ℕ,
+  ◌<◌,
+  max,
+  min,
+  List,
+  Option,
+  Some,
+  None,
+  get_or,
+  length,
+  replicate,
+  ⊎_elim,
+  sym,
+  ◌∙◌,
+  subst,
+  ◌⊎◌,
+  ◌↔◌,
+  arith,
+}
 use Rattle.std.proofs.lemmas.Bool.{cases_lt}
 use Rattle.std.proofs.lemmas.List.{get_or-replicate, get_or_past, length-replicate}
 use Rattle.std.proofs.lemmas.Option.{same_Some}
@@ -26,13 +46,18 @@ module _ {B : Type 0} (xs : List (Terms B)) (members : List ℕ) where
       (noted k)
 
   -- a link leads to a member with the same body, so both still have one body exactly if they had before
-  pub falling-next : (number next earlier one other : ℕ) (P : Type 0) → HaveOneBody xs members number next →
-      ((one ≡ next) × (other ≡ earlier)) ⊎ ((one ≡ earlier) × (other ≡ next)) → (HaveOneBody xs members number earlier ↔ P) →
-      HaveOneBody xs members one other ↔ P
-  falling-next number next earlier one other P same either both = ⊎_elim
-      (λ e. rw (e.0, e.1) (λ h. both.0 (same ∙ h), λ p. sym same ∙ both.1 p))
-      (λ e. rw (e.0, e.1) (λ h. both.0 (same ∙ sym h), λ p. sym (both.1 p) ∙ same))
-      either
+  pub falling-next : (number next earlier one other : ℕ) (P : Type 0) → HaveOneBody xs members number next → one ≡ max next earlier →
+      other ≡ min next earlier → (HaveOneBody xs members number earlier ↔ P) → HaveOneBody xs members one other ↔ P
+  falling-next number next earlier one other P same greater less both = ⊎_elim
+      (λ (below : next < earlier).
+      let first : one ≡ earlier = omega arith in
+      let second : other ≡ next = omega arith in
+      rw (first, second) (λ h. both.0 (same ∙ sym h), λ p. sym (both.1 p) ∙ same))
+      (λ from.
+      let first : one ≡ next = omega arith in
+      let second : other ≡ earlier = omega arith in
+      rw (first, second) (λ h. both.0 (same ∙ h), λ p. sym same ∙ both.1 p))
+      (cases_lt next earlier)
 
   -- what a test of two members' bodies tells
   pub one-body : (k j : ℕ) (t u : Terms B) (P : Type 0) → StandsAt xs members k t → StandsAt xs members j u → (P ↔ (t.body ≡ u.body)) →

@@ -18,7 +18,7 @@ pub struct Dates {
 }
 
 impl Dates {
-    /// Those on which the entry applies.
+    /// The dates on which the entry applies.
     #[inline]
     pub fn of<E: Entry>(entry: &E) -> Dates
         ensures first { result.first ≡ (E.terms entry.now).first }

@@ -6,9 +6,10 @@ ghost use Rattle.cif_calendar.specs.Steps.Standing.{IsBelow, Stands};
 ghost use Rattle.cif_calendar.specs.Steps.Stretches.{AreStretchesOf, IsStretch};
 
 use crate::entry::Entry;
-use crate::key_calendar::Window;
-use crate::standing::{Standing, member};
+use crate::members::Members;
+use crate::standing::Standing;
 use crate::stretch::{Stretch, stretches_of};
+use crate::window::Window;
 use cif_columns::{Day, Stp};
 use std::alloc::{AllocError, Global};
 
@@ -37,37 +38,31 @@ pub fn day_states<E: Entry>(
     ensures { IfOk result (λ states. AreDayStates (IsChosen (map E.terms entries.now) members.now)
         window.now.first (window.now.last + 1) states.items) }
 {
-    let mut alike = vec![in alloc; None; members.len()]?;
-    let stretches = stretches_of(
-        alloc,
+    let all = Members {
         entries,
-        members,
-        alike.as_mut_slice(),
-        0,
-        members,
-        window,
-    )?;
-    states_of(alloc, entries, members, stretches.as_slice(), window)
+        positions: members,
+    };
+    let mut alike = vec![in alloc; None; members.len()]?;
+    let stretches = stretches_of(alloc, &all, alike.as_mut_slice(), 0, members, window)?;
+    states_of(alloc, &all, stretches.as_slice(), window)
 }
 
-/// What stands on each date of the window, by the stretches of the entries at `members`.
+/// What stands on each date of the window, by the stretches of the members.
 fn states_of<E: Entry>(
     alloc: Global,
-    entries: &[E],
-    members: &[usize],
+    members: &Members<E>,
     stretches: &[Stretch],
     window: &Window,
 ) -> Result<Vec<DayState>, AllocError>
-    requires positions { All (λ i. i < length entries.now) members.now }
-    requires stretches { AreStretchesOf (map E.terms entries.now) members.now members.now window.now
+    requires stretches { AreStretchesOf (map E.terms members.now.entries.now) members.now.positions.now members.now.positions.now window.now
         stretches.now }
-    ensures { IfOk result (λ states. AreDayStates (IsChosen (map E.terms entries.now) members.now)
+    ensures { IfOk result (λ states. AreDayStates (IsChosen (map E.terms members.now.entries.now) members.now.positions.now)
         window.now.first (window.now.last + 1) states.items) }
 {
     let mut states = Vec::new(alloc);
     let mut first = window.first;
     for stretch in stretches {
-        add_states(entries, members, first, stretch, &mut states)?;
+        add_states(members, first, stretch, &mut states)?;
         first = stretch.last.next_up_to(window.last).unwrap_or(first);
     }
     Ok(states)
@@ -75,24 +70,22 @@ fn states_of<E: Entry>(
 
 /// Appends what stands on each date of a stretch, which begins on `first`.
 fn add_states<E: Entry>(
-    entries: &[E],
-    members: &[usize],
+    members: &Members<E>,
     first: Day,
     stretch: &Stretch,
     states: &mut Vec<DayState>,
 ) -> Result<(), AllocError>
-    requires positions { All (λ i. i < length entries.now) members.now }
-    requires stretch { (end : ℕ) × IsStretch (map E.terms entries.now) members.now members.now end
+    requires stretch { (end : ℕ) × IsStretch (map E.terms members.now.entries.now) members.now.positions.now members.now.positions.now end
         first stretch.now }
     ensures { IfOk result (λ _. (from : ℕ)
-        → AreDayStates (IsChosen (map E.terms entries.now) members.now) from first states.old.items
-        → AreDayStates (IsChosen (map E.terms entries.now) members.now) from (stretch.now.last + 1)
+        → AreDayStates (IsChosen (map E.terms members.now.entries.now) members.now.positions.now) from first states.old.items
+        → AreDayStates (IsChosen (map E.terms members.now.entries.now) members.now.positions.now) from (stretch.now.last + 1)
         states.new.items) }
 {
     let mut day = first;
     loop {
         let weekday = usize::from(day.weekday());
-        states.push(state_by(entries, members, stretch.standings[weekday]))?;
+        states.push(state_by(members, stretch.standings[weekday]))?;
         match day.next_up_to(stretch.last) {
             Some(next) => day = next,
             None => return Ok(()),
@@ -101,16 +94,15 @@ fn add_states<E: Entry>(
 }
 
 /// What stands on a date on which this standing is that of all members.
-fn state_by<E: Entry>(entries: &[E], members: &[usize], standing: Standing) -> DayState
-    requires positions { All (λ i. i < length entries.now) members.now }
-    requires leader { IsBelow (length members.now) standing }
-    ensures { (day : ℕ) → Stands (map E.terms entries.now) members.now
-        (IsChosen (map E.terms entries.now) members.now) day standing
-        → IsDayState (IsChosen (map E.terms entries.now) members.now) day result }
+fn state_by<E: Entry>(members: &Members<E>, standing: Standing) -> DayState
+    requires leader { IsBelow (length members.now.positions.now) standing }
+    ensures { (day : ℕ) → Stands (map E.terms members.now.entries.now) members.now.positions.now
+        (IsChosen (map E.terms members.now.entries.now) members.now.positions.now) day standing
+        → IsDayState (IsChosen (map E.terms members.now.entries.now) members.now.positions.now) day result }
 {
     match standing {
         Standing::Nobody => DayState::NoneApplies,
-        Standing::Leader(number) => DayState::Letter(member(entries, members, number).letter()),
+        Standing::Leader(number) => DayState::Letter(members.entry(number).letter()),
         Standing::Disputed(_) => DayState::Clash,
     }
 }

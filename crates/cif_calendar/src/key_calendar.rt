@@ -2,35 +2,12 @@
 ghost use Rattle.std.specs.Prelude.{◌≡◌, ◌≤◌, ◌+◌, Contains, Some};
 ghost use Rattle.cif_calendar.specs.Pieces.{Tiles, source_at, winner_of};
 
+use crate::window::Window;
 use cif_columns::{Day, as_text};
-use cif_records::Header;
 use std::alloc::AllocError;
 use std::error::Error;
 use std::fmt;
 use std::marker::Model;
-
-/// The dates from a first to a last, both included; the first is never after the last.
-#[derive(Clone, Copy, Debug, PartialEq, Eq)]
-pub struct Window {
-    /// The first date.
-    pub first: Day,
-    /// The last date.
-    pub last: Day,
-    ghost in_order: { first ≤ last },
-}
-
-impl Window {
-    /// The window of an extract with this header.
-    pub fn of(header: &Header) -> Window
-        ensures first { result.first ≡ header.now.first }
-        ensures last { result.last ≡ header.now.last }
-    {
-        Window {
-            first: header.first,
-            last: header.last,
-        }
-    }
-}
 
 /// Dates on each of which the same records apply as on the others of its weekday.
 #[derive(Clone, Copy, Debug, PartialEq, Eq)]

@@ -7,33 +7,33 @@ ghost use Rattle.cif_calendar.specs.Source.{IsChosen};
 ghost use Rattle.cif_calendar.specs.Steps.Stretches.{AreStretchesOf, IsStretch};
 
 use crate::entry::Entry;
-use crate::key_calendar::{Calendar, CalendarFault, Piece, Window};
+use crate::key_calendar::{Calendar, CalendarFault, Piece};
+use crate::members::Members;
 use crate::standing::winner_by;
 use crate::stretch::{Stretch, stretches_of};
+use crate::window::Window;
 use cif_columns::Day;
 use std::alloc::Global;
 
 /// The piece of a stretch that begins on `first`, or its first date with a clash. The first seven
 /// dates tell of the others.
 fn judge<E: Entry>(
-    entries: &[E],
-    members: &[usize],
+    members: &Members<E>,
     first: Day,
     stretch: &Stretch,
 ) -> Result<Piece, CalendarFault>
-    requires positions { All (λ i. i < length entries.now) members.now }
-    requires stretch { (end : ℕ) × IsStretch (map E.terms entries.now) members.now members.now end
+    requires stretch { (end : ℕ) × IsStretch (map E.terms members.now.entries.now) members.now.positions.now members.now.positions.now end
         first stretch.now }
     ensures piece { IfOk result (λ p. (p.first ≡ first) × (p.last ≡ stretch.now.last)
-        × IsPiece (map E.terms entries.now) members.now p) }
-    ensures fault { IfErr result (IsFault (IsChosen (map E.terms entries.now) members.now) first
+        × IsPiece (map E.terms members.now.entries.now) members.now.positions.now p) }
+    ensures fault { IfErr result (IsFault (IsChosen (map E.terms members.now.entries.now) members.now.positions.now) first
         stretch.now.last) }
 {
     let mut winners = [None; 7];
     let mut day = first;
     for _ in 0..7u8 {
         let weekday = usize::from(day.weekday());
-        winners[weekday] = winner_by(entries, members, stretch.standings[weekday], day)?;
+        winners[weekday] = winner_by(members, stretch.standings[weekday], day)?;
         match day.next_up_to(stretch.last) {
             Some(next) => day = next,
             None => break,
@@ -46,23 +46,21 @@ fn judge<E: Entry>(
     })
 }
 
-/// The calendar of the entries at `members`, from their stretches.
+/// The calendar of the members, from their stretches.
 fn calendar_of<E: Entry>(
     alloc: Global,
-    entries: &[E],
-    members: &[usize],
+    members: &Members<E>,
     stretches: &[Stretch],
     window: Window,
 ) -> Result<Calendar, CalendarFault>
-    requires positions { All (λ i. i < length entries.now) members.now }
-    requires stretches { AreStretchesOf (map E.terms entries.now) members.now members.now window
+    requires stretches { AreStretchesOf (map E.terms members.now.entries.now) members.now.positions.now members.now.positions.now window
         stretches.now }
-    ensures { IsAnswer (map E.terms entries.now) members.now window.first window.last result }
+    ensures { IsAnswer (map E.terms members.now.entries.now) members.now.positions.now window.first window.last result }
 {
     let mut pieces = Vec::new(alloc);
     let mut first = window.first;
     for stretch in stretches {
-        let Ok(()) = pieces.push(judge(entries, members, first, stretch)?) else {
+        let Ok(()) = pieces.push(judge(members, first, stretch)?) else {
             return Err(CalendarFault::Memory);
         };
         first = stretch.last.next_up_to(window.last).unwrap_or(first);
@@ -88,19 +86,11 @@ pub fn calendar<E: Entry>(
     requires positions { All (λ i. i < length entries.now) members.now }
     ensures { IsAnswer (map E.terms entries.now) members.now window.first window.last result }
 {
-    let Ok(mut alike) = vec![in alloc; None; members.len()] else {
-        return Err(CalendarFault::Memory);
-    };
-    let Ok(stretches) = stretches_of(
-        alloc,
+    let all = Members {
         entries,
-        members,
-        alike.as_mut_slice(),
-        0,
-        members,
-        &window,
-    ) else {
-        return Err(CalendarFault::Memory);
+        positions: members,
     };
-    calendar_of(alloc, entries, members, stretches.as_slice(), window)
+    let mut alike = vec![in alloc; None; members.len()]?;
+    let stretches = stretches_of(alloc, &all, alike.as_mut_slice(), 0, members, &window)?;
+    calendar_of(alloc, &all, stretches.as_slice(), window)
 }

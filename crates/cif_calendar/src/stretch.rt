@@ -6,8 +6,9 @@ ghost use Rattle.cif_calendar.specs.Steps.Stretches.{AreBehind, AreStretchesOf, 
 
 use crate::applies::Dates;
 use crate::entry::Entry;
-use crate::key_calendar::Window;
+use crate::members::Members;
 use crate::standing::{Standing, Standings, look_at};
+use crate::window::Window;
 use cif_columns::{Day, DaysRun};
 use std::alloc::{AllocError, Global};
 
@@ -28,30 +29,28 @@ pub(crate) struct Stretch {
 /// The stretch that begins on `first`, in a window that ends on `last`, of the members in `part`, the
 /// first of which has this number.
 fn stretch_from<E: Entry>(
-    entries: &[E],
-    members: &[usize],
+    members: &Members<E>,
     alike: &mut [Option<usize>],
     number: usize,
     part: &[usize],
     first: Day,
     last: Day,
 ) -> Stretch
-    requires positions { All (λ i. i < length entries.now) members.now }
-    requires alike { AreAlike (map E.terms entries.now) members.now alike.old }
-    requires part { IsPart members.now number part.now }
+    requires alike { AreAlike (map E.terms members.now.entries.now) members.now.positions.now alike.old }
+    requires part { IsPart members.now.positions.now number part.now }
     requires in_order { first ≤ last }
-    ensures alike { AreAlike (map E.terms entries.now) members.now alike.new }
-    ensures stretch { IsStretch (map E.terms entries.now) members.now part.now (last + 1) first result }
+    ensures alike { AreAlike (map E.terms members.now.entries.now) members.now.positions.now alike.new }
+    ensures stretch { IsStretch (map E.terms members.now.entries.now) members.now.positions.now part.now (last + 1) first result }
 {
     let mut end = last;
     let mut standings = [Standing::Nobody; 7];
     for (index, position) in part.iter().enumerate() {
-        let dates = Dates::of(&entries[*position]);
+        let dates = Dates::of(&members.entries[*position]);
         if dates.first <= first {
             if first <= dates.last {
                 end = end.min(dates.last);
                 let others = [Standing::Leader(number + index); 7];
-                look_at(entries, members, alike, &mut standings, dates.days, &others);
+                look_at(members, alike, &mut standings, dates.days, &others);
             }
         } else if let Some(before) = dates.first.previous() {
             end = end.min(before);
@@ -77,24 +76,22 @@ fn behind(stretches: &[Stretch], day: Day) -> &[Stretch]
 /// looked at for each stretch.
 fn stretches_of_few<E: Entry>(
     alloc: Global,
-    entries: &[E],
-    members: &[usize],
+    members: &Members<E>,
     alike: &mut [Option<usize>],
     number: usize,
     part: &[usize],
     window: &Window,
 ) -> Result<Vec<Stretch>, AllocError>
-    requires positions { All (λ i. i < length entries.now) members.now }
-    requires alike { AreAlike (map E.terms entries.now) members.now alike.old }
-    requires part { IsPart members.now number part.now }
-    ensures alike { AreAlike (map E.terms entries.now) members.now alike.new }
+    requires alike { AreAlike (map E.terms members.now.entries.now) members.now.positions.now alike.old }
+    requires part { IsPart members.now.positions.now number part.now }
+    ensures alike { AreAlike (map E.terms members.now.entries.now) members.now.positions.now alike.new }
     ensures stretches { IfOk result
-        (λ made. AreStretchesOf (map E.terms entries.now) members.now part.now window.now made.items) }
+        (λ made. AreStretchesOf (map E.terms members.now.entries.now) members.now.positions.now part.now window.now made.items) }
 {
     let mut stretches = Vec::new(alloc);
     let mut first = window.first;
     loop {
-        let stretch = stretch_from(entries, members, alike, number, part, first, window.last);
+        let stretch = stretch_from(members, alike, number, part, first, window.last);
         let next = stretch.last.next_up_to(window.last);
         stretches.push(stretch)?;
         match next {
@@ -108,35 +105,25 @@ fn stretches_of_few<E: Entry>(
 /// from those of both halves.
 pub(crate) fn stretches_of<E: Entry>(
     alloc: Global,
-    entries: &[E],
-    members: &[usize],
+    members: &Members<E>,
     alike: &mut [Option<usize>],
     number: usize,
     part: &[usize],
     window: &Window,
 ) -> Result<Vec<Stretch>, AllocError>
-    requires positions { All (λ i. i < length entries.now) members.now }
-    requires alike { AreAlike (map E.terms entries.now) members.now alike.old }
-    requires part { IsPart members.now number part.now }
-    ensures alike { AreAlike (map E.terms entries.now) members.now alike.new }
+    requires alike { AreAlike (map E.terms members.now.entries.now) members.now.positions.now alike.old }
+    requires part { IsPart members.now.positions.now number part.now }
+    ensures alike { AreAlike (map E.terms members.now.entries.now) members.now.positions.now alike.new }
     ensures stretches { IfOk result
-        (λ made. AreStretchesOf (map E.terms entries.now) members.now part.now window.now made.items) }
+        (λ made. AreStretchesOf (map E.terms members.now.entries.now) members.now.positions.now part.now window.now made.items) }
 {
     if part.len() <= MOST_DIRECT {
-        return stretches_of_few(alloc, entries, members, alike, number, part, window);
+        return stretches_of_few(alloc, members, alike, number, part, window);
     }
     let half = part.len() / 2;
     let (first_half, second_half) = part.split_at(half);
-    let lefts = stretches_of(alloc, entries, members, alike, number, first_half, window)?;
-    let rights = stretches_of(
-        alloc,
-        entries,
-        members,
-        alike,
-        number + half,
-        second_half,
-        window,
-    )?;
+    let lefts = stretches_of(alloc, members, alike, number, first_half, window)?;
+    let rights = stretches_of(alloc, members, alike, number + half, second_half, window)?;
     let mut left = lefts.as_slice();
     let mut right = rights.as_slice();
     let mut stretches = Vec::new(alloc);
@@ -145,14 +132,7 @@ pub(crate) fn stretches_of<E: Entry>(
         // Both have the next date, and nothing changes until the sooner of them ends.
         let last = one.last.min(other.last);
         let mut standings = one.standings;
-        look_at(
-            entries,
-            members,
-            alike,
-            &mut standings,
-            days,
-            &other.standings,
-        );
+        look_at(members, alike, &mut standings, days, &other.standings);
         left = behind(left, last);
         right = behind(right, last);
         stretches.push(Stretch { last, standings })?;

@@ -26,7 +26,7 @@ pub(crate) fn are_alike<E: Entry>(left: &[E], one: &Calendar, right: &[E], other
     loop {
         let piece = one.piece_on(first);
         let peer = other.piece_on(first);
-        let last = earlier(piece.last, peer.last);
+        let last = piece.last.min(peer.last);
         if !are_pieces_alike(left, piece, right, peer, first, last) {
             return false;
         }
@@ -35,15 +35,6 @@ pub(crate) fn are_alike<E: Entry>(left: &[E], one: &Calendar, right: &[E], other
             None => return true,
         }
     }
-}
-
-/// The earlier of two days.
-pub(crate) fn earlier(one: Day, other: Day) -> Day
-    ensures one { result ≤ one }
-    ensures other { result ≤ other }
-    ensures latest { (d : ℕ) → d ≤ one → d ≤ other → d ≤ result }
-{
-    if one <= other { one } else { other }
 }
 
 /// Whether the pieces have the same body, or none, on each of these days.
@@ -168,7 +159,7 @@ fn only_calendar<E: Entry>(
     loop {
         let piece = one.piece_on(first);
         let peer = other.piece_on(first);
-        let last = earlier(piece.last, peer.last);
+        let last = piece.last.min(peer.last);
         let winners = only_winners(entries, piece, others, peer, first, last);
         pieces.push(Piece {
             first,

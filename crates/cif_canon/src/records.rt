@@ -83,22 +83,15 @@ fn make_runs_of_key<E: NamedEntry>(
         IsKeyFault E.clash_of (window_from window.now.first window.now.last)
         (keyed E.key E.terms entries.now) k fault) }
 {
-    match runs_of_few(made, entries, members, window, form) {
-        Ok(true) => return Ok(()),
-        Ok(false) => {}
-        Err(_) => return Err(Fault::Memory),
+    if runs_of_few(made, entries, members, window, form)? {
+        return Ok(());
     }
     let calendar = match calendar(alloc, entries, members, *window) {
         Ok(calendar) => calendar,
         Err(fault) => return Err(fault_of(fault, &entries[members[0]])),
     };
-    match runs(alloc, entries, &calendar, form) {
-        Ok(runs) => {
-            *made = runs;
-            Ok(())
-        }
-        Err(_) => Err(Fault::Memory),
-    }
+    *made = runs(alloc, entries, &calendar, form)?;
+    Ok(())
 }
 
 /// How many entries or records are looked at before they are worked on. In the order of their keys
@@ -136,11 +129,9 @@ pub(crate) fn canonical_runs<E: NamedEntry>(
     ensures fault { IfErr result (IsRecordsFault E.Key.cmp E.clash_of (keyed E.key E.terms entries.now)
         (window_from window.now.first window.now.last)) }
 {
-    let Ok(positions) = positions_by_key(alloc, entries) else {
-        return Err(Fault::Memory);
-    };
+    let positions = positions_by_key(alloc, entries)?;
     let mut all = Vec::new(alloc);
-    // Those of the next key take their memory.
+    // The runs of one key, in the memory of those of the key before it.
     let mut runs = Vec::new(alloc);
     let mut rest = positions.as_slice();
     let mut looked_at = 0;
@@ -152,9 +143,7 @@ pub(crate) fn canonical_runs<E: NamedEntry>(
         let (members, later) = rest.split_at(count_of_first_key(entries, rest));
         looked_at = looked_at.saturating_sub(members.len());
         make_runs_of_key(alloc, &mut runs, entries, members, window, form)?;
-        let Ok(()) = all.extend_from_slice(runs.as_slice()) else {
-            return Err(Fault::Memory);
-        };
+        all.extend_from_slice(runs.as_slice())?;
         rest = later;
     }
     Ok(all)

@@ -8,6 +8,7 @@ use arrayvec::ArrayString;
 use cif_columns::{Day, LineFault, Refusal, Uid, WriteFault, as_text};
 use cif_records::AssocKey;
 use itoa::Buffer;
+use std::alloc::AllocError;
 use std::error::Error;
 use std::fmt;
 
@@ -136,6 +137,16 @@ impl From<WriteFault> for Fault {
 
     fn from(_fault: WriteFault) -> Fault {
         Fault::Write
+    }
+}
+
+impl From<AllocError> for Fault {
+    ghost use Rattle.cif_extract.specs.declared.fault.Fault.TheVariants.{Memory};
+
+    ghost from_gives = { λ _ fault. fault ≡ Memory };
+
+    fn from(_error: AllocError) -> Fault {
+        Fault::Memory
     }
 }
 

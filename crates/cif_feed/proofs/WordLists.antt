@@ -1,9 +1,9 @@
 -- The words of a text, one after another.
-use Rattle.std.proofs.Common.{◌≡◌, ℕ, ◌+◌, ◌<◌, ◌≤◌, ◌==◌, Bool, true, false, cond, nat_lt, List, [], ◌∷◌, length, get_or, take, drop, refl}
-use Rattle.std.proofs.Common.{sym, ap, ◌∙◌, arith, ⊎_elim, eq-eqb, subst, not, length-drop}
+use Rattle.std.proofs.Common.{◌≡◌, ℕ, ◌+◌, ◌<◌, ◌≤◌, ◌==◌, Bool, true, cond, nat_lt, List, [], ◌∷◌, length, get_or, take, drop, refl}
+use Rattle.std.proofs.Common.{Some, None, sym, ap, ◌∙◌, arith, ⊎_elim, subst, not, length-drop}
 use Rattle.std.specs.List.{before_first, after_first, position_or_len}
 use Rattle.std.specs.Prelude.{filter}
-use Rattle.std.proofs.lemmas.Bool.{cases_lt, eqb-true}
+use Rattle.std.proofs.lemmas.Bool.{cases_lt, eqb-true, false_from_ne_true}
 use Rattle.std.proofs.lemmas.Bool.Decides.{nat_tests}
 use Rattle.std.proofs.Math.ListN.{drop_of_length-le}
 use Rattle.std.proofs.lemmas.List.{at_drop_more, get_or-drop, nil_from_length, take_all}
@@ -11,6 +11,7 @@ use Rattle.std.proofs.lemmas.List.Folds.{length-prefix_len}
 use Rattle.std.proofs.lemmas.List.Splits.{slice_split_first, slice_split_none}
 use Rattle.std.proofs.lemmas.List.Sums.{fails_before_first, passes_at_first, position_or_len_is}
 use Rattle.cif_feed.specs.Words.{is_space, words_in}
+use Rattle.memchr.specs.Find.{IsFirstByte, is_byte}
 
 pub words-none : words_in [] ≡ []
 unfolding words_in
@@ -26,20 +27,15 @@ words-space_at xs i below is =
     at_drop_more words_in xs i 0 below ∙ ap (λ (x : ℕ). words_in (x ∷ drop (i + 1) xs)) is ∙ words-space (drop (i + 1) xs)
 
 module _ (byte : ℕ) (xs : List ℕ) where
-  other : (k : ℕ) → (get_or xs k 0 ≡ byte → ⊥) → (b : Bool) → (get_or xs k 0 == byte) ≡ b → b ≡ false
-  other k apart true is = absurd (apart (eqb-true _ byte is))
-  other k apart false is = refl
+  -- what stands before the place of the first such byte, or all where there is none
+  pub before-found : (at : ℕ) → IsFirstByte (is_byte byte) xs (Some at) → take at xs ≡ before_first (λ b. b == byte) xs
+  before-found at it = ap (λ (n : ℕ). take n xs) (sym (position_or_len_is (λ (b : ℕ). b == byte) xs at 0 (omega (arith, it.0.high))
+      (λ k early. false_from_ne_true _ (it.0.before k (omega arith) early)) (λ here. it.1)))
 
-  -- what stands before a place is what stands before the first such byte, if that is there, and none before it
-  pub before-found : (at : ℕ) → at < length xs → ((k : ℕ) → k < at → get_or xs k 0 ≡ byte → ⊥) → get_or xs at 0 ≡ byte
-      → take at xs ≡ before_first (λ b. b == byte) xs
-  before-found at below none is = ap (λ (n : ℕ). take n xs) (sym (position_or_len_is (λ (b : ℕ). b == byte) xs at 0 (omega arith)
-      (λ k early. other k (none k early) (get_or xs k 0 == byte) refl) (λ here. eq-eqb _ byte is)))
-
-  pub before-none : ((k : ℕ) → k < length xs → get_or xs k 0 ≡ byte → ⊥) → xs ≡ before_first (λ b. b == byte) xs
+  pub before-none : IsFirstByte (is_byte byte) xs None → xs ≡ before_first (λ b. b == byte) xs
   before-none none =
       let at = position_or_len_is (λ (b : ℕ). b == byte) xs (length xs) 0 (omega arith)
-      (λ k early. other k (none k early) (get_or xs k 0 == byte) refl) (λ here. absurd (omega arith)) in
+      (λ k early. false_from_ne_true _ (none k (omega arith) early)) (λ here. absurd (omega arith)) in
       sym (ap (λ (n : ℕ). take n xs) at ∙ take_all (length xs) xs (omega arith))
 
 -- a word in front

@@ -174,10 +174,5 @@ pub(crate) fn prepared_last<E: Entry>(entry: &E, open_end: bool, window_last: Da
     if !open_end {
         return entry.last();
     }
-    let first = entry.first();
-    if first < window_last {
-        window_last
-    } else {
-        first
-    }
+    entry.first().max(window_last)
 }

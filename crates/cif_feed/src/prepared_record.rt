@@ -47,7 +47,7 @@ impl<'a, E: Entry> Entry for PreparedRecord<'a, E, Day> {
     }
 
     fn last(&self) -> Day {
-        last_from(self.first, self.last)
+        self.first.max(self.last)
     }
 
     fn days(&self) -> DaysRun {
@@ -108,11 +108,4 @@ impl<'a> Written for PreparedRecord<'a, Schedule, Day> {
         let line = self.entry.line_on(self.first, self.last());
         write_schedule(&line, self.entry.body.as_ref(), texts, sink)
     }
-}
-
-/// The later of two dates.
-fn last_from(first: Day, last: Day) -> Day
-    ensures { result ≡ max first last }
-{
-    if last < first { first } else { last }
 }

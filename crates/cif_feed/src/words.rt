@@ -3,6 +3,8 @@ ghost use Rattle.std.specs.Prelude.{◌≡◌, ◌<◌, ◌≤◌, ◌+◌, ◌�
 ghost use Rattle.std.specs.List.{before_first};
 ghost use Rattle.cif_feed.specs.Words.{words_in};
 
+use memchr::memchr;
+
 /// The first of the words, or nothing where there is none, and what stands behind it.
 #[tactic(auto, unfolding(crate::specs::Words::words_in))]
 pub(crate) fn first_word(bytes: &[u8]) -> (&[u8], &[u8])
@@ -24,10 +26,8 @@ pub(crate) fn first_word(bytes: &[u8]) -> (&[u8], &[u8])
 pub(crate) fn before_byte(bytes: &[u8], byte: u8) -> &[u8]
     ensures { result.now ≡ before_first (λ b. b == byte) bytes.now }
 {
-    for (at, b) in bytes.iter().enumerate() {
-        if *b == byte {
-            return &bytes[..at];
-        }
+    match memchr(byte, bytes) {
+        Some(at) => &bytes[..at],
+        None => bytes,
     }
-    bytes
 }

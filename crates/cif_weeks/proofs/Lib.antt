@@ -11,6 +11,7 @@ pub mod Growth
 pub mod JoinedLists
 pub mod Jump
 pub mod KeyByKey
+pub mod LetterOrder
 pub mod Masks
 pub mod Meeting
 pub mod MemberClash

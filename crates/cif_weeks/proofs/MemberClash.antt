@@ -29,7 +29,7 @@ module _ {B : Type 0} {xs : List (Terms B)} {members : List ℕ} {window : Windo
           applies = on;
           least = λ t in_t on_t.
               let (u, in_u, of, body) = a.all t n in_t within on_t in
-              rw (sym m.span.precedence, sym of.precedence) (leads.least u in_u ((of.days n).1 (within, on_t)));
+              rw (sym m.span.same_letter, sym of.same_letter) (leads.least u in_u ((of.days n).1 (within, on_t)));
         },
         m.body,
       )

@@ -3,12 +3,10 @@ use Rattle.std.proofs.Common.{◌≡◌, ◌⊎◌, inl, inr, ℕ, false, true, 
 use Rattle.std.proofs.Common.{⊎_elim, Contains, slice_get, is_some, option_and_then}
 use Rattle.std.proofs.lemmas.List.Elements.{Contains-append_left, Contains-push, Contains-push_cases}
 use Rattle.std.proofs.lemmas.Option.{same_Some}
-use Rattle.cif_columns.specs.declared.stp.Stp.{Stp}
-use Rattle.cif_columns.specs.declared.stp.Stp.TheVariants.{C, N, O}
 use Rattle.cif_weeks.specs.MemberRuns.{AreRunsOfMembers, IsMembersRun}
 use Rattle.cif_weeks.specs.Steps.Spans.{IsMembersSpan}
 use Rattle.cif_weeks.proofs.Words.{Applies, AreLawful, AreRunsOfSpans, AreSpansOf, BodyRuns, Form, HasBody, IsChosen, IsSourceAmong}
-use Rattle.cif_weeks.proofs.Words.{IsSpanOf, IsWithin, P, Run, Shows, Span, Terms, Window, Wins, body_at, letter}
+use Rattle.cif_weeks.proofs.Words.{IsSpanOf, IsWithin, Run, Shows, Span, Terms, Window, Wins, body_at}
 use Rattle.cif_weeks.proofs.JoinedLists.{zip-with}
 use Rattle.cif_weeks.proofs.MemberClash.{leads-winner}
 use Rattle.cif_weeks.proofs.Meeting.{have_form, say}
@@ -103,12 +101,6 @@ module _ {B : Type 0} (xs : List (Terms B)) (members : List ℕ) (window : Windo
           (source-cases s in_s);
     }
 
-is-C : (s : Stp) → letter s ≡ letter C → s ≡ C
-is-C C same = refl
-is-C N same = absurd (omega (arith, same))
-is-C O same = absurd (omega (arith, same))
-is-C P same = absurd (omega (arith, same))
-
 module _ {B : Type 0} (xs : List (Terms B)) (members : List ℕ) (window : Window) (spans : List Span)
     (a : AreSpansOf xs members window spans) where
   -- the spans' days lie in the window
@@ -126,7 +118,7 @@ module _ {B : Type 0} (xs : List (Terms B)) (members : List ℕ) (window : Windo
           has = (of.days n).1 (within, wins.applies);
           least = λ t in_t on.
               let m = a.each t in_t in
-              rw (of.precedence, m.span.precedence) (wins.least m.terms m.chosen ((m.span.days n).0 on).1);
+              rw (of.same_letter, m.span.same_letter) (wins.least m.terms m.chosen ((m.span.days n).0 on).1);
         };
         body_is = sym body;
       }
@@ -141,14 +133,14 @@ module _ {B : Type 0} (xs : List (Terms B)) (members : List ℕ) (window : Windo
     has-body s listed b is cancelled =
         let m = a.each s listed in
         let none : is_some m.terms.body ≡ false =
-        (lawful.cancelled m.terms m.chosen).1 (is-C m.terms.letter (sym m.span.precedence ∙ cancelled)) in
+        (lawful.cancelled m.terms m.chosen).1 (sym m.span.same_letter ∙ cancelled) in
         let some : is_some m.terms.body ≡ true = ap is_some (m.body ∙ is) in
         cc
 
     body-of : (s : Span) → Contains spans s → HasBody s → (o : Option B) → body_at xs (Some s.source) ≡ o → (b : B) × (o ≡ Some b)
     body-of s listed has None none =
         let m = a.each s listed in
-        absurd (has (m.span.precedence ∙ ap letter ((lawful.cancelled m.terms m.chosen).0 (ap is_some (m.body ∙ none)))))
+        absurd (has (m.span.same_letter ∙ (lawful.cancelled m.terms m.chosen).0 (ap is_some (m.body ∙ none))))
     body-of s listed has (Some b) is = (b, refl)
 
     have-bodies : HaveBodies xs window spans

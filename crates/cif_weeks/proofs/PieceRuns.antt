@@ -3,7 +3,7 @@ use Rattle.std.proofs.Common.{◌≡◌, ℕ, ◌+◌, ◌<◌, List, Option, No
 use Rattle.std.proofs.lemmas.List.Elements.{Contains-get_or}
 use Rattle.cif_weeks.proofs.Words.{AreCanonicalRuns, AreRunsOfSpans, AreSources, AreSpansOn, CalendarParts, Form, HasBody, HasDay, IsAgreed}
 use Rattle.cif_weeks.proofs.Words.{IsRunOf, IsWithin, Permanent, Run, Shows, Span, Terms, body_at, body_in, body_on, named, source_at}
-use Rattle.cif_weeks.proofs.Words.{window_of}
+use Rattle.cif_weeks.proofs.Words.{letter, window_of}
 use Rattle.cif_weeks.proofs.Growth.{inside}
 use Rattle.cif_weeks.proofs.JoinedLists.{zip-map, zip-with}
 use Rattle.cif_weeks.proofs.Meeting.{have_form, say}
@@ -23,14 +23,14 @@ module _ {B : Type 0} (xs : List (Terms B)) (c : CalendarParts) (sources : AreSo
   pieces-inside source n h = let p = a.each h.it h.listed in inside xs c sources p.body n (p.runs n h.on.has)
 
   bodied : (s : Span) → Contains spans s → HasBody s
-  bodied s listed cancelled = omega (arith, (a.each s listed).precedence, cancelled)
+  bodied s listed cancelled = let permanent = (a.each s listed).is_permanent in cc
 
-  -- each has a body, and all have one precedence
+  -- each has a body, and all have one letter
   pub pieces-bodied : All HasBody spans
   pieces-bodied = λ i d below. bodied (get_or spans i d) (Contains-get_or spans i d below)
 
-  pub pieces-level : (s t : Span) → Contains spans s → Contains spans t → s.precedence ≡ t.precedence
-  pieces-level s t in_s in_t = (a.each s in_s).precedence ∙ sym (a.each t in_t).precedence
+  pub pieces-level : (s t : Span) → Contains spans s → Contains spans t → s.letter ≡ t.letter
+  pieces-level s t in_s in_t = (a.each s in_s).is_permanent ∙ sym (a.each t in_t).is_permanent
 
   -- the body of a span's source runs on its days
   runs-on : (s : Span) (n : ℕ) → Contains spans s → HasDay s n → body_at xs (Some s.source) ≡ body_in xs c n
@@ -62,7 +62,7 @@ module _ {B : Type 0} (xs : List (Terms B)) (c : CalendarParts) (sources : AreSo
       record {
         it = s;
         listed = listed;
-        leads = record { has = on; least = λ t in_t on_t. omega (arith, pieces-level s t listed in_t) };
+        leads = record { has = on; least = λ t in_t on_t. omega (arith, ap letter (pieces-level s t listed in_t)) };
         body_is = is;
       }
 

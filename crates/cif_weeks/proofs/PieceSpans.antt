@@ -9,7 +9,7 @@ use Rattle.std.proofs.lemmas.List.{drop_more}
 use Rattle.cif_calendar.proofs.PieceLists.{tiles-ends}
 use Rattle.cif_weeks.specs.Steps.PieceSpans.{AreInOrder, IsPieceSpan, IsWinnerOn}
 use Rattle.cif_weeks.proofs.Words.{AreNear, AreSources, AreSpansBefore, AreSpansOn, CalendarParts, HasBodyOn, HasDay, IsAmongDates}
-use Rattle.cif_weeks.proofs.Words.{IsSourceAmong, P, Piece, RunsOn, Span, Terms, Tiles, body_at, body_in, letter, source_in, week_of}
+use Rattle.cif_weeks.proofs.Words.{IsSourceAmong, P, Piece, RunsOn, Span, Terms, Tiles, body_at, body_in, source_in, week_of}
 use Rattle.cif_weeks.proofs.Words.{weekday_of, winner_of}
 use Rattle.cif_weeks.proofs.Growth.{body-source, has-below, inside, source-body}
 use Rattle.cif_weeks.proofs.SourcesIn.{source_in-piece}
@@ -142,7 +142,7 @@ module _ {B : Type 0} (xs : List (Terms B)) (c : CalendarParts) where
       module _ (spans : List Span) (taken days both : List Bool) (u : Span) (winner weekday : ℕ)
           (l : AreTaken p weekday taken spans)
           (own : (n : ℕ) → HasDay u n ↔ IsAmongDates p.first p.last days n)
-          (begins : u.first_week ≡ week_of p.first) (ends : u.last_week ≡ week_of p.last) (is_P : u.precedence ≡ letter P)
+          (begins : u.first_week ≡ week_of p.first) (ends : u.last_week ≡ week_of p.last) (is_P : u.letter ≡ P)
           (same : body_at xs (Some u.source) ≡ body_at xs (Some winner))
           (among : IsSourceAmong xs spans (week_of p.first) winner u.source)
           (wins : IsWinnerOn p weekday winner)
@@ -176,7 +176,7 @@ module _ {B : Type 0} (xs : List (Terms B)) (c : CalendarParts) where
               (λ is. subst (λ v. IsPieceSpan xs c v) is (record {
                 body = has-body.0;
                 has = has-body.1;
-                precedence = is_P;
+                is_permanent = is_P;
                 runs = λ n has. its-runs n has ∙ has-body.1;
               }))
               (Contains-push_cases spans u s in_s);

@@ -9,6 +9,7 @@ use Rattle.std.proofs.lemmas.List.{get_or-drop, get_or-take, get_or_default}
 use Rattle.std.proofs.lemmas.List.Elements.{All-contains}
 use Rattle.std.proofs.lemmas.List.Sorted.{IsNonDecreasingBy-drop, IsNonDecreasingBy-from_all_adjacent}
 use Rattle.cif_weeks.proofs.Words.{AreBySource, AreRunsOfBody, Form, HasBody, HasSource, IsAgreed, IsDisputed, Run, Shows, Span, Window}
+use Rattle.cif_weeks.proofs.Words.{letter}
 use Rattle.cif_weeks.proofs.Cuts.{Contains-take, cut-cases, cut-first, cut-rest, take-contains}
 use Rattle.cif_calendar.proofs.RisingLists.{Contains-none}
 use Rattle.cif_weeks.proofs.SpanRuns.{AreRunsOf, runs-joined, runs-of_body, runs-over}
@@ -92,7 +93,7 @@ module _ (left : List Span) (span : Span) (count : ℕ) (order : AreBySource lef
 
   module _ (spans : List Span) (listed : (s : Span) → Contains left s → Contains spans s)
       (whole : (s t : Span) → Contains spans s → Contains left t → s.source ≡ t.source → Contains left s)
-      (level : (s t : Span) → Contains spans s → Contains spans t → s.precedence ≡ t.precedence) where
+      (level : (s t : Span) → Contains spans s → Contains spans t → s.letter ≡ t.letter) where
     -- the source is shown on the same days
     pub shows-all : (n : ℕ) → Shows (take count left) span.source n → Shows spans span.source n
     shows-all n h =
@@ -101,7 +102,7 @@ module _ (left : List Span) (span : Span) (count : ℕ) (order : AreBySource lef
           it = h.it;
           listed = there;
           is = h.is;
-          on = record { has = h.on.has; least = λ t in_t on. omega (arith, level h.it t there in_t) };
+          on = record { has = h.on.has; least = λ t in_t on. omega (arith, ap letter (level h.it t there in_t)) };
         }
 
     shows-own : (n : ℕ) → Shows spans span.source n → Shows (take count left) span.source n

@@ -6,10 +6,9 @@ use Rattle.std.proofs.lemmas.Bool.{cases_eq, cases_lt}
 use Rattle.std.specs.List.Sorted.{IsNonDecreasingBy}
 use Rattle.std.proofs.lemmas.List.{get_or-take, get_or_default, get_or_read_under, length-take, take-append-drop, take_all, take_more}
 use Rattle.std.proofs.lemmas.List.Elements.{Contains-append_left, Contains-push, Contains-push_cases}
-use Rattle.cif_calendar.specs.Wins.{precedence}
 use Rattle.cif_weeks.proofs.Words.{AgreeOn, Applies, HasDay, HaveOneMask, IsAgreed, IsAmongDates, IsDisputed, IsMask, IsSpanOf, IsWithin}
 use Rattle.cif_weeks.proofs.Words.{Leads}
-use Rattle.cif_weeks.proofs.Words.{RunsOn, Shows, SomeOf, Span, Terms, Weeks, Window, week_of, weekday_of}
+use Rattle.cif_weeks.proofs.Words.{RunsOn, Shows, SomeOf, Span, Terms, Weeks, Window, letter, week_of, weekday_of}
 use Rattle.cif_weeks.proofs.Masks.{mask-over, mask_runs}
 use Rattle.cif_weeks.proofs.WeekDays.{RunsOn-below}
 
@@ -26,9 +25,9 @@ module _ {B : Type 0} (window : Window) (r : Terms B) (first last : ℕ) (begins
   upto-both : (last ≤ r.last) × (last ≤ window.last) × ((last ≡ r.last) ⊎ (last ≡ window.last))
   upto-both = (search rules, search rules, search rules)
 
-  pub span-of : (s : Span) → s.precedence ≡ precedence r → ((n : ℕ) → HasDay s n ↔ IsAmongDates first last r.days n) → IsSpanOf window r s
+  pub span-of : (s : Span) → s.letter ≡ r.letter → ((n : ℕ) → HasDay s n ↔ IsAmongDates first last r.days n) → IsSpanOf window r s
   span-of s is days = let f = from-both in let l = upto-both in record {
-    precedence = is;
+    same_letter = is;
     days = λ n. (
       λ has. let d = (days n).0 has in (
         record { from = omega (arith, f.1, d.begun); upto = omega (arith, l.1, d.unfinished) },
@@ -214,7 +213,7 @@ module _ (spans : List Span) (span : Span) (one : length spans ≡ 1) (is : span
           it = span;
           listed = (0, omega arith, sym is);
           is = same;
-          on = record { has = has; least = λ t in_t on. omega (arith, ap (λ (u : Span). u.precedence) (alone t in_t)) };
+          on = record { has = has; least = λ t in_t on. omega (arith, ap (λ (u : Span). letter u.letter) (alone t in_t)) };
         })
         (λ n at s. subst (λ t. HasDay t n) (alone s.it s.listed) s.on.has) (h.masks v begun unfinished);
   }
@@ -225,12 +224,12 @@ module _ (spans : List Span) (span : Span) (one : length spans ≡ 1) (is : span
         record { agree = λ s t in_s in_t _ _. ap (λ (u : Span). u.source) (alone s in_s ∙ sym (alone t in_t)) };
   }
 
--- span t is over a span, or is its rival: its precedence is before the other's, or the same, and their sources differ
+-- span t is over a span, or is its rival: its letter is before the other's, or the same, and their sources differ
 abbrev pub IsOver : Span → Span → Type 0
-IsOver span t = t.precedence < span.precedence
+IsOver span t = letter t.letter < letter span.letter
 
 abbrev pub IsRival : Span → Span → Type 0
-IsRival span t = (t.precedence ≡ span.precedence) × (t.source ≢ span.source)
+IsRival span t = (letter t.letter ≡ letter span.letter) × (t.source ≢ span.source)
 
 -- a span leads on its days that no span over it has, and the spans agree where no rival has them
 module _ {spans : List Span} {span : Span} {week until last : ℕ} {own : Weeks} {over days : List Bool}
@@ -260,7 +259,7 @@ module _ {spans : List Span} {span : Span} {week until last : ℕ} {own : Weeks}
               (λ less. absurd (free (subst (λ w. RunsOn over w) day
               (k.shows n at (record { it = t; listed = listed; is = less; on = has_t })))))
               (λ from. from)
-              (cases_lt t.precedence span.precedence) in
+              (cases_lt (letter t.letter) (letter span.letter)) in
               (n, at, day, record { has = has; least = least });
         };
   }

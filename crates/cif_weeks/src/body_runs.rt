@@ -11,10 +11,9 @@ ghost use Rattle.cif_weeks.specs.Window.{IsWithin, window_from};
 ghost use Rattle.cif_weeks.specs.declared.run.Run.{Run};
 ghost use Rattle.cif_weeks.specs.declared.span.Span.{Span};
 
-use crate::form::{Form, agree};
+use crate::form::Joining;
 use crate::run::Run;
 use crate::span::{Span, Weeks, no_days};
-use cif_calendar::Window;
 use cif_columns::Day;
 use std::alloc::AllocError;
 
@@ -52,11 +51,11 @@ fn weeks_led(spans: &[Span], span: &Span, week: u32, until: u32) -> Option<Weeks
         if last < other.first_week {
             break;
         }
-        if other.precedence < span.precedence {
+        if other.letter < span.letter {
             let weeks = other.weeks_from(week, last);
             over = over.union(weeks.days);
             last = weeks.last;
-        } else if other.precedence == span.precedence && other.source != span.source {
+        } else if other.letter == span.letter && other.source != span.source {
             let weeks = other.weeks_from(week, last);
             rivals = rivals.union(weeks.days);
             last = weeks.last;
@@ -108,19 +107,18 @@ fn grow(
     week: u32,
     weeks: Weeks,
     source: usize,
-    window: &Window,
-    form: Form,
+    joining: &Joining,
 ) -> Result<(), AllocError>
     requires shown { (spans : List Span)
-        × AreNextWeeks (window_from window.now.first window.now.last) spans source week weeks }
-    requires in_range { IsDay window.now.last }
+        × AreNextWeeks (window_from joining.now.window.first joining.now.window.last) spans source week weeks }
+    requires in_range { IsDay joining.now.window.last }
     ensures { IfOk result (λ _. (spans : List Span) (old : List Run)
-        → AreNextWeeks (window_from window.now.first window.now.last) spans source week weeks
+        → AreNextWeeks (window_from joining.now.window.first joining.now.window.last) spans source week weeks
         → length old ≡ start
-        → AreGrownTo form (window_from window.now.first window.now.last) (Shows spans source) source
-        week old runs.old.items
-        → AreGrownTo form (window_from window.now.first window.now.last) (Shows spans source) source
-        (weeks.last + 1) old runs.new.items) }
+        → AreGrownTo joining.now.form (window_from joining.now.window.first joining.now.window.last)
+        (Shows spans source) source week old runs.old.items
+        → AreGrownTo joining.now.form (window_from joining.now.window.first joining.now.window.last)
+        (Shows spans source) source (weeks.last + 1) old runs.new.items) }
 {
     let Some(first_weekday) = weeks.days.first() else {
         return Ok(());
@@ -133,7 +131,7 @@ fn grow(
         let place = runs.len() - 1;
         let run = runs[place];
         run.last.fits();
-        if run.last.week() + 1 == week && agree(form, window, week, run.days, weeks.days) {
+        if run.last.week() + 1 == week && joining.agree(week, run.days, weeks.days) {
             let days = run.days.union(weeks.days);
             runs[place] = Run { last, days, ..run };
             return Ok(());
@@ -171,18 +169,18 @@ pub(crate) fn add_body_runs(
     runs: &mut Vec<Run>,
     spans: &[Span],
     source: usize,
-    window: &Window,
-    form: Form,
+    joining: &Joining,
 ) -> Result<bool, AllocError>
     requires inside { (n : ℕ) → Shows spans.now source n →
-        IsWithin (window_from window.now.first window.now.last) n }
+        IsWithin (window_from joining.now.window.first joining.now.window.last) n }
     requires order { IsNonDecreasingBy (λ s. s.first_week) spans.now }
     ensures { IfOk result (λ made. MatchBool made
         ((added : List Run) × (runs.new.items ≡ runs.old.items ++ added)
-        × AreRunsOfBody form (window_from window.now.first window.now.last) spans.now source added)
+        × AreRunsOfBody joining.now.form (window_from joining.now.window.first joining.now.window.last)
+        spans.now source added)
         ((n : ℕ) × IsDisputed spans.now n)) }
 {
-    window.last.fits();
+    joining.window.last.fits();
     let (first, last) = weeks_of(spans, source);
     let start = runs.len();
     let mut week = first;
@@ -196,7 +194,7 @@ pub(crate) fn add_body_runs(
                 return Ok(false);
             };
             let next = weeks.last + 1;
-            grow(runs, start, from, weeks, source, window, form)?;
+            grow(runs, start, from, weeks, source, joining)?;
             week = next;
         }
     }

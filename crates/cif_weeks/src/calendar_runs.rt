@@ -15,11 +15,11 @@ ghost use Rattle.cif_weeks.specs.declared.span.Span.{Span};
 
 use crate::body_runs::add_body_runs;
 use crate::few::{have_one_body, source_of};
-use crate::form::Form;
+use crate::form::{Form, Joining};
 use crate::run::{Run, sort_by_first};
 use crate::span::{Span, no_days};
-use cif_calendar::{Calendar, Entry, Piece, Window};
-use cif_columns::DaysRun;
+use cif_calendar::{Calendar, Entry, Piece};
+use cif_columns::{DaysRun, Stp};
 use std::alloc::{AllocError, Global};
 
 /// The winner on the piece's dates of the weekday. `None` where it has no such date, or nothing runs.
@@ -74,7 +74,7 @@ fn add_piece<E: Entry>(
             if !taken.has(weekday) {
                 let source = source_of(entries, spans.as_slice(), piece.first.week(), winner);
                 let days = days_of(entries, piece, source);
-                spans.push(Span::between(piece.first, piece.last, days, b'P', source))?;
+                spans.push(Span::between(piece.first, piece.last, days, Stp::P, source))?;
                 taken = taken.union(days);
             }
         }
@@ -86,25 +86,24 @@ fn add_piece<E: Entry>(
 fn add_runs_by_source(
     runs: &mut Vec<Run>,
     spans: &[Span],
-    window: &Window,
-    form: Form,
+    joining: &Joining,
 ) -> Result<(), AllocError>
     requires none { runs.old.items ≡ [] }
     requires inside { (source n : ℕ) → Shows spans.now source n →
-        IsWithin (window_from window.now.first window.now.last) n }
+        IsWithin (window_from joining.now.window.first joining.now.window.last) n }
     requires bodied { All HasBody spans.now }
-    requires level { (s t : Span) → Contains spans.now s → Contains spans.now t → s.precedence ≡ t.precedence }
+    requires level { (s t : Span) → Contains spans.now s → Contains spans.now t → s.letter ≡ t.letter }
     requires agreed { (n : ℕ) → IsAgreed spans.now n }
     requires order { AreBySource spans.now }
-    ensures { IfOk result (λ _. AreRunsOfSpans form (window_from window.now.first window.now.last)
-        spans.now runs.new.items) }
+    ensures { IfOk result (λ _. AreRunsOfSpans joining.now.form
+        (window_from joining.now.window.first joining.now.window.last) spans.now runs.new.items) }
 {
     let mut left = spans;
     while let [span, ..] = left {
         let source = span.source;
         let count = left.partition_point(|other| other.source <= source);
         let (own, others) = left.split_at(count);
-        if !add_body_runs(runs, own, source, window, form)? {
+        if !add_body_runs(runs, own, source, joining)? {
             unreachable!()
         }
         left = others;
@@ -145,7 +144,11 @@ pub fn runs<E: Entry>(
         add_piece(&mut spans, entries, calendar, number)?;
     }
     spans.sort_unstable_by_key(|span| (span.source, span.first_week));
-    add_runs_by_source(&mut runs, spans.as_slice(), &calendar.window(), form)?;
+    let joining = Joining {
+        form,
+        window: calendar.window(),
+    };
+    add_runs_by_source(&mut runs, spans.as_slice(), &joining)?;
     name_sources(runs.as_mut_slice(), calendar);
     Ok(runs)
 }

@@ -10,11 +10,12 @@ ghost use Rattle.cif_weeks.specs.Steps.Spans.{IsDisputed, IsSourceAmong, Shows};
 ghost use Rattle.cif_weeks.specs.Window.{IsWithin, window_from};
 
 use crate::body_runs::add_body_runs;
-use crate::form::Form;
+use crate::form::{Form, Joining};
 use crate::run::{Run, sort_by_first};
 use crate::span::Span;
 use arrayvec::ArrayVec;
 use cif_calendar::{Entry, Window, same_body};
+use cif_columns::Stp;
 use std::alloc::AllocError;
 
 /// The most records for which runs are made without a calendar.
@@ -25,11 +26,11 @@ fn is_added(before: &[Span], span: &Span) -> bool
     ensures { MatchBool result (HasBody span.now → HasSource before.now span.now.source)
         (HasBody span.now × All (λ s. HasBody s → s.source ≢ span.now.source) before.now) }
 {
-    if span.precedence == b'C' {
+    if span.letter == Stp::C {
         return true;
     }
     for other in before {
-        if other.precedence != b'C' && other.source == span.source {
+        if other.letter != Stp::C && other.source == span.source {
             return true;
         }
     }
@@ -38,25 +39,21 @@ fn is_added(before: &[Span], span: &Span) -> bool
 
 /// Makes the runs of all bodies, rising by first date. The spans are in the order of their first weeks.
 /// `false` if two bodies lead on one date.
-fn add_all_runs(
-    runs: &mut Vec<Run>,
-    spans: &[Span],
-    window: &Window,
-    form: Form,
-) -> Result<bool, AllocError>
+fn add_all_runs(runs: &mut Vec<Run>, spans: &[Span], joining: &Joining) -> Result<bool, AllocError>
     requires none { runs.old.items ≡ [] }
     requires inside { (source n : ℕ) → Shows spans.now source n →
-        IsWithin (window_from window.now.first window.now.last) n }
+        IsWithin (window_from joining.now.window.first joining.now.window.last) n }
     requires order { IsNonDecreasingBy (λ s. s.first_week) spans.now }
     ensures { IfOk result (λ made. MatchBool made
-        (AreRunsOfSpans form (window_from window.now.first window.now.last) spans.now runs.new.items)
+        (AreRunsOfSpans joining.now.form (window_from joining.now.window.first joining.now.window.last)
+        spans.now runs.new.items)
         ((n : ℕ) × IsDisputed spans.now n)) }
 {
     for (number, span) in spans.iter().enumerate() {
         if is_added(&spans[..number], span) {
             continue;
         }
-        if !add_body_runs(runs, spans, span.source, window, form)? {
+        if !add_body_runs(runs, spans, span.source, joining)? {
             return Ok(false);
         }
     }
@@ -138,5 +135,9 @@ pub fn runs_of_few<E: Entry>(
     spans
         .as_mut_slice()
         .sort_unstable_by_key(|span| span.first_week);
-    add_all_runs(runs, spans.as_slice(), window, form)
+    let joining = Joining {
+        form,
+        window: *window,
+    };
+    add_all_runs(runs, spans.as_slice(), &joining)
 }

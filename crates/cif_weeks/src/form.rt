@@ -25,37 +25,48 @@ pub enum Form {
     Two,
 }
 
-/// Whether the week before `next` and this one have to agree on a weekday: in form 1 always, and in
-/// form 2 where its dates in both lie in the window.
-fn counts(form: Form, window: &Window, next: u32, weekday: u8) -> bool
-    requires { weekday < 7 }
-    ensures { (week : ℕ) → week + 1 ≡ next →
-        IsTrue result ↔ Counts form (window_from window.now.first window.now.last) week weekday }
-{
-    match form {
-        Form::One => true,
-        Form::Two => {
-            let day = u64::from(next) * u64::from(DAYS_IN_WEEK) + u64::from(weekday);
-            let first = window.first.days_since_first_monday() + DAYS_IN_WEEK;
-            let last = window.last.days_since_first_monday();
-            u64::from(first) <= day && day <= u64::from(last)
-        }
-    }
+/// How consecutive weeks are joined: in a form, where a window may cut the first and the last of them.
+#[derive(Drop)]
+pub(crate) struct Joining {
+    /// The form.
+    pub form: Form,
+    /// The window.
+    pub window: Window,
 }
 
-/// Whether the masks of the week before `next` and of this one agree where they have to.
-pub(crate) fn agree(form: Form, window: &Window, next: u32, before: DaysRun, days: DaysRun) -> bool
-    ensures { (week : ℕ) → week + 1 ≡ next → MatchBool result
-        (MasksAgree form (window_from window.now.first window.now.last) week before days)
-        (MasksDiffer form (window_from window.now.first window.now.last) week before days) }
-{
-    if before.is(days) {
-        return true;
-    }
-    for weekday in 0..7u8 {
-        if before.has(weekday) != days.has(weekday) && counts(form, window, next, weekday) {
-            return false;
+impl Joining {
+    /// Whether the week before `next` and this one have to agree on a weekday: in form 1 always, and in
+    /// form 2 where its dates in both lie in the window.
+    fn counts(&self, next: u32, weekday: u8) -> bool
+        requires { weekday < 7 }
+        ensures { (week : ℕ) → week + 1 ≡ next → IsTrue result ↔
+            Counts self.now.form (window_from self.now.window.first self.now.window.last) week weekday }
+    {
+        match self.form {
+            Form::One => true,
+            Form::Two => {
+                let day = u64::from(next) * u64::from(DAYS_IN_WEEK) + u64::from(weekday);
+                let first = self.window.first.days_since_first_monday() + DAYS_IN_WEEK;
+                let last = self.window.last.days_since_first_monday();
+                u64::from(first) <= day && day <= u64::from(last)
+            }
         }
     }
-    true
+
+    /// Whether the masks of the week before `next` and of this one agree where they have to.
+    pub(crate) fn agree(&self, next: u32, before: DaysRun, days: DaysRun) -> bool
+        ensures { (week : ℕ) → week + 1 ≡ next → MatchBool result
+            (MasksAgree self.now.form (window_from self.now.window.first self.now.window.last) week before days)
+            (MasksDiffer self.now.form (window_from self.now.window.first self.now.window.last) week before days) }
+    {
+        if before.is(days) {
+            return true;
+        }
+        for weekday in 0..7u8 {
+            if before.has(weekday) != days.has(weekday) && self.counts(next, weekday) {
+                return false;
+            }
+        }
+        true
+    }
 }

@@ -3,8 +3,8 @@
 ghost use Rattle.std.specs.Prelude.{◌≡◌, ◌<◌, ◌≤◌, ◌+◌, ◌*◌, ◌↔◌, IfNone, IfSome, ℕ, length, max, min};
 ghost use Rattle.cif_columns.specs.DaysRun.{RunsOn};
 
-use cif_calendar::{Dates, Entry, Window, precedence};
-use cif_columns::{Day, DaysRun};
+use cif_calendar::{Dates, Entry, Window};
+use cif_columns::{Day, DaysRun, Stp};
 
 /// The days of a window on which a record applies, week by week.
 #[derive(Clone, Copy)]
@@ -15,12 +15,12 @@ pub(crate) struct Span {
     pub last_week: u32,
     /// The weekdays on which it applies in its first week.
     pub first_days: DaysRun,
-    /// Those in its last week.
+    /// The weekdays on which it applies in its last week.
     pub last_days: DaysRun,
-    /// Those in the weeks between.
+    /// The weekdays on which it applies in the weeks between these two.
     pub days: DaysRun,
-    /// Its precedence: the code of its letter.
-    pub precedence: u8,
+    /// Its letter: the least has precedence.
+    pub letter: Stp,
     /// The position of an entry with its body, one position for each body.
     pub source: usize,
     ghost in_order: { first_week ≤ last_week },
@@ -39,7 +39,7 @@ impl Default for Span {
             first_days: none,
             last_days: none,
             days: none,
-            precedence: 0,
+            letter: Stp::P,
             source: 0,
         }
     }
@@ -60,20 +60,14 @@ impl Span {
     ghost use Rattle.cif_weeks.specs.Steps.Spans.{HasDay, HaveOneMask, IsSpanOf};
     ghost use Rattle.cif_weeks.specs.Window.{IsWithin, window_from};
 
-    /// The dates from a first to a last on these weekdays, on which the body at `source` applies with a
-    /// precedence.
-    pub(crate) fn between(
-        first: Day,
-        last: Day,
-        days: DaysRun,
-        precedence: u8,
-        source: usize,
-    ) -> Span
+    /// The dates from a first to a last on these weekdays, on which the body at `source` applies with this
+    /// letter.
+    pub(crate) fn between(first: Day, last: Day, days: DaysRun, letter: Stp, source: usize) -> Span
         requires { first ≤ last }
         ensures days { (n : ℕ) → HasDay result n ↔ IsAmongDates first last days n }
         ensures first_week { result.first_week ≡ week_of first }
         ensures last_week { result.last_week ≡ week_of last }
-        ensures precedence { result.precedence ≡ precedence }
+        ensures letter { result.letter ≡ letter }
         ensures source { result.source ≡ source }
     {
         let after = days.intersection(DaysRun::between(first.weekday(), 7));
@@ -92,7 +86,7 @@ impl Span {
             first_days,
             last_days,
             days,
-            precedence,
+            letter,
             source,
         }
     }
@@ -112,7 +106,7 @@ impl Span {
         if last < first {
             return None;
         }
-        Some(Span::between(first, last, dates.days, precedence(entry), source))
+        Some(Span::between(first, last, dates.days, entry.letter(), source))
     }
 
     /// The week, and those after it up to `until` in which it applies on the same weekdays.

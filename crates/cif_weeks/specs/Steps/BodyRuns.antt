@@ -1,6 +1,5 @@
 -- Steps to the runs of few records: those of one body, week by week. No public clause cites them.
 use Rattle.std.specs.Prelude.{◌≡◌, ◌≢◌, ℕ, ◌+◌, ◌<◌, ◌≤◌, ◌++◌, List, [], ◌∷◌, AllPairs, Contains, reverse}
-use Rattle.cif_columns.specs.Stp.{letter}
 use Rattle.cif_columns.specs.declared.stp.Stp.TheVariants.{C}
 use Rattle.cif_columns.specs.Day.{week_of}
 use Rattle.cif_weeks.specs.declared.form.Form.{Form}
@@ -54,7 +53,7 @@ pub record AreRunsOfBody (form : Form) (window : Window) (spans : List Span) (so
 
 -- the span has a body
 abbrev pub HasBody : Span → Type 0
-HasBody span = span.precedence ≢ letter C
+HasBody span = span.letter ≢ C
 
 -- a span of the list with a body has this source
 abbrev pub HasSource : List Span → ℕ → Type 0

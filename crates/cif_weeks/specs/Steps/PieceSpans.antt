@@ -3,7 +3,6 @@ use Rattle.std.specs.Prelude.{◌≡◌, ℕ, ◌+◌, ◌<◌, ◌≤◌, List,
 use Rattle.std.specs.Prelude.{if◌then◌else◌}
 use Rattle.std.specs.List.Sorted.{IsNonDecreasingBy}
 use Rattle.cif_columns.specs.Day.{week_of, weekday_of}
-use Rattle.cif_columns.specs.Stp.{letter}
 use Rattle.cif_columns.specs.declared.stp.Stp.TheVariants.{P}
 use Rattle.cif_calendar.specs.Calendar.{CalendarParts}
 use Rattle.cif_calendar.specs.Pieces.{source_at}
@@ -38,7 +37,7 @@ HasBodyOn xs p source weekday = (i : ℕ) × IsWinnerOn p weekday i × (body_at 
 pub record IsPieceSpan {B : Type 0} (xs : List (Terms B)) (c : CalendarParts) (s : Span) : Type 0 where
   pub body : B
   pub has : body_at xs (Some s.source) ≡ Some body
-  pub precedence : s.precedence ≡ letter P
+  pub is_permanent : s.letter ≡ P
   pub runs : (n : ℕ) → HasDay s n → body_in xs c n ≡ Some body
 
 -- the weeks of the spans meet, or those of one begin right after those of the other

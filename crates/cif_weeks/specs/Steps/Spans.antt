@@ -2,10 +2,10 @@
 use Rattle.std.specs.Prelude.{◌≡◌, ℕ, ◌≢◌, ◌⊎◌, ◌+◌, ◌<◌, ◌≤◌, List, Some, Contains, ◌↔◌}
 use Rattle.cif_columns.specs.Day.{week_of, weekday_of}
 use Rattle.cif_columns.specs.DaysRun.{RunsOn}
+use Rattle.cif_columns.specs.Stp.{letter}
 use Rattle.cif_calendar.specs.Applies.{Applies}
 use Rattle.cif_calendar.specs.Source.{IsChosen, body_at}
 use Rattle.cif_calendar.specs.Terms.{Terms}
-use Rattle.cif_calendar.specs.Wins.{precedence}
 use Rattle.cif_weeks.specs.Window.{Window, IsWithin}
 use Rattle.cif_weeks.specs.Steps.WeekMasks.{IsMask}
 use Rattle.cif_weeks.specs.declared.span.Span.{Span}
@@ -19,9 +19,9 @@ pub record HasDay (s : Span) (n : ℕ) : Type 0 where
   pub last : week_of n ≡ s.last_week → RunsOn s.last_days (weekday_of n)
   pub between : s.first_week < week_of n → week_of n < s.last_week → RunsOn s.days (weekday_of n)
 
--- the span has the days of the window on which record r applies, and r's precedence
+-- the span has the days of the window on which record r applies, and r's letter
 pub record IsSpanOf {B : Type 0} (window : Window) (r : Terms B) (s : Span) : Type 0 where
-  pub precedence : s.precedence ≡ precedence r
+  pub same_letter : s.letter ≡ r.letter
   pub days : (n : ℕ) → HasDay s n ↔ (IsWithin window n × Applies r n)
 
 -- the span is that of a member, whose body is that of the entry at the span's source, which is a member too
@@ -47,10 +47,10 @@ IsSourceAmong xs spans week position source =
     ((s : Span) × Contains spans s × (week ≤ s.last_week + 1) × (s.source ≡ source)) ⊎ ((source ≡ position) × ((s : Span) →
     Contains spans s → week ≤ s.last_week + 1 → body_at xs (Some s.source) ≢ body_at xs (Some position)))
 
--- the span has day n, and none that has it has precedence over it
+-- the span has day n, and none that has it has precedence over it: their letters have the alphabet's order
 pub record Leads (spans : List Span) (n : ℕ) (s : Span) : Type 0 where
   pub has : HasDay s n
-  pub least : (t : Span) → Contains spans t → HasDay t n → s.precedence ≤ t.precedence
+  pub least : (t : Span) → Contains spans t → HasDay t n → letter s.letter ≤ letter t.letter
 
 -- one of the spans, of those that are meant, has day n
 pub record SomeOf (Is : Span → Type 0) (On : Span → ℕ → Type 0) (spans : List Span) (n : ℕ) : Type 0 where

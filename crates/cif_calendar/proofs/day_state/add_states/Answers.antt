@@ -8,8 +8,8 @@ use Rattle.cif_calendar.proofs.day_state.add_states.Goals as goal
 
 pub loop-next-preserved : goal.loop-next-preserved
 loop-next-preserved g c =
-    let xs = map g.E.Entry.terms c.args.entries.now in
-    let members = c.args.members.now in
+    let xs = map g.E.Entry.terms c.args.members.now.entries.now in
+    let members = c.args.members.now.positions.now in
     let day = c.loop-next.day in
     let is = c.loop-next.invariant in
     let state = c.state_by.ensures day (subst
@@ -24,8 +24,8 @@ loop-next-preserved g c =
 
 pub returns-in-None : goal.returns-in-None
 returns-in-None g c =
-    let xs = map g.E.Entry.terms c.args.entries.now in
-    let members = c.args.members.now in
+    let xs = map g.E.Entry.terms c.args.members.now.entries.now in
+    let members = c.args.members.now.positions.now in
     let day = c.loop-next.day in
     let is = c.loop-next.invariant in
     let state = c.state_by.ensures day (subst

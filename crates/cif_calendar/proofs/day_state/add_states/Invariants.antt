@@ -8,8 +8,9 @@ abbrev pub invariant-loop-next : goal.invariant-loop-next
 invariant-loop-next g l = record {
   from : l.fn.first ≤ l.day;
   upto : l.day ≤ l.stretch.last;
-  so_far : (from : ℕ) → AreDayStates (IsChosen (map g.E.Entry.terms l.entries) l.members) from l.fn.first l.initial.states.items
-      → AreDayStates (IsChosen (map g.E.Entry.terms l.entries) l.members) from l.day l.states.items;
+  so_far : (from : ℕ) → AreDayStates (IsChosen (map g.E.Entry.terms l.members.entries.now) l.members.positions.now) from l.fn.first
+      l.initial.states.items
+      → AreDayStates (IsChosen (map g.E.Entry.terms l.members.entries.now) l.members.positions.now) from l.day l.states.items;
 }
 
 abbrev pub decreases-loop-next : goal.decreases-loop-next

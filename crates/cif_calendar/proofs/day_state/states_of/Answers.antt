@@ -8,13 +8,15 @@ use Rattle.cif_calendar.proofs.day_state.states_of.Goals as goal
 pub loop-stretch-init : goal.loop-stretch-init
 loop-stretch-init g c = rw c.new-states.ensures.items (states-none _ _ _ _ c.args.stretches.now c.requires.stretches)
 
-pub add_states-requires-clause-stretch : goal.add_states-requires-clause-stretch
-add_states-requires-clause-stretch g c =
-    stretch-here _ _ _ _ _ _ c.args.stretches.now _ _ c.loop-stretch-test.true c.stretch-item.is c.loop-stretch.invariant
+pub add_states-requires : goal.add_states-requires
+add_states-requires g c = record {
+  stretch = stretch-here _ _ _ _ _ _ c.args.stretches.now _ _ c.loop-stretch-test.true c.stretch-item.is c.loop-stretch.invariant;
+}
 
 pub loop-stretch-preserved : goal.loop-stretch-preserved
 loop-stretch-preserved g c =
-    states-next (map g.E.Entry.terms c.args.entries.now) c.args.members.now _ _ _ _ c.args.stretches.now _ _ c.loop-stretch-test.true
+    states-next (map g.E.Entry.terms c.args.members.now.entries.now) c.args.members.now.positions.now _ _ _ _ c.args.stretches.now _ _
+    c.loop-stretch-test.true
     c.stretch-item.is c.loop-stretch.invariant c.unwrap_or-first.result c.add_states.new.states.items
     (λ less. c.unwrap_or-first.ensures ∙ next-day _ _ _ _ c.next_up_to.ensures less) c.in_ok-add_states.ensures
 

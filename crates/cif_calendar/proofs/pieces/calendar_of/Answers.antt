@@ -10,13 +10,15 @@ use Rattle.cif_calendar.proofs.pieces.calendar_of.Goals as goal
 pub loop-stretch-init : goal.loop-stretch-init
 loop-stretch-init g c = rw c.new-pieces.ensures.items (laid-none _ _ _ _ c.args.stretches.now c.requires.stretches)
 
-pub judge-requires-clause-stretch : goal.judge-requires-clause-stretch
-judge-requires-clause-stretch g c =
-    stretch-laid _ _ _ _ _ _ c.args.stretches.now _ _ c.loop-stretch-test.true c.stretch-item.is c.loop-stretch.invariant
+pub judge-requires : goal.judge-requires
+judge-requires g c = record {
+  stretch = stretch-laid _ _ _ _ _ _ c.args.stretches.now _ _ c.loop-stretch-test.true c.stretch-item.is c.loop-stretch.invariant;
+}
 
 pub returns-in_err-judge : goal.returns-in_err-judge
 returns-in_err-judge g c = let p = err_from_is_err_and c.from_residual.result c.from_residual.ensures.1 in
-    subst (IsAnswer (map g.E.Entry.terms c.args.entries.now) c.args.members.now c.args.window.first c.args.window.last)
+    subst (IsAnswer (map g.E.Entry.terms c.args.members.now.entries.now) c.args.members.now.positions.now c.args.window.first
+    c.args.window.last)
     (sym (p.1 ∙ ap Err p.2)) (laid-fault _ _ _ _ _ _ c.args.stretches.now _ _ c.loop-stretch-test.true c.stretch-item.is
     c.loop-stretch.invariant _ c.in_err-judge.ensures.fault)
 
@@ -27,7 +29,8 @@ loop-stretch-preserved g c =
     (λ less. c.unwrap_or-first.ensures ∙ next-day _ _ _ _ c.next_up_to.ensures less) c.in-Ok.ensures.items c.in_ok-judge.ensures.piece
 
 pub new-requires : goal.new-requires
-new-requires g c = laid-tiles (map g.E.Entry.terms c.args.entries.now) c.args.members.now _ _ _ _ _ c.loop-stretch.invariant
+new-requires g c = laid-tiles (map g.E.Entry.terms c.args.members.now.entries.now) c.args.members.now.positions.now _ _ _ _ _
+    c.loop-stretch.invariant
     (drop_all c.loop-stretch.stretch-index c.args.stretches.now c.loop-stretch-test.false)
 
 pub returns : goal.returns

@@ -16,15 +16,16 @@ loop-preserved g c = let is = c.loop.invariant in record {
   seven = length-set _ _ _ ∙ is.seven;
   day_is = omega (arith, c.in-Some.ensures);
   upto = omega (arith, c.in-Some.ensures);
-  week = week-more (map g.E.Entry.terms c.args.entries.now) c.args.members.now c.args.first c.loop.day c.from-weekday.result c.in-Some.next
+  week = week-more (map g.E.Entry.terms c.args.members.now.entries.now) c.args.members.now.positions.now c.args.first c.loop.day
+      c.from-weekday.result c.in-Some.next
       c.loop.winners c.in_ok-winners.field-0 (c.from-weekday.ensures ∙ c.weekday.ensures.value) c.in-Some.ensures.1 is.seven (omega arith)
       (omega arith) c.in_ok-winners.ensures.1 c.in_ok-winners.ensures.0 is.week;
 }
 
 pub returns-clause-piece : goal.returns-clause-piece
 returns-clause-piece g c =
-    let xs = map g.E.Entry.terms c.args.entries.now in
-    let members = c.args.members.now in
+    let xs = map g.E.Entry.terms c.args.members.now.entries.now in
+    let members = c.args.members.now.positions.now in
     let is = c.loop.invariant in (
       refl,
       refl,

@@ -8,5 +8,5 @@ invariant-loop g l = record {
   seven : length l.winners ≡ 7;
   day_is : l.day ≡ l.first + l.counter;
   upto : l.day ≤ l.stretch.last;
-  week : IsWeekFrom (map g.E.Entry.terms l.entries) l.members l.first l.day l.winners;
+  week : IsWeekFrom (map g.E.Entry.terms l.members.entries.now) l.members.positions.now l.first l.day l.winners;
 }

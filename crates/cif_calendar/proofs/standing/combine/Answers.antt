@@ -17,4 +17,5 @@ returns-else-rank_of_other-rank_of_one-clause-stands g c =
     let same : c.rank-rank_of_other.result ≡ c.rank-rank_of_one.result =
     omega (arith, c.if-rank_of_one-rank_of_other.false, c.if-rank_of_other-rank_of_one.false) in
     c.level.ensures.stands c.rank-rank_of_one.result c.rank-rank_of_one.ensures
-    (subst (IsRank (map g.E.Entry.terms c.args.entries.now) c.args.members.now c.args.other) same c.rank-rank_of_other.ensures)
+    (subst (IsRank (map g.E.Entry.terms c.args.members.now.entries.now) c.args.members.now.positions.now c.args.other) same
+    c.rank-rank_of_other.ensures)

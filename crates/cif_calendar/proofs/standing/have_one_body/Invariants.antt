@@ -5,7 +5,7 @@ use Rattle.cif_calendar.proofs.standing.have_one_body.Given as goal
 
 abbrev pub invariant-loop : goal.invariant-loop
 invariant-loop g l = record {
-  alike : AreAlike (map g.E.Entry.terms l.entries) l.members l.alike;
-  both : HaveOneBody (map g.E.Entry.terms l.entries) l.members l.pair.0 l.pair.1
-      ↔ HaveOneBody (map g.E.Entry.terms l.entries) l.members l.one l.other;
+  alike : AreAlike (map g.E.Entry.terms l.members.entries.now) l.members.positions.now l.alike;
+  both : HaveOneBody (map g.E.Entry.terms l.members.entries.now) l.members.positions.now l.pair.0 l.pair.1
+      ↔ HaveOneBody (map g.E.Entry.terms l.members.entries.now) l.members.positions.now l.one l.other;
 }

@@ -6,7 +6,8 @@ use Rattle.cif_calendar.proofs.standing.look_at.Given as goal
 
 abbrev pub invariant-loop-weekday : goal.invariant-loop-weekday
 invariant-loop-weekday g l = record {
-  alike : AreAlike (map g.E.Entry.terms l.entries) l.members l.alike;
-  stepped : AreStepped (LooksAt (map g.E.Entry.terms l.entries) l.members l.days l.others) (length l.members) l.initial.standings
+  alike : AreAlike (map g.E.Entry.terms l.members.entries.now) l.members.positions.now l.alike;
+  stepped : AreStepped (LooksAt (map g.E.Entry.terms l.members.entries.now) l.members.positions.now l.days l.others)
+      (length l.members.positions.now) l.initial.standings
       l.weekday l.standings;
 }

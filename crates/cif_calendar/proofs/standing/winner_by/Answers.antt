@@ -6,9 +6,10 @@ use Rattle.cif_calendar.proofs.standing.winner_by.Goals as goal
 
 pub returns-in-None : goal.returns-in-None
 returns-in-None g c = idle-leader _ _ _ c.args.day c.in-Leader.number _
-    (AreLawful-chosen g.E.Entry.key g.E.Entry.terms g.met.E.Entry.cancelled c.args.entries.now c.args.members.now) c.member.ensures
+    (AreLawful-chosen g.E.Entry.key g.E.Entry.terms g.met.E.Entry.cancelled c.args.members.now.entries.now
+    c.args.members.now.positions.now) c.entry.ensures
     (rw (← c.body.ensures, c.in-None.is) refl) (rw c.in-Leader.is at c.requires.stands)
 
 pub returns-in-Some : goal.returns-in-Some
 returns-in-Some g c = winner-at _ _ c.args.day c.in-Leader.number _ (rw c.in-Leader.is at c.requires.leader)
-    c.member.ensures (rw (← c.body.ensures, c.in-Some.is) refl) (rw c.in-Leader.is at c.requires.stands)
+    c.entry.ensures (rw (← c.body.ensures, c.in-Some.is) refl) (rw c.in-Leader.is at c.requires.stands)

@@ -9,8 +9,9 @@ decreases-stretches_of g l = length l.part.now
 
 abbrev pub invariant-loop-left : goal.invariant-loop-left
 invariant-loop-left g l = record {
-  alike : AreAlike (map g.E.Entry.terms l.entries) l.members l.alike;
-  merged : AreMerged (map g.E.Entry.terms l.entries) l.members (take l.half l.part) (drop l.half l.part) (l.window.last + 1)
+  alike : AreAlike (map g.E.Entry.terms l.members.entries.now) l.members.positions.now l.alike;
+  merged : AreMerged (map g.E.Entry.terms l.members.entries.now) l.members.positions.now (take l.half l.part) (drop l.half l.part)
+      (l.window.last + 1)
       l.window.first (l.window.last + 1) l.left l.right l.stretches.items;
 }
 

@@ -1,6 +1,6 @@
 -- One member more begins later, has ended (`stretch-begins`, `stretch-ended`), or lies over the first day (`stretch-looked`).
 use Rattle.std.proofs.Common.{◌+◌, [], arith, get_or, length, map, refl, take, take_all}
-use Rattle.std.proofs.lemmas.List.{take_more}
+use Rattle.std.proofs.lemmas.List.{get_or_default, take_more}
 use Rattle.cif_calendar.proofs.Standings.{below-same}
 use Rattle.cif_calendar.proofs.Stretches.{day_upto, part-all, part-at, some-before, stretch-begins, stretch-ended, stretch-looked}
 use Rattle.cif_calendar.proofs.Stretches.{stretch-none}
@@ -12,24 +12,25 @@ use Rattle.cif_calendar.proofs.stretch.stretch_from.Goals.{then-le+then-le-2, th
 pub loop-index-init : goal.loop-index-init
 loop-index-init g c = record {
   alike = c.requires.alike;
-  stretch = stretch-none (map g.E.Entry.terms c.args.entries.now) c.args.members.now [] (c.args.last + 1) c.args.first c.args.last
+  stretch = stretch-none (map g.E.Entry.terms c.args.members.now.entries.now) c.args.members.now.positions.now [] (c.args.last + 1)
+      c.args.first c.args.last
       c.requires.in_order refl;
 }
 
-pub bounds-entries-position : goal.bounds-entries-position
-bounds-entries-position g c = part-all _ c.args.number _ c.requires.part (length c.args.entries.now) c.requires.positions
+pub bounds-members-position : goal.bounds-members-position
+bounds-members-position g c = part-all _ c.args.number _ c.requires.part (length c.args.members.now.entries.now) c.args.members.now.within
     c.loop-index.index 0 c.loop-index-test.true
 
 pub loop-index-preserved : goal.loop-index-preserved
 loop-index-preserved g c =
-    let xs = map g.E.Entry.terms c.args.entries.now in
+    let xs = map g.E.Entry.terms c.args.members.now.entries.now in
     let part = c.args.part.now in
     let k = c.loop-index.index in
     let here = c.loop-index-test.true in
-    let below = part-all _ c.args.number part c.requires.part (length c.args.entries.now) c.requires.positions k 0 here in
-    let at = terms_at g.E.Entry.terms c.args.entries.now (get_or part k 0) c.index-entries-position.result below
-    c.index-entries-position.is in
-    let member = part-at c.args.members.now c.args.number part c.requires.part k 0 here in
+    let below = part-all _ c.args.number part c.requires.part (length c.args.members.now.entries.now) c.args.members.now.within k 0 here in
+    let one = get_or c.args.members.now.entries.now (get_or part k 0) c.index-members-position.result in
+    let at = terms_at g.E.Entry.terms c.args.members.now.entries.now (get_or part k 0) one below (get_or_default _ _ _ _ below) in
+    let member = part-at c.args.members.now.positions.now c.args.number part c.requires.part k 0 here in
     let old = c.loop-index.invariant in
     let first = c.of-dates.ensures.first in
     let begun = day_upto c.of-dates.result.first c.args.first c.le.result c.le.ensures in
@@ -54,7 +55,7 @@ loop-index-preserved g c =
         alike = rw w.alike-is old.alike;
         stretch = rw (w.standings-is, w.end-is, take_more part k 0 here) (stretch-begins xs _ (take k part) _ _ _ _ _ member at _
             old.stretch _ c.of-dates.result.first w.in-Some.before first (begun.1 w.if-le.false) w.in-Some.ensures.1
-            w.min-end-in-Some.ensures (g.met.E.Entry.dates_ordered c.index-entries-position.result));
+            w.min-end-in-Some.ensures (g.met.E.Entry.dates_ordered one));
       }
       | else-le+in_default w ↦ absurd (w.in_default.ensures (some-before _ _ (begun.1 w.if-le.false)))
     ]
@@ -63,5 +64,5 @@ pub returns-clause-stretch : goal.returns-clause-stretch
 returns-clause-stretch g c = rw (take_all c.loop-index.index c.args.part.now c.loop-index-test.false) at c.loop-index.invariant.stretch
 
 pub look_at-requires-clause-others : goal.look_at-requires-clause-others
-look_at-requires-clause-others g c = below-same (length c.args.members.now) (Leader (c.args.number + c.loop-index.index))
+look_at-requires-clause-others g c = below-same (length c.args.members.now.positions.now) (Leader (c.args.number + c.loop-index.index))
     (omega (arith, c.loop-index-test.true, c.requires.part.within))

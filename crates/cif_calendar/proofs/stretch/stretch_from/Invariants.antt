@@ -6,7 +6,7 @@ use Rattle.cif_calendar.proofs.stretch.stretch_from.Given as goal
 
 abbrev pub invariant-loop-index : goal.invariant-loop-index
 invariant-loop-index g l = record {
-  alike : AreAlike (map g.E.Entry.terms l.entries) l.members l.alike;
-  stretch : IsStretch (map g.E.Entry.terms l.entries) l.members (take l.index l.part) (l.fn.last + 1) l.first
+  alike : AreAlike (map g.E.Entry.terms l.members.entries.now) l.members.positions.now l.alike;
+  stretch : IsStretch (map g.E.Entry.terms l.members.entries.now) l.members.positions.now (take l.index l.part) (l.fn.last + 1) l.first
       (record { last = l.end; standings = l.standings });
 }

@@ -9,14 +9,16 @@ loop-stretches-preserved g c = let is = c.stretch_from-stretch.ensures in record
   from = omega (arith, c.in-Some.ensures, is.stretch.in_order);
   upto = omega (arith, c.in-Some.ensures);
   alike = is.alike;
-  stretches = rw c.in_ok-push.ensures.items (stretches-push (map g.E.Entry.terms c.args.entries.now) _ _ _ c.args.window.now.first _ _
+  stretches = rw c.in_ok-push.ensures.items (stretches-push (map g.E.Entry.terms c.args.members.now.entries.now) _ _ _
+      c.args.window.now.first _ _
       c.loop-stretches.stretches.items _ c.in-Some.ensures.1 is.stretch c.loop-stretches.invariant.stretches);
 }
 
 pub returns-in-None : goal.returns-in-None
 returns-in-None g c = let is = c.stretch_from-stretch.ensures in record {
   alike = is.alike;
-  stretches = rw c.in_ok-push.ensures.items (stretches-push (map g.E.Entry.terms c.args.entries.now) _ _ _ c.args.window.now.first _
+  stretches = rw c.in_ok-push.ensures.items (stretches-push (map g.E.Entry.terms c.args.members.now.entries.now) _ _ _
+      c.args.window.now.first _
       (c.args.window.now.last + 1) c.loop-stretches.stretches.items c.stretch_from-stretch.result
       (omega (arith, c.in-None.ensures, is.stretch.upto)) is.stretch c.loop-stretches.invariant.stretches);
 }

@@ -8,8 +8,9 @@ abbrev pub invariant-loop-stretches : goal.invariant-loop-stretches
 invariant-loop-stretches g l = record {
   from : l.window.first ≤ l.first;
   upto : l.first ≤ l.window.last;
-  alike : AreAlike (map g.E.Entry.terms l.entries) l.members l.alike;
-  stretches : AreStretches (map g.E.Entry.terms l.entries) l.members l.part (l.window.last + 1) l.window.first l.first l.stretches.items;
+  alike : AreAlike (map g.E.Entry.terms l.members.entries.now) l.members.positions.now l.alike;
+  stretches : AreStretches (map g.E.Entry.terms l.members.entries.now) l.members.positions.now l.part (l.window.last + 1)
+      l.window.first l.first l.stretches.items;
 }
 
 abbrev pub decreases-loop-stretches : goal.decreases-loop-stretches

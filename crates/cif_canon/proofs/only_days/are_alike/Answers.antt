@@ -1,6 +1,7 @@
 -- Each calendar has pieces of its own: up to the earlier end `alike-by_pieces` tells of both calendars, date by date.
-use Rattle.std.proofs.Common.{◌≡◌, ◌∙◌, arith, map, refl, sym, ⊎_elim}
+use Rattle.std.proofs.Common.{◌≡◌, ◌≤◌, ◌∙◌, arith, map, refl, sym, ⊎_elim}
 use Rattle.std.proofs.lemmas.Bool.{cases_lt, false≢true}
+use Rattle.cif_calendar.proofs.Stretches.{sooner}
 use Rattle.cif_canon.proofs.Words.{HoldsFrom, IsTrue, body_on, ◌↔◌}
 use Rattle.cif_canon.proofs.DifferentDays.{alike-by_pieces, not-below, piece-bodies, piece-ends}
 use Rattle.cif_canon.proofs.only_days.are_alike.Given.{Over}
@@ -29,29 +30,31 @@ piece_on-peer-requires-clause-upto g c = omega (arith, c.requires.last, c.loop-w
 pub are_pieces_alike-requires-clause-left : goal.are_pieces_alike-requires-clause-left
 are_pieces_alike-requires-clause-left g c =
     piece-bodies (map g.E.Entry.terms c.args.left.now) c.args.one.now c.piece_on-piece.result.now c.piece_on-piece.ensures.tiles
-    c.piece_on-piece.ensures.listed c.requires.left c.loop-window.first c.earlier-last.result c.piece_on-piece.ensures.from
-    c.earlier-last.ensures.one c.loop-window.invariant.from
+    c.piece_on-piece.ensures.listed c.requires.left c.loop-window.first c.min-last.result c.piece_on-piece.ensures.from
+    (sooner _ _ _ c.min-last.ensures).0 c.loop-window.invariant.from
 
 pub are_pieces_alike-requires-clause-right : goal.are_pieces_alike-requires-clause-right
 are_pieces_alike-requires-clause-right g c =
     piece-bodies (map g.E.Entry.terms c.args.right.now) c.args.other.now c.piece_on-peer.result.now c.piece_on-peer.ensures.tiles
-    c.piece_on-peer.ensures.listed c.requires.right c.loop-window.first c.earlier-last.result c.piece_on-peer.ensures.from
-    c.earlier-last.ensures.other (omega (arith, c.requires.first, c.loop-window.invariant.from))
+    c.piece_on-peer.ensures.listed c.requires.right c.loop-window.first c.min-last.result c.piece_on-peer.ensures.from
+    (sooner _ _ _ c.min-last.ensures).1 (omega (arith, c.requires.first, c.loop-window.invariant.from))
 
 pub are_pieces_alike-requires-clause-in_order : goal.are_pieces_alike-requires-clause-in_order
 are_pieces_alike-requires-clause-in_order g c =
-    c.earlier-last.ensures.latest c.loop-window.first c.piece_on-piece.ensures.upto c.piece_on-peer.ensures.upto
+    let soon = sooner c.piece_on-piece.result.now.last c.piece_on-peer.result.now.last c.min-last.result c.min-last.ensures in
+    omega (arith, soon.2, c.piece_on-piece.ensures.upto, c.piece_on-peer.ensures.upto)
 
 -- what the two pieces say of their days is what the calendars say of them
 by_pieces : (g : Over) (c : After-are_pieces_alike g) →
     IsTrue c.are_pieces_alike.result ↔ HoldsFrom (λ d. body_on (map g.E.Entry.terms c.args.left.now) c.args.one.now d
-    ≡ body_on (map g.E.Entry.terms c.args.right.now) c.args.other.now d) c.loop-window.first c.earlier-last.result
+    ≡ body_on (map g.E.Entry.terms c.args.right.now) c.args.other.now d) c.loop-window.first c.min-last.result
 by_pieces g c =
     let p = c.piece_on-piece in
     let q = c.piece_on-peer in
     let pieces = alike-by_pieces (map g.E.Entry.terms c.args.left.now) c.args.one.now p.result.now p.ensures.tiles p.ensures.listed
     (map g.E.Entry.terms c.args.right.now) c.args.other.now q.result.now q.ensures.tiles q.ensures.listed c.loop-window.first
-    c.earlier-last.result p.ensures.from c.earlier-last.ensures.one q.ensures.from c.earlier-last.ensures.other in (
+    c.min-last.result p.ensures.from (sooner _ _ _ c.min-last.ensures).0 q.ensures.from
+    (sooner _ _ _ c.min-last.ensures).1 in (
       λ h. pieces.0 (c.are_pieces_alike.ensures.0 h),
       λ h. c.are_pieces_alike.ensures.1 (pieces.1 h),
     )
@@ -59,23 +62,27 @@ by_pieces g c =
 pub returns-then-not-are_pieces_alike : goal.returns-then-not-are_pieces_alike
 returns-then-not-are_pieces_alike g c =
     let p = c.piece_on-piece in
-    let last = c.earlier-last in
+    let soon = sooner p.result.now.last c.piece_on-peer.result.now.last c.min-last.result c.min-last.ensures in
     let ends = piece-ends (map g.E.Entry.terms c.args.left.now) c.args.one.now p.result.now p.ensures.tiles p.ensures.listed in (
       λ no. absurd (false≢true no),
       λ all. sym c.if-not-are_pieces_alike.true ∙ (by_pieces g (goal.at.returns-then-not-are_pieces_alike g c).After-are_pieces_alike).1
-          (λ d a b. all d (omega (arith, a, c.loop-window.invariant.from)) (omega (arith, b, ends, last.ensures.one))),
+          (λ d a b. all d (omega (arith, a, c.loop-window.invariant.from)) (omega (arith, b, ends, soon.0))),
     )
 
 pub loop-window-smaller : goal.loop-window-smaller
 loop-window-smaller g c =
-    let far = c.earlier-last.ensures.latest c.loop-window.first c.piece_on-piece.ensures.upto c.piece_on-peer.ensures.upto in
+    let soon = sooner c.piece_on-piece.result.now.last c.piece_on-peer.result.now.last c.min-last.result c.min-last.ensures in
+    let far : c.loop-window.first ≤ c.min-last.result =
+    omega (arith, soon.2, c.piece_on-piece.ensures.upto, c.piece_on-peer.ensures.upto) in
     let below = c.in-Some.ensures.0 in
     let next = c.in-Some.ensures.1 in
     omega (arith, far, below, next, c.window-window.ensures.last)
 
 pub loop-window-preserved : goal.loop-window-preserved
 loop-window-preserved g c =
-    let far = c.earlier-last.ensures.latest c.loop-window.first c.piece_on-piece.ensures.upto c.piece_on-peer.ensures.upto in
+    let soon = sooner c.piece_on-piece.result.now.last c.piece_on-peer.result.now.last c.min-last.result c.min-last.ensures in
+    let far : c.loop-window.first ≤ c.min-last.result =
+    omega (arith, soon.2, c.piece_on-piece.ensures.upto, c.piece_on-peer.ensures.upto) in
     let below = c.in-Some.ensures.0 in
     let next = c.in-Some.ensures.1 in record {
       from = omega (arith, next, far, c.loop-window.invariant.from);

@@ -16,12 +16,12 @@ loop-rest-init g c =
     let es = keyed g.E.Entry.key g.E.Entry.terms c.args.entries.now in
     let window = window_from c.args.window.now.first c.args.window.now.last in record {
       within = subst (λ (rest : List ℕ). All (λ i. i < length c.args.entries.now) rest) (sym c.as_slice-rest.ensures.value)
-          (all-within g.E.Entry.key g.E.Entry.terms c.args.entries.now c.in-Ok.positions.items c.in-Ok.ensures.within);
+          (all-within g.E.Entry.key g.E.Entry.terms c.args.entries.now c.in_ok-positions.positions.items c.in_ok-positions.ensures.within);
       made = subst (λ (runs : List Run). IsMade g.E.Key.Ord.cmp c.args.form window es runs c.as_slice-rest.result.now)
           (sym c.new-all.ensures.items)
           (subst (λ (rest : List ℕ). IsMade g.E.Key.Ord.cmp c.args.form window es [] rest) (sym c.as_slice-rest.ensures.value)
-          (made-nothing g.E.Key.Ord.cmp c.args.form window es c.in-Ok.positions.items
-          c.in-Ok.ensures.whole c.in-Ok.ensures.rising));
+          (made-nothing g.E.Key.Ord.cmp c.args.form window es c.in_ok-positions.positions.items
+          c.in_ok-positions.ensures.whole c.in_ok-positions.ensures.rising));
     }
 
 pub look_ahead-requires : goal.look_ahead-requires
@@ -63,7 +63,7 @@ loop-rest-preserved g c =
     record {
       within = subst (λ (rest : List ℕ). All (λ i. i < length c.args.entries.now) rest) (sym c.split_at.ensures.back)
           (All-drop (λ i. i < length c.args.entries.now) c.count_of_first_key.result c.loop-rest.rest.now c.loop-rest.invariant.within);
-      made = rw (c.in-Ok-extend_from_slice.ensures.items, c.as_slice.ensures.value, c.split_at.ensures.back)
+      made = rw (c.in_ok-extend_from_slice.ensures.items, c.as_slice.ensures.value, c.split_at.ensures.back)
           (made-key g.E.Key.Ord.cmp c.args.form window es g.met.E.Key.Ord.total same c.loop-rest.all.items c.loop-rest.rest.now
           c.loop-rest.invariant.made c.count_of_first_key.result c.count_of_first_key.ensures c.make_runs_of_key.new.made.items
           (rw c.split_at.ensures.front at c.in_ok-make_runs_of_key.ensures.runs));
@@ -74,7 +74,7 @@ returns-in_err-make_runs_of_key-clause-fault g c =
     let es = keyed g.E.Entry.key g.E.Entry.terms c.args.entries.now in
     let window = window_from c.args.window.now.first c.args.window.now.last in
     let same = same_key-cmp g.E.Key.PartialEq.eq g.E.Key.Ord.cmp g.met.E.Key.Ord.matches_eq g.met.E.Entry.same_key in
-    let p = err_from_is_err_and c.from_residual.result c.from_residual.ensures.1 in
+    let p = err_from_is_err_and c.from_residual-in_err-make_runs_of_key.result c.from_residual-in_err-make_runs_of_key.ensures.1 in
     rw (p.1, p.2) (made-fault g.E.Key.Ord.cmp c.args.form window es g.met.E.Key.Ord.total same c.loop-rest.all.items c.loop-rest.rest.now
     c.loop-rest.invariant.made c.count_of_first_key.result c.count_of_first_key.ensures g.E.NamedEntry.clash_of
     c.in_err-make_runs_of_key.field-0.0

@@ -6,23 +6,23 @@ use Rattle.cif_weeks.proofs.CalendarSources.{calendar_sources}
 use Rattle.cif_canon.proofs.KeyRecords.{key-records, key_fault, members-records}
 use Rattle.cif_canon.proofs.records.make_runs_of_key.Goals as goal
 
-pub returns-in-Ok-true-clause-runs : goal.returns-in-Ok-true-clause-runs
-returns-in-Ok-true-clause-runs g c k p =
+pub returns-then-branch-clause-runs : goal.returns-then-branch-clause-runs
+returns-then-branch-clause-runs g c k p =
     members-records g.E.Entry.key g.E.Entry.terms c.args.entries.now k c.args.members.now p c.args.form
     (window_from c.args.window.now.first c.args.window.now.last) c.runs_of_few.new.runs.items
-    (rw c.in-Ok-true.field-0-test at c.in-Ok-true.ensures)
+    (rw c.if-branch.true at c.in_ok-runs_of_few.ensures)
 
-pub returns-in-Err-calendar-clause-fault : goal.returns-in-Err-calendar-clause-fault
-returns-in-Err-calendar-clause-fault g c = rw c.fault_of.ensures (λ k p.
+pub returns-in-Err-clause-fault : goal.returns-in-Err-clause-fault
+returns-in-Err-clause-fault g c = rw c.fault_of.ensures (λ k p.
     key_fault g.E.Entry.key g.E.Entry.terms c.args.entries.now k c.args.members.now p g.E.NamedEntry.clash_of _
     (Contains-get_or c.args.members.now 0 0 c.requires.some) c.index-entries-members.result (c.requires.within 0 0 c.requires.some)
-    c.index-entries-members.is c.args.window.now.first c.args.window.now.last c.in-Err-calendar.fault c.in-Err-calendar.ensures.fault)
+    c.index-entries-members.is c.args.window.now.first c.args.window.now.last c.in-Err.fault c.in-Err.ensures.fault)
 
-pub returns-in-Ok-runs-clause-runs : goal.returns-in-Ok-runs-clause-runs
-returns-in-Ok-runs-clause-runs g c k p =
+pub returns-clause-runs : goal.returns-clause-runs
+returns-clause-runs g c k p =
     key-records g.E.Entry.key g.E.Entry.terms c.args.entries.now k c.args.members.now p c.args.window.now.first c.args.window.now.last
     c.in-Ok.calendar c.in-Ok.ensures.calendar g.met.E.Entry.cancelled c.args.form
-    c.in-Ok-runs.runs.items c.in-Ok-runs.ensures
+    c.in_ok-made.field-0.items c.in_ok-made.ensures
 
 pub runs_of_few-requires : goal.runs_of_few-requires
 runs_of_few-requires g c = record { within = c.requires.within }

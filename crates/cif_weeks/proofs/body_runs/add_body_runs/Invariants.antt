@@ -7,8 +7,8 @@ use Rattle.cif_weeks.proofs.body_runs.add_body_runs.Given as goal
 
 abbrev pub invariant-loop-left : goal.invariant-loop-left
 invariant-loop-left l = record {
-  grown : AreGrownTo l.form (window_from l.window.first l.window.last) (Shows l.spans l.source) l.source l.week l.initial.runs.items
-      l.runs.items;
+  grown : AreGrownTo l.joining.form (window_from l.joining.window.first l.joining.window.last) (Shows l.spans l.source) l.source l.week
+      l.initial.runs.items l.runs.items;
   agreed : (n : ℕ) → week_of n < l.week → Shows l.spans l.source n → IsAgreed l.spans n;
   left : AreLeft l.spans l.left l.week l.last;
 }

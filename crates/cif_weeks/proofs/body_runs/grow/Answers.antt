@@ -13,8 +13,8 @@ returns-in_default c spans old next start (made, are, body) =
     let a = c.args in (
       made,
       are,
-      body-idle a.form (window_from a.window.now.first a.window.now.last) (Shows spans a.source) a.source a.week (a.weeks.last + 1)
-          made (omega (arith, next.one_mask.from))
+      body-idle a.joining.now.form (window_from a.joining.now.window.first a.joining.now.window.last) (Shows spans a.source) a.source a.week
+          (a.weeks.last + 1) made (omega (arith, next.one_mask.from))
           (λ n from less on.
           c.in_default.ensures.none (weekday_of n) ((next.one_mask.masks (week_of n) from (omega arith)).shows n refl on))
           body,
@@ -23,7 +23,7 @@ returns-in_default c spans old next start (made, are, body) =
 pub returns-then-agree : goal.returns-then-agree
 returns-then-agree c spans old next start (made, are, body) =
     let a = c.args in
-    let window = window_from a.window.now.first a.window.now.last in
+    let window = window_from a.joining.now.window.first a.joining.now.window.last in
     let run = c.index-run.result.now in
     let place = c.len-place.result - 1 in
     let some : length old < length a.runs.now.items = omega (arith, c.if-start-len.true, c.len.ensures, a.runs.now.ok.0) in
@@ -32,29 +32,29 @@ returns-then-agree c spans old next start (made, are, body) =
     let it : Run = record { first = run.first; last = c.day_of-last.result; days = c.union-days.result; source = run.source } in (
       it ∷ before,
       last-set old a.runs.now.items before place run it cut at,
-      grow-longer a.form window (Shows spans a.source) a.source next.inside a.week a.weeks.last a.weeks next.one_mask
+      grow-longer a.joining.now.form window (Shows spans a.source) a.source next.inside a.week a.weeks.last a.weeks next.one_mask
           c.in-Some.first_weekday c.in-Some-last.last_weekday c.in-Some.ensures.found c.in-Some-last.ensures.found c.day_of-last.result
           c.day_of-last.ensures before run c.union-days.result
-          (subst (AreBodyRuns a.form window (Shows spans a.source) a.source a.week) is body)
+          (subst (AreBodyRuns a.joining.now.form window (Shows spans a.source) a.source a.week) is body)
           (ap (λ v. v + 1) (sym c.week.ensures) ∙ c.if-week.true) c.if-agree.ensures c.union-days.ensures.width c.union-days.ensures.runs,
     )
 
 pub day_of-last-requires-clause-in_range : goal.day_of-last-requires-clause-in_range
 day_of-last-requires-clause-in_range c =
     let (spans, next) = c.requires.shown in
-    last-date c.args.form _ (Shows spans c.args.source) c.args.source next.inside c.args.week c.args.weeks.last c.args.weeks
+    last-date c.args.joining.now.form _ (Shows spans c.args.source) c.args.source next.inside c.args.week c.args.weeks.last c.args.weeks
     next.one_mask _ _ c.in-Some.ensures.found c.in-Some-last.ensures.found c.requires.in_range
 
 pub day_of-requires-clause-in_range : goal.day_of-requires-clause-in_range
 day_of-requires-clause-in_range c =
     let (spans, next) = c.requires.shown in
-    first-date c.args.form _ (Shows spans c.args.source) c.args.source next.inside c.args.week c.args.weeks.last c.args.weeks
+    first-date c.args.joining.now.form _ (Shows spans c.args.source) c.args.source next.inside c.args.week c.args.weeks.last c.args.weeks
     next.one_mask _ _ c.in-Some.ensures.found c.in-Some-last.ensures.found c.requires.in_range
 
 pub returns : goal.returns
 returns c spans old next start (made, are, body) =
     let a = c.args in
-    let window = window_from a.window.now.first a.window.now.last in
+    let window = window_from a.joining.now.window.first a.joining.now.window.last in
     let it : Run = record { first = c.day_of.result; last = c.day_of-last.result; days = a.weeks.days; source = a.source } in (
       it ∷ made,
       rw (c.in_ok-push.ensures.items, are) (made-more old made it),
@@ -64,10 +64,10 @@ returns c spans old next start (made, are, body) =
             let some : length old < length a.runs.now.items = omega (arith, w.if-start-len.true, c.len.ensures, a.runs.now.ok.0) in
             let long : (w.len-place.result - 1) + 1 ≡ length a.runs.now.items = omega (arith, w.len-place.ensures, a.runs.now.ok.0) in
             let (before, is, cut, at) = last-made old a.runs.now.items made _ run are some long w.index-run.ensures in
-            rw is (grow-next a.form window (Shows spans a.source) a.source next.inside a.week a.weeks.last a.weeks next.one_mask
+            rw is (grow-next a.joining.now.form window (Shows spans a.source) a.source next.inside a.week a.weeks.last a.weeks next.one_mask
             c.in-Some.first_weekday c.in-Some-last.last_weekday c.in-Some.ensures.found c.in-Some-last.ensures.found c.day_of-last.result
             c.day_of-last.ensures c.day_of.result c.day_of.ensures before run
-            (subst (AreBodyRuns a.form window (Shows spans a.source) a.source a.week) is body)
+            (subst (AreBodyRuns a.joining.now.form window (Shows spans a.source) a.source a.week) is body)
             (λ follows. elim w.else-week.branch [
               | else-week-via-then-week+else-agree v ↦ v.if-agree.ensures _ follows
               | else-week-via-else-week v ↦ absurd (v.if-week.false (ap (λ n. n + 1) w.week.ensures ∙ follows))
@@ -75,9 +75,9 @@ returns c spans old next start (made, are, body) =
         | else-start-len w ↦
             let none : made ≡ [] = none-made old a.runs.now.items made are
             (omega (arith, w.if-start-len.false, c.len.ensures, a.runs.now.ok.0)) in
-            rw none (grow-first a.form window (Shows spans a.source) a.source next.inside a.week a.weeks.last a.weeks next.one_mask
+            rw none (grow-first a.joining.now.form window (Shows spans a.source) a.source next.inside a.week a.weeks.last a.weeks next.one_mask
             c.in-Some.first_weekday c.in-Some-last.last_weekday c.in-Some.ensures.found c.in-Some-last.ensures.found c.day_of-last.result
             c.day_of-last.ensures c.day_of.result c.day_of.ensures
-            (subst (AreBodyRuns a.form window (Shows spans a.source) a.source a.week) none body))
+            (subst (AreBodyRuns a.joining.now.form window (Shows spans a.source) a.source a.week) none body))
       ],
     )

@@ -1,42 +1,47 @@
 -- A span is over this one, or its rival, or neither. Those that aren't looked at have no day in these weeks (`some-all`).
-use Rattle.std.proofs.Common.{arith}
+use Rattle.std.proofs.Common.{arith, sym, ◌∙◌}
+use Rattle.std.proofs.lemmas.Bool.{iff_false}
+use Rattle.cif_weeks.proofs.LetterOrder.{letter-before, letter-same}
 use Rattle.cif_weeks.proofs.Spans.{AreLater, later-none, later-rest, take_next, some-all, some-more, some-same}
 use Rattle.cif_weeks.proofs.Spans.{led-weeks, led-agreed, led-disputed}
 use Rattle.cif_weeks.proofs.body_runs.weeks_led.Goals as goal
 use Rattle.cif_weeks.proofs.body_runs.weeks_led.Goals.{After-fits, else-loop-other-test, then-loop-other-test+then-last-other}
-use Rattle.cif_weeks.proofs.body_runs.weeks_led.Goals.{then-other-span}
-use Rattle.cif_weeks.proofs.body_runs.weeks_led.Goals.{else-other-span+then-other-span-2+then-other-span-3}
-use Rattle.cif_weeks.proofs.body_runs.weeks_led.Goals.{else-other-span+else-other-span-2}
-use Rattle.cif_weeks.proofs.body_runs.weeks_led.Goals.{else-other-span-2-via-then-other-span-2+else-other-span-3}
-use Rattle.cif_weeks.proofs.body_runs.weeks_led.Goals.{else-other-span-2-via-else-other-span-2}
+use Rattle.cif_weeks.proofs.body_runs.weeks_led.Goals.{then-lt}
+use Rattle.cif_weeks.proofs.body_runs.weeks_led.Goals.{else-lt+then-eq+then-other-span}
+use Rattle.cif_weeks.proofs.body_runs.weeks_led.Goals.{else-lt+else-eq}
+use Rattle.cif_weeks.proofs.body_runs.weeks_led.Goals.{else-eq-via-then-eq+else-other-span}
+use Rattle.cif_weeks.proofs.body_runs.weeks_led.Goals.{else-eq-via-else-eq}
 
 pub loop-other-preserved : goal.loop-other-preserved
 loop-other-preserved c =
     let l = c.loop-other.invariant in
     let t = c.other-item.result in
     let next = take_next c.args.spans.now c.loop-other.other-index t c.loop-other-test.true c.other-item.is in
-    elim c.if-other-span.branch [
-      | then-other-span w ↦
+    let before = letter-before t.letter c.args.span.now.letter in
+    let same = letter-same t.letter c.args.span.now.letter in
+    elim c.if-lt.branch [
+      | then-lt w ↦
           let k = w.weeks_from-weeks.ensures in
           let u = w.union-over.ensures in
+          let over = before.0 (sym c.lt.ensures ∙ w.if-lt.true) in
           rw (next, w.last-is, w.over-is, w.rivals-is) (record {
-            over = some-more t l.over (omega arith) k u.width u.runs;
-            rivals = some-same t l.rivals (λ rival. omega arith) k.from k.upto;
+            over = some-more t l.over over k u.width u.runs;
+            rivals = some-same t l.rivals (λ rival. omega (arith, over, rival.0)) k.from k.upto;
           })
-      | else-other-span+then-other-span-2+then-other-span-3 w ↦
-          let k = w.weeks_from-weeks-then-other-span-3.ensures in
+      | else-lt+then-eq+then-other-span w ↦
+          let k = w.weeks_from-weeks-then-other-span.ensures in
           let u = w.union-rivals.ensures in
           rw (next, w.last-is, w.over-is, w.rivals-is) (record {
-            over = some-same t l.over (λ over. omega arith) k.from k.upto;
-            rivals = some-more t l.rivals (omega arith, λ same. omega arith) k u.width u.runs;
+            over = some-same t l.over (iff_false before (sym c.lt.ensures ∙ w.if-lt.false)) k.from k.upto;
+            rivals = some-more t l.rivals (same.0 (sym w.eq.ensures ∙ w.if-eq.true), λ one. omega arith) k u.width u.runs;
           })
-      | else-other-span+else-other-span-2 w ↦
+      | else-lt+else-eq w ↦
           rw (next, w.last-is, w.over-is, w.rivals-is) (record {
-            over = some-same t l.over (λ over. omega arith) l.over.from (omega arith);
+            over = some-same t l.over (iff_false before (sym c.lt.ensures ∙ w.if-lt.false)) l.over.from (omega arith);
             rivals = some-same t l.rivals
-                (λ rival. elim w.else-other-span-2.branch [
-                  | else-other-span-2-via-then-other-span-2+else-other-span-3 v ↦ rival.1 (omega arith)
-                  | else-other-span-2-via-else-other-span-2 v ↦ omega arith
+                (λ rival. elim w.else-eq.branch [
+                  | else-eq-via-then-eq+else-other-span v ↦ rival.1 (omega arith)
+                  | else-eq-via-else-eq v ↦ iff_false same (sym w.eq.ensures ∙ v.if-eq.false) rival.0
                 ])
                 l.rivals.from (omega arith);
           })

@@ -54,7 +54,7 @@ loop-weekday-preserved g c =
           let e = w.between.ensures in
           rw (w.spans-is, w.taken-is, w.in_ok-push.ensures.items) (taken-more xs c.args.calendar.now c.requires.sources p l.of spans taken
           w.days_of-days.result w.union-taken.result w.between.result w.in-Some.winner weekday l e.days e.first_week e.last_week
-          e.precedence (rw e.source w.source_of-source.ensures.body)
+          e.letter (rw e.source w.source_of-source.ensures.body)
           (rw (e.source, ← w.as_slice.ensures.value, ← w.week.ensures) w.source_of-source.ensures.source)
           ((c.winner_on.ensures w.in-Some.winner).0 w.in-Some.is) (rw (← e.source) at w.days_of-days.ensures) w.union-taken.ensures.runs)
       | in-Some+else-not-has w ↦ rw (w.spans-is, w.taken-is) (taken-same xs _ l (λ i wins. w.has.ensures.0 w.if-not-has.false))

@@ -15,7 +15,8 @@ point c = IsPartitionPoint-from_clause (λ (s : Span). leb s.source c.span-item.
 
 pub loop-left-init : goal.loop-left-init
 loop-left-init c = record {
-  runs = rw c.requires.none (runs-none c.args.form (window_from c.args.window.now.first c.args.window.now.last) c.args.spans.now);
+  runs = rw c.requires.none (runs-none c.args.joining.now.form (window_from c.args.joining.now.window.first c.args.joining.now.window.last)
+      c.args.spans.now);
   left = λ s listed. listed;
   whole = λ s t listed _ _. listed;
   order = c.requires.order;
@@ -56,11 +57,11 @@ loop-left-preserved c =
     let left = c.loop-left.left.now in
     let span = c.span-item.result in
     let count = c.partition_point-count.result in
-    let window = window_from c.args.window.now.first c.args.window.now.last in
+    let window = window_from c.args.joining.now.window.first c.args.joining.now.window.last in
     rw (c.split_at.ensures.back, are) (record {
       runs = runs-more left span count l.order c.span-item.is c.in-len1-up.len_at_least (point here) c.args.spans.now l.left l.whole
-          c.requires.level c.args.form window c.loop-left.runs.items added c.requires.agreed l.runs
-          (subst (λ ss. AreRunsOfBody c.args.form window ss span.source added) c.split_at.ensures.front runs);
+          c.requires.level c.args.joining.now.form window c.loop-left.runs.items added c.requires.agreed l.runs
+          (subst (λ ss. AreRunsOfBody c.args.joining.now.form window ss span.source added) c.split_at.ensures.front runs);
       left = λ s listed. l.left s (other left span count l.order c.span-item.is c.in-len1-up.len_at_least (point here) s listed).0;
       whole = whole-rest left span count l.order c.span-item.is c.in-len1-up.len_at_least (point here) c.args.spans.now l.left l.whole
           c.requires.level;

@@ -6,4 +6,5 @@ use Rattle.cif_weeks.proofs.few.add_all_runs.Given as goal
 
 abbrev pub invariant-loop-number : goal.invariant-loop-number
 invariant-loop-number l =
-    AreRunsOf l.form (window_from l.window.first l.window.last) l.spans (HasSource (take l.number l.spans)) l.runs.items
+    AreRunsOf l.joining.form (window_from l.joining.window.first l.joining.window.last) l.spans (HasSource (take l.number l.spans))
+    l.runs.items

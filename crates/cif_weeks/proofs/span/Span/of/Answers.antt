@@ -14,5 +14,5 @@ pub returns-clause-some : goal.returns-clause-some
 returns-clause-some g c = let w = c.args.window.now in
     span-of (window_from w.first w.last) (g.E.Entry.terms c.args.entry.now) c.max-first.result c.min-last.result
     (rw c.of-dates.ensures.first at c.max-first.ensures) (rw c.of-dates.ensures.last at c.min-last.ensures)
-    c.between.result (c.between.ensures.precedence ∙ c.precedence.ensures)
+    c.between.result (c.between.ensures.letter ∙ c.letter.ensures)
     (rw c.of-dates.ensures.days at c.between.ensures.days)

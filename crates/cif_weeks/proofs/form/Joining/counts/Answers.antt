@@ -3,11 +3,11 @@ use Rattle.std.proofs.Common.{◌≡◌, ◌+◌, ◌*◌, ◌≤◌, arith}
 use Rattle.std.proofs.lemmas.Bool.{le-leb, leb-true}
 use Rattle.cif_weeks.proofs.Words.{window_from}
 use Rattle.cif_weeks.proofs.AgreedDays.{counts-if, counts-only}
-use Rattle.cif_weeks.proofs.form.counts.Goals as goal
+use Rattle.cif_weeks.proofs.form.Joining.counts.Goals as goal
 
 pub returns-then-from-day : goal.returns-then-from-day
 returns-then-from-day c week is =
-    let w = c.args.window.now in
+    let w = c.args.self.now.window in
     let window = window_from w.first w.last in
     let upto : c.from-then-from-day.result ≡ w.last + 4 =
     omega (arith, c.from-then-from-day.ensures, c.days_since_first_monday-last.ensures.value) in

@@ -3,13 +3,13 @@ use Rattle.std.proofs.Common.{◌≡◌, rules, sym, ◌∙◌}
 use Rattle.std.proofs.lemmas.Bool.{iff_false}
 use Rattle.cif_weeks.proofs.Words.{window_from}
 use Rattle.cif_weeks.proofs.AgreedDays.{agree-more, same-agree}
-use Rattle.cif_weeks.proofs.form.agree.Goals as goal
-use Rattle.cif_weeks.proofs.form.agree.Goals.{else-has-via-then-has+else-counts, else-has-via-else-has}
+use Rattle.cif_weeks.proofs.form.Joining.agree.Goals as goal
+use Rattle.cif_weeks.proofs.form.Joining.agree.Goals.{else-has-via-then-has+else-counts, else-has-via-else-has}
 
 pub returns-then-is : goal.returns-then-is
 returns-then-is c week next =
     let a = c.args in
-    same-agree a.form (window_from a.window.now.first a.window.now.last) week a.before a.days (c.is.ensures.0 c.if-is.true)
+    same-agree a.self.now.form (window_from a.self.now.window.first a.self.now.window.last) week a.before a.days (c.is.ensures.0 c.if-is.true)
 
 pub loop-weekday-preserved : goal.loop-weekday-preserved
 loop-weekday-preserved c = agree-more c.loop-weekday.invariant (λ week is counted. elim c.else-has.branch [
