@@ -1,0 +1,44 @@
+"""The tables of an extract, as `cif table` writes them."""
+import subprocess
+import tempfile
+from contextlib import contextmanager
+
+from .problems import FAILED, Problem, failed
+
+
+def cells_of(line):
+    return line.rstrip(b"\n").split(b"\t")
+
+
+class Extract:
+    """An extract, or a part of its window, and the program that writes its tables."""
+
+    def __init__(self, cif, path, first, last):
+        self.cif, self.path = cif, path
+        self.asked = [word for name, day in (("--from", first), ("--to", last)) if day for word in (name, day)]
+
+    @contextmanager
+    def table(self, name):
+        """The names of the fields of a table, and its rows as they come: lines of bytes, since most are only handed on."""
+        words = [self.cif, "table", *self.asked, name, "--", self.path]
+        with tempfile.TemporaryFile() as told:
+            try:
+                process = subprocess.Popen(words, stdin=subprocess.DEVNULL, stdout=subprocess.PIPE, stderr=told)
+            except OSError as problem:
+                raise failed(f"{self.cif} can't be run: {problem.strerror}") from None
+            with process, process.stdout:
+                try:
+                    yield cells_of(process.stdout.readline()), process.stdout
+                except BaseException:
+                    process.kill()
+                    raise
+            if process.returncode:
+                told.seek(0)
+                text = told.read().decode(errors="replace").rstrip("\n")
+                raise Problem(text or f"cif-gtfs: {self.cif} failed", max(process.returncode, 0) or FAILED)
+
+    def rows(self, name):
+        """All rows of a table, each as texts by the names of their fields."""
+        with self.table(name) as (names, lines):
+            names = [field.decode() for field in names]
+            return [dict(zip(names, (cell.decode() for cell in cells_of(line)))) for line in lines]

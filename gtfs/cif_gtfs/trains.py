@@ -1,0 +1,57 @@
+"""The public trains of an extract: schedules with two public calls or more."""
+from collections import namedtuple
+
+from .extract import cells_of
+
+# The kinds of train. From memory, as CIF has them: category BR is a bus that replaces trains, BS another bus, SS a ship, OL an
+# underground or metro train, XZ a sleeper; status B or 5 is a bus, S or 4 a ship; a train with sleeping cars says which.
+RAIL, SLEEPER, METRO, BUS, REPLACEMENT, SHIP = "rail", "sleeper", "metro", "bus", "replacement", "ship"
+
+# What a schedule says of its train besides the calls: its number, texts, and the dates on which it runs.
+Train = namedtuple("Train", "schedule uid dates identity operator kind")
+FIELDS = ("schedule", "uid", "first_date", "last_date", "days_run")
+FIELDS += ("status", "category", "identity", "sleepers", "operator_code")
+
+
+def kind_of(status, category, sleepers):
+    if category == "BR":
+        return REPLACEMENT
+    if category == "BS" or status in ("B", "5"):
+        return BUS
+    if category == "SS" or status in ("S", "4"):
+        return SHIP
+    if category == "OL":
+        return METRO
+    return SLEEPER if category == "XZ" or sleepers in ("B", "F", "S") else RAIL
+
+
+def trains_of(names, lines, window):
+    """The train of each row of `schedules`."""
+    places = [names.index(name.encode()) for name in FIELDS]
+    for line in lines:
+        cells = cells_of(line)
+        schedule, *texts = (cells[place] for place in places)
+        uid, *days, status, category, identity, sleepers, operator = (text.decode() for text in texts)
+        yield Train(schedule, uid, window.dates(*days), identity, operator, kind_of(status, category, sleepers))
+
+
+def calls_by_schedule(lines):
+    """The number of each schedule in `public`, the numbers of its public calls, and their rows from the location on."""
+    schedule, numbers, rows = None, [], []
+    for line in lines:
+        number, call, row = line.split(b"\t", 2)
+        if number != schedule:
+            if rows:
+                yield schedule, numbers, rows
+            schedule, numbers, rows = number, [], []
+        numbers.append(call)
+        rows.append(row)
+    if rows:
+        yield schedule, numbers, rows
+
+
+def public_trains(trains, lines):
+    """Each public train, with the numbers and the rows of its public calls, in the order of the extract."""
+    for schedule, numbers, rows in calls_by_schedule(lines):
+        if len(rows) > 1:
+            yield next(train for train in trains if train.schedule == schedule), numbers, rows
