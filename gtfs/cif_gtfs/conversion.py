@@ -42,11 +42,18 @@ class Timetable:
         self.schedules.seek(0)
         return trains_of(self.names, self.schedules, self.window)
 
+    def wanted_by_schedule(self):
+        """Where associations may be, by the numbers of schedules."""
+        self.schedules.seek(0)
+        at = self.names.index(b"uid")
+        uids = ((line.split(b"\t", at + 1)[at], line) for line in self.schedules)
+        wanted = {uid.encode(): places for uid, places in self.wanted.items()}
+        return {line[: line.index(b"\t")]: wanted[uid] for uid, line in uids if uid in wanted}
+
 
 def read_stops(extract, timetable):
     """Of each schedule with associations the stops where these may be, by location and suffix."""
-    found = {}
-    wanted = {train.schedule: timetable.wanted[train.uid] for train in timetable.trains() if train.uid in timetable.wanted}
+    found, wanted = {}, timetable.wanted_by_schedule()
     if wanted:
         with extract.table("calls") as (names, lines):
             at = [names.index(name.encode()) for name in OF_STOP]
@@ -56,7 +63,7 @@ def read_stops(extract, timetable):
                     cells = cells_of(line)
                     location, suffix, passing, call, *texts = (cells[place].decode() for place in at)
                     if not passing and (location, suffix) in wanted[schedule]:
-                        stops = found.setdefault(schedule, {}).setdefault((location, suffix), [])
+                        stops = found.setdefault(schedule.decode(), {}).setdefault((location, suffix), [])
                         stops.append(Stop(int(call), *texts))
     return found
 
@@ -108,13 +115,12 @@ def write_trips(extract, timetable, files, progress):
 def write_others(archive, timetable, routes, services, links, given):
     """Writes the files that aren't about single trips."""
     places = timetable.places
-    calendar, exceptions = services.rows()
     files = {
         "agency": routes.agencies(given.operators, feed.WEB, feed.TIMEZONE, feed.LANGUAGE),
         "stops": places.all_stops(),
         "routes": [routes.routes[name] for name in sorted(routes.routes)],
-        "calendar": calendar,
-        "calendar_dates": exceptions,
+        "calendar": services.calendar(),
+        "calendar_dates": services.calendar_dates(),
         "transfers": feed.transfer_rows(links, places, given.interchange, given.links),
         "feed_info": [feed.feed_info_row(timetable.header)],
     }
@@ -145,6 +151,7 @@ def convert(extract, given, types, output, wanted_path, progress):
                 links, left_out = write_trips(extract, timetable, files, progress)
             if not routes.routes:
                 raise refused(f"{os.fspath(extract.path)} has no public train in its window")
+            files.flush()
             progress.say("writing the other files")
             feed.copy_file(archive, "trips", trips)
             write_others(archive, timetable, routes, services, links, given)

@@ -7,8 +7,12 @@ from datetime import date, timedelta
 WEEKDAYS = ("monday", "tuesday", "wednesday", "thursday", "friday", "saturday", "sunday")
 
 
-def count_of(dates):
-    return bin(dates).count("1")
+def ones_of(number):
+    return bin(number).count("1")
+
+
+# Python has it built in from 3.10 on
+count_of = getattr(int, "bit_count", ones_of)
 
 
 def bits_of(dates):
@@ -23,19 +27,13 @@ class Window:
     """The dates from the first to the last."""
 
     def __init__(self, first, last):
-        self.first = date.fromisoformat(first)
-        self.length = (date.fromisoformat(last) - self.first).days + 1
-        self.all = (1 << self.length) - 1
-        week = sum(1 << day for day in range(0, self.length + 7, 7))
+        start = date.fromisoformat(first)
+        self.days = [start + timedelta(days=number) for number in range((date.fromisoformat(last) - start).days + 1)]
+        self.texts = [f"{day:%Y%m%d}" for day in self.days]
+        self.numbers = {day.isoformat(): number for number, day in enumerate(self.days)}
         # of each weekday, Monday first, its dates
-        self.weekdays = [week << (weekday - self.first.weekday()) % 7 & self.all for weekday in range(7)]
-        self.known = {}
-
-    def text(self, number):
-        return f"{self.first + timedelta(days=number):%Y%m%d}"
-
-    def number(self, day):
-        return (date.fromisoformat(day) - self.first).days
+        self.weekdays = [sum(1 << number for number, day in enumerate(self.days) if day.weekday() == weekday) for weekday in range(7)]
+        self.of_days_run = {}
 
     def between(self, first, last):
         """The dates between two numbers, both included."""
@@ -43,11 +41,9 @@ class Window:
 
     def dates(self, first, last, days_run):
         """The dates from the first to the last that are of these weekdays."""
-        key = first, last, days_run
-        if key not in self.known:
-            masks = [mask for mask, run in zip(self.weekdays, days_run) if run == "1"]
-            self.known[key] = self.between(self.number(first), self.number(last)) & sum(masks)
-        return self.known[key]
+        if days_run not in self.of_days_run:
+            self.of_days_run[days_run] = sum(mask for mask, run in zip(self.weekdays, days_run) if run == "1")
+        return self.between(self.numbers[first], self.numbers[last]) & self.of_days_run[days_run]
 
 
 class Services:
@@ -59,24 +55,27 @@ class Services:
     def id_of(self, dates):
         return self.ids.setdefault(dates, len(self.ids) + 1)
 
-    def weekdays_of(self, dates):
-        """The weekdays on which a service runs in general, Monday first: on more than half of its dates from first to last."""
-        span = self.window.between((dates & -dates).bit_length() - 1, dates.bit_length() - 1)
-        runs = []
+    def usual(self, dates):
+        """The numbers of the first and the last date, the weekdays, Monday first, of which more than half between these are
+        among the dates, and all dates between them of these weekdays."""
+        first, last = (dates & -dates).bit_length() - 1, dates.bit_length() - 1
+        span, runs, usual = self.window.between(first, last), [], 0
         for weekday in self.window.weekdays:
-            possible = weekday & span
-            runs.append(2 * count_of(dates & possible) > count_of(possible))
-        return span, runs
+            runs.append(int(2 * count_of(dates & weekday) > count_of(span & weekday)))
+            usual |= span & weekday if runs[-1] else 0
+        return first, last, runs, usual
 
-    def rows(self):
-        """The rows of calendar, and for each service the dates that are added (1) and taken away (2)."""
-        calendar, exceptions = [], []
+    def calendar(self):
+        """The rows of calendar.txt. A service without a usual weekday has its dates in calendar_dates.txt alone."""
         for dates, service in self.ids.items():
-            span, runs = self.weekdays_of(dates)
-            usual = sum(weekday for weekday, run in zip(self.window.weekdays, runs) if run) & span
+            first, last, runs, usual = self.usual(dates)
             if usual:
-                ends = ((span & -span).bit_length() - 1, span.bit_length() - 1)
-                calendar.append([service, *map(int, runs), *map(self.window.text, ends)])
+                yield (service, *runs, self.window.texts[first], self.window.texts[last])
+
+    def calendar_dates(self):
+        """The rows of calendar_dates.txt: the dates that are added (1), and those that are taken away (2)."""
+        for dates, service in self.ids.items():
+            usual = self.usual(dates)[3]
             for kind, different in (1, dates & ~usual), (2, usual & ~dates):
-                exceptions += [[service, self.window.text(number), kind] for number in bits_of(different)]
-        return calendar, exceptions
+                for number in bits_of(different):
+                    yield service, self.window.texts[number], kind

@@ -6,6 +6,7 @@ import shutil
 import tempfile
 import zipfile
 from contextlib import contextmanager
+from itertools import islice
 
 from .dates import WEEKDAYS
 
@@ -38,18 +39,14 @@ HEADINGS = {
 CHANGE_IN_TIME, STAY_SEATED = 2, 4
 # Equal feeds are equal zips.
 TIME_STAMP = (1980, 1, 1, 0, 0, 0)
-# where most of the time of compressing goes for little
-LEVEL = 6
+BLOCK, ROWS = 1 << 20, 10_000
 
 
 def csv_of(rows):
+    """The bytes of rows."""
     text = io.StringIO(newline="")
     csv.writer(text, lineterminator="\n").writerows(rows)
     return text.getvalue().encode()
-
-
-def heading(name):
-    return csv_of([HEADINGS[name]])
 
 
 @contextmanager
@@ -57,21 +54,24 @@ def entry(archive, name):
     """A file of the zip, with its heading."""
     about = zipfile.ZipInfo(f"{name}.txt", TIME_STAMP)
     about.compress_type, about.external_attr = zipfile.ZIP_DEFLATED, 0o644 << 16
-    with archive.open(about, "w", force_zip64=True) as data:
-        data.write(heading(name))
-        yield data
+    with archive.open(about, "w", force_zip64=True) as data, io.BufferedWriter(data, BLOCK) as blocks:
+        blocks.write(csv_of([HEADINGS[name]]))
+        yield blocks
 
 
 def write_file(archive, name, rows):
+    """Writes rows as they come, some thousand at a time."""
+    rows = iter(rows)
     with entry(archive, name) as data:
-        data.write(csv_of(rows))
+        for some in iter(lambda: list(islice(rows, ROWS)), []):
+            data.write(csv_of(some))
 
 
 def copy_file(archive, name, rows):
     """Writes the rows of a temporary file."""
     rows.seek(0)
     with entry(archive, name) as data:
-        shutil.copyfileobj(rows, data, 1 << 20)
+        shutil.copyfileobj(rows, data, BLOCK)
 
 
 @contextmanager
@@ -100,12 +100,18 @@ class TripFiles:
 
     def __init__(self, places, routes, services, stop_times, trips):
         self.places, self.routes, self.services = places, routes, services
-        self.stop_times, self.trips = stop_times, trips
+        self.stop_times, self.trips, self.rows = stop_times, trips, []
 
     def write(self, trips):
         for trip in trips:
             self.stop_times.write(self.stop_time_rows(trip))
-        self.trips.write(csv_of(map(self.trip_row, trips)))
+            self.rows.append(self.trip_row(trip))
+        if len(self.rows) >= ROWS:
+            self.flush()
+
+    def flush(self):
+        self.trips.write(csv_of(self.rows))
+        self.rows.clear()
 
     def trip_row(self, trip):
         shown = self.routes.shown(trip.train.operator, trip.train.kind, trip.first, trip.last)

@@ -1,7 +1,6 @@
 """The public trains of an extract: schedules with two public calls or more."""
 from collections import namedtuple
-
-from .extract import cells_of
+from operator import itemgetter
 
 # The kinds of train. From memory, as CIF has them: category BR is a bus that replaces trains, BS another bus, SS a ship, OL an
 # underground or metro train, XZ a sleeper; status B or 5 is a bus, S or 4 a ship; a train with sleeping cars says which.
@@ -27,12 +26,12 @@ def kind_of(status, category, sleepers):
 
 def trains_of(names, lines, window):
     """The train of each row of `schedules`."""
-    places = [names.index(name.encode()) for name in FIELDS]
+    cells_at = itemgetter(*(names.index(name.encode()) for name in FIELDS))
     for line in lines:
-        cells = cells_of(line)
-        schedule, *texts = (cells[place] for place in places)
-        uid, *days, status, category, identity, sleepers, operator = (text.decode() for text in texts)
-        yield Train(schedule, uid, window.dates(*days), identity, operator, kind_of(status, category, sleepers))
+        cells = line.decode().rstrip("\n").split("\t")
+        schedule, uid, first, last, days_run, status, category, identity, sleepers, operator = cells_at(cells)
+        dates = window.dates(first, last, days_run)
+        yield Train(schedule, uid, dates, identity, operator, kind_of(status, category, sleepers))
 
 
 def calls_by_schedule(lines):
@@ -53,5 +52,9 @@ def calls_by_schedule(lines):
 def public_trains(trains, lines):
     """Each public train, with the numbers and the rows of its public calls, in the order of the extract."""
     for schedule, numbers, rows in calls_by_schedule(lines):
+        number = schedule.decode()
+        train = next(trains)
+        while train.schedule != number:
+            train = next(trains)
         if len(rows) > 1:
-            yield next(train for train in trains if train.schedule == schedule), numbers, rows
+            yield train, numbers, rows
