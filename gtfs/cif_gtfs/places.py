@@ -6,10 +6,10 @@ by itself, whatever its platforms.
 import re
 from collections import namedtuple
 
-# Words that a name has in small letters, unless it begins with one, and words that stay in capitals.
+# Words that have small letters, unless a name or a bracket begins with one, and words that stay in capitals.
 SMALL = {"and", "at", "by", "en", "for", "in", "le", "next", "of", "on", "the", "under", "upon", "with"}
 CAPITAL = {"C.S.", "DBS", "DMU", "EMD", "EWS", "GBRF", "HST", "LT", "LUL", "NR", "SDG", "T.C.", "TMD", "US", "II", "III"}
-WORD = re.compile(r"[^\s()/&-]+")
+WORD = re.compile(r'[^\s()/&"-]+')
 
 
 def in_small_letters(name):
@@ -19,7 +19,7 @@ def in_small_letters(name):
         word = found[0]
         if word in CAPITAL:
             return word
-        if word.lower() in SMALL and found.start():
+        if word.lower() in SMALL and found.start() and name[found.start() - 1] != "(":
             return word.lower()
         return re.sub(r"(^|\.)([a-z])", lambda start: start[1] + start[2].upper(), word.lower())
 

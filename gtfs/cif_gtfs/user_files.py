@@ -108,6 +108,8 @@ def read_rows(kind, rows, found, mistakes):
         if None not in key:
             if key in found:
                 wrong.append(f"{', '.join(key)} is double: line {lines[key]} has it too")
+            if len(set(key)) < len(key):
+                wrong.append(f"{' and '.join(kind.key)} are the same")
             found[key], lines[key] = values, lines.get(key, rows.line_num)
         mistakes += [(rows.line_num, mistake) for mistake in wrong]
 
