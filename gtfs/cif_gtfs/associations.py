@@ -25,7 +25,7 @@ NONE_BEHIND = "the base train has no public call after it"
 MIDNIGHTS = "its trains are linked over two midnights"
 REASONS = (CATEGORY, INDICATOR, NOT_PUBLIC, BASE_ELSEWHERE, BASE_GOES_ON, NOT_BEGUN, NOT_ENDED, NONE_BEFORE, NONE_BEHIND, MIDNIGHTS)
 
-# A stop of a schedule, public or not: the number of its call, LO, LI or LT, platform, and its working times as they stand.
+# A call where an association may be: its number, LO, LI or LT, platform, and its working times as they stand.
 Stop = namedtuple("Stop", "number record platform arrival departure")
 
 # What an association says besides its dates.
@@ -90,19 +90,23 @@ def by_uid(associations):
 
 
 class Variant:
-    """A public train, the numbers and the rows of its public calls, and the stops where its associations may be."""
+    """A public train, the numbers and the rows of its public calls, and the calls where its associations may be."""
 
     def __init__(self, train, numbers, rows, stops):
         self.train, self.numbers, self.rows, self.stops = train, numbers, rows, stops
-        self.first, self.last = (int(numbers.split(b" ")[end]) for end in (0, -1))
+        self.public = [int(number) for number in numbers.split(b" ")]
 
     def add_dates(self, dates):
         self.train = self.train._replace(dates=self.train.dates | dates)
 
     def stop(self, association, role):
-        """Its first stop at the place of an association, of the sort that this has to be."""
+        """Its first stop at the place of an association, of the sort that this has to be. It stops where its call has a working
+        arrival or departure, or is public."""
         wanted = association.record(role)
-        return next((stop for stop in self.stops.get(association.place(role), ()) if wanted in (None, stop.record)), None)
+        for stop in self.stops.get(association.place(role), ()):
+            if wanted in (None, stop.record) and (stop.arrival or stop.departure or stop.number in self.public):
+                return stop
+        return None
 
 
 def obstacle(association, base, associated):
@@ -112,9 +116,9 @@ def obstacle(association, base, associated):
         return BASE_GOES_ON if category == NEXT else BASE_ELSEWHERE
     if associated.stop(association, ASSOCIATED) is None:
         return NOT_ENDED if category == JOIN else NOT_BEGUN
-    if category == DIVIDE and base.first >= at_base.number:
+    if category == DIVIDE and base.public[0] >= at_base.number:
         return NONE_BEFORE
-    if category == JOIN and base.last <= at_base.number:
+    if category == JOIN and base.public[-1] <= at_base.number:
         return NONE_BEHIND
     return None
 

@@ -15,7 +15,7 @@ from .trains import public_trains, trains_of
 from .trips import Linked, TripsOfUid, add_linked, pieces_of
 
 BLOCK = 1 << 20
-OF_STOP = ("location", "suffix", "pass", "call", "record", "platform", "arrival", "departure")
+OF_STOP = ("location", "suffix", "call", "record", "platform", "arrival", "departure")
 
 
 class Timetable:
@@ -51,8 +51,8 @@ class Timetable:
         return {line[: line.index(b"\t")]: wanted[uid] for uid, line in uids if uid in wanted}
 
 
-def read_stops(extract, timetable):
-    """Of each schedule with associations the stops where these may be, by location and suffix."""
+def read_calls(extract, timetable):
+    """Of each schedule with associations the calls where these may be, by location and suffix."""
     found, wanted = {}, timetable.wanted_by_schedule()
     if wanted:
         with extract.table("calls") as (names, lines):
@@ -61,8 +61,8 @@ def read_stops(extract, timetable):
                 schedule = line[: line.index(b"\t")]
                 if schedule in wanted:
                     cells = cells_of(line)
-                    location, suffix, passing, call, *texts = (cells[place].decode() for place in at)
-                    if not passing and (location, suffix) in wanted[schedule]:
+                    location, suffix, call, *texts = (cells[place].decode() for place in at)
+                    if (location, suffix) in wanted[schedule]:
                         stops = found.setdefault(schedule.decode(), {}).setdefault((location, suffix), [])
                         stops.append(Stop(int(call), *texts))
     return found
@@ -98,17 +98,18 @@ def write_linked(timetable, variants, files):
 
 def write_trips(extract, timetable, files, progress):
     """Writes all trips. Returns the links between trips, and how many dates of associations are left out by reason."""
-    stops, variants = read_stops(extract, timetable), {}
+    stops, variants = read_calls(extract, timetable), {}
     with extract.table("public") as (_, lines):
         for uid, of_uid in groupby(public_trains(timetable.trains(), lines), key=lambda found: found[0].uid):
+            of_uid = list(of_uid)
+            progress.share(int(of_uid[-1][0].schedule), timetable.count)
             if uid in timetable.wanted:
                 variants[uid] = variants_of(of_uid, stops)
-                continue
-            trips = TripsOfUid(uid)
-            for train, _, rows in of_uid:
-                trips.add(train, rows, train.dates)
-            files.write(trips.all())
-            progress.share(int(train.schedule), timetable.count)
+            else:
+                trips = TripsOfUid(uid)
+                for train, _, rows in of_uid:
+                    trips.add(train, rows, train.dates)
+                files.write(trips.all())
     return write_linked(timetable, variants, files)
 
 

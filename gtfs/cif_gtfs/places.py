@@ -26,9 +26,17 @@ def in_small_letters(name):
     return WORD.sub(written, name)
 
 
+# What stands for a place without a TIPLOC, which CIF can write.
+NO_TIPLOC, NO_NAME = "_", "Unnamed place"
+
+
 def coded(text):
     """The text as a part of an id, in letters, digits, `_` for a space, and `%XX` for all else."""
     return re.sub(r"[^A-Za-z0-9 ]", lambda other: f"%{ord(other[0]):02X}", text).replace(" ", "_")
+
+
+def stop_id(name):
+    return coded(name) or NO_TIPLOC
 
 
 # A station or a stop as stops.txt has it.
@@ -40,8 +48,8 @@ class Tiploc:
 
     def __init__(self, name, row, given):
         self.name, self.crs = name, row.get("crs_code", "").strip()
-        listed = next(filter(None, (row.get(field, "").strip() for field in ("tps_description", "description"))), name)
-        self.description = in_small_letters(listed)
+        listed = (row.get(field, "").strip() for field in ("tps_description", "description"))
+        self.description = in_small_letters(next(filter(None, (*listed, name)), NO_NAME))
         self.given_name, self.coordinates = given.get("name"), None
         if given.get("latitude") is not None:
             self.coordinates = given["latitude"], given["longitude"]
@@ -75,7 +83,7 @@ class Places:
     def end_of(self, name):
         """The id of the station of a TIPLOC, or of the stop that it is by itself."""
         tiploc = self.tiploc(name)
-        return station_id(tiploc.crs) if tiploc.crs else coded(name)
+        return station_id(tiploc.crs) if tiploc.crs else stop_id(name)
 
     def station_name(self, name):
         """The name of the station of a TIPLOC: that which the user gives one of its TIPLOCs, or else of the first one."""
@@ -132,5 +140,5 @@ class StopIds(dict):
     def __missing__(self, place):
         name, platform = (text.decode() for text in place)
         with_platform = platform and self.places.tiploc(name).crs
-        self[place] = (f"{coded(name)}/{coded(platform)}" if with_platform else coded(name)).encode()
+        self[place] = (f"{stop_id(name)}/{coded(platform)}" if with_platform else stop_id(name)).encode()
         return self[place]

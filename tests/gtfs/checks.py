@@ -1,6 +1,7 @@
 """What the tests share: counting, running the programs, and looking at a whole feed."""
 import csv
 import subprocess
+import sys
 import zipfile
 from collections import Counter
 from pathlib import Path
@@ -10,6 +11,8 @@ from feeds import EXTENDED_TYPES, TYPES, Feed, Names, active_services, coded, sh
 from validator import ERROR, notices
 
 GTFS = Path(__file__).resolve().parents[2] / "gtfs"
+# for the tests of single functions
+sys.path.insert(0, str(GTFS))
 FILES = ("stop_times", "trips", "agency", "stops", "routes", "calendar", "calendar_dates", "transfers", "feed_info")
 # The warnings that are known: nobody is named who answers for a feed.
 KNOWN_WARNINGS = {"missing_feed_contact_email_and_url"}
@@ -54,6 +57,8 @@ class Maker:
     def feed(self, *words):
         """The answer, and the files of the zip it has made, as texts by their names."""
         done = self.run("-o", "feed.zip", *words)
+        if done.returncode > 1:
+            raise RuntimeError(f"cif-gtfs {words} ends with {done.returncode}: {done.stderr}")
         with zipfile.ZipFile(self.folder / "feed.zip") as archive:
             return done, {name.removesuffix(".txt"): archive.read(name).decode() for name in archive.namelist()}
 
@@ -61,7 +66,7 @@ class Maker:
 def made_places(names):
     """A row of places.csv for each place, with a name and coordinates of its own, near to the others."""
     return [
-        {"tiploc": name, "name": f"The place {number}", "latitude": f"{51 + number / 1000:.3f}", "longitude": "-0.5"}
+        {"tiploc": name, "name": f"The place {number}", "latitude": f"{51 + number / 100000:.5f}", "longitude": "-0.5"}
         for number, name in enumerate(sorted(names))
     ]
 

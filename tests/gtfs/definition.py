@@ -61,10 +61,11 @@ class Train:
         ]
 
     def stop(self, location, suffix, record):
-        """Its first stop there, of a sort or of any."""
+        """Its first stop there, of a sort or of any: a call with a working arrival or departure, or a public one."""
+        public = {call.number for call in self.calls}
         for stop in self.stops:
-            stops_there = (stop["location"], stop["suffix"]) == (location, suffix) and not stop["pass"]
-            if stops_there and record in (None, stop["record"]):
+            stops_there = stop["arrival"] or stop["departure"] or stop["number"] in public
+            if stops_there and (stop["location"], stop["suffix"]) == (location, suffix) and record in (None, stop["record"]):
                 return stop
         return None
 
