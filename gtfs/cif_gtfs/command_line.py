@@ -15,11 +15,15 @@ from .user_files import INTERCHANGE, LINKS, OPERATORS, PLACES, read_file
 # What the files of the user have, by their keys.
 Given = namedtuple("Given", "places operators interchange links")
 
-ABOUT = "Makes a GTFS feed of a CIF timetable extract. The extract has to be one that `cif normalise` accepts."
+ABOUT = """\
+Makes a GTFS feed of a CIF timetable extract, which has to be one that
+`cif normalise` accepts.
+"""
 STATUSES = """\
 statuses:
   0  success
-  1  success, but places have no coordinates: places-wanted.csv beside the zip lists them
+  1  success, but places have no coordinates, which GTFS requires:
+     places-wanted.csv beside the zip lists them
   2  a usage error
   3  a file is refused: the same file will be refused again
   4  a file can't be read or written, or memory ran out

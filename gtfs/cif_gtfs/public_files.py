@@ -149,7 +149,8 @@ KINDS = {
     "alf-links": alf_links,
 }
 ABOUT = """\
-Makes a file for cif-gtfs of a public one, and writes it to standard output. The layouts of the public files are from memory.
+Makes a file for cif-gtfs of a public one, and writes it to standard output. The
+layouts of the public files are from memory.
 
   naptan-places    places.csv of NaPTAN's stops, a CSV file
   msn-places       places.csv of RSP's master station names
