@@ -23,13 +23,15 @@ NOT_ENDED = "the associated train doesn't end there"
 NONE_BEFORE = "the base train has no public call before it"
 NONE_BEHIND = "the base train has no public call after it"
 MIDNIGHTS = "its trains are linked over two midnights"
-REASONS = (CATEGORY, INDICATOR, NOT_PUBLIC, BASE_ELSEWHERE, BASE_GOES_ON, NOT_BEGUN, NOT_ENDED, NONE_BEFORE, NONE_BEHIND, MIDNIGHTS)
+REASONS = (CATEGORY, INDICATOR, NOT_PUBLIC, BASE_ELSEWHERE, BASE_GOES_ON)
+REASONS += (NOT_BEGUN, NOT_ENDED, NONE_BEFORE, NONE_BEHIND, MIDNIGHTS)
 
 # A call where an association may be: its number, LO, LI or LT, platform, and its working times as they stand.
 Stop = namedtuple("Stop", "number record platform arrival departure")
 
 # What an association says besides its dates.
 Said = namedtuple("Said", "category indicator base associated location base_suffix associated_suffix")
+NAMES = ("category", "date_indicator", "base_uid", "associated_uid", "location", "base_suffix", "associated_suffix")
 
 
 def shifted(dates, days):
@@ -63,9 +65,7 @@ class Association:
 
     def links(self):
         """The trips that are linked: stop and trip of the end, and of the beginning."""
-        return {
-            (*end, *begin) for dates, end in self.ends for others, begin in self.begins if dates & others
-        }
+        return {(*end, *begin) for dates, end in self.ends for others, begin in self.begins if dates & others}
 
 
 def read_associations(rows, window):
@@ -73,8 +73,7 @@ def read_associations(rows, window):
     found = {}
     for row in rows:
         if row["association_type"] in PASSENGER:
-            names = ("category", "date_indicator", "base_uid", "associated_uid", "location", "base_suffix", "associated_suffix")
-            said = Said(*(row[name] for name in names))
+            said = Said(*(row[name] for name in NAMES))
             dates = window.dates(row["first_date"], row["last_date"], row["days_run"])
             found.setdefault(said, Association(said)).dates |= dates
     return list(found.values())
@@ -126,9 +125,8 @@ def obstacle(association, base, associated):
 def decide(association, variants, left_out):
     """Sets the dates on which an association is shown, and counts the others by their reasons."""
     said, possible = association.said, association.dates
-    unknown = CATEGORY if said.category not in (DIVIDE, JOIN, NEXT) else INDICATOR if association.days_later is None else None
-    if unknown:
-        left_out[unknown] += count_of(possible)
+    if said.category not in (DIVIDE, JOIN, NEXT) or association.days_later is None:
+        left_out[INDICATOR if said.category in (DIVIDE, JOIN, NEXT) else CATEGORY] += count_of(possible)
         return
     for base in variants.get(said.base, ()):
         for associated in variants.get(said.associated, ()):

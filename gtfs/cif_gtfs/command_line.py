@@ -1,5 +1,6 @@
 """The arguments, what is told on standard error, and the status."""
 import argparse
+import gc
 import os
 import shutil
 import signal
@@ -51,10 +52,10 @@ def arguments_of(words):
 
 
 def check(parser, given):
-    """Refuses standard input, and an output in the place of an input."""
+    """Refuses what can't be read twice, and an output in the place of an input."""
     inputs = [given.extract, *filter(None, (given.places, given.operators, given.interchange, given.links))]
-    if "-" in inputs:
-        parser.error("a file can't be standard input")
+    if given.extract == "-" or os.path.exists(given.extract) and not os.path.isfile(given.extract):
+        parser.error("EXTRACT is read several times, so it has to be a file")
     for output in given.output, wanted_path(given.output):
         if any(os.path.exists(output) and os.path.exists(name) and os.path.samefile(output, name) for name in inputs):
             parser.error(f"{output} would take the place of an input: rename one of them")
@@ -120,6 +121,8 @@ def stop(*_):
 def main(beside, words=None):
     given = arguments_of(words)
     progress = Progress()
+    # nothing that is kept has cycles, and looking for them takes a tenth of the time
+    gc.disable()
     for name in signal.SIGINT, signal.SIGTERM, signal.SIGHUP:
         signal.signal(name, stop)
     try:

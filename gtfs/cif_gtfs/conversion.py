@@ -1,5 +1,4 @@
 """From an extract to a feed."""
-import os
 import tempfile
 import zipfile
 from itertools import groupby
@@ -73,11 +72,9 @@ def variants_of(trains, stops):
     found = {}
     for train, numbers, rows in trains:
         own_stops = stops.get(train.schedule, {})
-        key = train[3:], b" ".join(numbers), b"".join(rows), str(own_stops)
-        if key in found:
-            found[key].add_dates(train.dates)
-        else:
-            found[key] = Variant(train, *key[1:3], own_stops)
+        numbers, rows = b" ".join(numbers), b"".join(rows)
+        key = train.identity, train.operator, train.kind, numbers, rows, str(own_stops)
+        found.setdefault(key, Variant(train._replace(dates=0), numbers, rows, own_stops)).add_dates(train.dates)
     return list(found.values())
 
 
@@ -151,7 +148,7 @@ def convert(extract, given, types, output, wanted_path, progress):
                 files = feed.TripFiles(timetable.places, routes, services, stop_times, trips)
                 links, left_out = write_trips(extract, timetable, files, progress)
             if not routes.routes:
-                raise refused(f"{os.fspath(extract.path)} has no public train in its window")
+                raise refused(f"{extract.path} has no public train in its window")
             files.flush()
             progress.say("writing the other files")
             feed.copy_file(archive, "trips", trips)

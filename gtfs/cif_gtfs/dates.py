@@ -32,7 +32,9 @@ class Window:
         self.texts = [f"{day:%Y%m%d}" for day in self.days]
         self.numbers = {day.isoformat(): number for number, day in enumerate(self.days)}
         # of each weekday, Monday first, its dates
-        self.weekdays = [sum(1 << number for number, day in enumerate(self.days) if day.weekday() == weekday) for weekday in range(7)]
+        self.weekdays = [0] * 7
+        for number, day in enumerate(self.days):
+            self.weekdays[day.weekday()] |= 1 << number
         self.of_days_run = {}
 
     def between(self, first, last):

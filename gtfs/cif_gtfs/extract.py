@@ -1,4 +1,5 @@
 """The tables of an extract, as `cif table` writes them."""
+import os
 import subprocess
 import tempfile
 from contextlib import contextmanager
@@ -10,11 +11,20 @@ def cells_of(line):
     return line.rstrip(b"\n").split(b"\t")
 
 
+def state_of(path):
+    """What tells a file from one that has taken its place, or None where there is none."""
+    try:
+        found = os.stat(path)
+        return found.st_dev, found.st_ino, found.st_size, found.st_mtime_ns
+    except OSError:
+        return None
+
+
 class Extract:
-    """An extract, or a part of its window, and the program that writes its tables."""
+    """An extract, or a part of its window, and the program that writes its tables. All of these have to be of one extract."""
 
     def __init__(self, cif, path, first, last):
-        self.cif, self.path = cif, path
+        self.cif, self.path, self.state = cif, path, state_of(path)
         self.asked = [word for name, day in (("--from", first), ("--to", last)) if day for word in (name, day)]
 
     @contextmanager
@@ -31,11 +41,17 @@ class Extract:
                     yield cells_of(process.stdout.readline()), process.stdout
                 except BaseException:
                     process.kill()
+                    self.check_state()
                     raise
+            self.check_state()
             if process.returncode:
                 told.seek(0)
                 text = told.read().decode(errors="replace").rstrip("\n")
                 raise Problem(text or f"cif-gtfs: {self.cif} failed", max(process.returncode, 0) or FAILED)
+
+    def check_state(self):
+        if state_of(self.path) != self.state:
+            raise failed(f"{self.path} has changed while it was read")
 
     def rows(self, name):
         """All rows of a table, each as texts by the names of their fields."""

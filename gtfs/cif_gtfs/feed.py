@@ -129,7 +129,10 @@ class TripFiles:
 
 def transfer_rows(links, places, interchange, fixed_links):
     """The rows of linked trips, of the times of change, and of the links between stations."""
-    rows = [[*(text.decode() for text in (end, begin, ending, beginning)), STAY_SEATED, ""] for end, ending, begin, beginning in sorted(links)]
+    rows = []
+    for link in sorted(links):
+        end, ending, begin, beginning = (text.decode() for text in link)
+        rows.append([end, begin, ending, beginning, STAY_SEATED, ""])
     stations = {station.code: station.id for station in places.stations()}
     for crs, row in [((key[0], key[0]), row) for key, row in interchange.items()] + list(fixed_links.items()):
         if crs[0] in stations and crs[1] in stations:
@@ -139,5 +142,5 @@ def transfer_rows(links, places, interchange, fixed_links):
 
 def feed_info_row(header):
     dates = (header[name].replace("-", "") for name in ("first_date", "last_date"))
-    version = " ".join(filter(None, (header[name].strip() for name in ("current_reference", "extract_date", "extract_time"))))
-    return [PUBLISHER, WEB, LANGUAGE, *dates, version]
+    version = (header[name].strip() for name in ("current_reference", "extract_date", "extract_time"))
+    return [PUBLISHER, WEB, LANGUAGE, *dates, " ".join(filter(None, version))]

@@ -40,7 +40,8 @@ def stop_id(name):
 
 
 # A station or a stop as stops.txt has it.
-Stop = namedtuple("Stop", "id code name latitude longitude is_station parent platform")
+StopRow = namedtuple("StopRow", "id code name latitude longitude location_type parent platform")
+STOP, STATION = 0, 1
 
 
 class Tiploc:
@@ -103,27 +104,28 @@ class Places:
         """The TIPLOCs in use that have no coordinates, nor their stations."""
         return [tiploc for tiploc in self.used() if self.coordinates(tiploc) == (None, None)]
 
+    def station(self, crs):
+        """The row of a station."""
+        first = self.of_station[crs][0]
+        return StopRow(station_id(crs), crs, self.station_name(first.name), *self.coordinates(first), STATION, "", "")
+
     def stations(self):
-        """The stations in use, rising by CRS code."""
-        found = {}
-        for tiploc in self.used():
-            if tiploc.crs:
-                first = self.of_station[tiploc.crs][0]
-                row = Stop(station_id(tiploc.crs), tiploc.crs, self.station_name(tiploc.name), *self.coordinates(first), 1, "", "")
-                found[tiploc.crs] = row
-        return [found[crs] for crs in sorted(found)]
+        """The rows of the stations in use, rising by CRS code."""
+        return [self.station(crs) for crs in sorted({tiploc.crs for tiploc in self.used()} - {""})]
+
+    def stop(self, place, stop):
+        """The row of a stop by its location and platform, and its id."""
+        location, platform = (text.decode() for text in place)
+        tiploc = self.tiploc(location)
+        below = (station_id(tiploc.crs), platform) if tiploc.crs else ("", "")
+        name = tiploc.given_name or self.station_name(location)
+        return StopRow(stop.decode(), tiploc.crs, name, *self.coordinates(tiploc), STOP, *below)
 
     def all_stops(self):
         """The rows of stops.txt: stations, and then the stops that calls have."""
-        rows = self.stations()
-        for (name, platform), stop in sorted(self.stops.items(), key=lambda item: item[1]):
-            tiploc = self.tiploc(name.decode())
-            parent = station_id(tiploc.crs) if tiploc.crs else ""
-            name = tiploc.given_name or self.station_name(tiploc.name)
-            row = Stop(stop.decode(), tiploc.crs, name, *self.coordinates(tiploc), 0, parent, platform.decode() if parent else "")
-            if not rows or rows[-1] != row:
-                rows.append(row)
-        return rows
+        # a TIPLOC without a CRS code has one stop for all its platforms
+        stops = {self.stop(place, stop) for place, stop in self.stops.items()}
+        return self.stations() + sorted(stops, key=lambda stop: stop.id)
 
 
 def station_id(crs):

@@ -90,7 +90,8 @@ def check(counts, maker, special):
     done, files = maker.feed(special)
     counts.same("special.cif by hand, status", 1, done.returncode)
     counts.same("special.cif by hand, told", want["told"], done.stderr.splitlines())
-    counts.same("special.cif by hand, places-wanted.csv", want["places-wanted"], (maker.folder / "places-wanted.csv").read_text().splitlines())
+    wanted = (maker.folder / "places-wanted.csv").read_text().splitlines()
+    counts.same("special.cif by hand, places-wanted.csv", want["places-wanted"], wanted)
     for name in "agency", "stops", "routes", "feed_info":
         counts.same(f"special.cif by hand, {name}", sorted(want[name]), sorted(files[name].splitlines()))
     check_dates(counts, want, Feed(files, uids_of(files)))

@@ -49,7 +49,8 @@ class Train:
         self.row, self.stops = row, []
 
     def add(self, row):
-        names = ("location", "suffix", "arrival", "departure", "pass", "public_arrival", "public_departure", "platform", "activities")
+        names = ("location", "suffix", "arrival", "departure", "pass", "public_arrival", "public_departure")
+        names += ("platform", "activities")
         cells = {name: row[f"call_{name}"] for name in names}
         self.stops.append(cells | {"record": row["call"], "number": len(self.stops) + 1})
 
@@ -242,9 +243,8 @@ def parts_of(uid, train, held, days_later):
             part[0] = part[0]._replace(arrival=part[0].departure, set_down="1")
         if last in cuts:
             part[-1] = part[-1]._replace(departure=part[-1].arrival, pick_up="1")
-        shown = tuple(
-            call._replace(arrival=call.arrival + days_later * DAY, departure=call.departure + days_later * DAY)[1:] for call in part
-        )
+        later = days_later * DAY
+        shown = tuple(call._replace(arrival=call.arrival + later, departure=call.departure + later)[1:] for call in part)
         about = (train.row["identity"], train.row["operator_code"], kind_of(train.row))
         content = Content(uid, *about, train.calls[0].location, train.calls[-1].location, shown)
         parts.append(Part(content, first, last, []))

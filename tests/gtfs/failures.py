@@ -97,7 +97,7 @@ def check_user_files(counts, maker, special):
 
 
 def check_words(counts, maker, special):
-    for words in (), (special, special), ("--form", "1", special), ("--fro", "260105", special), ("-",):
+    for words in (), (special, special), ("--form", "1", special), ("--fro", "260105", special), ("-",), (".",):
         refused(counts, maker, f"the words {words}", 2, None, *words)
     wanted = maker.folder / "places-wanted.csv"
     wanted.write_text("tiploc,name,latitude,longitude\n")
@@ -140,6 +140,16 @@ def check_failing_cif(counts, maker, special, table):
     refused(counts, failing, f"cif fails at {table}", 4, ["cif: Memory"], special)
     failing = failing_cif(maker, table, "kill -KILL $$")
     refused(counts, failing, f"cif is killed at {table}", 4, None, special)
+
+
+def check_changed(counts, maker, special):
+    """An extract that another one replaces between two tables is refused."""
+    changing = maker.folder / "changing.cif"
+    for table in "schedules", "public":
+        changing.write_bytes(special.read_bytes())
+        failing = failing_cif(maker, table, "echo >> changing.cif; exit 0")
+        told = ["cif-gtfs: changing.cif has changed while it was read"]
+        refused(counts, failing, f"the extract changes at {table}", 4, told, "changing.cif")
 
 
 def check_signals(counts, maker, special):
@@ -191,9 +201,11 @@ def check_windows(counts, maker, special):
     """In another window the same trips have the same ids, and so have linked ones that no end of the window touches."""
     whole, in_whole = ids_by_shown(maker.feed(special)[1])
     part, in_part = ids_by_shown(maker.feed("--from", "260107", "--to", "260119", special)[1])
-    counts.test("ids in another window", len(in_part) > 9 and all(in_part[trip] == in_whole[trip] for trip in in_part if trip in in_whole), in_part)
+    both = in_part.keys() & in_whole.keys()
+    counts.test("ids in another window", len(both) > 9 and all(in_part[trip] == in_whole[trip] for trip in both), in_part)
     counts.test("linked trips in another window", len(part.links) > 5 and set(part.links) <= set(whole.links), part.links)
-    counts.same("the dates of a part", ("20260107", "20260119"), tuple(part.rows["feed_info"][0][f"feed_{end}_date"] for end in ("start", "end")))
+    [about] = part.rows["feed_info"]
+    counts.same("the dates of a part", ("20260107", "20260119"), (about["feed_start_date"], about["feed_end_date"]))
 
 
 def check_again(counts, maker, special):
@@ -233,6 +245,7 @@ def check(counts, maker, special):
     check_user_files(counts, maker, special)
     check_words(counts, maker, special)
     check_failures(counts, maker, special)
+    check_changed(counts, maker, special)
     check_signals(counts, maker, special)
     check_terminal(counts, maker, special)
     check_windows(counts, maker, special)

@@ -2,7 +2,6 @@
 import csv
 import io
 from collections import Counter, defaultdict, namedtuple
-from datetime import date
 
 from definition import seconds_of
 from validator import WEEKDAYS
@@ -67,10 +66,6 @@ def shown(content, names, types):
 # ---- from the files
 
 
-def day_of(text):
-    return date(int(text[:4]), int(text[4:6]), int(text[6:]))
-
-
 def active_services(feed, day):
     """The services that are active on a date."""
     word, weekday = f"{day:%Y%m%d}", WEEKDAYS[day.weekday()]
@@ -85,10 +80,6 @@ def active_services(feed, day):
     return active
 
 
-def uid_of(trip, uids):
-    return uids[trip["trip_id"].rpartition("-")[0]]
-
-
 class Feed:
     """A feed by its rows, with the UIDs of its trains by the texts that ids have of them."""
 
@@ -97,7 +88,8 @@ class Feed:
         calls = defaultdict(list)
         for row in self.rows["stop_times"]:
             times = (seconds_of(row[field]) for field in ("arrival_time", "departure_time"))
-            calls[row["trip_id"]].append((int(row["stop_sequence"]), row["stop_id"], *times, row["drop_off_type"], row["pickup_type"]))
+            call = (int(row["stop_sequence"]), row["stop_id"], *times, row["drop_off_type"], row["pickup_type"])
+            calls[row["trip_id"]].append(call)
         routes = {row["route_id"]: row for row in self.rows["routes"]}
         self.trips, self.of_service = {}, defaultdict(list)
         for row in self.rows["trips"]:

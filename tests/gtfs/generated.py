@@ -64,14 +64,18 @@ def likely_body(rng, advertised):
 def any_body(rng):
     """Any body whose calls have places."""
     body = some_body(rng, "BS")
-    lines = (at_place(line, {"location": rng.choice(PLACES)}) if not dict(line[1]).get("location", "x").strip() else line for line in body.lines)
+    lines = []
+    for line in body.lines:
+        has_none = dict(line[1]).get("location", PLACES[0]).isspace()
+        lines.append(at_place(line, {"location": rng.choice(PLACES)}) if has_none else line)
     return replace(body, lines=tuple(lines))
 
 
 def schedules_of(rng, uid):
     """A few records of a train, which don't clash."""
     likely = rng.random() < 0.5
-    bodies = [likely_body(rng, rng.random() < 0.75) if likely else any_body(rng) for _ in range(rng.choice([1, 2, 2, 3]))]
+    count = rng.choice([1, 2, 2, 3])
+    bodies = [likely_body(rng, rng.random() < 0.75) if likely else any_body(rng) for _ in range(count)]
     records = []
     for _ in range(rng.choice([1, 1, 2, 3, 4])):
         letter = rng.choices("PONC", [60, 20, 5, 15])[0]

@@ -54,6 +54,12 @@ POINT, ON_AIRY = (651409.903, 313177.270), (52 + 39 / 60 + 27.2531 / 3600, 1 + 4
 # The same point in WGS 84, and how near that is reached, in degrees.
 IN_WGS_84, NEAR = (52 + 39 / 60 + 28.8282 / 3600, 1 + 42 / 60 + 57.8663 / 3600), 0.00007
 
+
+def with_record(*fields):
+    """The text of MSN with a further record."""
+    return "\n".join([*MSN, master("HOVE", *fields)])
+
+
 BAD = {
     "naptan-places": (
         ("ATCOCode,CommonName,Longitude\n", "line 1: the field Latitude is missing or double"),
@@ -62,14 +68,14 @@ BAD = {
         (NAPTAN + "9100HOVE,,Hove\n", "line 8: 3 fields, and the first line has 7"),
     ),
     "msn-places": (
-        ("\n".join([*MSN, master("HOVE", "", "HOV", "15288", "61055", 5)]), "line 8: the TIPLOC is missing"),
-        ("\n".join([*MSN, master("HOVE", "HOVE", "HOV", "25288", "61055", 5)]), "line 8: easting `25288` isn't 1 and four digits"),
-        ("\n".join([*MSN, master("HOVE", "HOVE", "HOV", "15288", "6105", 5)]), "line 8: northing `6105` isn't 6 and four digits"),
+        (with_record("", "HOV", "15288", "61055", 5), "line 8: the TIPLOC is missing"),
+        (with_record("HOVE", "HOV", "25288", "61055", 5), "line 8: easting `25288` isn't 1 and four digits"),
+        (with_record("HOVE", "HOV", "15288", "6105", 5), "line 8: northing `6105` isn't 6 and four digits"),
         (NAPTAN, "line 2: no record of MSN begins so"),
     ),
     "msn-interchange": (
-        ("\n".join([*MSN, master("HOVE", "HOVE", "H", "15288", "61055", 5)]), "line 8: CRS code `H` isn't three letters or digits"),
-        ("\n".join([*MSN, master("HOVE", "HOVE", "HOV", "15288", "61055", "")]), "line 8: minimum time of change `` isn't one or two digits"),
+        (with_record("HOVE", "H", "15288", "61055", 5), "line 8: CRS code `H` isn't three letters or digits"),
+        (with_record("HOVE", "HOV", "15288", "61055", ""), "line 8: minimum time of change `` isn't one or two digits"),
     ),
     "alf-links": (
         (ALF + "M=WALK,O=EUS,T=10\n", "line 6: D= isn't a CRS code"),
@@ -101,7 +107,8 @@ def check_grid(counts):
 
 
 def check(counts, maker):
-    inputs = {"naptan-places": NAPTAN, "msn-places": "\r\n".join(MSN) + "\r\n", "msn-interchange": "\n".join(MSN), "alf-links": ALF}
+    inputs = {"naptan-places": NAPTAN, "msn-places": "\r\n".join(MSN) + "\r\n", "msn-interchange": "\n".join(MSN)}
+    inputs["alf-links"] = ALF
     outputs = {}
     for kind, text in inputs.items():
         (maker.folder / kind).write_bytes(text.encode())

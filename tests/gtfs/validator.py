@@ -118,7 +118,8 @@ def check_fields(feed):
     for name, rows in feed.rows.items():
         forms = {**REQUIRED.get(name, {}), **OPTIONAL.get(name, {})}
         heading = next(csv.reader(io.StringIO(feed.texts[name], newline="")))
-        feed.note(ERROR, "missing_required_column", *(f"{name}, {field}" for field in REQUIRED.get(name, {}) if field not in heading))
+        missing = [f"{name}, {field}" for field in REQUIRED.get(name, {}) if field not in heading]
+        feed.note(ERROR, "missing_required_column", *missing)
         feed.note(WARNING, "unknown_column", *(f"{name}, {field}" for field in heading if field not in forms))
         feed.note(ERROR, "duplicated_column", *(field for field, count in Counter(heading).items() if count > 1))
         for row in rows:
@@ -162,7 +163,8 @@ def check_references(feed):
         unknown = values(feed, name, field) - values(feed, other, key) - {""}
         feed.note(ERROR, "foreign_key_violation", *(f"{name}, {field}: {value}" for value in unknown))
     services = values(feed, "calendar", "service_id") | values(feed, "calendar_dates", "service_id")
-    feed.note(ERROR, "foreign_key_violation", *(f"trips, service_id: {value}" for value in values(feed, "trips", "service_id") - services))
+    unknown = values(feed, "trips", "service_id") - services
+    feed.note(ERROR, "foreign_key_violation", *(f"trips, service_id: {value}" for value in unknown))
     # what is there and never used
     for name, field, other in (
         ("agency", "agency_id", "routes"),
