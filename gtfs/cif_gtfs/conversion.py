@@ -112,13 +112,12 @@ def write_trips(extract, timetable, files, progress):
 
 def write_others(archive, timetable, routes, services, links, given):
     """Writes the files that aren't about single trips."""
+    feed.write_services(archive, services)
     places = timetable.places
     files = {
         "agency": routes.agencies(given.operators, feed.WEB, feed.TIMEZONE, feed.LANGUAGE),
         "stops": places.all_stops(),
         "routes": [routes.routes[name] for name in sorted(routes.routes)],
-        "calendar": services.calendar(),
-        "calendar_dates": services.calendar_dates(),
         "transfers": feed.transfer_rows(links, places, given.interchange, given.links),
         "feed_info": [feed.feed_info_row(timetable.header)],
     }

@@ -67,17 +67,12 @@ class Services:
             usual |= span & weekday if runs[-1] else 0
         return first, last, runs, usual
 
-    def calendar(self):
-        """The rows of calendar.txt. A service without a usual weekday has its dates in calendar_dates.txt alone."""
+    def rows(self):
+        """Of each service its row of calendar.txt, and its rows of calendar_dates.txt: the dates that are added (1), and those
+        that are taken away (2). A service without a usual weekday has only the latter."""
+        texts = self.window.texts
         for dates, service in self.ids.items():
             first, last, runs, usual = self.usual(dates)
-            if usual:
-                yield (service, *runs, self.window.texts[first], self.window.texts[last])
-
-    def calendar_dates(self):
-        """The rows of calendar_dates.txt: the dates that are added (1), and those that are taken away (2)."""
-        for dates, service in self.ids.items():
-            usual = self.usual(dates)[3]
-            for kind, different in (1, dates & ~usual), (2, usual & ~dates):
-                for number in bits_of(different):
-                    yield service, self.window.texts[number], kind
+            calendar = [(service, *runs, texts[first], texts[last])] if usual else []
+            added = [(service, texts[number], 1) for number in bits_of(dates & ~usual)]
+            yield calendar, added + [(service, texts[number], 2) for number in bits_of(usual & ~dates)]

@@ -60,11 +60,8 @@ def entry(archive, name):
 
 
 def write_file(archive, name, rows):
-    """Writes rows as they come, some thousand at a time."""
-    rows = iter(rows)
     with entry(archive, name) as data:
-        for some in iter(lambda: list(islice(rows, ROWS)), []):
-            data.write(csv_of(some))
+        data.write(csv_of(rows))
 
 
 def copy_file(archive, name, rows):
@@ -72,6 +69,17 @@ def copy_file(archive, name, rows):
     rows.seek(0)
     with entry(archive, name) as data:
         shutil.copyfileobj(rows, data, BLOCK)
+
+
+def write_services(archive, services):
+    """Writes the dates of services, some thousand services at a time, since there may be a million exceptions."""
+    rows = services.rows()
+    with tempfile.TemporaryFile() as calendar:
+        with entry(archive, "calendar_dates") as exceptions:
+            for some in iter(lambda: list(islice(rows, ROWS)), []):
+                calendar.write(csv_of(row for of_service, _ in some for row in of_service))
+                exceptions.write(csv_of(row for _, of_service in some for row in of_service))
+        copy_file(archive, "calendar", calendar)
 
 
 @contextmanager

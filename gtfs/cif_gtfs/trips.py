@@ -30,7 +30,7 @@ class TripsOfUid:
     """The trips of one UID by their contents, so that those with equal contents are one."""
 
     def __init__(self, uid):
-        self.uid, self.trips, self.ids = uid, {}, set()
+        self.uid, self.name, self.trips, self.ids = uid, coded(uid), {}, set()
 
     def add(self, train, rows, dates, ends=None, marks=()):
         """Adds these dates to the trip of a train that has these rows. A trip that is linked or a part of a train is told from
@@ -50,7 +50,7 @@ class TripsOfUid:
 
     def new_id(self, content):
         """The UID and a short hash, the same in each window."""
-        found = f"{coded(self.uid)}-{blake2b(content, digest_size=ID_BYTES).hexdigest()}"
+        found = f"{self.name}-{blake2b(content, digest_size=ID_BYTES).hexdigest()}"
         if found in self.ids:
             raise refused(f"two trips of the train {self.uid} have the id {found}")
         self.ids.add(found)

@@ -13,7 +13,7 @@ from validator import ERROR, notices
 GTFS = Path(__file__).resolve().parents[2] / "gtfs"
 # for the tests of single functions
 sys.path.insert(0, str(GTFS))
-FILES = ("stop_times", "trips", "agency", "stops", "routes", "calendar", "calendar_dates", "transfers", "feed_info")
+FILES = ("stop_times", "trips", "calendar_dates", "calendar", "agency", "stops", "routes", "transfers", "feed_info")
 # The warnings that are known: nobody is named who answers for a feed.
 KNOWN_WARNINGS = {"missing_feed_contact_email_and_url"}
 

@@ -58,7 +58,8 @@ def likely_journey(rng, advertised):
 def likely_body(rng, advertised):
     train = dict(made(rng, "BS", TRAIN_BODY)) | {"category": rng.choice(CATEGORIES), "status": rng.choice("PPPP12BS45F")}
     extra = dict(made(rng, "BX")) | {"operator_code": rng.choice(OPERATORS)}
-    return Body(tuple(train.items()), (() if rng.random() < 0.1 else (("BX", tuple(extra.items())),)) + likely_journey(rng, advertised))
+    before = () if rng.random() < 0.1 else (("BX", tuple(extra.items())),)
+    return Body(tuple(train.items()), before + likely_journey(rng, advertised))
 
 
 def any_body(rng):
