@@ -32,7 +32,7 @@ HEADINGS = {
         *("transfer_type", "min_transfer_time"),
     ),
     "feed_info": (
-        *("feed_publisher_name", "feed_publisher_url", "feed_lang"),
+        *("feed_publisher_name", "feed_publisher_url", "feed_lang", "default_lang"),
         *("feed_start_date", "feed_end_date", "feed_version"),
     ),
 }
@@ -151,4 +151,4 @@ def transfer_rows(links, places, interchange, fixed_links):
 def feed_info_row(header):
     dates = (header[name].replace("-", "") for name in ("first_date", "last_date"))
     version = (header[name].strip() for name in ("current_reference", "extract_date", "extract_time"))
-    return [PUBLISHER, WEB, LANGUAGE, *dates, " ".join(filter(None, version))]
+    return [PUBLISHER, WEB, LANGUAGE, LANGUAGE, *dates, " ".join(filter(None, version))]

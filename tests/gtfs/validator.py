@@ -46,7 +46,7 @@ OPTIONAL = {
         "min_transfer_time": WHOLE,
     },
     "feed_info": {
-        **{"feed_start_date": DATE, "feed_end_date": DATE, "feed_version": ANY},
+        **{"feed_start_date": DATE, "feed_end_date": DATE, "feed_version": ANY, "default_lang": "[a-z]{2}"},
         **{"feed_contact_email": ANY, "feed_contact_url": WEB},
     },
 }
@@ -287,7 +287,7 @@ def check_about(feed):
     for row in feed.all("feed_info"):
         if not row.get("feed_contact_email") and not row.get("feed_contact_url"):
             feed.note(WARNING, "missing_feed_contact_email_and_url", "")
-        for field in "feed_start_date", "feed_end_date", "feed_version":
+        for field in "feed_start_date", "feed_end_date", "feed_version", "default_lang":
             if not row.get(field):
                 feed.note(WARNING, "missing_recommended_field", field)
     if len(feed.all("feed_info")) != 1:
