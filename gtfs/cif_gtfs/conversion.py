@@ -1,6 +1,5 @@
 """From an extract to a feed."""
 import tempfile
-import zipfile
 from itertools import groupby
 
 from . import feed
@@ -142,7 +141,7 @@ def convert(extract, given, types, output, wanted_path, progress):
     timetable = Timetable(extract, given.places)
     routes, services = Routes(timetable.places, types), Services(timetable.window)
     with feed.replacing(output) as file:
-        with zipfile.ZipFile(file, "w") as archive, tempfile.TemporaryFile() as trips:
+        with feed.new_zip(file) as archive, tempfile.TemporaryFile() as trips:
             with feed.entry(archive, "stop_times") as stop_times:
                 files = feed.TripFiles(timetable.places, routes, services, stop_times, trips)
                 links, left_out = write_trips(extract, timetable, files, progress)

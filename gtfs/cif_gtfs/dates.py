@@ -69,10 +69,11 @@ class Services:
 
     def rows(self):
         """Of each service its row of calendar.txt, and its rows of calendar_dates.txt: the dates that are added (1), and those
-        that are taken away (2). A service without a usual weekday has only the latter."""
+        that are taken away (2). A service without a usual weekday has only the latter. They are texts, as there are many."""
         texts = self.window.texts
         for dates, service in self.ids.items():
             first, last, runs, usual = self.usual(dates)
-            calendar = [(service, *runs, texts[first], texts[last])] if usual else []
-            added = [(service, texts[number], 1) for number in bits_of(dates & ~usual)]
-            yield calendar, added + [(service, texts[number], 2) for number in bits_of(usual & ~dates)]
+            calendar = f"{service},{','.join(map(str, runs))},{texts[first]},{texts[last]}\n" if usual else ""
+            exceptions = [f"{service},{texts[number]},1\n" for number in bits_of(dates & ~usual)]
+            exceptions += [f"{service},{texts[number]},2\n" for number in bits_of(usual & ~dates)]
+            yield calendar, "".join(exceptions)

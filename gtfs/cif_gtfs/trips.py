@@ -35,13 +35,14 @@ class TripsOfUid:
     def add(self, train, rows, dates, ends=None, marks=()):
         """Adds these dates to the trip of a train that has these rows. A trip that is linked or a part of a train is told from
         others by the ends of the whole train too, and by marks, which say with what it is linked."""
-        first, last = ends or (location_of(rows[0]), location_of(rows[-1]))
         head = f"{train.identity}\t{train.operator}\t{train.kind}\n".encode()
-        of_whole = b"%s\t%s\n" % ends if ends else b""
-        content = b"".join((head, *rows, of_whole, *(f"{mark}\n".encode() for mark in marks)))
+        content = head + b"".join(rows)
+        if ends:
+            content += b"".join((b"%s\t%s\n" % ends, *(f"{mark}\n".encode() for mark in marks)))
         trip = self.trips.get(content)
         if trip is None:
-            trip = self.trips[content] = Trip(self.new_id(content), train, rows, first, last)
+            ends = ends or (location_of(rows[0]), location_of(rows[-1]))
+            trip = self.trips[content] = Trip(self.new_id(content), train, rows, *ends)
         trip.dates |= dates
         return trip
 
