@@ -5,15 +5,14 @@ from itertools import groupby
 from . import feed
 from .associations import ASSOCIATED, BASE, REASONS, Stop, Variant, by_uid, decide_all, read_associations
 from .dates import Services, Window
-from .extract import cells_of
+from .extract import BLOCK, cells_of, rows_of
 from .places import Places
 from .problems import refused
 from .routes import Routes
 from .trains import public_trains, trains_of
 from .trips import Linked, TripsOfUid, add_linked, pieces_of
 
-BLOCK = 1 << 20
-OF_STOP = ("location", "suffix", "call", "record", "platform", "arrival", "departure")
+OF_STOP = ("schedule", "location", "suffix", "call", "record", "platform", "arrival", "departure")
 
 
 class Timetable:
@@ -41,7 +40,7 @@ class Timetable:
         return trains_of(self.names, self.schedules, self.window)
 
     def wanted_by_schedule(self):
-        """Where associations may be, by the numbers of schedules."""
+        """Where associations may be, by the numbers of schedules, which rise."""
         self.schedules.seek(0)
         at = self.names.index(b"uid")
         uids = ((line.split(b"\t", at + 1)[at], line) for line in self.schedules)
@@ -55,14 +54,12 @@ def read_calls(extract, timetable):
     if wanted:
         with extract.table("calls") as (names, lines):
             at = [names.index(name.encode()) for name in OF_STOP]
-            for line in lines:
-                schedule = line[: line.index(b"\t")]
-                if schedule in wanted:
-                    cells = cells_of(line)
-                    location, suffix, call, *texts = (cells[place].decode() for place in at)
-                    if (location, suffix) in wanted[schedule]:
-                        stops = found.setdefault(schedule.decode(), {}).setdefault((location, suffix), [])
-                        stops.append(Stop(int(call), *texts))
+            for row in rows_of(lines, list(wanted)):
+                cells = cells_of(row)
+                schedule, location, suffix, call, *texts = (cells[place].decode() for place in at)
+                if (location, suffix) in wanted[schedule.encode()]:
+                    stops = found.setdefault(schedule, {}).setdefault((location, suffix), [])
+                    stops.append(Stop(int(call), *texts))
     return found
 
 

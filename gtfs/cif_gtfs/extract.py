@@ -6,9 +6,35 @@ from contextlib import contextmanager
 
 from .problems import FAILED, Problem, failed
 
+BLOCK = 1 << 20
+
 
 def cells_of(line):
     return line.rstrip(b"\n").split(b"\t")
+
+
+def rows_of(stream, schedules, size=BLOCK):
+    """The rows that a table has of these schedules, whose numbers rise in both. It looks for them in blocks, since cutting a
+    country's calls into lines takes far longer."""
+    pending, rest = schedules[::-1], b"\n"
+    for block in iter(lambda: stream.read(size), b""):
+        text = rest + block
+        end, at = text.rfind(b"\n"), 0
+        # what is looked through begins with the end of a row, and so does what is left for the next block
+        text, rest = text[: end + 1], text[end:]
+        if end == 0:
+            continue
+        last = int(text[text.rfind(b"\n", 0, end) + 1 :].split(b"\t", 1)[0])
+        while pending and int(pending[-1]) <= last:
+            prefix = b"\n%s\t" % pending[-1]
+            at = max(at, text.find(prefix, at))
+            while text.startswith(prefix, at):
+                end_of_row = text.index(b"\n", at + 1)
+                yield text[at + 1 : end_of_row]
+                at = end_of_row
+            if int(pending[-1]) == last:
+                break
+            pending.pop()
 
 
 def state_of(path):

@@ -1,4 +1,5 @@
 """What is refused, that a failure leaves nothing, and what stays the same from run to run."""
+import io
 import os
 import pty
 import signal
@@ -238,6 +239,19 @@ def check_collision(counts):
     counts.test("the length of ids", length >= 5, length)
 
 
+def check_blocks(counts):
+    """The rows of some schedules are the same in blocks of any size."""
+    from cif_gtfs.extract import rows_of
+
+    rows = [b"%d\t%d\tcall" % (schedule, call) for schedule in range(1, 130) for call in range(schedule % 7)]
+    for wanted in ([1, 2, 5, 8, 9, 10, 11, 99, 100, 101, 128, 129], [129], [1], [6], list(range(1, 130)), []):
+        want = [row for row in rows if int(row.split(b"\t")[0]) in wanted]
+        for size in (1, 7, 16, 40, 100, 1000, 10**6):
+            table = io.BytesIO(b"".join(row + b"\n" for row in rows))
+            got = list(rows_of(table, [b"%d" % number for number in wanted], size))
+            counts.test(f"rows of {len(wanted)} schedules in blocks of {size}", want == got, got[:5])
+
+
 def check(counts, maker, special):
     folder = maker.folder / "failures"
     folder.mkdir()
@@ -251,3 +265,4 @@ def check(counts, maker, special):
     check_windows(counts, maker, special)
     check_again(counts, maker, special)
     check_collision(counts)
+    check_blocks(counts)
