@@ -5,6 +5,7 @@ import os
 import shutil
 import signal
 import sys
+import traceback
 from collections import namedtuple
 
 from .conversion import convert
@@ -133,6 +134,10 @@ def main(beside, words=None):
         text, status = f"cif-gtfs: {problem}", FAILED
     except MemoryError:
         text, status = "cif-gtfs: memory ran out", FAILED
+    except Exception:
+        # Python's own status would say that there is a zip
+        text = f"{traceback.format_exc()}cif-gtfs: this is a fault of cif-gtfs, or its cif is another program"
+        status = FAILED
     progress.end()
     print(text, file=sys.stderr)
     return status

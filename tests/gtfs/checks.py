@@ -56,10 +56,12 @@ class Maker:
 
     def feed(self, *words):
         """The answer, and the files of the zip it has made, as texts by their names."""
-        done = self.run("-o", "feed.zip", *words)
-        if done.returncode > 1:
+        made = self.folder / "feed.zip"
+        made.unlink(missing_ok=True)
+        done = self.run("-o", made.name, *words)
+        if not made.exists():
             raise RuntimeError(f"cif-gtfs {words} ends with {done.returncode}: {done.stderr}")
-        with zipfile.ZipFile(self.folder / "feed.zip") as archive:
+        with zipfile.ZipFile(made) as archive:
             return done, {name.removesuffix(".txt"): archive.read(name).decode() for name in archive.namelist()}
 
 
@@ -121,6 +123,7 @@ def compare(counts, name, days, feed, names, types):
         unequal = first_difference(want_trips.items(), got_trips.items())
         counts.test(f"{name}, trips on {day}", want_trips == dict(got_trips), unequal)
         counts.test(f"{name}, links on {day}", want_links == got_links, first_difference(want_links, got_links))
+    counts.test(f"{name}, links on no date", not feed.idle_links(days), feed.idle_links(days)[:2])
     counts.same(f"{name}, the number of distinct trips", len(distinct), len(feed.trips))
     dates = Counter()
     for service in feed.of_service:

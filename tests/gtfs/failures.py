@@ -121,6 +121,7 @@ def check_failures(counts, maker, special):
     refused(counts, maker, "no public train", 3, [f"cif-gtfs: {freight} has no public train in its window"], freight)
     refused(counts, maker, "no folder for the zip", 4, None, "-o", "missing/gtfs.zip", special)
     refused(counts, maker, "no program cif", 4, None, "--cif", "./missing", special)
+    refused(counts, maker, "another program", 4, None, "--cif", "echo", special)
     (maker.folder / "gtfs.zip").write_text("older")
     refused(counts, maker, "a refused extract over an older zip", 3, None, bad)
     counts.same("an older zip stays", "older", (maker.folder / "gtfs.zip").read_text())

@@ -104,8 +104,17 @@ class Feed:
             (row["from_trip_id"], row["to_trip_id"]) for row in self.rows["transfers"] if row["transfer_type"] == "4"
         ]
 
+    def idle_links(self, days):
+        """The links whose trips never run on one date."""
+        running = [self.running(day) for day in days]
+        return [link for link in self.links if not any(set(link) <= names for names in running)]
+
+    def running(self, day):
+        """The ids of the trips of a date."""
+        return {name for service in active_services(self.rows, day) for name in self.of_service[service]}
+
     def on(self, day):
         """The trips of a date, and the links whose trips both run on it."""
-        names = {name for service in active_services(self.rows, day) for name in self.of_service[service]}
+        names = self.running(day)
         links = {(self.trips[one], self.trips[other]) for one, other in self.links if {one, other} <= names}
         return Counter(self.trips[name] for name in names), links
