@@ -159,7 +159,7 @@ def check_signals(counts, maker, special):
     before = left(maker)
     for number in signal.SIGTERM, signal.SIGINT:
         process = subprocess.Popen([GTFS / "cif-gtfs", "--cif", failing.cif, special], cwd=maker.folder, stderr=subprocess.PIPE)
-        for _ in range(200):
+        for _ in range(1200):
             if left(maker) != before:
                 break
             time.sleep(0.05)
