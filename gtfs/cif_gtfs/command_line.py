@@ -11,7 +11,7 @@ from collections import namedtuple
 from .conversion import convert
 from .extract import Extract
 from .problems import FAILED, WANTING, Problem, failed
-from .routes import EXTENDED_TYPES, TYPES
+from .trains import EXTENDED_TYPES, TYPES
 from .user_files import INTERCHANGE, LINKS, OPERATORS, PLACES, read_file
 
 # What the files of the user have, by their keys.

@@ -18,7 +18,8 @@ OF_STOP = ("schedule", "location", "suffix", "call", "record", "platform", "arri
 class Timetable:
     """What is read of an extract before its calls."""
 
-    def __init__(self, extract, given_places):
+    def __init__(self, extract, given_places, types):
+        self.types = types
         [self.header] = extract.rows("header")
         self.window = Window(self.header["first_date"], self.header["last_date"])
         self.places = Places(extract.rows("tiplocs"), given_places)
@@ -37,7 +38,7 @@ class Timetable:
     def trains(self):
         """All trains, from the first on."""
         self.schedules.seek(0)
-        return trains_of(self.names, self.schedules, self.window)
+        return trains_of(self.names, self.schedules, self.window, self.types)
 
     def wanted_by_schedule(self):
         """Where associations may be, by the numbers of schedules, which rise."""
@@ -69,7 +70,7 @@ def variants_of(trains, stops):
     for train, numbers, rows in trains:
         own_stops = stops.get(train.schedule, {})
         numbers, rows = b" ".join(numbers), b"".join(rows)
-        key = train.identity, train.operator, train.kind, numbers, rows, str(own_stops)
+        key = train.identity, train.operator, train.route_type, numbers, rows, str(own_stops)
         found.setdefault(key, Variant(train._replace(dates=0), numbers, rows, own_stops)).add_dates(train.dates)
     return list(found.values())
 
@@ -135,8 +136,8 @@ def convert(extract, given, types, output, wanted_path, progress):
     """Writes the zip, and beside it the list of places without coordinates. Returns the number of these, and lines that tell
     which associations are left out."""
     progress.say("reading trains and associations")
-    timetable = Timetable(extract, given.places)
-    routes, services = Routes(timetable.places, types), Services(timetable.window)
+    timetable = Timetable(extract, given.places, types)
+    routes, services = Routes(timetable.places), Services(timetable.window)
     with feed.replacing(output) as file:
         with feed.new_zip(file) as archive, tempfile.TemporaryFile() as trips:
             with feed.entry(archive, "stop_times") as stop_times:

@@ -125,7 +125,7 @@ class TripFiles:
         self.rows.clear()
 
     def trip_row(self, trip):
-        shown = self.routes.shown(trip.train.operator, trip.train.kind, trip.first, trip.last)
+        shown = self.routes.shown(trip.train.operator, trip.train.route_type, trip.first, trip.last)
         service = self.services.id_of(trip.dates)
         return [shown.route, service, trip.id.decode(), shown.headsign, trip.train.identity, shown.direction]
 

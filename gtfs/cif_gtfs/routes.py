@@ -1,11 +1,8 @@
-"""Routes: the trains of one operator and kind between two stations, in both directions."""
+"""Routes: the trains of one operator and type between two stations, in both directions."""
 from collections import namedtuple
 
 from .places import coded
-from .trains import BUS, METRO, RAIL, REPLACEMENT, SHIP, SLEEPER
 
-TYPES = {RAIL: 2, SLEEPER: 2, METRO: 1, BUS: 3, REPLACEMENT: 3, SHIP: 4}
-EXTENDED_TYPES = {**TYPES, SLEEPER: 105, REPLACEMENT: 714}
 NO_OPERATOR = "unknown"
 
 # How a trip is shown: its route, which way it goes, and where to.
@@ -15,14 +12,14 @@ Shown = namedtuple("Shown", "route direction headsign")
 class Routes:
     """The routes that were asked for, by their ids."""
 
-    def __init__(self, places, types):
-        self.places, self.types, self.known, self.routes, self.operators = places, types, {}, {}, set()
+    def __init__(self, places):
+        self.places, self.known, self.routes, self.operators = places, {}, {}, set()
 
-    def shown(self, operator, kind, first, last):
+    def shown(self, operator, route_type, first, last):
         """How a trip is shown whose train goes from one location to another."""
-        key = operator, kind, first, last
+        key = operator, route_type, first, last
         if key not in self.known:
-            self.known[key] = self.new(operator, self.types[kind], first.decode(), last.decode())
+            self.known[key] = self.new(operator, route_type, first.decode(), last.decode())
         return self.known[key]
 
     def new(self, operator, route_type, *ends):

@@ -6,8 +6,12 @@ from operator import itemgetter
 # underground or metro train, XZ a sleeper; status B or 5 is a bus, S or 4 a ship; a train with sleeping cars says which.
 RAIL, SLEEPER, METRO, BUS, REPLACEMENT, SHIP = "rail", "sleeper", "metro", "bus", "replacement", "ship"
 
+# The route types of GTFS that they have.
+TYPES = {RAIL: 2, SLEEPER: 2, METRO: 1, BUS: 3, REPLACEMENT: 3, SHIP: 4}
+EXTENDED_TYPES = {**TYPES, SLEEPER: 105, REPLACEMENT: 714}
+
 # What a schedule says of its train besides the calls: its number, texts, and the dates on which it runs.
-Train = namedtuple("Train", "schedule uid dates identity operator kind")
+Train = namedtuple("Train", "schedule uid dates identity operator route_type")
 FIELDS = ("schedule", "uid", "first_date", "last_date", "days_run")
 FIELDS += ("status", "category", "identity", "sleepers", "operator_code")
 
@@ -24,14 +28,14 @@ def kind_of(status, category, sleepers):
     return SLEEPER if category == "XZ" or sleepers in ("B", "F", "S") else RAIL
 
 
-def trains_of(names, lines, window):
-    """The train of each row of `schedules`."""
+def trains_of(names, lines, window, types):
+    """The train of each row of `schedules`, with the route type of its kind."""
     cells_at = itemgetter(*(names.index(name.encode()) for name in FIELDS))
     for line in lines:
         cells = line.decode().rstrip("\n").split("\t")
         schedule, uid, first, last, days_run, status, category, identity, sleepers, operator = cells_at(cells)
         dates = window.dates(first, last, days_run)
-        yield Train(schedule, uid, dates, identity, operator, kind_of(status, category, sleepers))
+        yield Train(schedule, uid, dates, identity, operator, types[kind_of(status, category, sleepers)])
 
 
 def calls_by_schedule(lines):

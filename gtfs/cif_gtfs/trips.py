@@ -35,7 +35,7 @@ class TripsOfUid:
     def add(self, train, rows, dates, ends=None, marks=()):
         """Adds these dates to the trip of a train that has these rows. A trip that is linked or a part of a train is told from
         others by the ends of the whole train too, and by marks, which say with what it is linked."""
-        head = f"{train.identity}\t{train.operator}\t{train.kind}\n".encode()
+        head = f"{train.identity}\t{train.operator}\t{train.route_type}\n".encode()
         content = head + b"".join(rows)
         if ends:
             content += b"".join((b"%s\t%s\n" % ends, *(f"{mark}\n".encode() for mark in marks)))

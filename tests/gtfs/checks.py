@@ -106,20 +106,21 @@ def check_feed(counts, maker, source):
         others = [notice for notice in found if notice.rule not in KNOWN_WARNINGS]
         counts.test(f"{name}, warnings", not others, others[:3])
         uids = {coded(uid): uid for day in days.values() for uid in day.trains}
-        compare(counts, name, days, Feed(files, uids), names, types)
-        counts.same(f"{name}, associations left out", expected(days)[2], left_out_of(done.stderr))
+        want = expected(days, types)
+        compare(counts, name, days, Feed(files, uids), names, want)
+        counts.same(f"{name}, associations left out", want[2], left_out_of(done.stderr))
 
 
-def compare(counts, name, days, feed, names, types):
+def compare(counts, name, days, feed, names, want):
     """Date by date what a feed has and what it has to have."""
-    trips, links, _, distinct = expected(days)
+    trips, links, _, distinct = want
     for day in days:
         got_trips, got_links = feed.on(day)
         want_trips = {}
         for content, count in trips[day].items():
-            of_content = shown(content, names, types)
+            of_content = shown(content, names)
             want_trips[of_content] = want_trips.get(of_content, 0) + count
-        want_links = {(shown(one, names, types), shown(other, names, types)) for one, other in links[day]}
+        want_links = {(shown(one, names), shown(other, names)) for one, other in links[day]}
         unequal = first_difference(want_trips.items(), got_trips.items())
         counts.test(f"{name}, trips on {day}", want_trips == dict(got_trips), unequal)
         counts.test(f"{name}, links on {day}", want_links == got_links, first_difference(want_links, got_links))

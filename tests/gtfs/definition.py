@@ -16,7 +16,7 @@ SHOWN_BY = {"VV", "JJ", "NP"}
 # A call of a train, with its number in the schedule and its times in seconds.
 Call = namedtuple("Call", "number location platform arrival departure set_down pick_up")
 # What a trip shows: all of its train, and its calls without their numbers.
-Content = namedtuple("Content", "uid identity operator kind first last calls")
+Content = namedtuple("Content", "uid identity operator type first last calls")
 
 
 def table_rows(lines):
@@ -223,7 +223,7 @@ def with_stops(calls, stops):
 Part = namedtuple("Part", "content first last marks")
 
 
-def parts_of(uid, train, held, days_later):
+def parts_of(uid, train, held, days_later, types):
     """The parts of a train with these associations, each with its role."""
     stops = {}
     for association, role in held:
@@ -245,7 +245,7 @@ def parts_of(uid, train, held, days_later):
             part[-1] = part[-1]._replace(departure=part[-1].arrival, pick_up="1")
         later = days_later * DAY
         shown = tuple(call._replace(arrival=call.arrival + later, departure=call.departure + later)[1:] for call in part)
-        about = (train.row["identity"], train.row["operator_code"], kind_of(train.row))
+        about = (train.row["identity"], train.row["operator_code"], types[kind_of(train.row)])
         content = Content(uid, *about, train.calls[0].location, train.calls[-1].location, shown)
         parts.append(Part(content, first, last, []))
     for association, role in held:
@@ -255,7 +255,7 @@ def parts_of(uid, train, held, days_later):
     return parts
 
 
-def expected(days):
+def expected(days, types):
     """What has to be there: for each date the contents of trips and the links between them; the number of dates on which an
     association isn't shown; and the distinct trips, each a content with the associations at its ends."""
     shown, left_out, moved = shown_and_moved(days)
@@ -267,7 +267,7 @@ def expected(days):
     parts = {}
     for day in days:
         for uid, train in days[day].public.items():
-            parts[uid, day] = parts_of(uid, train, held[uid, day], int((uid, day) in moved))
+            parts[uid, day] = parts_of(uid, train, held[uid, day], int((uid, day) in moved), types)
     trips, links = {day: Counter() for day in days}, {day: set() for day in days}
     distinct = set()
     for (uid, day), of_train in parts.items():

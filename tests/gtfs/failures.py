@@ -225,7 +225,7 @@ def check_collision(counts):
     from cif_gtfs.problems import REFUSED, Problem
     from cif_gtfs.trains import Train
 
-    train, found = Train("1", " 00001", 1, "1A01", "SN", "rail"), trips.TripsOfUid(" 00001")
+    train, found = Train("1", " 00001", 1, "1A01", "SN", 2), trips.TripsOfUid(" 00001")
     length, trips.ID_BYTES = trips.ID_BYTES, 1
     try:
         for number in range(300):

@@ -45,7 +45,7 @@ class Names:
         return next(self.given[other] for other in same if self.given.get(other))
 
 
-def shown(content, names, types):
+def shown(content, names):
     """What the trip of a content shows."""
     ends = [names.station(content.first), names.station(content.last)]
     calls = tuple(
@@ -55,7 +55,7 @@ def shown(content, names, types):
         content.uid,
         content.identity,
         coded(content.operator) or "unknown",
-        types[content.kind],
+        content.type,
         tuple(sorted(ends)),
         str(int(ends[0] != min(ends))),
         names.name(content.last),
