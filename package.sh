@@ -3,14 +3,15 @@
 #
 # Writes the packages of the built program into FOLDER:
 #
-#   cif-VERSION-x86_64-linux.tar.gz  the program, install.sh and what it installs, the documents and the examples
+#   cif-VERSION-x86_64-linux.tar.gz  the programs, install.sh and what it installs, the documents and the examples
 #   cif_VERSION_amd64.deb            for Debian: what install.sh installs, below /usr, with the licence, the documents
 #                                    and the examples
 #   cif-VERSION.sha256               the SHA-256 of both, for `sha256sum -c`
 #
 # PATH_TO_CIF is the built program. Without it, that is crates/cif_tool/out/cif_tool. VERSION is what the program
-# prints. The Debian package depends on the packages of the libraries that `ldd` lists. Every time stamp is that of the
-# program, or SOURCE_DATE_EPOCH, so the same files give the same bytes. Debian's base system has all that this needs.
+# prints. The Debian package depends on the packages of the libraries that `ldd` lists, and recommends Python, which
+# cif-gtfs needs. Every time stamp is that of the program, or SOURCE_DATE_EPOCH, so the same files give the same bytes.
+# Debian's base system has all that this needs.
 #
 # If anything fails, the files of FOLDER are as they were before.
 set -eu
@@ -93,9 +94,9 @@ put_documents() {
 }
 
 # Debian's zsh doesn't look in site-functions below /usr/share.
-put 644 "$root/usr/share/zsh/vendor-completions" "$root/usr/share/zsh/site-functions/_cif"
+put 644 "$root/usr/share/zsh/vendor-completions" "$root"/usr/share/zsh/site-functions/*
 rm -r "$root/usr/share/zsh/site-functions"
-gzip -9n "$root/usr/share/man/man1/cif.1"
+gzip -9n "$root"/usr/share/man/man1/*
 put_documents "$root/usr/share/doc/cif"
 install -m 644 "$top/LICENSE" "$root/usr/share/doc/cif/copyright"
 dependencies > "$work/dependencies"
@@ -109,13 +110,15 @@ Architecture: amd64
 Maintainer: The Colteapot authors
 Installed-Size: $size
 Depends: $(paste -s -d , "$work/dependencies" | sed 's/,/, /g')
+Recommends: python3 (>= 3.8)
 Section: utils
 Priority: optional
 Description: work out what runs on each date of a CIF timetable extract
  cif reads full extracts of the CIF timetable format, works out what runs on
  each date of the extract's window, and writes that down as an extract that
  needs no further rules. It also lists how two extracts differ, what runs on
- a day, and why a train runs or doesn't.
+ a day, and why a train runs or doesn't. cif-gtfs makes a GTFS feed of an
+ extract.
 END
 deb=cif_${version}_amd64.deb
 SOURCE_DATE_EPOCH=$time dpkg-deb --root-owner-group -Zxz --build "$root" "$work/$deb" > /dev/null
@@ -125,6 +128,8 @@ put 755 "$work/$name" "$cif" "$top/install.sh"
 put_documents "$work/$name"
 put 644 "$work/$name/man" "$top"/man/*
 put 644 "$work/$name/completions" "$top"/completions/*
+put 755 "$work/$name/gtfs" "$top/gtfs/cif-gtfs" "$top/gtfs/cif-gtfs-csv"
+put 644 "$work/$name/gtfs/cif_gtfs" "$top"/gtfs/cif_gtfs/*.py
 tar --sort=name --owner=0 --group=0 --numeric-owner --mtime="@$time" -C "$work" -cf "$work/$name.tar" "$name"
 gzip -9n "$work/$name.tar"
 

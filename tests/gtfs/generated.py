@@ -1,4 +1,7 @@
-"""An extract of many schedules: half of its trains have journeys like those of a timetable, and half any journey."""
+"""An extract of many schedules: half of its trains have journeys like those of a timetable, and half any journey. Some divide,
+join or go on, over a midnight or two, and some associations make no sense."""
+from dataclasses import replace
+
 from generator.fields import Body, made, some_body
 from generator.timetables import Record, Timetable, as_it_may_stand, beside, some_header
 from generator.windows import some_mask, some_span
@@ -41,9 +44,9 @@ def likely_call(rng, kind, arrives, leaves, advertised):
     return kind, tuple((name, fields.get(name, text)) for name, text in made(rng, kind))
 
 
-def likely_journey(rng):
+def likely_journey(rng, advertised):
     """Calls whose times rise, now and then over a midnight or two, of a train that is advertised or isn't."""
-    advertised, now = rng.random() < 0.75, rng.choice([rng.randrange(2880), rng.randrange(2700, 2880)])
+    now = rng.choice([rng.randrange(2880), rng.randrange(2700, 2880)])
     lines = []
     for kind in ["LO", *["LI"] * rng.choice([0, 1, 2, 2, 4, 8, 25]), "LT"]:
         arrives = now + rng.choice([1, 2, 7, 20, 60, 240, rng.choice([5, 1500])])
@@ -52,16 +55,28 @@ def likely_journey(rng):
     return tuple(lines)
 
 
-def likely_body(rng):
+def likely_body(rng, advertised):
     train = dict(made(rng, "BS", TRAIN_BODY)) | {"category": rng.choice(CATEGORIES), "status": rng.choice("PPPP12BS45F")}
     extra = dict(made(rng, "BX")) | {"operator_code": rng.choice(OPERATORS)}
-    return Body(tuple(train.items()), (() if rng.random() < 0.1 else (("BX", tuple(extra.items())),)) + likely_journey(rng))
+    before = () if rng.random() < 0.1 else (("BX", tuple(extra.items())),)
+    return Body(tuple(train.items()), before + likely_journey(rng, advertised))
+
+
+def any_body(rng):
+    """Any body whose calls have places."""
+    body = some_body(rng, "BS")
+    lines = []
+    for line in body.lines:
+        has_none = dict(line[1]).get("location", PLACES[0]).isspace()
+        lines.append(at_place(line, {"location": rng.choice(PLACES)}) if has_none else line)
+    return replace(body, lines=tuple(lines))
 
 
 def schedules_of(rng, uid):
     """A few records of a train, which don't clash."""
     likely = rng.random() < 0.5
-    bodies = [likely_body(rng) if likely else some_body(rng, "BS") for _ in range(rng.choice([1, 2, 2, 3]))]
+    count = rng.choice([1, 2, 2, 3])
+    bodies = [likely_body(rng, rng.random() < 0.75) if likely else any_body(rng) for _ in range(count)]
     records = []
     for _ in range(rng.choice([1, 1, 2, 3, 4])):
         letter = rng.choices("PONC", [60, 20, 5, 15])[0]
@@ -71,12 +86,99 @@ def schedules_of(rng, uid):
     return [as_it_may_stand(rng, record) for record in records]
 
 
+# ---- associations
+
+OF_ASSOCIATED = {"VV": "LO", "JJ": "LT", "NP": "LO"}
+INDICATORS = ("S",) * 9 + (" ", " ", "N", "N", "P", "X")
+
+
+def at_place(line, place):
+    """The call at another place, with its suffix."""
+    kind, fields = line
+    return kind, tuple((name, place.get(name, text)) for name, text in fields)
+
+
+def place_of(rng, record, category):
+    """Where a train may divide or be joined, or where it ends; now and then at another of its calls."""
+    calls = [dict(fields) for kind, fields in record.body.lines if kind in ("LI", "LT", "LO")]
+    call = calls[-1] if category == "NP" and rng.random() < 0.9 else rng.choice(calls)
+    return {"location": call["location"], "suffix": call["suffix"]}
+
+
+def long_span(rng):
+    """Mostly the whole window, so that what belongs together is there on the same dates."""
+    return WINDOW if rng.random() < 0.6 else some_span(rng, WINDOW)
+
+
+def linked_train(rng, uid, body):
+    """The records of a train that has associations."""
+    records = []
+    for _ in range(rng.choice([1, 1, 2])):
+        letter = rng.choices("PNO", [80, 5, 15])[0]
+        days = rng.choice(["1111111", "1111111", some_mask(rng, [record.days for record in records])])
+        record = Record("BS", (("uid", uid),), *long_span(rng), days, letter, body)
+        records += beside(rng, record, records, WINDOW, 0)
+    return records
+
+
+def associated_body(rng, category, place):
+    """The body of a train that begins or ends at a place, but now and then doesn't."""
+    body = likely_body(rng, rng.random() < 0.9)
+    kind = rng.choice(("LO", "LI", "LT")) if rng.random() < 0.1 else OF_ASSOCIATED[category]
+    return replace(body, lines=tuple(at_place(line, place) if line[0] == kind else line for line in body.lines))
+
+
+def association(rng, base, associated, place, category):
+    """The records of an association, of which some cancel it on some dates."""
+    key = {"base": base, "associated": associated, "location": place["location"]}
+    key |= {"base_suffix": place["suffix"], "associated_suffix": place["suffix"]}
+    body = {"category": category, "date_indicator": rng.choice(INDICATORS), "diagram": "T", "type": rng.choice("PPPPPP O")}
+    records = []
+    for letter in ["P", *rng.choice([(), (), ("C",), ("O",)])]:
+        if letter == "O":
+            body |= {"date_indicator": rng.choice(INDICATORS)}
+        days = rng.choice(["1111111", some_mask(rng, [record.days for record in records])])
+        record = Record("AA", tuple(key.items()), *long_span(rng), days, letter, Body(tuple(body.items())))
+        records += beside(rng, record, records, WINDOW, 0)
+    return records
+
+
+def add_associations(rng, timetable, trains, count):
+    """Adds so many associations, most of them with trains of their own, which may be base trains of others then."""
+    keys, linked = set(), []
+    for number in range(count):
+        if rng.random() < 0.3 or not linked:
+            linked.append(linked_train(rng, f"B{number:05}", likely_body(rng, True)))
+            timetable.schedules += linked[-1]
+        record = rng.choice(rng.choice(linked[-20:]) if rng.random() < 0.9 else trains)
+        category = rng.choice(("VV", "VV", "JJ", "JJ", "NP", "NP", "XX"))
+        place, base, associated = place_of(rng, record, category), dict(record.key)["uid"], f"A{number:05}"
+        if rng.random() < 0.1:
+            associated = dict(rng.choice(trains).key)["uid"]
+        elif category in OF_ASSOCIATED:
+            linked.append(linked_train(rng, associated, associated_body(rng, category, place)))
+            timetable.schedules += linked[-1]
+        key = base, associated, place["location"], place["suffix"]
+        if key not in keys:
+            keys.add(key)
+            timetable.associations += association(rng, base, associated, place, category)
+
+
+# ---- the extract
+
+
 def extract(rng, count):
     """The bytes of an extract with that many schedules, or a few more."""
     timetable = Timetable(some_header(rng), WINDOW)
-    timetable.tiplocs = [f"{place}00890500A{place.title():26}032010000XYZ{'':16}" for place in PLACES]
+    codes = iter(("XYZ", "XYZ", "ABC", "   ", "DEF", "G,H"))
+    timetable.tiplocs = [f"{place}00890500A{place.title():26}032010000{next(codes, 'JKL')}{'':16}" for place in PLACES]
     numbers = iter(range(count))
+    while len(timetable.schedules) < count * 3 // 4:
+        timetable.schedules += schedules_of(rng, f"{rng.choice('CWGL ')}{next(numbers):05}")
+    trains = [record for record in timetable.schedules if record.letter != "C" and record.body.lines]
+    add_associations(rng, timetable, trains, count // 5)
     while len(timetable.schedules) < count:
         timetable.schedules += schedules_of(rng, f"{rng.choice('CWGL ')}{next(numbers):05}")
     rng.shuffle(timetable.schedules)
+    rng.shuffle(timetable.associations)
     return "".join(line + "\n" for line in timetable.lines()).encode()

@@ -3,6 +3,7 @@ from . import values
 from .dates import from_ddmmyy, from_yymmdd
 from .explanation import explained
 from .layouts import ASSOCIATION_KEY, LAYOUTS, TRAIN_KEY, TRAIN_TEXTS, columns_of, layout, plain
+from .public import Call, public_calls
 from .texts import of_one_side, record_lines
 from .weeks import joined
 
@@ -34,6 +35,7 @@ EXTRA = ("traction", "uic", "operator_code", "timetable_code", "reserved_a", "re
 TIMES = ("arrival", "departure", "pass", "public_arrival", "public_departure")
 CALL = (*TIMES, "platform", "line", "path", "activities", "engineering", "pathing", "performance")
 CHANGE = (*(name for name, _ in TRAIN_TEXTS), "traction", "uic", "reserved_a")
+PUBLIC = ["schedule", "call", "location", "platform", "arrival", "departure", "set_down", "pick_up"]
 OTHER_NAMES = {
     "mainframe": "mainframe_identity",
     "date_of_extract": "extract_date",
@@ -144,6 +146,15 @@ def change_rows(lines):
     ]
 
 
+def public_rows(lines):
+    rows = []
+    for number, schedule in enumerate(schedules_of(lines), 1):
+        names = ("location", *CALL)
+        calls = [Call(call, dict(zip(names, cells(line, names)))) for call, line in numbered(schedule) if line[:2] in CALLS]
+        rows += [[str(number), *row] for row in public_calls(calls)]
+    return rows
+
+
 TABLES = {
     "header": (named(*HEADER), header_rows),
     "tiplocs": ([field.name for field in TIPLOC], tiploc_rows),
@@ -151,6 +162,7 @@ TABLES = {
     "schedules": (named("schedule", "uid", *RECORD, *TRAIN, "extra", *EXTRA), schedule_rows),
     "calls": (named("schedule", "call", "record", "location", "suffix", *CALL), call_rows),
     "changes": (named("schedule", "call", "location", "suffix", *CHANGE), change_rows),
+    "public": (PUBLIC, public_rows),
 }
 
 

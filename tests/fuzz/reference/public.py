@@ -1,0 +1,73 @@
+"""The public calls of a journey: which calls are public, on which day each time lies, and what a passenger may do there."""
+from collections import namedtuple
+
+HALF_DAY, DAY, HOUR = 43200, 86400, 3600
+NOT_SHOWN, SETS_DOWN, PICKS_UP, ON_REQUEST = {"N ", "S "}, {"T ", "D ", "TF"}, {"T ", "U ", "TB"}, "R "
+
+# A call as its cells in the table `calls` have it: its number, and the fields by their names.
+Call = namedtuple("Call", "number cells")
+
+
+def seconds_of(cell):
+    """The seconds from midnight of a working or public time, or None where there is none."""
+    return int(cell[:2]) * HOUR + int(cell[2:4]) * 60 + 30 * cell.endswith("H") if cell else None
+
+
+def public_seconds(cell):
+    return None if cell == "0000" else seconds_of(cell)
+
+
+def first_of(*values):
+    return next((value for value in values if value is not None), None)
+
+
+def moment_from(earliest, seconds):
+    """The one moment at that time of day that is at or after the earliest and less than a day after it."""
+    return earliest + (seconds - earliest) % DAY
+
+
+def reached_and_left(calls):
+    """For each timed call the moments at which it is reached and left, by its working times; None for the others."""
+    found, before = [], None
+    for call in calls:
+        arrival, departure, passing = (seconds_of(call.cells[name]) for name in ("arrival", "departure", "pass"))
+        reached, left = first_of(arrival, passing, departure), first_of(departure, passing, arrival)
+        if reached is None:
+            found.append(None)
+            continue
+        reached = reached if before is None else moment_from(before - HOUR, reached)
+        before = moment_from(reached - HOUR, left)
+        found.append((reached, before))
+    return found
+
+
+def set_down_and_pick_up(codes, arrives, departs):
+    """Both cells: 0 yes, 1 no, 3 on request."""
+    sets_down, picks_up = bool(codes & SETS_DOWN), bool(codes & PICKS_UP)
+    yes = "3" if ON_REQUEST in codes else "0"
+    return yes if sets_down or not picks_up and arrives else "1", yes if picks_up or not sets_down and departs else "1"
+
+
+def written(moment):
+    return f"{moment // HOUR:02}:{moment // 60 % 60:02}:{moment % 60:02}"
+
+
+def public_calls(calls):
+    """The cells of each public call from its number on."""
+    rows, floor = [], 0
+    for call, moments in zip(calls, reached_and_left(calls)):
+        arrives, departs = (public_seconds(call.cells[name]) for name in ("public_arrival", "public_departure"))
+        activities = call.cells["activities"].ljust(12)
+        codes = {activities[at : at + 2] for at in range(0, 12, 2)}
+        if moments is None or arrives is None and departs is None or codes & NOT_SHOWN:
+            continue
+        reached, left = moments
+        arrival = None if arrives is None else moment_from(reached - HALF_DAY, arrives)
+        departure = None if departs is None else moment_from(left - HALF_DAY, departs)
+        arrival, departure = first_of(arrival, departure), first_of(departure, arrival)
+        arrival = max(arrival, floor)
+        departure = floor = max(departure, arrival)
+        allowed = set_down_and_pick_up(codes, arrives is not None, departs is not None)
+        place = call.cells["location"], call.cells["platform"]
+        rows.append([call.number, *place, written(arrival), written(departure), *allowed])
+    return rows

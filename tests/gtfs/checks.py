@@ -1,0 +1,132 @@
+"""What the tests share: counting, running the programs, and looking at a whole feed."""
+import csv
+import subprocess
+import sys
+import zipfile
+from collections import Counter
+from pathlib import Path
+
+from definition import days_of, expected, table_rows
+from feeds import EXTENDED_TYPES, TYPES, Feed, Names, active_services, coded, shown
+from validator import ERROR, notices
+
+GTFS = Path(__file__).resolve().parents[2] / "gtfs"
+# for the tests of single functions
+sys.path.insert(0, str(GTFS))
+FILES = ("stop_times", "trips", "calendar_dates", "calendar", "agency", "stops", "routes", "transfers", "feed_info")
+# The warnings that are known: nobody is named who answers for a feed.
+KNOWN_WARNINGS = {"missing_feed_contact_email_and_url"}
+
+
+class Counts:
+    """The tests that passed and failed. A failure is printed with what is wrong."""
+
+    def __init__(self):
+        self.passed = self.failed = 0
+
+    def test(self, name, right, found=""):
+        self.passed, self.failed = self.passed + bool(right), self.failed + (not right)
+        if not right:
+            print(f"{name}: {str(found)[:1500]}")
+
+    def same(self, name, want, got):
+        self.test(name, want == got, f"wanted {want!r}, got {got!r}")
+
+
+class Source:
+    """What cif says of an extract."""
+
+    def __init__(self, cif, path):
+        self.cif, self.path = cif, path
+
+    def lines(self, *words):
+        done = subprocess.run([self.cif, *words, self.path], capture_output=True, check=True, text=True)
+        return done.stdout.splitlines()
+
+
+class Maker:
+    """Runs cif-gtfs in a folder."""
+
+    def __init__(self, cif, folder):
+        self.cif, self.folder = cif, folder
+
+    def run(self, *words, program="cif-gtfs"):
+        words = [GTFS / program, *(("--cif", self.cif) if program == "cif-gtfs" else ()), *words]
+        return subprocess.run(words, cwd=self.folder, capture_output=True, text=True, check=False)
+
+    def feed(self, *words):
+        """The answer, and the files of the zip it has made, as texts by their names."""
+        made = self.folder / "feed.zip"
+        made.unlink(missing_ok=True)
+        done = self.run("-o", made.name, *words)
+        if not made.exists():
+            raise RuntimeError(f"cif-gtfs {words} ends with {done.returncode}: {done.stderr}")
+        with zipfile.ZipFile(made) as archive:
+            return done, {name.removesuffix(".txt"): archive.read(name).decode() for name in archive.namelist()}
+
+
+def made_places(names):
+    """A row of places.csv for each place, with a name and coordinates of its own, near to the others."""
+    return [
+        {"tiploc": name, "name": f"The place {number}", "latitude": f"{51 + number / 100000:.5f}", "longitude": "-0.5"}
+        for number, name in enumerate(sorted(names))
+    ]
+
+
+def write_csv(path, rows):
+    with path.open("w", newline="", encoding="utf-8") as file:
+        writer = csv.DictWriter(file, rows[0])
+        writer.writeheader()
+        writer.writerows(rows)
+
+
+def first_difference(want, got):
+    """What one of two has and the other lacks, for the first few."""
+    return f"lacks {list(want - got)[:2]}, has {list(got - want)[:2]}"
+
+
+def left_out_of(text):
+    """How many dates of associations are told to be left out."""
+    return sum(int(line.rpartition(": ")[2]) for line in text.splitlines() if "associations left out" in line)
+
+
+def check_feed(counts, maker, source):
+    """A feed is valid; on each date it has the trips and the links that the definition has; and it has no trip twice."""
+    name, days = source.path.name, days_of(source)
+    locations = {stop["location"] for day in days.values() for train in day.trains.values() for stop in train.stops}
+    places, tiplocs = made_places(locations), table_rows(source.lines("table", "tiplocs"))
+    write_csv(maker.folder / "places.csv", places)
+    names = Names(tiplocs, places)
+    for options, types in ((), TYPES), (("--extended-types",), EXTENDED_TYPES):
+        done, files = maker.feed("--places", "places.csv", *options, source.path)
+        counts.same(f"{name}, status", 0, done.returncode)
+        counts.same(f"{name}, the files", FILES, tuple(files))
+        found = notices(files)
+        counts.test(f"{name}, errors", not [notice for notice in found if notice.severity == ERROR], found[:3])
+        others = [notice for notice in found if notice.rule not in KNOWN_WARNINGS]
+        counts.test(f"{name}, warnings", not others, others[:3])
+        uids = {coded(uid): uid for day in days.values() for uid in day.trains}
+        want = expected(days, types)
+        compare(counts, name, days, Feed(files, uids), names, want)
+        counts.same(f"{name}, associations left out", want[2], left_out_of(done.stderr))
+
+
+def compare(counts, name, days, feed, names, want):
+    """Date by date what a feed has and what it has to have."""
+    trips, links, _, distinct = want
+    for day in days:
+        got_trips, got_links = feed.on(day)
+        want_trips = {}
+        for content, count in trips[day].items():
+            of_content = shown(content, names)
+            want_trips[of_content] = want_trips.get(of_content, 0) + count
+        want_links = {(shown(one, names), shown(other, names)) for one, other in links[day]}
+        unequal = first_difference(want_trips.items(), got_trips.items())
+        counts.test(f"{name}, trips on {day}", want_trips == dict(got_trips), unequal)
+        counts.test(f"{name}, links on {day}", want_links == got_links, first_difference(want_links, got_links))
+    counts.test(f"{name}, links on no date", not feed.idle_links(days), feed.idle_links(days)[:2])
+    counts.same(f"{name}, the number of distinct trips", len(distinct), len(feed.trips))
+    dates = Counter()
+    for service in feed.of_service:
+        dates[frozenset(day for day in days if service in active_services(feed.rows, day))] += 1
+    counts.test(f"{name}, services", frozenset() not in dates and set(dates.values()) <= {1}, dates.most_common(1))

@@ -1,0 +1,291 @@
+"""What GTFS has to have on each date, worked out date by date from the rules of docs/GTFS.md and of what `cif` says.
+
+A day of `cif day` gives trains with all their calls, and associations. The reference of tests/fuzz says which calls are public.
+The table `schedules` of `cif` gives what `day` doesn't show: operator, category, status and sleepers.
+"""
+from collections import Counter, defaultdict, namedtuple
+from datetime import date, timedelta
+
+from reference.public import Call as ReferenceCall
+from reference.public import public_calls
+
+DAY, HOUR = 86400, 3600
+DAYS_LATER = {"": 0, "S": 0, "N": 1, "P": -1}
+SHOWN_BY = {"VV", "JJ", "NP"}
+
+# A call of a train, with its number in the schedule and its times in seconds.
+Call = namedtuple("Call", "number location platform arrival departure set_down pick_up")
+# What a trip shows: all of its train, and its calls without their numbers.
+Content = namedtuple("Content", "uid identity operator type first last calls")
+
+
+def table_rows(lines):
+    heading, *rows = (line.split("\t") for line in lines)
+    return [dict(zip(heading, row)) for row in rows]
+
+
+def seconds_of(time):
+    hours, minutes, seconds = map(int, time.split(":"))
+    return hours * HOUR + minutes * 60 + seconds
+
+
+def kind_of(row):
+    """The kind of a train by its row of `schedules`."""
+    if row["category"] == "BR":
+        return "replacement"
+    if row["category"] == "BS" or row["status"] in ("B", "5"):
+        return "bus"
+    if row["category"] == "SS" or row["status"] in ("S", "4"):
+        return "ship"
+    if row["category"] == "OL":
+        return "metro"
+    return "sleeper" if row["category"] == "XZ" or row["sleepers"] in ("B", "F", "S") else "rail"
+
+
+class Train:
+    """A train on a date: its row of `schedules`, and its calls as the rows of `day` have them."""
+
+    def __init__(self, row):
+        self.row, self.stops = row, []
+
+    def add(self, row):
+        names = ("location", "suffix", "arrival", "departure", "pass", "public_arrival", "public_departure")
+        names += ("platform", "activities")
+        cells = {name: row[f"call_{name}"] for name in names}
+        self.stops.append(cells | {"record": row["call"], "number": len(self.stops) + 1})
+
+    def public(self):
+        rows = public_calls([ReferenceCall(str(stop["number"]), stop) for stop in self.stops])
+        return [
+            Call(int(number), location, platform, seconds_of(arrival), seconds_of(departure), set_down, pick_up)
+            for number, location, platform, arrival, departure, set_down, pick_up in rows
+        ]
+
+    def stop(self, location, suffix, record):
+        """Its first stop there, of a sort or of any: a call with a working arrival or departure, or a public one."""
+        public = {call.number for call in self.calls}
+        for stop in self.stops:
+            stops_there = stop["arrival"] or stop["departure"] or stop["number"] in public
+            if stops_there and (stop["location"], stop["suffix"]) == (location, suffix) and record in (None, stop["record"]):
+                return stop
+        return None
+
+
+class Day:
+    """The public trains and the associations of a date."""
+
+    def __init__(self, source, day, schedules):
+        self.trains, self.associations = {}, []
+        for row in table_rows(source.lines("day", "--stops", "--format", "tsv", f"{day:%y%m%d}")):
+            if row["kind"] == "AA":
+                self.associations.append(row)
+            else:
+                if row["uid"] not in self.trains:
+                    self.trains[row["uid"]] = Train(applying(schedules[row["uid"]], day))
+                self.trains[row["uid"]].add(row)
+        for train in self.trains.values():
+            train.calls = train.public()
+        self.public = {uid: train for uid, train in self.trains.items() if len(train.calls) > 1}
+
+
+def applying(rows, day):
+    """The row that applies on a date."""
+    weekday = day.weekday()
+    [row] = [row for row in rows if row["first_date"] <= day.isoformat() <= row["last_date"] and row["days_run"][weekday] == "1"]
+    return row
+
+
+def days_of(source):
+    """All days of the window."""
+    [header] = table_rows(source.lines("table", "header"))
+    schedules = defaultdict(list)
+    for row in table_rows(source.lines("table", "schedules")):
+        schedules[row["uid"]].append(row)
+    first, last = (date.fromisoformat(header[name]) for name in ("first_date", "last_date"))
+    dates = [first + timedelta(days=number) for number in range((last - first).days + 1)]
+    return {day: Day(source, day, schedules) for day in dates}
+
+
+# ---- associations
+
+# An association that holds: its fields, and its trains with their dates.
+Held = namedtuple("Held", "category indicator base associated location base_suffix associated_suffix base_day associated_day")
+
+
+def held_on(days, day):
+    """The associations for passengers of a date; those of another category or date indicator have no associated date."""
+    for row in days[day].associations:
+        if row["association_type"] in ("", "P"):
+            days_later = DAYS_LATER.get(row["date_indicator"])
+            known = row["association_category"] in SHOWN_BY and days_later is not None
+            other = day + timedelta(days=days_later) if known else None
+            names = ("association_category", "date_indicator", "base_uid", "associated_uid", "association_location")
+            yield Held(*(row[name] for name in (*names, "base_suffix", "associated_suffix")), day, other)
+
+
+def can_be_shown(held, days):
+    """Whether the trains are public and the association is where one begins or ends and the other stops, with a ride to link."""
+    if held.associated_day not in days:
+        return False
+    base = days[held.base_day].public.get(held.base)
+    associated = days[held.associated_day].public.get(held.associated)
+    if not base or not associated:
+        return False
+    at_base = base.stop(held.location, held.base_suffix, "LT" if held.category == "NP" else None)
+    at_associated = associated.stop(held.location, held.associated_suffix, "LT" if held.category == "JJ" else "LO")
+    if not at_base or not at_associated:
+        return False
+    if held.category == "VV":
+        return any(call.number < at_base["number"] for call in base.calls)
+    if held.category == "JJ":
+        return any(call.number > at_base["number"] for call in base.calls)
+    return True
+
+
+def ends_of(held):
+    return (held.base, held.base_day), (held.associated, held.associated_day)
+
+
+def groups_of(shown):
+    """The trains on dates that associations link, each as a set."""
+    group = {}
+    for held in shown:
+        joined = set().union(*(group.get(end, {end}) for end in ends_of(held)))
+        for end in joined:
+            group[end] = joined
+    return group
+
+
+def shown_and_moved(days):
+    """The associations that are shown, how many aren't, and the trains on dates that count to the day before."""
+    every = [held for day in days for held in held_on(days, day)]
+    possible = [held for held in every if can_be_shown(held, days)]
+    groups = groups_of(possible)
+
+    def dates(end):
+        return {day for _, day in groups[end]}
+
+    def too_long(held):
+        found = dates(ends_of(held)[0])
+        return held.base_day != held.associated_day and max(found) - min(found) > timedelta(days=1)
+
+    shown = [held for held in possible if not too_long(held)]
+    overnight = [held for held in shown if held.base_day != held.associated_day]
+    moved = {end for held in overnight for end in groups[ends_of(held)[0]] if end[1] == max(dates(end))}
+    return shown, len(every) - len(shown), moved
+
+
+# ---- parts of trains
+
+
+def of_day(time):
+    """The seconds of a working time, rounded up to the minute."""
+    return int(time[:2]) * HOUR + int(time[2:4]) * 60 + (60 if time.endswith("H") else 0)
+
+
+def moments(seconds):
+    """All moments at a time of day that a train may have."""
+    return [seconds + number * DAY for number in range(-3, 400)]
+
+
+def call_that_isnt_public(stop, before, after):
+    """The call at a stop that isn't public: nobody gets on or off."""
+    arrives, leaves = of_day(stop["arrival"] or stop["departure"]), of_day(stop["departure"] or stop["arrival"])
+    if before:
+        arrival = min(moment for moment in moments(arrives) if moment >= before.departure - HOUR)
+        departure = min(moment for moment in moments(leaves) if moment >= arrival - HOUR)
+        arrival = max(arrival, before.departure)
+    else:
+        departure = max(moment for moment in moments(leaves) if moment <= after.arrival + HOUR)
+        arrival = max(0, max(moment for moment in moments(arrives) if moment <= departure + HOUR))
+    departure = max(arrival, departure)
+    if after:
+        arrival, departure = min(arrival, after.arrival), min(departure, after.arrival)
+    return Call(stop["number"], stop["location"], stop["platform"], arrival, departure, "1", "1")
+
+
+def with_stops(calls, stops):
+    """The public calls with those at these stops, first those behind the first public call in order, then those before it."""
+    calls = list(calls)
+    first = calls[0].number
+    behind = sorted((stop for stop in stops if stop["number"] > first), key=lambda stop: stop["number"])
+    front = sorted((stop for stop in stops if stop["number"] < first), key=lambda stop: -stop["number"])
+    for stop in behind + front:
+        if all(call.number != stop["number"] for call in calls):
+            before = max((call for call in calls if call.number < stop["number"]), key=lambda call: call.number, default=None)
+            after = min((call for call in calls if call.number > stop["number"]), key=lambda call: call.number, default=None)
+            calls.append(call_that_isnt_public(stop, before, after))
+            calls.sort(key=lambda call: call.number)
+    return calls
+
+
+# A part of a train on a date: what it shows, the numbers of its first and last call, and the associations at its ends.
+Part = namedtuple("Part", "content first last marks")
+
+
+def parts_of(uid, train, held, days_later, types):
+    """The parts of a train with these associations, each with its role."""
+    stops = {}
+    for association, role in held:
+        record = "LT" if association.category == "NP" else None
+        if role == "associated":
+            record = "LT" if association.category == "JJ" else "LO"
+        suffix = association.base_suffix if role == "base" else association.associated_suffix
+        stops[association, role] = train.stop(association.location, suffix, record)
+    calls = with_stops(train.calls, stops.values())
+    numbers = [call.number for call in calls]
+    cuts = {stops[each]["number"] for each in held if each[1] == "base" and each[0].category != "NP"}
+    cuts = sorted(cuts - {numbers[0], numbers[-1]})
+    parts = []
+    for first, last in zip([numbers[0], *cuts], [*cuts, numbers[-1]]):
+        part = [call for call in calls if first <= call.number <= last]
+        if first in cuts:
+            part[0] = part[0]._replace(arrival=part[0].departure, set_down="1")
+        if last in cuts:
+            part[-1] = part[-1]._replace(departure=part[-1].arrival, pick_up="1")
+        later = days_later * DAY
+        shown = tuple(call._replace(arrival=call.arrival + later, departure=call.departure + later)[1:] for call in part)
+        about = (train.row["identity"], train.row["operator_code"], types[kind_of(train.row)])
+        content = Content(uid, *about, train.calls[0].location, train.calls[-1].location, shown)
+        parts.append(Part(content, first, last, []))
+    for association, role in held:
+        number, ends = stops[association, role]["number"], (association.category == "JJ") != (role == "base")
+        part = next(part for part in parts if (part.last if ends else part.first) == number)
+        part.marks.append((role, association[:7]))
+    return parts
+
+
+def expected(days, types):
+    """What has to be there: for each date the contents of trips and the links between them; the number of dates on which an
+    association isn't shown; and the distinct trips, each a content with the associations at its ends."""
+    shown, left_out, moved = shown_and_moved(days)
+    held = defaultdict(list)
+    for association in shown:
+        base, associated = ends_of(association)
+        held[base].append((association, "base"))
+        held[associated].append((association, "associated"))
+    parts = {}
+    for day in days:
+        for uid, train in days[day].public.items():
+            parts[uid, day] = parts_of(uid, train, held[uid, day], int((uid, day) in moved), types)
+    trips, links = {day: Counter() for day in days}, {day: set() for day in days}
+    distinct = set()
+    for (uid, day), of_train in parts.items():
+        counts_to = day - timedelta(days=(uid, day) in moved)
+        for part in of_train:
+            trips[counts_to][part.content] += 1
+            distinct.add((part.content, len(of_train) > 1 or bool(part.marks), frozenset(part.marks)))
+        for one, other in zip(of_train, of_train[1:]):
+            links[counts_to].add((one.content, other.content))
+    for association in shown:
+        base, associated = ends_of(association)
+        one, other = (associated, base) if association.category == "JJ" else (base, associated)
+        ending = part_at(parts[one], association, "associated" if one is associated else "base")
+        beginning = part_at(parts[other], association, "associated" if other is associated else "base")
+        links[base[1] - timedelta(days=base in moved)].add((ending.content, beginning.content))
+    return trips, links, left_out, distinct
+
+
+def part_at(parts, association, role):
+    """The part of a train that an association links."""
+    return next(part for part in parts if (role, association[:7]) in part.marks)

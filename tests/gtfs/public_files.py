@@ -1,0 +1,141 @@
+"""The files that cif-gtfs-csv makes of made-up public ones, whose layouts are those of gtfs/cif_gtfs/public_files.py."""
+import csv
+import io
+from pathlib import Path
+
+NAPTAN = """\
+ATCOCode,NaptanCode,CommonName,Street,Longitude,Latitude,StopType
+0100BRP90310,bstgwpa,Temple Meads Stn,Redcliffe Way,-2.58569,51.44902,BCT
+9100VICTRIC,,London Victoria Rail Station,"Terminus Place, Victoria",-0.14453,51.49520,RLY
+9100CLPHMJC,,Clapham Junction Rail Station,,-0.17040,51.46421,RLY
+9100NOWHERE,,Nowhere Rail Station,,,,RLY
+9100BRGHTN,,"Brighton, the Station",,-0.14102,50.82906,RLY
+9100VICTRIC,,Again,,1,1,RLY
+"""
+OF_NAPTAN = """\
+tiploc,name,latitude,longitude
+BRGHTN,"Brighton, the Station",50.82906,-0.14102
+CLPHMJC,Clapham Junction,51.46421,-0.17040
+NOWHERE,Nowhere,,
+VICTRIC,London Victoria,51.49520,-0.14453
+"""
+
+
+def master(name, tiploc, crs, easting, northing, minutes):
+    """A record A of MSN."""
+    line = f"A    {name:30}2{tiploc:7}{crs:3}   {crs:3}{easting:5} {northing:5}{minutes:>2}"
+    return f"{line:80}"
+
+
+MSN = [
+    "A                             FILE-SPEC=05 1.00 01/01/26 18.09.21   1",
+    master("CLAPHAM JUNCTION", "CLPHMJC", "CLJ", "15273", "61755", 10),
+    master("LONDON VICTORIA", "VICTRIC", "VIC", "15289", "61790", 15),
+    master("LONDON VICTORIA", "VICTRIE", "VIC", "15289", "61790", 12),
+    master("STRATFORD-UPON-AVON", "STFDAVN", "SAV", "00000", "00000", 5),
+    "L    CLAPHAM JCN                        CLAPHAM JUNCTION",
+    "Z    ",
+]
+# The points are 527.3 km east and 175.5 km north of the grid's origin, and 528.9 and 179.0 km.
+OF_MSN = {"CLPHMJC": ("Clapham Junction", 51.4642, -0.1689), "VICTRIC": ("London Victoria", 51.4953, -0.1446)}
+OF_MSN |= {"VICTRIE": OF_MSN["VICTRIC"], "STFDAVN": ("Stratford-upon-Avon", None, None)}
+INTERCHANGE = "crs,minutes\nCLJ,10\nSAV,5\nVIC,15\n"
+ALF = """\
+/!! a remark
+M=WALK,O=EUS,D=KGX,T=10,S=0001,E=2359,P=4,R=1111111
+M=TUBE,O=EUS,D=KGX,T=12,S=0600,E=2359,P=5,R=1111100,F=01/02/2026,U=02/03/2026
+M=WALK,O=KGX,D=EUS,T=10,S=0001,E=2359,P=4,R=1111111
+M=WALK,O=KGX,D=KGX,T=3,S=0001,E=2359,P=4,R=1111111
+"""
+LINKS = "from,to,minutes\nEUS,KGX,12\nKGX,EUS,10\n"
+
+# A point whose coordinates the Ordnance Survey's guide to its grid has, from memory: on the grid, and on the grid's datum.
+POINT, ON_AIRY = (651409.903, 313177.270), (52 + 39 / 60 + 27.2531 / 3600, 1 + 43 / 60 + 4.5177 / 3600)
+# The same point in WGS 84, and how near that is reached, in degrees.
+IN_WGS_84, NEAR = (52 + 39 / 60 + 28.8282 / 3600, 1 + 42 / 60 + 57.8663 / 3600), 0.00007
+
+
+def with_record(*fields):
+    """The text of MSN with a further record."""
+    return "\n".join([*MSN, master("HOVE", *fields)])
+
+
+BAD = {
+    "naptan-places": (
+        ("ATCOCode,CommonName,Longitude\n", "line 1: the field Latitude is missing or double"),
+        (NAPTAN + "9100HOVE,,Hove,,-0.2,ninety,RLY\n", "line 8: Latitude `ninety` isn't a number of degrees from -90 to 90"),
+        (NAPTAN + "9100HOVE,,Hove,,-0.2,,RLY\n", "line 8: one of Longitude and Latitude is missing"),
+        (NAPTAN + "9100HOVE,,Hove\n", "line 8: 3 fields, and the first line has 7"),
+    ),
+    "msn-places": (
+        (with_record("", "HOV", "15288", "61055", 5), "line 8: the TIPLOC is missing"),
+        (with_record("HOVE", "HOV", "25288", "61055", 5), "line 8: easting `25288` isn't 1 and four digits"),
+        (with_record("HOVE", "HOV", "15288", "6105", 5), "line 8: northing `6105` isn't 6 and four digits"),
+        (NAPTAN, "line 2: no record of MSN begins so"),
+    ),
+    "msn-interchange": (
+        (with_record("HOVE", "H", "15288", "61055", 5), "line 8: CRS code `H` isn't three letters or digits"),
+        (with_record("HOVE", "HOV", "15288", "61055", ""), "line 8: minimum time of change `` isn't one or two digits"),
+    ),
+    "alf-links": (
+        (ALF + "M=WALK,O=EUS,T=10\n", "line 6: D= isn't a CRS code"),
+        (ALF + "M=WALK,O=EUS,D=KGX,T=ten\n", "line 6: T= isn't minutes"),
+    ),
+}
+
+
+def check_places_of_master(counts, text):
+    rows = list(csv.DictReader(io.StringIO(text, newline="")))
+    counts.same("msn-places, TIPLOCs", sorted(OF_MSN), [row["tiploc"] for row in rows])
+    for row in rows:
+        name, *degrees = OF_MSN[row["tiploc"]]
+        got = [float(row[field]) if row[field] else None for field in ("latitude", "longitude")]
+        near = all(abs(one - other) < 0.001 if one else one == other for one, other in zip(degrees, got))
+        counts.test(f"msn-places, {row['tiploc']}", row["name"] == name and near, row)
+
+
+def check_grid(counts):
+    from math import degrees
+
+    from cif_gtfs.grid import latitude_and_longitude, on_airy
+
+    for name, want, got, near in (
+        ("on the grid's datum", ON_AIRY, tuple(map(degrees, on_airy(*POINT))), 0.00000001),
+        ("in WGS 84", IN_WGS_84, latitude_and_longitude(*POINT), NEAR),
+    ):
+        counts.test(f"a point {name}", all(abs(one - other) < near for one, other in zip(want, got)), got)
+
+
+def check(counts, maker):
+    inputs = {"naptan-places": NAPTAN, "msn-places": "\r\n".join(MSN) + "\r\n", "msn-interchange": "\n".join(MSN)}
+    inputs["alf-links"] = ALF
+    outputs = {}
+    for kind, text in inputs.items():
+        (maker.folder / kind).write_bytes(text.encode())
+        done = maker.run(kind, kind, program="cif-gtfs-csv")
+        counts.same(f"{kind}, status and told", (0, ""), (done.returncode, done.stderr))
+        outputs[kind] = done.stdout
+        for bad, told in BAD[kind]:
+            (maker.folder / "bad").write_text(bad)
+            done = maker.run(kind, "bad", program="cif-gtfs-csv")
+            counts.same(f"{kind}, {told}", (3, "", f"cif-gtfs: bad: {told}\n"), (done.returncode, done.stdout, done.stderr))
+    for kind, want in ("naptan-places", OF_NAPTAN), ("msn-interchange", INTERCHANGE), ("alf-links", LINKS):
+        counts.same(kind, want, outputs[kind])
+    check_places_of_master(counts, outputs["msn-places"])
+    check_grid(counts)
+    for words, status in (("alf-links", "missing"), 4), (("alf-links",), 2), (("alf", "alf-links"), 2):
+        done = maker.run(*words, program="cif-gtfs-csv")
+        counts.test(f"cif-gtfs-csv {' '.join(words)}", done.returncode == status and done.stderr and not done.stdout, done)
+    check_taken(counts, maker, outputs)
+
+
+def check_taken(counts, maker, outputs):
+    """cif-gtfs takes what cif-gtfs-csv makes."""
+    options = []
+    for kind, text in outputs.items():
+        (maker.folder / f"{kind}.csv").write_text(text)
+        options.append((kind.partition("-")[2], f"{kind}.csv"))
+    example = Path(__file__).resolve().parents[2] / "examples" / "timetable.cif"
+    for name, path in options:
+        done = maker.run(f"--{name}", path, example)
+        counts.test(f"cif-gtfs with {path}", done.returncode == 1 and "line" not in done.stderr, done.stderr)
