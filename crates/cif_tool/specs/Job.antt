@@ -97,7 +97,8 @@ table_of name = if bytes_eq name (codes "header") then table.Header
     else (if bytes_eq name (codes "tiplocs") then table.Tiplocs
     else (if bytes_eq name (codes "associations") then table.Associations
     else (if bytes_eq name (codes "schedules") then table.Schedules
-    else (if bytes_eq name (codes "calls") then table.Calls else table.Changes))))
+    else (if bytes_eq name (codes "calls") then table.Calls
+    else (if bytes_eq name (codes "changes") then table.Changes else table.Public)))))
 
 -- the six columns of the word are a UID, and it is this one
 abbrev pub IsUidWord : Text → List ℕ → Type 0

@@ -459,7 +459,8 @@ fn table_of(word: &str) -> Table
         "associations" => Table::Associations,
         "schedules" => Table::Schedules,
         "calls" => Table::Calls,
-        _ => Table::Changes,
+        "changes" => Table::Changes,
+        _ => Table::Public,
     }
 }
 

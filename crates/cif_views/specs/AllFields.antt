@@ -14,6 +14,7 @@ use Rattle.cif_views.specs.Calls.{call_names, origin_fields, stop_fields, termin
 use Rattle.cif_views.specs.DifferenceTable.{association_head, difference_names, schedule_head, text, tiploc_head}
 use Rattle.cif_views.specs.Explanation.{Explained, explained_association_fields, explained_train_fields, explanation_names}
 use Rattle.cif_views.specs.Listing.{association_fields_of, date_field, day_names, train_names, uid_field}
+use Rattle.cif_views.specs.PublicCalls.{public_fields}
 use Rattle.cif_views.specs.Tables.{TableFields, association_fields, call_fields, change_fields, header_fields, names, row_fields}
 use Rattle.cif_views.specs.Tables.{schedule_fields, tiploc_fields}
 use Rattle.cif_views.specs.declared.listing.Listing.{Listing}
@@ -33,6 +34,7 @@ pub record TablesHaveAll : Type 0 where
   pub schedules : HaveAll schedule_fields
   pub calls : HaveAll call_fields
   pub changes : HaveAll change_fields
+  pub public : HaveAll public_fields
 
 -- a table of a day or of a train, with or without calls
 abbrev pub table_with : Bool → Listing

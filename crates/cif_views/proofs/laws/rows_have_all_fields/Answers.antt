@@ -11,6 +11,7 @@ returns-clause-tables c = record {
   schedules = λ row. refl;
   calls = λ row. refl;
   changes = λ row. refl;
+  public = λ row. refl;
 }
 
 pub returns-clause-calls : goal.returns-clause-calls
