@@ -9,6 +9,7 @@ mod Explaining
 pub mod Moments
 mod PairedBodies
 mod PairedJourneys
+mod PublicMoments
 pub mod PublicRows
 mod RowsOfDifferences
 pub mod TableRows

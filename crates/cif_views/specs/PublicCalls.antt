@@ -1,8 +1,7 @@
 -- The public calls of a schedule, and when they are.
-use Rattle.std.specs.Prelude.{◌≡◌, ⊤, ℕ, ◌-◌, ◌+◌, ◌*◌, ◌^◌, ◌<◌, ◌≤◌, Bool, true, false, not, ◌&&◌, ◌||◌, List, [], ◌∷◌, ◌++◌}
-use Rattle.std.specs.Prelude.{Option, None, Some, IfSome, IsNone, codes, decimal, is_some, map, max, nat_eq, nat_lt}
+use Rattle.std.specs.Prelude.{◌≡◌, ⊤, ℕ, ◌-◌, ◌+◌, Bool, not, ◌&&◌, ◌||◌, List, [], ◌∷◌, ◌++◌}
+use Rattle.std.specs.Prelude.{Option, None, Some, IfSome, IsNone, codes, is_some, map, max}
 use Rattle.std.specs.Prelude.{if◌then◌else◌}
-use Rattle.std.specs.Cmp.Lexicographic.{pointwise}
 use Rattle.std.specs.List.{filter}
 use Rattle.std.specs.Option.{option_and_then, option_or}
 use Rattle.cif_columns.specs.Activities.{codes_in, has_code}
@@ -12,14 +11,14 @@ use Rattle.cif_canon.specs.Lines.{ScheduleLines}
 use Rattle.cif_canon.specs.declared.rows.Shape.TheVariants.{Whole}
 use Rattle.cif_columns.specs.PublicTime.{public_seconds, public_time_in}
 use Rattle.cif_columns.specs.WorkTime.{work_seconds, work_time_in}
-use Rattle.cif_views.specs.Moments.{IsNearest, IsNext, day, in_day_from, midnight, time_text}
-use Rattle.cif_views.specs.Tables.{Numbered, TableFields, calls_of, is_call, kind_of_line, number, numbered_from, of_part, text_at}
+use Rattle.cif_views.specs.Moments.{IsNearest, IsNext, in_day_from, midnight, time_text}
+use Rattle.cif_views.specs.Tables.{Numbered, TableFields, calls_of, kind_of_line, number, numbered_from, text_at}
 use Rattle.cif_views.specs.declared.public_calls.CallTimes.{CallTimes}
 use Rattle.cif_views.specs.declared.public_calls.Journey.{Journey}
 use Rattle.cif_views.specs.declared.public_calls.Shown.{Shown}
 use Rattle.cif_views.specs.declared.public_calls.Stay.{Stay}
 use Rattle.cif_views.specs.declared.tables.JourneyKind.{JourneyKind}
-use Rattle.cif_views.specs.declared.tables.JourneyKind.TheVariants.{Change, Origin, Other, Stop, Terminus}
+use Rattle.cif_views.specs.declared.tables.JourneyKind.TheVariants.{Origin, Stop, Terminus}
 
 -- ---- what is read of a call's line
 
@@ -90,18 +89,20 @@ pub record TimedCall : Type 0 where
   pub reached : ℕ
   pub left : ℕ
 
--- The moments are those of the calls, one after another, where this is the moment before them, if there is one: the first is on the
--- schedule's date, and each further one is the next after the one before.
+-- m is the moment with this time of day behind this one; the first of all is on the schedule's date
+abbrev pub IsBehind : Option ℕ → ℕ → ℕ → Type 0
+IsBehind None seconds m = m ≡ midnight + seconds
+IsBehind (Some p) seconds m = IsNext p seconds m
+
+-- The call is reached behind this moment, and left behind that.
+pub record IsTimed (before : Option ℕ) (t : TimedCall) : Type 0 where
+  pub reached : IfSome (reached_at (times_of t.call.line)) (λ seconds. IsBehind before seconds t.reached)
+  pub left : IfSome (left_at (times_of t.call.line)) (λ seconds. IsNext t.reached seconds t.left)
+
+-- so is each of the calls behind the one before
 abbrev pub AreMoments : Option ℕ → List TimedCall → Type 0
 AreMoments before [] = ⊤
-AreMoments before (t ∷ timed) =
-    IfSome (reached_at (times_of t.call.line)) (λ seconds. IsReached before seconds t.reached)
-    × IfSome (left_at (times_of t.call.line)) (λ seconds. IsNext t.reached seconds t.left)
-    × AreMoments (Some t.left) timed
-  where
-    IsReached : Option ℕ → ℕ → ℕ → Type 0
-    IsReached None seconds m = m ≡ midnight + seconds
-    IsReached (Some p) seconds m = IsNext p seconds m
+AreMoments before (t ∷ timed) = IsTimed before t × AreMoments (Some t.left) timed
 
 -- these are the timed ones of the calls, in their order
 pub record AreTimed (calls : List Numbered) (timed : List TimedCall) : Type 0 where
@@ -129,14 +130,18 @@ pub record PublicCall : Type 0 where
   pub arrival : ℕ
   pub departure : ℕ
 
--- Moments that are shown don't fall: one that is before the one before it is raised to that.
+-- What is shown of a call, behind this moment: moments don't fall, so one that is before the one before it is raised to that.
+pub record IsShown (before : ℕ) (t : TimedCall) (p : PublicCall) : Type 0 where
+  pub arrival : ℕ
+  pub departure : ℕ
+  pub times : ArePublicTimes t arrival departure
+  pub call : p.call ≡ t.call
+  pub arrival_is : p.arrival ≡ max before arrival
+  pub departure_is : p.departure ≡ max p.arrival departure
+
 abbrev pub AreShown : ℕ → List TimedCall → List PublicCall → Type 0
 AreShown before [] [] = ⊤
-AreShown before (t ∷ timed) (p ∷ shown) = IsShown × AreShown p.departure timed shown
-  where
-    IsShown : Type 0
-    IsShown = (arrival departure : ℕ) × ArePublicTimes t arrival departure × (p.call ≡ t.call)
-        × (p.arrival ≡ max before arrival) × (p.departure ≡ max p.arrival departure)
+AreShown before (t ∷ timed) (p ∷ shown) = IsShown before t p × AreShown p.departure timed shown
 AreShown before timed shown = ⊥
 
 -- these are the public calls of a schedule, in their order; none is shown before the midnight at which its date begins
@@ -223,17 +228,18 @@ abbrev pub shown_of : ℕ → Stay → CallTimes → List (List ℕ) → Option 
 shown_of before at t activities =
     if is_advertised activities then shown_at before at t.public_arrival t.public_departure else None
 
--- what a line of this kind leaves of a journey, and its moments if it is a public call
-abbrev pub step : Journey → JourneyKind → List ℕ → Journey × Option Shown
-step j kind line = of_stay (stay j.left (times_in kind line))
-  where
-    of_shown : ℕ → Option Shown → Journey × Option Shown
-    of_shown gone None = (record { left = Some gone; shown = j.shown }, None)
-    of_shown gone (Some p) = (record { left = Some gone; shown = p.departure }, Some p)
+-- what a timed call leaves of a journey, and its moments if it is public
+abbrev pub behind_shown : Journey → Stay → Option Shown → Journey × Option Shown
+behind_shown j at None = (record { left = Some at.left; shown = j.shown }, None)
+behind_shown j at (Some p) = (record { left = Some at.left; shown = p.departure }, Some p)
 
-    of_stay : Option Stay → Journey × Option Shown
-    of_stay None = (j, None)
-    of_stay (Some at) = of_shown at.left (shown_of j.shown at (times_in kind line) (activities_in kind line))
+-- and what a line of this kind does
+abbrev pub behind_stay : Journey → JourneyKind → List ℕ → Option Stay → Journey × Option Shown
+behind_stay j kind line None = (j, None)
+behind_stay j kind line (Some at) = behind_shown j at (shown_of j.shown at (times_in kind line) (activities_in kind line))
+
+abbrev pub step : Journey → JourneyKind → List ℕ → Journey × Option Shown
+step j kind line = behind_stay j kind line (stay j.left (times_in kind line))
 
 abbrev pub public_call : Numbered → Option Shown → List PublicCall
 public_call c None = []

@@ -9,12 +9,14 @@ ghost use Rattle.cif_calendar.specs.declared.day_state.DayState.{DayState};
 ghost use Rattle.cif_canon.specs.Accepted.{IsAccepted};
 ghost use Rattle.cif_canon.specs.Differences.{AreDifferences, AreNone, DifferencesParts};
 ghost use Rattle.cif_canon.specs.declared.asked.Asked.{Asked};
+ghost use Rattle.cif_canon.specs.Lines.{ScheduleLines};
 ghost use Rattle.cif_extract.specs.ExtractParts.{ExtractParts};
 ghost use Rattle.cif_views.specs.AllFields.{CallsHaveAll, DayRowsHaveAll, DifferenceRowsHaveAll};
 ghost use Rattle.cif_views.specs.AllFields.{ExplainedRowsHaveAll, TablesHaveAll, TrainRowsHaveAll};
 ghost use Rattle.cif_views.specs.DifferenceTable.{difference_names, difference_table};
 ghost use Rattle.cif_views.specs.Explanation.{AreExplained, Explained, HasWinningMark};
 ghost use Rattle.cif_views.specs.Explanation.{SomeApplies};
+ghost use Rattle.cif_views.specs.PublicCalls.{ArePublicCalls, public_calls};
 ghost use Rattle.cif_views.specs.RowsOfDifferences.{HaveRows};
 ghost use Rattle.cif_views.specs.Tables.{names_line};
 ghost use Rattle.cif_views.specs.WeekCalendar.{IsRunningLetter};
@@ -67,4 +69,9 @@ pub fn letters_say_what_runs<E: Entry>()
         → AreLawful (of_key entries key) → IsDayState (of_key entries key) day state
         → IsRunningLetter state ↔ (IsClear (of_key entries key) day
         × ((body : E.Body) × Runs (of_key entries key) day (Some body))) }
+{}
+
+/// The public calls that a table shows of a schedule are those by the definition of moments.
+pub fn public_calls_are_by_moments()
+    ensures { (s : ℕ × ScheduleLines) → ArePublicCalls s (public_calls s) }
 {}
