@@ -255,6 +255,17 @@ fn write_public_call<W: WriteDevice>(
     ensures same { row.new ≡ row.old }
 {
     let begun = row.len();
+    push_public_call(row, call, line, shown);
+    row.write_and_keep(begun, sink);
+}
+
+/// Appends the number of a public call, and its fields.
+fn push_public_call(row: &mut TableRow, call: usize, line: &Line, shown: &Shown)
+    requires room { length row.old ≤ 41 }
+    requires shown { IsToShow shown.now }
+    ensures text { row.new ≡ row.old ++ after Tsv (behind_schedule call line.now shown.now) }
+    ensures len { length row.new ≤ 300 }
+{
     let kind = kind_of_line(line);
     let times = CallTimes::of(kind, line);
     let activities = activities_of(kind, line);
@@ -265,7 +276,6 @@ fn write_public_call<W: WriteDevice>(
     row.push(Shape::Whole, shown.departure.text().as_str().as_bytes());
     row.push(Shape::Whole, set_down(&activities, &times).as_bytes());
     row.push(Shape::Whole, pick_up(&activities, &times).as_bytes());
-    row.write_and_keep(begun, sink);
 }
 
 /// Appends the row of the line, if it is a public call. The journey goes on behind it.
