@@ -292,7 +292,8 @@ pub(crate) const FULL: &str = "The full extract; - is standard input";
 
 pub(crate) const UPDATES: &str = "The update extracts, in their order; - is standard input";
 
-pub(crate) const TABLES: &str = "One of header, tiplocs, associations, schedules, calls, changes, public";
+pub(crate) const TABLES: &str =
+    "header, tiplocs, associations, schedules, calls, changes or public";
 
 pub(crate) const DATE: &str = "The date, such as 260114 for 14 January 2026";
 
