@@ -192,7 +192,15 @@ pub(crate) const CHANGE: [Column; 21] = [
 
 /// The fields up to the days run of TI, in the table of differences.
 pub(crate) const TIPLOC_HEAD: [Column; 9] = [
-    TIPLOC_CODE, NOTHING, NOTHING, NOTHING, NOTHING, NOTHING, NOTHING, NOTHING, NOTHING,
+    TIPLOC_CODE,
+    NOTHING,
+    NOTHING,
+    NOTHING,
+    NOTHING,
+    NOTHING,
+    NOTHING,
+    NOTHING,
+    NOTHING,
 ];
 
 /// Those of AA.

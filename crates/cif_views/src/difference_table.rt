@@ -17,8 +17,10 @@ ghost use Rattle.cif_views.specs.Steps.DifferenceRows.{are_texts, count_of_calls
 ghost use Rattle.cif_views.specs.Steps.DifferenceRows.{own_columns, place_behind, places_behind, same_places};
 ghost use Rattle.cif_views.specs.declared.tables.JourneyKind.TheVariants.{Other};
 
-use crate::columns::{ASSOCIATION, ASSOCIATION_HEAD, BASIC, BASIC_HEAD, CALL, CHANGE, Column};
-use crate::columns::{EXTRA, Span, TIPLOC_HEAD, span_in};
+use crate::columns::{
+    ASSOCIATION, ASSOCIATION_HEAD, BASIC, BASIC_HEAD, CALL, CHANGE, Column, EXTRA, Span,
+    TIPLOC_HEAD, span_in,
+};
 use crate::table_row::{TableRow, columns_of};
 use crate::tables::{JourneyKind, call_after, extra_among, kind_of_line};
 use cif_canon::rows::used_columns;
