@@ -138,12 +138,7 @@ fn line_of(counts: &Counts) -> ArrayString<LONGEST_COUNTS>
 }
 
 /// Appends the texts of the runs' records.
-pub(crate) fn write_runs<
-    'a,
-    E: Entry,
-    L: Texts<CanonRecord<'a, E::Key, E::Body>>,
-    W: WriteDevice,
->(
+pub(crate) fn write_runs<'a, E: Entry, L: Texts<CanonRecord<'a, E::Key, E::Body>>, W: WriteDevice>(
     texts: &L,
     entries: &'a [E],
     runs: &'a [Run],

@@ -138,13 +138,7 @@ fn write_sided_runs<
     E: Entry,
     L: Texts<Sided<CanonRecord<'a, E::Key, E::Body>>>,
     W: WriteDevice,
->(
-    texts: &L,
-    left: &'a [E],
-    right: &'a [E],
-    runs: &'a [Sided<Run>],
-    sink: &mut Sink<W>,
-)
+>(texts: &L, left: &'a [E], right: &'a [E], runs: &'a [Sided<Run>], sink: &mut Sink<W>)
     requires within { All (λ run. run.it.source < length (at_side left.now right.now run.side)) runs.now }
     requires records { All (HasSidedRecord (keyed E.key E.terms left.now) (keyed E.key E.terms right.now)) runs.now }
     ensures { IsAppended W.contents W.write_errors

@@ -71,12 +71,7 @@ impl<'a> Differences<'a> {
 }
 
 /// Appends the texts of the runs' records, by pairs.
-fn write_pairs<
-    'a,
-    E: Entry,
-    L: Texts<ListedRecord<'a, E::Key, E::Body>>,
-    W: WriteDevice,
->(
+fn write_pairs<'a, E: Entry, L: Texts<ListedRecord<'a, E::Key, E::Body>>, W: WriteDevice>(
     texts: &L,
     left: &'a [E],
     right: &'a [E],
@@ -97,12 +92,7 @@ fn write_pairs<
 }
 
 /// Appends the text of the first run's record or of the pair that it begins, and gives the other runs.
-fn write_first<
-    'a,
-    E: Entry,
-    L: Texts<ListedRecord<'a, E::Key, E::Body>>,
-    W: WriteDevice,
->(
+fn write_first<'a, E: Entry, L: Texts<ListedRecord<'a, E::Key, E::Body>>, W: WriteDevice>(
     texts: &L,
     left: &'a [E],
     right: &'a [E],

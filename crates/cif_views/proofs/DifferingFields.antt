@@ -14,7 +14,8 @@ use Rattle.cif_views.specs.declared.columns.Place.{Place}
 use Rattle.cif_views.specs.declared.columns.Place.TheVariants as place
 use Rattle.cif_views.specs.Steps.Columns.{call_columns, change_columns, column, named}
 use Rattle.cif_views.proofs.Words.{Change, Column, Field, JourneyKind, Origin, Other, Stop, TableFields, Terminus, Tsv, after}
-use Rattle.cif_views.proofs.Words.{bytes_decides, columns, count_of_calls, differing_row, differing_rows, field_in, field_row, fields_in, find}
+use Rattle.cif_views.proofs.Words.{bytes_decides, columns, count_of_calls, differing_row, differing_rows, field_in, field_row, fields_in}
+use Rattle.cif_views.proofs.Words.{find}
 use Rattle.cif_views.proofs.Words.{flat_map, is_call, is_change, journey_kind, kind_of_line, number, own_columns, own_fields, place_behind}
 use Rattle.cif_views.proofs.Words.{places_behind, pointwise, row_behind, row_fields, same_places, shown, trimmed, Whole}
 use Rattle.cif_views.proofs.TableRows.{behind-row, call-fields, within-span}
@@ -131,7 +132,8 @@ same-kind line other same =
     ap (λ (two : List ℕ). journey_kind (find (is_identity two) kinds))
     (sym (take-take 2 10 (drop 0 other) (omega arith)) ∙ ap (take 2) (sym same) ∙ take-take 2 10 (drop 0 line) (omega arith))
 
-module _ (first : Field) (start : List Field) (begun : List ℕ) (is : begun ≡ after Tsv (first ∷ start)) (call : ℕ) (line other : List ℕ) where
+module _ (first : Field) (start : List Field) (begun : List ℕ) (is : begun ≡ after Tsv (first ∷ start)) (call : ℕ)
+    (line other : List ℕ) where
   abbrev begins : List Field
   begins = number call ∷ fields_in Other (take 2 call_columns) line
 
@@ -154,7 +156,8 @@ module _ (first : Field) (start : List Field) (begun : List ℕ) (is : begun ≡
   place-rows Terminus e f = called Terminus e f
   place-rows Other e f = called Other e f
   place-rows Change e f =
-      differing first (start ++ begins) (begun ++ after Tsv begins) begun-so own_change_fields (drop 2 change_columns) Change line other refl refl
+      differing first (start ++ begins) (begun ++ after Tsv begins) begun-so own_change_fields (drop 2 change_columns) Change line other
+      refl refl
       refl
 
 -- whether journeys with lines have the same places, by a test of what stands in the first lines

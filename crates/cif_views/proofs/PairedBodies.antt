@@ -1,5 +1,6 @@
 -- Where a pair of schedules has no row, their bodies are the same; and so it is with associations.
-use Rattle.std.proofs.Common.{◌≡◌, ℕ, ◌+◌, ◌<◌, Bool, true, false, List, [], ◌∷◌, ◌++◌, Option, None, Some, codes, cond, drop, length, get_or}
+use Rattle.std.proofs.Common.{◌≡◌, ℕ, ◌+◌, ◌<◌, Bool, true, false, List, [], ◌∷◌, ◌++◌, Option, None, Some, codes, cond, drop, length}
+use Rattle.std.proofs.Common.{get_or}
 use Rattle.std.proofs.Common.{◌∙◌, ap, ap₂, arith, map, refl, replicate, subst, sym, take}
 use Rattle.std.specs.Prelude.{IsTrue}
 use Rattle.std.specs.Cmp.Lexicographic.{bytes_decides}
@@ -71,7 +72,8 @@ module _ (begun : List ℕ) (call : ℕ) (l m : List ℕ) (left : IsLine l) (rig
   same-place (of.Origin r) is h = by-cells kinds_of.Origin (of.Origin r) (ap journey_kind (records.kind_there m (of.Origin r) h)) refl
   same-place (of.Stop r) is h = by-cells kinds_of.Stop (of.Stop r) (ap journey_kind (records.kind_there m (of.Stop r) h)) refl
   same-place (of.Change r) is h = by-cells kinds_of.Change (of.Change r) (ap journey_kind (records.kind_there m (of.Change r) h)) refl
-  same-place (of.Terminus r) is h = by-cells kinds_of.Terminus (of.Terminus r) (ap journey_kind (records.kind_there m (of.Terminus r) h)) refl
+  same-place (of.Terminus r) is h = by-cells kinds_of.Terminus (of.Terminus r) (ap journey_kind (records.kind_there m (of.Terminus r) h))
+      refl
   same-place _ is h = absurd is
 
 -- ---- two journeys
@@ -222,7 +224,8 @@ same-extra (Some e) None one other identity same = absurd (shown-extra e one.0 i
 same-extra (Some e) (Some f) one other identity same =
     let l = plain_line (record_table (of.Extra e)) in
     let m = plain_line (record_table (of.Extra f)) in
-    let all = all-covered l m 0 kinds_of.Other refl (same-at l m (records.line (of.Extra e) one.0) (records.line (of.Extra f) other.0)) extra_columns
+    let all = all-covered l m 0 kinds_of.Other refl (same-at l m (records.line (of.Extra e) one.0) (records.line (of.Extra f) other.0))
+        extra_columns
     (record_table (of.Extra f)) refl (ap₂ (λ (c : List ℕ) (cells : List (List ℕ)). c ∷ cells) identity same) in
     let spelled = records.spells (of.Extra f) other.0 in
     let record_is = records.one_record l (of.Extra e) (of.Extra f) (records.spells (of.Extra e) one.0)

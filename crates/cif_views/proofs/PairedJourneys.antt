@@ -11,7 +11,8 @@ use Rattle.cif_views.specs.DifferenceTable.{call_count, journey_differences, jou
 use Rattle.cif_views.specs.DifferenceTable.{text}
 use Rattle.cif_views.specs.Tables.{category_fields, detail_fields, extra_fields, extra_identity, names, type_fields}
 use Rattle.cif_views.specs.Steps.Columns.{association_columns, basic_columns, extra_columns}
-use Rattle.cif_views.proofs.Words.{Column, Field, IsAppended, Left, Numbered, Other, Right, ScheduleLines, Side, TableFields, Trimmed, Tsv, after}
+use Rattle.cif_views.proofs.Words.{Column, Field, IsAppended, Left, Numbered, Other, Right, ScheduleLines, Side, TableFields, Trimmed, Tsv}
+use Rattle.cif_views.proofs.Words.{after}
 use Rattle.cif_views.proofs.Words.{association_differences, association_head, bytes_decides, change_of, changed, columns, count_of_calls}
 use Rattle.cif_views.proofs.Words.{differing_row, differing_rows, extra_in, field_row, fields_in, flat_map, in_record, is_call}
 use Rattle.cif_views.proofs.Words.{journeys_behind, kind_of_line, line_of, nothing, number, numbered_from, places_behind, replicate}
@@ -68,7 +69,8 @@ module _ (first : Field) (start : List Field) (begun : List ℕ) (is : begun ≡
       ap₂ (λ (row rows : List ℕ). row ++ rows)
       (sym (place-rows first start begun is call line other (kind_of_line line) refl
       (same-kind line other ((bytes_decides (columns 1 10 line) (columns 1 10 other)).0 place))))
-      (by-lines (cond (is_call (kind_of_line line)) (call + 1) call) (cond (is_call (kind_of_line other)) (next + 1) next) lefts rights later)
+      (by-lines (cond (is_call (kind_of_line line)) (call + 1) call) (cond (is_call (kind_of_line other)) (next + 1) next) lefts rights
+      later)
 
   pub journeys-by-lines : (lefts rights : List (List ℕ)) →
       journey_differences (first ∷ start) (numbered_from 0 1 lefts) (numbered_from 0 1 rights) ≡ journeys_behind begun lefts rights
@@ -116,7 +118,8 @@ module _ (l m : List ℕ) {W : Type 0} (contents : W → Option (List ℕ)) (err
       (differing_rows begins (category_fields ++ type_fields) l m) s u
       (sym (flat_map-append (λ f. if pointwise nat_eq (shown Tsv (f.1 l)) (shown Tsv (f.1 m)) then [] else differing_row begins f.0 (f.1 l)
       (f.1 m)) category_fields type_fields))
-      (both contents errors _ _ s t u (text-is contents errors _ _ s t (written category_fields (take 2 (drop 5 association_columns)) refl refl refl) one)
+      (both contents errors _ _ s t u (text-is contents errors _ _ s t
+      (written category_fields (take 2 (drop 5 association_columns)) refl refl refl) one)
       (text-is contents errors _ _ t u (written type_fields (drop 10 association_columns) refl refl refl) two))
 
 -- ---- a pair of schedules

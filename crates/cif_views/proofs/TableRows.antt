@@ -1,5 +1,6 @@
 -- The rows of tables, as they are made field by field.
-use Rattle.std.proofs.Common.{◌≡◌, ◌≢◌, ℕ, ◌+◌, ◌-◌, ◌<◌, ◌≤◌, Bool, true, false, Bor, IsTrue, List, [], ◌∷◌, ◌++◌, codes, cond, drop, length, ◌∙◌}
+use Rattle.std.proofs.Common.{◌≡◌, ◌≢◌, ℕ, ◌+◌, ◌-◌, ◌<◌, ◌≤◌, Bool, true, false, Bor, IsTrue, List, [], ◌∷◌, ◌++◌, codes, cond, drop}
+use Rattle.std.proofs.Common.{length, ◌∙◌}
 use Rattle.std.proofs.Common.{append-nil, append_assoc, ap, arith, inl, inr, length-append, refl, subst, sym, take}
 use borrow.Rule.Slice.PartMut.{put_mid}
 use Rattle.std.specs.Prelude.{◌⊎◌, slice_index_or, slice_set}

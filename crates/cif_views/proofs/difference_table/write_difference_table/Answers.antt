@@ -21,7 +21,8 @@ returns-clause-writes g c =
     c.list_tiplocs.ensures)
     (both _ _ two three _ _ _
     (text-is _ _ _ _ _ _
-    (sym (flat_map-map association_differences (listed_as association_plain) (by_pairs key_cmp d.associations))) c.list_associations.ensures)
+    (sym (flat_map-map association_differences (listed_as association_plain) (by_pairs key_cmp d.associations)))
+    c.list_associations.ensures)
     (text-is _ _ _ _ _ _
     (sym (flat_map-map schedule_differences (listed_as schedule_plain) (by_pairs (slice_cmp nat_cmp) d.schedules)))
     c.list_schedules.ensures))))

@@ -10,11 +10,13 @@ use Rattle.cif_views.proofs.difference_table.write_field.Goals as goal
 
 pub text_of-one-requires : goal.text_of-one-requires
 text_of-one-requires g c =
-    subst (λ (s : ℕ × ℕ). IsTrue (is_span s)) (sym c.span_in-span.ensures) (text-span (column c.args.field.now) c.requires.field c.args.kind)
+    subst (λ (s : ℕ × ℕ). IsTrue (is_span s)) (sym c.span_in-span.ensures)
+    (text-span (column c.args.field.now) c.requires.field c.args.kind)
 
 pub text_of-other-requires : goal.text_of-other-requires
 text_of-other-requires g c =
-    subst (λ (s : ℕ × ℕ). IsTrue (is_span s)) (sym c.span_in-span.ensures) (text-span (column c.args.field.now) c.requires.field c.args.kind)
+    subst (λ (s : ℕ × ℕ). IsTrue (is_span s)) (sym c.span_in-span.ensures)
+    (text-span (column c.args.field.now) c.requires.field c.args.kind)
 
 pub push_text-requires : goal.push_text-requires
 push_text-requires g c =
@@ -31,7 +33,8 @@ pub returns : goal.returns
 returns g c =
     let one = c.text_of-one.result.now in
     let other = c.text_of-other.result.now in
-    let h1 = more-pushed _ _ _ _ (text c.args.field.now.0.now ∷ []) (copied c.args.begun.now _ c.copy-row.ensures) c.push_text.ensures.text in
+    let h1 = more-pushed _ _ _ _ (text c.args.field.now.0.now ∷ []) (copied c.args.begun.now _ c.copy-row.ensures)
+        c.push_text.ensures.text in
     let h2 = more-pushed _ _ _ _ ((Whole, one) ∷ []) h1 (as-field _ _ Whole one c.push.ensures.text) in
     let h3 = more-pushed _ _ _ _ ((Whole, other) ∷ []) h2 (as-field _ _ Whole other c.push-2.ensures.text) in
     text-is _ _ _ _ _ _

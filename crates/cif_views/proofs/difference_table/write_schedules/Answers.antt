@@ -6,7 +6,8 @@ use Rattle.cif_views.proofs.difference_table.write_schedules.Goals as goal
 
 pub returns : goal.returns
 returns g c =
-    schedule-written (schedule_plain c.args.left.now) (schedule_plain c.args.right.now) _ _ _ _ _ _ _ _ c.basic-one.ensures c.basic-other.ensures
+    schedule-written (schedule_plain c.args.left.now) (schedule_plain c.args.right.now) _ _ _ _ _ _ _ _ c.basic-one.ensures
+    c.basic-other.ensures
     (c.extra_among-extra.ensures ∙ ap extra_in c.further-lefts.ensures)
     (c.extra_among-other_extra.ensures ∙ ap extra_in c.further-rights.ensures)
     (c.journey_among.ensures ∙ ap without_extra c.further-lefts.ensures)

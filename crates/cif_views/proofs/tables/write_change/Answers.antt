@@ -8,17 +8,20 @@ use Rattle.cif_views.proofs.tables.write_change.Goals as goal
 
 pub write_and_keep-requires-clause-some : goal.write_and_keep-requires-clause-some
 write_and_keep-requires-clause-some g c =
-    (behind _ _ (number c.args.call ∷ fields_in Change change_columns c.args.line.now) _ c.push_change.ensures.text c.len-begun.ensures).some
+    (behind _ _ (number c.args.call ∷ fields_in Change change_columns c.args.line.now) _ c.push_change.ensures.text
+    c.len-begun.ensures).some
     c.requires.begun
 
 pub write_and_keep-requires-clause-begun : goal.write_and_keep-requires-clause-begun
 write_and_keep-requires-clause-begun g c =
-    (behind _ _ (number c.args.call ∷ fields_in Change change_columns c.args.line.now) _ c.push_change.ensures.text c.len-begun.ensures).begun
+    (behind _ _ (number c.args.call ∷ fields_in Change change_columns c.args.line.now) _ c.push_change.ensures.text
+    c.len-begun.ensures).begun
 
 pub returns-clause-text : goal.returns-clause-text
 returns-clause-text g c =
     text-is _ _ _ _ _ _
-    (behind _ _ (number c.args.call ∷ fields_in Change change_columns c.args.line.now) _ c.push_change.ensures.text c.len-begun.ensures).text
+    (behind _ _ (number c.args.call ∷ fields_in Change change_columns c.args.line.now) _ c.push_change.ensures.text
+    c.len-begun.ensures).text
     c.write_and_keep.ensures.text
 
 pub returns-clause-same : goal.returns-clause-same

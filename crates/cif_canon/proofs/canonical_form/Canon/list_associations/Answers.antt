@@ -21,7 +21,7 @@ write_runs-requires g c κs = (
   (refl, tt),
   (
     sources-within association_entry c.as_slice.result.now c.as_slice-2.result.now
-          (rw (c.as_slice.ensures.value, c.as_slice-2.ensures.value) c.self.invariant.0),
+        (rw (c.as_slice.ensures.value, c.as_slice-2.ensures.value) c.self.invariant.0),
     rw (c.as_slice.ensures.value, c.as_slice-2.ensures.value) c.self.invariant.0,
   ),
 )

@@ -23,7 +23,7 @@ write_runs-requires g c κs = (
   (refl, tt),
   (
     sources-within association_entry c.as_slice-2.result.now c.as_slice-3.result.now
-          (rw (c.as_slice-2.ensures.value, c.as_slice-3.ensures.value) c.self.invariant.0),
+        (rw (c.as_slice-2.ensures.value, c.as_slice-3.ensures.value) c.self.invariant.0),
     rw (c.as_slice-2.ensures.value, c.as_slice-3.ensures.value) c.self.invariant.0,
   ),
 )

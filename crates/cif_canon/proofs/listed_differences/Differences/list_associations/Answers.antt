@@ -9,7 +9,8 @@ use Rattle.cif_canon.proofs.listed_differences.Differences.list_associations.Goa
 
 pub returns : goal.returns
 returns g c =
-    text-is _ _ _ _ _ _ (ap (λ (d : DifferencesParts). flat_map (g.L.Texts.text c.args.texts.now) (by_pairs key_cmp d.associations)) c.self.view_is)
+    text-is _ _ _ _ _ _ (ap (λ (d : DifferencesParts). flat_map (g.L.Texts.text c.args.texts.now) (by_pairs key_cmp d.associations))
+    c.self.view_is)
     (rw (c.as_slice.ensures.value, c.as_slice-2.ensures.value, c.as_slice-3.ensures.value) at c.write_pairs.ensures)
 
 pub write_pairs-requires : goal.write_pairs-requires
@@ -17,7 +18,7 @@ write_pairs-requires g c κs = (
   (refl, tt),
   (
     sided-within association_entry c.as_slice.result.now c.as_slice-2.result.now c.as_slice-3.result.now
-      (rw (c.as_slice.ensures.value, c.as_slice-2.ensures.value, c.as_slice-3.ensures.value) c.self.invariant.0),
+        (rw (c.as_slice.ensures.value, c.as_slice-2.ensures.value, c.as_slice-3.ensures.value) c.self.invariant.0),
     rw (c.as_slice.ensures.value, c.as_slice-2.ensures.value, c.as_slice-3.ensures.value) c.self.invariant.0,
   ),
 )

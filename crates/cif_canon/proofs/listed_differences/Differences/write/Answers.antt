@@ -24,7 +24,7 @@ write_sided_runs-requires g c κs = (
   (refl, tt),
   (
     sided-within association_entry c.as_slice-2.result.now c.as_slice-3.result.now c.as_slice-4.result.now
-          (rw (c.as_slice-2.ensures.value, c.as_slice-3.ensures.value, c.as_slice-4.ensures.value) c.self.invariant.0),
+        (rw (c.as_slice-2.ensures.value, c.as_slice-3.ensures.value, c.as_slice-4.ensures.value) c.self.invariant.0),
     rw (c.as_slice-2.ensures.value, c.as_slice-3.ensures.value, c.as_slice-4.ensures.value) c.self.invariant.0,
   ),
 )
@@ -34,7 +34,7 @@ write_sided_runs-requires-2 g c κs = (
   (refl, tt),
   (
     sided-within schedule_entry c.as_slice-5.result.now c.as_slice-6.result.now c.as_slice-7.result.now
-          (rw (c.as_slice-5.ensures.value, c.as_slice-6.ensures.value, c.as_slice-7.ensures.value) c.self.invariant.1),
+        (rw (c.as_slice-5.ensures.value, c.as_slice-6.ensures.value, c.as_slice-7.ensures.value) c.self.invariant.1),
     rw (c.as_slice-5.ensures.value, c.as_slice-6.ensures.value, c.as_slice-7.ensures.value) c.self.invariant.1,
   ),
 )

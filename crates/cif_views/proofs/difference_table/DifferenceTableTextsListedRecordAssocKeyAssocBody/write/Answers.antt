@@ -3,7 +3,8 @@ use Rattle.std.proofs.Common.{◌++◌, ◌∙◌, List, Option, Some, ap, codes
 use Rattle.cif_canon.specs.Pairs.{Listed, listed_as}
 use Rattle.cif_canon.proofs.AppendedTexts.{text-is}
 use Rattle.cif_views.specs.Tables.{category_fields, type_fields}
-use Rattle.cif_views.proofs.Words.{AssocBody, AssocKey, Field, Permanent, Trimmed, association_differences, association_head, association_plain}
+use Rattle.cif_views.proofs.Words.{AssocBody, AssocKey, Field, Permanent, Trimmed, association_differences, association_head}
+use Rattle.cif_views.proofs.Words.{association_plain}
 use Rattle.cif_views.proofs.Words.{change_of, changed, differing_rows, in_record, nothing, single_row}
 use Rattle.cif_views.proofs.PairedJourneys.{shown-change}
 use Rattle.cif_views.proofs.TableRows.{behind-row}

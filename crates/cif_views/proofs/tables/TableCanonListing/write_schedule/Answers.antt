@@ -15,7 +15,8 @@ returns-in-Calls g c = rw c.in-Calls.is
 pub returns-in-Changes : goal.returns-in-Changes
 returns-in-Changes g c = rw c.in-Changes.is
     (text-is _ _ _ _ _ _
-    (ap (journey_rows false c.args.number) c.further-in-Changes.ensures ∙ changes-of_lines c.args.number (schedule_plain c.args.schedule.now))
+    (ap (journey_rows false c.args.number) c.further-in-Changes.ensures ∙ changes-of_lines c.args.number
+    (schedule_plain c.args.schedule.now))
     c.write_journey-in-Changes.ensures)
 
 pub returns-in-Schedules : goal.returns-in-Schedules
