@@ -225,7 +225,7 @@ same-extra (Some e) (Some f) one other identity same =
     let l = plain_line (record_table (of.Extra e)) in
     let m = plain_line (record_table (of.Extra f)) in
     let all = all-covered l m 0 kinds_of.Other refl (same-at l m (records.line (of.Extra e) one.0) (records.line (of.Extra f) other.0))
-        extra_columns
+    extra_columns
     (record_table (of.Extra f)) refl (ap₂ (λ (c : List ℕ) (cells : List (List ℕ)). c ∷ cells) identity same) in
     let spelled = records.spells (of.Extra f) other.0 in
     let record_is = records.one_record l (of.Extra e) (of.Extra f) (records.spells (of.Extra e) one.0)

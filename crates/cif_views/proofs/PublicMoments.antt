@@ -109,7 +109,8 @@ times-within Terminus line = record {
   public_arrival = advertised-within (columns 16 19 line);
   public_departure = tt {0};
 }
-times-within Change line = record { arrival = tt {0}; pass = tt {0}; departure = tt {0}; public_arrival = tt {0}; public_departure = tt {0} }
+times-within Change line =
+    record { arrival = tt {0}; pass = tt {0}; departure = tt {0}; public_arrival = tt {0}; public_departure = tt {0} }
 times-within Other line = record { arrival = tt {0}; pass = tt {0}; departure = tt {0}; public_arrival = tt {0}; public_departure = tt {0} }
 
 either-within : (a b : Option ℕ) → IfSome a (λ s. s < 86400) → IfSome b (λ s. s < 86400) → IfSome (option_or a b) (λ s. s < 86400)

@@ -11,7 +11,8 @@ use Rattle.cif_views.specs.declared.public_calls.CallTimes.{CallTimes}
 use Rattle.cif_views.specs.declared.public_calls.Journey.{Journey}
 use Rattle.cif_views.specs.declared.public_calls.Shown.{Shown}
 use Rattle.cif_views.proofs.TableRows.{behind-row}
-use Rattle.cif_views.proofs.Words.{JourneyKind, Numbered, Tsv, Whole, after, is_call, kind_of_line, number, numbered_from, row_line, text_at}
+use Rattle.cif_views.proofs.Words.{JourneyKind, Numbered, Tsv, Whole, after, is_call, kind_of_line}
+use Rattle.cif_views.proofs.Words.{number, numbered_from, row_line, text_at}
 
 -- what is read of a line of this kind is what is read of the line
 module _ (kind : JourneyKind) (line : List ℕ) (activities : List (List ℕ)) (times : CallTimes) (is_kind : kind ≡ kind_of_line line)

@@ -12,7 +12,8 @@ returns-in_err-stretches g c =
     laid-memory _ _ _ _ c.from_residual-in_err-stretches.result c.from_residual-in_err-stretches.ensures.1
 
 pub stretches_of-requires-clause-alike : goal.stretches_of-requires-clause-alike
-stretches_of-requires-clause-alike g c = rw (c.as_mut_slice.ensures.value, c.in_ok-alike.ensures.items_if_clones_equal (λ y h. search rules))
+stretches_of-requires-clause-alike g c =
+    rw (c.as_mut_slice.ensures.value, c.in_ok-alike.ensures.items_if_clones_equal (λ y h. search rules))
     (alike-none (map g.E.Entry.terms c.args.entries.now) c.args.members.now)
 
 pub returns : goal.returns

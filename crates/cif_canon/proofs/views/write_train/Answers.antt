@@ -10,7 +10,7 @@ use Rattle.cif_canon.proofs.views.write_train.Goals as goal
 pub write_runs-requires : goal.write_runs-requires
 write_runs-requires g c κs =
     let records = have-lines (slice_cmp nat_cmp) c.args.form (header_window c.args.extract.now.header) schedule_entry
-        c.as_slice.result.now _
+    c.as_slice.result.now _
     c.as_slice-2.result.now _ c.as_slice.ensures.value c.as_slice-2.ensures.value c.in_ok-runs.ensures.schedules in
     ((refl, tt), (sources-within schedule_entry c.as_slice.result.now c.as_slice-2.result.now records, records))
 

@@ -34,7 +34,7 @@ returns g c =
     let one = c.text_of-one.result.now in
     let other = c.text_of-other.result.now in
     let h1 = more-pushed _ _ _ _ (text c.args.field.now.0.now ∷ []) (copied c.args.begun.now _ c.copy-row.ensures)
-        c.push_text.ensures.text in
+    c.push_text.ensures.text in
     let h2 = more-pushed _ _ _ _ ((Whole, one) ∷ []) h1 (as-field _ _ Whole one c.push.ensures.text) in
     let h3 = more-pushed _ _ _ _ ((Whole, other) ∷ []) h2 (as-field _ _ Whole other c.push-2.ensures.text) in
     text-is _ _ _ _ _ _

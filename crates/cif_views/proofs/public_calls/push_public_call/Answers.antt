@@ -18,7 +18,8 @@ returns-clause-text c =
     ∙ ap (λ (cs : List ℕ). c.push_number.new.self ++ (9 ∷ in_table Trimmed cs)) c.columns_at.ensures.value in
     let h1 = more-pushed _ _ _ _ ((Trimmed, columns 3 9 line) ∷ []) h0 (as-field _ _ Trimmed (columns 3 9 line) location) in
     let h2 = more-pushed _ _ _ _ (platform_in c.kind_of_line-kind.result line ∷ []) h1 c.push_platform.ensures.text in
-    let h3 = more-pushed _ _ _ _ ((Whole, c.as_bytes.result.now) ∷ []) h2 (as-field _ _ Whole c.as_bytes.result.now c.push-2.ensures.text) in
+    let h3 = more-pushed _ _ _ _ ((Whole, c.as_bytes.result.now) ∷ []) h2
+    (as-field _ _ Whole c.as_bytes.result.now c.push-2.ensures.text) in
     let h4 = more-pushed _ _ _ _ ((Whole, c.as_bytes-2.result.now) ∷ []) h3
     (as-field _ _ Whole c.as_bytes-2.result.now c.push-3.ensures.text) in
     let h5 = more-pushed _ _ _ _ ((Whole, c.as_bytes-3.result.now) ∷ []) h4

@@ -62,7 +62,8 @@ loop-left-preserved c =
           (record { inside = c.requires.inside; one_mask = mask-all (same j) shown.weeks }) (sym (c.len-start.ensures ∙ a.runs.now.ok.0)) (
             i.grown.0,
             i.grown.1,
-            body-idle a.joining.now.form (window_from a.joining.now.window.first a.joining.now.window.last) (Shows a.spans.now a.source) a.source
+            body-idle a.joining.now.form (window_from a.joining.now.window.first a.joining.now.window.last) (Shows a.spans.now a.source)
+                a.source
                 c.loop-left.week c.max-from.result i.grown.0 (omega arith) (λ n from less. none n from less) i.grown.2,
           );
       agreed = λ n less shows. ⊎_elim
@@ -81,5 +82,6 @@ returns c =
     let i = c.loop-left.invariant in
     let over = λ (n : ℕ) (shows : Shows a.spans.now a.source n). none-after i.left c.in_default.len_below n
     (c.weeks_of-first.ensures.weeks n shows).1 shows in
-    body-made a.joining.now.form (window_from a.joining.now.window.first a.joining.now.window.last) a.spans.now a.source c.loop-left.week over
+    body-made a.joining.now.form (window_from a.joining.now.window.first a.joining.now.window.last) a.spans.now a.source
+    c.loop-left.week over
     (λ n shows. i.agreed n (over n shows) shows) a.runs.now.items c.loop-left.runs.items i.grown

@@ -9,7 +9,8 @@ use Rattle.cif_weeks.proofs.form.Joining.agree.Goals.{else-has-via-then-has+else
 pub returns-then-is : goal.returns-then-is
 returns-then-is c week next =
     let a = c.args in
-    same-agree a.self.now.form (window_from a.self.now.window.first a.self.now.window.last) week a.before a.days (c.is.ensures.0 c.if-is.true)
+    same-agree a.self.now.form (window_from a.self.now.window.first a.self.now.window.last) week a.before a.days
+    (c.is.ensures.0 c.if-is.true)
 
 pub loop-weekday-preserved : goal.loop-weekday-preserved
 loop-weekday-preserved c = agree-more c.loop-weekday.invariant (λ week is counted. elim c.else-has.branch [
