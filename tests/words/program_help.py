@@ -6,7 +6,7 @@ from facts import Command, NotUnderstood, Option
 
 OPTION_LINE = re.compile(r"^ {2,6}(?P<names>-\w(?:, --[\w-]+)?|--[\w-]+)(?: <(?P<value>[^<>]+)>)?(?:  |$)")
 PLACE_LINE = re.compile(r"^  [<[](\w+)[]>](?:\.\.\.)? +(.*)$")
-LISTED = re.compile(r"^One of (\w+(?:, \w+)+)$")
+LISTED = re.compile(r"^(\w+(?:, \w+)+) or (\w+)$")
 CONTINUED = re.compile(r"^ {10}")
 POSSIBLE = re.compile(r"\[possible values: ([^]]*)\]")
 HEADING = re.compile(r"^([A-Z]\w*):$")
@@ -78,7 +78,7 @@ def values_of(lines):
             raise NotUnderstood(f"the help has the place: {item}")
         listed = LISTED.match(place[2])
         if listed:
-            found[place[1]] = listed[1].split(", ")
+            found[place[1]] = [*listed[1].split(", "), listed[2]]
     return found
 
 
