@@ -12,7 +12,7 @@ ghost use Rattle.cif_views.specs.Steps.TableRows.{journey_rows, row_of_kind};
 ghost use Rattle.cif_views.specs.Tables.{extra_in, is_call, kind_of_line, number, numbered_schedule, row_line, schedule_fields};
 ghost use Rattle.cif_views.specs.TableText.{table_heading, table_text};
 ghost use Rattle.cif_views.specs.Tables.{tiploc_fields};
-ghost use Rattle.cif_views.specs.declared.tables.JourneyKind.TheVariants.{Change, Other};
+ghost use Rattle.cif_views.specs.declared.tables.JourneyKind.TheVariants.{Change, Origin, Other, Stop, Terminus};
 
 use crate::columns::{
     ASSOCIATION, BASIC, CALL, CHANGE, Column, EXTRA, HEADER, NUMBERS, PUBLIC, TIPLOC,
@@ -269,7 +269,6 @@ fn write_numbered<W: WriteDevice>(
 }
 
 /// Appends the row of a call of this kind behind what it begins with.
-#[inline(always)]
 fn write_call<W: WriteDevice>(
     row: &mut TableRow,
     call: usize,
@@ -279,6 +278,7 @@ fn write_call<W: WriteDevice>(
 )
     requires begun { 0 < length row.old }
     requires room { length row.old ≤ 41 }
+    requires call { IsTrue (is_call kind) }
     ensures text { IsAppended W.contents W.write_errors (row_behind row.old (number call ∷ fields_in kind call_columns line.now)) sink.old sink.new }
     ensures same { row.new ≡ row.old }
 {
@@ -287,30 +287,71 @@ fn write_call<W: WriteDevice>(
     row.write_and_keep(begun, sink);
 }
 
-/// Appends the number of a call, and its fields.
-// Without a loop, so that the compiler knows the place of each field: nearly all rows are such.
-#[inline(always)]
+/// Appends the number of a call of this kind, and its fields.
 fn push_call(row: &mut TableRow, call: usize, kind: JourneyKind, line: &Line)
-    requires { length row.old ≤ 41 }
+    requires room { length row.old ≤ 41 }
+    requires call { IsTrue (is_call kind) }
     ensures text { row.new ≡ row.old ++ after Tsv (number call ∷ fields_in kind call_columns line.now) }
     ensures len { length row.new ≤ 300 }
 {
+    match kind {
+        JourneyKind::Origin => push_origin(row, call, line),
+        JourneyKind::Stop => push_stop(row, call, line),
+        JourneyKind::Terminus => push_terminus(row, call, line),
+        JourneyKind::Change | JourneyKind::Other => unreachable!(),
+    }
+}
+
+/// Appends all fields of a call. Kind and field are known where this stands, so the compiler knows the columns
+/// that are copied: nearly all rows are such.
+macro_rules! push_fields {
+    ($row:expr, $kind:expr, $line:expr) => {
+        $row.push_field(&CALL[0].1, $kind, $line);
+        $row.push_field(&CALL[1].1, $kind, $line);
+        $row.push_field(&CALL[2].1, $kind, $line);
+        $row.push_field(&CALL[3].1, $kind, $line);
+        $row.push_field(&CALL[4].1, $kind, $line);
+        $row.push_field(&CALL[5].1, $kind, $line);
+        $row.push_field(&CALL[6].1, $kind, $line);
+        $row.push_field(&CALL[7].1, $kind, $line);
+        $row.push_field(&CALL[8].1, $kind, $line);
+        $row.push_field(&CALL[9].1, $kind, $line);
+        $row.push_field(&CALL[10].1, $kind, $line);
+        $row.push_field(&CALL[11].1, $kind, $line);
+        $row.push_field(&CALL[12].1, $kind, $line);
+        $row.push_field(&CALL[13].1, $kind, $line);
+        $row.push_field(&CALL[14].1, $kind, $line);
+    };
+}
+
+/// Appends the number of an LO, and its fields.
+fn push_origin(row: &mut TableRow, call: usize, line: &Line)
+    requires { length row.old ≤ 41 }
+    ensures text { row.new ≡ row.old ++ after Tsv (number call ∷ fields_in Origin call_columns line.now) }
+    ensures len { length row.new ≤ 300 }
+{
     row.push_number(call);
-    row.push_field(&CALL[0].1, kind, line);
-    row.push_field(&CALL[1].1, kind, line);
-    row.push_field(&CALL[2].1, kind, line);
-    row.push_field(&CALL[3].1, kind, line);
-    row.push_field(&CALL[4].1, kind, line);
-    row.push_field(&CALL[5].1, kind, line);
-    row.push_field(&CALL[6].1, kind, line);
-    row.push_field(&CALL[7].1, kind, line);
-    row.push_field(&CALL[8].1, kind, line);
-    row.push_field(&CALL[9].1, kind, line);
-    row.push_field(&CALL[10].1, kind, line);
-    row.push_field(&CALL[11].1, kind, line);
-    row.push_field(&CALL[12].1, kind, line);
-    row.push_field(&CALL[13].1, kind, line);
-    row.push_field(&CALL[14].1, kind, line);
+    push_fields!(row, JourneyKind::Origin, line);
+}
+
+/// Appends the number of an LI, and its fields.
+fn push_stop(row: &mut TableRow, call: usize, line: &Line)
+    requires { length row.old ≤ 41 }
+    ensures text { row.new ≡ row.old ++ after Tsv (number call ∷ fields_in Stop call_columns line.now) }
+    ensures len { length row.new ≤ 300 }
+{
+    row.push_number(call);
+    push_fields!(row, JourneyKind::Stop, line);
+}
+
+/// Appends the number of an LT, and its fields.
+fn push_terminus(row: &mut TableRow, call: usize, line: &Line)
+    requires { length row.old ≤ 41 }
+    ensures text { row.new ≡ row.old ++ after Tsv (number call ∷ fields_in Terminus call_columns line.now) }
+    ensures len { length row.new ≤ 300 }
+{
+    row.push_number(call);
+    push_fields!(row, JourneyKind::Terminus, line);
 }
 
 /// Appends the row of a change behind what it begins with.

@@ -1,27 +1,4 @@
--- The fields go one behind another (`more-pushed`).
-use Rattle.std.proofs.Common.{◌∷◌, [], List, ℕ, drop, take}
-use Rattle.cif_views.specs.Steps.Columns.{call_columns, fields_in}
-use Rattle.cif_views.proofs.Words.{Field, number}
-use Rattle.cif_views.proofs.TableRows.{first-pushed, more-pushed}
 use Rattle.cif_views.proofs.tables.push_call.Goals as goal
 
-pub returns-clause-text : goal.returns-clause-text
-returns-clause-text c =
-    let field : ℕ → List Field = λ n. fields_in c.args.kind (take 1 (drop n call_columns)) c.args.line.now in
-    let h0 = first-pushed _ _ (number c.args.call ∷ []) c.push_number.ensures.text in
-    let h1 = more-pushed _ _ _ _ (field 0) h0 c.push_field.ensures.text in
-    let h2 = more-pushed _ _ _ _ (field 1) h1 c.push_field-2.ensures.text in
-    let h3 = more-pushed _ _ _ _ (field 2) h2 c.push_field-3.ensures.text in
-    let h4 = more-pushed _ _ _ _ (field 3) h3 c.push_field-4.ensures.text in
-    let h5 = more-pushed _ _ _ _ (field 4) h4 c.push_field-5.ensures.text in
-    let h6 = more-pushed _ _ _ _ (field 5) h5 c.push_field-6.ensures.text in
-    let h7 = more-pushed _ _ _ _ (field 6) h6 c.push_field-7.ensures.text in
-    let h8 = more-pushed _ _ _ _ (field 7) h7 c.push_field-8.ensures.text in
-    let h9 = more-pushed _ _ _ _ (field 8) h8 c.push_field-9.ensures.text in
-    let h10 = more-pushed _ _ _ _ (field 9) h9 c.push_field-10.ensures.text in
-    let h11 = more-pushed _ _ _ _ (field 10) h10 c.push_field-11.ensures.text in
-    let h12 = more-pushed _ _ _ _ (field 11) h11 c.push_field-12.ensures.text in
-    let h13 = more-pushed _ _ _ _ (field 12) h12 c.push_field-13.ensures.text in
-    let h14 = more-pushed _ _ _ _ (field 13) h13 c.push_field-14.ensures.text in
-    let h15 = more-pushed _ _ _ _ (field 14) h14 c.push_field-15.ensures.text in
-    h15.text
+pub returns-in-Stop-clause-text : goal.returns-in-Stop-clause-text
+returns-in-Stop-clause-text c = rw c.in-Stop.is c.push_stop.ensures.text
