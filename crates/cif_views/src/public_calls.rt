@@ -130,7 +130,12 @@ fn working(line: &Line, first: usize) -> Option<TimeOfDay>
     requires within { first ≤ 76 }
     ensures { result ≡ working (columns_from first 5 line.now) }
 {
-    let time = WorkTime::read(&columns_at::<5>(line, first))?;
+    let columns = columns_at::<5>(line, first);
+    // Most are blank, and need no second look.
+    if columns[0] == b' ' {
+        return None;
+    }
+    let time = WorkTime::read(&columns)?;
     Some(TimeOfDay::new(time.seconds()?))
 }
 
@@ -140,7 +145,11 @@ fn advertised(line: &Line, first: usize) -> Option<TimeOfDay>
     requires within { first ≤ 77 }
     ensures { result ≡ advertised (columns_from first 4 line.now) }
 {
-    let time = PublicTime::read(&columns_at::<4>(line, first))?;
+    let columns = columns_at::<4>(line, first);
+    if columns[0] == b' ' {
+        return None;
+    }
+    let time = PublicTime::read(&columns)?;
     Some(TimeOfDay::new(time.seconds()?))
 }
 
