@@ -7,7 +7,8 @@ ghost use Rattle.cif_canon.specs.Appended.{IsAppended};
 ghost use Rattle.cif_canon.specs.Fields.{after, line_of};
 ghost use Rattle.cif_canon.specs.Lines.{line_of_tiploc, schedule_plain};
 ghost use Rattle.cif_canon.specs.declared.rows.Format.TheVariants.{Tsv};
-ghost use Rattle.cif_views.specs.Steps.Columns.{are_within, call_columns, change_columns, fields_in, name_fields, named, room_for, room_for_names, row_behind};
+ghost use Rattle.cif_views.specs.Steps.Columns.{are_within, call_columns, change_columns, fields_in};
+ghost use Rattle.cif_views.specs.Steps.Columns.{name_fields, named, room_for, room_for_names, row_behind};
 ghost use Rattle.cif_views.specs.Steps.TableRows.{journey_rows, row_of_kind};
 ghost use Rattle.cif_views.specs.Tables.{extra_in, is_call, kind_of_line, number, numbered_schedule, row_line, schedule_fields};
 ghost use Rattle.cif_views.specs.TableText.{table_heading, table_text};
@@ -94,7 +95,8 @@ fn write_heading<W: WriteDevice>(table: Table, sink: &mut Sink<W>)
 
 /// The numbers that a row of the table begins with, and the columns of one line or two.
 fn table_columns(table: Table) -> (&'static [Column], &'static [Column], &'static [Column])
-    ensures text { after Tsv ((name_fields (named result.0.now) ++ name_fields (named result.1.now)) ++ name_fields (named result.2.now)) ++ codes "\n"
+    ensures text { after Tsv ((name_fields (named result.0.now)
+        ++ name_fields (named result.1.now)) ++ name_fields (named result.2.now)) ++ codes "\n"
         ≡ 9 ∷ table_heading table }
     ensures room { room_for_names (named result.0.now) + room_for_names (named result.1.now) + room_for_names (named result.2.now) ≤ 319 }
 {
@@ -279,7 +281,8 @@ fn write_call<W: WriteDevice>(
     requires begun { 0 < length row.old }
     requires room { length row.old ≤ 41 }
     requires call { IsTrue (is_call kind) }
-    ensures text { IsAppended W.contents W.write_errors (row_behind row.old (number call ∷ fields_in kind call_columns line.now)) sink.old sink.new }
+    ensures text { IsAppended W.contents W.write_errors
+        (row_behind row.old (number call ∷ fields_in kind call_columns line.now)) sink.old sink.new }
     ensures same { row.new ≡ row.old }
 {
     let begun = row.len();
@@ -358,7 +361,8 @@ fn push_terminus(row: &mut TableRow, call: usize, line: &Line)
 fn write_change<W: WriteDevice>(row: &mut TableRow, call: usize, line: &Line, sink: &mut Sink<W>)
     requires begun { 0 < length row.old }
     requires room { length row.old ≤ 41 }
-    ensures text { IsAppended W.contents W.write_errors (row_behind row.old (number call ∷ fields_in Change change_columns line.now)) sink.old sink.new }
+    ensures text { IsAppended W.contents W.write_errors
+        (row_behind row.old (number call ∷ fields_in Change change_columns line.now)) sink.old sink.new }
     ensures same { row.new ≡ row.old }
 {
     let begun = row.len();
