@@ -1,5 +1,7 @@
 pub mod Answer
 pub mod CommandLine
+pub mod FeedAnswer
 pub mod Job
 pub mod JobFault
 pub mod Status
+pub mod Told

@@ -5,6 +5,7 @@ mod advice;
 mod answers;
 mod command_line;
 mod devices;
+mod feed_answers;
 mod feeds;
 mod help;
 mod job;
@@ -12,6 +13,7 @@ mod message;
 mod program;
 mod refused_columns;
 mod status;
+mod told;
 mod words;
 
 use std::process::ExitCode;

@@ -1,0 +1,251 @@
+-- What comes of the sources of `update`, where the bytes that their readers give are known.
+use Rattle.std.proofs.Common.{◌≡◌, ◌∙◌, ◌⊎◌, ⊎_elim, ℕ, List, [], ◌∷◌, ◌++◌, Option, Some, Result, Ok, Err, Bool, IfErr, IfOk, IfSome}
+use Rattle.std.proofs.Common.{ap, append-nil, append_assoc, false, inl, inr, refl, subst, sym, true}
+use Rattle.std.specs.Prelude.{MatchResult}
+use Rattle.std.proofs.lemmas.Grind.{flat_map-append}
+use Rattle.cif_columns.proofs.WrittenTexts.{failed_second, written_both}
+use Rattle.cif_columns.specs.Sink.{HasFailed, HasWritten, Writes}
+use Rattle.cif_columns.specs.Source.{Unread, reader_of, unread_of}
+use Rattle.cif_columns.specs.declared.line_reader.TheConstants.{MAX_LINES}
+use Rattle.cif_columns.specs.declared.sink.Sink.{Sink}
+use Rattle.cif_columns.specs.declared.sink.WriteFault.{WriteFault}
+use Rattle.cif_columns.specs.declared.source.Source.{Source}
+use Rattle.cif_extract.proofs.ReadCalls.{Makes, Refuses, goes-on}
+use Rattle.cif_extract.specs.ReadCall.{IsResultOf, ReadCall}
+use Rattle.cif_extract.specs.declared.fault.Fault.TheVariants.{Memory, Read, Refused, Write}
+use Rattle.cif_feed.specs.FeedFault.{IsFeedFault, IsOfFeed}
+use Rattle.cif_feed.specs.HolidayCode.{all_codes}
+use Rattle.cif_feed.specs.PublishedParts.{BytesSpellPublished, IsPublishedOf, PublishedParts, published_parts, published_text, reading_published}
+use Rattle.cif_feed.specs.Updated.{IsOfUpdate, IsUpdateFault as IsOneUpdateFault, IsUpdatedBy, updating}
+use Rattle.cif_feed.specs.UpdatesInTurn.{AreUpdatesDone, IsOneRefused, IsRefusedFor, IsWritten}
+use Rattle.cif_feed.specs.WrittenPrepared.{IsDeviceOrMemory}
+use Rattle.cif_feed.specs.declared.changes.RefusedLine.{RefusedLine}
+use Rattle.cif_feed.specs.declared.feed.FeedFault.{FeedFault}
+use Rattle.cif_feed.specs.declared.feed.FeedFault.TheVariants.{AlreadyThere, BadTransaction, Extract, NotThere, NotUpdate}
+use Rattle.cif_feed.specs.declared.holiday_code.HolidayCodes.{HolidayCodes}
+use Rattle.cif_feed.specs.declared.published_extract.PublishedExtract.{PublishedExtract}
+use Rattle.cif_feed.specs.declared.update.Outcome.{Outcome}
+use Rattle.cif_tool.specs.FeedAnswer.{AreDoneInTurn, AreGiven, AreUpdatesRead, EndsAs, FeedAnswers, FeedFinishes, IsUpdateFault, OfUpdates}
+use Rattle.cif_tool.specs.FeedAnswer.{doing, waived_by}
+use Rattle.cif_tool.specs.declared.feed_answers.DoneUpdate.{DoneUpdate}
+
+-- a call's answer, and its fault, where the bytes of its reader are known
+module _ {A F R : Type 0} (may : ReadCall A F) (remaining : R → Option (List ℕ)) (errors : R → Option ℕ) (old new : Source R)
+    (bytes : List ℕ) (known : remaining (reader_of old) ≡ Some bytes) where
+  pub answer-of : (x : A) → IsResultOf remaining errors may old new (Ok x) → may.IsAnswer bytes x
+  answer-of x call = subst (λ o. IfSome o (λ b. may.IsAnswer b x)) known call.ok
+
+  pub fault-of : (f : F) → IsResultOf remaining errors may old new (Err f) → may.IsFault bytes (unread_of remaining new) f
+  fault-of f call = subst (λ o. IfSome o (λ b. may.IsFault b (unread_of remaining new) f)) known call.fault
+
+-- why one update isn't done
+update-refused : (lenient : Bool) (old : PublishedParts) (bytes : List ℕ) (after : Unread) (f : FeedFault) →
+    IsOneUpdateFault lenient old MAX_LINES bytes after f → IsDeviceOrMemory f ⊎ IsRefusedFor lenient MAX_LINES old bytes f
+update-refused lenient old bytes after (Extract (Refused line why)) h = inr (inl h.0)
+update-refused lenient old bytes after (Extract Read) h = inl tt
+update-refused lenient old bytes after (Extract Memory) h = inl tt
+update-refused lenient old bytes after (Extract _) h = absurd h
+update-refused lenient old bytes after (NotUpdate line) h = inr (inl h.0)
+update-refused lenient old bytes after (BadTransaction line) h = inr (inl h.0)
+update-refused lenient old bytes after (NotThere line) h = inr (inr (record { line = line; is_there = false }, h, refl))
+update-refused lenient old bytes after (AlreadyThere line) h = inr (inr (record { line = line; is_there = true }, h, refl))
+
+module _ {R : Type 0} (remaining : R → Option (List ℕ)) (errors : R → Option ℕ) (lenient : Bool) where
+  -- updates that are done are done to the extract in turn
+  pub done-in-turn : (sources after : List (Source R)) (old new : PublishedParts) (waived : List RefusedLine) (given : List (List ℕ)) →
+      AreDoneInTurn remaining errors lenient old new sources after waived (Ok tt) → AreGiven remaining sources given →
+      AreUpdatesDone lenient MAX_LINES old given new waived
+  done-in-turn [] after old new waived given h are = subst (λ g. AreUpdatesDone lenient MAX_LINES old g new waived) (sym are) (h.2, h.3)
+  done-in-turn (s ∷ ss) after old new waived given (read, others, is, mid, first, way) (bytes, more, same, known, are) =
+      subst (λ g. AreUpdatesDone lenient MAX_LINES old g new waived) (sym same)
+      (⊎_elim (λ no. let e : Ok tt ≡ Err no.0 = no.1 in absurd (cc))
+      (λ on. (mid, first, on.0, answer-of (doing lenient old mid first) remaining errors s read bytes known tt on.2,
+      done-in-turn ss others mid new on.0 more on.3 are, on.1)) way)
+
+  -- or one isn't, for this
+  pub refused-in-turn : (sources after : List (Source R)) (old new : PublishedParts) (waived : List RefusedLine) (given : List (List ℕ))
+      (f : FeedFault) → AreDoneInTurn remaining errors lenient old new sources after waived (Err f) → AreGiven remaining sources given →
+      IsDeviceOrMemory f ⊎ IsOneRefused lenient MAX_LINES old given f
+  refused-in-turn [] after old new waived given f h are = absurd h.1
+  refused-in-turn (s ∷ ss) after old new waived given f (read, others, is, mid, first, way) (bytes, more, same, known, are) =
+      subst (λ g. IsDeviceOrMemory f ⊎ IsOneRefused lenient MAX_LINES old g f) (sym same)
+      (⊎_elim refused (λ on. later on.0 on.2 (refused-in-turn ss others mid new on.0 more f on.3 are)) way)
+    where
+      refused : (fault : FeedFault) × (◌≡◌ {A = Result (Unit {0}) FeedFault} (Err f) (Err fault)) × (others ≡ ss)
+          × IsResultOf remaining errors (doing lenient old mid first) s read (Err fault)
+          → IsDeviceOrMemory f ⊎ IsOneRefused lenient MAX_LINES old (bytes ∷ more) f
+      refused (fault, is, still, call) =
+          let same : fault ≡ f = cc in
+          ⊎_elim inl (λ h. inr (inl h))
+          (update-refused lenient old bytes _ f (subst (IsOneUpdateFault lenient old MAX_LINES bytes _) same
+          (fault-of (doing lenient old mid first) remaining errors s read bytes known fault call)))
+
+      later : (behind : List RefusedLine) → IsResultOf remaining errors (doing lenient old mid first) s read (Ok tt) →
+          IsDeviceOrMemory f ⊎ IsOneRefused lenient MAX_LINES mid more f →
+          IsDeviceOrMemory f ⊎ IsOneRefused lenient MAX_LINES old (bytes ∷ more) f
+      later behind call =
+          ⊎_elim inl (λ h. inr (inr (mid, first, answer-of (doing lenient old mid first) remaining errors s read bytes known tt call, h)))
+
+  -- whatever the readers give, no other fault comes
+  pub faults-in-turn : (sources after : List (Source R)) (old new : PublishedParts) (waived : List RefusedLine) (f : FeedFault) →
+      AreDoneInTurn remaining errors lenient old new sources after waived (Err f) → IsOfUpdate MAX_LINES f
+  faults-in-turn [] after old new waived f h = absurd h.1
+  faults-in-turn (s ∷ ss) after old new waived f (read, others, is, mid, first, way) =
+      ⊎_elim (λ no. let same : no.0 ≡ f = cc in let call : IsResultOf remaining errors (doing lenient old mid first) s read (Err no.0) = no.3 in
+      subst (IsOfUpdate MAX_LINES) same call.answers)
+      (λ on. faults-in-turn ss others mid new on.0 f on.3) way
+
+-- an update that was done is told, if there is memory for it
+module _ {R : Type 0} (remaining : R → Option (List ℕ)) (errors : R → Option ℕ) (lenient : Bool) (old new : PublishedParts)
+    (s t : Source R) (outcome : Outcome) (call : IsResultOf remaining errors (updating lenient old new MAX_LINES) s t (Ok outcome)) where
+  pub told-update : (result : Result (Unit {0}) FeedFault) → IfErr result (λ f. f ≡ Extract Memory) →
+      IsResultOf remaining errors (doing lenient old new outcome.waived.items) s t result
+  told-update result h =
+      goes-on (updating lenient old new MAX_LINES) (doing lenient old new outcome.waived.items) remaining errors s t outcome call result
+      (at result h)
+    where
+      at : (r : Result (Unit {0}) FeedFault) → IfErr r (λ f. f ≡ Extract Memory) →
+          MatchResult r (Makes (updating lenient old new MAX_LINES) (doing lenient old new outcome.waived.items) outcome)
+          (Refuses (updating lenient old new MAX_LINES) (doing lenient old new outcome.waived.items) outcome)
+      at (Ok done) h = record { answer = λ bytes is. is; whole = λ asked. tt }
+      at (Err f) h = subst (Refuses (updating lenient old new MAX_LINES) (doing lenient old new outcome.waived.items) outcome) (sym h)
+          (record { fault = λ bytes after is. tt; answers = tt; other = refl })
+
+-- ---- one source more
+
+module _ {R : Type 0} (remaining : R → Option (List ℕ)) (errors : R → Option ℕ) (lenient : Bool) (old mid : PublishedParts)
+    (first : List RefusedLine) (sources : List (Source R)) (s t : Source R) (ss : List (Source R)) (is : sources ≡ s ∷ ss) where
+  pub stops-there : (result : Result (Unit {0}) FeedFault) (f : FeedFault) → result ≡ Err f →
+      IsResultOf remaining errors (doing lenient old mid first) s t (Err f) →
+      AreDoneInTurn remaining errors lenient old mid sources (t ∷ ss) first result
+  stops-there result f err call =
+      subst (λ l. AreDoneInTurn remaining errors lenient old mid l (t ∷ ss) first result) (sym is)
+      (t, ss, refl, mid, first, inl (f, err, refl, call))
+
+  pub goes-further : (new : PublishedParts) (after : List (Source R)) (later : List RefusedLine) (result : Result (Unit {0}) FeedFault) →
+      IsResultOf remaining errors (doing lenient old mid first) s t (Ok tt) →
+      AreDoneInTurn remaining errors lenient mid new ss after later result →
+      AreDoneInTurn remaining errors lenient old new sources (t ∷ after) (first ++ later) result
+  goes-further new after later result call on =
+      subst (λ l. AreDoneInTurn remaining errors lenient old new l (t ∷ after) (first ++ later) result) (sym is)
+      (t, after, refl, mid, first, inr (later, refl, call, on))
+
+-- ---- the whole run
+
+-- a fault before anything is written
+silent : {W A T : Type 0} (contents : W → Option (List ℕ)) (errors : W → Option ℕ) (told : A → T) (P : List ℕ → T → Type 0) (old : Sink W)
+    (f : FeedFault) → IsOfUpdate MAX_LINES f → FeedAnswers contents errors told P old old (Err f)
+silent contents errors told P old (Extract Write) of = absurd of
+silent contents errors told P old (Extract _) of = record { text = []; writes = refl; answer = tt }
+silent contents errors told P old _ of = record { text = []; writes = refl; answer = tt }
+
+-- a text is written, and then handed on, or neither
+pub finished : {W A : Type 0} (contents : W → Option (List ℕ)) (errors : W → Option ℕ) (text : List ℕ) (old mid new : Sink W)
+    (written : Result A WriteFault) (result : Result (Unit {0}) FeedFault) → Writes contents errors text old mid written →
+    FeedFinishes contents errors written mid new result →
+    MatchResult result (λ done. HasWritten contents errors text old new)
+    (λ f. (f ≡ Extract Write) × HasFailed contents errors text old new)
+finished contents errors text old mid new (Ok done) (Ok handed) w h =
+    subst (λ t. HasWritten contents errors t old new) (append-nil text) (written_both contents errors text [] old mid new w h.0)
+finished contents errors text old mid new (Ok done) (Err f) w h =
+    (h.1, subst (λ t. HasFailed contents errors t old new) (append-nil text) (failed_second contents errors text [] old mid new w h.0))
+finished contents errors text old mid new (Err f) result w h =
+    subst (λ r. MatchResult r (λ done. HasWritten contents errors text old new)
+    (λ f. (f ≡ Extract Write) × HasFailed contents errors text old new)) (sym h.0)
+    (refl, subst (λ s. HasFailed contents errors text old s) (sym h.1) w)
+
+module _ {R W A : Type 0} (remaining : R → Option (List ℕ)) (errors : R → Option ℕ) (contents : W → Option (List ℕ))
+    (write_errors : W → Option ℕ) (told : A → List RefusedLine) (lenient : Bool) (codes : HolidayCodes) (all : codes ≡ all_codes)
+    (full full_new : Source R) (extract : PublishedExtract)
+    (read : IsResultOf remaining errors (reading_published codes MAX_LINES) full full_new (Ok extract)) (x : PublishedExtract)
+    (same : x ≡ extract) (new : PublishedParts) (updates updates_new : List (Source R)) (waived : List RefusedLine) where
+  abbrev InTurn : Result (Unit {0}) FeedFault → Type 0
+  InTurn = AreDoneInTurn remaining errors lenient (published_parts x) new updates updates_new waived
+
+  abbrev Answer : List ℕ → List RefusedLine → Type 0
+  Answer text told = OfUpdates remaining (λ bytes given. IsWritten lenient MAX_LINES bytes given text told) full updates
+
+  call : IsResultOf remaining errors (reading_published all_codes MAX_LINES) full full_new (Ok extract)
+  call = subst (λ may. IsResultOf remaining errors (reading_published may MAX_LINES) full full_new (Ok extract)) all read
+
+  spelled : (bytes : List ℕ) → remaining (reader_of full) ≡ Some bytes →
+      BytesSpellPublished all_codes MAX_LINES bytes (published_parts x)
+  spelled bytes known = subst (λ e. BytesSpellPublished all_codes MAX_LINES bytes (published_parts e)) (sym same)
+      (let is : IsPublishedOf all_codes MAX_LINES bytes extract =
+      answer-of (reading_published all_codes MAX_LINES) remaining errors full full_new bytes known extract call in is.spelled)
+
+  read-first : (done : Result (Unit {0}) FeedFault) (result : Result A FeedFault) → InTurn done → EndsAs told waived done result →
+      AreUpdatesRead remaining errors told lenient full full_new updates updates_new result
+  read-first done result turn ends = inr (extract, new, waived, done, call, subst
+      (λ e. AreDoneInTurn remaining errors lenient (published_parts e) new updates updates_new waived done) same turn, ends)
+
+  -- an update isn't done
+  module _ (f : FeedFault) (turn : InTurn (Err f)) (result : Result A FeedFault) (is : result ≡ Err f) where
+    pub undone-answer : (sink : Sink W) → FeedAnswers contents write_errors told Answer sink sink result
+    undone-answer sink = subst (FeedAnswers contents write_errors told Answer sink sink) (sym is)
+        (silent contents write_errors told Answer sink f
+        (faults-in-turn remaining errors lenient updates updates_new (published_parts x) new waived f turn))
+
+    pub undone-fault : OfUpdates remaining (λ bytes given. IfErr result (IsUpdateFault lenient bytes given)) full updates
+    undone-fault bytes given known are = subst (λ r. IfErr r (IsUpdateFault lenient bytes given)) (sym is)
+        (⊎_elim inl (λ h. inr (inr record { old = published_parts x; spelled = spelled bytes known; refused = h }))
+        (refused-in-turn remaining errors lenient updates updates_new (published_parts x) new waived given f turn are))
+
+    pub undone-reads : AreUpdatesRead remaining errors told lenient full full_new updates updates_new result
+    undone-reads = read-first (Err f) result turn is
+
+  -- all are
+  module _ (turn : InTurn (Ok tt)) where
+    written : Answer (published_text new) waived
+    written bytes given known are = record {
+      old = published_parts x;
+      spelled = spelled bytes known;
+      new = new;
+      done = done-in-turn remaining errors lenient updates updates_new (published_parts x) new waived given turn are;
+      text = refl;
+    }
+
+    pub done-answer : (old after : Sink W) (done : A) → told done ≡ waived → HasWritten contents write_errors (published_text new) old after →
+        FeedAnswers contents write_errors told Answer old after (Ok done)
+    done-answer old after done is w = record {
+      text = published_text new;
+      writes = w;
+      answer = subst (Answer (published_text new)) (sym is) written;
+    }
+
+    pub done-reads : (done : A) → told done ≡ waived →
+        AreUpdatesRead remaining errors told lenient full full_new updates updates_new (Ok done)
+    done-reads done is = read-first (Ok tt) (Ok done) turn (is, tt)
+
+    -- and the text isn't written
+    module _ (f : FeedFault) (result : Result A FeedFault) (err : result ≡ Err f) (write : f ≡ Extract Write) where
+      at-write : result ≡ Err (Extract Write)
+      at-write = err ∙ ap Err write
+
+      pub unwritten-answer : (old after : Sink W) → HasFailed contents write_errors (published_text new) old after →
+          FeedAnswers contents write_errors told Answer old after result
+      unwritten-answer old after w = subst (FeedAnswers contents write_errors told Answer old after) (sym at-write) record {
+        text = published_text new;
+        writes = w;
+        answer = (waived, written);
+      }
+
+      pub unwritten-fault : OfUpdates remaining (λ bytes given. IfErr result (IsUpdateFault lenient bytes given)) full updates
+      unwritten-fault bytes given known are = subst (λ r. IfErr r (IsUpdateFault lenient bytes given)) (sym at-write) (inl tt)
+
+      pub unwritten-reads : AreUpdatesRead remaining errors told lenient full full_new updates updates_new result
+      unwritten-reads = read-first (Ok tt) result turn (subst (EndsAs told waived (Ok tt)) (sym at-write) (tt, refl))
+
+-- one update more
+pub waived-more : (known : List DoneUpdate) (update : DoneUpdate) (all : List DoneUpdate) → all ≡ known ++ update ∷ [] →
+    waived_by all ≡ waived_by known ++ update.outcome.waived.items
+waived-more known update all is =
+    ap waived_by is ∙ (flat_map-append (λ u. u.outcome.waived.items) known (update ∷ []) ∙
+    ap (λ t. waived_by known ++ t) (append-nil update.outcome.waived.items))
+
+pub waived-further : (known mid all : List DoneUpdate) (first later : List RefusedLine) (result : Result (Unit {0}) FeedFault) →
+    waived_by mid ≡ waived_by known ++ first → IfOk result (λ done. waived_by all ≡ waived_by mid ++ later) →
+    IfOk result (λ done. waived_by all ≡ waived_by known ++ (first ++ later))
+waived-further known mid all first later (Ok done) one h =
+    h ∙ (ap (λ t. t ++ later) one ∙ append_assoc (waived_by known) first later)
+waived-further known mid all first later (Err f) one h = tt

@@ -1,0 +1,46 @@
+-- What `prepare` and `update` say on standard error of their answer, and the status that they end with.
+use Rattle.std.specs.Prelude.{ℕ, List, ◌++◌, codes, Result, Ok, Err}
+use Rattle.std.specs.List.{flat_map}
+use Rattle.cif_extract.specs.Clash.{clash_text}
+use Rattle.cif_extract.specs.declared.fault.Clash.{Clash}
+use Rattle.cif_feed.specs.FeedTexts.{fault_text}
+use Rattle.cif_feed.specs.Updated.{refused_fault}
+use Rattle.cif_feed.specs.declared.changes.RefusedLine.{RefusedLine}
+use Rattle.cif_feed.specs.declared.feed.FeedFault.{FeedFault}
+use Rattle.cif_feed.specs.declared.feed.FeedFault.TheVariants.{Extract}
+use Rattle.cif_tool.specs.Status.{status_of}
+use Rattle.cif_tool.specs.declared.feed_answers.DoneUpdate.{DoneUpdate}
+use Rattle.cif_tool.specs.declared.told.Told.{Told}
+use Rattle.cif_tool.specs.declared.told.Told.TheVariants.{Dropped, Updates}
+
+-- a line of an update that was waived
+unfoldable pub waived_line : RefusedLine → List ℕ
+waived_line line = codes "cif: " ++ fault_text (refused_fault line) ++ codes " (waived)\n"
+
+-- all that one update waived, in its order
+abbrev pub waived_lines : DoneUpdate → List ℕ
+waived_lines update = flat_map waived_line update.outcome.waived.items
+
+-- a key whose records were left out
+unfoldable pub dropped_line : Clash → List ℕ
+dropped_line clash = codes "cif: dropped: " ++ clash_text clash ++ codes "\n"
+
+-- the line that names a fault
+unfoldable pub refused_line : FeedFault → List ℕ
+refused_line fault = codes "cif: " ++ fault_text fault ++ codes "\n"
+
+-- what is said of an answer: of a fault its line, and nothing else
+abbrev pub told_text : Result Told FeedFault → List ℕ
+told_text (Ok (Dropped clashes)) = flat_map dropped_line clashes.items
+told_text (Ok (Updates updates)) = flat_map waived_lines updates.items
+told_text (Err fault) = refused_line fault
+
+-- the status of a fault: that of an extract of this profile has its own, and each other is a refusal
+abbrev pub feed_status_of : FeedFault → ℕ
+feed_status_of (Extract fault) = status_of fault
+feed_status_of fault = 3
+
+-- the status that an answer ends with
+abbrev pub told_status : Result Told FeedFault → ℕ
+told_status (Ok told) = 0
+told_status (Err fault) = feed_status_of fault

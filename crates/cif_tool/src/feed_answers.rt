@@ -1,0 +1,113 @@
+//! What `prepare` and `update` answer of published extracts, for any devices.
+ghost use Rattle.std.specs.Prelude.{◌≡◌, ◌++◌, IfErr, IfOk, List, length};
+ghost use Rattle.cif_columns.specs.declared.line_reader.TheConstants.{MAX_LINES};
+ghost use Rattle.cif_extract.specs.ReadCall.{IsResultOf};
+ghost use Rattle.cif_feed.specs.PublishedParts.{published_parts};
+ghost use Rattle.cif_feed.specs.declared.changes.RefusedLine.{RefusedLine};
+ghost use Rattle.cif_tool.specs.Answer.{IsHandedOn};
+ghost use Rattle.cif_tool.specs.FeedAnswer.{AreDoneInTurn, AreUpdatesRead, FeedAnswers, FeedFinishes};
+ghost use Rattle.cif_tool.specs.FeedAnswer.{IsUpdateFault, OfUpdates, doing, waived_by};
+ghost use Rattle.cif_feed.specs.UpdatesInTurn.{IsWritten};
+
+use cif_columns::{MAX_LINES, ReadDevice, Sink, Source, WriteDevice, WriteFault};
+use cif_extract::Fault;
+use cif_feed::{FeedFault, HolidayCodes, Outcome, PublishedExtract};
+use cif_records::Header;
+use std::alloc::Global;
+
+/// An update that was done.
+#[derive(Drop)]
+pub struct DoneUpdate {
+    /// Its header.
+    pub header: Header,
+    /// What it did.
+    pub outcome: Outcome,
+}
+
+/// Writes the published extract that the first source gives after the updates that the others give, each of
+/// which is read and done before the next is touched. The answer is what each update did.
+///
+/// Nothing is written before all updates are done. What was read and changed is left in `kept`.
+pub fn answer_update<R: ReadDevice, W: WriteDevice>(
+    alloc: Global,
+    full: &mut Source<R>,
+    updates: &mut [Source<R>],
+    sink: &mut Sink<W>,
+    lenient: bool,
+    kept: &mut Option<PublishedExtract>,
+) -> Result<Vec<DoneUpdate>, FeedFault>
+    ensures answer { FeedAnswers W.contents W.write_errors (λ done. waived_by done.items)
+        (λ text waived. OfUpdates R.remaining (λ bytes given. IsWritten lenient MAX_LINES bytes given text waived)
+        full.old updates.old) sink.old sink.new result }
+    ensures fault { OfUpdates R.remaining (λ bytes given. IfErr result (IsUpdateFault lenient bytes given))
+        full.old updates.old }
+    ensures reads { AreUpdatesRead R.remaining R.read_errors (λ done. waived_by done.items) lenient
+        full.old full.new updates.old updates.new result }
+    ensures handed_on { IsHandedOn W.holds_nothing sink.new result }
+{
+    let extract = PublishedExtract::read(alloc, full, MAX_LINES, HolidayCodes::all())?;
+    let extract = kept.insert(extract);
+    let mut done = Vec::new(alloc);
+    do_updates(alloc, extract, updates, lenient, &mut done)?;
+    finish(extract.write(sink), sink)?;
+    Ok(done)
+}
+
+/// Does the updates that the sources give to the extract, one after another, and appends what each did.
+fn do_updates<R: ReadDevice>(
+    alloc: Global,
+    extract: &mut PublishedExtract,
+    updates: &mut [Source<R>],
+    lenient: bool,
+    done: &mut Vec<DoneUpdate>,
+) -> Result<(), FeedFault>
+    ensures { (waived : List RefusedLine)
+        × AreDoneInTurn R.remaining R.read_errors lenient (published_parts extract.old)
+        (published_parts extract.new) updates.old updates.new waived result
+        × IfOk result (λ _. waived_by done.new.items ≡ waived_by done.old.items ++ waived) }
+{
+    match updates.split_first_mut() {
+        None => Ok(()),
+        Some((update, others)) => {
+            do_update(alloc, extract, update, lenient, done)?;
+            do_updates(alloc, extract, others, lenient, done)
+        }
+    }
+}
+
+/// Does the update that the source gives, and appends what it did.
+fn do_update<R: ReadDevice>(
+    alloc: Global,
+    extract: &mut PublishedExtract,
+    update: &mut Source<R>,
+    lenient: bool,
+    done: &mut Vec<DoneUpdate>,
+) -> Result<(), FeedFault>
+    ensures { (waived : List RefusedLine) × IsResultOf R.remaining R.read_errors
+        (doing lenient (published_parts extract.old) (published_parts extract.new) waived) update.old update.new result
+        × IfOk result (λ _. waived_by done.new.items ≡ waived_by done.old.items ++ waived) }
+{
+    let outcome = extract.update_from(alloc, update, MAX_LINES, lenient)?;
+    let header = extract.header;
+    match done.push(DoneUpdate { header, outcome }) {
+        Ok(()) => Ok(()),
+        Err(_) => Err(FeedFault::Extract(Fault::Memory)),
+    }
+}
+
+/// Hands on what was written.
+fn finish<W: WriteDevice>(
+    written: Result<(), WriteFault>,
+    sink: &mut Sink<W>,
+) -> Result<(), FeedFault>
+    ensures finishes { FeedFinishes W.contents W.write_errors written sink.old sink.new result }
+    ensures handed_on { IsHandedOn W.holds_nothing sink.new result }
+{
+    match written {
+        Ok(()) => match sink.flush() {
+            Ok(()) => Ok(()),
+            Err(WriteFault) => Err(FeedFault::Extract(Fault::Write)),
+        },
+        Err(WriteFault) => Err(FeedFault::Extract(Fault::Write)),
+    }
+}

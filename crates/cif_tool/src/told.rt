@@ -1,0 +1,128 @@
+//! What `prepare` and `update` say on standard error of their answer, and the status that they end with.
+ghost use Rattle.std.specs.Prelude.{◌≡◌};
+ghost use Rattle.cif_canon.specs.Appended.{IsAppended};
+ghost use Rattle.cif_tool.specs.Told.{dropped_line, feed_status_of, refused_line, told_status, told_text, waived_line};
+
+use crate::feed_answers::DoneUpdate;
+use crate::status::{DONE, REFUSED, status};
+use arrayvec::ArrayString;
+use cif_canon::writing::{Texts, append, write_each};
+use cif_columns::{Sink, WriteDevice};
+use cif_extract::Clash;
+use cif_feed::{FeedFault, RefusedLine};
+
+/// What is told of an answer.
+#[derive(Drop)]
+pub enum Told {
+    /// Of `prepare`: for each key whose records were left out, its clash.
+    Dropped(Vec<Clash>),
+    /// Of `update`: what each update did, of which the lines that it waived are told.
+    Updates(Vec<DoneUpdate>),
+}
+
+/// Says what is told of the answer, or why there is none, and gives the status that the program exits with.
+/// That it can't be written changes no status.
+pub fn end_feed<W: WriteDevice>(answer: &Result<Told, FeedFault>, errors: &mut Sink<W>) -> u8
+    ensures status { result ≡ told_status answer.now }
+    ensures told { IsAppended W.contents W.write_errors (told_text answer.now) errors.old errors.new }
+{
+    match answer {
+        Ok(Told::Dropped(clashes)) => {
+            write_each(&DroppedLines, clashes.as_slice(), errors);
+            DONE
+        }
+        Ok(Told::Updates(updates)) => {
+            write_each(&WaivedLines, updates.as_slice(), errors);
+            DONE
+        }
+        Err(fault) => {
+            append(refused_line(fault).as_str(), errors);
+            feed_status(fault)
+        }
+    }
+}
+
+/// The status of a fault.
+fn feed_status(fault: &FeedFault) -> u8
+    ensures { result ≡ feed_status_of fault.now }
+{
+    match fault {
+        FeedFault::Extract(fault) => status(fault),
+        _ => REFUSED,
+    }
+}
+
+/// The bytes of the longest line: that of a clash of associations.
+const LONGEST_LINE: usize = 80;
+
+/// The line that names a fault.
+#[tactic(auto, unfolding(crate::specs::Told::refused_line))]
+fn refused_line(fault: &FeedFault) -> ArrayString<LONGEST_LINE>
+    ensures { result.bytes ≡ refused_line fault.now }
+{
+    let mut line = ArrayString::new();
+    line.push_str("cif: ");
+    line.push_str(fault.text().as_str());
+    line.push_str("\n");
+    line
+}
+
+/// The line of one that was waived.
+#[tactic(auto, unfolding(crate::specs::Told::waived_line))]
+fn waived_line(refused: &RefusedLine) -> ArrayString<LONGEST_LINE>
+    ensures { result.bytes ≡ waived_line refused.now }
+{
+    let mut line = ArrayString::new();
+    line.push_str("cif: ");
+    line.push_str(refused.fault().text().as_str());
+    line.push_str(" (waived)\n");
+    line
+}
+
+/// The line of a key whose records were left out.
+#[tactic(auto, unfolding(crate::specs::Told::dropped_line))]
+fn dropped_line(clash: &Clash) -> ArrayString<LONGEST_LINE>
+    ensures { result.bytes ≡ dropped_line clash.now }
+{
+    let mut line = ArrayString::new();
+    line.push_str("cif: dropped: ");
+    line.push_str(clash.text().as_str());
+    line.push_str("\n");
+    line
+}
+
+/// The lines of keys whose records were left out.
+struct DroppedLines;
+
+impl Texts<Clash> for DroppedLines {
+    ghost use Rattle.cif_tool.specs.Told.{dropped_line};
+
+    ghost text = { λ _ clash. dropped_line clash };
+
+    fn write<W: WriteDevice>(&self, clash: &Clash, sink: &mut Sink<W>) {
+        append(dropped_line(clash).as_str(), sink);
+    }
+}
+
+/// The lines that updates waived, and that one of them did.
+struct WaivedLines;
+
+impl Texts<DoneUpdate> for WaivedLines {
+    ghost use Rattle.cif_tool.specs.Told.{waived_lines};
+
+    ghost text = { λ _ update. waived_lines update };
+
+    fn write<W: WriteDevice>(&self, update: &DoneUpdate, sink: &mut Sink<W>) {
+        write_each(self, update.outcome.waived.as_slice(), sink);
+    }
+}
+
+impl Texts<RefusedLine> for WaivedLines {
+    ghost use Rattle.cif_tool.specs.Told.{waived_line};
+
+    ghost text = { λ _ line. waived_line line };
+
+    fn write<W: WriteDevice>(&self, line: &RefusedLine, sink: &mut Sink<W>) {
+        append(waived_line(line).as_str(), sink);
+    }
+}
