@@ -10,9 +10,11 @@ use Rattle.cif_feed.specs.FeedRefusal.{IsFeedContent, IsFeedCut, IsFirstOfFeed}
 use Rattle.cif_feed.specs.SpellsFeed.{BytesSpellFeed, feed_parts}
 use Rattle.cif_feed.specs.declared.feed.Feed.{Feed}
 use Rattle.cif_feed.specs.declared.feed.FeedFault.{FeedFault}
-use Rattle.cif_feed.specs.declared.feed.FeedFault.TheVariants.{Extract, NotUpdate, BadTransaction}
+use Rattle.cif_feed.specs.declared.feed.FeedFault.TheVariants.{BadHoliday, BadTransaction, Extract, NotUpdate}
 use Rattle.cif_feed.specs.declared.feed_reading.FeedExtract.{FeedExtract}
 use Rattle.cif_feed.specs.declared.holiday_code.HolidayCodes.{HolidayCodes}
+use Rattle.cif_feed.specs.declared.holiday_text.HolidayFault.{HolidayFault}
+use Rattle.cif_feed.specs.declared.holiday_text.HolidayFault.TheVariants as holiday
 
 -- Why these bytes are none, or can't be read, where `after` is left then: their first refusal, of a content that is decided, or a failure
 -- of the source before one was. No contract foretells that memory runs out.
@@ -60,3 +62,9 @@ abbrev pub reading_feed : Feed → HolidayCodes → ℕ → ReadCall FeedExtract
 reading_feed feed allowed max =
     reading is_feed_read (λ bytes lines. BytesSpellFeed feed allowed max bytes (feed_parts lines)) (IsFeedFault feed allowed max)
     (IsOfFeed max)
+
+-- a fault of holidays
+abbrev pub of_holiday_fault : HolidayFault → FeedFault
+of_holiday_fault (holiday.BadHoliday line) = BadHoliday line
+of_holiday_fault holiday.Read = Extract Read
+of_holiday_fault holiday.Memory = Extract Memory

@@ -1,7 +1,8 @@
 //! Which feed is read, and why one can't be.
-ghost use Rattle.std.specs.Prelude.{◌≡◌, ◌≤◌, length};
+ghost use Rattle.std.specs.Prelude.{◌≡◌, ◌≤◌, ◌++◌, codes, length};
 ghost use Rattle.cif_feed.specs.FeedTexts.{line_text};
 
+use crate::HolidayFault;
 use arrayvec::ArrayString;
 use cif_columns::LineFault;
 use cif_extract::Fault;
@@ -29,6 +30,8 @@ pub enum FeedFault {
     NotThere { line: u64 },
     /// A line of an update, by its number, puts a record that is there already.
     AlreadyThere { line: u64 },
+    /// A line of holidays, by its number, isn't one of holidays, or is one too many.
+    BadHoliday { line: u64 },
     /// The header of an update, by its number, doesn't follow the extract.
     OutOfSequence { line: u64 },
 }
@@ -40,7 +43,7 @@ impl FeedFault {
     ghost use Rattle.cif_feed.specs.FeedTexts.{fault_text, name_of, number_of};
 
     /// The number of the fault: that of an extract of this profile, or 22 NotUpdate, 23
-    /// BadTransaction, 24 NotThere, 25 AlreadyThere, 27 OutOfSequence.
+    /// BadTransaction, 24 NotThere, 25 AlreadyThere, 26 BadHoliday, 27 OutOfSequence.
     pub fn number(&self) -> u8
         ensures { result ≡ number_of self.now }
     {
@@ -50,6 +53,7 @@ impl FeedFault {
             FeedFault::BadTransaction { line: _ } => 23,
             FeedFault::NotThere { line: _ } => 24,
             FeedFault::AlreadyThere { line: _ } => 25,
+            FeedFault::BadHoliday { line: _ } => 26,
             FeedFault::OutOfSequence { line: _ } => 27,
         }
     }
@@ -64,6 +68,7 @@ impl FeedFault {
             FeedFault::BadTransaction { line: _ } => "BadTransaction",
             FeedFault::NotThere { line: _ } => "NotThere",
             FeedFault::AlreadyThere { line: _ } => "AlreadyThere",
+            FeedFault::BadHoliday { line: _ } => "BadHoliday",
             FeedFault::OutOfSequence { line: _ } => "OutOfSequence",
         }
     }
@@ -80,6 +85,7 @@ impl FeedFault {
             FeedFault::BadTransaction { line } => line_text(*line, "BadTransaction"),
             FeedFault::NotThere { line } => line_text(*line, "NotThere"),
             FeedFault::AlreadyThere { line } => line_text(*line, "AlreadyThere"),
+            FeedFault::BadHoliday { line } => holiday_text(*line),
             FeedFault::OutOfSequence { line } => line_text(*line, "OutOfSequence"),
         }
     }
@@ -97,6 +103,31 @@ fn line_text(line: u64, name: &str) -> ArrayString<LONGEST_FAULT>
     text.push_str(": ");
     text.push_str(name);
     text
+}
+
+/// The text of a bad line of holidays.
+#[tactic(auto, unfolding(crate::specs::FeedTexts::line_text))]
+fn holiday_text(line: u64) -> ArrayString<LONGEST_FAULT>
+    ensures { result.bytes ≡ codes "holidays: " ++ line_text line (codes "BadHoliday") }
+{
+    let mut text = ArrayString::new();
+    text.push_str("holidays: ");
+    text.push_str(line_text(line, "BadHoliday").as_str());
+    text
+}
+
+impl From<HolidayFault> for FeedFault {
+    ghost use Rattle.cif_feed.specs.FeedFault.{of_holiday_fault};
+
+    ghost from_gives = { λ holiday_fault fault. fault ≡ of_holiday_fault holiday_fault };
+
+    fn from(fault: HolidayFault) -> FeedFault {
+        match fault {
+            HolidayFault::BadHoliday { line } => FeedFault::BadHoliday { line },
+            HolidayFault::Read => FeedFault::Extract(Fault::Read),
+            HolidayFault::Memory => FeedFault::Extract(Fault::Memory),
+        }
+    }
 }
 
 impl From<LineFault> for FeedFault {

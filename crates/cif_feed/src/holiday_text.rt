@@ -21,7 +21,7 @@ const LINE_AHEAD: usize = LONGEST_LINE + 1;
 /// How many bytes are read at once.
 const PIECE: usize = 4_096;
 
-/// Why there are no holidays.
+/// Why there are no holidays. Its number, its name and its text are those of the `FeedFault` that it is.
 #[derive(Clone, Copy, Debug, PartialEq, Eq)]
 pub enum HolidayFault {
     /// A line, by its number from 1, isn't one of holidays, or is one too many.

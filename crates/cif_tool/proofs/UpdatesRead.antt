@@ -1,6 +1,6 @@
 -- What comes of the sources of `update`, where the bytes that their readers give are known.
 use Rattle.std.proofs.Common.{◌≡◌, ◌∙◌, ◌⊎◌, ⊎_elim, ℕ, List, [], ◌∷◌, ◌++◌, Option, Some, Result, Ok, Err, Bool, IfErr, IfOk, IfSome}
-use Rattle.std.proofs.Common.{ap, append-nil, append_assoc, false, inl, inr, refl, subst, sym, true}
+use Rattle.std.proofs.Common.{ap, append-nil, append_assoc, inl, inr, refl, subst, sym}
 use Rattle.std.specs.Prelude.{MatchResult}
 use Rattle.std.proofs.lemmas.Grind.{flat_map-append}
 use Rattle.cif_columns.proofs.WrittenTexts.{failed_second, written_both}
@@ -20,8 +20,9 @@ use Rattle.cif_feed.specs.Updated.{IsOfUpdate, IsUpdateFault as IsOneUpdateFault
 use Rattle.cif_feed.specs.UpdatesInTurn.{AreUpdatesDone, IsOneRefused, IsRefusedFor, IsWritten}
 use Rattle.cif_feed.specs.WrittenPrepared.{IsDeviceOrMemory}
 use Rattle.cif_feed.specs.declared.changes.RefusedLine.{RefusedLine}
+use Rattle.cif_feed.specs.declared.changes.Unfit.TheVariants as unfit
 use Rattle.cif_feed.specs.declared.feed.FeedFault.{FeedFault}
-use Rattle.cif_feed.specs.declared.feed.FeedFault.TheVariants.{AlreadyThere, BadTransaction, Extract, NotThere, NotUpdate}
+use Rattle.cif_feed.specs.declared.feed.FeedFault.TheVariants.{AlreadyThere, BadTransaction, Extract, NotThere, NotUpdate, OutOfSequence}
 use Rattle.cif_feed.specs.declared.holiday_code.HolidayCodes.{HolidayCodes}
 use Rattle.cif_feed.specs.declared.published_extract.PublishedExtract.{PublishedExtract}
 use Rattle.cif_feed.specs.declared.update.Outcome.{Outcome}
@@ -47,8 +48,9 @@ update-refused lenient old bytes after (Extract Memory) h = inl tt
 update-refused lenient old bytes after (Extract _) h = absurd h
 update-refused lenient old bytes after (NotUpdate line) h = inr (inl h.0)
 update-refused lenient old bytes after (BadTransaction line) h = inr (inl h.0)
-update-refused lenient old bytes after (NotThere line) h = inr (inr (record { line = line; is_there = false }, h, refl))
-update-refused lenient old bytes after (AlreadyThere line) h = inr (inr (record { line = line; is_there = true }, h, refl))
+update-refused lenient old bytes after (OutOfSequence line) h = inr (inr (record { line = line; why = unfit.OutOfSequence }, h, refl))
+update-refused lenient old bytes after (NotThere line) h = inr (inr (record { line = line; why = unfit.NotThere }, h, refl))
+update-refused lenient old bytes after (AlreadyThere line) h = inr (inr (record { line = line; why = unfit.AlreadyThere }, h, refl))
 
 module _ {R : Type 0} (remaining : R → Option (List ℕ)) (errors : R → Option ℕ) (lenient : Bool) where
   -- updates that are done are done to the extract in turn
@@ -205,36 +207,33 @@ module _ {R W A : Type 0} (remaining : R → Option (List ℕ)) (errors : R → 
       text = refl;
     }
 
-    pub done-answer : (old after : Sink W) (done : A) → told done ≡ waived → HasWritten contents write_errors (published_text new) old after →
-        FeedAnswers contents write_errors told Answer old after (Ok done)
-    done-answer old after done is w = record {
+    -- and the text is written, or isn't
+    abbrev Ends : Sink W → Sink W → Result A FeedFault → Type 0
+    Ends old after result = MatchResult result (λ a. HasWritten contents write_errors (published_text new) old after)
+        (λ f. (f ≡ Extract Write) × HasFailed contents write_errors (published_text new) old after)
+
+    pub ended-answer : ((a : A) → told a ≡ waived) → (old after : Sink W) (result : Result A FeedFault) → Ends old after result →
+        FeedAnswers contents write_errors told Answer old after result
+    ended-answer is old after (Ok a) w = record {
       text = published_text new;
       writes = w;
-      answer = subst (Answer (published_text new)) (sym is) written;
+      answer = subst (Answer (published_text new)) (sym (is a)) written;
+    }
+    ended-answer is old after (Err f) w = subst (λ e. FeedAnswers contents write_errors told Answer old after (Err e)) (sym w.0) record {
+      text = published_text new;
+      writes = w.1;
+      answer = (waived, written);
     }
 
-    pub done-reads : (done : A) → told done ≡ waived →
-        AreUpdatesRead remaining errors told lenient full full_new updates updates_new (Ok done)
-    done-reads done is = read-first (Ok tt) (Ok done) turn (is, tt)
+    pub ended-fault : (old after : Sink W) (result : Result A FeedFault) → Ends old after result →
+        OfUpdates remaining (λ bytes given. IfErr result (IsUpdateFault lenient bytes given)) full updates
+    ended-fault old after (Ok a) w bytes given known are = tt
+    ended-fault old after (Err f) w bytes given known are = subst (IsUpdateFault lenient bytes given) (sym w.0) (inl tt)
 
-    -- and the text isn't written
-    module _ (f : FeedFault) (result : Result A FeedFault) (err : result ≡ Err f) (write : f ≡ Extract Write) where
-      at-write : result ≡ Err (Extract Write)
-      at-write = err ∙ ap Err write
-
-      pub unwritten-answer : (old after : Sink W) → HasFailed contents write_errors (published_text new) old after →
-          FeedAnswers contents write_errors told Answer old after result
-      unwritten-answer old after w = subst (FeedAnswers contents write_errors told Answer old after) (sym at-write) record {
-        text = published_text new;
-        writes = w;
-        answer = (waived, written);
-      }
-
-      pub unwritten-fault : OfUpdates remaining (λ bytes given. IfErr result (IsUpdateFault lenient bytes given)) full updates
-      unwritten-fault bytes given known are = subst (λ r. IfErr r (IsUpdateFault lenient bytes given)) (sym at-write) (inl tt)
-
-      pub unwritten-reads : AreUpdatesRead remaining errors told lenient full full_new updates updates_new result
-      unwritten-reads = read-first (Ok tt) result turn (subst (EndsAs told waived (Ok tt)) (sym at-write) (tt, refl))
+    pub ended-reads : ((a : A) → told a ≡ waived) → (old after : Sink W) (result : Result A FeedFault) → Ends old after result →
+        AreUpdatesRead remaining errors told lenient full full_new updates updates_new result
+    ended-reads is old after (Ok a) w = read-first (Ok tt) (Ok a) turn (is a, tt)
+    ended-reads is old after (Err f) w = read-first (Ok tt) (Err f) turn (tt, w.0)
 
 -- one update more
 pub waived-more : (known : List DoneUpdate) (update : DoneUpdate) (all : List DoneUpdate) → all ≡ known ++ update ∷ [] →

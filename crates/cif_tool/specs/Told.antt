@@ -1,5 +1,6 @@
 -- What `prepare` and `update` say on standard error of their answer, and the status that they end with.
-use Rattle.std.specs.Prelude.{ℕ, List, ◌++◌, codes, Result, Ok, Err}
+use Rattle.std.specs.Prelude.{ℕ, List, ◌++◌, codes, Result, Ok, Err, Vec}
+use Rattle.std.specs.Global.{Global}
 use Rattle.std.specs.List.{flat_map}
 use Rattle.cif_extract.specs.Clash.{clash_text}
 use Rattle.cif_extract.specs.declared.fault.Clash.{Clash}
@@ -10,8 +11,6 @@ use Rattle.cif_feed.specs.declared.feed.FeedFault.{FeedFault}
 use Rattle.cif_feed.specs.declared.feed.FeedFault.TheVariants.{Extract}
 use Rattle.cif_tool.specs.Status.{status_of}
 use Rattle.cif_tool.specs.declared.feed_answers.DoneUpdate.{DoneUpdate}
-use Rattle.cif_tool.specs.declared.told.Told.{Told}
-use Rattle.cif_tool.specs.declared.told.Told.TheVariants.{Dropped, Updates}
 
 -- a line of an update that was waived
 unfoldable pub waived_line : RefusedLine → List ℕ
@@ -29,11 +28,15 @@ dropped_line clash = codes "cif: dropped: " ++ clash_text clash ++ codes "\n"
 unfoldable pub refused_line : FeedFault → List ℕ
 refused_line fault = codes "cif: " ++ fault_text fault ++ codes "\n"
 
--- what is said of an answer: of a fault its line, and nothing else
-abbrev pub told_text : Result Told FeedFault → List ℕ
-told_text (Ok (Dropped clashes)) = flat_map dropped_line clashes.items
-told_text (Ok (Updates updates)) = flat_map waived_lines updates.items
-told_text (Err fault) = refused_line fault
+-- what `prepare` says of its answer: of a fault its line, and nothing else
+abbrev pub told_by_prepare : Result (Vec Clash Global) FeedFault → List ℕ
+told_by_prepare (Ok dropped) = flat_map dropped_line dropped.items
+told_by_prepare (Err fault) = refused_line fault
+
+-- what `update` says of its answer, where these updates were done
+abbrev pub told_by_update : Result (Unit {0}) FeedFault → List DoneUpdate → List ℕ
+told_by_update (Ok done) updates = flat_map waived_lines updates
+told_by_update (Err fault) updates = refused_line fault
 
 -- the status of a fault: that of an extract of this profile has its own, and each other is a refusal
 abbrev pub feed_status_of : FeedFault → ℕ
@@ -41,6 +44,6 @@ feed_status_of (Extract fault) = status_of fault
 feed_status_of fault = 3
 
 -- the status that an answer ends with
-abbrev pub told_status : Result Told FeedFault → ℕ
-told_status (Ok told) = 0
+abbrev pub told_status : {A : Type 0} → Result A FeedFault → ℕ
+told_status (Ok done) = 0
 told_status (Err fault) = feed_status_of fault

@@ -11,7 +11,7 @@ ghost use Rattle.cif_feed.specs.UpdatesInTurn.{IsWritten};
 
 use cif_columns::{MAX_LINES, ReadDevice, Sink, Source, WriteDevice, WriteFault};
 use cif_extract::Fault;
-use cif_feed::{FeedFault, HolidayCodes, Outcome, PublishedExtract};
+use cif_feed::{FeedFault, HolidayCodes, Outcome, Passed, PublishedExtract};
 use cif_records::Header;
 use std::alloc::Global;
 
@@ -24,33 +24,73 @@ pub struct DoneUpdate {
     pub outcome: Outcome,
 }
 
+/// What `update` leaves to its caller.
+#[derive(Drop)]
+pub struct KeptUpdate {
+    /// The full extract, after the updates that were done. After a fault nothing is said of it.
+    pub extract: Option<PublishedExtract>,
+    /// What was read of it first.
+    pub full: Option<ReadFeed>,
+    /// The updates that were done.
+    pub done: Vec<DoneUpdate>,
+}
+
+/// What is said of a feed that was read.
+#[derive(Clone, Copy)]
+pub struct ReadFeed {
+    /// Its header.
+    pub header: Header,
+    /// What was passed over as it was read.
+    pub passed: Passed,
+    /// How many records have an open end.
+    pub open_ends: u64,
+}
+
+impl ReadFeed {
+    /// That of a published extract.
+    pub fn of(extract: &PublishedExtract) -> ReadFeed {
+        let mut open_ends = 0_u64;
+        for association in extract.associations.as_slice() {
+            open_ends = open_ends.saturating_add(u64::from(association.open_end));
+        }
+        for schedule in extract.schedules.as_slice() {
+            open_ends = open_ends.saturating_add(u64::from(schedule.open_end));
+        }
+        ReadFeed {
+            header: extract.header,
+            passed: extract.passed,
+            open_ends,
+        }
+    }
+}
+
 /// Writes the published extract that the first source gives after the updates that the others give, each of
-/// which is read and done before the next is touched. The answer is what each update did.
+/// which is read and done before the next is touched. What each did is left in `kept`.
 ///
-/// Nothing is written before all updates are done. What was read and changed is left in `kept`.
+/// Nothing is written before all updates are done.
 pub fn answer_update<R: ReadDevice, W: WriteDevice>(
     alloc: Global,
     full: &mut Source<R>,
     updates: &mut [Source<R>],
     sink: &mut Sink<W>,
     lenient: bool,
-    kept: &mut Option<PublishedExtract>,
-) -> Result<Vec<DoneUpdate>, FeedFault>
-    ensures answer { FeedAnswers W.contents W.write_errors (λ done. waived_by done.items)
+    kept: &mut KeptUpdate,
+) -> Result<(), FeedFault>
+    ensures answer { FeedAnswers W.contents W.write_errors (λ _. waived_by kept.new.done.items)
         (λ text waived. OfUpdates R.remaining (λ bytes given. IsWritten lenient MAX_LINES bytes given text waived)
         full.old updates.old) sink.old sink.new result }
     ensures fault { OfUpdates R.remaining (λ bytes given. IfErr result (IsUpdateFault lenient bytes given))
         full.old updates.old }
-    ensures reads { AreUpdatesRead R.remaining R.read_errors (λ done. waived_by done.items) lenient
+    ensures reads { AreUpdatesRead R.remaining R.read_errors (λ _. waived_by kept.new.done.items) lenient
         full.old full.new updates.old updates.new result }
     ensures handed_on { IsHandedOn W.holds_nothing sink.new result }
 {
     let extract = PublishedExtract::read(alloc, full, MAX_LINES, HolidayCodes::all())?;
-    let extract = kept.insert(extract);
-    let mut done = Vec::new(alloc);
-    do_updates(alloc, extract, updates, lenient, &mut done)?;
-    finish(extract.write(sink), sink)?;
-    Ok(done)
+    kept.full = Some(ReadFeed::of(&extract));
+    kept.done = Vec::new(alloc);
+    let extract = kept.extract.insert(extract);
+    do_updates(alloc, extract, updates, lenient, &mut kept.done)?;
+    finish(extract.write(sink), sink)
 }
 
 /// Does the updates that the sources give to the extract, one after another, and appends what each did.

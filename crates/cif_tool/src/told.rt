@@ -1,7 +1,8 @@
 //! What `prepare` and `update` say on standard error of their answer, and the status that they end with.
 ghost use Rattle.std.specs.Prelude.{◌≡◌};
 ghost use Rattle.cif_canon.specs.Appended.{IsAppended};
-ghost use Rattle.cif_tool.specs.Told.{dropped_line, feed_status_of, refused_line, told_status, told_text, waived_line};
+ghost use Rattle.cif_tool.specs.Told.{dropped_line, feed_status_of, refused_line, waived_line};
+ghost use Rattle.cif_tool.specs.Told.{told_by_prepare, told_by_update, told_status};
 
 use crate::feed_answers::DoneUpdate;
 use crate::status::{DONE, REFUSED, status};
@@ -11,35 +12,47 @@ use cif_columns::{Sink, WriteDevice};
 use cif_extract::Clash;
 use cif_feed::{FeedFault, RefusedLine};
 
-/// What is told of an answer.
-#[derive(Drop)]
-pub enum Told {
-    /// Of `prepare`: for each key whose records were left out, its clash.
-    Dropped(Vec<Clash>),
-    /// Of `update`: what each update did, of which the lines that it waived are told.
-    Updates(Vec<DoneUpdate>),
-}
-
-/// Says what is told of the answer, or why there is none, and gives the status that the program exits with.
-/// That it can't be written changes no status.
-pub fn end_feed<W: WriteDevice>(answer: &Result<Told, FeedFault>, errors: &mut Sink<W>) -> u8
+/// Says what `prepare` tells of its answer, or why there is none, and gives the status that the program exits
+/// with. That it can't be written changes no status.
+pub fn end_prepare<W: WriteDevice>(answer: &Result<Vec<Clash>, FeedFault>, errors: &mut Sink<W>) -> u8
     ensures status { result ≡ told_status answer.now }
-    ensures told { IsAppended W.contents W.write_errors (told_text answer.now) errors.old errors.new }
+    ensures told { IsAppended W.contents W.write_errors (told_by_prepare answer.now) errors.old errors.new }
 {
     match answer {
-        Ok(Told::Dropped(clashes)) => {
-            write_each(&DroppedLines, clashes.as_slice(), errors);
+        Ok(dropped) => {
+            write_each(&DroppedLines, dropped.as_slice(), errors);
             DONE
         }
-        Ok(Told::Updates(updates)) => {
-            write_each(&WaivedLines, updates.as_slice(), errors);
-            DONE
-        }
-        Err(fault) => {
-            append(refused_line(fault).as_str(), errors);
-            feed_status(fault)
-        }
+        Err(fault) => refuse(fault, errors),
     }
+}
+
+/// Says what `update` tells of its answer, where these updates were done, or why there is none, and gives the
+/// status that the program exits with. That it can't be written changes no status.
+pub fn end_update<W: WriteDevice>(
+    answer: &Result<(), FeedFault>,
+    done: &[DoneUpdate],
+    errors: &mut Sink<W>,
+) -> u8
+    ensures status { result ≡ told_status answer.now }
+    ensures told { IsAppended W.contents W.write_errors (told_by_update answer.now done.now) errors.old errors.new }
+{
+    match answer {
+        Ok(()) => {
+            write_each(&WaivedLines, done, errors);
+            DONE
+        }
+        Err(fault) => refuse(fault, errors),
+    }
+}
+
+/// Says why there is no answer, and gives its status.
+fn refuse<W: WriteDevice>(fault: &FeedFault, errors: &mut Sink<W>) -> u8
+    ensures status { result ≡ feed_status_of fault.now }
+    ensures told { IsAppended W.contents W.write_errors (refused_line fault.now) errors.old errors.new }
+{
+    append(refused_line(fault).as_str(), errors);
+    feed_status(fault)
 }
 
 /// The status of a fault.

@@ -1,11 +1,7 @@
--- An update that isn't done is told by `undone-answer` and its like, a text that isn't written by `unwritten-answer`, and one that is by
--- `done-answer`.
-use Rattle.std.proofs.Common.{Err, Ok}
+-- An update that isn't done is told by `undone-answer` and its like; a text that is written, or isn't, by `ended-answer`.
 use Rattle.cif_extract.proofs.ReadCalls.{at-fault}
 use Rattle.cif_feed.specs.PublishedParts.{published_parts}
-use Rattle.cif_tool.specs.FeedAnswer.{waived_by}
-use Rattle.cif_tool.proofs.UpdatesRead.{done-answer, done-reads, finished, undone-answer, undone-fault, undone-reads, unwritten-answer}
-use Rattle.cif_tool.proofs.UpdatesRead.{unwritten-fault, unwritten-reads}
+use Rattle.cif_tool.proofs.UpdatesRead.{ended-answer, ended-fault, ended-reads, finished, undone-answer, undone-fault, undone-reads}
 use Rattle.cif_tool.proofs.feed_answers.answer_update.Goals as goal
 
 pub returns-in_err-do_updates-clause-answer : goal.returns-in_err-do_updates-clause-answer
@@ -20,7 +16,7 @@ pub returns-in_err-do_updates-clause-fault : goal.returns-in_err-do_updates-clau
 returns-in_err-do_updates-clause-fault g c =
     let call = c.from_residual-in_err-do_updates in
     let f = c.in_err-do_updates.field-0.0 in
-    undone-fault _ _ g.W.Write.contents g.W.WriteDevice.write_errors (λ done. waived_by done.items) _ _ c.all.ensures _ _ c.in_ok-extract.extract c.in_ok-extract.ensures c.insert-extract.result.now c.insert-extract.ensures.value
+    undone-fault _ _ g.W.Write.contents g.W.WriteDevice.write_errors (λ u. waived_by c.do_updates.new.done.items) _ _ c.all.ensures _ _ c.in_ok-extract.extract c.in_ok-extract.ensures c.insert-extract.result.now c.insert-extract.ensures.value
     (published_parts c.do_updates.new.extract) _ _ c.in_err-do_updates.ensures.0 f c.in_err-do_updates.ensures.1 call.result
     (at-fault call.result f call.ensures.1)
 
@@ -32,44 +28,23 @@ returns-in_err-do_updates-clause-reads g c =
     (published_parts c.do_updates.new.extract) _ _ c.in_err-do_updates.ensures.0 f c.in_err-do_updates.ensures.1 call.result
     (at-fault call.result f call.ensures.1)
 
-pub returns-in_err-finish-clause-answer : goal.returns-in_err-finish-clause-answer
-returns-in_err-finish-clause-answer g c =
-    let call = c.from_residual-in_err-finish in
-    let f = c.in_err-finish.field-0.0 in
-    let failed = finished _ _ _ _ _ _ c.write.result (Err f) c.write.ensures c.in_err-finish.ensures.finishes in
-    unwritten-answer _ _ _ _ _ _ _ c.all.ensures _ _ c.in_ok-extract.extract c.in_ok-extract.ensures c.insert-extract.result.now c.insert-extract.ensures.value
-    (published_parts c.do_updates.new.extract) _ _ c.in_ok-do_updates.ensures.0 c.in_ok-do_updates.ensures.1 f call.result
-    (at-fault call.result f call.ensures.1) failed.0 _ _ failed.1
-
-pub returns-in_err-finish-clause-fault : goal.returns-in_err-finish-clause-fault
-returns-in_err-finish-clause-fault g c =
-    let call = c.from_residual-in_err-finish in
-    let f = c.in_err-finish.field-0.0 in
-    let failed = finished _ _ _ _ _ _ c.write.result (Err f) c.write.ensures c.in_err-finish.ensures.finishes in
-    unwritten-fault _ _ g.W.Write.contents g.W.WriteDevice.write_errors (λ done. waived_by done.items) _ _ c.all.ensures _ _ c.in_ok-extract.extract c.in_ok-extract.ensures c.insert-extract.result.now c.insert-extract.ensures.value
-    (published_parts c.do_updates.new.extract) _ _ c.in_ok-do_updates.ensures.0 c.in_ok-do_updates.ensures.1 f call.result
-    (at-fault call.result f call.ensures.1) failed.0
-
-pub returns-in_err-finish-clause-reads : goal.returns-in_err-finish-clause-reads
-returns-in_err-finish-clause-reads g c =
-    let call = c.from_residual-in_err-finish in
-    let f = c.in_err-finish.field-0.0 in
-    let failed = finished _ _ _ _ _ _ c.write.result (Err f) c.write.ensures c.in_err-finish.ensures.finishes in
-    unwritten-reads _ _ g.W.Write.contents g.W.WriteDevice.write_errors _ _ _ c.all.ensures _ _ c.in_ok-extract.extract c.in_ok-extract.ensures c.insert-extract.result.now c.insert-extract.ensures.value
-    (published_parts c.do_updates.new.extract) _ _ c.in_ok-do_updates.ensures.0 c.in_ok-do_updates.ensures.1 f call.result
-    (at-fault call.result f call.ensures.1) failed.0
-
 pub returns-clause-answer : goal.returns-clause-answer
 returns-clause-answer g c =
     let turn = c.in_ok-do_updates.ensures in
-    done-answer _ _ _ _ _ _ _ c.all.ensures _ _ c.in_ok-extract.extract c.in_ok-extract.ensures c.insert-extract.result.now c.insert-extract.ensures.value
-    (published_parts c.do_updates.new.extract) _ _ turn.0 turn.1 _ _ c.do_updates.new.done
-    (rw c.new-done.ensures.items at turn.2)
-    (finished _ _ _ _ _ _ c.write.result (Ok tt) c.write.ensures c.in_ok-finish.ensures.finishes)
+    ended-answer _ _ _ _ _ _ _ c.all.ensures _ _ c.in_ok-extract.extract c.in_ok-extract.ensures c.insert-extract.result.now c.insert-extract.ensures.value
+    (published_parts c.do_updates.new.extract) _ _ turn.0 turn.1 (λ a. ?) c.args.sink.now c.finish.new.sink c.finish.result
+    (finished _ _ _ _ _ _ c.write.result c.finish.result c.write.ensures c.finish.ensures.finishes)
+
+pub returns-clause-fault : goal.returns-clause-fault
+returns-clause-fault g c =
+    let turn = c.in_ok-do_updates.ensures in
+    ended-fault _ _ g.W.Write.contents g.W.WriteDevice.write_errors (λ u. waived_by c.do_updates.new.done.items) _ _ c.all.ensures _ _ c.in_ok-extract.extract c.in_ok-extract.ensures c.insert-extract.result.now c.insert-extract.ensures.value
+    (published_parts c.do_updates.new.extract) _ _ turn.0 turn.1 c.args.sink.now c.finish.new.sink c.finish.result
+    (finished _ _ _ _ _ _ c.write.result c.finish.result c.write.ensures c.finish.ensures.finishes)
 
 pub returns-clause-reads : goal.returns-clause-reads
 returns-clause-reads g c =
     let turn = c.in_ok-do_updates.ensures in
-    done-reads _ _ g.W.Write.contents g.W.WriteDevice.write_errors _ _ _ c.all.ensures _ _ c.in_ok-extract.extract c.in_ok-extract.ensures c.insert-extract.result.now c.insert-extract.ensures.value
-    (published_parts c.do_updates.new.extract) _ _ turn.0 turn.1 c.do_updates.new.done
-    (rw c.new-done.ensures.items at turn.2)
+    ended-reads _ _ g.W.Write.contents g.W.WriteDevice.write_errors _ _ _ c.all.ensures _ _ c.in_ok-extract.extract c.in_ok-extract.ensures c.insert-extract.result.now c.insert-extract.ensures.value
+    (published_parts c.do_updates.new.extract) _ _ turn.0 turn.1 (λ a. ?) c.args.sink.now c.finish.new.sink c.finish.result
+    (finished _ _ _ _ _ _ c.write.result c.finish.result c.write.ensures c.finish.ensures.finishes)
