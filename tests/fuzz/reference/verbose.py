@@ -6,7 +6,7 @@ from . import layouts, values
 from .dates import yymmdd
 from .explanation import clashing
 from .extracts import COMMENT, NOTES, contents_of
-from .published import count_cut, count_open_ends, of_kind, transaction_of
+from .published import count_clashing, count_cut, count_open_ends, of_kind, transaction_of
 
 # An input: its name as it is shown, its bytes, or None where it can't be read, and whether a line of it can be read again.
 Input = namedtuple("Input", "name data again")
@@ -166,8 +166,10 @@ def of_feed(one, records, more):
     return [window(one)[2], f"{one.name}: {counts}{more}"]
 
 
-def of_prepared(one, records, holidays):
-    return of_feed(one, records, f", records cut by holidays: {count_cut(records, holidays)}")
+def of_prepared(one, records, holidays, clashes):
+    """The same of prepare; clashes has the clash dates of the keys, or is None where they aren't dropped."""
+    by_clashes = "" if clashes is None else f", records cut by clashes: {count_clashing(records, holidays, clashes)}"
+    return of_feed(one, records, f", records cut by holidays: {count_cut(records, holidays)}{by_clashes}")
 
 
 def of_update(one, records, waived):
