@@ -5,6 +5,7 @@ from collections import namedtuple
 from . import layouts, values
 from .dates import from_yymmdd, yymmdd
 from .explanation import clashing
+from .holidays import WIDTH
 from .extracts import COMMENT, NOTES, contents_of
 from .published import count_clashing, count_cut, count_open_ends, of_kind, transaction_of
 
@@ -239,8 +240,8 @@ def columns(first, last, must):
 
 def of_holidays(one, line):
     """What is said of a line of holidays: its first mistaken word, if all of it is known and not too long."""
-    if line is None:
-        return [HOLIDAY_LINE]
+    if line is None or len(line) > WIDTH:
+        return [*([] if line is None else [shown(line)]), HOLIDAY_LINE]
     words = [*re.finditer(rb"[^ ]+", line.split(b"#", 1)[0])]
     if not one.again and len(line) == KEPT and words and words[-1].end() == KEPT:
         words.pop()
