@@ -5,8 +5,8 @@
 
 Of what stands between backticks, each path has to lead to a file or a folder, from the top or from a folder of it, and each other
 name has to stand in a source of crates/ or tests/. Commands of the kit, which begin with `rt`, and options aren't looked up. In
-docs/PROMISES.md each name in the parentheses behind a promise has to be a function, a type or a law there, or a clause, a field or
-an invariant.
+docs/PROMISES.md each name in the cells behind a promise, or in the parentheses behind one in a list, has to be a function, a type or
+a law there, or a clause, a field, an invariant or a definition.
 """
 import re
 import sys
@@ -16,7 +16,7 @@ TOP = Path(__file__).resolve().parents[2]
 PATH = re.compile(r"[\w./-]*/[\w./-]*|[\w-]+\.(?:rt|antt|py|rs|c|sh|rows|md|cif|txt|edit)")
 NAME = re.compile(r"[A-Za-z_]\w*(?:-\w+)*")
 DECLARED = re.compile(
-    r"\b(?:fn|mod|struct|enum|trait|impl|for|record|data|abbrev|ensures|requires|ghost)\s+(?:pub\s+)?(?:\w+::)*(\w+)|^(?:\s*pub )?(\w+) :",
+    r"\b(?:fn|mod|struct|enum|trait|impl|for|record|data|abbrev|unfoldable|ensures|requires|ghost) +(?:pub +)?(?:\w+::)*(\w+)|^(?:\s*pub )?(\w+) :",
     re.M,
 )
 
@@ -50,11 +50,16 @@ def missing_names(document, files, words):
 
 
 def undeclared_names(document, declared):
-    """What stands in parentheses behind a promise, and nothing declares."""
-    for promise in re.findall(r"^- .*?\.\**\s+\((.*?)\)$", (TOP / document).read_text(), re.M | re.S):
-        for is_path, name in named(promise):
-            if not is_path and name not in declared:
-                yield f"{document}: nothing declares {name}"
+    """What stands behind a promise, in a list or a table, and nothing declares."""
+    text = (TOP / document).read_text()
+    behind = re.findall(r"^- .*?\.\**\s+\((.*?)\)$", text, re.M | re.S)
+    rows = re.findall(r"^([^|\n]+)\|([^\n]*)$", text, re.M)
+    for promise, cells in rows:
+        if cells.count("|") != 1:
+            yield f"{document}: no row of three cells: {promise}"
+    for is_path, name in named("\n".join(behind + [cells for _, cells in rows])):
+        if not is_path and name not in declared:
+            yield f"{document}: nothing declares {name}"
 
 
 def main():

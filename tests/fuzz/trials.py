@@ -231,9 +231,11 @@ def of_calendar(job, inputs, want):
 
 
 def of_prepared(job, inputs, want):
-    """What is prepared is an extract of the profile, of which prepare writes the same again."""
+    """What is prepared is an extract of the profile, of which prepare writes the same again, and has no clash if they are dropped."""
     again = job._replace(files=(), holidays=None)
     yield Trial("the output again", again, [want.stdout], want._replace(stderr=b""))
+    if job.drop_clashes:
+        yield Trial("the clashes of it", Job("clashes"), [want.stdout], Answer(b"", b"", 0))
 
 
 def of_update(job, inputs, want):

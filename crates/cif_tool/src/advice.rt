@@ -1,10 +1,12 @@
 //! What `--verbose` says on standard error beyond the line that names a fault. It is said when the answer is decided
 //! and changes nothing of it.
 use crate::answers::Kept;
-use crate::devices::{ExtractInput, LineAgain, MOST_LOOKED_AT, START, Written, line_again};
+use crate::devices::{
+    ExtractInput, LineAgain, MOST_KEPT, MOST_LOOKED_AT, START, Written, line_again,
+};
 use crate::job::{Job, JobFault};
 use crate::message::Message;
-use crate::refused_columns::columns_refused;
+use crate::refused_columns::{YYMMDD, bad_byte, columns_refused, holiday_refused};
 use crate::words::bad_word;
 use arrayvec::ArrayString;
 use cif_canon::Format;
@@ -124,22 +126,25 @@ impl<R: Files + Input> DoneJob<'_, '_, R> {
     }
 }
 
-/// Adds the commands that accept the first lines with these reasons.
+/// Adds what the input looks like, or the commands that accept the first lines with these reasons.
 fn add_reasons<R: Files + Input>(
     input: &ExtractInput<'_, R>,
     reasons: &Reasons,
     message: &mut Message,
 ) {
+    if let Some(format) = other_format(input.start.as_slice()) {
+        message.line(&["the input looks like ", format]);
+        return;
+    }
     if reasons.lines(Refusal::NotFull) > 0 {
-        let line = refused_line(input, reasons.first(Refusal::NotFull));
-        match &line {
-            Some(line) if is_of_update(line) => {
-                // `prepare` refuses an update.
+        // `prepare` refuses an update.
+        match refused_line(input, reasons.first(Refusal::NotFull)) {
+            Some(line) if is_of_update(&line) => {
                 message.line(&[UPDATE]);
                 return;
             }
-            Some(_) => {}
-            None => message.line(&[UPDATE]),
+            None if input.letter_of_header() != Some(b'F') => return,
+            _ => {}
         }
     }
     let mut told = "";
@@ -168,7 +173,7 @@ fn command_for_first<R: Files + Input>(
         return None;
     }
     let line = refused_line(input, reasons.first(why));
-    command_for(line.as_ref(), why)
+    command_for(input, line.as_ref(), why)
 }
 
 /// Whether there is a line in the output that isn't the heading of a table.
@@ -227,7 +232,7 @@ pub(crate) fn add_feed_fault<R: Files + Input>(
         }
         FeedFault::NotThere { line } | FeedFault::AlreadyThere { line } => {
             add_shown(input, *line, message);
-            message.line(&["an update may have been left out or done twice"]);
+            message.line(&["an update was left out, or done twice"]);
             message.line(&[LENIENT]);
         }
         // It is said with the reference of the extract.
@@ -249,9 +254,9 @@ pub(crate) fn add_out_of_sequence<R: Files + Input>(
     add_shown(input, line, message);
     message.line(&[
         "its last reference is [",
-        shown(last).as_str(),
+        shown::<LINE_WIDTH>(last).as_str(),
         "], and the extract's current reference is [",
-        shown(current).as_str(),
+        shown::<LINE_WIDTH>(current).as_str(),
         "]",
     ]);
     message.line(&["an update was left out or done twice, or is of another feed"]);
@@ -264,7 +269,13 @@ pub(crate) fn add_holiday_line<R: Files + Input>(
     line: u64,
     message: &mut Message,
 ) {
-    add_shown(input, line, message);
+    add_input(input, message);
+    if let Some(line) = refused_line(input, line) {
+        if add_holiday_word(&line, message) {
+            return;
+        }
+        add_bytes(line.bytes.as_slice(), message);
+    }
     message.line(&[
         "a line has a code, X, E or G, and dates YYMMDD, in at most 1,000 bytes; # begins a remark",
     ]);
@@ -274,7 +285,34 @@ pub(crate) fn add_holiday_line<R: Files + Input>(
 fn add_shown<R: Files + Input>(input: &ExtractInput<'_, R>, line: u64, message: &mut Message) {
     add_input(input, message);
     if let Some(line) = refused_line(input, line) {
-        message.line(&[shown(line.bytes.as_slice()).as_str()]);
+        add_bytes(line.bytes.as_slice(), message);
+    }
+}
+
+/// Adds the first mistaken word of a line of holidays, if it is known: under the line, or by itself if it ends
+/// too far to the right. Whether it is.
+fn add_holiday_word(line: &LineAgain, message: &mut Message) -> bool {
+    if line.length > MOST_KEPT {
+        return false;
+    }
+    let text = shown::<MOST_KEPT>(line.bytes.as_slice());
+    match holiday_refused(text.split('#').next().unwrap_or("")) {
+        // Of a word at the end of what is known there may be more.
+        Some((_, last, _)) if line.length == line.known && last == line.length => false,
+        Some((first, last, what)) if last <= LINE_WIDTH => {
+            add_bytes(line.bytes.as_slice(), message);
+            add_columns(first, last, what, message);
+            true
+        }
+        Some((first, last, what)) => {
+            add_bytes(
+                line.bytes.get(first.saturating_sub(1)..last).unwrap_or(b""),
+                message,
+            );
+            add_names(first, last, what, message);
+            true
+        }
+        None => false,
     }
 }
 
@@ -404,7 +442,7 @@ fn add_clashing<R: Files + Input>(
 /// What a mistaken word must be.
 pub(crate) fn must_be(fault: &JobFault) -> Option<&'static str> {
     match fault {
-        JobFault::BadDate => Some("must be a valid date as six digits, YYMMDD"),
+        JobFault::BadDate => Some(YYMMDD),
         JobFault::BadUid => Some("must be six printable ASCII characters"),
         JobFault::Usage(_)
         | JobFault::NoCommand
@@ -472,7 +510,7 @@ fn add_refusal<R: Files + Input>(
                 add_line(line, why, reader, message);
             }
             if reader == Reader::Extracts || why == Refusal::NotFull {
-                if let Some(command) = command_for(line.as_ref(), why) {
+                if let Some(command) = command_for(input, line.as_ref(), why) {
                     message.line(&[command]);
                 }
             }
@@ -487,16 +525,23 @@ const PREPARE_WITH_HOLIDAYS: &str =
 
 const UPDATE: &str = "cif update applies an update to a full extract";
 
-/// The command that accepts a line which others refuse for this reason, if there is one. Of a line that
-/// isn't known the reason alone decides.
-fn command_for(line: Option<&LineAgain>, why: Refusal) -> Option<&'static str> {
+/// The command that accepts a line of the input which others refuse for this reason, if there is one. Of a
+/// line that isn't known only an open end tells it.
+fn command_for<R: Files + Input>(
+    input: &ExtractInput<'_, R>,
+    line: Option<&LineAgain>,
+    why: Refusal,
+) -> Option<&'static str> {
     match (why, line) {
         (Refusal::OpenEnd, _) => Some(PREPARE),
-        (Refusal::BankHoliday, None) => Some(PREPARE_WITH_HOLIDAYS),
         (Refusal::BankHoliday, Some(line)) if has_holiday_code(line) => Some(PREPARE_WITH_HOLIDAYS),
         (Refusal::UnknownRecord, Some(line)) if is_note(line) => Some(PREPARE),
         (Refusal::BadLength | Refusal::UnknownRecord, Some(line)) if line.is_comment() => {
-            Some(PREPARE)
+            match input.letter_of_header() {
+                Some(b'F') => Some(PREPARE),
+                Some(b'U') if input.again().is_some() => Some(UPDATE),
+                _ => None,
+            }
         }
         (Refusal::NotFull, Some(line)) if is_of_update(line) => Some(UPDATE),
         _ => None,
@@ -516,16 +561,9 @@ fn has_holiday_code(line: &LineAgain) -> bool {
     }
 }
 
-/// Whether the line, which isn't one of a full extract, is one of an update.
+/// Whether the line is the header of an update.
 fn is_of_update(line: &LineAgain) -> bool {
-    let line = line.bytes.as_slice();
-    let column = if line.starts_with(b"HD") { 46 } else { 2 };
-    match (line.get(..2), line.get(column)) {
-        (Some(b"HD"), Some(letter)) => *letter == b'U',
-        (Some(b"AA" | b"BS"), Some(letter)) => *letter == b'R' || *letter == b'D',
-        (Some(b"TA" | b"TD"), _) => true,
-        _ => false,
-    }
+    line.bytes.starts_with(b"HD") && line.bytes.get(46) == Some(&b'U')
 }
 
 /// How files begin that are no extracts, and what each is.
@@ -571,15 +609,17 @@ fn add_column_refusal<R: Files + Input>(
 ) {
     add_input(input, message);
     if let Some(line) = refused_line(input, number) {
-        message.line(&[shown(line.bytes.as_slice()).as_str()]);
+        add_bytes(line.bytes.as_slice(), message);
         add_columns(column, column, what, message);
     }
 }
 
 /// Adds the line, which of its columns are refused, and what must stand there.
 fn add_line(line: &LineAgain, why: Refusal, reader: Reader, message: &mut Message) {
-    message.line(&[shown(line.bytes.as_slice()).as_str()]);
+    add_bytes(line.bytes.as_slice(), message);
+    let begins_comment = reader == Reader::Feeds && line.bytes.starts_with(b"/!!");
     match (why, reader) {
+        (Refusal::BadLength | Refusal::BadByte, _) if begins_comment => add_comment(line, message),
         (Refusal::BadLength, _) => add_length(line.length, line.known, message),
         (Refusal::BankHoliday, Reader::Feeds) => {
             let what = if has_holiday_code(line) {
@@ -597,12 +637,31 @@ fn add_line(line: &LineAgain, why: Refusal, reader: Reader, message: &mut Messag
     }
 }
 
+/// Adds why a line that begins as a comment is none.
+fn add_comment(line: &LineAgain, message: &mut Message) {
+    if line.length > LINE_WIDTH {
+        message.line(&["a comment has at most 80 columns"]);
+    } else if let Some(column) = bad_byte(line.bytes.as_slice()) {
+        add_columns(
+            column,
+            column,
+            "a byte of a comment is 0x20 to 0x7E",
+            message,
+        );
+    }
+}
+
 /// Adds which columns are refused, under the line, and what must stand there.
 fn add_columns(first: usize, last: usize, what: &str, message: &mut Message) {
     let before = first.saturating_sub(1);
     let blanks = BLANKS.get(..before).unwrap_or("");
     let carets = CARETS.get(before..last).unwrap_or("");
     message.line(&[blanks, carets]);
+    add_names(first, last, what, message);
+}
+
+/// Adds which columns are refused, by their numbers, and what must stand there.
+fn add_names(first: usize, last: usize, what: &str, message: &mut Message) {
     let mut from = Buffer::new();
     let mut to = Buffer::new();
     let from = from.format(first);
@@ -626,8 +685,13 @@ fn add_length(length: usize, known: usize, message: &mut Message) {
     }
 }
 
-/// The bytes of a line as text, with a question mark for each that isn't printable.
-fn shown(bytes: &[u8]) -> ArrayString<LINE_WIDTH> {
+/// Adds the first eighty of the bytes of a line.
+fn add_bytes(bytes: &[u8], message: &mut Message) {
+    message.line(&[shown::<LINE_WIDTH>(bytes).as_str()]);
+}
+
+/// The first bytes of a line as text, with a question mark for each that isn't printable.
+fn shown<const N: usize>(bytes: &[u8]) -> ArrayString<N> {
     let mut text = ArrayString::new();
     for byte in bytes {
         let shown = if (0x20..=0x7E).contains(byte) {

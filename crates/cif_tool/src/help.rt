@@ -246,8 +246,10 @@ A line of --holidays is a code, X, E or G, and dates, in at most 1,000 bytes;
 # begins a remark:
   X 260406 260504   # bank holiday Mondays
   E 260420          # Edinburgh; G is Glasgow
-With --drop-clashes standard error says what was left out, in lines that begin
-with `cif: dropped: ` and go on as those of `cif clashes`.
+With --drop-clashes nothing of a train or an association runs on the dates on
+which it has a clash, and standard error names these: the first, and how many
+more there are.
+  cif: dropped: train [UID] on YYMMDD and N more dates
 
 Examples:
   cif prepare --holidays holidays.txt published.cif > extract.cif
@@ -264,11 +266,17 @@ pub(crate) const UPDATE: &str = "Applies update extracts to a full extract";
 pub(crate) const UPDATE_MORE: &str = "\
 Prints the full extract that the updates, one after the other, make of FULL,
 which may be a published one, with holiday codes, open end dates, notes and
-comments. The output can be the FULL of the next update. `cif prepare` makes an
-extract of it that all commands read.
-An update is refused where it puts a record that is there already, or changes
-or deletes one that isn't there. With --lenient it replaces the one that is
-there, puts the one that isn't, or deletes nothing, and standard error says so:
+comments. Keep the output: it is the FULL of the next update. `cif prepare`
+makes an extract of it that all commands read. Don't take as FULL what
+`cif prepare` or `cif normalise` wrote: they split records and replace their
+letters, so an update no longer finds them.
+An update is refused if it doesn't follow the extract before it: its last
+reference is neither blank nor the current reference of that extract. It is
+refused, too, where it puts a record that is there already, or changes or
+deletes one that isn't there. With --lenient it is done all the same: it
+replaces the record that is there, puts the one that isn't, or deletes nothing.
+Then standard error names each line that didn't fit:
+  cif: line N: OutOfSequence (waived)
   cif: line N: AlreadyThere (waived)
   cif: line N: NotThere (waived)
 
@@ -313,9 +321,9 @@ pub(crate) const STOPS: &str = "List the calls of each train too";
 
 pub(crate) const HOLIDAYS: &str = "The dates of the holiday codes; - is standard input";
 
-pub(crate) const DROP_CLASHES: &str = "Leave out associations and trains that have a clash";
+pub(crate) const DROP_CLASHES: &str = "Leave out what has a clash, on the dates of the clash";
 
-pub(crate) const LENIENT: &str = "Go on where a record is there already, or isn't there";
+pub(crate) const LENIENT: &str = "Go on if an update doesn't follow, or a line doesn't fit";
 
 pub(crate) const FORM: &str = "How to join weeks";
 

@@ -1,5 +1,6 @@
 //! Which columns of a line a refusal is about, and what must stand there.
 use cif_columns::{Day, PublicTime, Refusal, WorkTime, is_printable};
+use cif_feed::HolidayCode;
 
 const IDENTITY: &str = "no kind of record has this identity";
 
@@ -7,13 +8,15 @@ const PLACE: &str = "a record of this kind can't stand here";
 
 const DDMMYY: &str = "must be a valid date as six digits, DDMMYY";
 
-const YYMMDD: &str = "must be a valid date as six digits, YYMMDD";
+pub(crate) const YYMMDD: &str = "must be a valid date as six digits, YYMMDD";
 
 const OPEN: &str = "999999 is an open end, not a date";
 
 const REVERSED: &str = "the first date is after the last";
 
 const DAYS: &str = "a day is 0 or 1";
+
+const HOLIDAY_CODE: &str = "a code is X, E or G";
 
 const BANK_HOLIDAY: &str = "bank holiday running must be a space";
 
@@ -68,7 +71,8 @@ static TABLE: [(&str, Refusal, usize, usize, &str); 31] = [
 /// The first and the last column for which the line is refused, and what must stand there.
 pub(crate) fn columns_refused(line: &[u8], why: Refusal) -> Option<(usize, usize, &'static str)> {
     if why == Refusal::BadByte {
-        return bad_byte(line);
+        let column = bad_byte(line)?;
+        return Some((column, column, "a byte is 0x20 to 0x7E"));
     }
     for (kind, reason, first, last, what) in &TABLE {
         if *reason == why
@@ -83,15 +87,47 @@ pub(crate) fn columns_refused(line: &[u8], why: Refusal) -> Option<(usize, usize
 }
 
 /// The column of the first byte that isn't printable.
-fn bad_byte(line: &[u8]) -> Option<(usize, usize, &'static str)> {
+pub(crate) fn bad_byte(line: &[u8]) -> Option<usize> {
     let mut column: usize = 0;
     for byte in line {
         column = column.saturating_add(1);
         if !is_printable(*byte) {
-            return Some((column, column, "a byte is 0x20 to 0x7E"));
+            return Some(column);
         }
     }
     None
+}
+
+/// The first and the last column of the first word of a line of holidays, shown up to its remark, that is
+/// neither its code nor a date, and what must stand there.
+pub(crate) fn holiday_refused(line: &str) -> Option<(usize, usize, &'static str)> {
+    let mut before: usize = 0;
+    let mut what = HOLIDAY_CODE;
+    for word in line.split(' ') {
+        let last = before.saturating_add(word.len());
+        if !word.is_empty() {
+            if !is_of_holidays(word.as_bytes(), what) {
+                return Some((before.saturating_add(1), last, what));
+            }
+            what = YYMMDD;
+        }
+        before = last.saturating_add(1);
+    }
+    None
+}
+
+/// Whether the word of a line of holidays is what must stand there.
+fn is_of_holidays(word: &[u8], what: &str) -> bool {
+    if what == HOLIDAY_CODE {
+        return match word {
+            [letter] => HolidayCode::read(*letter).is_some(),
+            _ => false,
+        };
+    }
+    match <[u8; 6]>::try_from(word) {
+        Ok(date) => Day::from_yymmdd(&date).is_some(),
+        Err(_) => false,
+    }
 }
 
 /// Whether these columns of a line that begins so are refused.

@@ -8,11 +8,12 @@ from reference.layouts import plain
 from reference.values import OPEN_END
 
 from .damage import damaged
+from .fields import changed, some_body
 from .published import field_text, published, some_comment, some_holidays, some_note, spelled_as_published, with_field
 from .spelling import some_habits, spelled
 from .timetables import each_sort, some_timetable
-from .updates import header_line, some_update, with_same_key
-from .windows import bounded
+from .updates import header_line, header_of_update, some_update, with_same_key
+from .windows import bounded, some_day, some_mask
 
 
 def some_published(rng):
@@ -34,9 +35,27 @@ def some_published(rng):
     return timetable
 
 
+def with_clashes(rng, timetable):
+    """Some keys get short records of one letter, of which many clash with each other or with a record that is there."""
+    for records in timetable.associations, timetable.schedules:
+        for _ in range(rng.choice([0, 1, 1, 2]) if records else 0):
+            record = rng.choice(records)
+            first = some_day(rng, rng.choice([(record.first, record.last), timetable.window]))
+            body = some_body(rng, record.kind) if record.letter == "C" else record.body
+            letter = rng.choice(["P", "O", "N", *record.letter.strip("C") * 3])
+            for _ in range(rng.choice([1, 2, 3])):
+                last, days = bounded(first + rng.choice([0, 0, 1, 7, 30]) * DAY), some_mask(rng, ["1111111", record.days])
+                records.append(replace(record, first=first, last=last, days=days, letter=letter, body=body))
+                first = some_day(rng, (first, last))
+                body = changed(rng, record.kind, body) if rng.random() < 0.7 else body
+
+
 def some_prepare(rng, odds):
-    lines = published(rng, some_published(rng).lines(), odds)
-    job = Job("prepare", rng.choice([(), ("extract.cif",), ("-",)]), drop_clashes=rng.random() < 0.5)
+    timetable, drop_clashes = some_published(rng), rng.random() < 0.5
+    if drop_clashes and rng.random() < 0.7:
+        with_clashes(rng, timetable)
+    lines = published(rng, timetable.lines(), odds)
+    job = Job("prepare", rng.choice([(), ("extract.cif",), ("-",)]), drop_clashes=drop_clashes)
     inputs = [spelled(rng, lines, some_habits(rng))]
     coded = any(line[:2] == "BS" and field_text(line, "bank_holiday") != " " for line in lines)
     if rng.random() < (1 - odds["no code"] if coded else 0.4):
@@ -100,7 +119,7 @@ def small_update(rng):
     [value] = timetable.tiplocs
     tiplocs = [plain("TD", {"identity": "TD", "tiploc": value[:7]}), plain("TI", {"tiploc": value})]
     tiplocs.append(plain("TA", {"identity": "TA", "tiploc": value, "new_tiploc": "NEW    "}))
-    lines = [header_line(rng, timetable, "U"), *tiplocs]
+    lines = [header_line(header_of_update(rng, timetable.header, 0), timetable.window), *tiplocs]
     for records in timetable.associations, timetable.schedules:
         for transaction in "DNR":
             for record in records:

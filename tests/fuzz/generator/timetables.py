@@ -147,7 +147,8 @@ def some_keys(rng, kind):
 def some_header(rng):
     widths = {"mainframe": 20, "date_of_extract": 6, "time_of_extract": 4, "current_file": 7, "last_file": 7, "version": 1}
     signs = COMMON if rng.random() < 0.8 else PRINTABLE
-    return {name: of_width(rng, width, signs) for name, width in widths.items()} | {"update": "F"}
+    header = {name: of_width(rng, width, signs) for name, width in widths.items()} | {"update": "F"}
+    return header if rng.random() < 0.8 else header | {"current_file": of_width(rng, 6, COMMON) + " "}
 
 
 def some_tiplocs(rng):

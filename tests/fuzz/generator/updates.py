@@ -121,10 +121,25 @@ def update_of_tiplocs(rng, tiplocs, astray):
     return lines, tiplocs
 
 
-def header_line(rng, timetable, update):
-    first, last = timetable.window
-    fields = {**some_header(rng), "update": update, "first": ddmmyy(first), "last": ddmmyy(last)}
-    return plain("HD", fields)
+def last_reference(rng, header, astray):
+    """The last reference of an update to an extract with this header."""
+    current = header["current_file"]
+    if rng.random() >= astray:
+        return current if rng.random() < 0.85 else " " * 7
+    at = rng.randrange(7)
+    others = [current[:at] + rng.choice(COMMON + " ") + current[at + 1 :], current.swapcase(), current.strip(" ").rjust(7)]
+    return rng.choice([header["last_file"], of_width(rng, 7, COMMON), *others])
+
+
+def header_of_update(rng, before, astray):
+    """The header of an update to a timetable that has that one before."""
+    header = some_header(rng) | {"update": "U", "last_file": last_reference(rng, before, astray)}
+    return header if rng.random() < 0.9 else header | {"current_file": rng.choice([" " * 7, before["current_file"]])}
+
+
+def header_line(header, window):
+    first, last = window
+    return plain("HD", {**header, "first": ddmmyy(first), "last": ddmmyy(last)})
 
 
 def some_update(rng, timetable, odds, astray):
@@ -134,5 +149,7 @@ def some_update(rng, timetable, odds, astray):
     tiplocs, after.tiplocs = update_of_tiplocs(rng, timetable.tiplocs, astray)
     associations, after.associations = update_of_records(rng, after, "AA", timetable.associations, astray)
     schedules, after.schedules = update_of_records(rng, after, "BS", timetable.schedules, astray)
-    header = header_line(rng, after, "F" if rng.random() < odds["wrong header"] else "U")
+    after.header = header_of_update(rng, timetable.header, rng.choice([0, 0.1, astray]))
+    wrong = {"update": "F"} if rng.random() < odds["wrong header"] else {}
+    header = header_line(after.header | wrong, after.window)
     return [header, *tiplocs, *associations, *schedules, plain("ZZ", {})], after

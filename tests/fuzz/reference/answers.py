@@ -6,10 +6,10 @@ from . import published, tables, texts, verbose
 from .calendars import calendar
 from .dates import from_yymmdd
 from .explanation import explanation
-from .extracts import common_of, narrowed, read_extract, window_of
+from .extracts import common_of, extract_of, narrowed, read_extract, window_of
 from .faults import Fault, REFUSED, WORDS, of_input
 from .holidays import read_holidays
-from .meaning import Meaning, all_clashes, first_difference
+from .meaning import Meaning, all_clashes, clash_dates, first_difference
 from .reasons import all_reasons, listed
 
 # What the words of a command ask for. Dates, a UID and the name of a table are words as they were given, or None where there
@@ -95,11 +95,12 @@ def of_prepare(job, inputs):
         holidays = {} if job.holidays is None else read_holidays(inputs[1].data)
     with of_input(0):
         read = published.read_published(inputs[0].data, holidays)
-    records, dropped = published.prepared(read, holidays), []
-    if job.drop_clashes:
-        records, dropped = published.without_clashes(records)
-    more = verbose.of_prepared(inputs[0], read, holidays)
-    return published.written(records), 0, [f"dropped: {clash}" for clash in dropped], more
+    records = published.prepared(read, holidays)
+    clashes = clash_dates(extract_of(records)) if job.drop_clashes else None
+    if clashes:
+        records = published.prepared(read, holidays, clashes)
+    told = [published.told(key, days) for key, days in (clashes or {}).items()]
+    return published.written(records), 0, told, verbose.of_prepared(inputs[0], read, holidays, clashes)
 
 
 def of_update(job, inputs):

@@ -53,16 +53,20 @@ def running(entries, days):
     return found
 
 
-def all_clashes(extract):
-    """Each key that has a clash, with the name of its first one: associations, then trains, each rising by key."""
+def clash_dates(extract):
+    """Each key that has a clash, with the dates of its clashes: associations, then trains, each rising by key."""
     found = {}
     for entries in extract.associations, extract.schedules:
         for key, of_key in by_key(entries):
-            for day in dates_of(window_of(extract)):
-                if len({entry.body for entry in winners(of_key, day)}) > 1:
-                    found[key] = f"{name_of(key)} on {yymmdd(day)}"
-                    break
+            days = [day for day in dates_of(window_of(extract)) if len({entry.body for entry in winners(of_key, day)}) > 1]
+            if days:
+                found[key] = days
     return found
+
+
+def all_clashes(extract):
+    """The same, with the name of its first clash."""
+    return {key: f"{name_of(key)} on {yymmdd(days[0])}" for key, days in clash_dates(extract).items()}
 
 
 class Meaning:

@@ -3,10 +3,10 @@ from itertools import pairwise
 
 from . import values
 from .dates import DAY, from_yymmdd, yymmdd
-from .extracts import KINDS, NOTES, Sort, extract_of, key_of, of_kind, records_of
+from .extracts import KINDS, NOTES, Sort, key_of, of_kind, records_of
 from .faults import Refusal, of_line
 from .layouts import BODIES, LAYOUTS, plain, window_of
-from .meaning import all_clashes
+from .meaning import name_of
 
 OPEN_ENDS = {values.last_date: values.last_date_or_open_end}
 TRANSACTIONS = {values.full: values.update, values.new: values.transaction, values.of_update: values.as_it_stands}
@@ -49,28 +49,35 @@ def span(record, window):
     return from_yymmdd(first), max(from_yymmdd(first), window[1]) if last == values.OPEN_END else from_yymmdd(last)
 
 
-def cuts(record, window, holidays):
-    """The holidays at which it is cut, rising."""
+def holidays_of(record, holidays):
+    """The holidays of its code."""
+    return set(holidays.get(record.fields.get("bank_holiday"), ()))
+
+
+def cuts(record, window, days):
+    """Those of the days at which it is cut, rising."""
     first, last = span(record, window)
-    days = holidays.get(record.fields.get("bank_holiday"), ())
     return [day for day in sorted(days) if first <= day <= last and record.fields["days"][day.weekday()] == "1"]
 
 
-def parts(record, window, holidays):
-    """The records of the profile that stand for an association or a schedule."""
+def parts(record, window, days):
+    """The records of the profile that stand for an association or a schedule that is cut at these days."""
     fields, (first, last) = record.fields, span(record, window)
-    for before, behind in pairwise([first - DAY, *cuts(record, window, holidays), last + DAY]):
+    for before, behind in pairwise([first - DAY, *cuts(record, window, days), last + DAY]):
         start, end = before + DAY, behind - DAY
         if start <= end:
             dates = {"first": yymmdd(start), "last": yymmdd(end), "bank_holiday": " "}
             yield record._replace(fields=fields | dates)
 
 
-def prepared(records, holidays):
-    """The records of the prepared extract."""
+def prepared(records, holidays, clashes=None):
+    """The records of the prepared extract, which are cut at the clash dates of their keys too if these are given."""
     window, found = window_in(records), []
     for record in records:
-        found += parts(record, window, holidays) if record.kind in BODIES else [record]
+        if record.kind in BODIES:
+            found += parts(record, window, holidays_of(record, holidays).union((clashes or {}).get(key_of(record), ())))
+        else:
+            found.append(record)
     return found
 
 
@@ -80,19 +87,27 @@ def window_in(records):
 
 
 def count_cut(records, holidays):
-    """How many records are cut."""
+    """How many records are cut by holidays."""
     window = window_in(records)
-    return sum(bool(cuts(record, window, holidays)) for record in records if record.kind in BODIES)
+    return sum(bool(cuts(record, window, holidays_of(record, holidays))) for record in records if record.kind in BODIES)
+
+
+def count_clashing(records, holidays, clashes):
+    """How many records apply on a clash date of their keys."""
+    window, kept = window_in(records), [record for record in records if record.kind in BODIES]
+    days = [set(clashes.get(key_of(record), ())) - holidays_of(record, holidays) for record in kept]
+    return sum(bool(cuts(record, window, of_key)) for record, of_key in zip(kept, days))
 
 
 def count_open_ends(records):
     return sum(record.fields.get("last") == values.OPEN_END for record in records)
 
 
-def without_clashes(records):
-    """The records of the keys that have no clash, and the first clash of each other key."""
-    clashes = all_clashes(extract_of(records))
-    return [record for record in records if record.kind not in BODIES or key_of(record) not in clashes], list(clashes.values())
+def told(key, days):
+    """What is told of a key that has these clash dates."""
+    more = len(days) - 1
+    rest = f" and {more} more date" + "s" * (more > 1) if more else ""
+    return f"dropped: {name_of(key)} on {yymmdd(days[0])}{rest}"
 
 
 # ---- updated
@@ -129,20 +144,31 @@ def refusal_of(record, put, there):
     return "AlreadyThere" if also else None
 
 
+def follows(update_header, header):
+    """Whether an update with this header follows an extract with that one."""
+    last = update_header.fields["last_file"]
+    return last in (" " * 7, header.fields["current_file"])
+
+
 def updated(records, update, lenient):
     """The records after an update, and its lines that are waived, each by its number with its refusal."""
     [header], [trailer], [update_header] = of_kind(records, "HD"), of_kind(records, "ZZ"), of_kind(update, "HD")
     there = [(update_key(record), record) for record in records if record.kind not in ("HD", "ZZ")]
     waived = []
+
+    def waive(record, refusal):
+        if not lenient:
+            raise of_line(record.number, Refusal(refusal))
+        waived.append(f"line {record.number}: {refusal}")
+
+    if not follows(update_header, header):
+        waive(update_header, "OutOfSequence")
     for record in update:
         if record.kind in ("HD", "ZZ"):
             continue
         put = put_by(record)
-        refusal = refusal_of(record, put, {key for key, _ in there})
-        if refusal and not lenient:
-            raise of_line(record.number, Refusal(refusal))
-        if refusal:
-            waived.append(f"line {record.number}: {refusal}")
+        if refusal := refusal_of(record, put, {key for key, _ in there}):
+            waive(record, refusal)
         taken_out = {update_key(one) for one in (record, put) if one}
         there = [(key, other) for key, other in there if key not in taken_out]
         there += [(update_key(put), put)] if put else []

@@ -3,10 +3,11 @@ import re
 from collections import namedtuple
 
 from . import layouts, values
-from .dates import yymmdd
+from .dates import from_yymmdd, yymmdd
 from .explanation import clashing
+from .holidays import WIDTH
 from .extracts import COMMENT, NOTES, contents_of
-from .published import count_cut, count_open_ends, of_kind, transaction_of
+from .published import count_clashing, count_cut, count_open_ends, of_kind, transaction_of
 
 # An input: its name as it is shown, its bytes, or None where it can't be read, and whether a line of it can be read again.
 Input = namedtuple("Input", "name data again")
@@ -32,6 +33,9 @@ BEGINNINGS = {
     b"[": "JSON: take the feed in the CIF format",
 }
 HOLIDAY_LINE = "a line has a code, X, E or G, and dates YYMMDD, in at most 1,000 bytes; # begins a remark"
+NO_HOLIDAY_CODE = "a code is X, E or G"
+OF_COMMENT, LONG_COMMENT = "a byte of a comment is 0x20 to 0x7E", "a comment has at most 80 columns"
+LENIENT = "--lenient goes on after such a line"
 
 # What must stand in columns that are refused: by the reason, or else by what stands there.
 MUST = {
@@ -62,40 +66,42 @@ PREPARE = "cif prepare makes an extract of a published one"
 PREPARE_WITH_HOLIDAYS = "cif prepare --holidays FILE makes an extract of a published one"
 UPDATE = "cif update applies an update to a full extract"
 
-# What helps with a line that isn't known, by its reason: after a fault, and besides among the reasons of check --all.
-OF_NO_LINE, AMONG_REASONS = {"OpenEnd": PREPARE, "BankHoliday": PREPARE_WITH_HOLIDAYS}, {"NotFull": UPDATE}
-
 
 def has_code(line):
     return line[28:29].decode("latin-1") in values.HOLIDAY_CODES
 
 
-def is_of_update(line):
-    """Whether an update may have a line that is NotFull."""
-    if line[:2] in (b"TA", b"TD"):
-        return True
-    return line[46:47] == b"U" if line[:2] == b"HD" else line[2:3] in (b"R", b"D")
+def letter_of_header(one):
+    """Column 47 of the header behind comments with which an input begins, as far as that is known."""
+    known = one.data[: LOOKED_AT if one.again else KEPT]
+    header = next((line for line in known.split(b"\n") if line[:3] != b"/!!"), b"")
+    return header[46:47] if header[:2] == b"HD" and known.isascii() else b""
 
 
-def helps(reason, line):
-    """The command that accepts a line which others refuse, if there is one."""
+def helps(reason, line, one):
+    """The command that accepts a line of an input which others refuse, if there is one."""
+    if reason == "OpenEnd":
+        return PREPARE
     if line is None:
-        return OF_NO_LINE.get(reason)
-    if reason == "OpenEnd" or reason == "UnknownRecord" and line[:2].decode("latin-1") in NOTES:
+        return None
+    if reason == "UnknownRecord" and line[:2].decode("latin-1") in NOTES:
         return PREPARE
     if reason in ("BadLength", "UnknownRecord") and COMMENT.fullmatch(line):
-        return PREPARE
+        return {b"F": PREPARE, b"U": UPDATE if one.again else None}.get(letter_of_header(one))
     if reason == "BankHoliday" and has_code(line):
         return PREPARE_WITH_HOLIDAYS
-    return UPDATE if reason == "NotFull" and is_of_update(line) else None
+    return UPDATE if reason == "NotFull" and line[:2] == b"HD" and line[46:47] == b"U" else None
 
 
-def help_with_all(first_lines):
-    """The commands for the first lines of some reasons."""
-    found = {helps(*first) or first[1] is None and AMONG_REASONS.get(first[0]) for first in first_lines.items()}
-    if first_lines.get("NotFull") and UPDATE in found:
+def help_with_all(one, reasons):
+    """The commands for the first lines of some reasons; none of them but update accepts an update."""
+    lines = {name: line_again(one, at[0]) for name, at in reasons.items()}
+    found = {helps(name, line, one) for name, line in lines.items()}
+    if UPDATE in found:
         return [UPDATE]
-    return [command for command in (UPDATE, PREPARE, PREPARE_WITH_HOLIDAYS) if command in found]
+    if "NotFull" in lines and lines["NotFull"] is None and letter_of_header(one) != b"F":
+        return []
+    return [command for command in (PREPARE, PREPARE_WITH_HOLIDAYS) if command in found]
 
 
 # ---- inputs
@@ -130,11 +136,15 @@ def shown(line):
     return re.sub("[^ -~]", "?", line[: layouts.WIDTH].decode("latin-1"))
 
 
-def window(one):
-    """The line of the window of an input that begins with a header, or with comments and a header."""
+def header_of(one):
+    """The fields of the header with which an input begins, or which stands behind comments there."""
     header = next(line for line in contents_of(one.data) if not COMMENT.fullmatch(line)).decode()
-    fields = layouts.read("HD", header, {values.full: values.as_it_stands})
-    first, last = layouts.window_of("HD", fields)
+    return layouts.read("HD", header, {values.full: values.as_it_stands})
+
+
+def window(one):
+    """The line of its window."""
+    first, last = layouts.window_of("HD", header_of(one))
     return first, last, f"{one.name} has the window {yymmdd(first)} to {yymmdd(last)}"
 
 
@@ -143,7 +153,7 @@ def window(one):
 
 def of_reasons(one, reasons):
     """What is said of the reasons of check --all, each with the numbers of its lines."""
-    return [f"in {one.name}", *help_with_all({name: line_again(one, at[0]) for name, at in reasons.items()})]
+    return [f"in {one.name}", *(other_format(one) or help_with_all(one, reasons))]
 
 
 def of_extracts(job, inputs, extracts, lines):
@@ -166,14 +176,17 @@ def of_feed(one, records, more):
     return [window(one)[2], f"{one.name}: {counts}{more}"]
 
 
-def of_prepared(one, records, holidays):
-    return of_feed(one, records, f", records cut by holidays: {count_cut(records, holidays)}")
+def of_prepared(one, records, holidays, clashes):
+    """The same of prepare; clashes has the clash dates of the keys, or is None where they aren't dropped."""
+    by_clashes = "" if clashes is None else f", records cut by clashes: {count_clashing(records, holidays, clashes)}"
+    return of_feed(one, records, f", records cut by holidays: {count_cut(records, holidays)}{by_clashes}")
 
 
 def of_update(one, records, waived):
     done = [transaction_of(record) for record in records]
     new, revised, deleted = (done.count(transaction) for transaction in "NRD")
-    return of_feed(one, records, f", lines new: {new}, revised: {revised}, deleted: {deleted}, waived: {len(waived)}")
+    said = of_feed(one, records, f", lines new: {new}, revised: {revised}, deleted: {deleted}, waived: {len(waived)}")
+    return said + [f"{one.name}: waived: {line}" for line in waived]
 
 
 # ---- of a fault
@@ -190,11 +203,13 @@ def of_line(job, one, fault):
     """What is said of a refused line."""
     line = line_again(one, fault.line)
     is_feed, refusal = job.command in ("prepare", "update"), fault.refusal
-    command = None if is_feed and fault.name != "NotFull" else helps(fault.name, line)
+    command = None if is_feed and fault.name != "NotFull" else helps(fault.name, line, one)
     if line is None:
         return [command] if command else []
     said = [shown(line)]
-    if fault.name == "BadLength":
+    if is_feed and fault.name in ("BadLength", "BadByte") and line[:3] == b"/!!":
+        said += of_comment(line)
+    elif fault.name == "BadLength":
         said.append(length(one, line))
     elif refusal.first:
         must = MUST.get(fault.name) or MUST[refusal.read]
@@ -202,6 +217,14 @@ def of_line(job, one, fault):
             must = NOT_NAMED if has_code(line) else NO_CODE
         said += columns(refusal.first, refusal.last, must)
     return [*said, command] if command else said
+
+
+def of_comment(line):
+    """What is said of a line that begins as a comment and isn't one."""
+    if len(line) > layouts.WIDTH:
+        return [LONG_COMMENT]
+    column = next(column for column, byte in enumerate(line, 1) if not 0x20 <= byte <= 0x7E)
+    return columns(column, column, OF_COMMENT)
 
 
 def length(one, line):
@@ -215,15 +238,47 @@ def columns(first, last, must):
     return [" " * (first - 1) + "^" * (last - first + 1), f"{name}: {must}"]
 
 
-def of_refused(job, one, fault):
+def of_holidays(one, line):
+    """What is said of a line of holidays: its first mistaken word, if all of it is known and not too long."""
+    if line is None or len(line) > WIDTH:
+        return [*([] if line is None else [shown(line)]), HOLIDAY_LINE]
+    words = [*re.finditer(rb"[^ ]+", line.split(b"#", 1)[0])]
+    if not one.again and len(line) == KEPT and words and words[-1].end() == KEPT:
+        words.pop()
+    for number, word in enumerate(words):
+        text = word[0].decode("latin-1")
+        if text not in values.HOLIDAY_CODES if number == 0 else from_yymmdd(text) is None:
+            said = columns(word.start() + 1, word.end(), WANTED["bad date"] if number else NO_HOLIDAY_CODE)
+            return [shown(line), *said] if word.end() <= layouts.WIDTH else [shown(word[0]), said[1]]
+    return [shown(line), HOLIDAY_LINE]
+
+
+def other_format(one):
+    """What an input looks like that begins as another format does."""
+    return [f"the input looks like {said}" for beginning, said in BEGINNINGS.items() if one.data.startswith(beginning)]
+
+
+def of_unfit(inputs, fault):
+    """What is said of a line of an update that doesn't fit, or of its header."""
+    one, before = inputs[fault.at], inputs[fault.at - 1]
+    line = line_again(one, fault.line)
+    said = [] if line is None else [shown(line)]
+    if fault.name != "OutOfSequence":
+        return [*said, "an update was left out, or done twice", LENIENT]
+    last, current = header_of(one)["last_file"], header_of(before)["current_file"]
+    said.append(f"its last reference is [{last}], and the extract's current reference is [{current}]")
+    return [*said, "an update was left out or done twice, or is of another feed", LENIENT]
+
+
+def of_refused(job, inputs, fault):
     """What is said of an input of which a line is refused."""
-    looks = [said for beginning, said in BEGINNINGS.items() if one.data.startswith(beginning)]
-    if fault.name in ("NotThere", "AlreadyThere", "BadHoliday"):
-        line = line_again(one, fault.line)
-        hint = HOLIDAY_LINE if fault.name == "BadHoliday" else "--lenient goes on after such a line"
-        return [*([] if line is None else [shown(line)]), hint]
-    if fault.line == 1 and looks:
-        return [f"the input looks like {looks[0]}"]
+    one = inputs[fault.at]
+    if fault.name in ("OutOfSequence", "NotThere", "AlreadyThere"):
+        return of_unfit(inputs, fault)
+    if fault.name == "BadHoliday":
+        return of_holidays(one, line_again(one, fault.line))
+    if fault.line == 1 and other_format(one):
+        return other_format(one)
     if fault.name == "Truncated":
         return ["the input ends before its trailer, ZZ"]
     return of_line(job, one, fault)
@@ -242,4 +297,4 @@ def of_fault(job, inputs, fault):
     one = inputs[fault.at]
     if fault.name == "ReadFault":
         return [f"in {one.name}: {NO_FILE}"]
-    return [f"in {one.name}", *(clashing(*fault.clash) if fault.clash else of_refused(job, one, fault))]
+    return [f"in {one.name}", *(clashing(*fault.clash) if fault.clash else of_refused(job, inputs, fault))]
