@@ -1,5 +1,5 @@
 //! Which feed is read, and why one can't be.
-ghost use Rattle.std.specs.Prelude.{◌≡◌, ◌≤◌, ◌++◌, codes, length};
+ghost use Rattle.std.specs.Prelude.{◌≡◌, ◌≤◌, ◌++◌, length};
 ghost use Rattle.cif_feed.specs.FeedTexts.{line_text};
 
 use crate::HolidayFault;
@@ -81,38 +81,29 @@ impl FeedFault {
     {
         match self {
             FeedFault::Extract(fault) => fault.text(),
-            FeedFault::NotUpdate { line } => line_text(*line, "NotUpdate"),
-            FeedFault::BadTransaction { line } => line_text(*line, "BadTransaction"),
-            FeedFault::NotThere { line } => line_text(*line, "NotThere"),
-            FeedFault::AlreadyThere { line } => line_text(*line, "AlreadyThere"),
-            FeedFault::BadHoliday { line } => holiday_text(*line),
-            FeedFault::OutOfSequence { line } => line_text(*line, "OutOfSequence"),
+            FeedFault::NotUpdate { line } => line_text("", *line, "NotUpdate"),
+            FeedFault::BadTransaction { line } => line_text("", *line, "BadTransaction"),
+            FeedFault::NotThere { line } => line_text("", *line, "NotThere"),
+            FeedFault::AlreadyThere { line } => line_text("", *line, "AlreadyThere"),
+            FeedFault::BadHoliday { line } => line_text("holidays: ", *line, "BadHoliday"),
+            FeedFault::OutOfSequence { line } => line_text("", *line, "OutOfSequence"),
         }
     }
 }
 
-/// A line's number and a name.
+/// The input that it is of, a line's number and a name.
 #[tactic(auto, unfolding(crate::specs::FeedTexts::line_text))]
-fn line_text(line: u64, name: &str) -> ArrayString<LONGEST_FAULT>
-    requires { length name.now ≤ 20 }
-    ensures { result.bytes ≡ line_text line name.now }
+fn line_text(input: &str, line: u64, name: &str) -> ArrayString<LONGEST_FAULT>
+    requires input { length input.now ≤ 10 }
+    requires name { length name.now ≤ 20 }
+    ensures { result.bytes ≡ input.now ++ line_text line name.now }
 {
     let mut text = ArrayString::new();
+    text.push_str(input);
     text.push_str("line ");
     text.push_str(Buffer::new().format(line));
     text.push_str(": ");
     text.push_str(name);
-    text
-}
-
-/// The text of a bad line of holidays.
-#[tactic(auto, unfolding(crate::specs::FeedTexts::line_text))]
-fn holiday_text(line: u64) -> ArrayString<LONGEST_FAULT>
-    ensures { result.bytes ≡ codes "holidays: " ++ line_text line (codes "BadHoliday") }
-{
-    let mut text = ArrayString::new();
-    text.push_str("holidays: ");
-    text.push_str(line_text(line, "BadHoliday").as_str());
     text
 }
 

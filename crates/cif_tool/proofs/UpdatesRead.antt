@@ -22,11 +22,12 @@ use Rattle.cif_feed.specs.WrittenPrepared.{IsDeviceOrMemory}
 use Rattle.cif_feed.specs.declared.changes.RefusedLine.{RefusedLine}
 use Rattle.cif_feed.specs.declared.changes.Unfit.TheVariants as unfit
 use Rattle.cif_feed.specs.declared.feed.FeedFault.{FeedFault}
-use Rattle.cif_feed.specs.declared.feed.FeedFault.TheVariants.{AlreadyThere, BadTransaction, Extract, NotThere, NotUpdate, OutOfSequence}
+use Rattle.cif_feed.specs.declared.feed.FeedFault.TheVariants.{AlreadyThere, BadHoliday, BadTransaction, Extract, NotThere}
+use Rattle.cif_feed.specs.declared.feed.FeedFault.TheVariants.{NotUpdate, OutOfSequence}
 use Rattle.cif_feed.specs.declared.holiday_code.HolidayCodes.{HolidayCodes}
 use Rattle.cif_feed.specs.declared.published_extract.PublishedExtract.{PublishedExtract}
 use Rattle.cif_feed.specs.declared.update.Outcome.{Outcome}
-use Rattle.cif_tool.specs.FeedAnswer.{AreDoneInTurn, AreGiven, AreUpdatesRead, EndsAs, FeedAnswers, FeedFinishes, IsUpdateFault, OfUpdates}
+use Rattle.cif_tool.specs.FeedAnswer.{AreDoneInTurn, AreGiven, AreUpdatesRead, EndsAs, FeedAnswers, FeedFinishes, IsTold, IsUpdateFault, OfUpdates}
 use Rattle.cif_tool.specs.FeedAnswer.{doing, waived_by}
 use Rattle.cif_tool.specs.declared.feed_answers.DoneUpdate.{DoneUpdate}
 
@@ -48,6 +49,7 @@ update-refused lenient old bytes after (Extract Memory) h = inl tt
 update-refused lenient old bytes after (Extract _) h = absurd h
 update-refused lenient old bytes after (NotUpdate line) h = inr (inl h.0)
 update-refused lenient old bytes after (BadTransaction line) h = inr (inl h.0)
+update-refused lenient old bytes after (BadHoliday line) h = absurd h
 update-refused lenient old bytes after (OutOfSequence line) h = inr (inr (record { line = line; why = unfit.OutOfSequence }, h, refl))
 update-refused lenient old bytes after (NotThere line) h = inr (inr (record { line = line; why = unfit.NotThere }, h, refl))
 update-refused lenient old bytes after (AlreadyThere line) h = inr (inr (record { line = line; why = unfit.AlreadyThere }, h, refl))
@@ -135,8 +137,8 @@ module _ {R : Type 0} (remaining : R → Option (List ℕ)) (errors : R → Opti
 -- ---- the whole run
 
 -- a fault before anything is written
-silent : {W A T : Type 0} (contents : W → Option (List ℕ)) (errors : W → Option ℕ) (told : A → T) (P : List ℕ → T → Type 0) (old : Sink W)
-    (f : FeedFault) → IsOfUpdate MAX_LINES f → FeedAnswers contents errors told P old old (Err f)
+silent : {W A T : Type 0} (contents : W → Option (List ℕ)) (errors : W → Option ℕ) (told : A → T) (P : List ℕ → Option T → Type 0)
+    (old : Sink W) (f : FeedFault) → IsOfUpdate MAX_LINES f → FeedAnswers contents errors told P old old (Err f)
 silent contents errors told P old (Extract Write) of = absurd of
 silent contents errors told P old (Extract _) of = record { text = []; writes = refl; answer = tt }
 silent contents errors told P old _ of = record { text = []; writes = refl; answer = tt }
@@ -164,8 +166,8 @@ module _ {R W A : Type 0} (remaining : R → Option (List ℕ)) (errors : R → 
   abbrev InTurn : Result (Unit {0}) FeedFault → Type 0
   InTurn = AreDoneInTurn remaining errors lenient (published_parts x) new updates updates_new waived
 
-  abbrev Answer : List ℕ → List RefusedLine → Type 0
-  Answer text told = OfUpdates remaining (λ bytes given. IsWritten lenient MAX_LINES bytes given text told) full updates
+  abbrev Answer : List ℕ → Option (List RefusedLine) → Type 0
+  Answer text told = OfUpdates remaining (λ bytes given. IsTold (IsWritten lenient MAX_LINES bytes given text) told) full updates
 
   call : IsResultOf remaining errors (reading_published all_codes MAX_LINES) full full_new (Ok extract)
   call = subst (λ may. IsResultOf remaining errors (reading_published may MAX_LINES) full full_new (Ok extract)) all read
@@ -198,7 +200,7 @@ module _ {R W A : Type 0} (remaining : R → Option (List ℕ)) (errors : R → 
 
   -- all are
   module _ (turn : InTurn (Ok tt)) where
-    written : Answer (published_text new) waived
+    written : Answer (published_text new) (Some waived)
     written bytes given known are = record {
       old = published_parts x;
       spelled = spelled bytes known;
@@ -217,12 +219,12 @@ module _ {R W A : Type 0} (remaining : R → Option (List ℕ)) (errors : R → 
     ended-answer is old after (Ok a) w = record {
       text = published_text new;
       writes = w;
-      answer = subst (Answer (published_text new)) (sym (is a)) written;
+      answer = subst (λ t. Answer (published_text new) (Some t)) (sym (is a)) written;
     }
     ended-answer is old after (Err f) w = subst (λ e. FeedAnswers contents write_errors told Answer old after (Err e)) (sym w.0) record {
       text = published_text new;
       writes = w.1;
-      answer = (waived, written);
+      answer = λ bytes given known are. (waived, written bytes given known are);
     }
 
     pub ended-fault : (old after : Sink W) (result : Result A FeedFault) → Ends old after result →

@@ -1,38 +1,49 @@
 -- What `update` answers: a text on the output, and the lines that were waived.
-use Rattle.std.specs.Prelude.{◌≡◌, ◌⊎◌, ℕ, ⊤, Bool, List, [], ◌∷◌, ◌++◌, Option, Some, IfErr, IfOk, Result, Ok, Err}
+use Rattle.std.specs.Prelude.{◌≡◌, ◌⊎◌, ℕ, ⊤, Bool, List, [], ◌∷◌, ◌++◌, Option, None, Some, IfErr, IfOk, Result, Ok, Err}
 use Rattle.std.specs.List.{flat_map}
 use Rattle.cif_columns.specs.Contents.{contents_of}
 use Rattle.cif_columns.specs.Sink.{Writes}
-use Rattle.cif_columns.specs.Source.{reader_of}
+use Rattle.cif_columns.specs.Source.{Unread, reader_of}
 use Rattle.cif_columns.specs.declared.line_reader.TheConstants.{MAX_LINES}
 use Rattle.cif_columns.specs.declared.sink.Sink.{Sink}
 use Rattle.cif_columns.specs.declared.source.Source.{Source}
 use Rattle.cif_extract.specs.ReadCall.{IsResultOf, ReadCall, reading}
 use Rattle.cif_extract.specs.declared.fault.Fault.TheVariants.{Write}
-use Rattle.cif_feed.specs.FeedFault.{is_feed_read}
+use Rattle.cif_feed.specs.FeedFault.{is_feed_read, of_holiday_fault}
 use Rattle.cif_feed.specs.FeedRefusal.{IsFirstOfFeed}
 use Rattle.cif_feed.specs.HolidayCode.{all_codes}
+use Rattle.cif_feed.specs.HolidayText.{IsFirstBadLine, IsHolidayFault, IsOfHolidays, SpellHolidays}
+use Rattle.cif_feed.specs.Holidays.{Names}
 use Rattle.cif_feed.specs.PublishedParts.{PublishedParts, published_parts, reading_published}
 use Rattle.cif_feed.specs.Updated.{IsOfUpdate, IsUpdateFault as IsOneUpdateFault, IsUpdatedBy}
 use Rattle.cif_feed.specs.UpdatesInTurn.{IsRefused, IsWritten}
-use Rattle.cif_feed.specs.WrittenPrepared.{FeedWrites, IsDeviceOrMemory}
+use Rattle.cif_feed.specs.WrittenPrepared.{FeedWrites, IsDeviceOrMemory, IsPreparedText, codes_named, preparing}
 use Rattle.cif_feed.specs.declared.changes.RefusedLine.{RefusedLine}
+use Rattle.cif_feed.specs.declared.dropped.Dropped.{Dropped}
 use Rattle.cif_feed.specs.declared.feed.Feed.TheVariants.{Full}
 use Rattle.cif_feed.specs.declared.feed.FeedFault.{FeedFault}
-use Rattle.cif_feed.specs.declared.feed.FeedFault.TheVariants.{Extract}
+use Rattle.cif_feed.specs.declared.feed.FeedFault.TheVariants.{BadHoliday, Extract}
+use Rattle.cif_feed.specs.declared.holiday_code.HolidayCode.{HolidayCode}
+use Rattle.cif_feed.specs.declared.holiday_text.HolidayFault.{HolidayFault}
+use Rattle.cif_feed.specs.declared.holidays.Holidays.{Holidays}
 use Rattle.cif_feed.specs.declared.published_extract.PublishedExtract.{PublishedExtract}
 use Rattle.cif_tool.specs.declared.feed_answers.DoneUpdate.{DoneUpdate}
 
--- P holds of what is told where it was answered, or of something, at Write, where a prefix of the text was written
-abbrev pub IfFeedAnswered : {A T : Type 0} → (A → T) → (T → Type 0) → Result A FeedFault → Type 0
-IfFeedAnswered told P (Ok done) = P (told done)
-IfFeedAnswered {A} {T} told P (Err (Extract Write)) = (t : T) × P t
+-- P holds of what is told, or of something where that isn't known
+abbrev pub IsTold : {T : Type 0} → (T → Type 0) → Option T → Type 0
+IsTold P (Some told) = P told
+IsTold {T} P None = (told : T) × P told
+
+-- P holds of what was answered, or, at Write, of an answer of which a prefix was written
+abbrev pub IfFeedAnswered : {A T : Type 0} → (A → T) → (Option T → Type 0) → Result A FeedFault → Type 0
+IfFeedAnswered told P (Ok done) = P (Some (told done))
+IfFeedAnswered told P (Err (Extract Write)) = P None
 IfFeedAnswered told P (Err fault) = ⊤
 
 -- What a command owes its sink: the text of its answer, and no byte more; a prefix of it at Write; nothing at another fault. What it tells
 -- beside it belongs to that text.
 pub record FeedAnswers {W A T : Type 0} (contents : W → Option (List ℕ)) (errors : W → Option ℕ) (told : A → T)
-    (IsAnswer : List ℕ → T → Type 0) (old new : Sink W) (result : Result A FeedFault) : Type 0 where
+    (IsAnswer : List ℕ → Option T → Type 0) (old new : Sink W) (result : Result A FeedFault) : Type 0 where
   pub text : List ℕ
   pub writes : FeedWrites contents errors text old new result
   pub answer : IfFeedAnswered told (IsAnswer text) result
@@ -43,6 +54,67 @@ abbrev pub FeedFinishes : {W A E : Type 0} → (W → Option (List ℕ)) → (W 
 FeedFinishes contents errors (Ok done) old new result =
     Writes contents errors [] old new result × IfErr result (λ fault. fault ≡ Extract Write)
 FeedFinishes contents errors (Err fault) old new result = (result ≡ Err (Extract Write)) × (new ≡ old)
+
+-- ---- prepare
+
+-- these are the bytes that the reader of holidays gives, if there is one
+abbrev pub AreHolidaysGiven : {R : Type 0} → (R → Option (List ℕ)) → Option (Source R) → Option (List ℕ) → Type 0
+AreHolidaysGiven remaining None given = given ≡ None
+AreHolidaysGiven remaining (Some source) given = (bytes : List ℕ) × (given ≡ Some bytes) × (remaining (reader_of source) ≡ Some bytes)
+
+-- where the bytes that the readers give are known, this holds of them
+abbrev pub OfHolidays : {R : Type 0} → (R → Option (List ℕ)) → (Option (List ℕ) → List ℕ → Type 0) → Option (Source R) → Source R → Type 0
+OfHolidays remaining P holidays source = (given : Option (List ℕ)) (bytes : List ℕ) → AreHolidaysGiven remaining holidays given →
+    remaining (reader_of source) ≡ Some bytes → P given bytes
+
+-- these are the holidays that the bytes spell; none where no bytes are given
+abbrev pub AreHolidaysOf : Option (List ℕ) → Holidays → Type 0
+AreHolidaysOf None h = (code : HolidayCode) → ¬ Names h code
+AreHolidaysOf (Some bytes) h = SpellHolidays bytes h
+
+-- `prepare` answers these bytes of holidays and of a published extract by the text of its prepared extract, and tells what was dropped
+pub record IsPrepareAnswer (drops : Bool) (given : Option (List ℕ)) (bytes text : List ℕ) (dropped : Dropped) : Type 0 where
+  pub holidays : Holidays
+  pub spelled : AreHolidaysOf given holidays
+  pub prepared : IsPreparedText holidays drops MAX_LINES bytes text dropped
+
+-- the first bad line of the holidays that are given
+abbrev pub IsBadHoliday : Option (List ℕ) → FeedFault → Type 0
+IsBadHoliday (Some bytes) (BadHoliday line) = IsFirstBadLine (contents_of bytes) line
+IsBadHoliday given fault = ⊥
+
+-- why `prepare` has no answer to these bytes: the first bad line of the holidays, or the first refusal of the published extract, in which
+-- the codes that they name may stand; or a device failed, or memory ran out
+abbrev pub IsPrepareFault : Option (List ℕ) → List ℕ → FeedFault → Type 0
+IsPrepareFault given bytes fault = IsDeviceOrMemory fault ⊎ (IsBadHoliday given fault
+    ⊎ ((holidays : Holidays) × AreHolidaysOf given holidays × IsFirstOfFeed Full (codes_named holidays) MAX_LINES (contents_of bytes) fault))
+
+-- why holidays aren't read, as a fault of feeds
+abbrev pub IsHolidayFeedFault : List ℕ → Unread → FeedFault → Type 0
+IsHolidayFeedFault bytes after fault = (holiday_fault : HolidayFault) × (fault ≡ of_holiday_fault holiday_fault)
+    × IsHolidayFault bytes after holiday_fault
+
+-- reading them
+abbrev pub reading_as_feed : ReadCall Holidays FeedFault
+reading_as_feed = reading is_feed_read SpellHolidays IsHolidayFeedFault
+    (λ fault. (holiday_fault : HolidayFault) × (fault ≡ of_holiday_fault holiday_fault) × IsOfHolidays holiday_fault)
+
+-- What comes of a source of holidays, if there is one.
+abbrev pub AreHolidaysRead : {R : Type 0} → (R → Option (List ℕ)) → (R → Option ℕ) → Option (Source R) → Option (Source R) →
+    Result Holidays FeedFault → Type 0
+AreHolidaysRead remaining errors None after result = (after ≡ None) × IfOk result (λ h. (code : HolidayCode) → ¬ Names h code)
+    × IfErr result (λ fault. ⊥)
+AreHolidaysRead {R} remaining errors (Some source) after result = (read : Source R) × (after ≡ Some read)
+    × IsResultOf remaining errors reading_as_feed source read result
+
+-- What comes of the sources of holidays and of a published extract: the holidays aren't read, and the other source isn't touched; or they
+-- are, and the extract is read and prepared with them.
+abbrev pub IsPreparedInTurn : {R : Type 0} → (R → Option (List ℕ)) → (R → Option ℕ) → Option (Source R) → Option (Source R) → Source R →
+    Source R → Result Dropped FeedFault → Type 0
+IsPreparedInTurn remaining errors holidays holidays_new source source_new result =
+    ((fault : FeedFault) × (result ≡ Err fault) × (source_new ≡ source) × AreHolidaysRead remaining errors holidays holidays_new (Err fault))
+    ⊎ ((h : Holidays) × (kept : Option PublishedExtract) × AreHolidaysRead remaining errors holidays holidays_new (Ok h)
+    × IsResultOf remaining errors (preparing h MAX_LINES kept) source source_new result)
 
 -- ---- update
 

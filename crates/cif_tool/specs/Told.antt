@@ -1,12 +1,12 @@
 -- What `prepare` and `update` say on standard error of their answer, and the status that they end with.
-use Rattle.std.specs.Prelude.{ℕ, List, ◌++◌, codes, Result, Ok, Err, Vec}
-use Rattle.std.specs.Global.{Global}
+use Rattle.std.specs.Prelude.{ℕ, List, ◌++◌, codes, Result, Ok, Err}
 use Rattle.std.specs.List.{flat_map}
-use Rattle.cif_extract.specs.Clash.{clash_text}
-use Rattle.cif_extract.specs.declared.fault.Clash.{Clash}
+use Rattle.cif_feed.specs.Dropped.{dropped_text}
 use Rattle.cif_feed.specs.FeedTexts.{fault_text}
 use Rattle.cif_feed.specs.Updated.{refused_fault}
 use Rattle.cif_feed.specs.declared.changes.RefusedLine.{RefusedLine}
+use Rattle.cif_feed.specs.declared.dropped.Dropped.{Dropped}
+use Rattle.cif_feed.specs.declared.dropped.DroppedKey.{DroppedKey}
 use Rattle.cif_feed.specs.declared.feed.FeedFault.{FeedFault}
 use Rattle.cif_feed.specs.declared.feed.FeedFault.TheVariants.{Extract}
 use Rattle.cif_tool.specs.Status.{status_of}
@@ -20,17 +20,17 @@ waived_line line = codes "cif: " ++ fault_text (refused_fault line) ++ codes " (
 abbrev pub waived_lines : DoneUpdate → List ℕ
 waived_lines update = flat_map waived_line update.outcome.waived.items
 
--- a key whose records were left out
-unfoldable pub dropped_line : Clash → List ℕ
-dropped_line clash = codes "cif: dropped: " ++ clash_text clash ++ codes "\n"
+-- a key of which nothing runs on some dates
+unfoldable pub dropped_line : DroppedKey → List ℕ
+dropped_line key = codes "cif: dropped: " ++ dropped_text key ++ codes "\n"
 
 -- the line that names a fault
 unfoldable pub refused_line : FeedFault → List ℕ
 refused_line fault = codes "cif: " ++ fault_text fault ++ codes "\n"
 
 -- what `prepare` says of its answer: of a fault its line, and nothing else
-abbrev pub told_by_prepare : Result (Vec Clash Global) FeedFault → List ℕ
-told_by_prepare (Ok dropped) = flat_map dropped_line dropped.items
+abbrev pub told_by_prepare : Result Dropped FeedFault → List ℕ
+told_by_prepare (Ok dropped) = flat_map dropped_line dropped.keys.items
 told_by_prepare (Err fault) = refused_line fault
 
 -- what `update` says of its answer, where these updates were done

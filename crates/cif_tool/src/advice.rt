@@ -235,6 +235,7 @@ pub(crate) fn add_feed_fault<R: Files + Input>(
             message.line(&["an update was left out, or done twice"]);
             message.line(&[LENIENT]);
         }
+        FeedFault::BadHoliday { line } => add_holiday_line(input, *line, message),
         // It is said with the reference of the extract.
         FeedFault::OutOfSequence { line: _ } => {}
     }
@@ -264,7 +265,7 @@ pub(crate) fn add_out_of_sequence<R: Files + Input>(
 }
 
 /// Adds what is wrong with this line of holidays.
-pub(crate) fn add_holiday_line<R: Files + Input>(
+fn add_holiday_line<R: Files + Input>(
     input: &ExtractInput<'_, R>,
     line: u64,
     message: &mut Message,

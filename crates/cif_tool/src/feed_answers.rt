@@ -5,13 +5,17 @@ ghost use Rattle.cif_extract.specs.ReadCall.{IsResultOf};
 ghost use Rattle.cif_feed.specs.PublishedParts.{published_parts};
 ghost use Rattle.cif_feed.specs.declared.changes.RefusedLine.{RefusedLine};
 ghost use Rattle.cif_tool.specs.Answer.{IsHandedOn};
-ghost use Rattle.cif_tool.specs.FeedAnswer.{AreDoneInTurn, AreUpdatesRead, FeedAnswers, FeedFinishes};
+ghost use Rattle.cif_tool.specs.FeedAnswer.{AreDoneInTurn, AreHolidaysRead, AreUpdatesRead, FeedAnswers};
+ghost use Rattle.cif_tool.specs.FeedAnswer.{FeedFinishes, IsPrepareAnswer, IsPrepareFault, IsPreparedInTurn};
+ghost use Rattle.cif_tool.specs.FeedAnswer.{IsTold, OfHolidays};
 ghost use Rattle.cif_tool.specs.FeedAnswer.{IsUpdateFault, OfUpdates, doing, waived_by};
 ghost use Rattle.cif_feed.specs.UpdatesInTurn.{IsWritten};
 
 use cif_columns::{MAX_LINES, ReadDevice, Sink, Source, WriteDevice, WriteFault};
 use cif_extract::Fault;
-use cif_feed::{FeedFault, HolidayCodes, Outcome, Passed, PublishedExtract};
+use cif_feed::{
+    Dropped, FeedFault, HolidayCodes, Holidays, Outcome, Passed, PublishedExtract, write_prepared,
+};
 use cif_records::Header;
 use std::alloc::Global;
 
@@ -77,7 +81,7 @@ pub fn answer_update<R: ReadDevice, W: WriteDevice>(
     kept: &mut KeptUpdate,
 ) -> Result<(), FeedFault>
     ensures answer { FeedAnswers W.contents W.write_errors (λ _. waived_by kept.new.done.items)
-        (λ text waived. OfUpdates R.remaining (λ bytes given. IsWritten lenient MAX_LINES bytes given text waived)
+        (λ text told. OfUpdates R.remaining (λ bytes given. IsTold (IsWritten lenient MAX_LINES bytes given text) told)
         full.old updates.old) sink.old sink.new result }
     ensures fault { OfUpdates R.remaining (λ bytes given. IfErr result (IsUpdateFault lenient bytes given))
         full.old updates.old }
@@ -91,6 +95,58 @@ pub fn answer_update<R: ReadDevice, W: WriteDevice>(
     let extract = kept.extract.insert(extract);
     do_updates(alloc, extract, updates, lenient, &mut kept.done)?;
     finish(extract.write(sink), sink)
+}
+
+/// What `prepare` leaves to its caller.
+#[derive(Drop)]
+pub struct KeptPrepare {
+    /// The published extract that it has read.
+    pub extract: Option<PublishedExtract>,
+    /// The holidays that it was prepared with.
+    pub holidays: Option<Holidays>,
+}
+
+/// Writes the prepared extract of what the source gives, with the holidays that the other source gives, which
+/// is read first; with none where there is no such source. With `drop_clashes` the dates of clashes are left
+/// out; the answer is what was dropped. What was read is left in `kept`.
+pub fn answer_prepare<R: ReadDevice, W: WriteDevice>(
+    alloc: Global,
+    holidays: &mut Option<Source<R>>,
+    source: &mut Source<R>,
+    sink: &mut Sink<W>,
+    drop_clashes: bool,
+    kept: &mut KeptPrepare,
+) -> Result<Dropped, FeedFault>
+    ensures answer { FeedAnswers W.contents W.write_errors (λ dropped. dropped)
+        (λ text told. OfHolidays R.remaining (λ given bytes. IsTold (IsPrepareAnswer drop_clashes given bytes text) told)
+        holidays.old source.old) sink.old sink.new result }
+    ensures fault { OfHolidays R.remaining (λ given bytes. IfErr result (IsPrepareFault given bytes))
+        holidays.old source.old }
+    ensures reads { IsPreparedInTurn R.remaining R.read_errors holidays.old holidays.new source.old source.new result }
+    ensures handed_on { IsHandedOn W.holds_nothing sink.new result }
+{
+    let read = read_holidays(alloc, holidays)?;
+    let holidays = kept.holidays.insert(read);
+    let kept = &mut kept.extract;
+    let dropped = write_prepared(alloc, source, sink, MAX_LINES, holidays, drop_clashes, kept)?;
+    finish(Ok(()), sink)?;
+    Ok(dropped)
+}
+
+/// The holidays that the source gives; none where there is no source.
+fn read_holidays<R: ReadDevice>(
+    alloc: Global,
+    holidays: &mut Option<Source<R>>,
+) -> Result<Holidays, FeedFault>
+    ensures { AreHolidaysRead R.remaining R.read_errors holidays.old holidays.new result }
+{
+    match holidays {
+        None => Ok(Holidays::new(alloc)),
+        Some(source) => match Holidays::read(alloc, source) {
+            Ok(holidays) => Ok(holidays),
+            Err(fault) => Err(FeedFault::from(fault)),
+        },
+    }
 }
 
 /// Does the updates that the sources give to the extract, one after another, and appends what each did.

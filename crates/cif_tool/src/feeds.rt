@@ -1,23 +1,18 @@
-//! From a call that reads published extracts to its status. No clause says what is done here: the rows of
-//! `tests/` show it on the built program. What is read, done and written is said by the clauses of `cif_feed`:
-//! of `prepare` by one, and of `update` input by input.
-use crate::advice::{
-    add_feed_fault, add_holiday_line, add_out_of_sequence, add_window, add_write_failure,
-};
+//! From a call that reads published extracts to its status: its inputs are opened here, and `--verbose` says more.
+//! What is read, done, written and told is said by the clauses of the functions that are called.
+use crate::advice::{add_feed_fault, add_out_of_sequence, add_window};
 use crate::devices::{ExtractInput, Output, Written, buffered};
-use crate::job::{Call, FeedJob, InputNames};
-use crate::message::{Message, tell_line};
-use crate::status::{DONE, REFUSED, status};
-use arrayvec::ArrayString;
-use cif_columns::{MAX_LINES, ReadDevice, Sink, Source, WriteDevice};
-use cif_extract::{Clash, Fault};
-use cif_feed::{
-    FeedFault, HolidayCodes, HolidayFault, Holidays, Outcome, Passed, PublishedExtract,
-    RefusedLine, current_reference, last_reference, write_prepared,
+use crate::feed_answers::{
+    DoneUpdate, KeptPrepare, KeptUpdate, ReadFeed, answer_prepare, answer_update,
 };
-use cif_records::Header;
-use itoa::Buffer;
-use std::alloc::Global;
+use crate::job::{Call, FeedJob};
+use crate::message::Message;
+use crate::told::{end_prepare, end_update};
+use arrayvec::ArrayString;
+use cif_columns::{ReadDevice, Sink, Source, WriteDevice};
+use cif_extract::Fault;
+use cif_feed::{Dropped, FeedFault, Passed, current_reference, last_reference};
+use std::alloc::{AllocError, Global};
 use std::fmt::Write;
 use std::io;
 use std::mem::ManuallyDrop;
@@ -32,245 +27,30 @@ pub(crate) fn feed_task<R: Files + Input + Print + AllocGlobal, W: WriteDevice>(
     call: &Call,
     errors: &mut Sink<W>,
 ) -> u8 {
-    let mut told = Told::new(rt.alloc(), call.verbose);
-    let done = match job {
-        FeedJob::Prepare { drop_clashes } => prepare(rt, &call.inputs, *drop_clashes, &mut told),
-        FeedJob::Update { lenient } => update(rt, &call.inputs, *lenient, &mut told),
-    };
-    match &done {
-        Ok(()) => {
-            told.tell(errors);
-            told.counts.tell(errors);
-            DONE
-        }
-        Err(fault) => {
-            fault.tell(errors);
-            told.advice.tell(errors);
-            fault.status()
-        }
-    }
-}
-
-/// What goes to the standard error after the answer.
-#[derive(Drop)]
-struct Told {
-    /// The lines that don't fit, and were applied anyway.
-    waived: Vec<RefusedLine>,
-    /// The clashes whose records were left out.
-    dropped: Vec<Clash>,
-    /// Whether more is said.
-    verbose: bool,
-    /// What `--verbose` says where all was done.
-    counts: Message,
-    /// What `--verbose` says of a fault.
-    advice: Message,
-}
-
-impl Told {
-    fn new(alloc: Global, verbose: bool) -> Self {
-        Told {
-            waived: Vec::new(alloc),
-            dropped: Vec::new(alloc),
-            verbose,
-            counts: Message::new(alloc),
-            advice: Message::new(alloc),
-        }
-    }
-
-    /// Adds what was read of the full extract.
-    fn add_full<R: Files + Input>(
-        &mut self,
-        input: &ExtractInput<'_, R>,
-        extract: &PublishedExtract,
-    ) {
-        if self.verbose {
-            let text = counts_of(&extract.passed, open_ends_of(extract));
-            add_counts(input, &extract.header, &text, &mut self.counts);
-        }
-    }
-
-    /// Adds what was read of the extract that was prepared with these holidays.
-    fn add_prepared<R: Files + Input>(
-        &mut self,
-        input: &ExtractInput<'_, R>,
-        extract: &PublishedExtract,
-        holidays: &Holidays,
-    ) {
-        if self.verbose {
-            let mut text = counts_of(&extract.passed, open_ends_of(extract));
-            let _ = write!(
-                text,
-                ", records cut by holidays: {}",
-                extract.count_cut(holidays)
-            );
-            add_counts(input, &extract.header, &text, &mut self.counts);
-        }
-    }
-
-    /// Adds what an update did, of which this is the header now.
-    fn add_update<R: Files + Input>(
-        &mut self,
-        input: &ExtractInput<'_, R>,
-        header: &Header,
-        outcome: &Outcome,
-    ) -> Result<(), TaskFault> {
-        if self.verbose {
-            let done = &outcome.counts;
-            let mut text = counts_of(&outcome.passed, done.open_ends);
-            let _ = write!(
-                text,
-                ", lines new: {}, revised: {}, deleted: {}, waived: {}",
-                done.put,
-                done.revised,
-                done.taken_out,
-                outcome.waived.len()
-            );
-            add_counts(input, header, &text, &mut self.counts);
-        }
-        self.waived
-            .extend_from_slice(outcome.waived.as_slice())
-            .map_err(|_| MEMORY)
-    }
-
-    /// Adds what helps with a fault, which this input gave, or the output.
-    fn fault<R: Files + Input>(
-        &mut self,
-        alloc: Global,
-        fault: FeedFault,
-        input: &ExtractInput<'_, R>,
-        written: &Written,
-    ) -> TaskFault {
-        if self.verbose {
-            add_feed_fault(alloc, &fault, input, written, &mut self.advice);
-        }
-        TaskFault::Feed(fault)
-    }
-
-    /// Adds what helps with the header of an update that doesn't follow the extract.
-    fn out_of_sequence<R: Files + Input>(
-        &mut self,
-        input: &ExtractInput<'_, R>,
-        line: u64,
-        last: &[u8; 7],
-        current: &[u8; 7],
-    ) {
-        if self.verbose {
-            add_out_of_sequence(input, line, last, current, &mut self.advice);
-        }
-    }
-
-    /// Adds what helps with a fault of the holidays, which this input gave.
-    fn holiday_fault<R: Files + Input>(
-        &mut self,
-        alloc: Global,
-        fault: HolidayFault,
-        input: &ExtractInput<'_, R>,
-    ) -> TaskFault {
-        match fault {
-            HolidayFault::BadHoliday { line } => {
-                if self.verbose {
-                    add_holiday_line(input, line, &mut self.advice);
-                }
-                TaskFault::BadHoliday { line }
-            }
-            HolidayFault::Read => {
-                let fault = FeedFault::Extract(Fault::Read);
-                self.fault(alloc, fault, input, &Written::new())
-            }
-            HolidayFault::Memory => MEMORY,
-        }
-    }
-
-    /// Adds what helps where the output wasn't written for this fault.
-    fn write_fault(&mut self, alloc: Global, fault: Fault, written: &Written) -> TaskFault {
-        if self.verbose && fault == Fault::Write {
-            add_write_failure(alloc, written, &mut self.advice);
-        }
-        TaskFault::Feed(FeedFault::Extract(fault))
-    }
-
-    /// Names each line that was waived, and each clash whose records were left out.
-    fn tell<W: WriteDevice>(&self, errors: &mut Sink<W>) {
-        for line in self.waived.as_slice() {
-            tell_line(
-                &["cif: ", line.fault().text().as_str(), " (waived)\n"],
-                errors,
-            );
-        }
-        for clash in self.dropped.as_slice() {
-            tell_line(&["cif: dropped: ", clash.text().as_str(), "\n"], errors);
-        }
-    }
-}
-
-/// Why a task isn't done.
-#[derive(Drop)]
-enum TaskFault {
-    /// A line of the holidays, by its number, isn't as it has to be.
-    BadHoliday { line: u64 },
-    /// Anything else.
-    Feed(FeedFault),
-}
-
-/// Memory ran out.
-const MEMORY: TaskFault = TaskFault::Feed(FeedFault::Extract(Fault::Memory));
-
-impl TaskFault {
-    /// The status that the program exits with.
-    fn status(&self) -> u8 {
-        match self {
-            TaskFault::Feed(FeedFault::Extract(fault)) => status(fault),
-            _ => REFUSED,
-        }
-    }
-
-    /// Names the fault.
-    fn tell<W: WriteDevice>(&self, errors: &mut Sink<W>) {
-        match self {
-            TaskFault::BadHoliday { line } => tell_line(
-                &[
-                    "cif: holidays: line ",
-                    Buffer::new().format(*line),
-                    ": BadHoliday\n",
-                ],
-                errors,
-            ),
-            TaskFault::Feed(fault) => tell_line(&["cif: ", fault.text().as_str(), "\n"], errors),
-        }
+    match job {
+        FeedJob::Prepare { drop_clashes } => prepare(rt, call, *drop_clashes, errors),
+        FeedJob::Update { lenient } => update(rt, call, *lenient, errors),
     }
 }
 
 // ---- prepare
 
 /// Writes the prepared extract of the last input, with the holidays of the one before it, if there is one.
-#[inline(never)]
-fn prepare<R: Files + Input + Print + AllocGlobal>(
+fn prepare<R: Files + Input + Print + AllocGlobal, W: WriteDevice>(
     rt: &R,
-    inputs: &InputNames,
+    call: &Call,
     drop_clashes: bool,
-    told: &mut Told,
-) -> Result<(), TaskFault> {
-    match inputs.rest.first() {
-        Some(file) => {
-            let holidays = read_holidays(rt, inputs.first.as_str(), told)?;
-            prepare_with(rt, &holidays, drop_clashes, file.as_str(), told)
-        }
-        None => {
-            let none = Holidays::new(rt.alloc());
-            prepare_with(rt, &none, drop_clashes, inputs.first.as_str(), told)
-        }
-    }
-}
-
-/// Writes the prepared extract of the file, with these holidays.
-fn prepare_with<R: Files + Input + Print + AllocGlobal>(
-    rt: &R,
-    holidays: &Holidays,
-    drop_clashes: bool,
-    file: &str,
-    told: &mut Told,
-) -> Result<(), TaskFault> {
+    errors: &mut Sink<W>,
+) -> u8 {
     let alloc = rt.alloc();
+    let first = call.inputs.first.as_str();
+    let (mut holidays, file) = match call.inputs.rest.first() {
+        Some(file) => {
+            let holidays = ExtractInput::of(rt, "holidays (", Some(first));
+            (Some(Source::new(holidays)), file.as_str())
+        }
+        None => (None, first),
+    };
     let mut source = Source::new(ExtractInput::of(rt, "", Some(file)));
     let mut written = Written::new();
     let output = Output {
@@ -278,153 +58,215 @@ fn prepare_with<R: Files + Input + Print + AllocGlobal>(
         written: &mut written,
     };
     // The process ends after this: the system takes back the memory of all bodies at once.
-    let mut kept = ManuallyDrop::new(None);
-    match prepared(
-        alloc,
-        &mut source,
-        output,
-        holidays,
-        drop_clashes,
-        &mut kept,
-    ) {
-        Ok(dropped) => {
-            told.dropped = dropped;
-            if let Some(extract) = kept.as_ref() {
-                told.add_prepared(source.reader(), extract, holidays);
+    let mut kept = ManuallyDrop::new(KeptPrepare {
+        extract: None,
+        holidays: None,
+    });
+    let answer = prepared(alloc, &mut holidays, &mut source, output, drop_clashes, &mut kept);
+    let status = end_prepare(&answer, errors);
+    if call.verbose {
+        let mut message = Message::new(alloc);
+        match &answer {
+            Ok(dropped) => {
+                let clashing = drop_clashes.then_some(dropped.records);
+                add_prepared(source.reader(), &kept, clashing, &mut message);
             }
-            Ok(())
+            Err(fault) => {
+                let input = match &holidays {
+                    Some(holidays) if !source.reader().is_touched() => holidays.reader(),
+                    _ => source.reader(),
+                };
+                add_feed_fault(alloc, fault, input, &written, &mut message);
+            }
         }
-        Err(fault) => Err(told.fault(alloc, fault, source.reader(), &written)),
+        message.tell(errors);
     }
+    status
 }
 
-/// Writes the prepared extract of the source. It is left in `kept`; what was dropped from it is the answer.
+/// Writes the prepared extract of the source on the output, through a buffer.
 fn prepared<R: ReadDevice, W: WriteDevice + Drop>(
     alloc: Global,
+    holidays: &mut Option<Source<R>>,
     source: &mut Source<R>,
     output: W,
-    holidays: &Holidays,
     drop_clashes: bool,
-    kept: &mut Option<PublishedExtract>,
-) -> Result<Vec<Clash>, FeedFault> {
+    kept: &mut KeptPrepare,
+) -> Result<Dropped, FeedFault> {
     let mut output = buffered(alloc, output).map_err(FeedFault::Extract)?;
-    let dropped = write_prepared(
-        alloc,
-        source,
-        &mut output,
-        MAX_LINES,
-        holidays,
-        drop_clashes,
-        kept,
-    )?;
-    match output.flush() {
-        Ok(()) => Ok(dropped),
-        Err(_) => Err(FeedFault::Extract(Fault::Write)),
-    }
+    answer_prepare(alloc, holidays, source, &mut output, drop_clashes, kept)
 }
 
-/// The holidays of this file.
-#[inline(never)]
-fn read_holidays<R: Files + Input + AllocGlobal>(
-    rt: &R,
-    name: &str,
-    told: &mut Told,
-) -> Result<Holidays, TaskFault> {
-    let mut source = Source::new(ExtractInput::of(rt, "holidays (", Some(name)));
-    match Holidays::read(rt.alloc(), &mut source) {
-        Ok(holidays) => Ok(holidays),
-        Err(fault) => Err(told.holiday_fault(rt.alloc(), fault, source.reader())),
+/// Adds what was read of the extract that was prepared, and how many of its records were cut: by holidays, and by
+/// clashes, if these were dropped.
+fn add_prepared<R: Files + Input>(
+    input: &ExtractInput<'_, R>,
+    kept: &KeptPrepare,
+    clashing: Option<usize>,
+    message: &mut Message,
+) {
+    if let Some(extract) = &kept.extract
+        && let Some(holidays) = &kept.holidays
+    {
+        let read = ReadFeed::of(extract);
+        let mut text = counts_of(&read.passed, read.open_ends);
+        let _ = write!(
+            text,
+            ", records cut by holidays: {}",
+            extract.count_cut(holidays)
+        );
+        if let Some(clashing) = clashing {
+            let _ = write!(text, ", records cut by clashes: {clashing}");
+        }
+        add_window(input, &read.header, message);
+        add_of(input, text.as_str(), message);
     }
 }
 
 // ---- update
 
 /// Writes what the updates make of the full extract, the first input.
-fn update<R: Files + Input + Print + AllocGlobal>(
+fn update<R: Files + Input + Print + AllocGlobal, W: WriteDevice>(
     rt: &R,
-    inputs: &InputNames,
+    call: &Call,
     lenient: bool,
-    told: &mut Told,
-) -> Result<(), TaskFault> {
-    // The process ends after this: the system takes back the memory of all bodies at once.
-    let mut extract = ManuallyDrop::new(read_full(rt, inputs.first.as_str(), told)?);
-    for name in &inputs.rest {
-        do_update(rt, name.as_str(), lenient, &mut extract, told)?;
-    }
-    write(rt, &extract, told)
-}
-
-/// The full extract of this file.
-#[inline(never)]
-fn read_full<R: Files + Input + AllocGlobal>(
-    rt: &R,
-    name: &str,
-    told: &mut Told,
-) -> Result<PublishedExtract, TaskFault> {
-    let mut source = Source::new(ExtractInput::of(rt, "FULL (", Some(name)));
-    match PublishedExtract::read(rt.alloc(), &mut source, MAX_LINES, HolidayCodes::all()) {
-        Ok(extract) => {
-            told.add_full(source.reader(), &extract);
-            Ok(extract)
-        }
-        Err(fault) => Err(told.fault(rt.alloc(), fault, source.reader(), &Written::new())),
-    }
-}
-
-/// Does the update of this file.
-#[inline(never)]
-fn do_update<R: Files + Input + AllocGlobal>(
-    rt: &R,
-    name: &str,
-    lenient: bool,
-    extract: &mut PublishedExtract,
-    told: &mut Told,
-) -> Result<(), TaskFault> {
-    let mut source = Source::new(ExtractInput::of(rt, "UPDATE (", Some(name)));
-    let current = current_reference(&extract.header);
-    match extract.update_from(rt.alloc(), &mut source, MAX_LINES, lenient) {
-        Ok(outcome) => told.add_update(source.reader(), &extract.header, &outcome),
-        Err(fault) => {
-            // An update that was read has left its header.
-            let last = last_reference(&extract.header);
-            if let FeedFault::OutOfSequence { line } = &fault {
-                told.out_of_sequence(source.reader(), *line, &last, &current);
-            }
-            Err(told.fault(rt.alloc(), fault, source.reader(), &Written::new()))
-        }
-    }
-}
-
-// ---- the output of update
-
-/// Writes the extract on the standard output.
-#[inline(never)]
-fn write<R: Print + AllocGlobal>(
-    rt: &R,
-    extract: &PublishedExtract,
-    told: &mut Told,
-) -> Result<(), TaskFault> {
+    errors: &mut Sink<W>,
+) -> u8 {
+    let alloc = rt.alloc();
+    let file = Some(call.inputs.first.as_str());
+    let mut full = Source::new(ExtractInput::of(rt, "FULL (", file));
+    let Ok(mut updates) = sources(rt, call.inputs.rest.as_slice()) else {
+        return end_update(&Err(FeedFault::Extract(Fault::Memory)), &[], errors);
+    };
     let mut written = Written::new();
     let output = Output {
         writer: io::writer(rt),
         written: &mut written,
     };
-    match write_buffered(rt.alloc(), extract, output) {
-        Ok(()) => Ok(()),
-        Err(fault) => Err(told.write_fault(rt.alloc(), fault, &written)),
+    // The process ends after this: the system takes back the memory of all bodies at once.
+    let mut kept = ManuallyDrop::new(KeptUpdate {
+        extract: None,
+        full: None,
+        done: Vec::new(alloc),
+    });
+    let answer = updated(
+        alloc,
+        &mut full,
+        updates.as_mut_slice(),
+        output,
+        lenient,
+        &mut kept,
+    );
+    let status = end_update(&answer, kept.done.as_slice(), errors);
+    if call.verbose {
+        let mut message = Message::new(alloc);
+        match &answer {
+            Ok(()) => add_updated(&full, updates.as_slice(), &kept, &mut message),
+            Err(fault) => {
+                let mut input = full.reader();
+                for update in &updates {
+                    if update.reader().is_touched() {
+                        input = update.reader();
+                    }
+                }
+                if let FeedFault::OutOfSequence { line } = fault {
+                    add_references(input, *line, &kept, &mut message);
+                }
+                add_feed_fault(alloc, fault, input, &written, &mut message);
+            }
+        }
+        message.tell(errors);
+    }
+    status
+}
+
+/// The updates of these names.
+fn sources<'a, R: Files + Input + AllocGlobal>(
+    rt: &'a R,
+    names: &'a [String],
+) -> Result<Vec<Source<ExtractInput<'a, R>>>, AllocError> {
+    let mut sources = Vec::with_capacity(rt.alloc(), names.len())?;
+    for name in names {
+        let input = ExtractInput::of(rt, "UPDATE (", Some(name.as_str()));
+        sources.push(Source::new(input))?;
+    }
+    Ok(sources)
+}
+
+/// Writes what the updates make of the full extract on the output, through a buffer.
+fn updated<R: ReadDevice, W: WriteDevice + Drop>(
+    alloc: Global,
+    full: &mut Source<R>,
+    updates: &mut [Source<R>],
+    output: W,
+    lenient: bool,
+    kept: &mut KeptUpdate,
+) -> Result<(), FeedFault> {
+    let mut output = buffered(alloc, output).map_err(FeedFault::Extract)?;
+    answer_update(alloc, full, updates, &mut output, lenient, kept)
+}
+
+/// Adds what was read of the full extract, and what each update did.
+fn add_updated<R: Files + Input>(
+    full: &Source<ExtractInput<'_, R>>,
+    updates: &[Source<ExtractInput<'_, R>>],
+    kept: &KeptUpdate,
+    message: &mut Message,
+) {
+    if let Some(read) = &kept.full {
+        add_window(full.reader(), &read.header, message);
+        let text = counts_of(&read.passed, read.open_ends);
+        add_of(full.reader(), text.as_str(), message);
+    }
+    for (update, done) in updates.iter().zip(&kept.done) {
+        add_done(update.reader(), done, message);
     }
 }
 
-/// Writes the extract on the output, through a buffer.
-fn write_buffered<W: WriteDevice + Drop>(
-    alloc: Global,
-    extract: &PublishedExtract,
-    output: W,
-) -> Result<(), Fault> {
-    let mut output = buffered(alloc, output)?;
-    extract.write(&mut output)?;
-    output.flush()?;
-    Ok(())
+/// Adds what an update did, and which of its lines were waived.
+fn add_done<R: Files + Input>(
+    input: &ExtractInput<'_, R>,
+    done: &DoneUpdate,
+    message: &mut Message,
+) {
+    let DoneUpdate { header, outcome } = done;
+    let counts = &outcome.counts;
+    let mut text = counts_of(&outcome.passed, counts.open_ends);
+    let _ = write!(
+        text,
+        ", lines new: {}, revised: {}, deleted: {}, waived: {}",
+        counts.put,
+        counts.revised,
+        counts.taken_out,
+        outcome.waived.len()
+    );
+    add_window(input, header, message);
+    add_of(input, text.as_str(), message);
+    for line in &outcome.waived {
+        let mut text = Counts::new();
+        let _ = write!(text, "waived: {}", line.fault().text().as_str());
+        add_of(input, text.as_str(), message);
+    }
+}
+
+/// Adds the references of an update that doesn't follow the extract that those before it have left.
+fn add_references<R: Files + Input>(
+    input: &ExtractInput<'_, R>,
+    line: u64,
+    kept: &KeptUpdate,
+    message: &mut Message,
+) {
+    let before = match kept.done.last() {
+        Some(done) => Some(&done.header),
+        None => kept.full.as_ref().map(|full| &full.header),
+    };
+    // An update that was read has left its header in the extract.
+    if let Some(before) = before
+        && let Some(extract) = &kept.extract
+    {
+        let last = last_reference(&extract.header);
+        add_out_of_sequence(input, line, &last, &current_reference(before), message);
+    }
 }
 
 // ---- what `--verbose` says where all was done
@@ -446,31 +288,7 @@ fn counts_of(passed: &Passed, open_ends: u64) -> Counts {
     text
 }
 
-/// Adds the window of an extract that was read, and its counts.
-fn add_counts<R: Files + Input>(
-    input: &ExtractInput<'_, R>,
-    header: &Header,
-    text: &Counts,
-    counts: &mut Message,
-) {
-    add_window(input, header, counts);
-    counts.line(&[
-        input.side(),
-        input.name(),
-        input.side_end(),
-        ": ",
-        text.as_str(),
-    ]);
-}
-
-/// How many records have an open end.
-fn open_ends_of(extract: &PublishedExtract) -> u64 {
-    let mut count = 0_u64;
-    for association in extract.associations.as_slice() {
-        count = count.saturating_add(u64::from(association.open_end));
-    }
-    for schedule in extract.schedules.as_slice() {
-        count = count.saturating_add(u64::from(schedule.open_end));
-    }
-    count
+/// Adds this text of an input.
+fn add_of<R: Files + Input>(input: &ExtractInput<'_, R>, text: &str, message: &mut Message) {
+    message.line(&[input.side(), input.name(), input.side_end(), ": ", text]);
 }

@@ -9,18 +9,17 @@ use crate::status::{DONE, REFUSED, status};
 use arrayvec::ArrayString;
 use cif_canon::writing::{Texts, append, write_each};
 use cif_columns::{Sink, WriteDevice};
-use cif_extract::Clash;
-use cif_feed::{FeedFault, RefusedLine};
+use cif_feed::{Dropped, DroppedKey, FeedFault, RefusedLine};
 
 /// Says what `prepare` tells of its answer, or why there is none, and gives the status that the program exits
 /// with. That it can't be written changes no status.
-pub fn end_prepare<W: WriteDevice>(answer: &Result<Vec<Clash>, FeedFault>, errors: &mut Sink<W>) -> u8
+pub fn end_prepare<W: WriteDevice>(answer: &Result<Dropped, FeedFault>, errors: &mut Sink<W>) -> u8
     ensures status { result ≡ told_status answer.now }
     ensures told { IsAppended W.contents W.write_errors (told_by_prepare answer.now) errors.old errors.new }
 {
     match answer {
         Ok(dropped) => {
-            write_each(&DroppedLines, dropped.as_slice(), errors);
+            write_each(&DroppedLines, dropped.keys.as_slice(), errors);
             DONE
         }
         Err(fault) => refuse(fault, errors),
@@ -65,8 +64,11 @@ fn feed_status(fault: &FeedFault) -> u8
     }
 }
 
-/// The bytes of the longest line: that of a clash of associations.
+/// The bytes of the longest line that names a fault.
 const LONGEST_LINE: usize = 80;
+
+/// The bytes of the longest line of a key that clashes: that of associations.
+const LONGEST_DROPPED: usize = 110;
 
 /// The line that names a fault.
 #[tactic(auto, unfolding(crate::specs::Told::refused_line))]
@@ -92,28 +94,28 @@ fn waived_line(refused: &RefusedLine) -> ArrayString<LONGEST_LINE>
     line
 }
 
-/// The line of a key whose records were left out.
+/// The line of a key of which nothing runs on some dates.
 #[tactic(auto, unfolding(crate::specs::Told::dropped_line))]
-fn dropped_line(clash: &Clash) -> ArrayString<LONGEST_LINE>
-    ensures { result.bytes ≡ dropped_line clash.now }
+fn dropped_line(key: &DroppedKey) -> ArrayString<LONGEST_DROPPED>
+    ensures { result.bytes ≡ dropped_line key.now }
 {
     let mut line = ArrayString::new();
     line.push_str("cif: dropped: ");
-    line.push_str(clash.text().as_str());
+    line.push_str(key.text().as_str());
     line.push_str("\n");
     line
 }
 
-/// The lines of keys whose records were left out.
+/// The lines of such keys.
 struct DroppedLines;
 
-impl Texts<Clash> for DroppedLines {
+impl Texts<DroppedKey> for DroppedLines {
     ghost use Rattle.cif_tool.specs.Told.{dropped_line};
 
-    ghost text = { λ _ clash. dropped_line clash };
+    ghost text = { λ _ key. dropped_line key };
 
-    fn write<W: WriteDevice>(&self, clash: &Clash, sink: &mut Sink<W>) {
-        append(dropped_line(clash).as_str(), sink);
+    fn write<W: WriteDevice>(&self, key: &DroppedKey, sink: &mut Sink<W>) {
+        append(dropped_line(key).as_str(), sink);
     }
 }
 

@@ -1,6 +1,7 @@
 -- An update that isn't done is told by `undone-answer` and its like; a text that is written, or isn't, by `ended-answer`.
 use Rattle.cif_extract.proofs.ReadCalls.{at-fault}
 use Rattle.cif_feed.specs.PublishedParts.{published_parts}
+use Rattle.cif_tool.specs.FeedAnswer.{waived_by}
 use Rattle.cif_tool.proofs.UpdatesRead.{ended-answer, ended-fault, ended-reads, finished, undone-answer, undone-fault, undone-reads}
 use Rattle.cif_tool.proofs.feed_answers.answer_update.Goals as goal
 
@@ -32,7 +33,7 @@ pub returns-clause-answer : goal.returns-clause-answer
 returns-clause-answer g c =
     let turn = c.in_ok-do_updates.ensures in
     ended-answer _ _ _ _ _ _ _ c.all.ensures _ _ c.in_ok-extract.extract c.in_ok-extract.ensures c.insert-extract.result.now c.insert-extract.ensures.value
-    (published_parts c.do_updates.new.extract) _ _ turn.0 turn.1 (λ a. ?) c.args.sink.now c.finish.new.sink c.finish.result
+    (published_parts c.do_updates.new.extract) _ _ turn.0 turn.1 (λ a. rw c.new.ensures.items at turn.2) c.args.sink.now c.finish.new.sink c.finish.result
     (finished _ _ _ _ _ _ c.write.result c.finish.result c.write.ensures c.finish.ensures.finishes)
 
 pub returns-clause-fault : goal.returns-clause-fault
@@ -46,5 +47,5 @@ pub returns-clause-reads : goal.returns-clause-reads
 returns-clause-reads g c =
     let turn = c.in_ok-do_updates.ensures in
     ended-reads _ _ g.W.Write.contents g.W.WriteDevice.write_errors _ _ _ c.all.ensures _ _ c.in_ok-extract.extract c.in_ok-extract.ensures c.insert-extract.result.now c.insert-extract.ensures.value
-    (published_parts c.do_updates.new.extract) _ _ turn.0 turn.1 (λ a. ?) c.args.sink.now c.finish.new.sink c.finish.result
+    (published_parts c.do_updates.new.extract) _ _ turn.0 turn.1 (λ a. rw c.new.ensures.items at turn.2) c.args.sink.now c.finish.new.sink c.finish.result
     (finished _ _ _ _ _ _ c.write.result c.finish.result c.write.ensures c.finish.ensures.finishes)

@@ -1,0 +1,198 @@
+-- What comes of the sources of `prepare`, where the bytes that their readers give are known.
+use Rattle.std.proofs.Common.{◌≡◌, ◌∙◌, ◌⊎◌, ⊎_elim, ℕ, List, [], Option, None, Some, Result, Ok, Err, Bool, IfErr, IfOk, IfSome, ap, inl, inr, refl}
+use Rattle.std.proofs.Common.{subst, sym}
+use Rattle.std.specs.Prelude.{MatchResult}
+use Rattle.std.specs.Bool.{MatchBool}
+use Rattle.cif_columns.proofs.GivenLinesLaws.{known_so}
+use Rattle.cif_columns.specs.Sink.{HasFailed, HasWritten}
+use Rattle.cif_columns.specs.Source.{HasFailedToRead, HasReadOn, Unread, reader_of, unread_of}
+use Rattle.cif_columns.specs.declared.line_reader.TheConstants.{MAX_LINES}
+use Rattle.cif_columns.specs.declared.sink.Sink.{Sink}
+use Rattle.cif_columns.specs.declared.source.Source.{Source}
+use Rattle.cif_extract.proofs.ReadCalls.{goes-on, of_any, refuses}
+use Rattle.cif_extract.specs.ReadCall.{IsResultOf}
+use Rattle.cif_columns.specs.Contents.{contents_of}
+use Rattle.cif_extract.specs.declared.fault.Fault.TheVariants as fault
+use Rattle.cif_feed.specs.FeedRefusal.{IsFirstOfFeed}
+use Rattle.cif_feed.specs.FeedFault.{is_feed_read, of_holiday_fault}
+use Rattle.cif_feed.specs.HolidayText.{IsHolidayFault, is_holiday_read, reading_holidays}
+use Rattle.cif_feed.specs.WrittenPrepared.{FeedWrites, IsDeviceOrMemory, IsPrepareFault as IsOnePrepareFault, IsPreparedText, Prepares}
+use Rattle.cif_feed.specs.WrittenPrepared.{codes_named, preparing}
+use Rattle.cif_feed.specs.declared.dropped.Dropped.{Dropped}
+use Rattle.cif_feed.specs.declared.feed.Feed.TheVariants.{Full}
+use Rattle.cif_feed.specs.declared.feed.FeedFault.{FeedFault}
+use Rattle.cif_feed.specs.declared.feed.FeedFault.TheVariants.{BadTransaction, Extract, NotUpdate}
+use Rattle.cif_feed.specs.declared.holiday_text.HolidayFault.{HolidayFault}
+use Rattle.cif_feed.specs.declared.holiday_text.HolidayFault.TheVariants.{BadHoliday, Memory, Read}
+use Rattle.cif_feed.specs.declared.holidays.Holidays.{Holidays}
+use Rattle.cif_feed.specs.declared.published_extract.PublishedExtract.{PublishedExtract}
+use Rattle.cif_tool.specs.FeedAnswer.{AreHolidaysGiven, AreHolidaysOf, AreHolidaysRead, FeedAnswers, IsBadHoliday, IsHolidayFeedFault}
+use Rattle.cif_tool.specs.FeedAnswer.{IsPrepareAnswer, IsPrepareFault, IsPreparedInTurn, IsTold, OfHolidays}
+use Rattle.cif_tool.specs.FeedAnswer.{reading_as_feed}
+use Rattle.cif_tool.proofs.UpdatesRead.{answer-of, fault-of}
+
+-- ---- holidays
+
+same-read : (hf : HolidayFault) → is_holiday_read hf ≡ is_feed_read (of_holiday_fault hf)
+same-read (BadHoliday line) = refl
+same-read Read = refl
+same-read Memory = refl
+
+bad : (bytes : List ℕ) (after : Unread) (hf : HolidayFault) → IsHolidayFault bytes after hf →
+    IsDeviceOrMemory (of_holiday_fault hf) ⊎ IsBadHoliday (Some bytes) (of_holiday_fault hf)
+bad bytes after (BadHoliday line) h = inr h.0
+bad bytes after Read h = inl tt
+bad bytes after Memory h = inl tt
+
+-- no fault of holidays is one of the writing
+silent : {W A T : Type 0} (contents : W → Option (List ℕ)) (errors : W → Option ℕ) (told : A → T) (P : List ℕ → Option T → Type 0)
+    (old : Sink W) (hf : HolidayFault) → FeedAnswers contents errors told P old old (Err (of_holiday_fault hf))
+silent contents errors told P old (BadHoliday line) = record { text = []; writes = refl; answer = tt }
+silent contents errors told P old Read = record { text = []; writes = refl; answer = tt }
+silent contents errors told P old Memory = record { text = []; writes = refl; answer = tt }
+
+module _ {R : Type 0} (remaining : R → Option (List ℕ)) (errors : R → Option ℕ) where
+  pub as-feed : (s t : Source R) (h : Holidays) → IsResultOf remaining errors reading_holidays s t (Ok h) →
+      AreHolidaysRead remaining errors (Some s) (Some t) (Ok h)
+  as-feed s t h call = (t, refl, record {
+    ok = call.ok;
+    fault = of_any _ _ (λ bytes. tt);
+    answers = tt;
+    source = call.source;
+    end = call.end;
+  })
+
+  pub fault-as-feed : (s t : Source R) (hf : HolidayFault) (f : FeedFault) → f ≡ of_holiday_fault hf →
+      IsResultOf remaining errors reading_holidays s t (Err hf) → AreHolidaysRead remaining errors (Some s) (Some t) (Err f)
+  fault-as-feed s t hf f is call = (t, refl, refuses remaining errors s t reading_as_feed f
+      (known_so (remaining (reader_of s)) _ _ (λ bytes h. (hf, is, h)) call.fault) (hf, is, call.answers)
+      (subst (λ b. MatchBool b (HasFailedToRead errors s t) (HasReadOn errors s t)) (same-read hf ∙ ap is_feed_read (sym is)) call.source))
+
+  -- the holidays are those that the bytes spell
+  pub holidays-given : (source after : Option (Source R)) (given : Option (List ℕ)) (h : Holidays) →
+      AreHolidaysRead remaining errors source after (Ok h) → AreHolidaysGiven remaining source given → AreHolidaysOf given h
+  holidays-given None after given h read are = subst (λ g. AreHolidaysOf g h) (sym are) read.1
+  holidays-given (Some s) after given h (t, is, call) (bytes, same, known) =
+      subst (λ g. AreHolidaysOf g h) (sym same) (answer-of reading_as_feed remaining errors s t bytes known h call)
+
+  -- or a line of them is bad
+  pub holidays-refused : (source after : Option (Source R)) (given : Option (List ℕ)) (f : FeedFault) →
+      AreHolidaysRead remaining errors source after (Err f) → AreHolidaysGiven remaining source given →
+      IsDeviceOrMemory f ⊎ IsBadHoliday given f
+  holidays-refused None after given f read are = absurd read.2
+  holidays-refused (Some s) after given f (t, is, call) (bytes, same, known) =
+      let why : IsHolidayFeedFault bytes (unread_of remaining t) f = fault-of reading_as_feed remaining errors s t bytes known f call in
+      subst (λ g. IsDeviceOrMemory f ⊎ IsBadHoliday g f) (sym same)
+      (subst (λ e. IsDeviceOrMemory e ⊎ IsBadHoliday (Some bytes) e) (sym why.1) (bad bytes (unread_of remaining t) why.0 why.2))
+
+  pub unread-answer : {W A T : Type 0} (contents : W → Option (List ℕ)) (write_errors : W → Option ℕ) (told : A → T)
+      (P : List ℕ → Option T → Type 0) (old : Sink W) (source after : Option (Source R)) (f : FeedFault) →
+      AreHolidaysRead remaining errors source after (Err f) → FeedAnswers contents write_errors told P old old (Err f)
+  unread-answer contents write_errors told P old None after f read = absurd read.2
+  unread-answer contents write_errors told P old (Some s) after f (t, is, call) =
+      let why = call.answers in
+      subst (λ e. FeedAnswers contents write_errors told P old old (Err e)) (sym why.1) (silent contents write_errors told P old why.0)
+
+-- ---- the whole run
+
+-- why the published extract isn't prepared
+prepare-refused : (h : Holidays) (bytes : List ℕ) (after : Unread) (f : FeedFault) → IsOnePrepareFault h MAX_LINES bytes after f →
+    IsDeviceOrMemory f ⊎ IsFirstOfFeed Full (codes_named h) MAX_LINES (contents_of bytes) f
+prepare-refused h bytes after (Extract (fault.Refused line why)) is = inr is.0
+prepare-refused h bytes after (Extract fault.Read) is = inl tt
+prepare-refused h bytes after (Extract fault.Memory) is = inl tt
+prepare-refused h bytes after (Extract fault.Write) is = inl tt
+prepare-refused h bytes after (Extract _) is = absurd is
+prepare-refused h bytes after (NotUpdate line) is = inr is.0
+prepare-refused h bytes after (BadTransaction line) is = inr is.0
+prepare-refused h bytes after _ is = absurd is
+
+module _ {R W : Type 0} (remaining : R → Option (List ℕ)) (errors : R → Option ℕ) (contents : W → Option (List ℕ))
+    (write_errors : W → Option ℕ) (drops : Bool) (holidays after : Option (Source R)) (first : Holidays)
+    (at-first : AreHolidaysRead remaining errors holidays after (Ok first)) (h : Holidays) (same : h ≡ first) (source source_new : Source R)
+    where
+  abbrev Answer : List ℕ → Option Dropped → Type 0
+  Answer text told = OfHolidays remaining (λ given bytes. IsTold (IsPrepareAnswer drops given bytes text) told) holidays source
+
+  -- what the call that prepares owes the sink
+  abbrev Written : Sink W → Sink W → Result Dropped FeedFault → Type 0
+  Written old mid result = (text : List ℕ) × FeedWrites contents write_errors text old mid result
+      × IfSome (remaining (reader_of source)) (λ bytes. Prepares h drops MAX_LINES bytes text result)
+
+  read : AreHolidaysRead remaining errors holidays after (Ok h)
+  read = subst (λ x. AreHolidaysRead remaining errors holidays after (Ok x)) (sym same) at-first
+
+  prepared : (text bytes : List ℕ) (given : Option (List ℕ)) (t : Dropped) → AreHolidaysGiven remaining holidays given →
+      IsPreparedText h drops MAX_LINES bytes text t → IsPrepareAnswer drops given bytes text t
+  prepared text bytes given t are is = record {
+    holidays = h;
+    spelled = holidays-given remaining errors holidays after given h read are;
+    prepared = is;
+  }
+
+  some-told : (text : List ℕ) → IfSome (remaining (reader_of source)) (λ bytes. (t : Dropped) × IsPreparedText h drops MAX_LINES bytes text t) →
+      Answer text None
+  some-told text some given bytes are known =
+      let (t, is) = subst (λ o. IfSome o (λ b. (t : Dropped) × IsPreparedText h drops MAX_LINES b text t)) known some in
+      (t, prepared text bytes given t are is)
+
+  -- it isn't prepared
+  module _ (f : FeedFault) (result : Result Dropped FeedFault) (is : result ≡ Err f) where
+    abbrev Answers : Sink W → Sink W → Result Dropped FeedFault → Type 0
+    Answers = FeedAnswers contents write_errors (λ d. d) Answer
+
+    fails : (old mid : Sink W) (e : FeedFault) → Written old mid (Err e) → Answers old mid (Err e)
+    fails old mid (Extract fault.Write) w = record { text = w.0; writes = w.1; answer = some-told w.0 w.2 }
+    fails old mid (Extract _) w = record { text = w.0; writes = w.1; answer = tt }
+    fails old mid _ w = record { text = w.0; writes = w.1; answer = tt }
+
+    pub unprepared-answer : (old mid : Sink W) → Written old mid (Err f) → Answers old mid result
+    unprepared-answer old mid w = subst (Answers old mid) (sym is) (fails old mid f w)
+
+    module _ (kept : Option PublishedExtract) (call : IsResultOf remaining errors (preparing h MAX_LINES kept) source source_new (Err f))
+      where
+      pub unprepared-fault : OfHolidays remaining (λ given bytes. IfErr result (IsPrepareFault given bytes)) holidays source
+      unprepared-fault given bytes are known = subst (λ r. IfErr r (IsPrepareFault given bytes)) (sym is) (⊎_elim inl
+          (λ why. inr (inr (h, holidays-given remaining errors holidays after given h read are, why)))
+          (prepare-refused h bytes (unread_of remaining source_new) f
+          (fault-of (preparing h MAX_LINES kept) remaining errors source source_new bytes known f call)))
+
+  -- what was prepared is handed on
+  module _ (old mid new : Sink W) (a : Dropped) (w : Written old mid (Ok a)) where
+    pub prepared-answer : HasWritten contents write_errors w.0 old new → FeedAnswers contents write_errors (λ d. d) Answer old new (Ok a)
+    prepared-answer written = record {
+      text = w.0;
+      writes = written;
+      answer = λ given bytes are known. prepared w.0 bytes given a are
+          (subst (λ o. IfSome o (λ b. IsPreparedText h drops MAX_LINES b w.0 a)) known w.2);
+    }
+
+    -- or isn't
+    pub unhanded-answer : (result : Result Dropped FeedFault) (f : FeedFault) → result ≡ Err f → f ≡ Extract fault.Write →
+        HasFailed contents write_errors w.0 old new → FeedAnswers contents write_errors (λ d. d) Answer old new result
+    unhanded-answer result f is write failed =
+        subst (FeedAnswers contents write_errors (λ d. d) Answer old new) (sym (is ∙ ap Err write)) record {
+          text = w.0;
+          writes = failed;
+          answer = some-told w.0 (known_so (remaining (reader_of source)) _ _ (λ bytes p. (told a, p)) w.2);
+        }
+
+module _ {R : Type 0} (remaining : R → Option (List ℕ)) (errors : R → Option ℕ) (source source_new : Source R) (h : Holidays)
+    (kept : Option PublishedExtract) where
+  -- a failure to hand on is one to write
+  pub unhanded-read : (a : Dropped) (result : Result Dropped FeedFault) (f : FeedFault) → result ≡ Err f →
+      f ≡ Extract fault.Write → IsResultOf remaining errors (preparing h MAX_LINES kept) source source_new (Ok a) →
+      IsResultOf remaining errors (preparing h MAX_LINES kept) source source_new result
+  unhanded-read a result f is write call =
+      subst (IsResultOf remaining errors (preparing h MAX_LINES kept) source source_new) (sym (is ∙ ap Err write))
+      (goes-on (preparing h MAX_LINES kept) (preparing h MAX_LINES kept) remaining errors source source_new a call (Err (Extract fault.Write))
+      (record { fault = λ bytes after p. tt; answers = tt; other = refl }))
+
+module _ {R : Type 0} (remaining : R → Option (List ℕ)) (errors : R → Option ℕ) (holidays after : Option (Source R))
+    (source source_new : Source R) (first : Holidays) (at-first : AreHolidaysRead remaining errors holidays after (Ok first)) (h : Holidays)
+    (same : h ≡ first) (kept : Option PublishedExtract) where
+  pub prepared-read : (result : Result Dropped FeedFault) →
+      IsResultOf remaining errors (preparing h MAX_LINES kept) source source_new result →
+      IsPreparedInTurn remaining errors holidays after source source_new result
+  prepared-read result call =
+      inr (h, kept, subst (λ x. AreHolidaysRead remaining errors holidays after (Ok x)) (sym same) at-first, call)
