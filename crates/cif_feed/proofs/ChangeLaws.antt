@@ -22,7 +22,7 @@ module _ {A : Type 0} where
       at false more = more
 
   -- by tests that agree
-  filter-alike : (p q : A → Bool) → ((x : A) → p x ≡ q x) → (xs : List A) → filter p xs ≡ filter q xs
+  pub filter-alike : (p q : A → Bool) → ((x : A) → p x ≡ q x) → (xs : List A) → filter p xs ≡ filter q xs
   filter-alike p q agree [] = refl
   filter-alike p q agree (x ∷ xs) =
       ap (λ b. cond b (x ∷ filter p xs) (filter p xs)) (agree x) ∙ ap (λ l. cond (q x) (x ∷ l) l) (filter-alike p q agree xs)

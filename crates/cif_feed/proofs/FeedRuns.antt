@@ -48,6 +48,10 @@ use Rattle.cif_feed.specs.ProfileLine.{as_it_stands, is_note, notes_may_stand, p
 use Rattle.cif_feed.specs.FeedRefusal.{IsFeedContent, IsFeedCut, IsFirstOfFeed, NoneOfFeedRefused, fault_for, feed_refusal, line_refusal}
 use Rattle.cif_feed.specs.FeedRefusal.{not_full, untaken_fault}
 use Rattle.cif_feed.specs.FeedFault.{is_feed_read, reading_feed}
+use Rattle.cif_columns.specs.declared.line_reader.TheConstants.{MAX_LINES}
+use Rattle.cif_feed.specs.Counts.{counts_of}
+use Rattle.cif_feed.specs.Steps.Counts.{HaveRoom}
+use Rattle.cif_feed.specs.declared.counts.UpdateCounts.{UpdateCounts}
 use Rattle.cif_feed.specs.SpellsFeed.{BytesSpellFeed, SpellFeed, feed_parts}
 use Rattle.cif_feed.specs.Steps.FeedReading.{IsFeedHeld, IsFeedTaken}
 use Rattle.cif_feed.specs.declared.feed.Feed.{Feed}
@@ -354,6 +358,7 @@ module _ (feed : Feed) (allowed : HolidayCodes) (max : ℕ) {R : Type 0} (remain
             tiploc_marks = held.tiploc_marks;
             association_marks = held.association_marks;
             schedule_marks = held.schedule_marks;
+            counts = held.counts;
             passed = held.passed;
           }),
           rw is within,
@@ -376,6 +381,19 @@ module _ (feed : Feed) (allowed : HolidayCodes) (max : ℕ) {R : Type 0} (remain
 -- some of the contents are at most all
 pub fewer : (p : List ℕ → Bool) (cs : List (List ℕ)) → length (filter p cs) ≤ length cs
 fewer p cs = omega (arith, length-filter p cs, count_by-le-length p cs)
+
+-- so one more may be counted
+pub room_more : (cs : List (List ℕ)) (n : UpdateCounts) → n ≡ counts_of cs → length cs < MAX_LINES → HaveRoom n
+room_more cs n are few =
+    record {
+      put = of _ n.put (ap (λ (v : UpdateCounts). v.put) are);
+      revised = of _ n.revised (ap (λ (v : UpdateCounts). v.revised) are);
+      taken_out = of _ n.taken_out (ap (λ (v : UpdateCounts). v.taken_out) are);
+      open_ends = of _ n.open_ends (ap (λ (v : UpdateCounts). v.open_ends) are);
+    }
+  where
+    of : (p : List ℕ → Bool) (m : ℕ) → m ≡ length (filter p cs) → m < MAX_LINES
+    of p m e = omega (arith, e, fewer p cs, few)
 
 -- ---- one content more
 

@@ -1,6 +1,6 @@
 -- One content more of a feed: what the contents say then, and what the reading has come to.
 use Rattle.std.proofs.Common.{◌≡◌, ℕ, ◌+◌, ◌≤◌, ◌==◌, Bool, true, false, cond, not, ◌&&◌, ◌||◌, List, [], ◌∷◌, ◌++◌, length, map, filter}
-use Rattle.std.proofs.Common.{Some, None, Result, Ok, Err, refl, sym, ap, ◌∙◌, subst, ne_eqb, take, codes, append-nil, length-append, arith}
+use Rattle.std.proofs.Common.{Option, Some, None, Result, Ok, Err, refl, sym, ap, ◌∙◌, subst, ne_eqb, take, codes, append-nil, length-append, arith}
 use Rattle.std.proofs.lemmas.Bool.{and_parts}
 use Rattle.std.proofs.lemmas.Grind.{flat_map-append}
 use Rattle.std.proofs.lemmas.List.{map-append, take-take}
@@ -27,6 +27,9 @@ use Rattle.cif_feed.specs.ProfileLine.{notes_may_stand, profile_line, profile_li
 use Rattle.cif_feed.specs.SpellsFeed.{header_from, passed_of}
 use Rattle.cif_feed.specs.Steps.FeedReading.{HasTakenFeed, IsFeedTaken, IsMarked, IsNoteTaken, IsStopTaken, Marks, UnlessMemory, marks_in}
 use Rattle.cif_feed.specs.Steps.FeedReading.{header_behind, marks_of, with_mark}
+use Rattle.cif_feed.specs.Counts.{counts_of, ends_open, is_deleted, is_new, is_revised, transaction_as}
+use Rattle.cif_feed.specs.Steps.Counts.{plus_if, with_line}
+use Rattle.cif_feed.specs.declared.counts.UpdateCounts.{UpdateCounts}
 use Rattle.cif_feed.specs.declared.feed.Feed.{Feed}
 use Rattle.cif_feed.specs.declared.feed.Feed.TheVariants.{Full, Update}
 use Rattle.cif_feed.specs.declared.feed_reading.FeedReading.{FeedReading}
@@ -156,6 +159,38 @@ module _ (feed : Feed) (allowed : HolidayCodes) (cs : List (List ℕ)) (c : List
       ap (λ (n : ℕ). record counts { comments = n }) (count_no is_comment no_comment)
       ∙ ap (λ (n : ℕ). record counts { notes = n }) (count_no is_note no_note)
 
+  -- how many do what
+  abbrev puts : List ℕ → Bool
+  puts = λ l. is_new (transaction_as (kind_in l) l)
+
+  abbrev revises : List ℕ → Bool
+  revises = λ l. is_revised (transaction_as (kind_in l) l)
+
+  abbrev deletes : List ℕ → Bool
+  deletes = λ l. is_deleted (transaction_as (kind_in l) l)
+
+  abbrev opens : List ℕ → Bool
+  opens = λ l. ends_open (kind_in l) l
+
+  count_more : (p : List ℕ → Bool) → length (filter p (cs ++ c ∷ [])) ≡ plus_if (length (filter p cs)) (p c)
+  count_more p = at (p c) refl
+    where
+      at : (b : Bool) → p c ≡ b → length (filter p (cs ++ c ∷ [])) ≡ plus_if (length (filter p cs)) b
+      at true is = count_yes p is
+      at false is = count_no p is
+
+  counts_more : counts_of (cs ++ c ∷ []) ≡ with_line (counts_of cs) (kind_in c) c
+  counts_more = rw (count_more puts, count_more revises, count_more deletes, count_more opens) refl
+
+  -- a content whose kind does nothing
+  silent_counts : (kind : Option Kind) → kind_in c ≡ kind → ((n : UpdateCounts) → with_line n kind c ≡ with_line n None c) → (n : UpdateCounts)
+      → with_line n (kind_in c) c ≡ n
+  silent_counts kind is none n = ap (λ k. with_line n k c) is ∙ none n
+
+  counts_same : (kind : Option Kind) → kind_in c ≡ kind → ((n : UpdateCounts) → with_line n kind c ≡ with_line n None c)
+      → counts_of (cs ++ c ∷ []) ≡ counts_of cs
+  counts_same kind is none = counts_more ∙ silent_counts kind is none (counts_of cs)
+
   module _ (is : is_record_line c ≡ true) where
     speaking : filter is_record_line (cs ++ c ∷ []) ≡ filter is_record_line cs ++ (c ∷ [])
     speaking = one_more is_record_line ∙ ap (λ b. filter is_record_line cs ++ cond b (c ∷ []) []) is
@@ -203,6 +238,7 @@ module _ (feed : Feed) (allowed : HolidayCodes) (cs : List (List ℕ)) (c : List
     taken : HasTaken (profile_lines feed allowed cs ++ ((profile_line feed allowed c).line ∷ [])) (progress_of new.reading)
     header_line : new.header_line ≡ header_behind old.header_line (kind_in c) number
     marked : marks_of new ≡ with_mark (marks_of old) number (profile_line feed allowed c).mark
+    counts : new.counts ≡ with_line old.counts (kind_in c) c
     passed : new.passed ≡ old.passed
     basic : new.has_basic ≡ (old.has_basic || is_basic (kind_in c))
     trailer : new.has_trailer ≡ (old.has_trailer || is_trailer (kind_in c))
@@ -218,6 +254,7 @@ module _ (feed : Feed) (allowed : HolidayCodes) (cs : List (List ℕ)) (c : List
             ∙ ap (header_behind (header_from 1 cs) (kind_in c)) numbered ∙ sym (header_more 1 (omega arith) cs c);
         marked = step.marked ∙ ap (λ m. with_mark m number (profile_line feed allowed c).mark) so_far.marked
             ∙ ap (λ (n : ℕ). with_mark (marks_in feed allowed cs) n (profile_line feed allowed c).mark) numbered ∙ sym (marks_in-more is);
+        counts = step.counts ∙ ap (λ (n : UpdateCounts). with_line n (kind_in c) c) so_far.counts ∙ sym counts_more;
         passed = step.passed ∙ so_far.passed ∙ sym (passed_line no_comment no_note);
         basic = step.basic ∙ ap (λ b. b || is_basic (kind_in c)) so_far.basic ∙ sym (any_more (λ content. is_basic (kind_in content)));
         trailer = step.trailer ∙ ap (λ b. b || is_trailer (kind_in c)) so_far.trailer
@@ -231,6 +268,7 @@ module _ (feed : Feed) (allowed : HolidayCodes) (cs : List (List ℕ)) (c : List
     taken = subst (λ ls. HasTaken ls (progress_of old.reading)) (sym (lines_same nothing)) so_far.taken;
     header_line = so_far.header_line ∙ sym (header_same cs c (ap is_header no_kind));
     marked = so_far.marked ∙ sym (marks_in-same nothing);
+    counts = so_far.counts ∙ sym (counts_same None no_kind (λ n. refl));
     passed = counted;
     basic = so_far.basic ∙ sym (any_same (λ content. is_basic (kind_in content)) (ap is_basic no_kind));
     trailer = so_far.trailer ∙ sym (any_same (λ content. is_trailer (kind_in content)) (ap is_trailer no_kind));
@@ -287,6 +325,7 @@ module _ (feed : Feed) (allowed : HolidayCodes) (cs : List (List ℕ)) (c : List
     pub no_note : is_note c ≡ false
     pub header_line : mid.header_line ≡ header_behind old.header_line (kind_in c) number
     pub marks : marks_of mid ≡ marks_of old
+    pub counts : mid.counts ≡ with_line old.counts (kind_in c) c
     pub passed : mid.passed ≡ old.passed
     pub basic : mid.has_basic ≡ (old.has_basic || is_basic (kind_in c))
     pub trailer : mid.has_trailer ≡ (old.has_trailer || is_trailer (kind_in c))
@@ -302,6 +341,7 @@ module _ (feed : Feed) (allowed : HolidayCodes) (cs : List (List ℕ)) (c : List
           (sym is.reading) taken.1;
       header_line = is.header_line ∙ kept.header_line;
       marked = is.marked ∙ ap (λ m. with_mark m number (profile_line feed allowed c).mark) kept.marks;
+      counts = is.counts ∙ kept.counts;
       passed = is.passed ∙ kept.passed;
       basic = is.basic ∙ kept.basic;
       trailer = is.trailer ∙ kept.trailer;
@@ -345,6 +385,7 @@ module _ (feed : Feed) (allowed : HolidayCodes) (cs : List (List ℕ)) (c : List
           header_line = ap (λ (r : FeedReading). r.header_line) is
               ∙ ap (λ b. cond (b && (old.header_line == 0)) (length cs + 1) old.header_line) (sym (ap is_header plain.kind));
           marked = rw same (ap marks_of is ∙ sym (with_nothing (marks_of old) (length cs + 1)));
+          counts = ap (λ (r : FeedReading). r.counts) is ∙ sym (silent_counts (Some Li) plain.kind (λ n. refl) old.counts);
           passed = ap (λ (r : FeedReading). r.passed) is;
           basic = ap (λ (r : FeedReading). r.has_basic) is ∙ sym (or_false old.has_basic (is_basic (kind_in c)) (ap is_basic plain.kind));
           trailer = ap (λ (r : FeedReading). r.has_trailer) is

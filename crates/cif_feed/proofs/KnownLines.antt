@@ -13,6 +13,7 @@ use Rattle.cif_feed.specs.FeedRefusal.{IsFeedContent}
 use Rattle.cif_feed.specs.FromLines.{ArePairs}
 use Rattle.cif_feed.specs.ProfileLine.{association_mark, is_note, is_record_line, marks, profile_line, profile_lines, schedule_mark}
 use Rattle.cif_feed.specs.ProfileLine.{tiploc_mark}
+use Rattle.cif_feed.specs.Counts.{counts_of}
 use Rattle.cif_feed.specs.SpellsFeed.{FeedParts, SpellFeed, header_line, passed_of}
 use Rattle.cif_feed.specs.declared.feed.Feed.TheVariants.{Full}
 use Rattle.cif_feed.specs.declared.holiday_code.HolidayCodes.{HolidayCodes}
@@ -95,6 +96,7 @@ module _ (allowed : HolidayCodes) where
     tiploc_marks = marks tiploc_mark Full allowed cs;
     association_marks = marks association_mark Full allowed cs;
     schedule_marks = marks schedule_mark Full allowed cs;
+    counts = counts_of cs;
     passed = passed_of cs;
   }
 
@@ -108,5 +110,6 @@ module _ (allowed : HolidayCodes) where
     tiploc_marks = refl;
     association_marks = refl;
     schedule_marks = refl;
+    counts = refl;
     passed = refl;
   }

@@ -28,6 +28,7 @@ pub mod ListSteps
 pub mod DroppedKeys
 pub mod CutCounts
 pub mod KnownLines
+pub mod LastWords
 pub mod OwnLines
 pub mod OwnParts
 pub mod PublishedLines

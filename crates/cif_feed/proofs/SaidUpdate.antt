@@ -57,9 +57,10 @@ module _ (max : ℕ) (allowed : HolidayCodes) (each : allowed ≡ all_codes) whe
     same = refl;
   }
 
-  pub makes-update : (lines : FeedExtract) (u : Update) → SayUpdate (feed_parts lines) (update_parts u) → u.passed ≡ lines.passed
+  pub makes-update : (lines : FeedExtract) (u : Update) → SayUpdate (feed_parts lines) (update_parts u) → u.counts ≡ lines.counts
+      → u.passed ≡ lines.passed
       → Makes (reading_feed feed.Update allowed max) (reading_update max) lines u
-  makes-update lines u says passed = record {
+  makes-update lines u says counts passed = record {
     answer = λ bytes s. record {
       spelled = record {
         spell = record {
@@ -69,6 +70,7 @@ module _ (max : ℕ) (allowed : HolidayCodes) (each : allowed ≡ all_codes) whe
         };
         within = s.within;
       };
+      counts = counts ∙ s.spell.counts;
       passed = passed ∙ s.spell.passed;
     };
     whole = λ whole. tt;

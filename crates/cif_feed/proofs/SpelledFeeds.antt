@@ -26,18 +26,20 @@ use Rattle.cif_feed.specs.declared.feed.Feed.{Feed}
 use Rattle.cif_feed.specs.declared.feed.FeedFault.{FeedFault}
 use Rattle.cif_feed.specs.declared.feed.FeedFault.TheVariants.{Extract, NotUpdate, BadTransaction}
 use Rattle.cif_feed.specs.declared.holiday_code.HolidayCodes.{HolidayCodes}
+use Rattle.cif_feed.specs.declared.counts.UpdateCounts.{UpdateCounts}
 use Rattle.cif_feed.specs.declared.feed_reading.Passed.{Passed}
 use Rattle.cif_feed.proofs.FeedRuns.{comment_fine, line_why}
 use Rattle.cif_feed.proofs.ProfileKinds.{profile_no_trailer}
 
 -- parts that are the same, one by one
 same_parts : (a b : FeedParts) → a.extract ≡ b.extract → a.header_line ≡ b.header_line → a.tiploc_marks ≡ b.tiploc_marks
-    → a.association_marks ≡ b.association_marks → a.schedule_marks ≡ b.schedule_marks → a.passed ≡ b.passed → a ≡ b
-same_parts a b e h t aa s c =
+    → a.association_marks ≡ b.association_marks → a.schedule_marks ≡ b.schedule_marks → a.counts ≡ b.counts → a.passed ≡ b.passed → a ≡ b
+same_parts a b e h t aa s n c =
     ap (λ (v : ExtractParts). record a { extract = v }) e ∙ ap (λ (v : ℕ). record a { extract = b.extract; header_line = v }) h
     ∙ ap (λ v. record a { extract = b.extract; header_line = b.header_line; tiploc_marks = v }) t
     ∙ ap (λ v. record a { extract = b.extract; header_line = b.header_line; tiploc_marks = b.tiploc_marks; association_marks = v }) aa
-    ∙ ap (λ v. record b { schedule_marks = v; passed = a.passed }) s ∙ ap (λ (v : Passed). record b { passed = v }) c
+    ∙ ap (λ v. record b { schedule_marks = v; counts = a.counts; passed = a.passed }) s
+    ∙ ap (λ (v : UpdateCounts). record b { counts = v; passed = a.passed }) n ∙ ap (λ (v : Passed). record b { passed = v }) c
 
 module _ (feed : Feed) (allowed : HolidayCodes) (max : ℕ) where
   -- contents spell one at most
@@ -45,7 +47,8 @@ module _ (feed : Feed) (allowed : HolidayCodes) (max : ℕ) where
   one_feed cs x y p q =
       same_parts x y (one_extract (profile_lines feed allowed cs) x.extract y.extract p.extract q.extract)
       (p.header_line ∙ sym q.header_line) (p.tiploc_marks ∙ sym q.tiploc_marks)
-      (p.association_marks ∙ sym q.association_marks) (p.schedule_marks ∙ sym q.schedule_marks) (p.passed ∙ sym q.passed)
+      (p.association_marks ∙ sym q.association_marks) (p.schedule_marks ∙ sym q.schedule_marks)
+      (p.counts ∙ sym q.counts) (p.passed ∙ sym q.passed)
 
   -- the profile lines before and after one that says something
   profile_parts : (before : List (List ℕ)) (c : List ℕ) (after : List (List ℕ)) → is_record_line c ≡ true

@@ -1,7 +1,7 @@
 -- An update that was read is done, or a line of it is refused.
 use Rattle.std.proofs.Common.{◌≡◌, ℕ, Bool, false, List, [], ◌++◌, Some, Result, Ok, Err, refl, sym, ap, ◌∙◌, subst, ⊎_elim, slice_get}
 use Rattle.std.proofs.Common.{true≢false}
-use Rattle.std.specs.Prelude.{MatchResult}
+use Rattle.std.specs.Prelude.{IfOk, MatchResult}
 use Rattle.cif_columns.specs.Contents.{contents_of}
 use Rattle.cif_columns.specs.Source.{Unread}
 use Rattle.cif_extract.specs.declared.fault.Fault.TheVariants.{Memory}
@@ -64,34 +64,39 @@ module _ (lenient : Bool) (max : ℕ) (old new : PublishedParts) where
   -- an update that was read is done, or a line of it is refused
   pub updates : (u : Update) (waived : List RefusedLine) → IsUpdated (update_parts u) old new
       → AreRefusedLines (update_parts u) old waived → (result : Result Outcome FeedFault) → IsDone lenient waived result
+      → IfOk result (λ done. (done.counts ≡ u.counts) × (done.passed ≡ u.passed))
       → MatchResult result (Makes (reading_update max) (updating lenient old new max) u)
       (Refuses (reading_update max) (updating lenient old new max) u)
-  updates u waived updated refused (Ok done) is = record {
+  updates u waived updated refused (Ok done) is said = record {
     answer = λ bytes h. record {
-      update = update_parts u;
-      spelled = h.spelled;
-      updated = updated;
-      refused = subst (AreRefusedLines (update_parts u) old) (sym is.0) refused;
-      strict = λ strict. is.0 ∙ is.1 strict;
+      done = record {
+        update = update_parts u;
+        spelled = h.spelled;
+        updated = updated;
+        refused = subst (AreRefusedLines (update_parts u) old) (sym is.0) refused;
+        strict = λ strict. is.0 ∙ is.1 strict;
+      };
+      counts = said.0 ∙ h.counts;
+      passed = said.1 ∙ h.passed;
     };
     whole = λ whole. tt;
   }
-  updates u waived updated refused (Err (OutOfSequence line)) is = record {
+  updates u waived updated refused (Err (OutOfSequence line)) is said = record {
     fault = λ bytes after. line_refused u waived refused _ is bytes;
     answers = tt;
     other = refl;
   }
-  updates u waived updated refused (Err (NotThere line)) is = record {
+  updates u waived updated refused (Err (NotThere line)) is said = record {
     fault = λ bytes after. line_refused u waived refused _ is bytes;
     answers = tt;
     other = refl;
   }
-  updates u waived updated refused (Err (AlreadyThere line)) is = record {
+  updates u waived updated refused (Err (AlreadyThere line)) is said = record {
     fault = λ bytes after. line_refused u waived refused _ is bytes;
     answers = tt;
     other = refl;
   }
-  updates u waived updated refused (Err _) is = absurd is
+  updates u waived updated refused (Err _) is said = absurd is
 
 -- an update that may be done isn't refused
 module _ (lenient : Bool) (max : ℕ) (old : PublishedParts) (bytes : List ℕ) (after : Unread) (u : UpdateParts)

@@ -1,5 +1,6 @@
 -- What the lines of an update do, one after another, to records of one kind. `same` is a test that tells whether two keys are the same.
-use Rattle.std.specs.Prelude.{◌≡◌, ◌↔◌, ℕ, IsTrue, map, Bool, not, List, [], ◌∷◌, ◌++◌, filter, Option, Some, None, if◌then◌else◌}
+use Rattle.std.specs.Prelude.{◌≡◌, ◌≢◌, ◌↔◌, ℕ, IsTrue, map, Bool, not, List, [], ◌∷◌, ◌++◌, All, filter, Option, Some, None}
+use Rattle.std.specs.Prelude.{option_to_list, if◌then◌else◌}
 use Rattle.std.specs.List.{list_any}
 use Rattle.cif_feed.specs.declared.changes.Action.{Action}
 use Rattle.cif_feed.specs.declared.changes.Action.TheVariants.{New, Revised, Deleted}
@@ -123,6 +124,19 @@ pub record AreAfter {K R : Type 0} (key : R → K) (old : List R) (changes : Lis
   pub same : K → K → Bool
   pub tells : TellsSame same
   pub after : with_keys key new ≡ after_all same (with_keys key old) (changes_of key changes)
+
+-- The items are the records of a key, in their order. A test tells which these are.
+pub record AreOfKey {K R : Type 0} (key : R → K) (records : List R) (k : K) (items : List R) : Type 0 where
+  pub test : R → Bool
+  pub tells : (r : R) → IsTrue (test r) ↔ (key r ≡ k)
+  pub are : items ≡ filter test records
+
+-- What the new records have of a key: what the last change of this key puts, or nothing, if that is a deletion; and what the old ones
+-- have, if no change is of this key.
+pub record HaveLastWord {K R : Type 0} (key : R → K) (old : List R) (changes : List (Change K R)) (new : List R) (k : K) : Type 0 where
+  pub last : (before after : List (Change K R)) (c : Change K R) → changes ≡ before ++ c ∷ after → key_of key c.action ≡ k
+      → All (λ d. key_of key d.action ≢ k) after → AreOfKey key new k (option_to_list (put_of c.action))
+  pub kept : All (λ c. key_of key c.action ≢ k) changes → (items : List R) → AreOfKey key old k items → AreOfKey key new k items
 
 -- these are the changes that may not be done, each after those before it
 pub record AreRefused {K R : Type 0} (key : R → K) (old : List R) (changes : List (Change K R)) (refused : List RefusedLine) : Type 0 where

@@ -1,4 +1,5 @@
 pub mod Changes
+pub mod Counts
 pub mod CutCount
 pub mod Dropped
 pub mod FeedFault

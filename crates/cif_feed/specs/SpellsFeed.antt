@@ -4,10 +4,12 @@ use Rattle.cif_columns.specs.Comment.{is_comment}
 use Rattle.cif_columns.specs.Contents.{contents_of}
 use Rattle.cif_extract.specs.ExtractParts.{ExtractParts, extract_parts}
 use Rattle.cif_extract.specs.SpellsExtract.{SpellExtract}
+use Rattle.cif_feed.specs.Counts.{counts_of}
 use Rattle.cif_feed.specs.FeedRefusal.{IsFeedContent}
 use Rattle.cif_records.specs.Kind.{kind_in}
 use Rattle.cif_feed.specs.ProfileLine.{association_mark, is_header, is_note, marks, notes_may_stand, profile_lines, schedule_mark}
 use Rattle.cif_feed.specs.ProfileLine.{tiploc_mark}
+use Rattle.cif_feed.specs.declared.counts.UpdateCounts.{UpdateCounts}
 use Rattle.cif_feed.specs.declared.feed.Feed.{Feed}
 use Rattle.cif_feed.specs.declared.feed_reading.FeedExtract.{FeedExtract}
 use Rattle.cif_feed.specs.declared.feed_reading.Passed.{Passed}
@@ -16,14 +18,15 @@ use Rattle.cif_feed.specs.declared.mark.Numbered.{Numbered}
 use Rattle.cif_feed.specs.declared.mark.RecordMark.{RecordMark}
 use Rattle.cif_feed.specs.declared.mark.TiplocMark.{TiplocMark}
 
--- What the lines of a feed say: the extract of their profile lines, and what these leave out, record by record; and the number of the
--- line of the header.
+-- What the lines of a feed say: the extract of their profile lines, and what these leave out, record by record; the number of the
+-- line of the header; and how many lines do what.
 pub record FeedParts : Type 0 where
   pub extract : ExtractParts
   pub header_line : ℕ
   pub tiploc_marks : List (Numbered TiplocMark)
   pub association_marks : List (Numbered RecordMark)
   pub schedule_marks : List (Numbered RecordMark)
+  pub counts : UpdateCounts
   pub passed : Passed
 
 -- its parts, without the capacities of its vectors
@@ -34,6 +37,7 @@ feed_parts x = record {
   tiploc_marks = x.tiploc_marks.items;
   association_marks = x.association_marks.items;
   schedule_marks = x.schedule_marks.items;
+  counts = x.counts;
   passed = x.passed;
 }
 
@@ -61,6 +65,7 @@ pub record SpellFeed (feed : Feed) (allowed : HolidayCodes) (contents : List (Li
   pub tiploc_marks : x.tiploc_marks ≡ marks tiploc_mark feed allowed contents
   pub association_marks : x.association_marks ≡ marks association_mark feed allowed contents
   pub schedule_marks : x.schedule_marks ≡ marks schedule_mark feed allowed contents
+  pub counts : x.counts ≡ counts_of contents
   pub passed : x.passed ≡ passed_of contents
 
 -- the bytes spell them, in at most max contents

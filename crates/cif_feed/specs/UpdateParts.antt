@@ -9,6 +9,7 @@ use Rattle.cif_records.specs.declared.association.AssocKey.{AssocKey}
 use Rattle.cif_records.specs.declared.association.Association.{Association}
 use Rattle.cif_records.specs.declared.header.Header.{Header}
 use Rattle.cif_records.specs.declared.tiploc.Tiploc.{Tiploc}
+use Rattle.cif_feed.specs.Counts.{counts_of}
 use Rattle.cif_feed.specs.FeedFault.{IsFeedFault, IsOfFeed, is_feed_read}
 use Rattle.cif_feed.specs.FromLines.{AreTriples}
 use Rattle.cif_feed.specs.HolidayCode.{all_codes}
@@ -112,9 +113,10 @@ pub record BytesSpellUpdate (max : ℕ) (bytes : List ℕ) (u : UpdateParts) : T
   pub spell : SpellUpdate (contents_of bytes) u
   pub within : length (contents_of bytes) ≤ max
 
--- the update that the bytes spell, and how many comments and notes were passed over
+-- the update that the bytes spell, how many of its lines do what, and how many comments and notes were passed over
 pub record IsUpdateOf (max : ℕ) (bytes : List ℕ) (u : declared.Update) : Type 0 where
   pub spelled : BytesSpellUpdate max bytes (update_parts u)
+  pub counts : u.counts ≡ counts_of (contents_of bytes)
   pub passed : u.passed ≡ passed_of (contents_of bytes)
 
 -- reading one

@@ -1,13 +1,16 @@
 -- What an update does to a published extract.
 use Rattle.std.specs.Prelude.{◌≡◌, ◌⊎◌, ℕ, ◌==◌, Bool, true, false, List, [], ◌∷◌, ◌++◌, Some, slice_get, if◌then◌else◌}
+use Rattle.cif_columns.specs.Contents.{contents_of}
 use Rattle.cif_columns.specs.Source.{Unread}
 use Rattle.cif_extract.specs.ReadCall.{ReadCall, reading}
 use Rattle.cif_feed.specs.Changes.{AreAfter, AreRefused}
+use Rattle.cif_feed.specs.Counts.{counts_of}
 use Rattle.cif_feed.specs.FeedFault.{IsFeedFault, IsOfFeed, is_feed_read}
 use Rattle.cif_feed.specs.HolidayCode.{all_codes}
 use Rattle.cif_feed.specs.PublishedParts.{PublishedParts}
 use Rattle.cif_feed.specs.RecordKeys.{association_key, schedule_key, tiploc_key}
 use Rattle.cif_feed.specs.Sequence.{follows}
+use Rattle.cif_feed.specs.SpellsFeed.{passed_of}
 use Rattle.cif_feed.specs.UpdateParts.{AssociationKey, BytesSpellUpdate, ScheduleKey, UpdateParts}
 use Rattle.cif_feed.specs.declared.changes.RefusedLine.{RefusedLine}
 use Rattle.cif_feed.specs.declared.changes.Unfit.{Unfit}
@@ -104,8 +107,15 @@ IsOfUpdate max (NotThere line) = Unit {0}
 IsOfUpdate max (AlreadyThere line) = Unit {0}
 IsOfUpdate max fault = IsOfFeed max fault
 
+-- The outcome of an update of these bytes that was done: the lines that are waived, how many of its lines do what, and how many comments
+-- and notes were passed over.
+pub record IsOutcomeOf (lenient : Bool) (old : PublishedParts) (max : ℕ) (bytes : List ℕ) (new : PublishedParts) (outcome : Outcome)
+    : Type 0 where
+  pub done : IsUpdatedBy lenient old max bytes new outcome.waived.items
+  pub counts : outcome.counts ≡ counts_of (contents_of bytes)
+  pub passed : outcome.passed ≡ passed_of (contents_of bytes)
+
 -- reading an update and doing it, which makes `new` of `old`
 abbrev pub updating : Bool → PublishedParts → PublishedParts → ℕ → ReadCall Outcome FeedFault
 updating lenient old new max =
-    reading is_feed_read (λ bytes done. IsUpdatedBy lenient old max bytes new done.waived.items) (IsUpdateFault lenient old max)
-    (IsOfUpdate max)
+    reading is_feed_read (λ bytes. IsOutcomeOf lenient old max bytes new) (IsUpdateFault lenient old max) (IsOfUpdate max)

@@ -12,6 +12,7 @@ ghost use Rattle.cif_feed.specs.ProfileLine.{is_basic, is_trailer, profile_lines
 ghost use Rattle.cif_feed.specs.FeedFault.{reading_feed};
 ghost use Rattle.cif_feed.specs.SpellsFeed.{feed_parts};
 ghost use Rattle.cif_feed.specs.Steps.FeedReading.{HasTakenFeed, IsFeedHeld, IsFeedTaken, IsMarked, IsNoteTaken};
+ghost use Rattle.cif_feed.specs.Steps.Counts.{HaveRoom};
 ghost use Rattle.cif_feed.specs.Steps.FeedReading.{IsStopTaken, UnlessMemory, header_behind};
 ghost use Rattle.cif_feed.specs.Steps.Marked.{HasMarks};
 ghost use Rattle.cif_feed.specs.declared.feed.Feed.{Feed};
@@ -20,7 +21,7 @@ ghost use Rattle.cif_records.specs.Kind.{kind_in};
 
 use crate::mark::{LineMark, Numbered, RecordMark, TiplocMark};
 use crate::profile_line::{ProfileLine, is_note};
-use crate::{Feed, FeedFault, HolidayCodes};
+use crate::{Feed, FeedFault, HolidayCodes, UpdateCounts};
 use cif_columns::{Content, LINE_WIDTH, Line, LineReader, ReadDevice, Refusal, Source};
 use cif_extract::{Extract, Fault, Reading, TakeFault};
 use cif_records::{Kind, kind_of};
@@ -36,6 +37,8 @@ pub(crate) struct FeedExtract {
     pub(crate) tiploc_marks: Vec<Numbered<TiplocMark>>,
     pub(crate) association_marks: Vec<Numbered<RecordMark>>,
     pub(crate) schedule_marks: Vec<Numbered<RecordMark>>,
+    // How many lines do what, if it is an update.
+    pub(crate) counts: UpdateCounts,
     pub(crate) passed: Passed,
 }
 
@@ -100,6 +103,7 @@ pub(crate) struct FeedReading {
     tiploc_marks: Vec<Numbered<TiplocMark>>,
     association_marks: Vec<Numbered<RecordMark>>,
     schedule_marks: Vec<Numbered<RecordMark>>,
+    counts: UpdateCounts,
     passed: Passed,
     // Whether a BS has come, and a ZZ.
     has_basic: bool,
@@ -117,6 +121,7 @@ impl FeedReading {
             tiploc_marks: Vec::new(alloc),
             association_marks: Vec::new(alloc),
             schedule_marks: Vec::new(alloc),
+            counts: UpdateCounts::new(),
             passed: Passed {
                 comments: 0,
                 notes: 0,
@@ -159,6 +164,7 @@ impl FeedReading {
         requires taken { (contents : List (List ℕ))
             × HasTakenFeed feed allowed contents self.old }
         requires room { self.old.passed.notes < MAX_LINES }
+        requires counts { HaveRoom self.old.counts }
         requires no_comment { is_comment line.now ≡ false }
         ensures taken { (contents : List (List ℕ)) → HasTakenFeed feed allowed contents self.old
             → number ≡ length contents + 1 → IsFeedTaken feed allowed contents line.now result self.new }
@@ -172,6 +178,7 @@ impl FeedReading {
         match self.reading.take_line(alloc, &profile.line) {
             Ok(()) => {
                 self.header_line = header_behind(self.header_line, kind, number);
+                self.counts.add(kind, line);
                 self.has_basic |= is_basic(kind);
                 self.has_trailer |= is_trailer(kind);
                 self.push_mark(number, profile.mark)
@@ -234,6 +241,7 @@ impl FeedReading {
             tiploc_marks,
             association_marks,
             schedule_marks,
+            counts,
             passed,
             has_basic: _,
             has_trailer: _,
@@ -245,6 +253,7 @@ impl FeedReading {
                 tiploc_marks,
                 association_marks,
                 schedule_marks,
+                counts,
                 passed,
             }),
             None => Err(FeedFault::Extract(Fault::Refused {

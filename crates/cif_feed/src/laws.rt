@@ -21,6 +21,8 @@ ghost use Rattle.cif_calendar.specs.Entries.{association_entries, schedule_entri
 ghost use Rattle.cif_calendar.specs.Keys.{of_key};
 ghost use Rattle.cif_calendar.specs.Runs.{Runs};
 ghost use Rattle.cif_calendar.specs.Terms.{Terms};
+ghost use Rattle.cif_feed.specs.RecordKeys.{tiploc_key};
+ghost use Rattle.cif_feed.specs.Changes.{HaveLastWord};
 ghost use Rattle.cif_feed.specs.Changes.{ChangeParts, TellsSame, after_all, last_word, put_last, untouched};
 ghost use Rattle.cif_feed.specs.Changes.{of_key as records_of_key};
 ghost use Rattle.cif_feed.specs.Dropped.{AreClearWithout, AreDropped, IsToldAssociation, IsToldTrain};
@@ -42,6 +44,7 @@ ghost use Rattle.cif_feed.specs.PublishedParts.{BytesSpellPublished, SpellPublis
 ghost use Rattle.cif_feed.specs.PublishedParts.{published_lines, published_text};
 ghost use Rattle.cif_feed.specs.UpdateParts.{BytesSpellUpdate};
 ghost use Rattle.cif_feed.specs.Updated.{IsUpdateFault, IsUpdated, MayBeDone};
+ghost use Rattle.cif_feed.specs.Updated.{published_association_key, published_schedule_key};
 ghost use Rattle.cif_feed.specs.UpdatesInTurn.{IsRefused, IsWritten};
 ghost use Rattle.cif_columns.specs.Line.{IsLine};
 ghost use Rattle.cif_extract.specs.OrderOfRecords.{place_behind};
@@ -56,7 +59,7 @@ ghost use Rattle.cif_feed.specs.declared.changes.RefusedLine.{RefusedLine};
 ghost use Rattle.cif_feed.specs.declared.feed.FeedFault.{FeedFault};
 ghost use Rattle.cif_extract.specs.SpellsExtract.{BytesSpell};
 ghost use Rattle.cif_extract.specs.Texts.{extract_text};
-ghost use Rattle.cif_feed.specs.UpdateParts.{SpellUpdate, UpdateParts, update_parts};
+ghost use Rattle.cif_feed.specs.UpdateParts.{AssociationKey, ScheduleKey, SpellUpdate, UpdateParts, update_parts};
 ghost use Rattle.cif_feed.specs.declared.holiday_code.HolidayCodes.{HolidayCodes};
 ghost use Rattle.cif_feed.specs.declared.holiday_code.HolidayCode.{HolidayCode};
 ghost use Rattle.cif_feed.specs.declared.holidays.Holidays.{Holidays};
@@ -156,6 +159,20 @@ pub fn changes_leave_the_last_word<K, I>()
     // Two lists of changes one after the other are the one after the other.
     ensures sequence { (same : K → K → Bool) (records : List (K × I)) (one other : List (ChangeParts K I))
         → after_all same records (one ++ other) ≡ after_all same (after_all same records one) other }
+{}
+
+/// What an update leaves of each key: what the last of its lines with this key puts, or what was there. A line
+/// that renames a location deletes the one TIPLOC, and then puts the other.
+pub fn updates_leave_the_last_word()
+    ensures locations { (max : ℕ) (bytes : List ℕ) (u : UpdateParts) (old new : PublishedParts) (key : List ℕ)
+        → BytesSpellUpdate max bytes u → IsUpdated u old new
+        → HaveLastWord tiploc_key old.tiplocs u.tiplocs new.tiplocs key }
+    ensures associations { (max : ℕ) (bytes : List ℕ) (u : UpdateParts) (old new : PublishedParts)
+        (key : AssociationKey) → BytesSpellUpdate max bytes u → IsUpdated u old new
+        → HaveLastWord published_association_key old.associations u.associations new.associations key }
+    ensures schedules { (max : ℕ) (bytes : List ℕ) (u : UpdateParts) (old new : PublishedParts)
+        (key : ScheduleKey) → BytesSpellUpdate max bytes u → IsUpdated u old new
+        → HaveLastWord published_schedule_key old.schedules u.schedules new.schedules key }
 {}
 
 /// Without the records of the keys that are told, an extract is clear in its window, and says of each other

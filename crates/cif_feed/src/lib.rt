@@ -2,6 +2,7 @@
 #![tactic(auto)]
 
 mod changes;
+mod counts;
 mod cut_count;
 mod drop_clashes;
 mod feed;
@@ -28,6 +29,7 @@ mod written;
 mod written_prepared;
 
 pub use changes::{Action, Change, Keyed, RefusedLine, Unfit, apply};
+pub use counts::UpdateCounts;
 pub use feed::{Feed, FeedFault};
 pub use feed_reading::Passed;
 pub use holiday_code::{HolidayCode, HolidayCodes};
@@ -42,5 +44,5 @@ pub use published::{PublishedAssociation, PublishedSchedule};
 pub use published_extract::PublishedExtract;
 pub use reasons::Reasons;
 pub use sequence::{current_reference, last_reference};
-pub use update::{Outcome, Update, UpdateCounts};
+pub use update::{Outcome, Update};
 pub use written_prepared::write_prepared;

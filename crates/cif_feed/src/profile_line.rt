@@ -234,7 +234,7 @@ fn deletion(line: &Line) -> RecordMark
 }
 
 /// Whether the last date in the six columns from `first` on is open.
-fn has_open_end(line: &Line, first: usize) -> bool
+pub(crate) fn has_open_end(line: &Line, first: usize) -> bool
     requires from_one { 1 ≤ first }
     requires within { first ≤ 75 }
     ensures { result ≡ is_open first line.now }

@@ -76,6 +76,7 @@ impl PublishedExtract {
             tiploc_marks: _,
             association_marks,
             schedule_marks,
+            counts: _,
             passed,
         } = lines;
         let Extract {

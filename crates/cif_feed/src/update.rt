@@ -20,7 +20,7 @@ use crate::record_keys::tiploc_key;
 use crate::sequence::follows;
 use crate::{
     Action, Change, Feed, FeedFault, HolidayCodes, Passed, PublishedAssociation, PublishedExtract,
-    PublishedSchedule, RefusedLine, Transaction, Unfit, apply,
+    PublishedSchedule, RefusedLine, Transaction, Unfit, UpdateCounts, apply,
 };
 use cif_columns::{Day, ReadDevice, Source, Stp, Uid};
 use cif_extract::{Extract, Fault, Schedule};
@@ -77,6 +77,7 @@ impl Update {
     fn of_lines(alloc: Global, lines: FeedExtract) -> Result<Update, AllocError>
         requires { HasMarks (feed_parts lines) }
         ensures says { IfOk result (λ update. SayUpdate (feed_parts lines) (update_parts update)) }
+        ensures counts { IfOk result (λ update. update.counts ≡ lines.counts) }
         ensures passed { IfOk result (λ update. update.passed ≡ lines.passed) }
     {
         let FeedExtract {
@@ -85,6 +86,7 @@ impl Update {
             tiploc_marks,
             association_marks,
             schedule_marks,
+            counts,
             passed,
         } = lines;
         let Extract {
@@ -93,11 +95,6 @@ impl Update {
             associations,
             schedules,
         } = extract;
-        let counts = UpdateCounts::of(
-            tiploc_marks.as_slice(),
-            association_marks.as_slice(),
-            schedule_marks.as_slice(),
-        );
         Ok(Update {
             header,
             header_line,
@@ -211,7 +208,8 @@ fn answer_of(
     counts: UpdateCounts,
     passed: Passed,
 ) -> Result<Outcome, FeedFault>
-    ensures { IsDone lenient waived.items result }
+    ensures done { IsDone lenient waived.items result }
+    ensures said { IfOk result (λ done. (done.counts ≡ counts) × (done.passed ≡ passed)) }
 {
     match waived.first() {
         Some(line) if !lenient => Err(line.fault()),
@@ -220,60 +218,6 @@ fn answer_of(
             counts,
             passed,
         }),
-    }
-}
-
-/// How many lines an update has, by what they do.
-#[derive(Clone, Copy, Debug, PartialEq, Eq)]
-pub struct UpdateCounts {
-    /// The TI, and the AA and BS with N.
-    pub put: u64,
-    /// The TA, and the AA and BS with R.
-    pub revised: u64,
-    /// The TD, and the AA and BS with D.
-    pub taken_out: u64,
-    /// Those that have an open end.
-    pub open_ends: u64,
-}
-
-impl UpdateCounts {
-    /// The counts of an update with these marks.
-    fn of(
-        tiplocs: &[Numbered<TiplocMark>],
-        associations: &[Numbered<RecordMark>],
-        schedules: &[Numbered<RecordMark>],
-    ) -> UpdateCounts {
-        let mut counts = UpdateCounts {
-            put: 0,
-            revised: 0,
-            taken_out: 0,
-            open_ends: 0,
-        };
-        for tiploc in tiplocs {
-            counts.add(tiploc.mark.transaction);
-        }
-        for association in associations {
-            counts.add_record(&association.mark);
-        }
-        for schedule in schedules {
-            counts.add_record(&schedule.mark);
-        }
-        counts
-    }
-
-    /// Counts an AA or a BS with this mark.
-    fn add_record(&mut self, mark: &RecordMark) {
-        self.add(mark.transaction);
-        self.open_ends = self.open_ends.saturating_add(u64::from(mark.open_end));
-    }
-
-    /// Counts a line with this transaction.
-    fn add(&mut self, transaction: Transaction) {
-        match transaction {
-            Transaction::New => self.put = self.put.saturating_add(1),
-            Transaction::Revised => self.revised = self.revised.saturating_add(1),
-            Transaction::Deleted => self.taken_out = self.taken_out.saturating_add(1),
-        }
     }
 }
 

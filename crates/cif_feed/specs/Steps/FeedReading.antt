@@ -15,6 +15,7 @@ use Rattle.cif_extract.specs.declared.reading.TakeFault.TheVariants.{Refused, Me
 use Rattle.cif_records.specs.declared.record.Kind.{Kind}
 use Rattle.cif_feed.specs.ProfileLine.{association_mark, is_basic, is_header, is_trailer, marks, profile_lines, schedule_mark}
 use Rattle.cif_feed.specs.ProfileLine.{tiploc_mark}
+use Rattle.cif_feed.specs.Counts.{counts_of}
 use Rattle.cif_feed.specs.SpellsFeed.{header_line, passed_of}
 use Rattle.cif_feed.specs.FeedRefusal.{line_refusal}
 use Rattle.cif_feed.specs.declared.feed.Feed.{Feed}
@@ -64,6 +65,7 @@ pub record HasTakenFeed (feed : Feed) (allowed : HolidayCodes) (contents : List 
   pub taken : HasTaken (profile_lines feed allowed contents) (progress_of r.reading)
   pub header_line : r.header_line ≡ header_line contents
   pub marked : marks_of r ≡ marks_in feed allowed contents
+  pub counts : r.counts ≡ counts_of contents
   pub passed : r.passed ≡ passed_of contents
   pub basic : r.has_basic ≡ list_any (λ content. is_basic (kind_in content)) contents
   pub trailer : r.has_trailer ≡ list_any (λ content. is_trailer (kind_in content)) contents
@@ -100,6 +102,7 @@ pub record IsMarked (old : FeedReading) (number : ℕ) (mark : LineMark) (new : 
   pub marked : marks_of new ≡ with_mark (marks_of old) number mark
   pub reading : new.reading ≡ old.reading
   pub header_line : new.header_line ≡ old.header_line
+  pub counts : new.counts ≡ old.counts
   pub passed : new.passed ≡ old.passed
   pub basic : new.has_basic ≡ old.has_basic
   pub trailer : new.has_trailer ≡ old.has_trailer
@@ -111,4 +114,5 @@ pub record IsFeedHeld (feed : Feed) (allowed : HolidayCodes) (contents : List (L
   pub tiploc_marks : x.tiploc_marks.items ≡ marks tiploc_mark feed allowed contents
   pub association_marks : x.association_marks.items ≡ marks association_mark feed allowed contents
   pub schedule_marks : x.schedule_marks.items ≡ marks schedule_mark feed allowed contents
+  pub counts : x.counts ≡ counts_of contents
   pub passed : x.passed ≡ passed_of contents

@@ -10,7 +10,7 @@ use Rattle.cif_records.specs.Kind.{kind_in}
 use Rattle.cif_feed.specs.ProfileLine.{is_note}
 use Rattle.cif_feed.specs.declared.feed_reading.Passed.{Passed}
 use Rattle.cif_feed.proofs.FeedRuns.{at_feed_line, comes-end, comes-line_fault, comes-memory, comes-untaken, comment_fine, feed_comment}
-use Rattle.cif_feed.proofs.FeedRuns.{feed_line, feed_reason, fewer, line_why, none_more, none_none}
+use Rattle.cif_feed.proofs.FeedRuns.{feed_line, feed_reason, fewer, line_why, none_more, none_none, room_more}
 use Rattle.cif_feed.proofs.MarkedRecords.{marked_result}
 use Rattle.cif_feed.proofs.feed_reading.read_feed.Goals as goal
 
@@ -57,6 +57,14 @@ take-requires-clause-room g c =
       c.read_content.new.self.counted,
       c.read_content.new.self.limited,
     )
+
+pub take-requires-clause-counts : goal.take-requires-clause-counts
+take-requires-clause-counts g c =
+    let (cs, so_far, taken, fine, read_on) = c.loop-columns.invariant in
+    let got = rw c.in-Ok-Line.field-0-is at c.in-Ok-Line.ensures in
+    let more : given c.read_content.new.self ≡ given c.loop-columns.lines + 1 = got.0.counted in
+    room_more cs c.loop-columns.reading.counts taken.counts
+    (omega (arith, more, so_far.counted, c.read_content.new.self.counted, c.read_content.new.self.limited))
 
 pub loop-columns-preserved-in-Ok-take : goal.loop-columns-preserved-in-Ok-take
 loop-columns-preserved-in-Ok-take g c =

@@ -2,6 +2,7 @@
 use Rattle.std.proofs.Common.{◌||◌, ap, refl, sym, ◌∙◌}
 use Rattle.cif_feed.specs.ProfileLine.{is_basic, is_trailer, profile_line_by, profile_lines}
 use Rattle.cif_feed.specs.Steps.FeedReading.{header_behind}
+use Rattle.cif_feed.specs.Steps.Counts.{with_line}
 use Rattle.cif_feed.proofs.FeedSteps.{note_taken, profile_marked, profile_untaken}
 use Rattle.cif_feed.proofs.feed_reading.FeedReading.take.Goals as goal
 
@@ -21,6 +22,7 @@ returns-in-Ok-clause-taken c = λ cs so_far at.
     (record a.self.now {
       reading = c.take_line.new.self;
       header_line = c.header_behind-self.result;
+      counts = c.add.new.self;
       has_basic = a.self.now.has_basic || c.is_basic.result;
       has_trailer = a.self.now.has_trailer || c.is_trailer.result;
     })
@@ -31,6 +33,7 @@ returns-in-Ok-clause-taken c = λ cs so_far at.
       header_line = c.header_behind-self.ensures
           ∙ ap (λ kind. header_behind a.self.now.header_line kind a.number) c.kind_of-kind.ensures.kind;
       marks = refl;
+      counts = c.add.ensures ∙ ap (λ kind. with_line a.self.now.counts kind a.line.now) c.kind_of-kind.ensures.kind;
       passed = refl;
       basic = ap (λ b. a.self.now.has_basic || b) (c.is_basic.ensures ∙ ap is_basic c.kind_of-kind.ensures.kind);
       trailer = ap (λ b. a.self.now.has_trailer || b) (c.is_trailer.ensures ∙ ap is_trailer c.kind_of-kind.ensures.kind);
