@@ -350,6 +350,7 @@ module _ (feed : Feed) (allowed : HolidayCodes) (max : ℕ) {R : Type 0} (remain
             notes_stand = λ k below note.
                 note_stands feed allowed max (take k cs) (slice_index_or cs k []) (fine.fine k below) note;
             extract = held.extract;
+            header_line = held.header_line;
             tiploc_marks = held.tiploc_marks;
             association_marks = held.association_marks;
             schedule_marks = held.schedule_marks;

@@ -1,6 +1,6 @@
 -- One content more of a feed: what the contents say then, and what the reading has come to.
-use Rattle.std.proofs.Common.{◌≡◌, ℕ, ◌+◌, Bool, true, false, cond, not, ◌&&◌, ◌||◌, List, [], ◌∷◌, ◌++◌, length, map, filter, Some, None}
-use Rattle.std.proofs.Common.{Result, Ok, Err, refl, sym, ap, ◌∙◌, subst, take, codes, append-nil, length-append, arith}
+use Rattle.std.proofs.Common.{◌≡◌, ℕ, ◌+◌, ◌≤◌, ◌==◌, Bool, true, false, cond, not, ◌&&◌, ◌||◌, List, [], ◌∷◌, ◌++◌, length, map, filter}
+use Rattle.std.proofs.Common.{Some, None, Result, Ok, Err, refl, sym, ap, ◌∙◌, subst, ne_eqb, take, codes, append-nil, length-append, arith}
 use Rattle.std.proofs.lemmas.Bool.{and_parts}
 use Rattle.std.proofs.lemmas.Grind.{flat_map-append}
 use Rattle.std.proofs.lemmas.List.{map-append, take-take}
@@ -22,11 +22,11 @@ use Rattle.cif_records.specs.Checks.{are, unless}
 use Rattle.cif_records.specs.Kind.{is_identity, kind_in, kinds}
 use Rattle.cif_records.specs.declared.record.Kind.{Kind}
 use Rattle.cif_records.specs.declared.record.Kind.TheVariants.{Li}
-use Rattle.cif_feed.specs.ProfileLine.{as_it_stands, association_mark, is_basic, is_note, is_record_line, is_trailer, marks}
+use Rattle.cif_feed.specs.ProfileLine.{as_it_stands, association_mark, is_basic, is_header, is_note, is_record_line, is_trailer, marks}
 use Rattle.cif_feed.specs.ProfileLine.{notes_may_stand, profile_line, profile_line_by, profile_lines, schedule_mark, tiploc_mark}
-use Rattle.cif_feed.specs.SpellsFeed.{passed_of}
+use Rattle.cif_feed.specs.SpellsFeed.{header_from, passed_of}
 use Rattle.cif_feed.specs.Steps.FeedReading.{HasTakenFeed, IsFeedTaken, IsMarked, IsNoteTaken, IsStopTaken, Marks, UnlessMemory, marks_in}
-use Rattle.cif_feed.specs.Steps.FeedReading.{marks_of, with_mark}
+use Rattle.cif_feed.specs.Steps.FeedReading.{header_behind, marks_of, with_mark}
 use Rattle.cif_feed.specs.declared.feed.Feed.{Feed}
 use Rattle.cif_feed.specs.declared.feed.Feed.TheVariants.{Full, Update}
 use Rattle.cif_feed.specs.declared.feed_reading.FeedReading.{FeedReading}
@@ -82,6 +82,37 @@ named_line c kind is = (
 stop_stands : (feed : Feed) (allowed : HolidayCodes) (c : List ℕ) → profile_line_by feed allowed (Some Li) c ≡ as_it_stands c
 stop_stands Full allowed c = refl
 stop_stands Update allowed c = refl
+
+-- ---- the line of the header
+
+other_line : (b : Bool) (m n : ℕ) → cond (b && false) m n ≡ n
+other_line true m n = refl
+other_line false m n = refl
+
+-- one line more
+header_more : (n : ℕ) → 1 ≤ n → (cs : List (List ℕ)) (c : List ℕ)
+    → header_from n (cs ++ c ∷ []) ≡ header_behind (header_from n cs) (kind_in c) (n + length cs)
+header_more n from [] c = at (is_header (kind_in c))
+  where
+    at : (b : Bool) → cond b n 0 ≡ cond (b && true) (n + 0) 0
+    at true = omega arith
+    at false = refl
+header_more n from (d ∷ cs) c = at (is_header (kind_in d)) (header_more (n + 1) (omega arith) cs c)
+  where
+    kept : (m k : ℕ) (b : Bool) → 1 ≤ m → cond (b && (m == 0)) k m ≡ m
+    kept m k b some = ap (λ v. cond (b && v) k m) (ne_eqb m 0 (λ e. absurd (omega (arith, some, e)))) ∙ other_line b k m
+
+    at : (b : Bool) → header_from (n + 1) (cs ++ c ∷ []) ≡ header_behind (header_from (n + 1) cs) (kind_in c) (n + 1 + length cs)
+        → cond b n (header_from (n + 1) (cs ++ c ∷ []))
+        ≡ header_behind (cond b n (header_from (n + 1) cs)) (kind_in c) (n + length (d ∷ cs))
+    at true more = sym (kept n (n + length (d ∷ cs)) (is_header (kind_in c)) from)
+    at false more = more ∙ ap (header_behind (header_from (n + 1) cs) (kind_in c)) (omega arith)
+
+-- another content
+header_same : (cs : List (List ℕ)) (c : List ℕ) → is_header (kind_in c) ≡ false → header_from 1 (cs ++ c ∷ []) ≡ header_from 1 cs
+header_same cs c other =
+    header_more 1 (omega arith) cs c
+    ∙ ap (λ b. cond (b && (header_from 1 cs == 0)) (1 + length cs) (header_from 1 cs)) other
 
 -- ---- what contents say
 
@@ -170,6 +201,7 @@ module _ (feed : Feed) (allowed : HolidayCodes) (cs : List (List ℕ)) (c : List
   -- the reading of a line of this number, whose mark is kept
   record IsLineStep (number : ℕ) (old new : FeedReading) : Type 0 where
     taken : HasTaken (profile_lines feed allowed cs ++ ((profile_line feed allowed c).line ∷ [])) (progress_of new.reading)
+    header_line : new.header_line ≡ header_behind old.header_line (kind_in c) number
     marked : marks_of new ≡ with_mark (marks_of old) number (profile_line feed allowed c).mark
     passed : new.passed ≡ old.passed
     basic : new.has_basic ≡ (old.has_basic || is_basic (kind_in c))
@@ -182,6 +214,8 @@ module _ (feed : Feed) (allowed : HolidayCodes) (cs : List (List ℕ)) (c : List
       let numbered : number ≡ here = omega (arith, at) in
       record {
         taken = subst (λ ls. HasTaken ls (progress_of new.reading)) (sym (lines_more is)) step.taken;
+        header_line = step.header_line ∙ ap (λ (n : ℕ). header_behind n (kind_in c) number) so_far.header_line
+            ∙ ap (header_behind (header_from 1 cs) (kind_in c)) numbered ∙ sym (header_more 1 (omega arith) cs c);
         marked = step.marked ∙ ap (λ m. with_mark m number (profile_line feed allowed c).mark) so_far.marked
             ∙ ap (λ (n : ℕ). with_mark (marks_in feed allowed cs) n (profile_line feed allowed c).mark) numbered ∙ sym (marks_in-more is);
         passed = step.passed ∙ so_far.passed ∙ sym (passed_line no_comment no_note);
@@ -195,6 +229,7 @@ module _ (feed : Feed) (allowed : HolidayCodes) (cs : List (List ℕ)) (c : List
       → p ≡ passed_of (cs ++ c ∷ []) → HasTakenFeed feed allowed (cs ++ c ∷ []) (record old { passed = p })
   silent_step nothing no_kind old p so_far counted = record {
     taken = subst (λ ls. HasTaken ls (progress_of old.reading)) (sym (lines_same nothing)) so_far.taken;
+    header_line = so_far.header_line ∙ sym (header_same cs c (ap is_header no_kind));
     marked = so_far.marked ∙ sym (marks_in-same nothing);
     passed = counted;
     basic = so_far.basic ∙ sym (any_same (λ content. is_basic (kind_in content)) (ap is_basic no_kind));
@@ -250,6 +285,7 @@ module _ (feed : Feed) (allowed : HolidayCodes) (cs : List (List ℕ)) (c : List
     pub profile : p ≡ profile_line feed allowed c
     pub no_comment : is_comment c ≡ false
     pub no_note : is_note c ≡ false
+    pub header_line : mid.header_line ≡ header_behind old.header_line (kind_in c) number
     pub marks : marks_of mid ≡ marks_of old
     pub passed : mid.passed ≡ old.passed
     pub basic : mid.has_basic ≡ (old.has_basic || is_basic (kind_in c))
@@ -264,6 +300,7 @@ module _ (feed : Feed) (allowed : HolidayCodes) (cs : List (List ℕ)) (c : List
     line_step kept.no_comment kept.no_note number at old new so_far (record {
       taken = subst (λ r. HasTaken (profile_lines feed allowed cs ++ ((profile_line feed allowed c).line ∷ [])) (progress_of r))
           (sym is.reading) taken.1;
+      header_line = is.header_line ∙ kept.header_line;
       marked = is.marked ∙ ap (λ m. with_mark m number (profile_line feed allowed c).mark) kept.marks;
       passed = is.passed ∙ kept.passed;
       basic = is.basic ∙ kept.basic;
@@ -305,6 +342,8 @@ module _ (feed : Feed) (allowed : HolidayCodes) (cs : List (List ℕ)) (c : List
         stands = rw (no_note, same) plain.allowed;
         taken = line_step no_comment no_note (length cs + 1) refl old new so_far (record {
           taken = rw same plain.taken;
+          header_line = ap (λ (r : FeedReading). r.header_line) is
+              ∙ ap (λ b. cond (b && (old.header_line == 0)) (length cs + 1) old.header_line) (sym (ap is_header plain.kind));
           marked = rw same (ap marks_of is ∙ sym (with_nothing (marks_of old) (length cs + 1)));
           passed = ap (λ (r : FeedReading). r.passed) is;
           basic = ap (λ (r : FeedReading). r.has_basic) is ∙ sym (or_false old.has_basic (is_basic (kind_in c)) (ap is_basic plain.kind));

@@ -13,7 +13,7 @@ use Rattle.cif_feed.specs.FeedRefusal.{IsFeedContent}
 use Rattle.cif_feed.specs.FromLines.{ArePairs}
 use Rattle.cif_feed.specs.ProfileLine.{association_mark, is_note, is_record_line, marks, profile_line, profile_lines, schedule_mark}
 use Rattle.cif_feed.specs.ProfileLine.{tiploc_mark}
-use Rattle.cif_feed.specs.SpellsFeed.{FeedParts, SpellFeed, passed_of}
+use Rattle.cif_feed.specs.SpellsFeed.{FeedParts, SpellFeed, header_line, passed_of}
 use Rattle.cif_feed.specs.declared.feed.Feed.TheVariants.{Full}
 use Rattle.cif_feed.specs.declared.holiday_code.HolidayCodes.{HolidayCodes}
 use Rattle.cif_feed.specs.declared.mark.LineMark.{LineMark}
@@ -91,6 +91,7 @@ module _ (allowed : HolidayCodes) where
   abbrev pub parts_read : List (List ℕ) → ExtractParts → FeedParts
   parts_read cs x = record {
     extract = x;
+    header_line = header_line cs;
     tiploc_marks = marks tiploc_mark Full allowed cs;
     association_marks = marks association_mark Full allowed cs;
     schedule_marks = marks schedule_mark Full allowed cs;
@@ -103,6 +104,7 @@ module _ (allowed : HolidayCodes) where
     are_contents = are_contents cs ls r;
     notes_stand = λ k below note. let none = no_notes cs ls r k [] below in absurd (cc);
     extract = subst (λ l. SpellExtract l x) (sym (read_lines cs ls r)) s;
+    header_line = refl;
     tiploc_marks = refl;
     association_marks = refl;
     schedule_marks = refl;

@@ -28,7 +28,9 @@ use Rattle.cif_feed.proofs.SpelledFeeds.{blames_none, one_feed}
 one_said : (lines : FeedParts) (p q : UpdateParts) → SayUpdate lines p → SayUpdate lines q → p ≡ q
 one_said lines p q s t =
     ap (λ (v : Header). record p { header = v }) (s.header ∙ sym t.header)
-    ∙ ap (λ (v : List (Change (List ℕ) Tiploc)). record p { header = q.header; tiplocs = v }) (s.tiplocs ∙ sym t.tiplocs)
+    ∙ ap (λ (v : ℕ). record p { header = q.header; header_line = v }) (s.header_line ∙ sym t.header_line)
+    ∙ ap (λ (v : List (Change (List ℕ) Tiploc)). record p { header = q.header; header_line = q.header_line; tiplocs = v })
+    (s.tiplocs ∙ sym t.tiplocs)
     ∙ ap (λ (v : List (Change AssociationKey PublishedAssociation)). record q { associations = v; schedules = p.schedules })
     (same_triples IsAssociationChange
     (λ x y z w a b. a.change ∙ ap (change_by y.mark.transaction y.number (x.key, x.first, y.mark.letter))

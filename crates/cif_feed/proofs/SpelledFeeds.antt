@@ -1,6 +1,6 @@
 -- Bytes that spell a published extract, or an update, aren't refused, and spell no other.
-use Rattle.std.proofs.Common.{◌≡◌, ℕ, ◌<◌, ◌≤◌, Bool, true, false, cond, not, ◌&&◌, List, [], ◌∷◌, ◌++◌, length, filter, map, Option, Some}
-use Rattle.std.proofs.Common.{None, IfErr, IfOk, IfSome, Result, Ok, Err, refl, sym, ap, ◌∙◌, subst, arith, get_or, length-append, ⊎_elim}
+use Rattle.std.proofs.Common.{◌≡◌, ℕ, ◌<◌, ◌≤◌, Bool, true, false, cond, not, ◌&&◌, List, [], ◌∷◌, ◌++◌, length, filter, map, Some}
+use Rattle.std.proofs.Common.{None, refl, sym, ap, ◌∙◌, subst, arith, get_or, length-append, ⊎_elim}
 use Rattle.std.proofs.lemmas.List.{map-append}
 use Rattle.std.proofs.lemmas.List.Elements.{All-cons, All-head, All-nil, All-tail, filter-append}
 use Rattle.std.proofs.Math.Seq.{get_or-append_seam, take-append_seam}
@@ -21,22 +21,22 @@ use Rattle.cif_records.proofs.Judging.{none-some}
 use Rattle.cif_feed.specs.FeedFault.{IsFailure, IsFeedFault}
 use Rattle.cif_feed.specs.ProfileLine.{is_note, notes_may_stand, profile_line, is_record_line, profile_lines}
 use Rattle.cif_feed.specs.FeedRefusal.{IsFeedContent, IsFeedTruncated, IsFirstOfFeed, IsRefusedContent, line_refusal}
-use Rattle.cif_feed.specs.SpellsFeed.{BytesSpellFeed, FeedParts, SpellFeed, feed_parts}
+use Rattle.cif_feed.specs.SpellsFeed.{BytesSpellFeed, FeedParts, SpellFeed}
 use Rattle.cif_feed.specs.declared.feed.Feed.{Feed}
 use Rattle.cif_feed.specs.declared.feed.FeedFault.{FeedFault}
 use Rattle.cif_feed.specs.declared.feed.FeedFault.TheVariants.{Extract, NotUpdate, BadTransaction}
 use Rattle.cif_feed.specs.declared.holiday_code.HolidayCodes.{HolidayCodes}
-use Rattle.cif_feed.specs.declared.feed_reading.FeedExtract.{FeedExtract}
 use Rattle.cif_feed.specs.declared.feed_reading.Passed.{Passed}
 use Rattle.cif_feed.proofs.FeedRuns.{comment_fine, line_why}
 use Rattle.cif_feed.proofs.ProfileKinds.{profile_no_trailer}
 
 -- parts that are the same, one by one
-same_parts : (a b : FeedParts) → a.extract ≡ b.extract → a.tiploc_marks ≡ b.tiploc_marks → a.association_marks ≡ b.association_marks
-    → a.schedule_marks ≡ b.schedule_marks → a.passed ≡ b.passed → a ≡ b
-same_parts a b e t aa s c =
-    ap (λ (v : ExtractParts). record a { extract = v }) e ∙ ap (λ v. record a { extract = b.extract; tiploc_marks = v }) t
-    ∙ ap (λ v. record a { extract = b.extract; tiploc_marks = b.tiploc_marks; association_marks = v }) aa
+same_parts : (a b : FeedParts) → a.extract ≡ b.extract → a.header_line ≡ b.header_line → a.tiploc_marks ≡ b.tiploc_marks
+    → a.association_marks ≡ b.association_marks → a.schedule_marks ≡ b.schedule_marks → a.passed ≡ b.passed → a ≡ b
+same_parts a b e h t aa s c =
+    ap (λ (v : ExtractParts). record a { extract = v }) e ∙ ap (λ (v : ℕ). record a { extract = b.extract; header_line = v }) h
+    ∙ ap (λ v. record a { extract = b.extract; header_line = b.header_line; tiploc_marks = v }) t
+    ∙ ap (λ v. record a { extract = b.extract; header_line = b.header_line; tiploc_marks = b.tiploc_marks; association_marks = v }) aa
     ∙ ap (λ v. record b { schedule_marks = v; passed = a.passed }) s ∙ ap (λ (v : Passed). record b { passed = v }) c
 
 module _ (feed : Feed) (allowed : HolidayCodes) (max : ℕ) where
@@ -44,7 +44,7 @@ module _ (feed : Feed) (allowed : HolidayCodes) (max : ℕ) where
   pub one_feed : (cs : List (List ℕ)) (x y : FeedParts) → SpellFeed feed allowed cs x → SpellFeed feed allowed cs y → x ≡ y
   one_feed cs x y p q =
       same_parts x y (one_extract (profile_lines feed allowed cs) x.extract y.extract p.extract q.extract)
-      (p.tiploc_marks ∙ sym q.tiploc_marks)
+      (p.header_line ∙ sym q.header_line) (p.tiploc_marks ∙ sym q.tiploc_marks)
       (p.association_marks ∙ sym q.association_marks) (p.schedule_marks ∙ sym q.schedule_marks) (p.passed ∙ sym q.passed)
 
   -- the profile lines before and after one that says something

@@ -5,6 +5,8 @@ use Rattle.cif_feed.specs.declared.changes.Action.{Action}
 use Rattle.cif_feed.specs.declared.changes.Action.TheVariants.{New, Revised, Deleted}
 use Rattle.cif_feed.specs.declared.changes.Change.{Change}
 use Rattle.cif_feed.specs.declared.changes.RefusedLine.{RefusedLine}
+use Rattle.cif_feed.specs.declared.changes.Unfit.{Unfit}
+use Rattle.cif_feed.specs.declared.changes.Unfit.TheVariants.{NotThere, AlreadyThere}
 use Rattle.cif_feed.specs.declared.mark.Transaction.{Transaction}
 use Rattle.cif_feed.specs.declared.mark.Transaction.TheVariants as transaction
 
@@ -103,9 +105,13 @@ abbrev pub put_last : {K I : Type 0} → (K → K → Bool) → List (ChangePart
 put_last same [] = []
 put_last same (c ∷ changes) = (if is_changed same changes c.key then [] else keyed_record c.key c.puts) ++ put_last same changes
 
+-- why a change may not be done, by whether there are records of its key
+abbrev pub why_unfit : Bool → Unfit
+why_unfit there = if there then AlreadyThere else NotThere
+
 -- a change is refused, by whether there are records of its key
 abbrev pub refusal : {K I : Type 0} → Bool → ChangeParts K I → List RefusedLine
-refusal there c = if may_be_applied c.transaction there then [] else record { line = c.line; is_there = there } ∷ []
+refusal there c = if may_be_applied c.transaction there then [] else record { line = c.line; why = why_unfit there } ∷ []
 
 -- the changes that may not be done, each after those before it, in their order
 abbrev pub refusals : {K I : Type 0} → (K → K → Bool) → List (K × I) → List (ChangeParts K I) → List RefusedLine

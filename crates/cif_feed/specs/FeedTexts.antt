@@ -2,7 +2,7 @@
 use Rattle.std.specs.Prelude.{ℕ, List, ◌++◌, codes, decimal}
 use Rattle.cif_extract.specs.Fault.{fault_text as extract_text, name_of as extract_name, number_of as extract_number}
 use Rattle.cif_feed.specs.declared.feed.FeedFault.{FeedFault}
-use Rattle.cif_feed.specs.declared.feed.FeedFault.TheVariants.{Extract, NotUpdate, BadTransaction, NotThere, AlreadyThere}
+use Rattle.cif_feed.specs.declared.feed.FeedFault.TheVariants.{Extract, NotUpdate, BadTransaction, NotThere, AlreadyThere, OutOfSequence}
 
 -- the number of a fault
 abbrev pub number_of : FeedFault → ℕ
@@ -11,6 +11,7 @@ number_of (NotUpdate line) = 22
 number_of (BadTransaction line) = 23
 number_of (NotThere line) = 24
 number_of (AlreadyThere line) = 25
+number_of (OutOfSequence line) = 27
 
 -- its name
 abbrev pub name_of : FeedFault → List ℕ
@@ -19,6 +20,7 @@ name_of (NotUpdate line) = codes "NotUpdate"
 name_of (BadTransaction line) = codes "BadTransaction"
 name_of (NotThere line) = codes "NotThere"
 name_of (AlreadyThere line) = codes "AlreadyThere"
+name_of (OutOfSequence line) = codes "OutOfSequence"
 
 -- a line, counted from 1, and a name
 unfoldable pub line_text : ℕ → List ℕ → List ℕ
@@ -31,3 +33,4 @@ fault_text (NotUpdate line) = line_text line (codes "NotUpdate")
 fault_text (BadTransaction line) = line_text line (codes "BadTransaction")
 fault_text (NotThere line) = line_text line (codes "NotThere")
 fault_text (AlreadyThere line) = line_text line (codes "AlreadyThere")
+fault_text (OutOfSequence line) = line_text line (codes "OutOfSequence")

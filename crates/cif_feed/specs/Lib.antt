@@ -21,6 +21,7 @@ pub mod PreparedRecord
 pub mod Published
 pub mod Reasons
 pub mod RecordKeys
+pub mod Sequence
 pub mod SpellsFeed
 pub mod Steps
 pub mod ProfileLine

@@ -186,7 +186,11 @@ is_note content = are (columns 1 2 content) (codes "TN") || are (columns 1 2 con
 abbrev pub is_record_line : List ℕ → Bool
 is_record_line content = not (is_comment content) && not (is_note content)
 
--- the kind of a BS, and of a trailer
+-- the kind of a header, of a BS, and of a trailer
+abbrev pub is_header : Option Kind → Bool
+is_header (Some Hd) = true
+is_header kind = false
+
 abbrev pub is_basic : Option Kind → Bool
 is_basic (Some Bs) = true
 is_basic kind = false

@@ -1,11 +1,13 @@
 -- When bytes spell what a feed says, line by line.
-use Rattle.std.specs.Prelude.{◌≡◌, ℕ, ◌<◌, ◌≤◌, true, List, [], All, filter, length, slice_index_or, take}
+use Rattle.std.specs.Prelude.{◌≡◌, ℕ, ◌+◌, ◌<◌, ◌≤◌, true, List, [], ◌∷◌, All, filter, length, slice_index_or, take, if◌then◌else◌}
 use Rattle.cif_columns.specs.Comment.{is_comment}
 use Rattle.cif_columns.specs.Contents.{contents_of}
 use Rattle.cif_extract.specs.ExtractParts.{ExtractParts, extract_parts}
 use Rattle.cif_extract.specs.SpellsExtract.{SpellExtract}
 use Rattle.cif_feed.specs.FeedRefusal.{IsFeedContent}
-use Rattle.cif_feed.specs.ProfileLine.{association_mark, is_note, marks, notes_may_stand, profile_lines, schedule_mark, tiploc_mark}
+use Rattle.cif_records.specs.Kind.{kind_in}
+use Rattle.cif_feed.specs.ProfileLine.{association_mark, is_header, is_note, marks, notes_may_stand, profile_lines, schedule_mark}
+use Rattle.cif_feed.specs.ProfileLine.{tiploc_mark}
 use Rattle.cif_feed.specs.declared.feed.Feed.{Feed}
 use Rattle.cif_feed.specs.declared.feed_reading.FeedExtract.{FeedExtract}
 use Rattle.cif_feed.specs.declared.feed_reading.Passed.{Passed}
@@ -14,9 +16,11 @@ use Rattle.cif_feed.specs.declared.mark.Numbered.{Numbered}
 use Rattle.cif_feed.specs.declared.mark.RecordMark.{RecordMark}
 use Rattle.cif_feed.specs.declared.mark.TiplocMark.{TiplocMark}
 
--- what the lines of a feed say: the extract of their profile lines, and what these leave out, record by record
+-- What the lines of a feed say: the extract of their profile lines, and what these leave out, record by record; and the number of the
+-- line of the header.
 pub record FeedParts : Type 0 where
   pub extract : ExtractParts
+  pub header_line : ℕ
   pub tiploc_marks : List (Numbered TiplocMark)
   pub association_marks : List (Numbered RecordMark)
   pub schedule_marks : List (Numbered RecordMark)
@@ -26,11 +30,21 @@ pub record FeedParts : Type 0 where
 abbrev pub feed_parts : FeedExtract → FeedParts
 feed_parts x = record {
   extract = extract_parts x.extract;
+  header_line = x.header_line;
   tiploc_marks = x.tiploc_marks.items;
   association_marks = x.association_marks.items;
   schedule_marks = x.schedule_marks.items;
   passed = x.passed;
 }
+
+-- the number of the first header among contents of which the first has this number; 0, if there is none
+abbrev pub header_from : ℕ → List (List ℕ) → ℕ
+header_from number [] = 0
+header_from number (content ∷ contents) = if is_header (kind_in content) then number else header_from (number + 1) contents
+
+-- the number of the line of the header
+abbrev pub header_line : List (List ℕ) → ℕ
+header_line contents = header_from 1 contents
 
 -- how many of the contents are comments, and notes
 abbrev pub passed_of : List (List ℕ) → Passed
@@ -43,6 +57,7 @@ pub record SpellFeed (feed : Feed) (allowed : HolidayCodes) (contents : List (Li
   pub notes_stand : (k : ℕ) → k < length contents → is_note (slice_index_or contents k []) ≡ true
       → notes_may_stand (take k contents) ≡ true
   pub extract : SpellExtract (profile_lines feed allowed contents) x.extract
+  pub header_line : x.header_line ≡ header_line contents
   pub tiploc_marks : x.tiploc_marks ≡ marks tiploc_mark feed allowed contents
   pub association_marks : x.association_marks ≡ marks association_mark feed allowed contents
   pub schedule_marks : x.schedule_marks ≡ marks schedule_mark feed allowed contents

@@ -35,9 +35,10 @@ AssociationKey = AssocKey × ℕ × Stp
 abbrev pub ScheduleKey : Type 0
 ScheduleKey = List ℕ × ℕ × Stp
 
--- the header, and what the lines do to the records of each kind, in their order
+-- the header with the number of its line, and what the lines do to the records of each kind, in their order
 pub record UpdateParts : Type 0 where
   pub header : Header
+  pub header_line : ℕ
   pub tiplocs : List (Change (List ℕ) Tiploc)
   pub associations : List (Change AssociationKey PublishedAssociation)
   pub schedules : List (Change ScheduleKey PublishedSchedule)
@@ -46,6 +47,7 @@ pub record UpdateParts : Type 0 where
 abbrev pub update_parts : declared.Update → UpdateParts
 update_parts u = record {
   header = u.header;
+  header_line = u.header_line;
   tiplocs = u.tiplocs.items;
   associations = u.associations.items;
   schedules = u.schedules.items;
@@ -94,6 +96,7 @@ pub record IsScheduleChange (r : Schedule) (m : Numbered RecordMark) (c : Change
 -- the lines say an update of these parts
 pub record SayUpdate (lines : FeedParts) (u : UpdateParts) : Type 0 where
   pub header : u.header ≡ lines.extract.header
+  pub header_line : u.header_line ≡ lines.header_line
   pub tiplocs : u.tiplocs ≡ tiploc_changes lines.extract.tiplocs lines.tiploc_marks
   pub associations : AreTriples IsAssociationChange lines.extract.associations lines.association_marks u.associations
   pub schedules : AreTriples IsScheduleChange lines.extract.schedules lines.schedule_marks u.schedules

@@ -7,11 +7,14 @@ use Rattle.cif_feed.specs.FeedFault.{IsFeedFault, IsOfFeed, is_feed_read}
 use Rattle.cif_feed.specs.HolidayCode.{all_codes}
 use Rattle.cif_feed.specs.PublishedParts.{PublishedParts}
 use Rattle.cif_feed.specs.RecordKeys.{association_key, schedule_key, tiploc_key}
+use Rattle.cif_feed.specs.Sequence.{follows}
 use Rattle.cif_feed.specs.UpdateParts.{AssociationKey, BytesSpellUpdate, ScheduleKey, UpdateParts}
 use Rattle.cif_feed.specs.declared.changes.RefusedLine.{RefusedLine}
+use Rattle.cif_feed.specs.declared.changes.Unfit.{Unfit}
+use Rattle.cif_feed.specs.declared.changes.Unfit.TheVariants as unfit
 use Rattle.cif_feed.specs.declared.feed.Feed.TheVariants.{Update}
 use Rattle.cif_feed.specs.declared.feed.FeedFault.{FeedFault}
-use Rattle.cif_feed.specs.declared.feed.FeedFault.TheVariants.{NotThere, AlreadyThere}
+use Rattle.cif_feed.specs.declared.feed.FeedFault.TheVariants.{NotThere, AlreadyThere, OutOfSequence}
 use Rattle.cif_feed.specs.declared.published.PublishedAssociation.{PublishedAssociation}
 use Rattle.cif_feed.specs.declared.published.PublishedSchedule.{PublishedSchedule}
 use Rattle.cif_feed.specs.declared.update.Outcome.{Outcome}
@@ -36,7 +39,12 @@ abbrev pub told_once : ℕ → List RefusedLine → List RefusedLine
 told_once previous [] = []
 told_once previous (r ∷ refused) = (if r.line == previous then [] else r ∷ []) ++ told_once r.line refused
 
--- The lines of the update that may not be done, in their order: of locations, of associations, of schedules. No line has number 0.
+-- the line of the header is refused, if the update doesn't follow the extract
+abbrev pub refused_header : UpdateParts → PublishedParts → List RefusedLine
+refused_header u old = if follows u.header old.header then [] else record { line = u.header_line; why = unfit.OutOfSequence } ∷ []
+
+-- The lines of the update that may not be done, in their order: that of the header, those of locations, of associations, of schedules. No
+-- line has number 0.
 pub record AreRefusedLines (u : UpdateParts) (old : PublishedParts) (lines : List RefusedLine) : Type 0 where
   pub tiplocs : List RefusedLine
   pub of_tiplocs : AreRefused tiploc_key old.tiplocs u.tiplocs tiplocs
@@ -44,11 +52,16 @@ pub record AreRefusedLines (u : UpdateParts) (old : PublishedParts) (lines : Lis
   pub of_associations : AreRefused published_association_key old.associations u.associations associations
   pub schedules : List RefusedLine
   pub of_schedules : AreRefused published_schedule_key old.schedules u.schedules schedules
-  pub are : lines ≡ told_once 0 (tiplocs ++ (associations ++ schedules))
+  pub are : lines ≡ refused_header u old ++ told_once 0 (tiplocs ++ (associations ++ schedules))
 
 -- the fault of a line that may not be done
+abbrev pub fault_at : ℕ → Unfit → FeedFault
+fault_at line unfit.OutOfSequence = OutOfSequence line
+fault_at line unfit.NotThere = NotThere line
+fault_at line unfit.AlreadyThere = AlreadyThere line
+
 abbrev pub refused_fault : RefusedLine → FeedFault
-refused_fault r = if r.is_there then AlreadyThere r.line else NotThere r.line
+refused_fault r = fault_at r.line r.why
 
 -- A line of an update is refused: the first that may not be done, of an update that these bytes spell, and it isn't lenient.
 pub record IsLineRefused (lenient : Bool) (old : PublishedParts) (max : ℕ) (bytes : List ℕ) (line : RefusedLine) : Type 0 where
@@ -62,10 +75,12 @@ pub record IsLineRefused (lenient : Bool) (old : PublishedParts) (max : ℕ) (by
 -- Why an update is not done to a published extract, where `after` is left of its bytes then: for what can't be read, or for the first line
 -- that may not be done.
 abbrev pub IsUpdateFault : Bool → PublishedParts → ℕ → List ℕ → Unread → FeedFault → Type 0
+IsUpdateFault lenient old max bytes after (OutOfSequence line) =
+    IsLineRefused lenient old max bytes (record { line = line; why = unfit.OutOfSequence })
 IsUpdateFault lenient old max bytes after (NotThere line) =
-    IsLineRefused lenient old max bytes (record { line = line; is_there = false })
+    IsLineRefused lenient old max bytes (record { line = line; why = unfit.NotThere })
 IsUpdateFault lenient old max bytes after (AlreadyThere line) =
-    IsLineRefused lenient old max bytes (record { line = line; is_there = true })
+    IsLineRefused lenient old max bytes (record { line = line; why = unfit.AlreadyThere })
 IsUpdateFault lenient old max bytes after fault = IsFeedFault Update all_codes max bytes after fault
 
 -- An update was done to a published extract: the one that these bytes spell, whose lines that may not be done are those waived. There are
@@ -84,6 +99,7 @@ MayBeDone lenient old update = (lenient ≡ true) ⊎ AreRefusedLines update old
 
 -- the faults of doing an update of at most max contents, for any source
 abbrev pub IsOfUpdate : ℕ → FeedFault → Type 0
+IsOfUpdate max (OutOfSequence line) = Unit {0}
 IsOfUpdate max (NotThere line) = Unit {0}
 IsOfUpdate max (AlreadyThere line) = Unit {0}
 IsOfUpdate max fault = IsOfFeed max fault

@@ -3,7 +3,7 @@ ghost use Rattle.std.specs.Prelude.{◌≡◌, ◌↔◌, ◌++◌, ◌∷◌, [
 ghost use Rattle.std.specs.Prelude.{option_to_list, reverse, if◌then◌else◌};
 ghost use Rattle.std.specs.BTreeMap.{get};
 ghost use Rattle.cif_feed.specs.Changes.{AreAfter, AreRefused, ChangeParts, changes_of};
-ghost use Rattle.cif_feed.specs.Changes.{may_be_applied, parts_of, put_last, refusals, with_keys};
+ghost use Rattle.cif_feed.specs.Changes.{may_be_applied, parts_of, put_last, refusals, why_unfit, with_keys};
 ghost use Rattle.cif_feed.specs.Steps.Changes.{AreLast, SaysThere, at_keys, is_position, same_by};
 
 use crate::FeedFault;
@@ -61,22 +61,33 @@ pub enum Action<K, R> {
 pub struct RefusedLine {
     /// The number of the line.
     pub line: u64,
-    /// Whether there are records of its key: it puts a new one of the same key. Or there are none, and it
-    /// revises or deletes them.
-    pub is_there: bool,
+    /// Why it doesn't fit.
+    pub why: Unfit,
+}
+
+/// Why a line of an update doesn't fit.
+#[derive(Clone, Copy, Debug, PartialEq, Eq)]
+pub enum Unfit {
+    /// It is the header, and doesn't follow the extract.
+    OutOfSequence,
+    /// It revises or deletes records of a key of which there are none.
+    NotThere,
+    /// It puts a new record of a key of which there are records.
+    AlreadyThere,
 }
 
 impl RefusedLine {
     ghost use Rattle.cif_feed.specs.Updated.{refused_fault};
 
-    /// The fault: AlreadyThere or NotThere.
+    /// The fault of this name.
     pub fn fault(&self) -> FeedFault
         ensures { result ≡ refused_fault self.now }
     {
-        if self.is_there {
-            FeedFault::AlreadyThere { line: self.line }
-        } else {
-            FeedFault::NotThere { line: self.line }
+        let line = self.line;
+        match self.why {
+            Unfit::OutOfSequence => FeedFault::OutOfSequence { line },
+            Unfit::NotThere => FeedFault::NotThere { line },
+            Unfit::AlreadyThere => FeedFault::AlreadyThere { line },
         }
     }
 }
@@ -163,7 +174,7 @@ fn refused_changes<R: Keyed>(
         if !may_be_applied::<R>(change, is_there) {
             refused.push(RefusedLine {
                 line: change.line,
-                is_there,
+                why: why_unfit(is_there),
             })?;
         }
         there.insert(rank, puts::<R>(change))?;
@@ -261,6 +272,17 @@ fn may_be_applied<R: Keyed>(change: &Change<R::Key, R>, is_there: bool) -> bool
     match change.action {
         Action::New(_) => !is_there,
         Action::Revised(_) | Action::Deleted(_) => is_there,
+    }
+}
+
+/// Why a change may not be done, by whether there are records of its key.
+fn why_unfit(is_there: bool) -> Unfit
+    ensures { result ≡ why_unfit is_there }
+{
+    if is_there {
+        Unfit::AlreadyThere
+    } else {
+        Unfit::NotThere
     }
 }
 

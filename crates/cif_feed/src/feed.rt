@@ -29,6 +29,8 @@ pub enum FeedFault {
     NotThere { line: u64 },
     /// A line of an update, by its number, puts a record that is there already.
     AlreadyThere { line: u64 },
+    /// The header of an update, by its number, doesn't follow the extract.
+    OutOfSequence { line: u64 },
 }
 
 /// The bytes of the longest text, which is one of an extract of this profile.
@@ -38,7 +40,7 @@ impl FeedFault {
     ghost use Rattle.cif_feed.specs.FeedTexts.{fault_text, name_of, number_of};
 
     /// The number of the fault: that of an extract of this profile, or 22 NotUpdate, 23
-    /// BadTransaction, 24 NotThere, 25 AlreadyThere.
+    /// BadTransaction, 24 NotThere, 25 AlreadyThere, 27 OutOfSequence.
     pub fn number(&self) -> u8
         ensures { result ≡ number_of self.now }
     {
@@ -48,6 +50,7 @@ impl FeedFault {
             FeedFault::BadTransaction { line: _ } => 23,
             FeedFault::NotThere { line: _ } => 24,
             FeedFault::AlreadyThere { line: _ } => 25,
+            FeedFault::OutOfSequence { line: _ } => 27,
         }
     }
 
@@ -61,6 +64,7 @@ impl FeedFault {
             FeedFault::BadTransaction { line: _ } => "BadTransaction",
             FeedFault::NotThere { line: _ } => "NotThere",
             FeedFault::AlreadyThere { line: _ } => "AlreadyThere",
+            FeedFault::OutOfSequence { line: _ } => "OutOfSequence",
         }
     }
 
@@ -76,6 +80,7 @@ impl FeedFault {
             FeedFault::BadTransaction { line } => line_text(*line, "BadTransaction"),
             FeedFault::NotThere { line } => line_text(*line, "NotThere"),
             FeedFault::AlreadyThere { line } => line_text(*line, "AlreadyThere"),
+            FeedFault::OutOfSequence { line } => line_text(*line, "OutOfSequence"),
         }
     }
 }

@@ -12,7 +12,7 @@ ghost use Rattle.cif_feed.specs.ProfileLine.{is_basic, is_trailer, profile_lines
 ghost use Rattle.cif_feed.specs.FeedFault.{reading_feed};
 ghost use Rattle.cif_feed.specs.SpellsFeed.{feed_parts};
 ghost use Rattle.cif_feed.specs.Steps.FeedReading.{HasTakenFeed, IsFeedHeld, IsFeedTaken, IsMarked, IsNoteTaken};
-ghost use Rattle.cif_feed.specs.Steps.FeedReading.{IsStopTaken, UnlessMemory};
+ghost use Rattle.cif_feed.specs.Steps.FeedReading.{IsStopTaken, UnlessMemory, header_behind};
 ghost use Rattle.cif_feed.specs.Steps.Marked.{HasMarks};
 ghost use Rattle.cif_feed.specs.declared.feed.Feed.{Feed};
 ghost use Rattle.cif_feed.specs.declared.holiday_code.HolidayCodes.{HolidayCodes};
@@ -30,6 +30,8 @@ use std::alloc::Global;
 #[derive(Drop)]
 pub(crate) struct FeedExtract {
     pub(crate) extract: Extract,
+    // The number of the line of its header.
+    pub(crate) header_line: u64,
     // The marks of its locations, associations and schedules, in their order.
     pub(crate) tiploc_marks: Vec<Numbered<TiplocMark>>,
     pub(crate) association_marks: Vec<Numbered<RecordMark>>,
@@ -93,6 +95,8 @@ pub(crate) fn read_feed<R: ReadDevice>(
 #[derive(Drop)]
 pub(crate) struct FeedReading {
     reading: Reading,
+    // The number of the line of the header; 0 before one has come.
+    header_line: u64,
     tiploc_marks: Vec<Numbered<TiplocMark>>,
     association_marks: Vec<Numbered<RecordMark>>,
     schedule_marks: Vec<Numbered<RecordMark>>,
@@ -109,6 +113,7 @@ impl FeedReading {
     {
         FeedReading {
             reading: Reading::new(alloc),
+            header_line: 0,
             tiploc_marks: Vec::new(alloc),
             association_marks: Vec::new(alloc),
             schedule_marks: Vec::new(alloc),
@@ -166,6 +171,7 @@ impl FeedReading {
         let profile = ProfileLine::of(feed, allowed, kind, line);
         match self.reading.take_line(alloc, &profile.line) {
             Ok(()) => {
+                self.header_line = header_behind(self.header_line, kind, number);
                 self.has_basic |= is_basic(kind);
                 self.has_trailer |= is_trailer(kind);
                 self.push_mark(number, profile.mark)
@@ -224,6 +230,7 @@ impl FeedReading {
     {
         let FeedReading {
             reading,
+            header_line,
             tiploc_marks,
             association_marks,
             schedule_marks,
@@ -234,6 +241,7 @@ impl FeedReading {
         match reading.end() {
             Some(extract) => Ok(FeedExtract {
                 extract,
+                header_line,
                 tiploc_marks,
                 association_marks,
                 schedule_marks,
@@ -269,6 +277,16 @@ fn not_full(feed: Feed, line: u64, kind: Option<Kind>) -> FeedFault
         }),
         (Feed::Update, Some(Kind::Hd)) => FeedFault::NotUpdate { line },
         (Feed::Update, _) => FeedFault::BadTransaction { line },
+    }
+}
+
+/// The number of the first header, where it was `so_far`, and then a line of this kind has this number.
+fn header_behind(so_far: u64, kind: Option<Kind>, number: u64) -> u64
+    ensures { result ≡ header_behind so_far kind number }
+{
+    match kind {
+        Some(Kind::Hd) if so_far == 0 => number,
+        _ => so_far,
     }
 }
 

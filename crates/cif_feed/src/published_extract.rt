@@ -72,6 +72,7 @@ impl PublishedExtract {
     {
         let FeedExtract {
             extract,
+            header_line: _,
             tiploc_marks: _,
             association_marks,
             schedule_marks,

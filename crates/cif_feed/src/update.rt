@@ -1,5 +1,6 @@
 //! Updates: reading one, and doing what it says to a published extract.
 ghost use Rattle.std.specs.Prelude.{◌≡◌, ◌≢◌, ◌≤◌, ◌++◌, ◌∷◌, [], IfErr, IfOk, length, false, reverse};
+ghost use Rattle.std.specs.Prelude.{if◌then◌else◌};
 ghost use Rattle.cif_columns.specs.declared.line_reader.TheConstants.{MAX_LINES};
 ghost use Rattle.cif_extract.specs.ReadCall.{IsResultOf};
 ghost use Rattle.cif_feed.specs.PublishedParts.{published_parts};
@@ -7,6 +8,8 @@ ghost use Rattle.cif_feed.specs.SpellsFeed.{feed_parts};
 ghost use Rattle.cif_feed.specs.Steps.Marked.{HasMarks};
 ghost use Rattle.cif_feed.specs.UpdateParts.{change_by, tiploc_changes, tiploc_changes_by};
 ghost use Rattle.cif_feed.specs.Updated.{told_once};
+ghost use Rattle.cif_feed.specs.Sequence.{follows};
+ghost use Rattle.cif_feed.specs.declared.changes.Unfit.TheVariants as unfit;
 ghost use Rattle.cif_feed.specs.Steps.Changes.{IsDone, last_line};
 ghost use Rattle.cif_feed.specs.declared.feed.Feed.TheVariants as feed;
 
@@ -14,9 +17,10 @@ use crate::feed_reading::{FeedExtract, read_feed};
 use crate::from_lines::{FromLine, from_lines, last_of};
 use crate::mark::{Numbered, RecordMark, TiplocMark};
 use crate::record_keys::tiploc_key;
+use crate::sequence::follows;
 use crate::{
     Action, Change, Feed, FeedFault, HolidayCodes, Passed, PublishedAssociation, PublishedExtract,
-    PublishedSchedule, RefusedLine, Transaction, apply,
+    PublishedSchedule, RefusedLine, Transaction, Unfit, apply,
 };
 use cif_columns::{Day, ReadDevice, Source, Stp, Uid};
 use cif_extract::{Extract, Fault, Schedule};
@@ -28,6 +32,8 @@ use std::alloc::{AllocError, Global};
 pub struct Update {
     /// Its header, as that of a full extract.
     pub header: Header,
+    /// The number of the header's line.
+    pub header_line: u64,
     /// What its TI, TA and TD do. A TA that renames a location does two things.
     pub tiplocs: Vec<Change<[u8; 7], Tiploc>>,
     /// What its AA do.
@@ -75,6 +81,7 @@ impl Update {
     {
         let FeedExtract {
             extract,
+            header_line,
             tiploc_marks,
             association_marks,
             schedule_marks,
@@ -93,6 +100,7 @@ impl Update {
         );
         Ok(Update {
             header,
+            header_line,
             tiplocs: tiploc_changes(alloc, tiplocs, tiploc_marks)?,
             associations: from_lines(alloc, associations, association_marks)?,
             schedules: from_lines(alloc, schedules, schedule_marks)?,
@@ -107,8 +115,8 @@ impl PublishedExtract {
     ghost use Rattle.cif_feed.specs.UpdateParts.{update_parts};
     ghost use Rattle.cif_feed.specs.Updated.{AreRefusedLines, IsUpdated};
 
-    /// Applies the update. Returns the lines that don't fit, in their order, each once; they are applied
-    /// anyway.
+    /// Applies the update. Returns the lines that don't fit, that of its header first, if it doesn't follow,
+    /// and then the others in their order, each once; they are applied anyway.
     pub fn update(&mut self, alloc: Global, update: Update) -> Result<Vec<RefusedLine>, AllocError>
         ensures updated { IfOk result (λ _.
             IsUpdated (update_parts update) (published_parts self.old) (published_parts self.new)) }
@@ -117,17 +125,18 @@ impl PublishedExtract {
     {
         let Update {
             header,
+            header_line,
             tiplocs,
             associations,
             schedules,
             counts: _,
             passed: _,
         } = update;
+        let mut refused = header_refused(alloc, &header, header_line, &self.header)?;
         self.header = header;
         let of_tiplocs = apply(alloc, &mut self.tiplocs, tiplocs)?;
         let of_associations = apply(alloc, &mut self.associations, associations)?;
         let of_schedules = apply(alloc, &mut self.schedules, schedules)?;
-        let mut refused = Vec::new(alloc);
         let last = tell_once(&mut refused, 0, of_tiplocs.as_slice())?;
         let last = tell_once(&mut refused, last, of_associations.as_slice())?;
         tell_once(&mut refused, last, of_schedules.as_slice())?;
@@ -137,8 +146,8 @@ impl PublishedExtract {
     /// Applies the update that the source's contents spell, of which at most `max_lines` may come. Of an
     /// update with a line that doesn't fit nothing is applied, unless it is lenient.
     ///
-    /// NotThere and AlreadyThere name the first such line; any other fault is one of reading the update. After
-    /// a fault nothing is said of the published extract.
+    /// OutOfSequence, NotThere and AlreadyThere name the first such line; any other fault is one of reading
+    /// the update. After a fault nothing is said of the published extract.
     pub fn update_from<R: ReadDevice>(
         &mut self,
         alloc: Global,
@@ -162,6 +171,26 @@ impl PublishedExtract {
             Err(fault) => Err(fault),
         }
     }
+}
+
+/// The line of an update's header, if that doesn't follow an extract with this other header.
+fn header_refused(
+    alloc: Global,
+    update: &Header,
+    line: u64,
+    extract: &Header,
+) -> Result<Vec<RefusedLine>, AllocError>
+    ensures { IfOk result (λ refused. refused.items ≡ (if follows update.now extract.now then []
+        else record { line = line; why = unfit.OutOfSequence } ∷ [])) }
+{
+    let mut refused = Vec::new(alloc);
+    if !follows(update, extract) {
+        refused.push(RefusedLine {
+            line,
+            why: Unfit::OutOfSequence,
+        })?;
+    }
+    Ok(refused)
 }
 
 /// What an update did.

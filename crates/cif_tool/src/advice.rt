@@ -226,13 +226,36 @@ pub(crate) fn add_feed_fault<R: Files + Input>(
             add_column_refusal(input, *line, 3, "must be N, R or D", message);
         }
         FeedFault::NotThere { line } | FeedFault::AlreadyThere { line } => {
-            add_input(input, message);
-            if let Some(line) = refused_line(input, *line) {
-                message.line(&[shown(line.bytes.as_slice()).as_str()]);
-            }
-            message.line(&["--lenient goes on after such a line"]);
+            add_shown(input, *line, message);
+            message.line(&["an update may have been left out or done twice"]);
+            message.line(&[LENIENT]);
         }
+        // It is said with the reference of the extract.
+        FeedFault::OutOfSequence { line: _ } => {}
     }
+}
+
+/// What `--lenient` does.
+const LENIENT: &str = "--lenient goes on after such a line";
+
+/// Adds what helps with the line of an update's header that doesn't follow an extract with this current reference.
+pub(crate) fn add_out_of_sequence<R: Files + Input>(
+    input: &ExtractInput<'_, R>,
+    line: u64,
+    last: &[u8; 7],
+    current: &[u8; 7],
+    message: &mut Message,
+) {
+    add_shown(input, line, message);
+    message.line(&[
+        "its last reference is [",
+        shown(last).as_str(),
+        "], and the extract's current reference is [",
+        shown(current).as_str(),
+        "]",
+    ]);
+    message.line(&["an update was left out or done twice, or is of another feed"]);
+    message.line(&[LENIENT]);
 }
 
 /// Adds what is wrong with this line of holidays.
@@ -241,13 +264,18 @@ pub(crate) fn add_holiday_line<R: Files + Input>(
     line: u64,
     message: &mut Message,
 ) {
+    add_shown(input, line, message);
+    message.line(&[
+        "a line has a code, X, E or G, and dates YYMMDD, in at most 1,000 bytes; # begins a remark",
+    ]);
+}
+
+/// Adds which input it is about, and its line of this number, if that is still known.
+fn add_shown<R: Files + Input>(input: &ExtractInput<'_, R>, line: u64, message: &mut Message) {
     add_input(input, message);
     if let Some(line) = refused_line(input, line) {
         message.line(&[shown(line.bytes.as_slice()).as_str()]);
     }
-    message.line(&[
-        "a line has a code, X, E or G, and dates YYMMDD, in at most 1,000 bytes; # begins a remark",
-    ]);
 }
 
 /// Adds which input it is about.

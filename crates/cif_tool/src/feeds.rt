@@ -1,7 +1,9 @@
 //! From a call that reads published extracts to its status. No clause says what is done here: the rows of
 //! `tests/` show it on the built program. What is read, done and written is said by the clauses of `cif_feed`:
 //! of `prepare` by one, and of `update` input by input.
-use crate::advice::{add_feed_fault, add_holiday_line, add_window, add_write_failure};
+use crate::advice::{
+    add_feed_fault, add_holiday_line, add_out_of_sequence, add_window, add_write_failure,
+};
 use crate::devices::{ExtractInput, Output, Written, buffered};
 use crate::job::{Call, FeedJob, InputNames};
 use crate::message::{Message, tell_line};
@@ -11,7 +13,7 @@ use cif_columns::{MAX_LINES, ReadDevice, Sink, Source, WriteDevice};
 use cif_extract::{Clash, Fault};
 use cif_feed::{
     FeedFault, HolidayCodes, HolidayFault, Holidays, Outcome, Passed, PublishedExtract,
-    RefusedLine, write_prepared,
+    RefusedLine, current_reference, last_reference, write_prepared,
 };
 use cif_records::Header;
 use itoa::Buffer;
@@ -142,6 +144,19 @@ impl Told {
             add_feed_fault(alloc, &fault, input, written, &mut self.advice);
         }
         TaskFault::Feed(fault)
+    }
+
+    /// Adds what helps with the header of an update that doesn't follow the extract.
+    fn out_of_sequence<R: Files + Input>(
+        &mut self,
+        input: &ExtractInput<'_, R>,
+        line: u64,
+        last: &[u8; 7],
+        current: &[u8; 7],
+    ) {
+        if self.verbose {
+            add_out_of_sequence(input, line, last, current, &mut self.advice);
+        }
     }
 
     /// Adds what helps with a fault of the holidays, which this input gave.
@@ -366,9 +381,17 @@ fn do_update<R: Files + Input + AllocGlobal>(
     told: &mut Told,
 ) -> Result<(), TaskFault> {
     let mut source = Source::new(ExtractInput::of(rt, "UPDATE (", Some(name)));
+    let current = current_reference(&extract.header);
     match extract.update_from(rt.alloc(), &mut source, MAX_LINES, lenient) {
         Ok(outcome) => told.add_update(source.reader(), &extract.header, &outcome),
-        Err(fault) => Err(told.fault(rt.alloc(), fault, source.reader(), &Written::new())),
+        Err(fault) => {
+            // An update that was read has left its header.
+            let last = last_reference(&extract.header);
+            if let FeedFault::OutOfSequence { line } = &fault {
+                told.out_of_sequence(source.reader(), *line, &last, &current);
+            }
+            Err(told.fault(rt.alloc(), fault, source.reader(), &Written::new()))
+        }
     }
 }
 

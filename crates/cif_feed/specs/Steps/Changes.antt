@@ -5,8 +5,9 @@ use Rattle.std.specs.Option.{option_or}
 use Rattle.std.specs.Ordering.{eq_by_cmp}
 use Rattle.std.specs.declared.cmp.Ordering.{Ordering}
 use Rattle.cif_feed.specs.declared.changes.RefusedLine.{RefusedLine}
+use Rattle.cif_feed.specs.declared.changes.Unfit.TheVariants as unfit
 use Rattle.cif_feed.specs.declared.feed.FeedFault.{FeedFault}
-use Rattle.cif_feed.specs.declared.feed.FeedFault.TheVariants.{NotThere, AlreadyThere}
+use Rattle.cif_feed.specs.declared.feed.FeedFault.TheVariants.{NotThere, AlreadyThere, OutOfSequence}
 use Rattle.cif_feed.specs.declared.update.Outcome.{Outcome}
 use Rattle.cif_feed.specs.Changes.{ChangeParts, is_changed, is_there}
 
@@ -50,8 +51,10 @@ last_line previous (r ∷ refused) = last_line r.line refused
 -- what is answered of lines that may not be done: they are waived, where the update is lenient or there are none; else it is the first
 abbrev pub IsDone : Bool → List RefusedLine → Result Outcome FeedFault → Type 0
 IsDone lenient waived (Ok done) = (done.waived.items ≡ waived) × (lenient ≡ false → waived ≡ [])
+IsDone lenient waived (Err (OutOfSequence line)) =
+    (lenient ≡ false) × (slice_get waived 0 ≡ Some (record { line = line; why = unfit.OutOfSequence }))
 IsDone lenient waived (Err (NotThere line)) =
-    (lenient ≡ false) × (slice_get waived 0 ≡ Some (record { line = line; is_there = false }))
+    (lenient ≡ false) × (slice_get waived 0 ≡ Some (record { line = line; why = unfit.NotThere }))
 IsDone lenient waived (Err (AlreadyThere line)) =
-    (lenient ≡ false) × (slice_get waived 0 ≡ Some (record { line = line; is_there = true }))
+    (lenient ≡ false) × (slice_get waived 0 ≡ Some (record { line = line; why = unfit.AlreadyThere }))
 IsDone lenient waived (Err fault) = ⊥

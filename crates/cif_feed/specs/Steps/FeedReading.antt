@@ -1,5 +1,6 @@
 -- What the reading of a feed has come to, content by content.
-use Rattle.std.specs.Prelude.{◌≡◌, ℕ, ◌+◌, true, false, not, ◌&&◌, List, [], ◌∷◌, ◌++◌, Some, None, Result, Ok, Err}
+use Rattle.std.specs.Prelude.{◌≡◌, ℕ, ◌+◌, ◌==◌, true, false, not, ◌&&◌, List, [], ◌∷◌, ◌++◌, Option, Some, None, Result, Ok, Err}
+use Rattle.std.specs.Prelude.{if◌then◌else◌}
 use Rattle.std.specs.List.{list_any}
 use Rattle.cif_columns.specs.Comment.{is_comment}
 use Rattle.cif_columns.specs.Line.{IsLine}
@@ -11,8 +12,10 @@ use Rattle.cif_extract.specs.SpellsExtract.{SpellExtract}
 use Rattle.cif_extract.specs.Taken.{HasTaken}
 use Rattle.cif_extract.specs.declared.reading.TakeFault.{TakeFault}
 use Rattle.cif_extract.specs.declared.reading.TakeFault.TheVariants.{Refused, Memory}
-use Rattle.cif_feed.specs.ProfileLine.{association_mark, is_basic, is_trailer, marks, profile_lines, schedule_mark, tiploc_mark}
-use Rattle.cif_feed.specs.SpellsFeed.{passed_of}
+use Rattle.cif_records.specs.declared.record.Kind.{Kind}
+use Rattle.cif_feed.specs.ProfileLine.{association_mark, is_basic, is_header, is_trailer, marks, profile_lines, schedule_mark}
+use Rattle.cif_feed.specs.ProfileLine.{tiploc_mark}
+use Rattle.cif_feed.specs.SpellsFeed.{header_line, passed_of}
 use Rattle.cif_feed.specs.FeedRefusal.{line_refusal}
 use Rattle.cif_feed.specs.declared.feed.Feed.{Feed}
 use Rattle.cif_feed.specs.declared.feed_reading.FeedExtract.{FeedExtract}
@@ -52,9 +55,14 @@ with_mark m number mark = record {
   schedules = m.schedules ++ schedule_mark number mark;
 }
 
+-- the number of the first header, where it was this one, and then a line of this kind has this number
+abbrev pub header_behind : ℕ → Option Kind → ℕ → ℕ
+header_behind so_far kind number = if is_header kind && (so_far == 0) then number else so_far
+
 -- the reading has taken these contents
 pub record HasTakenFeed (feed : Feed) (allowed : HolidayCodes) (contents : List (List ℕ)) (r : FeedReading) : Type 0 where
   pub taken : HasTaken (profile_lines feed allowed contents) (progress_of r.reading)
+  pub header_line : r.header_line ≡ header_line contents
   pub marked : marks_of r ≡ marks_in feed allowed contents
   pub passed : r.passed ≡ passed_of contents
   pub basic : r.has_basic ≡ list_any (λ content. is_basic (kind_in content)) contents
@@ -91,6 +99,7 @@ IsNoteTaken old (Err Memory) new = ⊥
 pub record IsMarked (old : FeedReading) (number : ℕ) (mark : LineMark) (new : FeedReading) : Type 0 where
   pub marked : marks_of new ≡ with_mark (marks_of old) number mark
   pub reading : new.reading ≡ old.reading
+  pub header_line : new.header_line ≡ old.header_line
   pub passed : new.passed ≡ old.passed
   pub basic : new.has_basic ≡ old.has_basic
   pub trailer : new.has_trailer ≡ old.has_trailer
@@ -98,6 +107,7 @@ pub record IsMarked (old : FeedReading) (number : ℕ) (mark : LineMark) (new : 
 -- what was read holds what these contents say
 pub record IsFeedHeld (feed : Feed) (allowed : HolidayCodes) (contents : List (List ℕ)) (x : FeedExtract) : Type 0 where
   pub extract : SpellExtract (profile_lines feed allowed contents) (extract_parts x.extract)
+  pub header_line : x.header_line ≡ header_line contents
   pub tiploc_marks : x.tiploc_marks.items ≡ marks tiploc_mark feed allowed contents
   pub association_marks : x.association_marks.items ≡ marks association_mark feed allowed contents
   pub schedule_marks : x.schedule_marks.items ≡ marks schedule_mark feed allowed contents

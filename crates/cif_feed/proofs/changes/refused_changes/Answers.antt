@@ -6,7 +6,7 @@ use Rattle.std.specs.Cmp.{on_equiv}
 use Rattle.std.specs.Ordering.{eq_by_cmp}
 use Rattle.std.proofs.lemmas.Cmp.{eq_by_cmp_equiv}
 use Rattle.std.proofs.lemmas.List.{take_all}
-use Rattle.cif_feed.specs.Changes.{after_all, changes_of, is_there, parts_of, refusal, refusals}
+use Rattle.cif_feed.specs.Changes.{after_all, changes_of, is_there, parts_of, refusal, refusals, why_unfit}
 use Rattle.cif_feed.specs.Steps.Changes.{SaysThere, at_keys, same_by}
 use Rattle.cif_feed.specs.declared.changes.RefusedLine.{RefusedLine}
 use Rattle.cif_feed.proofs.ChangeLaws.{after_all-append}
@@ -37,11 +37,11 @@ loop-change-preserved g c = λ records start.
     ∙ sym c.unwrap_or-is_there.ensures) in
     let told : refusals same records (changes_of key (take (at + 1) xs))
     ≡ c.loop-change.refused.items
-    ++ cond c.may_be_applied.result [] (record { line = change.line; is_there = c.unwrap_or-is_there.result } ∷ []) =
+    ++ cond c.may_be_applied.result [] (record { line = change.line; why = why_unfit c.unwrap_or-is_there.result } ∷ []) =
     (ap (refusals same records) more ∙ refusals-more same laws records done change
     ∙ ap (λ l. l ++ refusal (is_there same (after_all same records done) change.key) change) (sym so_far)
     ∙ ap (λ b. c.loop-change.refused.items ++ refusal b change) now
-    ∙ ap (λ (b : Bool). let r : RefusedLine = record { line = change.line; is_there = c.unwrap_or-is_there.result } in
+    ∙ ap (λ (b : Bool). let r : RefusedLine = record { line = change.line; why = why_unfit c.unwrap_or-is_there.result } in
     c.loop-change.refused.items ++ cond b [] (r ∷ [])) (sym c.may_be_applied.ensures)) in (
       subst (λ l. SaysThere same (after_all same records l) all (at_keys rank (get cmp c.insert.new.self))) (sym more)
           (subst (λ l. SaysThere same l all (at_keys rank (get cmp c.insert.new.self)))
@@ -55,14 +55,14 @@ loop-change-preserved g c = λ records start.
           ∙ ap (λ (b : Bool). cond (eq_by_cmp cmp c.rank_of-rank.result (rank q)) (Some b) (get cmp c.loop-change.there (rank q)))
           c.puts.ensures)))),
       elim c.if-not-may_be_applied.branch [
-        | then-not-may_be_applied+in_ok-push w ↦ rw (w.refused-is, w.in_ok-push.ensures.items)
+        | then-not-may_be_applied+in_ok-push w ↦ rw (w.refused-is, w.in_ok-push.ensures.items, w.why_unfit.ensures)
             (ap (λ (b : Bool). c.loop-change.refused.items ++ cond b []
-            (record { line = change.line; is_there = c.unwrap_or-is_there.result } ∷ []))
+            (record { line = change.line; why = why_unfit c.unwrap_or-is_there.result } ∷ []))
             (sym w.if-not-may_be_applied.true) ∙ sym told)
         | else-not-may_be_applied w ↦ rw w.refused-is
             (sym (append-nil c.loop-change.refused.items)
             ∙ ap (λ (b : Bool). c.loop-change.refused.items ++ cond b []
-            (record { line = change.line; is_there = c.unwrap_or-is_there.result } ∷ []))
+            (record { line = change.line; why = why_unfit c.unwrap_or-is_there.result } ∷ []))
             (sym w.if-not-may_be_applied.false) ∙ sym told)
       ],
     )

@@ -1,10 +1,11 @@
 -- One line more is told, or not (`told-more`).
-use Rattle.std.proofs.Common.{◌≡◌, ◌∙◌, ◌++◌, ◌∷◌, [], ◌==◌, ℕ, ◌+◌, false, cond, ap, sym, take, get_or, append-nil, append_assoc, eq-eqb}
+use Rattle.std.proofs.Common.{◌≡◌, ◌∙◌, ◌++◌, ◌∷◌, [], ◌==◌, ℕ, ◌+◌, cond, ap, sym, take, get_or, append-nil, append_assoc, eq-eqb}
 use Rattle.std.proofs.Common.{ne_eqb}
 use Rattle.std.proofs.lemmas.List.{take_all, take_more}
 use Rattle.cif_feed.specs.Steps.Changes.{last_line}
 use Rattle.cif_feed.specs.Updated.{told_once}
 use Rattle.cif_feed.specs.declared.changes.RefusedLine.{RefusedLine}
+use Rattle.cif_feed.specs.declared.changes.Unfit.TheVariants.{OutOfSequence}
 use Rattle.cif_feed.proofs.ToldLines.{last-more, told-more}
 use Rattle.cif_feed.proofs.update.tell_once.Goals as goal
 use Rattle.cif_feed.proofs.update.tell_once.Goals.{then-line-last+in_ok-push, else-line-last}
@@ -14,7 +15,7 @@ loop-line-preserved c =
     let xs = c.args.refused.now in
     let i = c.loop-line.line-index in
     let p = c.args.previous in
-    let none : RefusedLine = record { line = 0; is_there = false } in
+    let none : RefusedLine = record { line = 0; why = OutOfSequence } in
     let x = get_or xs i none in
     let (so_far, last) = c.loop-line.invariant in
     let more = take_more xs i none c.loop-line-test.true in

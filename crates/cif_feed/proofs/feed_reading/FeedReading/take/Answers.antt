@@ -1,6 +1,7 @@
 -- A note is counted (`note_taken`); of a line the profile line is taken, and its mark is kept (`profile_marked`).
 use Rattle.std.proofs.Common.{◌||◌, ap, refl, sym, ◌∙◌}
 use Rattle.cif_feed.specs.ProfileLine.{is_basic, is_trailer, profile_line_by, profile_lines}
+use Rattle.cif_feed.specs.Steps.FeedReading.{header_behind}
 use Rattle.cif_feed.proofs.FeedSteps.{note_taken, profile_marked, profile_untaken}
 use Rattle.cif_feed.proofs.feed_reading.FeedReading.take.Goals as goal
 
@@ -19,6 +20,7 @@ returns-in-Ok-clause-taken c = λ cs so_far at.
     profile_marked a.feed a.allowed cs a.line.now c.of-profile.result a.number c.push_mark.result a.self.now
     (record a.self.now {
       reading = c.take_line.new.self;
+      header_line = c.header_behind-self.result;
       has_basic = a.self.now.has_basic || c.is_basic.result;
       has_trailer = a.self.now.has_trailer || c.is_trailer.result;
     })
@@ -26,6 +28,8 @@ returns-in-Ok-clause-taken c = λ cs so_far at.
       profile = c.of-profile.ensures ∙ ap (λ kind. profile_line_by a.feed a.allowed kind a.line.now) c.kind_of-kind.ensures.kind;
       no_comment = c.requires.no_comment;
       no_note = sym c.is_note.ensures.note ∙ c.if-is_note.false;
+      header_line = c.header_behind-self.ensures
+          ∙ ap (λ kind. header_behind a.self.now.header_line kind a.number) c.kind_of-kind.ensures.kind;
       marks = refl;
       passed = refl;
       basic = ap (λ b. a.self.now.has_basic || b) (c.is_basic.ensures ∙ ap is_basic c.kind_of-kind.ensures.kind);

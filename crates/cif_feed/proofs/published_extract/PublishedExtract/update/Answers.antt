@@ -1,7 +1,9 @@
 -- Each kind of records is changed by itself.
-use Rattle.std.proofs.Common.{◌∙◌, refl, append_assoc}
+use Rattle.std.proofs.Common.{◌∙◌, ◌++◌, refl, ap, append_assoc}
 use Rattle.cif_feed.specs.Steps.Changes.{last_line}
-use Rattle.cif_feed.specs.Updated.{told_once}
+use Rattle.cif_feed.specs.PublishedParts.{published_parts}
+use Rattle.cif_feed.specs.UpdateParts.{update_parts}
+use Rattle.cif_feed.specs.Updated.{refused_header, told_once}
 use Rattle.cif_feed.proofs.ToldLines.{told-three}
 use Rattle.cif_feed.proofs.published_extract.PublishedExtract.update.Goals as goal
 
@@ -15,6 +17,7 @@ returns-clause-updated c = record {
 
 pub returns-clause-refused : goal.returns-clause-refused
 returns-clause-refused c =
+    let first = refused_header (update_parts c.args.update) (published_parts c.args.self.now) in
     let ts = c.in_ok-of_tiplocs.of_tiplocs.items in
     let aas = c.in_ok-of_associations.of_associations.items in
     let ss = c.in_ok-of_schedules.of_schedules.items in
@@ -31,11 +34,12 @@ returns-clause-refused c =
         c.in_ok-last-2.ensures.last,
         c.in_ok-last.ensures.told,
         c.in_ok-last.ensures.last,
-        c.new-refused.ensures.items,
+        c.in_ok-refused.ensures,
         c.as_slice.ensures.value,
         c.as_slice-2.ensures.value,
         c.as_slice-3.ensures.value,
       )
-          (append_assoc (told_once 0 ts) (told_once (last_line 0 ts) aas) (told_once (last_line (last_line 0 ts) aas) ss)
-          ∙ told-three ts aas ss);
+          (append_assoc (first ++ told_once 0 ts) (told_once (last_line 0 ts) aas) (told_once (last_line (last_line 0 ts) aas) ss)
+          ∙ append_assoc first (told_once 0 ts) (told_once (last_line 0 ts) aas ++ told_once (last_line (last_line 0 ts) aas) ss)
+          ∙ ap (λ l. first ++ l) (told-three ts aas ss));
     }
