@@ -28,7 +28,7 @@ BOTH = ("left.cif", "right.cif")
 
 # How many damaged inputs, how many cases with faults, and how many small damaged extracts and feeds are tried beside each case:
 # each damage of a small extract has its turn within 300 cases.
-DAMAGED, FAULTY, SMALL, SMALL_FEEDS = 3, 2, 6, 3
+DAMAGED, FAULTY, SMALL, SMALL_FEEDS = 3, 2, 6, 5
 
 
 class Inconsistent(Exception):

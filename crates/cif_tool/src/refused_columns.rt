@@ -102,28 +102,33 @@ pub(crate) fn bad_byte(line: &[u8]) -> Option<usize> {
 /// neither its code nor a date, and what must stand there.
 pub(crate) fn holiday_refused(line: &str) -> Option<(usize, usize, &'static str)> {
     let mut before: usize = 0;
-    let mut what = HOLIDAY_CODE;
+    let mut is_first = true;
     for word in line.split(' ') {
         let last = before.saturating_add(word.len());
         if !word.is_empty() {
-            if !is_of_holidays(word.as_bytes(), what) {
-                return Some((before.saturating_add(1), last, what));
+            if is_first && !is_code(word.as_bytes()) {
+                return Some((before.saturating_add(1), last, HOLIDAY_CODE));
             }
-            what = YYMMDD;
+            if !is_first && !is_date(word.as_bytes()) {
+                return Some((before.saturating_add(1), last, YYMMDD));
+            }
+            is_first = false;
         }
         before = last.saturating_add(1);
     }
     None
 }
 
-/// Whether the word of a line of holidays is what must stand there.
-fn is_of_holidays(word: &[u8], what: &str) -> bool {
-    if what == HOLIDAY_CODE {
-        return match word {
-            [letter] => HolidayCode::read(*letter).is_some(),
-            _ => false,
-        };
+/// Whether the word is a holiday code.
+fn is_code(word: &[u8]) -> bool {
+    match word {
+        [letter] => HolidayCode::read(*letter).is_some(),
+        _ => false,
     }
+}
+
+/// Whether the word is a date, YYMMDD.
+fn is_date(word: &[u8]) -> bool {
     match <[u8; 6]>::try_from(word) {
         Ok(date) => Day::from_yymmdd(&date).is_some(),
         Err(_) => false,

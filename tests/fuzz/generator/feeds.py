@@ -129,11 +129,17 @@ def small_update(rng):
 
 
 def small_feeds(rng):
-    """Jobs of prepare, those of update whose FULL is to be damaged, and those whose UPDATE is; each with the inputs."""
+    """Jobs of prepare, those of update whose FULL is to be damaged, those whose UPDATE is, and those of check, which are about
+    an extract or an update behind a comment; each with the inputs.
+    """
     prepare = [Job("prepare", files, holidays="holidays.txt", verbose=True) for files in ((), ("extract.cif",))]
     update = Job("update", lenient=rng.random() < 0.5, verbose=True)
     full = [update._replace(files=(name, "update.cif")) for name in ("full.cif", "-")]
     updates = [update._replace(files=("full.cif", name)) for name in ("update.cif", "-")]
+    check = Job("check", all=rng.random() < 0.5, verbose=True)
+    checks = [check._replace(files=(name,)) for name in ("extract.cif", "-")]
     published, full_and_update = small_published(rng), small_update(rng)
-    sorts = (prepare, 0, published), (full, 0, full_and_update), (updates, 1, full_and_update)
+    behind = [f"{some_comment(rng)}\n".encode() + data for data in (published[0], full_and_update[1])]
+    sorts = [(prepare, 0, published), (full, 0, full_and_update), (updates, 1, full_and_update)]
+    sorts += [(checks, 0, [data]) for data in behind]
     return [([OfSmall(job, at) for job in jobs], inputs) for jobs, at, inputs in sorts]

@@ -72,6 +72,7 @@ def spelled_as_published(rng, lines, odds):
 NO_HOLIDAYS = (b"Y 260406", b"X260406", b"X 260230", b"X 999999", b"X E 260406", b"x 260406", b"X\t260406", b"\tX", b"\t")
 NO_HOLIDAYS += (b"X 26040", b"X 2604061", b"X 260406,260504", b"X 26 406", b"XE", b"260406", b"X ; remark", b"/!! made by hand")
 NO_HOLIDAYS += (b"X 260406\r", b"X 260406\x00", b"\xa0", b"X \xc2\xa0")
+NO_HOLIDAYS += (b"X" + b" 260406" * 11 + b" 26040", b"E" + b" 260406" * 11 + b"  260431#", b"G".rjust(79) + b" 260406 ~" + b"!" * 90)
 NO_HOLIDAYS += tuple(said.ljust(1001, sign) for said, sign in ((b"#", b"#"), (b"", b" "), (b"X", b" "), (b"X 260406 #", b"\xff")))
 
 
