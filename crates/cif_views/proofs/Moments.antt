@@ -1,5 +1,10 @@
 -- Moments in hours, minutes and seconds.
-use Rattle.std.proofs.Common.{◌≡◌, ℕ, ◌+◌, ◌-◌, ◌*◌, ◌/◌, ◌%◌, ◌^◌, ◌<◌, ◌≤◌, List, ◌∷◌, ◌++◌, ◌∙◌, ap, arith, codes}
+use Rattle.std.proofs.Common.{◌≡◌, ℕ, ◌+◌, ◌-◌, ◌*◌, ◌/◌, ◌%◌, ◌^◌, ◌<◌, ◌≤◌, Bool, true, false, List, [], ◌∷◌, ◌++◌}
+use Rattle.std.proofs.Common.{◌∙◌, ap, append_assoc, arith, codes, decimal, refl, sym}
+use Rattle.std.specs.Prelude.{if◌then◌else◌, nat_lt}
+use Rattle.std.proofs.lemmas.Bool.{ltb-false, ltb-true}
+use Rattle.std.proofs.lemmas.Fmt.{decimal_digit, decimal_step_wide}
+use Rattle.itoa.proofs.Decimal.{decimal_two}
 use Rattle.cif_columns.specs.Digits.{two_digits}
 use Rattle.cif_views.specs.Moments.{IsBy, IsOnTheWay, midnight, time_text, two_digits_or_more}
 
@@ -26,6 +31,33 @@ module _ (d s v : ℕ) (is : d * 86400 + s ≡ v) (within : s < 86400) (from : m
       ∙ ap (λ n. two_digits_or_more ((v - midnight) / 3600) ++ ((58 ∷ two_digits n) ++ (58 ∷ two_digits (s % 60)))) minutes
       ∙ ap (λ n. two_digits_or_more ((v - midnight) / 3600) ++ ((58 ∷ two_digits ((v - midnight) / 60 % 60)) ++ (58 ∷ two_digits n)))
       seconds
+
+-- an hour below 100 has two digits, and a longer one has them behind the others
+by-ten : (n : ℕ) (few : Bool) → nat_lt n 10 ≡ few → n < 100 → two_digits n ≡ (if few then codes "0" ++ decimal n else decimal n)
+by-ten n true is below =
+    let less = ltb-true n 10 is in
+    let tens : 48 + n / 10 ≡ 48 = omega (arith, less) in
+    let ones : 48 + n % 10 ≡ 48 + n = omega (arith, less) in
+    rw (decimal_digit n less, tens, ones) refl
+by-ten n false is below = sym (decimal_two n (ltb-false n 10 is) below)
+
+pub short-hours : (n : ℕ) → n < 100 → two_digits n ≡ two_digits_or_more n
+short-hours n below = by-ten n (nat_lt n 10) refl below
+
+many-tens : (n : ℕ) (few : Bool) → nat_lt n 10 ≡ few → 100 ≤ n → (if few then codes "0" ++ decimal n else decimal n) ≡ decimal n
+many-tens n true is many = let less = ltb-true n 10 is in absurd (omega (arith, less, many))
+many-tens n false is many = refl
+
+pub long-hours : (n : ℕ) → 100 ≤ n → n < 10 ^ 64 → decimal (n / 100) ++ two_digits (n % 100) ≡ two_digits_or_more n
+long-hours n many fits =
+    let hundreds : n / 10 / 10 ≡ n / 100 = omega arith in
+    let tens : n / 10 % 10 ≡ n % 100 / 10 = omega arith in
+    let ones : n % 10 ≡ n % 100 % 10 = omega arith in
+    sym (many-tens n (nat_lt n 10) refl many
+    ∙ decimal_step_wide n (omega (arith, many)) fits
+    ∙ ap (λ (l : List ℕ). l ++ ((48 + n % 10) ∷ [])) (decimal_step_wide (n / 10) (omega (arith, many)) (omega (arith, fits)))
+    ∙ append_assoc (decimal (n / 10 / 10)) ((48 + n / 10 % 10) ∷ []) ((48 + n % 10) ∷ [])
+    ∙ rw (hundreds, tens, ones) refl)
 
 -- a journey of so many moments is on its way
 pub on-the-way : (n m : ℕ) → n ≤ 2 ^ 65 → IsBy n m → IsOnTheWay m

@@ -3,7 +3,7 @@ use Rattle.std.proofs.Common.{◌≡◌, ℕ, ◌+◌, ◌-◌, List, [], ◌∷
 use Rattle.std.proofs.Common.{arith, cond, length, refl, sym}
 use Rattle.std.specs.List.{flat_map}
 use Rattle.std.proofs.lemmas.Grind.{flat_map-append}
-use Rattle.cif_views.specs.PublicCalls.{activities_in, activities_of, pick_up, public_call, public_fields, public_from, set_down, step}
+use Rattle.cif_views.specs.PublicCalls.{activities_in, activities_of, pick_up, public_call, public_fields, public_from, set_down, step, step_at}
 use Rattle.cif_views.specs.Moments.{midnight, time_text}
 use Rattle.cif_views.specs.PublicCalls.{platform_in, times_in, times_of}
 use Rattle.cif_views.specs.Steps.PublicRows.{behind_schedule, row_of_step}
@@ -14,29 +14,35 @@ use Rattle.cif_views.proofs.TableRows.{behind-row}
 use Rattle.cif_views.proofs.Words.{JourneyKind, Numbered, Tsv, Whole, after, is_call, kind_of_line}
 use Rattle.cif_views.proofs.Words.{number, numbered_from, row_line, text_at}
 
--- what is read of a line of this kind is what is read of the line
-module _ (kind : JourneyKind) (line : List ℕ) (activities : List (List ℕ)) (times : CallTimes) (is_kind : kind ≡ kind_of_line line)
-    (are_activities : activities ≡ activities_in kind line) (are_times : times ≡ times_in kind line) where
-  own-activities : activities ≡ activities_of line
-  own-activities = are_activities ∙ ap (λ (k : JourneyKind). activities_in k line) is_kind
+-- what is said of riders, by what is read of the line
+module _ (line answer : List ℕ) (activities : List (List ℕ)) (times : CallTimes) (are_activities : activities ≡ activities_of line)
+    (are_times : times ≡ times_of line) where
+  pub own-set-down : answer ≡ set_down activities times → answer ≡ set_down (activities_of line) (times_of line)
+  own-set-down is = rw (← are_activities, ← are_times) is
 
-  own-times : times ≡ times_of line
-  own-times = are_times ∙ ap (λ (k : JourneyKind). times_in k line) is_kind
+  pub own-pick-up : answer ≡ pick_up activities times → answer ≡ pick_up (activities_of line) (times_of line)
+  own-pick-up is = rw (← are_activities, ← are_times) is
 
-  pub own-set-down : set_down activities times ≡ set_down (activities_of line) (times_of line)
-  own-set-down = ap (λ (a : List (List ℕ)). set_down a times) own-activities ∙ ap (set_down (activities_of line)) own-times
+-- a step by what is read of the line is that of the line
+pub step-is : (j next : Journey) (shown : Option Shown) (kind : JourneyKind) (line : List ℕ) (times : CallTimes)
+    (activities : List (List ℕ)) → kind ≡ kind_of_line line → times ≡ times_in kind line → activities ≡ activities_in kind line →
+    (next, shown) ≡ step j times activities → (next, shown) ≡ step_at j line
+step-is j next shown kind line times activities is_kind are_times are_activities is =
+    is
+    ∙ ap (λ (t : CallTimes). step j t activities) (are_times ∙ ap (λ (k : JourneyKind). times_in k line) is_kind)
+    ∙ ap (step j (times_of line)) (are_activities ∙ ap (λ (k : JourneyKind). activities_in k line) is_kind)
 
-  pub own-pick-up : pick_up activities times ≡ pick_up (activities_of line) (times_of line)
-  own-pick-up = ap (λ (a : List (List ℕ)). pick_up a times) own-activities ∙ ap (pick_up (activities_of line)) own-times
+pub same-row : (row : List ℕ) (call : ℕ) (j next : Journey) (line : List ℕ) (shown : Option Shown) →
+    (next, shown) ≡ step_at j line → row_of_step row call line shown ≡ row_of_step row call line (step_at j line).1
+same-row row call j next line shown is = ap (λ (p : Journey × Option Shown). row_of_step row call line p.1) is
 
 -- the fields of a public call, as they are appended
-pub own-fields : (kind : JourneyKind) (call : ℕ) (line : List ℕ) (shown : Shown) (arrival departure down up : List ℕ) →
-    kind ≡ kind_of_line line → arrival ≡ time_text (shown.arrival - midnight) → departure ≡ time_text (shown.departure - midnight) →
+pub own-fields : (kind : JourneyKind) (call : ℕ) (line : List ℕ) (shown : Shown) (down up : List ℕ) → kind ≡ kind_of_line line →
     down ≡ set_down (activities_of line) (times_of line) → up ≡ pick_up (activities_of line) (times_of line) →
-    number call ∷ text_at 3 9 line ∷ platform_in kind line ∷ (Whole, arrival) ∷ (Whole, departure) ∷ (Whole, down) ∷ (Whole, up) ∷ []
+    number call ∷ text_at 3 9 line ∷ platform_in kind line ∷ (Whole, time_text (shown.arrival - midnight))
+    ∷ (Whole, time_text (shown.departure - midnight)) ∷ (Whole, down) ∷ (Whole, up) ∷ []
     ≡ behind_schedule call line shown
-own-fields kind call line shown arrival departure down up is_kind is_arrival is_departure is_down is_up =
-    rw (is_kind, is_arrival, is_departure, is_down, is_up) refl
+own-fields kind call line shown down up is_kind is_down is_up = rw (is_kind, is_down, is_up) refl
 
 module _ (schedule : ℕ) where
   -- the rows of the lines that are left
@@ -61,10 +67,10 @@ module _ (schedule : ℕ) where
 
     pub one-line : (text begun : List ℕ) (j next : Journey) (kind : JourneyKind) (call then : ℕ) (lines : List (List ℕ)) (line : List ℕ)
         (rest : List (List ℕ)) → lines ≡ line ∷ rest → begun ≡ after Tsv (number schedule ∷ []) → kind ≡ kind_of_line line →
-        next ≡ (step j kind line).0 → then ≡ cond (is_call kind) (call + 1) call → AreLeft text j call lines →
-        AreLeft (text ++ row_of_step begun call line (step j kind line).1) next then rest
+        next ≡ (step_at j line).0 → then ≡ cond (is_call kind) (call + 1) call → AreLeft text j call lines →
+        AreLeft (text ++ row_of_step begun call line (step_at j line).1) next then rest
     one-line text begun j next kind call then lines line rest is begun_is kind_is next_is then_is left =
-        let shown = step j (kind_of_line line) line in
+        let shown = step_at j line in
         let own = public_call (numbered call line) shown.1 in
         let after_call = cond (is_call (kind_of_line line)) (call + 1) call in
         let same : (text ++ row_of_step (after Tsv (number schedule ∷ [])) call line shown.1) ++ rows_left shown.0 after_call rest ≡ whole =

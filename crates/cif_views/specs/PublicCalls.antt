@@ -233,13 +233,16 @@ abbrev pub behind_shown : Journey → Stay → Option Shown → Journey × Optio
 behind_shown j at None = (record { left = Some at.left; shown = j.shown }, None)
 behind_shown j at (Some p) = (record { left = Some at.left; shown = p.departure }, Some p)
 
--- and what a line of this kind does
-abbrev pub behind_stay : Journey → JourneyKind → List ℕ → Option Stay → Journey × Option Shown
-behind_stay j kind line None = (j, None)
-behind_stay j kind line (Some at) = behind_shown j at (shown_of j.shown at (times_in kind line) (activities_in kind line))
+-- and what a line with these times and activities does, and this line
+abbrev pub behind_stay : Journey → CallTimes → List (List ℕ) → Option Stay → Journey × Option Shown
+behind_stay j t activities None = (j, None)
+behind_stay j t activities (Some at) = behind_shown j at (shown_of j.shown at t activities)
 
-abbrev pub step : Journey → JourneyKind → List ℕ → Journey × Option Shown
-step j kind line = behind_stay j kind line (stay j.left (times_in kind line))
+abbrev pub step : Journey → CallTimes → List (List ℕ) → Journey × Option Shown
+step j t activities = behind_stay j t activities (stay j.left t)
+
+abbrev pub step_at : Journey → List ℕ → Journey × Option Shown
+step_at j line = step j (times_of line) (activities_of line)
 
 abbrev pub public_call : Numbered → Option Shown → List PublicCall
 public_call c None = []
@@ -249,7 +252,7 @@ public_call c (Some p) = record { call = c; arrival = p.arrival; departure = p.d
 abbrev pub public_from : Journey → List Numbered → List PublicCall
 public_from j [] = []
 public_from j (c ∷ lines) =
-    let next = step j (kind_of_line c.line) c.line in public_call c next.1 ++ public_from next.0 lines
+    let next = step_at j c.line in public_call c next.1 ++ public_from next.0 lines
 
 abbrev pub public_calls : ℕ × ScheduleLines → List PublicCall
 public_calls s = public_from at_first (numbered_from s.0 1 s.1.further)

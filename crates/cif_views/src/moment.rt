@@ -1,8 +1,11 @@
 //! Moments of a journey.
-ghost use Rattle.std.specs.Prelude.{◌≡◌, ◌<◌, ◌≤◌, ◌+◌, ◌-◌, ◌*◌, ◌^◌, ◌++◌, ℕ, max};
+ghost use Rattle.std.specs.Prelude.{◌≡◌, ◌<◌, ◌≤◌, ◌+◌, ◌-◌, ◌*◌, ◌/◌, ◌%◌, ◌^◌, ◌++◌, ◌∷◌, ℕ, length, max};
+ghost use Rattle.cif_columns.specs.Digits.{two_digits};
 ghost use Rattle.cif_views.specs.Moments.{IsBy, IsOnTheWay, in_day_from, midnight, time_text};
 
+use crate::table_row::TableRow;
 use arrayvec::ArrayString;
+use cif_canon::Shape;
 use cif_columns::as_text;
 use itoa::Buffer;
 use std::marker::Model;
@@ -20,7 +23,7 @@ const HALF_A_DAY: u32 = 43_200;
 const FIRST_DAY: u128 = 1 << 64;
 
 /// The bytes of the longest text of a moment.
-pub(crate) const LONGEST_TIME: usize = 47;
+const LONGEST_TIME: usize = 47;
 
 /// A time of day. A clause sees its seconds from midnight.
 #[derive(Clone, Copy)]
@@ -132,39 +135,40 @@ impl Moment {
         }
     }
 
-    /// Its time as HH:MM:SS, counted from the midnight at which the schedule's date begins.
-    pub(crate) fn text(self) -> ArrayString<LONGEST_TIME>
+    /// Appends a tab and its time as HH:MM:SS, counted from the midnight at which the schedule's date begins.
+    pub(crate) fn push_to(self, row: &mut TableRow)
         requires from { midnight ≤ self }
         requires early { self < DAY * 2 ^ 100 }
-        ensures { result.bytes ≡ time_text (self - midnight) }
+        requires room { length row.old + 48 ≤ 320 }
+        ensures text { row.new ≡ row.old ++ (9 ∷ time_text (self - midnight)) }
+        ensures len { length row.new ≤ length row.old + 48 }
     {
-        let (hour, minute, second) = (
-            self.seconds / 3_600,
-            self.seconds / 60 % 60,
-            self.seconds % 60,
-        );
-        let hours = (self.day - FIRST_DAY) * 24 + hour as u128;
-        let mut text = ArrayString::new();
-        if hours < 10 {
-            text.push_str("0");
+        let hours = (self.day - FIRST_DAY) * 24 + (self.seconds / 3_600) as u128;
+        if hours < 100 {
+            row.push(Shape::Whole, &clock_text(hours as u8, self.seconds));
+            return;
         }
-        text.push_str(Buffer::new().format(hours));
-        text.push_str(as_text(&[
-            b':',
-            digit(minute / 10),
-            digit(minute % 10),
-            b':',
-            digit(second / 10),
-            digit(second % 10),
-        ]));
-        text
+        let mut text = ArrayString::<LONGEST_TIME>::new();
+        text.push_str(Buffer::new().format(hours / 100));
+        text.push_str(as_text(&clock_text((hours % 100) as u8, self.seconds)));
+        row.push(Shape::Whole, text.as_str().as_bytes());
     }
 }
 
-/// The digit of a number.
-fn digit(number: u32) -> u8
-    requires { number < 10 }
-    ensures { result ≡ 48 + number }
+/// An hour of two digits, and the minute and the second of this time of day.
+fn clock_text(hour: u8, seconds: u32) -> [u8; 8]
+    requires { hour < 100 }
+    ensures { result ≡ two_digits hour ++ ((58 ∷ two_digits (seconds / 60 % 60)) ++ (58 ∷ two_digits (seconds % 60))) }
 {
-    b'0' + number as u8
+    let (minute, second) = ((seconds / 60 % 60) as u8, (seconds % 60) as u8);
+    [
+        b'0' + hour / 10,
+        b'0' + hour % 10,
+        b':',
+        b'0' + minute / 10,
+        b'0' + minute % 10,
+        b':',
+        b'0' + second / 10,
+        b'0' + second % 10,
+    ]
 }

@@ -1,17 +1,17 @@
 //! The public calls of a schedule, as rows of a table.
-ghost use Rattle.std.specs.Prelude.{◌≡◌, ◌<◌, ◌≤◌, ◌+◌, ◌^◌, ◌++◌, ◌∷◌, [], ℕ, IfSome, length};
+ghost use Rattle.std.specs.Prelude.{◌≡◌, ◌<◌, ◌≤◌, ◌+◌, ◌^◌, ◌++◌, ◌∷◌, [], ℕ, IfSome, List, codes, length};
+ghost use Rattle.cif_columns.specs.Activities.{has_code};
 ghost use Rattle.std.specs.List.{flat_map};
 ghost use Rattle.cif_columns.specs.Field.{columns_from};
 ghost use Rattle.cif_canon.specs.Appended.{IsAppended};
 ghost use Rattle.cif_canon.specs.Fields.{after};
 ghost use Rattle.cif_canon.specs.declared.rows.Format.TheVariants.{Tsv};
 ghost use Rattle.cif_views.specs.Moments.{IsBy, IsOnTheWay};
-ghost use Rattle.cif_views.specs.PublicCalls.{activities_in, advertised, answer_of, at_first, is_advertised};
+ghost use Rattle.cif_views.specs.PublicCalls.{activities_in, activities_of, advertised, answer_of, at_first, is_advertised};
 ghost use Rattle.cif_views.specs.PublicCalls.{pick_up, platform_in, public_fields, public_from, reached_moment, says_pick_up};
-ghost use Rattle.cif_views.specs.PublicCalls.{says_set_down, set_down, shown_at, stay, step, times_in, working};
+ghost use Rattle.cif_views.specs.PublicCalls.{says_set_down, set_down, shown_at, stay, step, step_at, times_in, times_of, working};
 ghost use Rattle.cif_views.specs.Steps.PublicRows.{IsJourneyBy, IsStayBy, IsToShow, behind_schedule, row_of_step};
-ghost use Rattle.cif_views.specs.Steps.Columns.{row_behind};
-ghost use Rattle.cif_views.specs.Tables.{numbered_from, row_line};
+ghost use Rattle.cif_views.specs.Tables.{kind_of_line, numbered_from, row_line};
 
 use crate::moment::{Moment, TimeOfDay};
 use crate::table_row::TableRow;
@@ -173,24 +173,6 @@ fn is_advertised(activities: &Activities) -> bool
     !activities.has(b"N ") && !activities.has(b"S ")
 }
 
-/// Whether riders may get off: 0 yes, 1 no, 3 on request.
-fn set_down(activities: &Activities, times: &CallTimes) -> &'static str
-    ensures text { result.now ≡ set_down activities.now times.now }
-    ensures len { length result.now ≡ 1 }
-{
-    let by_times = !says_pick_up(activities) && times.public_arrival.is_some();
-    answer_of(says_set_down(activities) || by_times, activities)
-}
-
-/// Whether riders may get on, likewise.
-fn pick_up(activities: &Activities, times: &CallTimes) -> &'static str
-    ensures text { result.now ≡ pick_up activities.now times.now }
-    ensures len { length result.now ≡ 1 }
-{
-    let by_times = !says_set_down(activities) && times.public_departure.is_some();
-    answer_of(says_pick_up(activities) || by_times, activities)
-}
-
 /// Whether an activity says that riders may get off.
 fn says_set_down(activities: &Activities) -> bool
     ensures { result ≡ says_set_down activities.now }
@@ -205,16 +187,27 @@ fn says_pick_up(activities: &Activities) -> bool
     activities.has(b"T ") || activities.has(b"U ") || activities.has(b"TB")
 }
 
-/// The text for whether riders may.
-fn answer_of(may: bool, activities: &Activities) -> &'static str
-    ensures text { result.now ≡ answer_of may activities.now }
-    ensures len { length result.now ≡ 1 }
+/// What is said for whether riders may: 0 yes, 1 no, 3 on request.
+fn answer_of(may: bool, on_request: bool) -> u8
+    ensures { (activities : List (List ℕ)) → on_request ≡ has_code activities (codes "R ") → result ∷ [] ≡ answer_of may activities }
 {
-    match (may, activities.has(b"R ")) {
-        (false, _) => "1",
-        (true, true) => "3",
-        (true, false) => "0",
+    match (may, on_request) {
+        (false, _) => b'1',
+        (true, true) => b'3',
+        (true, false) => b'0',
     }
+}
+
+/// Whether riders may get off, and whether they may get on.
+fn answers_of(activities: &Activities, times: &CallTimes) -> (u8, u8)
+    ensures set_down { result.0 ∷ [] ≡ set_down activities.now times.now }
+    ensures pick_up { result.1 ∷ [] ≡ pick_up activities.now times.now }
+{
+    let (down, up) = (says_set_down(activities), says_pick_up(activities));
+    let on_request = activities.has(b"R ");
+    let down_by_time = !up && times.public_arrival.is_some();
+    let up_by_time = !down && times.public_departure.is_some();
+    (answer_of(down || down_by_time, on_request), answer_of(up || up_by_time, on_request))
 }
 
 /// What goes on from call to call.
@@ -227,20 +220,20 @@ struct Journey {
 }
 
 impl Journey {
-    /// The moments of the line, if it is a public call; the journey goes on behind it.
-    fn step(&mut self, kind: JourneyKind, line: &Line) -> Option<Shown>
+    /// The moments of a line with these times and activities, if it is a public call; the journey goes on
+    /// behind it.
+    fn step(&mut self, times: &CallTimes, activities: &Activities) -> Option<Shown>
         requires { (n : ℕ) × (n ≤ 2 ^ 64) × IsJourneyBy n self.old }
-        ensures exact { (self.new, result) ≡ step self.old kind line.now }
+        ensures exact { (self.new, result) ≡ step self.old times.now activities.now }
         ensures by { (n : ℕ) → IsJourneyBy n self.old → IsJourneyBy (n + 2) self.new }
         ensures shown { IfSome result IsToShow }
     {
-        let times = CallTimes::of(kind, line);
         let Some(stay) = times.stay(self.left) else {
             return None;
         };
         self.left = Some(stay.left);
         let shown = times.shown(self.shown, &stay)?;
-        if !is_advertised(&activities_of(kind, line)) {
+        if !is_advertised(activities) {
             return None;
         }
         self.shown = shown.departure;
@@ -248,46 +241,33 @@ impl Journey {
     }
 }
 
-/// Appends the row of a public call behind what it begins with.
-fn write_public_call<W: WriteDevice>(
+/// Appends the number of a public call with these times and activities, and its fields.
+fn push_public_call(
     row: &mut TableRow,
     call: usize,
     line: &Line,
+    times: &CallTimes,
+    activities: &Activities,
     shown: &Shown,
-    sink: &mut Sink<W>,
 )
-    requires begun { 0 < length row.old }
     requires room { length row.old ≤ 41 }
-    requires shown { IsToShow shown.now }
-    ensures text { IsAppended W.contents W.write_errors
-        (row_behind row.old (behind_schedule call line.now shown.now)) sink.old sink.new }
-    ensures same { row.new ≡ row.old }
-{
-    let begun = row.len();
-    push_public_call(row, call, line, shown);
-    row.write_and_keep(begun, sink);
-}
-
-/// Appends the number of a public call, and its fields.
-fn push_public_call(row: &mut TableRow, call: usize, line: &Line, shown: &Shown)
-    requires room { length row.old ≤ 41 }
+    requires times { times.now ≡ times_of line.now }
+    requires activities { activities.now ≡ activities_of line.now }
     requires shown { IsToShow shown.now }
     ensures text { row.new ≡ row.old ++ after Tsv (behind_schedule call line.now shown.now) }
     ensures len { length row.new ≤ 300 }
 {
-    let kind = kind_of_line(line);
-    let times = CallTimes::of(kind, line);
-    let activities = activities_of(kind, line);
+    let (set_down, pick_up) = answers_of(activities, times);
     row.push_number(call);
     row.push(Shape::Trimmed, &columns_at::<7>(line, 3));
-    push_platform(row, kind, line);
-    row.push(Shape::Whole, shown.arrival.text().as_str().as_bytes());
-    row.push(Shape::Whole, shown.departure.text().as_str().as_bytes());
-    row.push(Shape::Whole, set_down(&activities, &times).as_bytes());
-    row.push(Shape::Whole, pick_up(&activities, &times).as_bytes());
+    push_platform(row, kind_of_line(line), line);
+    shown.arrival.push_to(row);
+    shown.departure.push_to(row);
+    row.push(Shape::Whole, &[set_down]);
+    row.push(Shape::Whole, &[pick_up]);
 }
 
-/// Appends the row of the line, if it is a public call. The journey goes on behind it.
+/// Appends the row of the line, which is of this kind, if it is a public call. The journey goes on behind it.
 fn write_step<W: WriteDevice>(
     journey: &mut Journey,
     row: &mut TableRow,
@@ -299,14 +279,21 @@ fn write_step<W: WriteDevice>(
     requires by { (n : ℕ) × (n ≤ 2 ^ 64) × IsJourneyBy n journey.old }
     requires begun { 0 < length row.old }
     requires room { length row.old ≤ 41 }
+    requires kind { kind ≡ kind_of_line line.now }
     ensures text { IsAppended W.contents W.write_errors
-        (row_of_step row.old call line.now (step journey.old kind line.now).1) sink.old sink.new }
-    ensures journey { journey.new ≡ (step journey.old kind line.now).0 }
+        (row_of_step row.old call line.now (step_at journey.old line.now).1) sink.old sink.new }
+    ensures journey { journey.new ≡ (step_at journey.old line.now).0 }
     ensures by { (n : ℕ) → IsJourneyBy n journey.old → IsJourneyBy (n + 2) journey.new }
     ensures same { row.new ≡ row.old }
 {
-    match journey.step(kind, line) {
-        Some(shown) => write_public_call(row, call, line, &shown, sink),
+    let times = CallTimes::of(kind, line);
+    let activities = activities_of(kind, line);
+    match journey.step(&times, &activities) {
+        Some(shown) => {
+            let begun = row.len();
+            push_public_call(row, call, line, &times, &activities, &shown);
+            row.write_and_keep(begun, sink);
+        }
         None => {}
     }
 }

@@ -1,11 +1,11 @@
 //! The rows of tables, field by field.
-ghost use Rattle.std.specs.Prelude.{◌≡◌, ◌<◌, ◌≤◌, ◌+◌, ◌-◌, ◌++◌, ◌∷◌, [], IsTrue, codes, drop, length, replicate, take};
+ghost use Rattle.std.specs.Prelude.{◌≡◌, ◌<◌, ◌≤◌, ◌+◌, ◌-◌, ◌++◌, ◌∷◌, [], IsTrue, List, codes, drop, length, replicate, take, ℕ};
 ghost use Rattle.cif_columns.specs.Field.{columns};
 ghost use Rattle.cif_canon.specs.Appended.{IsAppended};
-ghost use Rattle.cif_canon.specs.Fields.{after, in_table, nothing, width_of};
+ghost use Rattle.cif_canon.specs.Fields.{Field, after, in_table, nothing, width_of};
 ghost use Rattle.cif_canon.specs.declared.rows.Format.TheVariants.{Tsv};
 ghost use Rattle.cif_views.specs.Steps.Columns.{IsOfShape, are_within, field_in, fields_in, is_span, is_within};
-ghost use Rattle.cif_views.specs.Steps.Columns.{name_fields, named, room_for, room_for_names, room_of};
+ghost use Rattle.cif_views.specs.Steps.Columns.{name_fields, named, room_for, room_for_names, room_of, row_behind};
 ghost use Rattle.cif_views.specs.DifferenceTable.{text};
 ghost use Rattle.cif_views.specs.Tables.{number, yymmdd_from};
 
@@ -103,6 +103,10 @@ impl TableRow {
         ensures text { self.new ≡ self.old ++ after Tsv (number count ∷ []) }
         ensures len { length self.new ≤ length self.old + 41 }
     {
+        if count < 10 {
+            self.push(Shape::Whole, &[b'0' + count as u8]);
+            return;
+        }
         self.push(Shape::Whole, Buffer::new().format(count).as_bytes());
     }
 
@@ -146,6 +150,18 @@ impl TableRow {
             Place::Date(_, _) => self.push_shaped(Shape::Date, columns),
             Place::DayFirst(_, _) => self.push_shaped(Shape::Date, &year_first(columns)),
         }
+    }
+
+    /// The same, of a copy of the line.
+    // So the compiler knows that no byte of the line is one of the row.
+    #[inline(always)]
+    pub(crate) fn push_of_copy(&mut self, place: &Place, kind: JourneyKind, line: Line)
+        requires within { IsTrue (is_within place.now) }
+        requires room { length self.old + room_of place.now ≤ ROOM }
+        ensures text { self.new ≡ self.old ++ after Tsv (field_in kind line place.now ∷ []) }
+        ensures len { length self.new ≤ length self.old + room_of place.now }
+    {
+        self.push_field(place, kind, &line);
     }
 
     /// Appends a tab and a field, as `push` does.
@@ -196,13 +212,14 @@ impl TableRow {
         let _ = sink.write_all(&self.bytes[1..self.len + 1]);
     }
 
-    /// The same, and then keeps the first `begun` bytes of the row alone.
+    /// The same, and then keeps what the row began with alone, which had so many bytes.
     pub(crate) fn write_and_keep<W: WriteDevice>(&mut self, begun: usize, sink: &mut Sink<W>)
-        requires some { 0 < length self.old }
-        requires room { length self.old + 1 ≤ ROOM }
+        requires some { 0 < begun }
         requires begun { begun ≤ length self.old }
-        ensures text { IsAppended W.contents W.write_errors (drop 1 self.old ++ codes "\n") sink.old sink.new }
-        ensures begun { self.new ≡ take begun self.old }
+        requires room { length self.old + 1 ≤ ROOM }
+        ensures text { (row : List ℕ) (fields : List Field) → self.old ≡ row ++ after Tsv fields → begun ≡ length row
+            → IsAppended W.contents W.write_errors (row_behind row fields) sink.old sink.new }
+        ensures same { (row : List ℕ) (fields : List Field) → self.old ≡ row ++ after Tsv fields → begun ≡ length row → self.new ≡ row }
     {
         self.write(sink);
         self.truncate(begun);

@@ -7,13 +7,13 @@ ghost use Rattle.cif_canon.specs.Appended.{IsAppended};
 ghost use Rattle.cif_canon.specs.Fields.{after, line_of};
 ghost use Rattle.cif_canon.specs.Lines.{line_of_tiploc, schedule_plain};
 ghost use Rattle.cif_canon.specs.declared.rows.Format.TheVariants.{Tsv};
-ghost use Rattle.cif_views.specs.Steps.Columns.{are_within, call_columns, change_columns, fields_in};
-ghost use Rattle.cif_views.specs.Steps.Columns.{name_fields, named, room_for, room_for_names, row_behind};
-ghost use Rattle.cif_views.specs.Steps.TableRows.{journey_rows, row_of_kind};
+ghost use Rattle.cif_views.specs.Steps.Columns.{are_within, call_columns, fields_in};
+ghost use Rattle.cif_views.specs.Steps.Columns.{name_fields, named, room_for, room_for_names};
+ghost use Rattle.cif_views.specs.Steps.TableRows.{has_row, journey_columns, journey_rows, row_of_kind};
 ghost use Rattle.cif_views.specs.Tables.{extra_in, is_call, kind_of_line, number, numbered_schedule, row_line, schedule_fields};
 ghost use Rattle.cif_views.specs.TableText.{table_heading, table_text};
 ghost use Rattle.cif_views.specs.Tables.{tiploc_fields};
-ghost use Rattle.cif_views.specs.declared.tables.JourneyKind.TheVariants.{Change, Origin, Other, Stop, Terminus};
+ghost use Rattle.cif_views.specs.declared.tables.JourneyKind.TheVariants.{Other};
 
 use crate::columns::{
     ASSOCIATION, BASIC, CALL, CHANGE, Column, EXTRA, HEADER, NUMBERS, PUBLIC, TIPLOC,
@@ -237,6 +237,17 @@ pub(crate) fn call_after(call: usize, kind: JourneyKind) -> usize
     }
 }
 
+/// Whether the table of the calls, or else that of the changes, has a row of a line of this kind.
+fn has_row(calls: bool, kind: JourneyKind) -> bool
+    ensures { result ≡ has_row calls kind }
+{
+    match kind {
+        JourneyKind::Origin | JourneyKind::Stop | JourneyKind::Terminus => calls,
+        JourneyKind::Change => !calls,
+        JourneyKind::Other => false,
+    }
+}
+
 /// Appends the row of a line behind what it begins with, if the table has one of it.
 fn write_numbered<W: WriteDevice>(
     calls: bool,
@@ -251,131 +262,52 @@ fn write_numbered<W: WriteDevice>(
     ensures text { IsAppended W.contents W.write_errors (row_of_kind calls row.old call kind line.now) sink.old sink.new }
     ensures same { row.new ≡ row.old }
 {
-    if calls {
-        match kind {
-            JourneyKind::Origin => write_call(row, call, JourneyKind::Origin, line, sink),
-            JourneyKind::Stop => write_call(row, call, JourneyKind::Stop, line, sink),
-            JourneyKind::Terminus => write_call(row, call, JourneyKind::Terminus, line, sink),
-            JourneyKind::Change => {}
-            JourneyKind::Other => {}
-        }
-    } else {
-        match kind {
-            JourneyKind::Change => write_change(row, call, line, sink),
-            JourneyKind::Origin => {}
-            JourneyKind::Stop => {}
-            JourneyKind::Terminus => {}
-            JourneyKind::Other => {}
-        }
+    if !has_row(calls, kind) {
+        return;
     }
-}
-
-/// Appends the row of a call of this kind behind what it begins with.
-fn write_call<W: WriteDevice>(
-    row: &mut TableRow,
-    call: usize,
-    kind: JourneyKind,
-    line: &Line,
-    sink: &mut Sink<W>,
-)
-    requires begun { 0 < length row.old }
-    requires room { length row.old ≤ 41 }
-    requires call { IsTrue (is_call kind) }
-    ensures text { IsAppended W.contents W.write_errors
-        (row_behind row.old (number call ∷ fields_in kind call_columns line.now)) sink.old sink.new }
-    ensures same { row.new ≡ row.old }
-{
     let begun = row.len();
-    push_call(row, call, kind, line);
+    push_numbered(calls, row, call, kind, line);
     row.write_and_keep(begun, sink);
 }
 
-/// Appends the number of a call of this kind, and its fields.
-fn push_call(row: &mut TableRow, call: usize, kind: JourneyKind, line: &Line)
+/// Appends the number of a call, and the fields of a call or of a change.
+fn push_numbered(calls: bool, row: &mut TableRow, call: usize, kind: JourneyKind, line: &Line)
     requires room { length row.old ≤ 41 }
-    requires call { IsTrue (is_call kind) }
-    ensures text { row.new ≡ row.old ++ after Tsv (number call ∷ fields_in kind call_columns line.now) }
+    ensures text { row.new ≡ row.old ++ after Tsv (number call ∷ fields_in kind (journey_columns calls) line.now) }
     ensures len { length row.new ≤ 300 }
 {
-    match kind {
-        JourneyKind::Origin => push_origin(row, call, line),
-        JourneyKind::Stop => push_stop(row, call, line),
-        JourneyKind::Terminus => push_terminus(row, call, line),
-        JourneyKind::Change | JourneyKind::Other => unreachable!(),
+    row.push_number(call);
+    match (calls, kind) {
+        (false, _) => row.push_each(&CHANGE, kind, line),
+        (true, JourneyKind::Origin) => push_call(row, JourneyKind::Origin, line),
+        (true, JourneyKind::Stop) => push_call(row, JourneyKind::Stop, line),
+        (true, JourneyKind::Terminus) => push_call(row, JourneyKind::Terminus, line),
+        (true, _) => row.push_each(&CALL, kind, line),
     }
 }
 
-/// Appends all fields of a call. Kind and field are known where this stands, so the compiler knows the columns
-/// that are copied: nearly all rows are such.
-macro_rules! push_fields {
-    ($row:expr, $kind:expr, $line:expr) => {
-        $row.push_field(&CALL[0].1, $kind, $line);
-        $row.push_field(&CALL[1].1, $kind, $line);
-        $row.push_field(&CALL[2].1, $kind, $line);
-        $row.push_field(&CALL[3].1, $kind, $line);
-        $row.push_field(&CALL[4].1, $kind, $line);
-        $row.push_field(&CALL[5].1, $kind, $line);
-        $row.push_field(&CALL[6].1, $kind, $line);
-        $row.push_field(&CALL[7].1, $kind, $line);
-        $row.push_field(&CALL[8].1, $kind, $line);
-        $row.push_field(&CALL[9].1, $kind, $line);
-        $row.push_field(&CALL[10].1, $kind, $line);
-        $row.push_field(&CALL[11].1, $kind, $line);
-        $row.push_field(&CALL[12].1, $kind, $line);
-        $row.push_field(&CALL[13].1, $kind, $line);
-        $row.push_field(&CALL[14].1, $kind, $line);
-    };
-}
-
-/// Appends the number of an LO, and its fields.
-fn push_origin(row: &mut TableRow, call: usize, line: &Line)
-    requires { length row.old ≤ 41 }
-    ensures text { row.new ≡ row.old ++ after Tsv (number call ∷ fields_in Origin call_columns line.now) }
+/// Appends the fields of a call of this kind.
+// Nearly all rows are such. The kind and the field are known where this stands: so the compiler knows which
+// columns are copied.
+#[inline(always)]
+fn push_call(row: &mut TableRow, kind: JourneyKind, line: &Line)
+    requires { length row.old ≤ 82 }
+    ensures text { row.new ≡ row.old ++ after Tsv (fields_in kind call_columns line.now) }
     ensures len { length row.new ≤ 300 }
 {
-    row.push_number(call);
-    push_fields!(row, JourneyKind::Origin, line);
-}
-
-/// Appends the number of an LI, and its fields.
-fn push_stop(row: &mut TableRow, call: usize, line: &Line)
-    requires { length row.old ≤ 41 }
-    ensures text { row.new ≡ row.old ++ after Tsv (number call ∷ fields_in Stop call_columns line.now) }
-    ensures len { length row.new ≤ 300 }
-{
-    row.push_number(call);
-    push_fields!(row, JourneyKind::Stop, line);
-}
-
-/// Appends the number of an LT, and its fields.
-fn push_terminus(row: &mut TableRow, call: usize, line: &Line)
-    requires { length row.old ≤ 41 }
-    ensures text { row.new ≡ row.old ++ after Tsv (number call ∷ fields_in Terminus call_columns line.now) }
-    ensures len { length row.new ≤ 300 }
-{
-    row.push_number(call);
-    push_fields!(row, JourneyKind::Terminus, line);
-}
-
-/// Appends the row of a change behind what it begins with.
-fn write_change<W: WriteDevice>(row: &mut TableRow, call: usize, line: &Line, sink: &mut Sink<W>)
-    requires begun { 0 < length row.old }
-    requires room { length row.old ≤ 41 }
-    ensures text { IsAppended W.contents W.write_errors
-        (row_behind row.old (number call ∷ fields_in Change change_columns line.now)) sink.old sink.new }
-    ensures same { row.new ≡ row.old }
-{
-    let begun = row.len();
-    push_change(row, call, line);
-    row.write_and_keep(begun, sink);
-}
-
-/// Appends the number of the next call, and the fields of a change.
-fn push_change(row: &mut TableRow, call: usize, line: &Line)
-    requires { length row.old ≤ 41 }
-    ensures text { row.new ≡ row.old ++ after Tsv (number call ∷ fields_in Change change_columns line.now) }
-    ensures len { length row.new ≤ 300 }
-{
-    row.push_number(call);
-    row.push_each(&CHANGE, JourneyKind::Change, line);
+    row.push_of_copy(&CALL[0].1, kind, *line);
+    row.push_of_copy(&CALL[1].1, kind, *line);
+    row.push_of_copy(&CALL[2].1, kind, *line);
+    row.push_of_copy(&CALL[3].1, kind, *line);
+    row.push_of_copy(&CALL[4].1, kind, *line);
+    row.push_of_copy(&CALL[5].1, kind, *line);
+    row.push_of_copy(&CALL[6].1, kind, *line);
+    row.push_of_copy(&CALL[7].1, kind, *line);
+    row.push_of_copy(&CALL[8].1, kind, *line);
+    row.push_of_copy(&CALL[9].1, kind, *line);
+    row.push_of_copy(&CALL[10].1, kind, *line);
+    row.push_of_copy(&CALL[11].1, kind, *line);
+    row.push_of_copy(&CALL[12].1, kind, *line);
+    row.push_of_copy(&CALL[13].1, kind, *line);
+    row.push_of_copy(&CALL[14].1, kind, *line);
 }

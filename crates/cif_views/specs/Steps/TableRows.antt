@@ -3,17 +3,26 @@ use Rattle.std.specs.Prelude.{ℕ, Bool, true, false, List, [], ◌∷◌, cond}
 use Rattle.std.specs.List.{flat_map}
 use Rattle.cif_canon.specs.Lines.{ScheduleLines}
 use Rattle.cif_views.specs.PublicCalls.{public_calls, public_fields}
-use Rattle.cif_views.specs.Steps.Columns.{call_columns, change_columns, fields_in, row_behind}
+use Rattle.cif_views.specs.Steps.Columns.{Column, call_columns, change_columns, fields_in, row_behind}
 use Rattle.cif_views.specs.Tables.{Numbered, call_fields, calls_of, change_fields, changes_of, is_call, is_change, kind_of_line}
 use Rattle.cif_views.specs.Tables.{number, numbered_from, numbered_schedule, row_line, schedule_fields}
 use Rattle.cif_views.specs.declared.tables.JourneyKind.{JourneyKind}
 use Rattle.cif_views.specs.declared.tables.Table.{Table}
 use Rattle.cif_views.specs.declared.tables.Table.TheVariants.{Associations, Calls, Changes, Header, Public, Schedules, Tiplocs}
 
--- the row of a line of this kind behind what it begins with, in the table of the calls or in that of the changes; other lines have none
+-- whether the table of the calls, or else that of the changes, has a row of a line of this kind; and its columns
+abbrev pub has_row : Bool → JourneyKind → Bool
+has_row true kind = is_call kind
+has_row false kind = is_change kind
+
+abbrev pub journey_columns : Bool → List Column
+journey_columns true = call_columns
+journey_columns false = change_columns
+
+-- the row of a line of this kind behind what it begins with; other lines have none
 abbrev pub row_of_kind : Bool → List ℕ → ℕ → JourneyKind → List ℕ → List ℕ
-row_of_kind true begun call kind line = cond (is_call kind) (row_behind begun (number call ∷ fields_in kind call_columns line)) []
-row_of_kind false begun call kind line = cond (is_change kind) (row_behind begun (number call ∷ fields_in kind change_columns line)) []
+row_of_kind calls begun call kind line =
+    cond (has_row calls kind) (row_behind begun (number call ∷ fields_in kind (journey_columns calls) line)) []
 
 -- the rows that a table of calls or of changes has of a numbered line
 abbrev pub rows_of : Bool → Numbered → List ℕ

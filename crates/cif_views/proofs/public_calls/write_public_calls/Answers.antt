@@ -1,6 +1,6 @@
 -- One line more is written (`one-line`).
 use Rattle.std.proofs.Common.{◌+◌, ◌++◌, ◌∙◌, ap, arith, length}
-use Rattle.cif_views.specs.PublicCalls.{step}
+use Rattle.cif_views.specs.PublicCalls.{step_at}
 use Rattle.cif_views.specs.Steps.PublicRows.{row_of_step}
 use Rattle.cif_canon.proofs.AppendedTexts.{both}
 use Rattle.cif_views.proofs.PublicRows.{one-line}
@@ -17,7 +17,7 @@ loop-lines-preserved g c =
     let some = some-lines lines _ c.is_empty.ensures c.loop-lines-test.true in
     let is = first-and-rest lines line c.rest-lines.result some c.first-line.ensures c.rest-lines.ensures in
     let long = ap length is in (
-      text ++ row_of_step c.loop-lines.row c.loop-lines.call line (step c.loop-lines.journey kind line).1,
+      text ++ row_of_step c.loop-lines.row c.loop-lines.call line (step_at c.loop-lines.journey line).1,
       both _ _ text _ _ _ _ written c.write_step.ensures.text,
       one-line c.args.schedule _ text c.loop-lines.row c.loop-lines.journey _ kind c.loop-lines.call _ lines line _ is begun
           c.kind_of_line-kind.ensures c.write_step.ensures.journey c.call_after-call.ensures left,

@@ -1,8 +1,19 @@
--- The row is that of the kind of the line.
+-- The table has a row of the line, and its fields go behind the number of the schedule.
+use Rattle.std.proofs.Common.{◌∷◌, [], ap, cond}
+use Rattle.cif_canon.proofs.AppendedTexts.{text-is}
+use Rattle.cif_views.specs.Steps.TableRows.{journey_columns}
+use Rattle.cif_views.proofs.Words.{fields_in, number, row_behind}
 use Rattle.cif_views.proofs.tables.write_numbered.Goals as goal
 
-pub returns-in-Stop-clause-text : goal.returns-in-Stop-clause-text
-returns-in-Stop-clause-text g c = rw (c.if-calls.true, c.in-Stop.is) c.write_call-in-Stop.ensures.text
+pub returns-clause-text : goal.returns-clause-text
+returns-clause-text g c =
+    let fields = number c.args.call ∷ fields_in c.args.kind (journey_columns c.args.calls) c.args.line.now in
+    text-is _ _ _ _ _ _
+    (ap (λ has. cond has (row_behind c.args.row.now fields) []) (c.if-not-has_row.ensures tt))
+    (c.write_and_keep.ensures.text c.args.row.now fields c.push_numbered.ensures.text c.len-begun.ensures)
 
-pub returns-in-Change-kind-clause-text : goal.returns-in-Change-kind-clause-text
-returns-in-Change-kind-clause-text g c = rw (c.if-calls.false, c.in-Change-kind.is) c.write_change.ensures.text
+pub returns-clause-same : goal.returns-clause-same
+returns-clause-same g c =
+    c.write_and_keep.ensures.same c.args.row.now
+    (number c.args.call ∷ fields_in c.args.kind (journey_columns c.args.calls) c.args.line.now) c.push_numbered.ensures.text
+    c.len-begun.ensures
