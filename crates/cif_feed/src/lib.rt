@@ -3,7 +3,7 @@
 
 mod changes;
 mod cut_count;
-mod drop_clashes;
+mod dropped;
 mod feed;
 mod feed_reading;
 mod from_lines;
@@ -13,7 +13,7 @@ mod holidays;
 mod judged;
 pub mod laws;
 mod mark;
-mod part;
+mod parts;
 mod prepare;
 mod prepared_record;
 mod profile_line;
@@ -27,6 +27,7 @@ mod written;
 mod written_prepared;
 
 pub use changes::{Action, Change, Keyed, RefusedLine, apply};
+pub use dropped::{Dropped, DroppedKey};
 pub use feed::{Feed, FeedFault};
 pub use feed_reading::Passed;
 pub use holiday_code::{HolidayCode, HolidayCodes};
@@ -34,7 +35,6 @@ pub use holiday_text::HolidayFault;
 pub use holidays::Holidays;
 pub use judged::Judged;
 pub use mark::Transaction;
-pub use part::Part;
 pub use prepare::Prepared;
 pub use prepared_record::PreparedRecord;
 pub use published::{PublishedAssociation, PublishedSchedule};

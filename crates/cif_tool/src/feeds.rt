@@ -8,9 +8,9 @@ use crate::message::{Message, tell_line};
 use crate::status::{DONE, REFUSED, status};
 use arrayvec::ArrayString;
 use cif_columns::{MAX_LINES, ReadDevice, Sink, Source, WriteDevice};
-use cif_extract::{Clash, Fault};
+use cif_extract::Fault;
 use cif_feed::{
-    FeedFault, HolidayCodes, HolidayFault, Holidays, Outcome, Passed, PublishedExtract,
+    Dropped, DroppedKey, FeedFault, HolidayCodes, HolidayFault, Holidays, Outcome, Passed, PublishedExtract,
     RefusedLine, write_prepared,
 };
 use cif_records::Header;
@@ -54,8 +54,8 @@ pub(crate) fn feed_task<R: Files + Input + Print + AllocGlobal, W: WriteDevice>(
 struct Told {
     /// The lines that don't fit, and were applied anyway.
     waived: Vec<RefusedLine>,
-    /// The clashes whose records were left out.
-    dropped: Vec<Clash>,
+    /// The keys that were left out on some dates.
+    dropped: Vec<DroppedKey>,
     /// Whether more is said.
     verbose: bool,
     /// What `--verbose` says where all was done.
@@ -93,6 +93,7 @@ impl Told {
         input: &ExtractInput<'_, R>,
         extract: &PublishedExtract,
         holidays: &Holidays,
+        cut_by_clashes: Option<usize>,
     ) {
         if self.verbose {
             let mut text = counts_of(&extract.passed, open_ends_of(extract));
@@ -101,6 +102,9 @@ impl Told {
                 ", records cut by holidays: {}",
                 extract.count_cut(holidays)
             );
+            if let Some(count) = cut_by_clashes {
+                let _ = write!(text, ", records cut by clashes: {count}");
+            }
             add_counts(input, &extract.header, &text, &mut self.counts);
         }
     }
@@ -174,7 +178,7 @@ impl Told {
         TaskFault::Feed(FeedFault::Extract(fault))
     }
 
-    /// Names each line that was waived, and each clash whose records were left out.
+    /// Names each line that was waived, and each key that was left out on some dates.
     fn tell<W: WriteDevice>(&self, errors: &mut Sink<W>) {
         for line in self.waived.as_slice() {
             tell_line(
@@ -182,8 +186,8 @@ impl Told {
                 errors,
             );
         }
-        for clash in self.dropped.as_slice() {
-            tell_line(&["cif: dropped: ", clash.text().as_str(), "\n"], errors);
+        for key in self.dropped.as_slice() {
+            tell_line(&["cif: dropped: ", key.text().as_str(), "\n"], errors);
         }
     }
 }
@@ -273,10 +277,11 @@ fn prepare_with<R: Files + Input + Print + AllocGlobal>(
         &mut kept,
     ) {
         Ok(dropped) => {
-            told.dropped = dropped;
             if let Some(extract) = kept.as_ref() {
-                told.add_prepared(source.reader(), extract, holidays);
+                let count = drop_clashes.then_some(dropped.records);
+                told.add_prepared(source.reader(), extract, holidays, count);
             }
+            told.dropped = dropped.keys;
             Ok(())
         }
         Err(fault) => Err(told.fault(alloc, fault, source.reader(), &written)),
@@ -291,7 +296,7 @@ fn prepared<R: ReadDevice, W: WriteDevice + Drop>(
     holidays: &Holidays,
     drop_clashes: bool,
     kept: &mut Option<PublishedExtract>,
-) -> Result<Vec<Clash>, FeedFault> {
+) -> Result<Dropped, FeedFault> {
     let mut output = buffered(alloc, output).map_err(FeedFault::Extract)?;
     let dropped = write_prepared(
         alloc,
