@@ -9,7 +9,7 @@ use Rattle.cif_calendar.specs.declared.day_state.DayState.{DayState}
 use Rattle.cif_calendar.specs.declared.day_state.DayState.TheVariants as state
 use Rattle.cif_calendar.specs.declared.stretch.Stretch.{Stretch}
 use Rattle.cif_calendar.proofs.Sets.{IsClash-same, IsClear-same, Wins-same}
-use Rattle.cif_calendar.proofs.Words.{IsChosen, Records, SameRecords, Terms}
+use Rattle.cif_calendar.proofs.Words.{Records, SameRecords, Terms}
 
 -- ---- one state
 
@@ -50,33 +50,27 @@ module _ {B : Type 0} (records : Records B) (first to : ℕ) (states more : List
     each = each-more;
   })
 
--- The states of the days before `to` stand, and the stretches that are left follow, from day `first` on.
-pub record AreStatesOf {B : Type 0} (xs : List (Terms B)) (members : List ℕ) (from last first : ℕ) (ss : List Stretch)
-    (states : List DayState) : Type 0 where
+-- P holds of what was made of the days before `to`, and the stretches that are left follow, from day `first` on.
+pub record IsMadeOf {B S : Type 0} (P : ℕ → List S → Type 0) (xs : List (Terms B)) (members : List ℕ) (last first : ℕ) (ss : List Stretch)
+    (made : List S) : Type 0 where
   pub to : ℕ
-  pub so_far : AreDayStates (IsChosen xs members) from to states
+  pub so_far : P to made
   pub next : to ≤ last → first ≡ to
   pub ahead : AreStretches xs members members (last + 1) to (last + 1) ss
 
-module _ {B : Type 0} (xs : List (Terms B)) (members : List ℕ) (from last : ℕ) where
-  pub states-none : (ss : List Stretch) → AreStretches xs members members (last + 1) from (last + 1) ss
-      → AreStatesOf xs members from last from ss []
-  states-none ss ahead = record {
-    to = from;
-    so_far = record { many = omega arith; each = λ i below. absurd (omega arith) };
-    next = λ _. refl;
-    ahead = ahead;
-  }
+module _ {B S : Type 0} (P : ℕ → List S → Type 0) (xs : List (Terms B)) (members : List ℕ) (last : ℕ) where
+  pub made-none : (from : ℕ) → P from [] → (ss : List Stretch) → AreStretches xs members members (last + 1) from (last + 1) ss
+      → IsMadeOf P xs members last from ss []
+  made-none from none ss ahead = record { to = from; so_far = none; next = λ _. refl; ahead = ahead }
 
-  pub states-all : (first : ℕ) (ss : List Stretch) (states : List DayState) → AreStatesOf xs members from last first ss states → ss ≡ []
-      → AreDayStates (IsChosen xs members) from (last + 1) states
-  states-all first ss states a none =
+  pub made-all : (first : ℕ) (ss : List Stretch) (made : List S) → IsMadeOf P xs members last first ss made → ss ≡ [] → P (last + 1) made
+  made-all first ss made a none =
       let end : a.to ≡ last + 1 = rw none at a.ahead in
-      subst (λ n. AreDayStates (IsChosen xs members) from n states) end a.so_far
+      subst (λ n. P n made) end a.so_far
 
   -- s is the stretch at place k
-  module _ (first k : ℕ) (ss : List Stretch) (s : Stretch) (states : List DayState) (below : k < length ss) (at : s ≡ get_or ss k s)
-      (a : AreStatesOf xs members from last first (drop k ss) states) where
+  module _ (first k : ℕ) (ss : List Stretch) (s : Stretch) (made : List S) (below : k < length ss) (at : s ≡ get_or ss k s)
+      (a : IsMadeOf P xs members last first (drop k ss) made) where
     both : IsStretch xs members members (last + 1) a.to s
         × AreStretches xs members members (last + 1) (s.last + 1) (last + 1) (drop (k + 1) ss)
     both = rw (drop_more ss k s below, sym at) at a.ahead
@@ -87,12 +81,15 @@ module _ {B : Type 0} (xs : List (Terms B)) (members : List ℕ) (from last : �
     pub stretch-here : (end : ℕ) × IsStretch xs members members end first s
     stretch-here = (last + 1, rw (a.next inside) both.0)
 
-    pub states-next : (next : ℕ) (more : List DayState) → (s.last < last → next ≡ s.last + 1)
-        → ((n : ℕ) → AreDayStates (IsChosen xs members) n first states → AreDayStates (IsChosen xs members) n (s.last + 1) more)
-        → AreStatesOf xs members from last next (drop (k + 1) ss) more
-    states-next next more is added = record {
+    pub made-next : (next : ℕ) (more : List S) → (s.last < last → next ≡ s.last + 1) → (P first made → P (s.last + 1) more)
+        → IsMadeOf P xs members last next (drop (k + 1) ss) more
+    made-next next more is added = record {
       to = s.last + 1;
-      so_far = added from (subst (λ n. AreDayStates (IsChosen xs members) from n states) (sym (a.next inside)) a.so_far);
+      so_far = added (subst (λ n. P n made) (sym (a.next inside)) a.so_far);
       next = λ upto. is (omega arith);
       ahead = both.1;
     }
+
+-- no state stands before the first day
+pub states-none : {B : Type 0} (records : Records B) (first : ℕ) → AreDayStates records first first []
+states-none records first = record { many = omega arith; each = λ i below. absurd (omega arith) }

@@ -25,4 +25,5 @@ pub mod PassedKeys
 pub mod FoundClashes
 pub mod NamedClashes
 pub mod DayStates
+pub mod ClashingDates
 pub mod KeyMembers

@@ -4,6 +4,7 @@ pub mod ByKey
 pub mod Calendar
 pub mod CalendarFault
 pub mod Clash
+pub mod ClashDates
 pub mod Clashes
 pub mod DayState
 pub mod Entries

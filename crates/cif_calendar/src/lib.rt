@@ -3,6 +3,7 @@
 
 mod applies;
 mod by_key;
+mod clashing_dates;
 mod day_state;
 mod entry;
 mod key_calendar;
@@ -17,6 +18,7 @@ mod window;
 
 pub use applies::{Dates, precedence};
 pub use by_key::{FirstKey, count_of_first_key, first_key, positions_by_key, positions_of_key};
+pub use clashing_dates::clash_dates;
 pub use day_state::{DayState, day_states};
 pub use entry::{Entry, same_body, uid_number};
 pub use key_calendar::{Calendar, CalendarFault, Piece};

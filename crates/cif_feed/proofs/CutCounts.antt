@@ -1,13 +1,14 @@
 -- How many records have a cut, one record after another.
-use Rattle.std.proofs.Common.{◌≡◌, ◌↔◌, inl, inr, ⊎_elim, ℕ, ◌+◌, ◌<◌, ◌≤◌, List, [], ◌∷◌, ◌++◌, Option, None, Some, IsTrue, is_some, take}
+use Rattle.std.proofs.Common.{◌≡◌, ◌↔◌, inl, inr, ⊎_elim, ℕ, ◌+◌, ◌<◌, ◌≤◌, List, [], ◌∷◌, ◌++◌, Option, None, Some, Bool, Contains, IsTrue, is_some, map, take}
 use Rattle.std.proofs.Common.{length, get_or, refl, sym, ap, ◌∙◌, subst}
 use Rattle.std.proofs.lemmas.Bool.{false≢true}
 use Rattle.std.proofs.lemmas.List.{take_more}
-use Rattle.cif_feed.specs.CutCount.{HasCut, IsCountOf}
+use Rattle.cif_feed.specs.CutCount.{AppliesOnAny, HasCut, IsCountOf}
 use Rattle.cif_feed.specs.HolidayDates.{IsFirstFrom}
 use Rattle.cif_feed.specs.Holidays.{IsHolidayOn}
 use Rattle.cif_feed.specs.Prepared.{prepared_last}
-use Rattle.cif_feed.specs.Published.{IsHolidayOf, PublishedTerms}
+use Rattle.cif_feed.specs.Parts.{ended}
+use Rattle.cif_feed.specs.Published.{AppliesAsPublished, IsHolidayOf, PublishedTerms}
 use Rattle.cif_feed.specs.declared.holiday_code.HolidayCode.{HolidayCode}
 use Rattle.cif_feed.specs.declared.holidays.Holidays.{Holidays}
 
@@ -36,6 +37,21 @@ module _ {A : Type 0} (P : A → Type 0) where
     pub count-more_no : ¬ P x → IsCountOf P (take (i + 1) xs) n
     count-more_no lacks = subst (λ l. IsCountOf P l n) (sym one_more) (count-no (take i xs) x n lacks count)
 
+-- the counts of properties that are the same are the same
+pub count-same : {A : Type 0} (P Q : A → Type 0) → ((x : A) → P x ↔ Q x) → (xs : List A) (n : ℕ) → IsCountOf P xs n → IsCountOf Q xs n
+count-same P Q same [] n none = none
+count-same P Q same (x ∷ xs) n count = ⊎_elim
+    (λ yes. inl ((same x).0 yes.0, (yes.1.0, count-same P Q same xs yes.1.0 yes.1.1, yes.1.2)))
+    (λ no. inr (λ has. no.0 ((same x).1 has), count-same P Q same xs n no.1))
+    count
+
+pub count-map : {A C : Type 0} (f : A → C) (P : C → Type 0) (xs : List A) (n : ℕ) → IsCountOf (λ x. P (f x)) xs n → IsCountOf P (map f xs) n
+count-map f P [] n none = none
+count-map f P (x ∷ xs) n count = ⊎_elim
+    (λ yes. inl (yes.0, (yes.1.0, count-map f P xs yes.1.0 yes.1.1, yes.1.2)))
+    (λ no. inr (no.0, count-map f P xs n no.1))
+    count
+
 -- with one, there is one exactly if a first one is found
 module _ {B : Type 0} (h : Holidays) (window_last : ℕ) (r : PublishedTerms B) (code : HolidayCode) (has : r.code ≡ Some code) (last : ℕ)
     (ends : last ≡ prepared_last window_last r) where
@@ -44,14 +60,14 @@ module _ {B : Type 0} (h : Holidays) (window_last : ℕ) (r : PublishedTerms B) 
     d,
     record {
       applies = record { begun = from; unfinished = subst (λ (n : ℕ). d ≤ n) ends upto; on_weekday = on.on_weekday };
-      holiday = subst (λ (c : Option HolidayCode). IsHolidayOf h c d) (sym has) on.listed;
+      stops = subst (λ (c : Option HolidayCode). IsHolidayOf h c d) (sym has) on.listed;
     },
   )
 
   cut-none : IsFirstFrom (IsHolidayOn h code r.terms.days) r.terms.first last None → ¬ HasCut h window_last r
   cut-none none cut =
       none cut.0 cut.1.applies.begun (subst (λ (n : ℕ). cut.0 ≤ n) (sym ends) cut.1.applies.unfinished) (record {
-        listed = subst (λ (c : Option HolidayCode). IsHolidayOf h c cut.0) has cut.1.holiday;
+        listed = subst (λ (c : Option HolidayCode). IsHolidayOf h c cut.0) has cut.1.stops;
         on_weekday = cut.1.applies.on_weekday;
       })
 
@@ -59,3 +75,11 @@ module _ {B : Type 0} (h : Holidays) (window_last : ℕ) (r : PublishedTerms B) 
       → IsTrue (is_some found) ↔ HasCut h window_last r
   cut-decided None none = (λ e. absurd (false≢true e), λ cut. absurd (cut-none none cut))
   cut-decided (Some d) found = (λ e. cut-found d found, λ cut. refl)
+
+-- whether a record applies on one of some dates
+pub on-any : {B : Type 0} (h : Holidays) (window_last : ℕ) (r : PublishedTerms B) (last : ℕ) → last ≡ prepared_last window_last r
+    → (dates : List ℕ) (b : Bool) → IsTrue b ↔ ((d : ℕ) × Contains dates d × AppliesAsPublished h r.code (ended last r.terms) d)
+    → (days : List ℕ) → dates ≡ days → IsTrue b ↔ AppliesOnAny (Contains days) h window_last r
+on-any h window_last r last ends dates b decided days same =
+    subst (λ l. IsTrue b ↔ AppliesOnAny (Contains l) h window_last r) same
+    (subst (λ (n : ℕ). IsTrue b ↔ ((d : ℕ) × Contains dates d × AppliesAsPublished h r.code (ended n r.terms) d)) ends decided)

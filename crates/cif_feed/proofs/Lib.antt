@@ -1,6 +1,8 @@
 pub mod ChangeLaws
 pub mod PartLists
 pub mod PreparedLists
+pub mod CutAt
+pub mod FoundKeys
 pub mod PreparedRuns
 pub mod GrownHolidays
 pub mod DatesFrom
@@ -25,7 +27,6 @@ pub mod ToldReasons
 pub mod JudgedRuns
 pub mod WrittenItems
 pub mod ListSteps
-pub mod DroppedKeys
 pub mod CutCounts
 pub mod KnownLines
 pub mod LastWords
@@ -37,6 +38,8 @@ pub mod StillLines
 pub mod FittingUpdates
 pub mod UpdatesInTurn
 pub mod PreparedFits
+pub mod PreparedDays
+pub mod ClashingKeys
 pub mod Cells
 pub mod FeedLayouts
 pub mod WrittenPrepared

@@ -1,5 +1,5 @@
 -- An extract of this profile is its own prepared extract, and has no other.
-use Rattle.std.proofs.Common.{◌≡◌, ◌↔◌, ℕ, ◌<◌, ◌≤◌, false, List, [], ◌∷◌, ◌++◌, map, None, refl, sym, ap, ◌∙◌, subst, ⊎_elim, arith}
+use Rattle.std.proofs.Common.{◌≡◌, ◌↔◌, ℕ, ◌+◌, ◌<◌, ◌≤◌, false, List, [], ◌∷◌, ◌++◌, map, Option, None, refl, sym, ap, ◌∙◌, subst, ⊎_elim, arith}
 use Rattle.cif_calendar.specs.Entries.{association_entries, association_entry, schedule_entries, schedule_entry}
 use Rattle.cif_calendar.specs.Terms.{Terms}
 use Rattle.cif_extract.specs.BodyParts.{BodyParts}
@@ -13,31 +13,31 @@ use Rattle.cif_records.specs.declared.header.Header.{Header}
 use Rattle.cif_records.specs.declared.tiploc.Tiploc.{Tiploc}
 use Rattle.cif_records.proofs.Associations.{same_association}
 use Rattle.cif_feed.specs.OfProfile.{as_published, association_as_published, schedule_as_published}
-use Rattle.cif_feed.specs.Parts.{AreParts, IsPart}
+use Rattle.cif_feed.specs.Parts.{AreParts, IsPart, Part}
 use Rattle.cif_feed.specs.Prepared.{ArePrepared, part_terms, published_terms}
 use Rattle.cif_feed.specs.PreparedParts.{IsPrepared}
-use Rattle.cif_feed.specs.Published.{PublishedTerms}
+use Rattle.cif_feed.specs.Published.{IsStop, PublishedTerms}
 use Rattle.cif_feed.specs.PublishedParts.{published_associations, published_schedules}
+use Rattle.cif_feed.specs.declared.holiday_code.HolidayCode.{HolidayCode}
 use Rattle.cif_feed.specs.declared.holidays.Holidays.{Holidays}
-use Rattle.cif_feed.specs.declared.part.Part.{Part}
 use Rattle.cif_feed.proofs.PartLists.{parts-whole}
 
 -- ---- the one part of a record without a code
 
-module _ {B : Type 0} (h : Holidays) (r : Terms B) (up : r.first ≤ r.last) where
+module _ {B : Type 0} (Stops : ℕ → Type 0) (never : (d : ℕ) → ¬ Stops d) (r : Terms B) (up : r.first ≤ r.last) where
   abbrev itself : Part
   itself = record { first = r.first; last = r.last }
 
-  is_itself : (p : Part) → IsPart h None r p → p ≡ itself
+  is_itself : (p : Part) → IsPart Stops r p → p ≡ itself
   is_itself p is =
-      let first : p.first ≡ r.first = ⊎_elim (λ e. e) (λ cut. absurd cut.2.holiday) is.begins in
-      let last : p.last ≡ r.last = ⊎_elim (λ e. e) (λ cut. absurd cut.holiday) is.ends in
+      let first : p.first ≡ r.first = ⊎_elim (λ e. e) (λ cut. absurd (never cut.0 cut.2.stops)) is.begins in
+      let last : p.last ≡ r.last = ⊎_elim (λ e. e) (λ cut. absurd (never (p.last + 1) cut.stops)) is.ends in
       ap (λ (n : ℕ). let q : Part = record { first = n; last = p.last } in q) first
       ∙ ap (λ (n : ℕ). let q : Part = record { first = r.first; last = n } in q) last
 
-  one_part : (parts : List Part) → AreParts h None r parts → parts ≡ itself ∷ []
+  one_part : (parts : List Part) → AreParts Stops r parts → parts ≡ itself ∷ []
   one_part [] are =
-      ⊎_elim (λ have. let below = have.1.1 in absurd (omega arith)) (λ cut. absurd cut.holiday) (are.covered r.first (omega arith) up)
+      ⊎_elim (λ have. let below = have.1.1 in absurd (omega arith)) (λ cut. absurd (never r.first cut.stops)) (are.covered r.first (omega arith) up)
   one_part (p ∷ []) are = ap (λ (q : Part). q ∷ []) (is_itself p (are.are 0 p (omega arith)))
   one_part (p ∷ q ∷ parts) are =
       let one = is_itself p (are.are 0 p (omega arith)) in
@@ -49,7 +49,7 @@ module _ {B : Type 0} (h : Holidays) (r : Terms B) (up : r.first ≤ r.last) whe
 
 -- ---- entries
 
-module _ {K B : Type 0} (h : Holidays) (window_last : ℕ) where
+module _ {K B : Type 0} where
   -- as published ones without an open end and a code
   abbrev as_they_are : K × Terms B → K × PublishedTerms B
   as_they_are e = (e.0, published_terms e.1 false None)
@@ -59,35 +59,43 @@ module _ {K B : Type 0} (h : Holidays) (window_last : ℕ) where
   AreInOrder [] = Unit {0}
   AreInOrder (e ∷ es) = (e.1.first ≤ e.1.last) × AreInOrder es
 
-  prepared_is : (es prepared : List (K × Terms B)) → AreInOrder es → ArePrepared h window_last (map as_they_are es) prepared → prepared ≡ es
+module _ {K B : Type 0} (Stops : K → Option HolidayCode → ℕ → Type 0) (never : (k : K) (d : ℕ) → ¬ Stops k None d) (window_last : ℕ) where
+  prepared_is : (es prepared : List (K × Terms B)) → AreInOrder es → ArePrepared Stops window_last (map as_they_are es) prepared
+      → prepared ≡ es
   prepared_is [] prepared up are = are
   prepared_is (e ∷ es) prepared up are =
       let (parts, others, own, joined, rest) = are in
-      joined ∙ ap (λ (ps : List Part). map (λ p. (e.0, part_terms e.1 p)) ps ++ others) (one_part h e.1 up.0 parts own)
+      joined
+      ∙ ap (λ (ps : List Part). map (λ p. (e.0, part_terms e.1 p)) ps ++ others)
+      (one_part (Stops e.0 None) (never e.0) e.1 up.0 parts own)
       ∙ ap (λ (l : List (K × Terms B)). e ∷ l) (prepared_is es others up.1 rest)
 
-  is_prepared : (es : List (K × Terms B)) → AreInOrder es → ArePrepared h window_last (map as_they_are es) es
+  is_prepared : (es : List (K × Terms B)) → AreInOrder es → ArePrepared Stops window_last (map as_they_are es) es
   is_prepared [] up = refl
-  is_prepared (e ∷ es) up = (record { first = e.1.first; last = e.1.last } ∷ [], es, parts-whole h e.1 up.0, refl, is_prepared es up.1)
+  is_prepared (e ∷ es) up = (
+    record { first = e.1.first; last = e.1.last } ∷ [],
+    es,
+    parts-whole (Stops e.0 None) e.1 up.0 (λ d cut. never e.0 d cut.stops),
+    refl,
+    is_prepared es up.1,
+  )
 
-module _ (h : Holidays) (window_last : ℕ) where
-  associations_in_order : (xs : List Association) → AreInOrder h window_last (association_entries xs)
-  associations_in_order [] = tt
-  associations_in_order (x ∷ xs) = (x.in_order, associations_in_order xs)
+associations_in_order : (xs : List Association) → AreInOrder (association_entries xs)
+associations_in_order [] = tt
+associations_in_order (x ∷ xs) = (x.in_order, associations_in_order xs)
 
-  schedules_in_order : (xs : List Schedule) → AreInOrder h window_last (schedule_entries xs)
-  schedules_in_order [] = tt
-  schedules_in_order (x ∷ xs) = (x.in_order, schedules_in_order xs)
+schedules_in_order : (xs : List Schedule) → AreInOrder (schedule_entries xs)
+schedules_in_order [] = tt
+schedules_in_order (x ∷ xs) = (x.in_order, schedules_in_order xs)
 
-  associations_as : (xs : List Association)
-      → published_associations (map association_as_published xs) ≡ map (as_they_are h window_last) (association_entries xs)
-  associations_as [] = refl
-  associations_as (x ∷ xs) = ap (λ l. as_they_are h window_last (association_entry x) ∷ l) (associations_as xs)
+associations_as : (xs : List Association)
+    → published_associations (map association_as_published xs) ≡ map as_they_are (association_entries xs)
+associations_as [] = refl
+associations_as (x ∷ xs) = ap (λ l. as_they_are (association_entry x) ∷ l) (associations_as xs)
 
-  schedules_as : (xs : List Schedule)
-      → published_schedules (map schedule_as_published xs) ≡ map (as_they_are h window_last) (schedule_entries xs)
-  schedules_as [] = refl
-  schedules_as (x ∷ xs) = ap (λ l. as_they_are h window_last (schedule_entry x) ∷ l) (schedules_as xs)
+schedules_as : (xs : List Schedule) → published_schedules (map schedule_as_published xs) ≡ map as_they_are (schedule_entries xs)
+schedules_as [] = refl
+schedules_as (x ∷ xs) = ap (λ l. as_they_are (schedule_entry x) ∷ l) (schedules_as xs)
 
 -- ---- records by their entries
 
@@ -114,31 +122,40 @@ same_all f one _ _ e = cc
 -- ---- an extract
 
 module _ (h : Holidays) (x : ExtractParts) where
-  own_prepared : IsPrepared h (as_published x) x
+  abbrev OfAssociations : AssocKey → Option HolidayCode → ℕ → Type 0
+  OfAssociations = IsStop false h (published_associations (as_published x).associations) x.header.first (x.header.last + 1)
+
+  abbrev OfSchedules : List ℕ → Option HolidayCode → ℕ → Type 0
+  OfSchedules = IsStop false h (published_schedules (as_published x).schedules) x.header.first (x.header.last + 1)
+
+  own_prepared : IsPrepared h false (as_published x) x
   own_prepared = record {
     header = refl;
     tiplocs = refl;
-    associations = subst (λ l. ArePrepared h x.header.last l (association_entries x.associations))
-        (sym (associations_as h x.header.last x.associations))
-        (is_prepared h x.header.last (association_entries x.associations) (associations_in_order h x.header.last x.associations));
-    schedules = subst (λ l. ArePrepared h x.header.last l (schedule_entries x.schedules)) (sym (schedules_as h x.header.last x.schedules))
-        (is_prepared h x.header.last (schedule_entries x.schedules) (schedules_in_order h x.header.last x.schedules));
+    associations = subst (λ l. ArePrepared OfAssociations x.header.last l (association_entries x.associations))
+        (sym (associations_as x.associations))
+        (is_prepared OfAssociations (λ k d none. none) x.header.last (association_entries x.associations)
+        (associations_in_order x.associations));
+    schedules = subst (λ l. ArePrepared OfSchedules x.header.last l (schedule_entries x.schedules)) (sym (schedules_as x.schedules))
+        (is_prepared OfSchedules (λ k d none. none) x.header.last (schedule_entries x.schedules) (schedules_in_order x.schedules));
   }
 
-  prepared_same : (y : ExtractParts) → IsPrepared h (as_published x) y → y ≡ x
+  prepared_same : (y : ExtractParts) → IsPrepared h false (as_published x) y → y ≡ x
   prepared_same y p =
       let last = x.header.last in
       let associations = same_all association_entry one_association y.associations x.associations
-      (prepared_is h last (association_entries x.associations) (association_entries y.associations)
-      (associations_in_order h last x.associations)
-      (subst (λ l. ArePrepared h last l (association_entries y.associations)) (associations_as h last x.associations) p.associations)) in
+      (prepared_is OfAssociations (λ k d none. none) last (association_entries x.associations) (association_entries y.associations)
+      (associations_in_order x.associations)
+      (subst (λ l. ArePrepared OfAssociations last l (association_entries y.associations)) (associations_as x.associations)
+      p.associations)) in
       let schedules = same_all schedule_entry one_schedule y.schedules x.schedules
-      (prepared_is h last (schedule_entries x.schedules) (schedule_entries y.schedules) (schedules_in_order h last x.schedules)
-      (subst (λ l. ArePrepared h last l (schedule_entries y.schedules)) (schedules_as h last x.schedules) p.schedules)) in
+      (prepared_is OfSchedules (λ k d none. none) last (schedule_entries x.schedules) (schedule_entries y.schedules)
+      (schedules_in_order x.schedules)
+      (subst (λ l. ArePrepared OfSchedules last l (schedule_entries y.schedules)) (schedules_as x.schedules) p.schedules)) in
       ap (λ (v : Header). record y { header = v }) p.header
       ∙ ap (λ (v : List Tiploc). record y { header = x.header; tiplocs = v }) p.tiplocs
       ∙ ap (λ (v : List Association). record x { associations = v; schedules = y.schedules }) associations
       ∙ ap (λ (v : List Schedule). record x { schedules = v }) schedules
 
-  pub only_itself : (y : ExtractParts) → IsPrepared h (as_published x) y ↔ (y ≡ x)
-  only_itself y = (prepared_same y, λ same. subst (IsPrepared h (as_published x)) (sym same) own_prepared)
+  pub only_itself : (y : ExtractParts) → IsPrepared h false (as_published x) y ↔ (y ≡ x)
+  only_itself y = (prepared_same y, λ same. subst (IsPrepared h false (as_published x)) (sym same) own_prepared)

@@ -1,5 +1,5 @@
 -- What a prepared extract says fits the columns of lines, where the published one does.
-use Rattle.std.proofs.Common.{ℕ, max, List, [], ◌∷◌, map, refl, sym, subst, arith}
+use Rattle.std.proofs.Common.{ℕ, ◌+◌, max, Bool, Option, List, [], ◌∷◌, map, refl, sym, subst, arith}
 use Rattle.std.proofs.lemmas.Bool.{cond_both}
 use Rattle.std.proofs.lemmas.List.Elements.{All-head, All-tail}
 use Rattle.std.specs.Prelude.{All}
@@ -19,20 +19,20 @@ use Rattle.cif_records.specs.declared.association.Association.{Association}
 use Rattle.cif_records.specs.declared.header.Header.{Header}
 use Rattle.cif_records.proofs.Headers.{last_is_day}
 use Rattle.cif_feed.specs.OfProfile.{of_profile}
-use Rattle.cif_feed.specs.Parts.{IsPart, ended}
+use Rattle.cif_feed.specs.Parts.{IsPart, Part, ended}
 use Rattle.cif_feed.specs.Prepared.{ArePrepared, part_terms, prepared_last}
 use Rattle.cif_feed.specs.PreparedParts.{IsPrepared}
-use Rattle.cif_feed.specs.Published.{PublishedTerms}
+use Rattle.cif_feed.specs.Published.{IsStop, PublishedTerms}
 use Rattle.cif_feed.specs.PublishedParts.{PublishedParts, published_associations, published_schedules}
+use Rattle.cif_feed.specs.declared.holiday_code.HolidayCode.{HolidayCode}
 use Rattle.cif_feed.specs.declared.holidays.Holidays.{Holidays}
-use Rattle.cif_feed.specs.declared.part.Part.{Part}
 use Rattle.cif_feed.specs.declared.published.PublishedAssociation.{PublishedAssociation}
 use Rattle.cif_feed.specs.declared.published.PublishedSchedule.{PublishedSchedule}
 use Rattle.cif_feed.proofs.FittingUpdates.{AssociationFits, Each, ScheduleFits, TiplocFits, each-append, each_fits, fits_each}
 
 -- ---- records on the dates of their parts
 
-module _ {K B : Type 0} (P : K × Terms B → Type 0) (h : Holidays) (window_last : ℕ) where
+module _ {K B : Type 0} (P : K × Terms B → Type 0) (Stops : K → Option HolidayCode → ℕ → Type 0) (window_last : ℕ) where
   -- a record of which P holds may have any days in place of its dates, and its own dates are days
   record TakesDays : Type 0 where
     first : (k : K) (r : Terms B) → P (k, r) → IsDay r.first
@@ -48,18 +48,18 @@ module _ {K B : Type 0} (P : K × Terms B → Type 0) (h : Holidays) (window_las
         cond_both r.open_end (max r.terms.first window_last) r.terms.last IsDay
         (λ is. later r.terms.first window_last (takes.first k r.terms p) day) (λ is. takes.last k r.terms p)
 
-    parts_such : (k : K) (r : PublishedTerms B) (ps : List Part) → All (IsPart h r.code (ended (prepared_last window_last r) r.terms)) ps
+    parts_such : (k : K) (r : PublishedTerms B) (ps : List Part) → All (IsPart (Stops k r.code) (ended (prepared_last window_last r) r.terms)) ps
         → P (k, r.terms) → Each P (map (λ p. (k, part_terms r.terms p)) ps)
     parts_such k r [] are p = tt
     parts_such k r (q ∷ ps) are p =
-        let Is = IsPart h r.code (ended (prepared_last window_last r) r.terms) in
+        let Is = IsPart (Stops k r.code) (ended (prepared_last window_last r) r.terms) in
         let is = All-head Is q ps are in
         let upto = is.upto in
         let order = is.in_order in
         let end = last_day k r p in
         (takes.on k r.terms q (omega arith) (omega arith) p, parts_such k r ps (All-tail Is q ps are) p)
 
-    prepared_such : (entries : List (K × PublishedTerms B)) (prepared : List (K × Terms B)) → ArePrepared h window_last entries prepared
+    prepared_such : (entries : List (K × PublishedTerms B)) (prepared : List (K × Terms B)) → ArePrepared Stops window_last entries prepared
         → Each (λ e. P (e.0, e.1.terms)) entries → Each P prepared
     prepared_such [] prepared are such = subst (Each P) (sym are) tt
     prepared_such (e ∷ entries) prepared are such =
@@ -74,16 +74,16 @@ AssociationEntryFits e = AllFit (association_rows e.0 e.1.first e.1.last e.1.day
 abbrev ScheduleEntryFits : List ℕ × Terms BodyParts → Type 0
 ScheduleEntryFits e = AllTablesFit (schedule_tables e.0 e.1.first e.1.last e.1.days e.1.letter e.1.body)
 
-module _ (h : Holidays) (window_last : ℕ) where
-  association_days : TakesDays AssociationEntryFits h window_last
-  association_days = record {
+module _ (window_last : ℕ) where
+  association_days : (Stops : AssocKey → Option HolidayCode → ℕ → Type 0) → TakesDays AssociationEntryFits Stops window_last
+  association_days Stops = record {
     first = λ k r f. f.1.1.1.1.0.1;
     last = λ k r f. f.1.1.1.1.1.0.1;
     on = λ k r p first last f. (f.0, (f.1.0, (f.1.1.0, (f.1.1.1.0, ((refl, first), ((refl, last), f.1.1.1.1.1.1))))));
   }
 
-  schedule_days : TakesDays ScheduleEntryFits h window_last
-  schedule_days = record {
+  schedule_days : (Stops : List ℕ → Option HolidayCode → ℕ → Type 0) → TakesDays ScheduleEntryFits Stops window_last
+  schedule_days Stops = record {
     first = λ k r f. f.0.1.1.1.0.1;
     last = λ k r f. f.0.1.1.1.1.0.1;
     on = λ k r p first last f. ((f.0.0, (f.0.1.0, (f.0.1.1.0, ((refl, first), ((refl, last), f.0.1.1.1.1.1))))), f.1);
@@ -109,19 +109,23 @@ schedules_fit : (ss : List Schedule) → Each ScheduleEntryFits (schedule_entrie
 schedules_fit [] f = tt
 schedules_fit (s ∷ ss) f = (f.0, schedules_fit ss f.1)
 
-pub prepared_fits : (h : Holidays) (p : PublishedParts) (x : ExtractParts) → FitsColumns (of_profile p) → IsPrepared h p x → FitsColumns x
-prepared_fits h p x fits is =
+pub prepared_fits : (h : Holidays) (drops : Bool) (p : PublishedParts) (x : ExtractParts) → FitsColumns (of_profile p)
+    → IsPrepared h drops p x → FitsColumns x
+prepared_fits h drops p x fits is =
     let was = each_fits (of_profile p) fits in
     let last = p.header.last in
     let day = last_is_day p.header in
+    let OfAssociations = IsStop drops h (published_associations p.associations) p.header.first (last + 1) in
+    let OfSchedules = IsStop drops h (published_schedules p.schedules) p.header.first (last + 1) in
     fits_each x (record {
       header = subst (λ (v : Header). AllFit (header_table v)) (sym is.header) was.header;
       tiplocs = subst (Each TiplocFits) (sym is.tiplocs) was.tiplocs;
       associations = associations_fit x.associations
-          (prepared_such AssociationEntryFits h last (association_days h last) day (published_associations p.associations)
-          (association_entries x.associations) is.associations (associations_such p.associations was.associations));
+          (prepared_such AssociationEntryFits OfAssociations last (association_days last OfAssociations) day
+          (published_associations p.associations) (association_entries x.associations) is.associations
+          (associations_such p.associations was.associations));
       schedules = schedules_fit x.schedules
-          (prepared_such ScheduleEntryFits h last (schedule_days h last) day (published_schedules p.schedules)
+          (prepared_such ScheduleEntryFits OfSchedules last (schedule_days last OfSchedules) day (published_schedules p.schedules)
           (schedule_entries x.schedules) is.schedules (schedules_such p.schedules was.schedules));
       trailer = was.trailer;
     })

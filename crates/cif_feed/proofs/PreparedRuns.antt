@@ -11,14 +11,13 @@ use Rattle.cif_calendar.specs.Runs.{Runs}
 use Rattle.cif_calendar.specs.Terms.{Records, Terms}
 use Rattle.cif_calendar.specs.Wins.{Wins}
 use Rattle.cif_columns.specs.Stp.{letter}
-use Rattle.cif_feed.specs.Parts.{AreParts, IsPart, ended}
+use Rattle.cif_feed.specs.Parts.{AreParts, IsPart, Part, ended}
 use Rattle.cif_feed.specs.LastDay.{last_day}
-use Rattle.cif_feed.specs.Prepared.{AreClosed, ArePrepared, HaveSameWinners, part_terms, prepared_last}
-use Rattle.cif_feed.specs.Published.{AppliesAsPublished, CountOn, PublishedTerms}
+use Rattle.cif_feed.specs.Prepared.{AreClosed, ArePrepared, SayTheSame, part_terms, prepared_last}
+use Rattle.cif_feed.specs.Published.{CountOn, IsHolidayOf, PublishedTerms}
 use Rattle.cif_feed.specs.PublishedParts.{published_associations, published_schedules}
 use Rattle.cif_feed.specs.declared.holiday_code.HolidayCode.{HolidayCode}
 use Rattle.cif_feed.specs.declared.holidays.Holidays.{Holidays}
-use Rattle.cif_feed.specs.declared.part.Part.{Part}
 use Rattle.cif_feed.specs.declared.published.PublishedAssociation.{PublishedAssociation}
 use Rattle.cif_feed.specs.declared.published.PublishedSchedule.{PublishedSchedule}
 use Rattle.cif_feed.proofs.ListSteps.{Contains-from_map, Contains-map}
@@ -71,36 +70,35 @@ module _ {B : Type 0} (d : ℕ) where
 
 -- ---- the parts of one record
 
-module _ {B : Type 0} (h : Holidays) (code : Option HolidayCode) (r : Terms B) (last : ℕ) (parts : List Part)
-    (are : AreParts h code (ended last r) parts) (d : ℕ) where
-  -- where the record applies as published, one of its parts applies
-  pub part-applies : d ≤ last → AppliesAsPublished h code r d → (p : Part) × Contains parts p × Applies (part_terms r p) d
-  part-applies within on = ⊎_elim
-      (λ have. (have.0, have.1, record { begun = have.2; unfinished = have.3; on_weekday = on.applies.on_weekday }))
-      (λ cut. absurd (on.no_holiday cut.holiday))
-      (are.covered d on.applies.begun within)
+module _ {B : Type 0} (Stops : ℕ → Type 0) (r : Terms B) (last : ℕ) (parts : List Part) (are : AreParts Stops (ended last r) parts)
+    (d : ℕ) where
+  -- where the record applies and isn't stopped, one of its parts applies
+  pub part-applies : d ≤ last → Applies r d → ¬ Stops d → (p : Part) × Contains parts p × Applies (part_terms r p) d
+  part-applies within on free = ⊎_elim
+      (λ have. (have.0, have.1, record { begun = have.2; unfinished = have.3; on_weekday = on.on_weekday }))
+      (λ cut. absurd (free cut.stops))
+      (are.covered d on.begun within)
 
-  -- and where a part applies, the record does
-  pub applies-part : d ≤ r.last → (p : Part) → Contains parts p → Applies (part_terms r p) d → AppliesAsPublished h code r d
+  -- and where a part applies, the record does, and isn't stopped
+  pub applies-part : d ≤ r.last → (p : Part) → Contains parts p → Applies (part_terms r p) d → Applies r d × (¬ Stops d)
   applies-part within p listed on =
-      let is = All-contains (IsPart h code (ended last r)) parts p are.are listed in
+      let is = All-contains (IsPart Stops (ended last r)) parts p are.are listed in
       let early : r.first ≤ d = (let from : r.first ≤ p.first = is.from in let begun : p.first ≤ d = on.begun in omega arith) in
-      let late : d ≤ last = (let upto : p.last ≤ last = is.upto in let unfinished : d ≤ p.last = on.unfinished in omega arith) in
-      record {
-        applies = record { begun = early; unfinished = within; on_weekday = on.on_weekday };
-        no_holiday = λ holiday. is.whole d on.begun on.unfinished
-            (record { applies = record { begun = early; unfinished = late; on_weekday = on.on_weekday }; holiday = holiday });
-      }
+      let late : d ≤ last = (let upto : p.last ≤ last = is.upto in let unfinished : d ≤ p.last = on.unfinished in omega arith) in (
+        record { begun = early; unfinished = within; on_weekday = on.on_weekday },
+        λ stops. is.whole d on.begun on.unfinished
+            (record { applies = record { begun = early; unfinished = late; on_weekday = on.on_weekday }; stops = stops }),
+      )
 
 -- ---- the records of each key
 
-module _ {K B : Type 0} (h : Holidays) (window_last : ℕ) where
+module _ {K B : Type 0} (Stops : K → Option HolidayCode → ℕ → Type 0) (window_last : ℕ) where
   -- the parts of one entry
   record HasParts (e : K × PublishedTerms B) (parts : List Part) : Type 0 where
-    are : AreParts h e.1.code (ended (prepared_last window_last e.1) e.1.terms) parts
+    are : AreParts (Stops e.0 e.1.code) (ended (prepared_last window_last e.1) e.1.terms) parts
 
   -- an entry's parts are among the prepared records
-  parts-of_entry : (entries : List (K × PublishedTerms B)) (prepared : List (K × Terms B)) → ArePrepared h window_last entries prepared
+  parts-of_entry : (entries : List (K × PublishedTerms B)) (prepared : List (K × Terms B)) → ArePrepared Stops window_last entries prepared
       → (e : K × PublishedTerms B) → Contains entries e
       → (parts : List Part) × HasParts e parts × ((p : Part) → Contains parts p → Contains prepared (e.0, part_terms e.1.terms p))
   parts-of_entry [] prepared none e (k, below, is) = absurd (omega arith)
@@ -126,7 +124,7 @@ module _ {K B : Type 0} (h : Holidays) (window_last : ℕ) where
       (Contains-cases x entries e has)
 
   -- a prepared record is a part of an entry
-  entry-of_part : (entries : List (K × PublishedTerms B)) (prepared : List (K × Terms B)) → ArePrepared h window_last entries prepared
+  entry-of_part : (entries : List (K × PublishedTerms B)) (prepared : List (K × Terms B)) → ArePrepared Stops window_last entries prepared
       → (s : K × Terms B) → Contains prepared s → (e : K × PublishedTerms B) × Contains entries e × (parts : List Part) × HasParts e parts
       × (p : Part) × Contains parts p × (s ≡ (e.0, part_terms e.1.terms p))
   entry-of_part [] prepared none s has = absurd
@@ -141,7 +139,7 @@ module _ {K B : Type 0} (h : Holidays) (window_last : ℕ) where
       (Contains-append_cases (map (λ (q : Part). (x.0, part_terms x.1.terms q)) parts) others s
       (subst (λ (l : List (K × Terms B)). Contains l s) joined has))
 
-  module _ (entries : List (K × PublishedTerms B)) (prepared : List (K × Terms B)) (are : ArePrepared h window_last entries prepared)
+  module _ (entries : List (K × PublishedTerms B)) (prepared : List (K × Terms B)) (are : ArePrepared Stops window_last entries prepared)
       (closed : AreClosed entries) (k : K) (d : ℕ) (in_window : d ≤ window_last) (is_day : d ≤ last_day) where
     -- the day isn't after the record's last in the prepared extract
     in_prepared : (r : Terms B) (b : Bool) → r.first ≤ d → d ≤ r.last → d ≤ cond b (max r.first window_last) r.last
@@ -155,33 +153,40 @@ module _ {K B : Type 0} (h : Holidays) (window_last : ℕ) where
         let last : e.1.terms.last ≡ 36524 = ends in omega arith
     in_published e found false is within = within
 
-    published-match : Match (λ r. CountOn h entries k d r) (of_key prepared k) d
+    -- the records of the key that aren't stopped on the day
+    record NotStopped (r : Terms B) : Type 0 where
+      open_end : Bool
+      code : Option HolidayCode
+      listed : Contains entries (k, record { terms = r; open_end = open_end; code = code })
+      free : ¬ Stops k code d
+
+    published-match : Match NotStopped (of_key prepared k) d
     published-match = record {
       found = λ r count on.
           let e : PublishedTerms B = record { terms = r; open_end = count.open_end; code = count.code } in
           let (parts, own, all) = parts-of_entry entries prepared are (k, e) count.listed in
           let (p, listed, applies) =
-          part-applies h e.code r (prepared_last window_last e) parts own.are d (in_prepared r e.open_end on.begun on.unfinished)
-          (record { applies = on; no_holiday = count.no_holiday }) in
+          part-applies (Stops k e.code) r (prepared_last window_last e) parts own.are d
+          (in_prepared r e.open_end on.begun on.unfinished) on count.free in
           (part_terms r p, record { listed = all p listed; applies = applies; letters = refl; bodies = refl });
     }
 
-    prepared-match : Match (of_key prepared k) (λ r. CountOn h entries k d r) d
+    prepared-match : Match (of_key prepared k) NotStopped d
     prepared-match = record { found = λ s has on. at s on (entry-of_part entries prepared are (k, s) has) }
       where
         at : (s : Terms B) → Applies s d → (e : K × PublishedTerms B) × Contains entries e × (parts : List Part) × HasParts e parts
             × (p : Part) × Contains parts p × (◌≡◌ {A = K × Terms B} (k, s) (e.0, part_terms e.1.terms p))
-            → (r : Terms B) × IsMatch (λ t. CountOn h entries k d t) d s r
+            → (r : Terms B) × IsMatch NotStopped d s r
         at s on (e, found, parts, own, p, listed, is) =
             let key : k ≡ e.0 = ap (λ (x : K × Terms B). x.0) is in
             let terms : s ≡ part_terms e.1.terms p = ap (λ (x : K × Terms B). x.1) is in
             let part_on : Applies (part_terms e.1.terms p) d = subst (λ (t : Terms B). Applies t d) terms on in
             let upto : d ≤ prepared_last window_last e.1 =
             (let ends : p.last ≤ prepared_last window_last e.1 =
-            (All-contains (IsPart h e.1.code (ended (prepared_last window_last e.1) e.1.terms)) parts p own.are.are listed).upto in
+            (All-contains (IsPart (Stops e.0 e.1.code) (ended (prepared_last window_last e.1) e.1.terms)) parts p own.are.are listed).upto in
             let unfinished : d ≤ p.last = part_on.unfinished in omega arith) in
             let applies =
-            applies-part h e.1.code e.1.terms (prepared_last window_last e.1) parts own.are d
+            applies-part (Stops e.0 e.1.code) e.1.terms (prepared_last window_last e.1) parts own.are d
             (in_published e found e.1.open_end refl upto) p listed part_on in (
               e.1.terms,
               record {
@@ -189,31 +194,50 @@ module _ {K B : Type 0} (h : Holidays) (window_last : ℕ) where
                   open_end = e.1.open_end;
                   code = e.1.code;
                   listed = subst (λ (j : K). Contains entries (j, e.1)) (sym key) found;
-                  no_holiday = applies.no_holiday;
+                  free = subst (λ (j : K). ¬ Stops j e.1.code d) (sym key) applies.1;
                 };
-                applies = applies.applies;
+                applies = applies.0;
                 letters = sym (ap (λ (t : Terms B). t.letter) terms);
                 bodies = sym (ap (λ (t : Terms B). t.body) terms);
               },
             )
 
-    pub prepared-wins : HaveSameWinners (of_key prepared k) (λ r. CountOn h entries k d r) d
-    prepared-wins = (
-      record { winner = match-wins d (of_key prepared k) (λ r. CountOn h entries k d r) prepared-match published-match },
-      record { winner = match-wins d (λ r. CountOn h entries k d r) (of_key prepared k) published-match prepared-match },
-    )
+    -- where the day stops all its records, none of the prepared ones applies
+    pub none-applies : ((code : Option HolidayCode) → Stops k code d) → (s : Terms B) → of_key prepared k s → ¬ Applies s d
+    none-applies stops s has on =
+        let (r, found) = prepared-match.found s has on in found.listed.free (stops found.listed.code)
 
-    pub prepared-runs : (o : Option B) → Runs (of_key prepared k) d o ↔ Runs (λ r. CountOn h entries k d r) d o
-    prepared-runs o = (
-      match-runs d (of_key prepared k) (λ r. CountOn h entries k d r) prepared-match published-match o,
-      match-runs d (λ r. CountOn h entries k d r) (of_key prepared k) published-match prepared-match o,
-    )
+    -- where it stops those for which it is a holiday, the prepared ones say what the published ones do
+    pub says-same : (h : Holidays) → ((code : Option HolidayCode) → Stops k code d ↔ IsHolidayOf h code d)
+        → SayTheSame (of_key prepared k) (λ r. CountOn h entries k d r) d
+    says-same h stops = record {
+      winners = (
+        record { winner = match-wins d (of_key prepared k) Count to back },
+        record { winner = match-wins d Count (of_key prepared k) back to },
+      );
+      runs = λ o. (match-runs d (of_key prepared k) Count to back o, match-runs d Count (of_key prepared k) back to o);
+      clear = (match-clear d (of_key prepared k) Count to back, match-clear d Count (of_key prepared k) back to);
+    }
+      where
+        abbrev Count : Records B
+        Count r = CountOn h entries k d r
 
-    pub prepared-clear : IsClear (of_key prepared k) d ↔ IsClear (λ r. CountOn h entries k d r) d
-    prepared-clear = (
-      match-clear d (of_key prepared k) (λ r. CountOn h entries k d r) prepared-match published-match,
-      match-clear d (λ r. CountOn h entries k d r) (of_key prepared k) published-match prepared-match,
-    )
+        to : Match (of_key prepared k) Count d
+        to = record {
+          found = λ s has on. let (r, m) = prepared-match.found s has on in
+              (r, record { listed = record {
+                open_end = m.listed.open_end; code = m.listed.code; listed = m.listed.listed;
+                no_holiday = λ holiday. m.listed.free ((stops m.listed.code).1 holiday);
+              }; applies = m.applies; letters = m.letters; bodies = m.bodies });
+        }
+
+        back : Match Count (of_key prepared k) d
+        back = record {
+          found = λ r count on. published-match.found r (record {
+            open_end = count.open_end; code = count.code; listed = count.listed;
+            free = λ stop. count.no_holiday ((stops count.code).0 stop);
+          }) on;
+        }
 
 -- ---- open ends
 

@@ -1,30 +1,26 @@
 -- A prepared extract that was written, or why it wasn't.
-use Rattle.std.proofs.Common.{◌≡◌, ◌↔◌, ℕ, Bool, true, false, List, [], Option, Some, None, Result, Ok, Err, IfSome, IsTrue}
-use Rattle.std.proofs.Common.{Global, Vec, refl, sym, ap, ◌∙◌, subst}
+use Rattle.std.proofs.Common.{◌≡◌, ◌↔◌, ℕ, Bool, List, [], Option, Some, None, Result, Ok, Err, IfSome, IsTrue}
+use Rattle.std.proofs.Common.{refl, sym, ap, ◌∙◌, subst}
 use Rattle.std.specs.Prelude.{MatchResult}
 use Rattle.cif_columns.specs.Contents.{contents_of}
-use Rattle.cif_columns.specs.Field.{AllFit}
 use Rattle.cif_columns.specs.Source.{Unread}
 use Rattle.cif_columns.specs.declared.sink.Sink.{Sink}
 use Rattle.cif_columns.specs.declared.source.Source.{Source}
 use Rattle.cif_columns.proofs.GivenLinesLaws.{known_so}
 use Rattle.cif_extract.specs.ExtractParts.{ExtractParts}
 use Rattle.cif_extract.specs.ReadCall.{IsResultOf}
-use Rattle.cif_extract.specs.Texts.{FitsColumns, extract_text}
-use Rattle.cif_extract.specs.declared.fault.Clash.{Clash}
+use Rattle.cif_extract.specs.Texts.{extract_text}
 use Rattle.cif_extract.specs.declared.fault.Fault.TheVariants as fault
 use Rattle.cif_extract.proofs.PlainTexts.{text-spells}
 use Rattle.cif_extract.proofs.ReadCalls.{HandsOn, Makes, Refuses, of_any}
-use Rattle.cif_records.specs.Header.{header_table}
-use Rattle.cif_records.specs.declared.header.Header.{Header}
-use Rattle.cif_feed.specs.Dropped.{AreDropped, AreThose}
 use Rattle.cif_feed.specs.HolidayCode.{has_code}
 use Rattle.cif_feed.specs.Holidays.{Names}
 use Rattle.cif_feed.specs.PublishedParts.{BytesSpellPublished, IsPublishedOf, PublishedParts, published_parts}
 use Rattle.cif_feed.specs.WrittenPrepared.{preparing}
 use Rattle.cif_feed.specs.PublishedParts.{reading_published}
-use Rattle.cif_feed.specs.WrittenPrepared.{FeedWrites, IsDeviceOrMemory, IsDroppedIf, IsPrepareFault, IsPreparedAs, IsPreparedText}
+use Rattle.cif_feed.specs.WrittenPrepared.{FeedWrites, IsDeviceOrMemory, IsPrepareFault, IsPreparedAs, IsPreparedText}
 use Rattle.cif_feed.specs.WrittenPrepared.{Prepares, WritesPrepared, codes_named}
+use Rattle.cif_feed.specs.declared.dropped.Dropped.{Dropped}
 use Rattle.cif_feed.specs.declared.feed.Feed.TheVariants.{Full}
 use Rattle.cif_feed.specs.declared.feed.FeedFault.{FeedFault}
 use Rattle.cif_feed.specs.declared.feed.FeedFault.TheVariants.{Extract}
@@ -34,7 +30,6 @@ use Rattle.cif_feed.specs.declared.holiday_code.HolidayCodes.{HolidayCodes}
 use Rattle.cif_feed.specs.declared.holidays.Holidays.{Holidays}
 use Rattle.cif_feed.specs.declared.published_extract.PublishedExtract.{PublishedExtract}
 use Rattle.cif_feed.proofs.ChangeLaws.{bools}
-use Rattle.cif_feed.proofs.FittingUpdates.{AssociationFits, Each, ScheduleFits, TiplocFits, each-filter, each_fits, fits_each}
 use Rattle.cif_feed.proofs.PreparedFits.{prepared_fits}
 use Rattle.cif_feed.proofs.PublishedTexts.{said_fits}
 use Rattle.cif_feed.proofs.SpelledFeeds.{blames_none}
@@ -47,72 +42,47 @@ codes_are h a are =
     ∙ ap (λ (b : Bool). record a { bank = h.bank.is_named; edinburgh = b }) (bools a.edinburgh h.edinburgh.is_named (are E).0 (are E).1)
     ∙ ap (λ (b : Bool). record (codes_named h) { glasgow = b }) (bools a.glasgow h.glasgow.is_named (are G).0 (are G).1)
 
--- ---- what is left of an extract fits
-
-those_fit : {A : Type 0} (P Fits : A → Type 0) (old new : List A) → AreThose P old new → Each Fits old → Each Fits new
-those_fit P Fits old new those fits = subst (Each Fits) (sym those.are) (each-filter Fits those.test old fits)
-
-dropped_fits : (old : ExtractParts) (clashes : List Clash) (new : ExtractParts) → AreDropped old clashes new → FitsColumns old
-    → FitsColumns new
-dropped_fits old clashes new d fits =
-    let was = each_fits old fits in
-    fits_each new (record {
-      header = subst (λ (h : Header). AllFit (header_table h)) (sym d.header) was.header;
-      tiplocs = subst (Each TiplocFits) (sym d.tiplocs) was.tiplocs;
-      associations = those_fit _ AssociationFits old.associations new.associations d.associations was.associations;
-      schedules = those_fit _ ScheduleFits old.schedules new.schedules d.schedules was.schedules;
-      trailer = was.trailer;
-    })
-
-dropped_if : (drops : Bool) (old : ExtractParts) (clashes : List Clash) (new : ExtractParts) → IsDroppedIf drops old clashes new
-    → FitsColumns old → FitsColumns new
-dropped_if true old clashes new d fits = dropped_fits old clashes new d fits
-dropped_if false old clashes new d fits = subst FitsColumns (sym d.0) fits
-
 -- ---- of known bytes
 
 module _ (h : Holidays) (drops : Bool) (max : ℕ) where
-  prepared_text : (bytes : List ℕ) (p : PublishedParts) (x : ExtractParts) (clashes : List Clash)
-      → BytesSpellPublished (codes_named h) max bytes p → IsPreparedAs h drops p x clashes
-      → IsPreparedText h drops max bytes (extract_text x) clashes
-  prepared_text bytes p x clashes spelled is = record {
+  prepared_text : (bytes : List ℕ) (p : PublishedParts) (x : ExtractParts) (dropped : Dropped)
+      → BytesSpellPublished (codes_named h) max bytes p → IsPreparedAs h drops p x dropped
+      → IsPreparedText h drops max bytes (extract_text x) dropped
+  prepared_text bytes p x dropped spelled is = record {
     published = p;
     spelled = spelled;
     prepared = x;
     is = is;
     text_is = refl;
-    spells = text-spells x (dropped_if drops is.whole clashes x is.dropped
-        (prepared_fits h p is.whole (said_fits (codes_named h) (contents_of bytes) p spelled.spell) is.prepared));
+    spells = text-spells x
+        (prepared_fits h drops p x (said_fits (codes_named h) (contents_of bytes) p spelled.spell) is.prepared);
   }
 
-  module _ {W A : Type 0} (contents : W → Option (List ℕ)) (errors : W → Option ℕ) (told : A → List Clash) (old new : Sink W)
-      (start : Option (List ℕ)) (p : PublishedExtract) (read : IfSome start (λ bytes. IsPublishedOf (codes_named h) max bytes p)) where
-    known_text : (x : ExtractParts) (clashes : List Clash) → IsPreparedAs h drops (published_parts p) x clashes → (Q : List ℕ → Type 0)
-        → ((bytes : List ℕ) → IsPreparedText h drops max bytes (extract_text x) clashes → Q bytes) → IfSome start Q
-    known_text x clashes is Q so = known_so start (λ bytes. IsPublishedOf (codes_named h) max bytes p) Q
-        (λ bytes r. so bytes (prepared_text bytes (published_parts p) x clashes r.spelled is)) read
+  module _ {W : Type 0} (contents : W → Option (List ℕ)) (errors : W → Option ℕ) (old new : Sink W) (start : Option (List ℕ))
+      (p : PublishedExtract) (read : IfSome start (λ bytes. IsPublishedOf (codes_named h) max bytes p)) where
+    known_text : (x : ExtractParts) (dropped : Dropped) → IsPreparedAs h drops (published_parts p) x dropped → (Q : List ℕ → Type 0)
+        → ((bytes : List ℕ) → IsPreparedText h drops max bytes (extract_text x) dropped → Q bytes) → IfSome start Q
+    known_text x dropped is Q so = known_so start (λ bytes. IsPublishedOf (codes_named h) max bytes p) Q
+        (λ bytes r. so bytes (prepared_text bytes (published_parts p) x dropped r.spelled is)) read
 
     -- what was read was prepared
-    pub read_prepared : (result : Result A FeedFault) → WritesPrepared contents errors told h drops (published_parts p) old new result
+    pub read_prepared : (result : Result Dropped FeedFault) → WritesPrepared contents errors h drops (published_parts p) old new result
         → (text : List ℕ) × FeedWrites contents errors text old new result
-        × IfSome start (λ bytes. Prepares told h drops max bytes text result)
-    read_prepared (Ok done) w = (extract_text w.0, w.2, known_text w.0 (told done) w.1 _ (λ bytes is. is))
+        × IfSome start (λ bytes. Prepares h drops max bytes text result)
+    read_prepared (Ok dropped) w = (extract_text w.0, w.2, known_text w.0 dropped w.1 _ (λ bytes is. is))
     read_prepared (Err (Extract fault.Write)) w = (extract_text w.0, w.3, known_text w.0 w.1 w.2 _ (λ bytes is. (w.1, is)))
     read_prepared (Err (Extract fault.Memory)) w = ([], w, of_any start _ (λ bytes. tt))
     read_prepared (Err _) w = absurd w
 
   -- and so it has its answer, or none since a device failed or memory ran out
-  pub prepares : {W : Type 0} (contents : W → Option (List ℕ)) (errors : W → Option ℕ) (told : Vec Clash Global → List Clash)
-      (old new : Sink W) (x : PublishedExtract) (result : Result (Vec Clash Global) FeedFault)
-      → WritesPrepared contents errors told h drops (published_parts x) old new result
+  pub prepares : {W : Type 0} (contents : W → Option (List ℕ)) (errors : W → Option ℕ) (old new : Sink W) (x : PublishedExtract)
+      (result : Result Dropped FeedFault) → WritesPrepared contents errors h drops (published_parts x) old new result
       → MatchResult result (Makes (reading_published (codes_named h) max) (preparing h max (Some x)) x)
       (Refuses (reading_published (codes_named h) max) (preparing h max (Some x)) x)
-  prepares contents errors told old new x (Ok done) w = record { answer = λ bytes is. is; whole = λ whole. tt }
-  prepares contents errors told old new x (Err (Extract fault.Write)) w =
-      record { fault = λ bytes after is. tt; answers = tt; other = refl }
-  prepares contents errors told old new x (Err (Extract fault.Memory)) w =
-      record { fault = λ bytes after is. tt; answers = tt; other = refl }
-  prepares contents errors told old new x (Err _) w = absurd w
+  prepares contents errors old new x (Ok dropped) w = record { answer = λ bytes is. is; whole = λ whole. tt }
+  prepares contents errors old new x (Err (Extract fault.Write)) w = record { fault = λ bytes after is. tt; answers = tt; other = refl }
+  prepares contents errors old new x (Err (Extract fault.Memory)) w = record { fault = λ bytes after is. tt; answers = tt; other = refl }
+  prepares contents errors old new x (Err _) w = absurd w
 
 module _ (h : Holidays) (max : ℕ) where
   -- the codes that may stand are those that the holidays name

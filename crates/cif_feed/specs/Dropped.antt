@@ -1,42 +1,70 @@
--- A prepared extract without the records of the keys that clash.
-use Rattle.std.specs.Prelude.{◌≡◌, ◌↔◌, ℕ, Bool, List, Contains, IsTrue, filter}
-use Rattle.cif_calendar.specs.AllClashes.{AreAllClashes}
-use Rattle.cif_calendar.specs.Keys.{AreClear, of_key}
-use Rattle.cif_calendar.specs.Terms.{Terms}
-use Rattle.cif_extract.specs.ExtractParts.{ExtractParts}
-use Rattle.cif_extract.specs.declared.extract.Schedule.{Schedule}
+-- What is told of the keys that clash.
+use Rattle.std.specs.Prelude.{◌≡◌, ◌↔◌, ℕ, ◌+◌, ◌-◌, ◌<◌, ◌≤◌, List, ◌++◌, AllPairs, Contains, codes, decimal, length, map, slice_index_or}
+use Rattle.std.specs.Ordering.{nat_cmp}
+use Rattle.std.specs.Cmp.Lexicographic.{slice_cmp}
+use Rattle.std.specs.declared.cmp.Ordering.{Ordering}
+use Rattle.std.specs.declared.cmp.Ordering.TheVariants.{Less}
+use Rattle.cif_calendar.specs.Clash.{IsClear}
+use Rattle.cif_extract.specs.Clash.{clash_text}
 use Rattle.cif_extract.specs.declared.fault.Clash.{Clash}
 use Rattle.cif_extract.specs.declared.fault.Clash.TheVariants as clash
+use Rattle.cif_records.specs.AssocKey.{key_cmp}
 use Rattle.cif_records.specs.declared.association.AssocKey.{AssocKey}
-use Rattle.cif_records.specs.declared.association.Association.{Association}
-use Rattle.cif_feed.specs.Prepared.{SayTheSame}
+use Rattle.cif_feed.specs.CutCount.{AppliesOnAny, IsCountOf}
+use Rattle.cif_feed.specs.Published.{CountOn, IsClashDay, PublishedTerms}
+use Rattle.cif_feed.specs.PublishedParts.{PublishedParts, published_associations, published_schedules}
+use Rattle.cif_feed.specs.declared.dropped.Dropped.{Dropped}
+use Rattle.cif_feed.specs.declared.dropped.DroppedKey.{DroppedKey}
+use Rattle.cif_feed.specs.declared.holidays.Holidays.{Holidays}
 
--- a clash of this key of associations is told; and one of this train
-abbrev pub IsToldAssociation : List Clash → AssocKey → Type 0
-IsToldAssociation clashes key = (d : ℕ) × Contains clashes (clash.Association key d)
+-- These are the clash days of key k, from `first` to the one before `to`, rising. On the other days the key is clear.
+pub record AreClashDays {K B : Type 0} (h : Holidays) (entries : List (K × PublishedTerms B)) (first to : ℕ) (k : K) (days : List ℕ)
+    : Type 0 where
+  pub rising : AllPairs ◌<◌ days
+  pub are : (d : ℕ) → Contains days d ↔ IsClashDay h entries first to k d
+  pub clear : (d : ℕ) → first ≤ d → d < to → ¬ Contains days d → IsClear (CountOn h entries k d) d
 
-abbrev pub IsToldTrain : List Clash → List ℕ → Type 0
-IsToldTrain clashes uid = (d : ℕ) × Contains clashes (clash.Train uid d)
+-- Each key has these days, and the keys that have one are these, rising. `cmp` is the order of the keys.
+pub record AreKeysWithDays {K : Type 0} (cmp : K → K → Ordering) (Are : K → List ℕ → Type 0) (keys : List K) (days : K → List ℕ)
+    : Type 0 where
+  pub rising : AllPairs (λ (j : K) (k : K). cmp j k ≡ Less) keys
+  pub each : (k : K) → Contains keys k ↔ (0 < length (days k))
+  pub days : (k : K) → Are k (days k)
 
--- The new items are those of the old ones that have the property, in their order. A test tells which have it.
-pub record AreThose {A : Type 0} (P : A → Type 0) (old new : List A) : Type 0 where
-  pub test : A → Bool
-  pub tells : (x : A) → IsTrue (test x) ↔ P x
-  pub are : new ≡ filter test old
+-- what is told of a key and its days: the first of them, and how many more there are
+abbrev pub told_as : {K : Type 0} → (K → ℕ → Clash) → (K → List ℕ) → K → DroppedKey
+told_as name days k = record { clash = name k (slice_index_or (days k) 0 0); more = length (days k) - 1 }
 
--- All clashes of the old extract are told. The new one is the old one without the records of the keys that are told, associations and
--- schedules each by their own.
-pub record AreDropped (old : ExtractParts) (clashes : List Clash) (new : ExtractParts) : Type 0 where
-  pub told : AreAllClashes old clashes
-  pub header : new.header ≡ old.header
-  pub tiplocs : new.tiplocs ≡ old.tiplocs
-  pub associations : AreThose (λ (a : Association). ¬ IsToldAssociation clashes a.key) old.associations new.associations
-  pub schedules : AreThose (λ (s : Schedule). ¬ IsToldTrain clashes s.uid) old.schedules new.schedules
+-- so many of the published records apply on a clash day of their key
+abbrev pub IsCountOfClashing : {K B : Type 0} → Holidays → List (K × PublishedTerms B) → ℕ → ℕ → ℕ → Type 0
+IsCountOfClashing {K} {B} h entries first last =
+    IsCountOf (λ (e : K × PublishedTerms B). AppliesOnAny (IsClashDay h entries first (last + 1) e.0) h last e.1) entries
 
--- Without the keys that are told the entries are clear from `first` to `last`. A key that isn't told has the records that it had, so each
--- day says the same of it, and one that is told has none.
-pub record AreClearWithout {K B : Type 0} (Told : K → Type 0) (first last : ℕ) (old new : List (K × Terms B)) : Type 0 where
-  pub clear : AreClear new first last
-  pub records : (k : K) → ¬ Told k → (r : Terms B) → of_key new k r ↔ of_key old k r
-  pub days : (k : K) → ¬ Told k → (d : ℕ) → SayTheSame (of_key new k) (of_key old k) d
-  pub none : (k : K) → Told k → (r : Terms B) → ¬ of_key new k r
+-- What is told of a published extract, with these holidays: each key that has a clash day, associations before trains, with its first clash
+-- day and how many more it has; and how many records apply on a clash day of their key.
+pub record AreDropped (h : Holidays) (p : PublishedParts) (dropped : Dropped) : Type 0 where
+  pub associations : List AssocKey
+  pub association_days : AssocKey → List ℕ
+  pub of_associations : AreKeysWithDays key_cmp
+      (AreClashDays h (published_associations p.associations) p.header.first (p.header.last + 1)) associations association_days
+  pub trains : List (List ℕ)
+  pub train_days : List ℕ → List ℕ
+  pub of_trains : AreKeysWithDays (slice_cmp nat_cmp)
+      (AreClashDays h (published_schedules p.schedules) p.header.first (p.header.last + 1)) trains train_days
+  pub keys : dropped.keys.items
+      ≡ map (told_as clash.Association association_days) associations ++ map (told_as clash.Train train_days) trains
+  pub clashing_associations : ℕ
+  pub are_associations : IsCountOfClashing h (published_associations p.associations) p.header.first p.header.last clashing_associations
+  pub clashing_trains : ℕ
+  pub are_trains : IsCountOfClashing h (published_schedules p.schedules) p.header.first p.header.last clashing_trains
+  pub records : dropped.records ≡ clashing_associations + clashing_trains
+
+-- how many more dates there are
+abbrev pub more_text : ℕ → List ℕ
+more_text 0 = codes ""
+more_text 1 = codes " and 1 more date"
+more_text n = codes " and " ++ decimal n ++ codes " more dates"
+
+-- the text of a key that clashes: that of its first clash, and how many more dates there are
+unfoldable pub dropped_text : DroppedKey → List ℕ
+dropped_text key = clash_text key.clash ++ more_text key.more

@@ -1,5 +1,5 @@
 -- Holidays: for some of the holiday codes, a set of days.
-use Rattle.std.specs.Prelude.{◌≡◌, ◌⊎◌, ◌↔◌, ℕ, List, Bool, Contains, IsTrue}
+use Rattle.std.specs.Prelude.{◌≡◌, ◌⊎◌, ◌↔◌, ℕ, List, [], Bool, Option, Some, None, Contains, IsTrue}
 use Rattle.cif_feed.specs.HolidayDates.{IsDateOnDaysRun}
 use Rattle.cif_feed.specs.declared.holiday_code.HolidayCode.{HolidayCode}
 use Rattle.cif_feed.specs.declared.holiday_code.HolidayCode.TheVariants.{X, E, G}
@@ -19,6 +19,11 @@ Names h code = IsTrue (dates_of h code).is_named
 -- day d is a holiday of the code
 abbrev pub IsHoliday : Holidays → HolidayCode → ℕ → Type 0
 IsHoliday h code d = Contains (dates_of h code).days.items d
+
+-- the days of the code, if there is one
+abbrev pub holidays_of : Holidays → Option HolidayCode → List ℕ
+holidays_of h None = []
+holidays_of h (Some code) = (dates_of h code).days.items
 
 -- day d is a holiday of the code, and its weekday is in the mask
 abbrev pub IsHolidayOn : Holidays → HolidayCode → List Bool → ℕ → Type 0

@@ -17,6 +17,7 @@ pub mod OfProfile
 pub mod PublishedParts
 pub mod Parts
 pub mod Prepared
+pub mod PreparedDays
 pub mod PreparedParts
 pub mod PreparedRecord
 pub mod Published

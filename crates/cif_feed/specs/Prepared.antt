@@ -5,11 +5,9 @@ use Rattle.cif_calendar.specs.Runs.{Runs}
 use Rattle.cif_calendar.specs.Terms.{Records, Terms}
 use Rattle.cif_calendar.specs.Wins.{Wins}
 use Rattle.cif_feed.specs.LastDay.{last_day}
-use Rattle.cif_feed.specs.Parts.{AreParts, ended}
+use Rattle.cif_feed.specs.Parts.{AreParts, Part, ended}
 use Rattle.cif_feed.specs.Published.{PublishedTerms}
 use Rattle.cif_feed.specs.declared.holiday_code.HolidayCode.{HolidayCode}
-use Rattle.cif_feed.specs.declared.holidays.Holidays.{Holidays}
-use Rattle.cif_feed.specs.declared.part.Part.{Part}
 
 -- The last day of a record in a prepared extract, by the last day of the window: an open end becomes the later of that and of the first
 -- day.
@@ -28,16 +26,18 @@ part_entry key r p = (key, part_terms r p)
 abbrev pub published_terms : {B : Type 0} → Terms B → Bool → Option HolidayCode → PublishedTerms B
 published_terms terms open_end code = record { terms = terms; open_end = open_end; code = code }
 
--- these are the parts of a published record, in a window that ends on this day
-abbrev pub ArePartsOf : {B : Type 0} → Holidays → ℕ → PublishedTerms B → List Part → Type 0
-ArePartsOf h window_last r parts = AreParts h r.code (ended (prepared_last window_last r) r.terms) parts
+-- these are the parts of a published record that some days stop, in a window that ends on this day
+abbrev pub ArePartsOf : {B : Type 0} → (ℕ → Type 0) → ℕ → PublishedTerms B → List Part → Type 0
+ArePartsOf Stops window_last r parts = AreParts Stops (ended (prepared_last window_last r) r.terms) parts
 
--- The prepared records are the parts of the published ones, each record's in its place.
-abbrev pub ArePrepared : {K B : Type 0} → Holidays → ℕ → List (K × PublishedTerms B) → List (K × Terms B) → Type 0
-ArePrepared h window_last [] prepared = prepared ≡ []
-ArePrepared {K} {B} h window_last (e ∷ entries) prepared = (parts : List Part) × (others : List (K × Terms B))
-    × ArePartsOf h window_last e.1 parts
-    × (prepared ≡ map (λ p. (e.0, part_terms e.1.terms p)) parts ++ others) × ArePrepared h window_last entries others
+-- The prepared records are the parts of the published ones, each record's in its place, where some days stop the records of a key with a
+-- code.
+abbrev pub ArePrepared : {K B : Type 0} → (K → Option HolidayCode → ℕ → Type 0) → ℕ → List (K × PublishedTerms B) → List (K × Terms B)
+    → Type 0
+ArePrepared Stops window_last [] prepared = prepared ≡ []
+ArePrepared {K} {B} Stops window_last (e ∷ entries) prepared = (parts : List Part) × (others : List (K × Terms B))
+    × ArePartsOf (Stops e.0 e.1.code) window_last e.1 parts
+    × (prepared ≡ map (λ p. (e.0, part_terms e.1.terms p)) parts ++ others) × ArePrepared Stops window_last entries others
 
 -- each open end is the last day that there is
 abbrev pub AreClosed : {K B : Type 0} → List (K × PublishedTerms B) → Type 0

@@ -1,11 +1,12 @@
 -- What a prepared extract holds.
-use Rattle.std.specs.Prelude.{◌≡◌, ℕ, List, map, max}
+use Rattle.std.specs.Prelude.{◌≡◌, ℕ, ◌+◌, Bool, List, map, max}
 use Rattle.std.proofs.Math.Nat.{le-max_left}
 use Rattle.cif_calendar.specs.Entries.{association_entries, schedule_entries}
 use Rattle.cif_extract.specs.ExtractParts.{ExtractParts}
 use Rattle.cif_extract.specs.declared.extract.Schedule.{Schedule}
 use Rattle.cif_records.specs.declared.association.Association.{Association}
 use Rattle.cif_feed.specs.Prepared.{ArePrepared}
+use Rattle.cif_feed.specs.Published.{IsStop}
 use Rattle.cif_feed.specs.PublishedParts.{PublishedParts, published_associations, published_schedules}
 use Rattle.cif_feed.specs.declared.holidays.Holidays.{Holidays}
 use Rattle.cif_feed.specs.declared.prepared_record.PreparedRecord.{PreparedRecord}
@@ -27,10 +28,12 @@ prepared_parts published associations schedules = record {
   schedules = map schedule_on schedules;
 }
 
--- The extract is the prepared one of a published extract, with these holidays: the header and the locations are as they are, and the other
--- records are the parts of the published ones, in their order.
-pub record IsPrepared (h : Holidays) (p : PublishedParts) (x : ExtractParts) : Type 0 where
+-- The extract is the prepared one of a published extract, with these holidays, where clashes stay or are dropped: the header and the
+-- locations are as they are, and the other records are the parts of the published ones, in their order.
+pub record IsPrepared (h : Holidays) (drops : Bool) (p : PublishedParts) (x : ExtractParts) : Type 0 where
   pub header : x.header ≡ p.header
   pub tiplocs : x.tiplocs ≡ p.tiplocs
-  pub associations : ArePrepared h p.header.last (published_associations p.associations) (association_entries x.associations)
-  pub schedules : ArePrepared h p.header.last (published_schedules p.schedules) (schedule_entries x.schedules)
+  pub associations : ArePrepared (IsStop drops h (published_associations p.associations) p.header.first (p.header.last + 1))
+      p.header.last (published_associations p.associations) (association_entries x.associations)
+  pub schedules : ArePrepared (IsStop drops h (published_schedules p.schedules) p.header.first (p.header.last + 1))
+      p.header.last (published_schedules p.schedules) (schedule_entries x.schedules)

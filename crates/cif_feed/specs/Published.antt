@@ -1,6 +1,7 @@
 -- When a published record applies, and which records count on a day.
-use Rattle.std.specs.Prelude.{ℕ, Bool, List, Option, Some, None, Contains}
+use Rattle.std.specs.Prelude.{◌⊎◌, ℕ, Bool, true, false, List, Option, Some, None, Contains}
 use Rattle.cif_calendar.specs.Applies.{Applies}
+use Rattle.cif_calendar.specs.ClashDates.{IsClashBetween}
 use Rattle.cif_calendar.specs.Terms.{Terms}
 use Rattle.cif_feed.specs.Holidays.{IsHoliday}
 use Rattle.cif_feed.specs.declared.holiday_code.HolidayCode.{HolidayCode}
@@ -32,3 +33,13 @@ pub record CountOn {K B : Type 0} (h : Holidays) (entries : List (K × Published
   pub code : Option HolidayCode
   pub listed : Contains entries (k, (record { terms = r; open_end = open_end; code = code }))
   pub no_holiday : ¬ IsHolidayOf h code d
+
+-- day d is a clash day of key k: one from `first` to the one before `to` on which two of its winners have different bodies
+abbrev pub IsClashDay : {K B : Type 0} → Holidays → List (K × PublishedTerms B) → ℕ → ℕ → K → ℕ → Type 0
+IsClashDay h entries first to k d = IsClashBetween (CountOn h entries k d) first to d
+
+-- Day d stops the records of key k with this code, whatever their letter: it is a holiday of the code, or, if clashes are dropped, a clash
+-- day of the key.
+abbrev pub IsStop : {K B : Type 0} → Bool → Holidays → List (K × PublishedTerms B) → ℕ → ℕ → K → Option HolidayCode → ℕ → Type 0
+IsStop false h entries first to k code d = IsHolidayOf h code d
+IsStop true h entries first to k code d = IsHolidayOf h code d ⊎ IsClashDay h entries first to k d

@@ -7,5 +7,4 @@ pub mod HolidayReading
 pub mod Judging
 pub mod Marked
 pub mod PartsSoFar
-pub mod PreparedSoFar
 pub mod Written

@@ -1,6 +1,5 @@
 -- What comes of preparing what a source gives, and writing it.
-use Rattle.std.specs.Prelude.{◌≡◌, ℕ, ⊤, Bool, true, false, List, [], Option, Result, Ok, Err, IsSomeAnd, Vec}
-use Rattle.std.specs.Global.{Global}
+use Rattle.std.specs.Prelude.{◌≡◌, ℕ, ⊤, Bool, true, false, List, [], Option, Result, Ok, Err, IsSomeAnd}
 use Rattle.cif_columns.specs.Sink.{HasFailed, HasWritten}
 use Rattle.cif_columns.specs.Source.{Unread}
 use Rattle.cif_columns.specs.declared.sink.Sink.{Sink}
@@ -8,12 +7,12 @@ use Rattle.cif_extract.specs.ExtractParts.{ExtractParts}
 use Rattle.cif_extract.specs.ReadCall.{ReadCall, reading}
 use Rattle.cif_extract.specs.SpellsExtract.{BytesSpell}
 use Rattle.cif_extract.specs.Texts.{extract_text}
-use Rattle.cif_extract.specs.declared.fault.Clash.{Clash}
 use Rattle.cif_extract.specs.declared.fault.Fault.TheVariants.{Write, Memory}
 use Rattle.cif_feed.specs.Dropped.{AreDropped}
 use Rattle.cif_feed.specs.FeedFault.{IsFailure, IsFeedFault, IsOfFeed, is_feed_read}
 use Rattle.cif_feed.specs.PreparedParts.{IsPrepared}
 use Rattle.cif_feed.specs.PublishedParts.{BytesSpellPublished, IsPublishedOf, PublishedParts}
+use Rattle.cif_feed.specs.declared.dropped.Dropped.{Dropped}
 use Rattle.cif_feed.specs.declared.feed.Feed.TheVariants.{Full}
 use Rattle.cif_feed.specs.declared.feed.FeedFault.{FeedFault}
 use Rattle.cif_feed.specs.declared.feed.FeedFault.TheVariants.{Extract}
@@ -25,43 +24,42 @@ use Rattle.cif_feed.specs.declared.published_extract.PublishedExtract.{Published
 abbrev pub codes_named : Holidays → HolidayCodes
 codes_named h = record { bank = h.bank.is_named; edinburgh = h.edinburgh.is_named; glasgow = h.glasgow.is_named }
 
--- the records of the keys that clash are dropped, and these clashes are told, if that is asked for; else all stay
-abbrev pub IsDroppedIf : Bool → ExtractParts → List Clash → ExtractParts → Type 0
-IsDroppedIf true old clashes new = AreDropped old clashes new
-IsDroppedIf false old clashes new = (new ≡ old) × (clashes ≡ [])
+-- what is told of the keys that clash, if that is asked for; else nothing
+abbrev pub AreDroppedIf : Bool → Holidays → PublishedParts → Dropped → Type 0
+AreDroppedIf true h p dropped = AreDropped h p dropped
+AreDroppedIf false h p dropped = (dropped.keys.items ≡ []) × (dropped.records ≡ 0)
 
--- the extract is the prepared one of a published extract, with these holidays, and these clashes are told
-pub record IsPreparedAs (h : Holidays) (drops : Bool) (p : PublishedParts) (x : ExtractParts) (clashes : List Clash) : Type 0 where
-  pub whole : ExtractParts
-  pub prepared : IsPrepared h p whole
-  pub dropped : IsDroppedIf drops whole clashes x
+-- the extract is the prepared one of a published extract, with these holidays, and this is told of the keys that clash
+pub record IsPreparedAs (h : Holidays) (drops : Bool) (p : PublishedParts) (x : ExtractParts) (dropped : Dropped) : Type 0 where
+  pub prepared : IsPrepared h drops p x
+  pub dropped : AreDroppedIf drops h p dropped
 
 -- what a call that prepares this published extract owes its sink: the text of the prepared one at Ok, a prefix of it at Write, and nothing
 -- where memory runs out
-abbrev pub WritesPrepared : {W A : Type 0} → (W → Option (List ℕ)) → (W → Option ℕ) → (A → List Clash) → Holidays → Bool → PublishedParts
-    → Sink W → Sink W → Result A FeedFault → Type 0
-WritesPrepared contents errors told h drops p old new (Ok done) =
-    (x : ExtractParts) × IsPreparedAs h drops p x (told done) × HasWritten contents errors (extract_text x) old new
-WritesPrepared contents errors told h drops p old new (Err (Extract Write)) =
-    (x : ExtractParts) × (clashes : List Clash) × IsPreparedAs h drops p x clashes × HasFailed contents errors (extract_text x) old new
-WritesPrepared contents errors told h drops p old new (Err (Extract Memory)) = new ≡ old
-WritesPrepared contents errors told h drops p old new (Err fault) = ⊥
+abbrev pub WritesPrepared : {W : Type 0} → (W → Option (List ℕ)) → (W → Option ℕ) → Holidays → Bool → PublishedParts → Sink W → Sink W
+    → Result Dropped FeedFault → Type 0
+WritesPrepared contents errors h drops p old new (Ok dropped) =
+    (x : ExtractParts) × IsPreparedAs h drops p x dropped × HasWritten contents errors (extract_text x) old new
+WritesPrepared contents errors h drops p old new (Err (Extract Write)) =
+    (x : ExtractParts) × (dropped : Dropped) × IsPreparedAs h drops p x dropped × HasFailed contents errors (extract_text x) old new
+WritesPrepared contents errors h drops p old new (Err (Extract Memory)) = new ≡ old
+WritesPrepared contents errors h drops p old new (Err fault) = ⊥
 
 -- The bytes spell a published extract whose holiday codes the holidays name, in at most max contents. This is the text of its prepared
--- extract, which spells that as an extract of this profile; and these clashes are told.
-pub record IsPreparedText (h : Holidays) (drops : Bool) (max : ℕ) (bytes text : List ℕ) (clashes : List Clash) : Type 0 where
+-- extract, which spells that as an extract of this profile; and this is told of the keys that clash.
+pub record IsPreparedText (h : Holidays) (drops : Bool) (max : ℕ) (bytes text : List ℕ) (dropped : Dropped) : Type 0 where
   pub published : PublishedParts
   pub spelled : BytesSpellPublished (codes_named h) max bytes published
   pub prepared : ExtractParts
-  pub is : IsPreparedAs h drops published prepared clashes
+  pub is : IsPreparedAs h drops published prepared dropped
   pub text_is : text ≡ extract_text prepared
   pub spells : BytesSpell text prepared
 
 -- what a text is to an input, where it was written, or a prefix of it was
-abbrev pub Prepares : {A : Type 0} → (A → List Clash) → Holidays → Bool → ℕ → List ℕ → List ℕ → Result A FeedFault → Type 0
-Prepares told h drops max bytes text (Ok done) = IsPreparedText h drops max bytes text (told done)
-Prepares told h drops max bytes text (Err (Extract Write)) = (clashes : List Clash) × IsPreparedText h drops max bytes text clashes
-Prepares told h drops max bytes text (Err fault) = ⊤
+abbrev pub Prepares : Holidays → Bool → ℕ → List ℕ → List ℕ → Result Dropped FeedFault → Type 0
+Prepares h drops max bytes text (Ok dropped) = IsPreparedText h drops max bytes text dropped
+Prepares h drops max bytes text (Err (Extract Write)) = (dropped : Dropped) × IsPreparedText h drops max bytes text dropped
+Prepares h drops max bytes text (Err fault) = ⊤
 
 -- what a call that may answer such a fault owes its sink: the whole text at Ok, a prefix of it at Write, and nothing at any other fault
 abbrev pub FeedWrites : {W A : Type 0} → (W → Option (List ℕ)) → (W → Option ℕ) → List ℕ → Sink W → Sink W → Result A FeedFault → Type 0
@@ -85,7 +83,7 @@ IsOfPrepare max (Extract Write) = Unit {0}
 IsOfPrepare max fault = IsOfFeed max fault
 
 -- reading a published extract, which is kept, and writing what is prepared of it
-abbrev pub preparing : Holidays → ℕ → Option PublishedExtract → ReadCall (Vec Clash Global) FeedFault
+abbrev pub preparing : Holidays → ℕ → Option PublishedExtract → ReadCall Dropped FeedFault
 preparing h max kept =
-    reading is_feed_read (λ bytes clashes. IsSomeAnd kept (IsPublishedOf (codes_named h) max bytes)) (IsPrepareFault h max)
+    reading is_feed_read (λ bytes dropped. IsSomeAnd kept (IsPublishedOf (codes_named h) max bytes)) (IsPrepareFault h max)
     (IsOfPrepare max)

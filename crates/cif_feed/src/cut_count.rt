@@ -1,12 +1,24 @@
-//! How many records holidays cut.
-ghost use Rattle.std.specs.Prelude.{◌↔◌, IsTrue};
-ghost use Rattle.cif_feed.specs.CutCount.{HasCut, IsCountOf};
-ghost use Rattle.cif_feed.specs.PublishedParts.{published_schedule_terms};
+//! How many records holidays cut, and how many apply on a date on which their key clashes.
+ghost use Rattle.std.specs.Prelude.{◌↔◌, ◌≤◌, ◌⊎◌, ℕ, Contains, IsTrue, List, length};
+ghost use Rattle.std.specs.BTreeMap.{get};
+ghost use Rattle.std.specs.Ordering.{nat_cmp};
+ghost use Rattle.cif_feed.specs.CutCount.{AppliesOnAny, HasCut, IsCountOf};
+ghost use Rattle.cif_feed.specs.PublishedParts.{published_association_terms, published_schedule_terms};
+ghost use Rattle.cif_feed.specs.Steps.Dropping.{ReadsAssociations, ReadsTrains};
+ghost use Rattle.cif_feed.specs.Prepared.{published_terms};
+ghost use Rattle.cif_feed.specs.Published.{AppliesAsPublished};
+ghost use Rattle.cif_feed.specs.Parts.{ended};
+ghost use Rattle.cif_feed.specs.declared.published.PublishedAssociation.{PublishedAssociation};
 ghost use Rattle.cif_feed.specs.declared.published.PublishedSchedule.{PublishedSchedule};
+ghost use Rattle.cif_records.specs.AssocKey.{key_cmp};
+ghost use Rattle.cif_records.specs.declared.association.AssocKey.{AssocKey};
 
+use crate::dropped::{ClashDates, dates_of};
 use crate::prepare::prepared_last;
-use crate::{Holidays, PublishedExtract, PublishedSchedule};
+use crate::{HolidayCode, Holidays, PublishedExtract, PublishedSchedule};
+use cif_calendar::{Dates, Entry};
 use cif_columns::Day;
+use cif_records::AssocKey;
 
 impl PublishedExtract {
     /// How many of its schedules these holidays cut. Associations have no holidays.
@@ -23,6 +35,78 @@ impl PublishedExtract {
         }
         count
     }
+
+    /// How many of its associations apply on a date on which their key clashes.
+    pub(crate) fn count_clashing_associations(
+        &self,
+        holidays: &Holidays,
+        clash_dates: &ClashDates<AssocKey>,
+    ) -> usize
+        ensures count { (days : AssocKey → List ℕ) → ReadsAssociations days (get key_cmp clash_dates.now)
+            → IsCountOf (λ (a : PublishedAssociation). AppliesOnAny (Contains (days a.association.key)) holidays.now
+            self.now.header.last (published_association_terms a)) self.now.associations.items result }
+        ensures within { result ≤ length self.now.associations.items }
+    {
+        let mut count = 0;
+        let associations = self.associations.as_slice();
+        for one in associations {
+            let association = &one.association;
+            let last = prepared_last(association, one.open_end, self.header.last);
+            let dates = dates_of(clash_dates, association);
+            if applies_on_any(association, last, None, holidays, dates) {
+                count += 1;
+            }
+        }
+        count
+    }
+
+    /// How many of its schedules do.
+    pub(crate) fn count_clashing_schedules(
+        &self,
+        holidays: &Holidays,
+        clash_dates: &ClashDates<u64>,
+    ) -> usize
+        ensures count { (days : List ℕ → List ℕ) → ReadsTrains days (get nat_cmp clash_dates.now)
+            → IsCountOf (λ (s : PublishedSchedule). AppliesOnAny (Contains (days s.schedule.uid)) holidays.now
+            self.now.header.last (published_schedule_terms s)) self.now.schedules.items result }
+        ensures within { result ≤ length self.now.schedules.items }
+    {
+        let mut count = 0;
+        let schedules = self.schedules.as_slice();
+        for one in schedules {
+            let schedule = &one.schedule;
+            let last = prepared_last(schedule, one.open_end, self.header.last);
+            let dates = dates_of(clash_dates, schedule);
+            if applies_on_any(schedule, last, one.code, holidays, dates) {
+                count += 1;
+            }
+        }
+        count
+    }
+}
+
+/// Whether the entry, whose last date is `last`, applies on one of the dates, with these holidays.
+fn applies_on_any<E: Entry>(
+    entry: &E,
+    last: Day,
+    code: Option<HolidayCode>,
+    holidays: &Holidays,
+    dates: &[Day],
+) -> bool
+    ensures { IsTrue result ↔ ((d : ℕ) × Contains dates.now d
+        × AppliesAsPublished holidays.now code (ended last (E.terms entry.now)) d) }
+{
+    let own = Dates {
+        first: entry.first(),
+        last,
+        days: entry.days(),
+    };
+    for day in dates {
+        if own.has(*day) && !holidays.has(code, *day) {
+            return true;
+        }
+    }
+    false
 }
 
 /// Whether the schedule has a cut, in a window that ends on this date.

@@ -96,7 +96,8 @@ impl Holidays {
     ghost use Rattle.cif_feed.specs.declared.holiday_code.HolidayCode.{HolidayCode};
     ghost use Rattle.cif_feed.specs.HolidayCode.{has_code};
     ghost use Rattle.cif_feed.specs.HolidayDates.{IsFirstFrom};
-    ghost use Rattle.cif_feed.specs.Holidays.{HasMore, IsHoliday, IsHolidayOn, Names, dates_of};
+    ghost use Rattle.cif_feed.specs.Holidays.{HasMore, IsHoliday, IsHolidayOn, Names, dates_of, holidays_of};
+    ghost use Rattle.cif_feed.specs.Published.{IsHolidayOf};
 
     /// No code is named.
     pub fn new(alloc: Global) -> Holidays
@@ -139,6 +140,27 @@ impl Holidays {
         ensures { IsFirstFrom (IsHolidayOn self.now code days) from last result }
     {
         self.dates(code).next_on(days, from, last)
+    }
+
+    /// The holidays of the code; none without one.
+    pub(crate) fn of(&self, code: Option<HolidayCode>) -> &[Day]
+        ensures days { result.now ≡ holidays_of self.now code }
+        ensures rising { IsNonDecreasing result.now }
+    {
+        match code {
+            Some(code) => self.dates(code).days.as_slice(),
+            None => &[],
+        }
+    }
+
+    /// Whether the day is a holiday of the code; no day is without one.
+    pub(crate) fn has(&self, code: Option<HolidayCode>, day: Day) -> bool
+        ensures { IsTrue result ↔ IsHolidayOf self.now code day }
+    {
+        match code {
+            Some(code) => self.dates(code).contains(day),
+            None => false,
+        }
     }
 
     /// Names the code.

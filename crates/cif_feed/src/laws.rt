@@ -8,7 +8,9 @@ ghost use Rattle.cif_feed.specs.HolidayText.{AreRead, IsHolidayFault, SpellHolid
 ghost use Rattle.cif_feed.specs.Judged.{IsJudgedAs, IsJudgedFault, IsReadAsJudged};
 ghost use Rattle.cif_feed.specs.PublishedParts.{IsPublishedOf};
 ghost use Rattle.cif_feed.specs.UpdateParts.{IsUpdateOf};
-ghost use Rattle.cif_feed.specs.WrittenPrepared.{IsDeviceOrMemory, IsPrepareFault, codes_named};
+ghost use Rattle.cif_feed.specs.WrittenPrepared.{AreDroppedIf, IsDeviceOrMemory, IsPrepareFault, IsPreparedText};
+ghost use Rattle.cif_feed.specs.WrittenPrepared.{codes_named};
+ghost use Rattle.cif_feed.specs.declared.dropped.Dropped.{Dropped};
 ghost use Rattle.cif_feed.specs.declared.feed.Feed.TheVariants.{Full};
 ghost use Rattle.cif_feed.specs.declared.feed.Feed.TheVariants as feed;
 ghost use Rattle.cif_feed.specs.declared.holiday_text.HolidayFault.{HolidayFault};
@@ -16,25 +18,18 @@ ghost use Rattle.cif_feed.specs.declared.judged.Judged.{Judged};
 ghost use Rattle.cif_feed.specs.declared.published_extract.PublishedExtract.{PublishedExtract};
 ghost use Rattle.cif_feed.specs.declared.update.Update.{Update};
 ghost use Rattle.cif_calendar.specs.Applies.{Applies};
-ghost use Rattle.cif_calendar.specs.Clash.{IsClear};
-ghost use Rattle.cif_calendar.specs.Entries.{association_entries, schedule_entries};
-ghost use Rattle.cif_calendar.specs.Keys.{of_key};
-ghost use Rattle.cif_calendar.specs.Runs.{Runs};
 ghost use Rattle.cif_calendar.specs.Terms.{Terms};
 ghost use Rattle.cif_feed.specs.RecordKeys.{tiploc_key};
 ghost use Rattle.cif_feed.specs.Changes.{HaveLastWord};
 ghost use Rattle.cif_feed.specs.Changes.{ChangeParts, TellsSame, after_all, last_word, put_last, untouched};
 ghost use Rattle.cif_feed.specs.Changes.{of_key as records_of_key};
-ghost use Rattle.cif_feed.specs.Dropped.{AreClearWithout, AreDropped, IsToldAssociation, IsToldTrain};
-ghost use Rattle.cif_feed.specs.Parts.{AreParts, IsPart, ended};
+ghost use Rattle.cif_feed.specs.Parts.{AreParts, IsPart, Part, ended};
 ghost use Rattle.cif_extract.specs.ExtractParts.{ExtractParts};
-ghost use Rattle.cif_extract.specs.declared.fault.Clash.{Clash};
-ghost use Rattle.cif_records.specs.declared.association.AssocKey.{AssocKey};
-ghost use Rattle.cif_feed.specs.Prepared.{AreClosed, ArePrepared, HaveSameWinners, SayTheSame, part_terms};
+ghost use Rattle.cif_feed.specs.Prepared.{part_terms};
+ghost use Rattle.cif_feed.specs.PreparedDays.{SayAsPublished};
 ghost use Rattle.cif_feed.specs.PreparedParts.{IsPrepared};
-ghost use Rattle.cif_feed.specs.Published.{AppliesAsPublished, CountOn, PublishedTerms};
-ghost use Rattle.cif_feed.specs.PublishedParts.{PublishedParts, published_associations, published_parts, published_schedules};
-ghost use Rattle.cif_feed.specs.LastDay.{last_day};
+ghost use Rattle.cif_feed.specs.Published.{AppliesAsPublished, CountOn, IsStop, PublishedTerms};
+ghost use Rattle.cif_feed.specs.PublishedParts.{PublishedParts, published_parts};
 ghost use Rattle.cif_extract.specs.SpellsExtract.{BytesSpellWithin};
 ghost use Rattle.cif_columns.specs.Contents.{contents_of};
 ghost use Rattle.cif_extract.specs.Texts.{FitsColumns};
@@ -63,7 +58,6 @@ ghost use Rattle.cif_feed.specs.UpdateParts.{AssociationKey, ScheduleKey, SpellU
 ghost use Rattle.cif_feed.specs.declared.holiday_code.HolidayCodes.{HolidayCodes};
 ghost use Rattle.cif_feed.specs.declared.holiday_code.HolidayCode.{HolidayCode};
 ghost use Rattle.cif_feed.specs.declared.holidays.Holidays.{Holidays};
-ghost use Rattle.cif_feed.specs.declared.part.Part.{Part};
 
 use cif_calendar::Entry;
 
@@ -93,56 +87,38 @@ pub fn what_bytes_spell_is_read()
         → IsPrepareFault h max bytes after fault → IsDeviceOrMemory fault }
 {}
 
-/// The parts of a record apply on exactly the dates on which it applies as published.
+/// The parts of a record apply on exactly the dates on which it applies and isn't stopped: by a holiday of its
+/// code, or, if clashes are dropped, by a clash of its key.
 pub fn parts_apply_as_published<E: Entry>()
     // Among the parts of a record is each range that is one, so that there is one such list.
-    ensures all { (h : Holidays) (code : Option HolidayCode) (r : Terms E.Body) (parts : List Part) (p : Part)
-        → AreParts h code r parts → Contains parts p ↔ IsPart h code r p }
-    ensures parts { (h : Holidays) (code : Option HolidayCode) (r : Terms E.Body) (last : ℕ) (parts : List Part) (d : ℕ)
-        → AreParts h code (ended last r) parts → d ≤ last → d ≤ r.last
-        → AppliesAsPublished h code r d ↔ ((p : Part) × Contains parts p × Applies (part_terms r p) d) }
-    // Without a code it applies as a record of this profile does.
-    ensures plain { (h : Holidays) (r : Terms E.Body) (d : ℕ) → AppliesAsPublished h None r d ↔ Applies r d }
-{}
-
-/// On each date up to the window's last, the prepared records say what the published ones do.
-pub fn prepared_runs_as_published<E: Entry>()
-    // For each key winners of the same letters and bodies.
-    ensures wins { (h : Holidays) (window_last : ℕ) (entries : List (E.Key × PublishedTerms E.Body))
-        (prepared : List (E.Key × Terms E.Body)) (k : E.Key) (d : ℕ)
-        → ArePrepared h window_last entries prepared → AreClosed entries
-        → d ≤ window_last → d ≤ last_day → HaveSameWinners (of_key prepared k) (CountOn h entries k d) d }
-    // For each key the same runs.
-    ensures runs { (h : Holidays) (window_last : ℕ) (entries : List (E.Key × PublishedTerms E.Body))
-        (prepared : List (E.Key × Terms E.Body)) (k : E.Key) (d : ℕ) (o : Option E.Body)
-        → ArePrepared h window_last entries prepared → AreClosed entries
-        → d ≤ window_last → d ≤ last_day
-        → Runs (of_key prepared k) d o ↔ Runs (CountOn h entries k d) d o }
-    // For each key there is a clash in both or in neither.
-    ensures clear { (h : Holidays) (window_last : ℕ) (entries : List (E.Key × PublishedTerms E.Body))
-        (prepared : List (E.Key × Terms E.Body)) (k : E.Key) (d : ℕ)
-        → ArePrepared h window_last entries prepared → AreClosed entries
-        → d ≤ window_last → d ≤ last_day
-        → IsClear (of_key prepared k) d ↔ IsClear (CountOn h entries k d) d }
-    // A record counts and applies exactly if it is one of the key's that applies as published.
+    ensures all { (drops : Bool) (h : Holidays) (entries : List (E.Key × PublishedTerms E.Body)) (first to : ℕ)
+        (k : E.Key) (code : Option HolidayCode) (r : Terms E.Body) (parts : List Part) (p : Part)
+        → AreParts (IsStop drops h entries first to k code) r parts
+        → Contains parts p ↔ IsPart (IsStop drops h entries first to k code) r p }
+    ensures parts { (drops : Bool) (h : Holidays) (entries : List (E.Key × PublishedTerms E.Body)) (first to : ℕ)
+        (k : E.Key) (code : Option HolidayCode) (r : Terms E.Body) (last : ℕ) (parts : List Part) (d : ℕ)
+        → AreParts (IsStop drops h entries first to k code) (ended last r) parts → d ≤ last → d ≤ r.last
+        → (Applies r d × (¬ IsStop drops h entries first to k code d))
+        ↔ ((p : Part) × Contains parts p × Applies (part_terms r p) d) }
+    // A record counts and applies exactly if it is one of the key's that applies as published,
     ensures counts { (h : Holidays) (entries : List (E.Key × PublishedTerms E.Body))
         (k : E.Key) (d : ℕ) (r : Terms E.Body)
         → (CountOn h entries k d r × Applies r d)
         ↔ ((open_end : Bool) × (code : Option HolidayCode)
         × Contains entries (k, record { terms = r; open_end = open_end; code = code })
         × AppliesAsPublished h code r d) }
+    // and without a code it applies as a record of this profile does.
+    ensures plain { (h : Holidays) (r : Terms E.Body) (d : ℕ) → AppliesAsPublished h None r d ↔ Applies r d }
 {}
 
-/// On each date of its window, a prepared extract says of each key what the published one does.
-pub fn prepared_extracts_say_the_same()
-    ensures associations { (h : Holidays) (p : PublishedParts) (x : ExtractParts) (k : AssocKey) (d : ℕ)
-        → IsPrepared h p x → d ≤ p.header.last → d ≤ last_day
-        → SayTheSame (of_key (association_entries x.associations) k)
-        (CountOn h (published_associations p.associations) k d) d }
-    ensures trains { (h : Holidays) (p : PublishedParts) (x : ExtractParts) (k : List ℕ) (d : ℕ)
-        → IsPrepared h p x → d ≤ p.header.last → d ≤ last_day
-        → SayTheSame (of_key (schedule_entries x.schedules) k)
-        (CountOn h (published_schedules p.schedules) k d) d }
+/// What is written as the prepared extract says on each date of its window what the bytes that were read say, with
+/// the holidays of theirs: the same wins, or, if clashes are dropped, nothing on a clash date, and each key that
+/// has one is told, with the first and their number.
+pub fn prepared_texts_say_what_was_published()
+    ensures { (holiday_bytes bytes text : List ℕ) (h : Holidays) (drops : Bool) (max : ℕ) (dropped : Dropped)
+        (p : PublishedParts) (x : ExtractParts) → SpellHolidays holiday_bytes h
+        → IsPreparedText h drops max bytes text dropped → BytesSpellPublished (codes_named h) max bytes p
+        → BytesSpell text x → SayAsPublished h drops p x × AreDroppedIf drops h p dropped }
 {}
 
 /// What changes leave, by a test that tells whether two keys are the same.
@@ -175,17 +151,6 @@ pub fn updates_leave_the_last_word()
         → HaveLastWord published_schedule_key old.schedules u.schedules new.schedules key }
 {}
 
-/// Without the records of the keys that are told, an extract is clear in its window, and says of each other
-/// key what it said.
-pub fn dropped_extracts_are_clear()
-    ensures associations { (old new : ExtractParts) (clashes : List Clash) → AreDropped old clashes new
-        → AreClearWithout (IsToldAssociation clashes) old.header.first old.header.last
-        (association_entries old.associations) (association_entries new.associations) }
-    ensures trains { (old new : ExtractParts) (clashes : List Clash) → AreDropped old clashes new
-        → AreClearWithout (IsToldTrain clashes) old.header.first old.header.last
-        (schedule_entries old.schedules) (schedule_entries new.schedules) }
-{}
-
 /// Contents spell one published extract at most, and one update.
 pub fn contents_spell_one_feed()
     ensures published { (allowed : HolidayCodes) (contents : List (List ℕ)) (p q : PublishedParts)
@@ -202,7 +167,7 @@ pub fn extracts_of_this_profile_prepare_to_themselves()
         → BytesSpellWithin max bytes x → BytesSpellPublished allowed max bytes (as_published x) }
     // It is its prepared extract, and no other is: the same records in the same order.
     ensures prepared { (h : Holidays) (x y : ExtractParts)
-        → IsPrepared h (as_published x) y ↔ (y ≡ x) }
+        → IsPrepared h false (as_published x) y ↔ (y ≡ x) }
 {}
 
 /// The text of a published extract spells it, with its open ends and holiday codes, where what it says
@@ -254,10 +219,10 @@ pub fn updates_in_turn()
 /// The text of a prepared extract spells it, as an extract of this profile, where what the published one
 /// says fits the columns of lines.
 pub fn prepared_texts_spell_extracts()
-    ensures fits { (h : Holidays) (p : PublishedParts) (x : ExtractParts)
-        → FitsColumns (of_profile p) → IsPrepared h p x → FitsColumns x }
-    ensures spells { (h : Holidays) (p : PublishedParts) (x : ExtractParts)
-        → FitsColumns (of_profile p) → IsPrepared h p x → BytesSpell (extract_text x) x }
+    ensures fits { (h : Holidays) (drops : Bool) (p : PublishedParts) (x : ExtractParts)
+        → FitsColumns (of_profile p) → IsPrepared h drops p x → FitsColumns x }
+    ensures spells { (h : Holidays) (drops : Bool) (p : PublishedParts) (x : ExtractParts)
+        → FitsColumns (of_profile p) → IsPrepared h drops p x → BytesSpell (extract_text x) x }
 {}
 
 /// A line of a feed is refused for the first of its fields that may not stand in its columns, as the layouts

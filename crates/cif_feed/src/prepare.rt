@@ -1,26 +1,33 @@
 //! The prepared extract of a published one: the parts of its records.
-ghost use Rattle.std.specs.Prelude.{◌≡◌, ◌≤◌, ◌++◌, List, Option, All, IfOk, map};
-ghost use Rattle.cif_calendar.specs.Entries.{association_entries, schedule_entries, schedule_terms};
+ghost use Rattle.std.specs.Prelude.{◌≡◌, ◌≤◌, ℕ, List, Option, IfOk, false, map, true};
+ghost use Rattle.std.specs.BTreeMap.{get};
+ghost use Rattle.std.specs.Ordering.{nat_cmp};
+ghost use Rattle.cif_calendar.specs.Entries.{association_entries, schedule_entries};
 ghost use Rattle.cif_columns.specs.Sink.{Writes};
 ghost use Rattle.cif_extract.specs.Texts.{extract_text};
-ghost use Rattle.cif_feed.specs.Prepared.{ArePartsOf, ArePrepared, part_entry, prepared_last};
-ghost use Rattle.cif_feed.specs.Prepared.{published_terms};
+ghost use Rattle.cif_feed.specs.Dropped.{AreDropped};
+ghost use Rattle.cif_feed.specs.Prepared.{ArePrepared, prepared_last, published_terms};
 ghost use Rattle.cif_feed.specs.PreparedParts.{IsPrepared, association_on, schedule_on};
-ghost use Rattle.cif_feed.specs.PublishedParts.{published_associations, published_parts};
-ghost use Rattle.cif_feed.specs.PublishedParts.{published_schedule_terms, published_schedules};
-ghost use Rattle.cif_feed.specs.Steps.PreparedSoFar.{IsPushed};
+ghost use Rattle.cif_feed.specs.PublishedParts.{published_associations, published_parts, published_schedules};
+ghost use Rattle.cif_feed.specs.Steps.Dropping.{AreAllFound, IsCutAt, IsStopAmong, ReadsAssociations, ReadsTrains};
 ghost use Rattle.cif_feed.specs.declared.holiday_code.HolidayCode.{HolidayCode};
-ghost use Rattle.cif_feed.specs.declared.part.Part.{Part};
+ghost use Rattle.cif_feed.specs.declared.holidays.Holidays.{Holidays};
+ghost use Rattle.cif_records.specs.AssocKey.{key_cmp};
+ghost use Rattle.cif_records.specs.declared.association.AssocKey.{AssocKey};
 
+use crate::dropped::{ClashDates, dates_of, find_clash_dates};
+use crate::parts::add_parts;
 use crate::written::write_records;
 use crate::{
-    Holidays, Part, PreparedRecord, PublishedAssociation, PublishedExtract, PublishedSchedule,
+    Dropped, DroppedKey, Holidays, PreparedRecord, PublishedAssociation, PublishedExtract,
+    PublishedSchedule,
 };
-use cif_calendar::Entry;
+use cif_calendar::{Entry, Window};
 use cif_columns::{Day, Sink, WriteDevice, WriteFault};
 use cif_extract::Schedule;
-use cif_records::Association;
+use cif_records::{AssocKey, Association};
 use std::alloc::{AllocError, Global};
+use std::collections::BTreeMap;
 use std::marker::Model;
 
 /// The prepared extract of a published one, from which its records are borrowed: a clause sees what
@@ -49,11 +56,50 @@ impl PublishedExtract {
         alloc: Global,
         holidays: &Holidays,
     ) -> Result<Prepared<'a>, AllocError>
-        ensures { IfOk result (IsPrepared holidays.now (published_parts self.now)) }
+        ensures { IfOk result (IsPrepared holidays.now false (published_parts self.now)) }
+    {
+        self.cut(alloc, holidays, &BTreeMap::new(alloc), &BTreeMap::new(alloc))
+    }
+
+    /// Its prepared extract, with these holidays, without the dates on which a key clashes: on these no
+    /// record of the key applies. And what was left out.
+    pub fn prepare_without_clashes<'a>(
+        &'a self,
+        alloc: Global,
+        holidays: &Holidays,
+    ) -> Result<(Prepared<'a>, Dropped), AllocError>
+        ensures prepared { IfOk result (λ done. IsPrepared holidays.now true (published_parts self.now) done.0) }
+        ensures dropped { IfOk result (λ done. AreDropped holidays.now (published_parts self.now) done.1) }
+    {
+        let whole = self.prepare(alloc, holidays)?;
+        let mut keys = Vec::new(alloc);
+        let (associations, trains) = whole.clash_dates(alloc, &mut keys)?;
+        let records = self.count_clashing_associations(holidays, &associations)
+            + self.count_clashing_schedules(holidays, &trains);
+        let dropped = Dropped { keys, records };
+        if dropped.keys.is_empty() {
+            return Ok((whole, dropped));
+        }
+        drop(whole);
+        let prepared = self.cut(alloc, holidays, &associations, &trains)?;
+        Ok((prepared, dropped))
+    }
+
+    /// Its records between their cuts: the holidays of their codes, and the dates on which their keys clash.
+    fn cut<'a>(
+        &'a self,
+        alloc: Global,
+        holidays: &Holidays,
+        associations: &ClashDates<AssocKey>,
+        trains: &ClashDates<u64>,
+    ) -> Result<Prepared<'a>, AllocError>
+        ensures { IfOk result (λ prepared. (of_associations : AssocKey → List ℕ) (of_trains : List ℕ → List ℕ)
+            → ReadsAssociations of_associations (get key_cmp associations.now) → ReadsTrains of_trains (get nat_cmp trains.now)
+            → IsCutAt holidays.now (published_parts self.now) of_associations of_trains prepared) }
     {
         let last = self.header.last;
-        let associations = prepared_associations(alloc, self.associations.as_slice(), last)?;
-        let schedules = prepared_schedules(alloc, self.schedules.as_slice(), last, holidays)?;
+        let associations = cut_associations(alloc, self.associations.as_slice(), last, associations)?;
+        let schedules = cut_schedules(alloc, self.schedules.as_slice(), last, holidays, trains)?;
         Ok(Prepared {
             published: self,
             associations,
@@ -77,92 +123,68 @@ impl<'a> Prepared<'a> {
             sink,
         )
     }
+
+    /// The dates on which keys of associations and of trains clash. These keys are told.
+    fn clash_dates(
+        &self,
+        alloc: Global,
+        told: &mut Vec<DroppedKey>,
+    ) -> Result<(ClashDates<AssocKey>, ClashDates<u64>), AllocError>
+        ensures { IfOk result (λ dates. AreAllFound self.now told.old.items told.new.items
+            (get key_cmp dates.0) (get nat_cmp dates.1)) }
+    {
+        let window = Window::of(&self.published.header);
+        let associations = find_clash_dates(alloc, self.associations.as_slice(), &window, told)?;
+        let trains = find_clash_dates(alloc, self.schedules.as_slice(), &window, told)?;
+        Ok((associations, trains))
+    }
 }
 
-/// The prepared records of associations, in a window that ends on this date. They have no holidays.
-fn prepared_associations<'a>(
+/// The associations between the dates on which their keys clash, in a window that ends on this date.
+/// They have no holidays.
+fn cut_associations<'a>(
     alloc: Global,
     associations: &'a [PublishedAssociation],
     window_last: Day,
+    clash_dates: &ClashDates<AssocKey>,
 ) -> Result<Vec<PreparedRecord<'a, Association, Day>>, AllocError>
-    ensures { IfOk result (λ prepared. (h : Holidays) → ArePrepared h window_last
-        (published_associations associations.now) (association_entries (map association_on prepared.items))) }
+    ensures { IfOk result (λ prepared. (h : Holidays) (days : AssocKey → List ℕ) → ReadsAssociations days (get key_cmp clash_dates.now)
+        → ArePrepared (IsStopAmong h days) window_last (published_associations associations.now)
+        (association_entries (map association_on prepared.items))) }
 {
+    let mut stops = Vec::new(alloc);
     let mut prepared = Vec::with_capacity(alloc, associations.len())?;
     for one in associations {
         let association = &one.association;
         let last = prepared_last(association, one.open_end, window_last);
-        push(association, association.first, last, &mut prepared)?;
+        let dates = dates_of(clash_dates, association);
+        add_parts(association, last, &[], dates, &mut stops, &mut prepared)?;
     }
     Ok(prepared)
 }
 
-/// The prepared records of schedules, in a window that ends on this date.
-fn prepared_schedules<'a>(
+/// The schedules between the holidays of their codes and the dates on which their trains clash, in a window that
+/// ends on this date.
+fn cut_schedules<'a>(
     alloc: Global,
     schedules: &'a [PublishedSchedule],
     window_last: Day,
     holidays: &Holidays,
+    clash_dates: &ClashDates<u64>,
 ) -> Result<Vec<PreparedRecord<'a, Schedule, Day>>, AllocError>
-    ensures { IfOk result (λ prepared. ArePrepared holidays.now window_last
-        (published_schedules schedules.now) (schedule_entries (map schedule_on prepared.items))) }
+    ensures { IfOk result (λ prepared. (days : List ℕ → List ℕ) → ReadsTrains days (get nat_cmp clash_dates.now)
+        → ArePrepared (IsStopAmong holidays.now days) window_last (published_schedules schedules.now)
+        (schedule_entries (map schedule_on prepared.items))) }
 {
-    let mut parts = Vec::new(alloc);
+    let mut stops = Vec::new(alloc);
     let mut prepared = Vec::with_capacity(alloc, schedules.len())?;
     for one in schedules {
-        add_parts(one, window_last, holidays, &mut parts, &mut prepared)?;
+        let schedule = &one.schedule;
+        let last = prepared_last(schedule, one.open_end, window_last);
+        let dates = dates_of(clash_dates, schedule);
+        add_parts(schedule, last, holidays.of(one.code), dates, &mut stops, &mut prepared)?;
     }
     Ok(prepared)
-}
-
-/// Appends the parts of a schedule. What `parts` holds doesn't matter: it lends its memory.
-fn add_parts<'a>(
-    one: &'a PublishedSchedule,
-    window_last: Day,
-    holidays: &Holidays,
-    parts: &mut Vec<Part>,
-    prepared: &mut Vec<PreparedRecord<'a, Schedule, Day>>,
-) -> Result<(), AllocError>
-    ensures { IfOk result (λ _. (own : List Part)
-        × ArePartsOf holidays.now window_last (published_schedule_terms one.now) own
-        × (schedule_entries (map schedule_on prepared.new.items)
-        ≡ schedule_entries (map schedule_on prepared.old.items)
-        ++ map (part_entry one.now.schedule.uid (schedule_terms one.now.schedule)) own)) }
-{
-    parts.clear();
-    let last = prepared_last(&one.schedule, one.open_end, window_last);
-    Part::add_all(&one.schedule, last, one.code, holidays, parts)?;
-    add_on(&one.schedule, parts.as_slice(), prepared)
-}
-
-/// Appends the schedule on the dates of each of these parts.
-fn add_on<'a>(
-    schedule: &'a Schedule,
-    parts: &[Part],
-    prepared: &mut Vec<PreparedRecord<'a, Schedule, Day>>,
-) -> Result<(), AllocError>
-    requires { All (λ (p : Part). p.first ≤ p.last) parts.now }
-    ensures { IfOk result (λ _. schedule_entries (map schedule_on prepared.new.items)
-        ≡ schedule_entries (map schedule_on prepared.old.items)
-        ++ map (part_entry schedule.now.uid (schedule_terms schedule.now)) parts.now) }
-{
-    for part in parts {
-        push(schedule, part.first, part.last, prepared)?;
-    }
-    Ok(())
-}
-
-/// Appends the record on these dates.
-fn push<'a, E, D: Drop>(
-    entry: &'a E,
-    first: D,
-    last: D,
-    prepared: &mut Vec<PreparedRecord<'a, E, D>>,
-) -> Result<(), AllocError>
-    ensures { IfOk result (λ _. IsPushed entry.now first last prepared.old.items prepared.new.items) }
-{
-    prepared.push(PreparedRecord { entry, first, last })?;
-    Ok(())
 }
 
 /// The last date of a record in the prepared extract, by that of the window.

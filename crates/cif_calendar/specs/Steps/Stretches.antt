@@ -1,12 +1,13 @@
 -- Stretches of days, one after another, and who leads on them. No public clause cites it.
-use Rattle.std.specs.Prelude.{◌≡◌, ℕ, ◌+◌, ◌<◌, ◌≤◌, List, [], ◌∷◌, length, slice_index_or, ◌⊎◌}
+use Rattle.std.specs.Prelude.{◌≡◌, ℕ, ◌+◌, ◌<◌, ◌≤◌, List, [], ◌∷◌, ◌++◌, length, slice_index_or, ◌⊎◌}
 use Rattle.cif_columns.specs.Day.{weekday_of}
 use Rattle.cif_calendar.specs.Terms.{Terms}
 use Rattle.cif_calendar.specs.Source.{IsChosen}
 use Rattle.cif_calendar.specs.Pieces.{ChangesOn, IsUnbroken}
 use Rattle.cif_calendar.specs.Steps.Standing.{AreBelow, Combines, Stands}
 use Rattle.cif_calendar.specs.declared.window.Window.{Window}
-use Rattle.cif_calendar.specs.declared.standing.Standing.TheVariants.{Nobody}
+use Rattle.cif_calendar.specs.declared.standing.Standing.{Standing}
+use Rattle.cif_calendar.specs.declared.standing.Standing.TheVariants.{Disputed, Nobody}
 use Rattle.cif_calendar.specs.declared.stretch.Stretch.{Stretch}
 
 -- The stretch begins on day `first` and has no break by the members that were looked at, and the standings of its days are theirs.
@@ -48,3 +49,8 @@ pub record IsPart (members : List ℕ) (k : ℕ) (part : List ℕ) : Type 0 wher
 abbrev pub AreBehind : List Stretch → ℕ → List Stretch → Type 0
 AreBehind [] day rest = rest ≡ []
 AreBehind (s ∷ ss) day rest = ((s.last ≤ day) × (rest ≡ ss)) ⊎ ((day < s.last) × (rest ≡ s ∷ ss))
+
+-- the day comes behind those that were known, if two winners differ on it
+abbrev pub AddsIfDisputed : Standing → ℕ → List ℕ → List ℕ → Type 0
+AddsIfDisputed (Disputed k) day old new = new ≡ old ++ day ∷ []
+AddsIfDisputed _ day old new = new ≡ old

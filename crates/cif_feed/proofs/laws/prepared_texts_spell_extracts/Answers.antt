@@ -7,4 +7,4 @@ pub returns-clause-fits : goal.returns-clause-fits
 returns-clause-fits c = prepared_fits
 
 pub returns-clause-spells : goal.returns-clause-spells
-returns-clause-spells c = λ h p x fits is. text-spells x (prepared_fits h p x fits is)
+returns-clause-spells c = λ h drops p x fits is. text-spells x (prepared_fits h drops p x fits is)

@@ -1,12 +1,8 @@
 -- Of known bytes the published extract that was read is the one that is prepared.
-use Rattle.std.proofs.Common.{Err, Global, List, Ok, Vec, refl}
-use Rattle.cif_extract.specs.declared.fault.Clash.{Clash}
+use Rattle.std.proofs.Common.{Err, Ok, refl}
 use Rattle.cif_extract.proofs.ReadCalls.{goes-on, hands-on}
 use Rattle.cif_feed.proofs.WrittenPrepared.{prepares, read_prepared, reads-named, reads-preparing}
 use Rattle.cif_feed.proofs.written_prepared.write_prepared.Goals as goal
-
-abbrev told : Vec Clash Global → List Clash
-told clashes = clashes.items
 
 pub returns-in-Ok-clause-prepared : goal.returns-in-Ok-clause-prepared
 returns-in-Ok-clause-prepared g c =
@@ -14,7 +10,7 @@ returns-in-Ok-clause-prepared g c =
     let call = c.append_prepared-answer in
     let read = reads-named h c.args.max_lines g.R.Read.remaining g.R.ReadDevice.read_errors c.args.source.now c.read.new.source
     c.codes.result (Ok c.in-Ok.extract) c.codes.ensures c.in-Ok.ensures in
-    read_prepared h c.args.drops_clashes c.args.max_lines g.W.Write.contents g.W.WriteDevice.write_errors told c.args.sink.now
+    read_prepared h c.args.drops_clashes c.args.max_lines g.W.Write.contents g.W.WriteDevice.write_errors c.args.sink.now
     call.new.sink _ c.in-Ok.extract read.ok call.result call.ensures
 
 pub returns-in-Ok-clause-reads : goal.returns-in-Ok-clause-reads
@@ -24,7 +20,7 @@ returns-in-Ok-clause-reads g c =
     let read = reads-named h c.args.max_lines g.R.Read.remaining g.R.ReadDevice.read_errors c.args.source.now c.read.new.source
     c.codes.result (Ok c.in-Ok.extract) c.codes.ensures c.in-Ok.ensures in
     goes-on _ _ _ _ _ _ c.in-Ok.extract read call.result
-    (prepares h c.args.drops_clashes c.args.max_lines g.W.Write.contents g.W.WriteDevice.write_errors told c.args.sink.now
+    (prepares h c.args.drops_clashes c.args.max_lines g.W.Write.contents g.W.WriteDevice.write_errors c.args.sink.now
     call.new.sink c.in-Ok.extract call.result call.ensures)
 
 pub returns-in-Err-clause-reads : goal.returns-in-Err-clause-reads

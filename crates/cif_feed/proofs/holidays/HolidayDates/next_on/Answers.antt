@@ -1,8 +1,8 @@
 -- The dates rise, so that one after the last day ends the search (`none-found`), and one on a weekday of the mask is the first
 -- (`date-found`).
-use Rattle.std.proofs.Common.{ℕ, ◌<◌, rules, arith, ◌∙◌, ap, drop, subst}
+use Rattle.std.proofs.Common.{inr, ℕ, ◌<◌, rules, arith, ◌∙◌, ap, drop, subst}
 use Rattle.std.proofs.lemmas.List.{get_or_read, take_rest}
-use Rattle.cif_feed.proofs.DatesFrom.{date-found, none-found}
+use Rattle.cif_feed.proofs.DatesFrom.{date-found, from-late, none-found}
 use Rattle.cif_feed.proofs.holidays.HolidayDates.next_on.Goals as goal
 
 pub returns-then-gt : goal.returns-then-gt
@@ -11,22 +11,25 @@ returns-then-gt c =
     none-found c.args.self.now.days.items _ c.args.days c.args.from c.count_before.result c.loop-day.day-index
     c.args.self.now.rising c.count_before.ensures.before
     (take_rest c.as_slice.result.now c.count_before.result ∙ ap (drop c.count_before.result) c.as_slice.ensures.value)
-    c.loop-day.invariant c.args.last
+    (λ k below. inr (c.loop-day.invariant k below)) c.args.last
     (λ below. subst (λ (n : ℕ). c.args.last < n)
     (get_or_read _ c.loop-day.day-index c.day-item.result c.loop-day-test.true c.day-item.is 0) after)
 
 pub returns-then-has : goal.returns-then-has
 returns-then-has c =
-    date-found c.args.self.now.days.items _ c.args.days c.args.from c.count_before.result c.loop-day.day-index
-    c.args.self.now.rising c.count_before.ensures.before
-    (take_rest c.as_slice.result.now c.count_before.result ∙ ap (drop c.count_before.result) c.as_slice.ensures.value)
-    c.loop-day.invariant c.args.last c.day-item.result c.loop-day-test.true
-    (get_or_read _ c.loop-day.day-index c.day-item.result c.loop-day-test.true c.day-item.is 0) (search rules) (search rules)
-    c.count_before.ensures.from
+    let days = c.args.self.now.days.items in
+    let at = get_or_read _ c.loop-day.day-index c.day-item.result c.loop-day-test.true c.day-item.is 0 in
+    let is = take_rest c.as_slice.result.now c.count_before.result ∙ ap (drop c.count_before.result) c.as_slice.ensures.value in
+    date-found days _ c.args.days c.args.from c.count_before.result c.loop-day.day-index c.args.self.now.rising
+    c.count_before.ensures.before is (λ k below. inr (c.loop-day.invariant k below)) c.args.last c.day-item.result c.loop-day-test.true at
+    (search rules) (search rules)
+    (from-late days _ c.args.days c.args.from c.count_before.result c.loop-day.day-index c.args.self.now.rising
+    c.count_before.ensures.before is (λ k below. inr (c.loop-day.invariant k below)) c.day-item.result c.loop-day-test.true at
+    c.count_before.ensures.from)
 
 pub returns : goal.returns
 returns c =
     none-found c.args.self.now.days.items _ c.args.days c.args.from c.count_before.result c.loop-day.day-index
     c.args.self.now.rising c.count_before.ensures.before
     (take_rest c.as_slice.result.now c.count_before.result ∙ ap (drop c.count_before.result) c.as_slice.ensures.value)
-    c.loop-day.invariant c.args.last (λ below. absurd (omega arith))
+    (λ k below. inr (c.loop-day.invariant k below)) c.args.last (λ below. absurd (omega arith))

@@ -1,0 +1,110 @@
+-- The days with a clash, one after another.
+use Rattle.std.proofs.Common.{◌≡◌, ⊎_elim, ℕ, ◌+◌, ◌<◌, ◌≤◌, List, [], ◌∷◌, ◌++◌, arith, get_or, length, refl, sym, ◌∙◌, ap, subst}
+use Rattle.std.proofs.Common.{Contains, slice_get}
+use Rattle.std.proofs.lemmas.Bool.{cases_lt}
+use Rattle.std.proofs.lemmas.List.{get_or_default}
+use Rattle.std.proofs.lemmas.Option.{same_Some}
+use Rattle.std.proofs.lemmas.List.Elements.{Contains-append_left, Contains-get_or, Contains-push, Contains-push_cases}
+use Rattle.std.proofs.lemmas.List.Quantifiers.{all_pairs_push}
+use Rattle.cif_calendar.specs.ClashDates.{AreClashDates, IsClashBetween}
+use Rattle.cif_calendar.specs.Steps.Standing.{Stands}
+use Rattle.cif_calendar.specs.Steps.Stretches.{AddsIfDisputed}
+use Rattle.cif_calendar.proofs.Words.{Disputed, IsChosen, IsClash, IsClear, Leader, Nobody, Records, Standing, Terms}
+
+-- ---- one day
+
+module _ {B : Type 0} (xs : List (Terms B)) (members : List ℕ) (records : Records B) (d : ℕ) where
+  disputed : (k : ℕ) → Stands xs members records d (Disputed k) → IsClash records d
+  disputed k (t, at, is) =
+      record { one = t; other = is.rival; one_wins = is.wins; other_wins = is.rival_wins; bodies_differ = is.apart }
+
+  pub undisputed : (s : Standing) → ((k : ℕ) → s ≡ Disputed k → ⊥) → Stands xs members records d s → IsClear records d
+  undisputed Nobody never none = record { agree = λ r s r_wins s_wins. absurd (none.none r r_wins.listed r_wins.applies) }
+  undisputed (Leader k) never (t, at, leads) =
+      record { agree = λ r s r_wins s_wins. sym (leads.undisputed r r_wins) ∙ leads.undisputed s s_wins }
+  undisputed (Disputed k) never stands = absurd (never k refl)
+
+-- ---- one after another
+
+module _ {B : Type 0} (records : Records B) (first to : ℕ) (days : List ℕ) (so_far : AreClashDates records first to days) where
+  -- those up to the one before `next` are clear
+  pub dates-none : (next : ℕ) → to ≤ next → ((d : ℕ) → to ≤ d → d < next → IsClear records d) → AreClashDates records first next days
+  dates-none next up none = record {
+    rising = so_far.rising;
+    are = λ d. (
+      λ has. let is = (so_far.are d).0 has in
+          let before = is.before in record { from = is.from; before = omega arith; clash = is.clash },
+      λ is. ⊎_elim
+          (λ early. (so_far.are d).1 (record { from = is.from; before = early; clash = is.clash }))
+          (λ late. let c = is.clash in
+          absurd (c.bodies_differ ((none d late is.before).agree c.one c.other c.one_wins c.other_wins)))
+          (cases_lt d to),
+    );
+    clear = λ d from before lacks. ⊎_elim
+        (λ early. so_far.clear d from early lacks)
+        (λ late. none d late before)
+        (cases_lt d to);
+  }
+
+  dates-push : first ≤ to → IsClash records to → AreClashDates records first (to + 1) (days ++ to ∷ [])
+  dates-push up clash = record {
+    rising = all_pairs_push ◌<◌ days to so_far.rising
+        (λ k d below. ((so_far.are (get_or days k d)).0 (Contains-get_or days k d below)).before);
+    are = λ d. (
+      λ has. ⊎_elim
+          (λ old. let is = (so_far.are d).0 old in
+          let before = is.before in record { from = is.from; before = omega arith; clash = is.clash })
+          (λ here. subst (λ n. IsClashBetween records first (to + 1) n) here (record { from = up; before = omega arith; clash = clash }))
+          (Contains-push_cases days to d has),
+      λ is. ⊎_elim
+          (λ early. Contains-append_left days (to ∷ []) d ((so_far.are d).1 (record { from = is.from; before = early; clash = is.clash })))
+          (λ late. let before = is.before in let at : to ≡ d = omega arith in
+          subst (λ n. Contains (days ++ to ∷ []) n) at (Contains-push days to))
+          (cases_lt d to),
+    );
+    clear = λ d from before lacks. ⊎_elim
+        (λ early. so_far.clear d from early (λ has. lacks (Contains-append_left days (to ∷ []) d has)))
+        (λ late. let at : to ≡ d = omega arith in
+        absurd (lacks (subst (λ n. Contains (days ++ to ∷ []) n) at (Contains-push days to))))
+        (cases_lt d to);
+  }
+
+  -- one day more, by what stands on it
+  pub dates-more : (xs : List (Terms B)) (members : List ℕ) → first ≤ to → (s : Standing) → Stands xs members records to s
+      → (more : List ℕ) → AddsIfDisputed s to days more → AreClashDates records first (to + 1) more
+  dates-more xs members up (Disputed k) stands more is = rw is (dates-push up (disputed xs members records to k stands))
+  dates-more xs members up (Leader k) stands more is = rw is (dates-none (to + 1) (omega arith)
+      (λ d from below. let at : to ≡ d = omega arith in
+      subst (IsClear records) at (undisputed xs members records to (Leader k) (λ j e. cc) stands)))
+  dates-more xs members up Nobody stands more is = rw is (dates-none (to + 1) (omega arith)
+      (λ d from below. let at : to ≡ d = omega arith in
+      subst (IsClear records) at (undisputed xs members records to Nobody (λ j e. cc) stands)))
+
+-- at first there are none
+pub dates-start : {B : Type 0} (records : Records B) (first : ℕ) → AreClashDates records first first []
+dates-start records first = record {
+  rising = λ i j d less below. absurd (omega arith);
+  are = λ d. (
+    λ has. absurd (let below : has.0 < 0 = has.1 in omega arith),
+    λ is. absurd (let from = is.from in let before = is.before in omega arith),
+  );
+  clear = λ d from before lacks. absurd (omega arith);
+}
+
+-- one member alone has no clash
+pub dates-alone : {B : Type 0} (xs : List (Terms B)) (members : List ℕ) (first to : ℕ) → length members < 2 → first ≤ to
+    → AreClashDates (IsChosen xs members) first to []
+dates-alone {B} xs members first to few up =
+    dates-none (IsChosen xs members) first first [] (dates-start (IsChosen xs members) first) to up
+    (λ d from below. record {
+      agree = λ r s r_wins s_wins.
+          let one = r_wins.listed in
+          let other = s_wins.listed in
+          let same : one.position ≡ other.position =
+          (let (i, i_below, i_is) = one.member in
+          let (j, j_below, j_is) = other.member in
+          let at : j ≡ i = omega arith in
+          sym i_is ∙ sym (get_or_default members i 0 one.position i_below) ∙ ap (λ n. get_or members n 0) (sym at)
+          ∙ get_or_default members j 0 other.position j_below ∙ j_is) in
+          ap (λ (t : Terms B). t.body) (same_Some r s (sym one.at ∙ ap (slice_get xs) same ∙ other.at));
+    })

@@ -1,0 +1,18 @@
+-- The clash dates before `day` are found, and what is left of the stretch gets shorter.
+use Rattle.std.proofs.Common.{ℕ, ◌≤◌, ◌-◌, map}
+use Rattle.cif_calendar.specs.ClashDates.{AreClashDates}
+use Rattle.cif_calendar.specs.Source.{IsChosen}
+use Rattle.cif_calendar.proofs.clashing_dates.add_dates.Given as goal
+
+abbrev pub invariant-loop-next : goal.invariant-loop-next
+invariant-loop-next g l = record {
+  from : l.fn.first ≤ l.day;
+  upto : l.day ≤ l.stretch.last;
+  so_far : (from : ℕ) → from ≤ l.fn.first
+      → AreClashDates (IsChosen (map g.E.Entry.terms l._members.entries.now) l._members.positions.now) from l.fn.first
+      l.initial.days.items
+      → AreClashDates (IsChosen (map g.E.Entry.terms l._members.entries.now) l._members.positions.now) from l.day l.days.items;
+}
+
+abbrev pub decreases-loop-next : goal.decreases-loop-next
+decreases-loop-next g l = l.stretch.last - l.day

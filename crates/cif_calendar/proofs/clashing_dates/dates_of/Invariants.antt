@@ -1,0 +1,13 @@
+-- The clash dates of the stretches so far are found.
+use Rattle.std.proofs.Common.{ℕ, ◌≤◌, List, drop, map}
+use Rattle.cif_calendar.specs.ClashDates.{AreClashDates}
+use Rattle.cif_calendar.specs.Source.{IsChosen}
+use Rattle.cif_calendar.proofs.DayStates.{IsMadeOf}
+use Rattle.cif_calendar.proofs.clashing_dates.dates_of.Given as goal
+
+abbrev pub invariant-loop-stretch : goal.invariant-loop-stretch
+invariant-loop-stretch g l =
+    let xs = map g.E.Entry.terms l.members.entries.now in
+    let members = l.members.positions.now in
+    IsMadeOf (λ (n : ℕ) (days : List ℕ). (l.window.first ≤ n) × AreClashDates (IsChosen xs members) l.window.first n days)
+    xs members l.window.last l.first (drop l.stretch-index l.stretches) l.days.items

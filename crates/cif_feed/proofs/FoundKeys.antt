@@ -1,0 +1,286 @@
+-- Keys and their clash days are found one after another, over positions in the order of the keys.
+use Rattle.std.proofs.Common.{◌≡◌, ◌⊎◌, inl, inr, ⊎_elim, ℕ, ◌+◌, ◌<◌, Bool, true, false, cond, List, [], ◌∷◌, ◌++◌, Option, None, Some, Vec}
+use Rattle.std.proofs.Common.{Global, Contains, map, take, drop, length, get_or, refl, sym, ◌∙◌, ap, ap₂, subst, arith, append_assoc}
+use Rattle.std.proofs.Common.{append-nil, ◌↔◌}
+use Rattle.std.specs.Prelude.{All, AllPairs}
+use Rattle.std.specs.BTreeMap.{BTreeMap, get}
+use Rattle.std.specs.Map.{lookup}
+use Rattle.std.specs.Cmp.{IsTotalOrder, tied_itself}
+use Rattle.std.specs.Ordering.{is_eq}
+use Rattle.std.specs.declared.cmp.Ordering.{Ordering}
+use Rattle.std.specs.declared.cmp.Ordering.TheVariants.{Less, Equal, Greater}
+use Rattle.std.proofs.lemmas.Option.{slice_get_within}
+use Rattle.std.proofs.lemmas.List.{map-append}
+use Rattle.std.proofs.lemmas.List.Elements.{Contains-append_left, Contains-get_or, Contains-push, Contains-push_cases}
+use Rattle.std.proofs.lemmas.List.Quantifiers.{all_pairs_push}
+use Rattle.cif_calendar.specs.ByKey.{AnyHasKey, AreOfFirstKey, IsRising}
+use Rattle.cif_calendar.specs.ClashDates.{AreClashDates, IsClashBetween}
+use Rattle.cif_calendar.specs.Keys.{of_key, ArePositionsOf}
+use Rattle.cif_calendar.specs.Terms.{Records, SameRecords, Terms}
+use Rattle.cif_calendar.proofs.Elements.{Contains-first, Contains-rest}
+use Rattle.cif_calendar.proofs.KeyTurns.{decided, first-leads, no-entry, rising-after}
+use Rattle.cif_calendar.proofs.PassedKeys.{HasPassed, key-or-later, later-less, left-before, passed-more, turn}
+use Rattle.cif_calendar.proofs.RisingLists.{Contains-none, not_less}
+use Rattle.cif_calendar.proofs.Sets.{IsClash-same, IsClear-same}
+use Rattle.cif_extract.specs.declared.fault.Clash.{Clash}
+use Rattle.cif_feed.specs.Dropped.{AreKeysWithDays, told_as}
+use Rattle.cif_feed.specs.Steps.Dropping.{AreFound, IsKeyTold, IsTold, ReadsDates, days_in, days_with}
+use Rattle.cif_feed.specs.declared.dropped.DroppedKey.{DroppedKey}
+
+-- ---- the clash days of sets of records
+
+-- sets with the same records have the same clash days
+pub dates-same : {B : Type 0} (xs ys : Records B) → SameRecords xs ys → SameRecords ys xs → (first to : ℕ) (days : List ℕ)
+    → AreClashDates xs first to days → AreClashDates ys first to days
+dates-same xs ys e back first to days a = record {
+  rising = a.rising;
+  are = λ d. (
+    λ has. let is = (a.are d).0 has in record { from = is.from; before = is.before; clash = IsClash-same xs ys e d is.clash },
+    λ is. (a.are d).1 (record { from = is.from; before = is.before; clash = IsClash-same ys xs back d is.clash }),
+  );
+  clear = λ d from before lacks. IsClear-same xs ys e d (a.clear d from before lacks);
+}
+
+-- without a record there are none
+dates-empty : {B : Type 0} (records : Records B) → ((r : Terms B) → records r → ⊥) → (first to : ℕ) → AreClashDates records first to []
+dates-empty records none first to = record {
+  rising = λ i j d less below. absurd (omega arith);
+  are = λ d. (λ has. absurd (Contains-none d has), λ is. absurd (none is.clash.one is.clash.one_wins.listed));
+  clear = λ d from before lacks. record { agree = λ r s r_wins s_wins. absurd (none r r_wins.listed) };
+}
+
+-- ---- maps
+
+map-agree : {A B : Type 0} (f g : A → B) (xs : List A) → ((x : A) → Contains xs x → f x ≡ g x) → map f xs ≡ map g xs
+map-agree f g [] same = refl
+map-agree f g (x ∷ xs) same =
+    ap₂ (λ y ys. y ∷ ys) (same x (Contains-first x xs)) (map-agree f g xs (λ y has. same y (Contains-rest x xs y has)))
+
+-- ---- what is found in a map
+
+-- in an empty one nothing is
+pub get-none : {R X : Type 0} (cmp : R → R → Ordering) (m : BTreeMap R X) → m.entries ≡ [] → (r : R) → get cmp m r ≡ None
+get-none cmp m empty r = ap (lookup (λ k. is_eq (cmp r k))) empty
+
+pub reads-none : {R K : Type 0} (stands_for : R → K → Type 0) (found : R → Option (Vec ℕ Global)) → ((r : R) → found r ≡ None)
+    → ReadsDates stands_for (λ k. []) found
+reads-none stands_for found none r k stands = ap days_in (none r)
+
+-- what is inserted for a key is read for it
+inserted : (b : Bool) (days : Vec ℕ Global) (old : Option (Vec ℕ Global)) (was : List ℕ) → days_in old ≡ was
+    → days_in (cond b (Some days) old) ≡ cond b days.items was
+inserted true days old was e = refl
+inserted false days old was e = e
+
+pub reads-inserted : {R K : Type 0} (rank_cmp : R → R → Ordering) (cmp : K → K → Ordering) (stands_for : R → K → Type 0)
+    → ((r s : R) (a b : K) → stands_for r a → stands_for s b → rank_cmp r s ≡ cmp a b) → (rank : R) (key : K) → stands_for rank key
+    → (found : Vec ℕ Global) (days : K → List ℕ) (old new : R → Option (Vec ℕ Global))
+    → ((r : R) → new r ≡ cond (is_eq (rank_cmp rank r)) (Some found) (old r)) → ReadsDates stands_for days old
+    → ReadsDates stands_for (days_with cmp key found.items days) new
+reads-inserted rank_cmp cmp stands_for same rank key of_key found days old new updates reads r k stands =
+    ap days_in (updates r ∙ ap (λ o. cond (is_eq o) (Some found) (old r)) (same rank r key k of_key stands))
+    ∙ inserted (is_eq (cmp key k)) found (old r) (days k) (reads r k stands)
+
+-- ---- keys
+
+module _ {K : Type 0} (cmp : K → K → Ordering) (total : IsTotalOrder cmp) (same : (j k : K) → cmp j k ≡ Equal → j ≡ k) (k : K)
+    (found : List ℕ) (days : K → List ℕ) where
+  pub with-same : days_with cmp k found days k ≡ found
+  with-same = ap (λ o. cond (is_eq o) found (days k)) (tied_itself total k)
+
+  other-by : (j : K) → (j ≡ k → ⊥) → (o : Ordering) → cmp k j ≡ o → cond (is_eq o) found (days j) ≡ days j
+  other-by j apart Less e = refl
+  other-by j apart Equal e = absurd (apart (sym (same k j e)))
+  other-by j apart Greater e = refl
+
+  pub with-other : (j : K) → (j ≡ k → ⊥) → days_with cmp k found days j ≡ days j
+  with-other j apart = other-by j apart (cmp k j) refl
+
+-- ---- one key after another
+
+module _ {K B : Type 0} (cmp : K → K → Ordering) (es : List (K × Terms B)) (first to : ℕ) where
+  abbrev Are : K → List ℕ → Type 0
+  Are k = AreClashDates (of_key es k) first to
+
+  -- these keys have clash days, and so have no others but those with entries at `rest`, which are after them
+  pub record AreSearched (keys : List K) (days : K → List ℕ) (rest : List ℕ) : Type 0 where
+    pub rising : IsRising cmp es rest
+    pub passed : HasPassed cmp es rest (AnyHasKey es rest)
+    pub keys_rising : AllPairs (λ (j : K) (k : K). cmp j k ≡ Less) keys
+    pub before : (j k : K) → Contains keys j → AnyHasKey es rest k → cmp j k ≡ Less
+    pub each : (k : K) → Contains keys k ↔ (0 < length (days k))
+    pub done : (k : K) → (AnyHasKey es rest k → ⊥) → Are k (days k)
+    pub ahead : (k : K) → AnyHasKey es rest k → days k ≡ []
+
+  searched-nothing : (rest : List ℕ) → ((i : ℕ) → i < length es → Contains rest i) → IsRising cmp es rest
+      → AreSearched [] (λ k. []) rest
+  searched-nothing rest whole rising = record {
+    rising = rising;
+    passed = λ i j has. inl (whole i (slice_get_within es i (j, has.terms) has.at));
+    keys_rising = λ i j d less below. absurd (omega arith);
+    before = λ j k has any. absurd (Contains-none j has);
+    each = λ k. (λ has. absurd (Contains-none k has), λ some. absurd (omega arith));
+    done = λ k none. dates-empty (of_key es k) (no-entry es rest whole k none) first to;
+    ahead = λ k any. refl;
+  }
+
+  module _ (total : IsTotalOrder cmp) (same : (j k : K) → cmp j k ≡ Equal → j ≡ k) (keys : List K) (days : K → List ℕ) (rest : List ℕ)
+      (s : AreSearched keys days rest) (n : ℕ) (run : AreOfFirstKey cmp es rest n) where
+    leads : AnyHasKey es rest run.key
+    leads = first-leads cmp es rest n run
+
+    -- the first positions are those of their key
+    pub own-turn : ArePositionsOf es run.key (take n rest)
+    own-turn = turn cmp total es rest (AnyHasKey es rest) s.passed run.key leads n run.count
+
+    left : (k : K) → AnyHasKey es (drop n rest) k → AnyHasKey es rest k
+    left = left-before cmp total es rest (AnyHasKey es rest) s.passed run.key leads n run.count
+
+    later : (k : K) → AnyHasKey es (drop n rest) k → cmp run.key k ≡ Less
+    later = later-less cmp total es rest (AnyHasKey es rest) s.passed run.key leads n run.count
+
+    passed-on : HasPassed cmp es (drop n rest) (AnyHasKey es (drop n rest))
+    passed-on =
+        passed-more cmp total es rest (AnyHasKey es rest) s.passed run.key leads n run.count (AnyHasKey es (drop n rest)) left later
+
+    gone : (k : K) → (AnyHasKey es (drop n rest) k → ⊥) → (k ≡ run.key → ⊥) → AnyHasKey es rest k → ⊥
+    gone k none apart any =
+        ⊎_elim apart none (key-or-later cmp total es rest (AnyHasKey es rest) s.passed run.key leads n run.count k any)
+
+    is_key : (k : K) → (k ≡ run.key) ⊎ (k ≡ run.key → ⊥)
+    is_key k = decided cmp total same k run.key (cmp k run.key) refl
+
+    -- a key without a clash
+    searched-clear : Are run.key [] → AreSearched keys days (drop n rest)
+    searched-clear clear = record {
+      rising = rising-after cmp es rest s.rising n;
+      passed = passed-on;
+      keys_rising = s.keys_rising;
+      before = λ j k has any. s.before j k has (left k any);
+      each = s.each;
+      done = λ k none. ⊎_elim
+          (λ is. subst (λ j. Are j (days j)) (sym is) (subst (Are run.key) (sym (s.ahead run.key leads)) clear))
+          (λ apart. s.done k (gone k none apart))
+          (is_key k);
+      ahead = λ k any. s.ahead k (left k any);
+    }
+
+    -- a key with clash days
+    module _ (found : List ℕ) (some : 0 < length found) (are : Are run.key found) where
+      abbrev now : K → List ℕ
+      now = days_with cmp run.key found days
+
+      other : (k : K) → (k ≡ run.key → ⊥) → now k ≡ days k
+      other = with-other cmp total same run.key found days
+
+      own : now run.key ≡ found
+      own = with-same cmp total same run.key found days
+
+      after : (k : K) → AnyHasKey es (drop n rest) k → k ≡ run.key → ⊥
+      after k any is = not_less cmp total run.key k (sym is) (later k any)
+
+      searched-clash : AreSearched (keys ++ run.key ∷ []) now (drop n rest)
+      searched-clash = record {
+        rising = rising-after cmp es rest s.rising n;
+        passed = passed-on;
+        keys_rising = all_pairs_push (λ (j : K) (k : K). cmp j k ≡ Less) keys run.key s.keys_rising
+            (λ i e below. s.before (get_or keys i e) run.key (Contains-get_or keys i e below) leads);
+        before = λ j k has any. ⊎_elim
+            (λ old. s.before j k old (left k any))
+            (λ is. subst (λ i. cmp i k ≡ Less) is (later k any))
+            (Contains-push_cases keys run.key j has);
+        each = λ k. (
+          λ has. ⊎_elim
+              (λ is. subst (λ l. 0 < length l) (sym (subst (λ j. now j ≡ found) (sym is) own)) some)
+              (λ apart. subst (λ l. 0 < length l) (sym (other k apart)) (⊎_elim
+              (λ old. (s.each k).0 old)
+              (λ is. absurd (apart (sym is)))
+              (Contains-push_cases keys run.key k has)))
+              (is_key k),
+          λ long. ⊎_elim
+              (λ is. subst (Contains (keys ++ run.key ∷ [])) (sym is) (Contains-push keys run.key))
+              (λ apart. Contains-append_left keys (run.key ∷ []) k ((s.each k).1 (subst (λ l. 0 < length l) (other k apart) long)))
+              (is_key k),
+        );
+        done = λ k none. ⊎_elim
+            (λ is. subst (λ j. Are j (now j)) (sym is) (subst (Are run.key) (sym own) are))
+            (λ apart. subst (Are k) (sym (other k apart)) (s.done k (gone k none apart)))
+            (is_key k);
+        ahead = λ k any. other k (after k any) ∙ s.ahead k (left k any);
+      }
+
+      -- what is told of the other keys is the same
+      told-same : (name : K → ℕ → Clash) → map (told_as name now) keys ≡ map (told_as name days) keys
+      told-same name = map-agree (told_as name now) (told_as name days) keys (λ j has.
+          ap (λ l. told_as name (λ _. l) j) (other j (λ is. not_less cmp total j run.key is (s.before j run.key has leads))))
+
+  -- These keys are told behind those that were known, and their days are found for what stands for them.
+  module _ {R : Type 0} (name : K → ℕ → Clash) (stands_for : R → K → Type 0) (known : List DroppedKey) where
+    pub record AreFoundUpTo (all : List DroppedKey) (found : R → Option (Vec ℕ Global)) (rest : List ℕ) : Type 0 where
+      pub keys : List K
+      pub days : K → List ℕ
+      pub searched : AreSearched keys days rest
+      pub added : all ≡ known ++ map (told_as name days) keys
+      pub reads : ReadsDates stands_for days found
+
+    pub found-nothing : (rest : List ℕ) → ((i : ℕ) → i < length es → Contains rest i) → IsRising cmp es rest
+        → (found : R → Option (Vec ℕ Global)) → ((r : R) → found r ≡ None) → AreFoundUpTo known found rest
+    found-nothing rest whole rising found none = record {
+      keys = [];
+      days = λ k. [];
+      searched = searched-nothing rest whole rising;
+      added = sym (append-nil known);
+      reads = λ r k stands. ap days_in (none r);
+    }
+
+    pub found-all : (all : List DroppedKey) (found : R → Option (Vec ℕ Global)) → AreFoundUpTo all found []
+        → AreFound cmp name stands_for es first to known all found
+    found-all all found a =
+        let s = a.searched in record {
+          keys = a.keys;
+          days = a.days;
+          are = record {
+            rising = s.keys_rising;
+            each = s.each;
+            days = λ k. s.done k (λ any. Contains-none any.position any.member);
+          };
+          added = a.added;
+          reads = a.reads;
+        }
+
+    -- one key more
+    found-one : IsTotalOrder cmp → ((j k : K) → cmp j k ≡ Equal → j ≡ k) → (all more : List DroppedKey)
+        (old new : R → Option (Vec ℕ Global)) (rest : List ℕ) → AreFoundUpTo all old rest → (n : ℕ) (run : AreOfFirstKey cmp es rest n)
+        → (dates : List ℕ) → Are run.key dates → IsTold cmp name stands_for run.key dates all more old new
+        → AreFoundUpTo more new (drop n rest)
+    found-one total same all more old new rest a n run [] its t =
+        let none = t.none refl in record {
+          keys = a.keys;
+          days = a.days;
+          searched = searched-clear total same a.keys a.days rest a.searched n run its;
+          added = none.0 ∙ a.added;
+          reads = λ r k stands. ap days_in (none.1 r) ∙ a.reads r k stands;
+        }
+    found-one total same all more old new rest a n run (d ∷ ds) its t =
+        let some : 0 < length (d ∷ ds) = omega arith in
+        let days : K → List ℕ = days_with cmp run.key (d ∷ ds) a.days in record {
+          keys = a.keys ++ run.key ∷ [];
+          days = days;
+          searched = searched-clash total same a.keys a.days rest a.searched n run (d ∷ ds) some its;
+          added = t.told some
+              ∙ ap₂ (λ (xs ys : List DroppedKey). xs ++ ys) a.added
+              (ap (λ l. told_as name (λ _. l) run.key ∷ []) (sym (with-same cmp total same run.key (d ∷ ds) a.days)))
+              ∙ append_assoc known (map (told_as name a.days) a.keys) (told_as name days run.key ∷ [])
+              ∙ ap (λ l. known ++ l) (ap (λ l. l ++ told_as name days run.key ∷ [])
+              (sym (told-same total same a.keys a.days rest a.searched n run (d ∷ ds) some its name))
+              ∙ sym (map-append (told_as name days) a.keys (run.key ∷ [])));
+          reads = t.reads some a.days a.reads;
+        }
+
+    pub found-more : IsTotalOrder cmp → ((j k : K) → cmp j k ≡ Equal → j ≡ k) → (all more : List DroppedKey)
+        (old new : R → Option (Vec ℕ Global)) (rest : List ℕ) → AreFoundUpTo all old rest → (n : ℕ) (run : AreOfFirstKey cmp es rest n)
+        → ((k : K) → ArePositionsOf es k (take n rest) → IsKeyTold cmp name stands_for es first to k all more old new)
+        → AreFoundUpTo more new (drop n rest)
+    found-more total same all more old new rest a n run own =
+        let (dates, its, t) = own run.key (own-turn total same a.keys a.days rest a.searched n run) in
+        found-one total same all more old new rest a n run dates its t

@@ -1,0 +1,63 @@
+-- Key by key (`FoundKeys`): the first run of positions is all of a key, whose clash dates are found.
+use Rattle.std.proofs.Common.{◌≡◌, ◌<◌, ◌+◌, ◌∙◌, List, [], ℕ, length, sym, subst, take}
+use Rattle.std.specs.Prelude.{All}
+use Rattle.std.specs.BTreeMap.{get}
+use Rattle.std.proofs.lemmas.List.{nil_from_length}
+use Rattle.std.proofs.lemmas.Bool.{eqb-true}
+use Rattle.std.proofs.lemmas.List.Elements.{All-drop, All-take}
+use Rattle.cif_calendar.specs.Keys.{keyed}
+use Rattle.cif_calendar.proofs.FirstClash.{same_key-cmp}
+use Rattle.cif_calendar.proofs.KeyPositions.{all-within}
+use Rattle.cif_feed.proofs.FoundKeys.{AreFoundUpTo, found-all, found-more, found-nothing, get-none}
+use Rattle.cif_feed.proofs.dropped.find_clash_dates.Goals as goal
+
+pub loop-rest-init : goal.loop-rest-init
+loop-rest-init g c =
+    let es = keyed g.E.Entry.key g.E.Entry.terms c.args.entries.now in
+    let window = c.args.window.now in record {
+      within = subst (λ (rest : List ℕ). All (λ i. i < length c.args.entries.now) rest) (sym c.as_slice-rest.ensures.value)
+          (all-within g.E.Entry.key g.E.Entry.terms c.args.entries.now c.in_ok-positions.positions.items c.in_ok-positions.ensures.within);
+      found = subst (λ (rest : List ℕ). AreFoundUpTo g.E.Key.Ord.cmp es window.first (window.last + 1) g.E.NamedEntry.clash_of
+          g.E.Entry.stands_for c.args.told.now.items c.args.told.now.items _ rest) (sym c.as_slice-rest.ensures.value)
+          (found-nothing g.E.Key.Ord.cmp es window.first (window.last + 1) g.E.NamedEntry.clash_of g.E.Entry.stands_for
+          c.args.told.now.items c.in_ok-positions.positions.items c.in_ok-positions.ensures.whole c.in_ok-positions.ensures.rising _
+          (get-none g.E.Rank.Ord.cmp c.new-dates.result c.new-dates.ensures));
+    }
+
+pub count_of_first_key-requires-clause-within : goal.count_of_first_key-requires-clause-within
+count_of_first_key-requires-clause-within g c = c.loop-rest.invariant.within
+
+pub count_of_first_key-requires-clause-rising : goal.count_of_first_key-requires-clause-rising
+count_of_first_key-requires-clause-rising g c = c.loop-rest.invariant.found.searched.rising
+
+pub split_at-requires : goal.split_at-requires
+split_at-requires g c = c.count_of_first_key.ensures.count.upto
+
+pub add_key-requires-clause-within : goal.add_key-requires-clause-within
+add_key-requires-clause-within g c =
+    subst (λ (front : List ℕ). All (λ i. i < length c.args.entries.now) front) (sym c.split_at.ensures.front)
+    (All-take (λ i. i < length c.args.entries.now) _ _ c.loop-rest.invariant.within)
+
+pub loop-rest-preserved : goal.loop-rest-preserved
+loop-rest-preserved g c =
+    let es = keyed g.E.Entry.key g.E.Entry.terms c.args.entries.now in
+    let window = c.args.window.now in
+    let same = same_key-cmp g.E.Key.PartialEq.eq g.E.Key.Ord.cmp g.met.E.Key.Ord.matches_eq g.met.E.Entry.same_key in
+    record {
+      within = subst (λ (rest : List ℕ). All (λ i. i < length c.args.entries.now) rest) (sym c.split_at.ensures.back)
+          (All-drop (λ i. i < length c.args.entries.now) c.count_of_first_key.result c.loop-rest.rest.now c.loop-rest.invariant.within);
+      found = rw (c.split_at.ensures.back)
+          (found-more g.E.Key.Ord.cmp es window.first (window.last + 1) g.E.NamedEntry.clash_of g.E.Entry.stands_for c.args.told.now.items
+          g.met.E.Key.Ord.total same c.loop-rest.told.items _ _ _ c.loop-rest.rest.now c.loop-rest.invariant.found
+          c.count_of_first_key.result c.count_of_first_key.ensures (rw c.split_at.ensures.front at c.in_ok-add_key.ensures));
+    }
+
+pub returns : goal.returns
+returns g c =
+    let es = keyed g.E.Entry.key g.E.Entry.terms c.args.entries.now in
+    let window = c.args.window.now in
+    found-all g.E.Key.Ord.cmp es window.first (window.last + 1) g.E.NamedEntry.clash_of g.E.Entry.stands_for c.args.told.now.items
+    c.loop-rest.told.items _
+    (subst (λ (rest : List ℕ). AreFoundUpTo g.E.Key.Ord.cmp es window.first (window.last + 1) g.E.NamedEntry.clash_of
+    g.E.Entry.stands_for c.args.told.now.items c.loop-rest.told.items _ rest)
+    (nil_from_length c.loop-rest.rest.now (eqb-true _ _ (sym c.loop-rest-test.ensures))) c.loop-rest.invariant.found)

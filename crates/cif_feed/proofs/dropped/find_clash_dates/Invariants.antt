@@ -1,0 +1,17 @@
+-- The keys of all entries but those at `rest`, which are greater, are told with their clash dates.
+use Rattle.std.proofs.Common.{◌<◌, ◌+◌, length}
+use Rattle.std.specs.Prelude.{All}
+use Rattle.std.specs.BTreeMap.{get}
+use Rattle.cif_calendar.specs.Keys.{keyed}
+use Rattle.cif_feed.proofs.FoundKeys.{AreFoundUpTo}
+use Rattle.cif_feed.proofs.dropped.find_clash_dates.Given as goal
+
+abbrev pub invariant-loop-rest : goal.invariant-loop-rest
+invariant-loop-rest g l = record {
+  within : All (λ i. i < length l.entries) l.rest;
+  found : AreFoundUpTo g.E.Key.Ord.cmp (keyed g.E.Entry.key g.E.Entry.terms l.entries) l.window.first (l.window.last + 1)
+      g.E.NamedEntry.clash_of g.E.Entry.stands_for l.initial.told.items l.told.items (get g.E.Rank.Ord.cmp l.dates) l.rest;
+}
+
+abbrev pub decreases-loop-rest : goal.decreases-loop-rest
+decreases-loop-rest g l = length l.rest

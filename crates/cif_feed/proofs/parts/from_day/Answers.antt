@@ -1,0 +1,21 @@
+-- The dates don't fall, so the search finds the place.
+use Rattle.std.proofs.Common.{◌≡◌, ℕ, true, false, ltb, ltb-true, ltb-false, rules, arith}
+use Rattle.std.proofs.lemmas.List.{take_rest}
+use Rattle.std.proofs.lemmas.List.Sorted.{IsPartitionPoint-from_clause, IsPartitionedBy-ltb}
+use Rattle.std.specs.List.Sorted.{IsPartitionPoint}
+use Rattle.cif_feed.proofs.parts.from_day.Goals as goal
+use Rattle.cif_feed.proofs.parts.from_day.Goals.{After-partition_point}
+
+point : (c : After-partition_point) → IsPartitionPoint (λ (d : ℕ). ltb d c.args.day ≡ true) (λ (d : ℕ). ltb d c.args.day ≡ false)
+    c.args.dates.now c.partition_point.result
+point c =
+    IsPartitionPoint-from_clause (λ (d : ℕ). ltb d c.args.day) _ _ c.partition_point.ensures.partitioned
+    (IsPartitionedBy-ltb (λ (d : ℕ). d) c.args.dates.now c.args.day c.requires) (λ a r q k. search rules)
+
+pub returns : goal.returns
+returns c = record {
+  place = c.partition_point.result;
+  before = λ k below. ltb-true _ c.args.day ((point c).0 k 0 (omega arith) below);
+  behind = λ k from below. ltb-false _ c.args.day ((point c).1 k 0 from below);
+  is = take_rest c.args.dates.now c.partition_point.result;
+}

@@ -1,0 +1,7 @@
+-- It is the one that was made.
+use Rattle.std.proofs.Common.{refl}
+use Rattle.cif_feed.proofs.CutAt.{pushed-is}
+use Rattle.cif_feed.proofs.parts.push.Goals as goal
+
+pub returns : goal.returns
+returns g c = pushed-is _ _ _ _ _ _ c.in_ok-push.ensures.items refl refl refl

@@ -1,0 +1,37 @@
+-- One schedule more is cut at the holidays of its code and at the clash dates of its train (`added-more`).
+use Rattle.std.proofs.Common.{◌⊎◌, ◌∙◌, ℕ, List, Contains, map, refl, subst, take_all}
+use Rattle.cif_calendar.specs.Entries.{schedule_entries, schedule_terms}
+use Rattle.cif_calendar.specs.Terms.{Terms}
+use Rattle.cif_extract.specs.BodyParts.{BodyParts}
+use Rattle.cif_feed.specs.Parts.{ended}
+use Rattle.cif_feed.specs.Prepared.{ArePrepared}
+use Rattle.cif_feed.specs.PreparedParts.{schedule_on}
+use Rattle.cif_feed.specs.PublishedParts.{published_schedule_terms, published_schedules}
+use Rattle.cif_feed.specs.Steps.Dropping.{IsStopAmong}
+use Rattle.cif_feed.specs.Steps.PartsSoFar.{AreAdded}
+use Rattle.cif_feed.specs.declared.published.PublishedSchedule.{PublishedSchedule}
+use Rattle.cif_feed.proofs.PreparedLists.{added-more, prepared-schedules}
+use Rattle.cif_feed.proofs.prepare.cut_schedules.Goals as goal
+
+pub loop-one-preserved : goal.loop-one-preserved
+loop-one-preserved c = λ days reads.
+    let s = c.one-item.result.schedule in
+    let last = c.prepared_last-last.result in
+    let holidays = c.of.result.now in
+    let dates = c.dates_of-dates.result.now in
+    let added = subst (λ (l : List (List ℕ × Terms BodyParts)). AreAdded (λ (d : ℕ). Contains holidays d ⊎ Contains dates d)
+    s.uid (ended last (schedule_terms s)) (schedule_entries (map schedule_on c.loop-one.prepared.items)) l)
+    (prepared-schedules c.add_parts.new.prepared.items)
+    (subst (λ (l : List (List ℕ × Terms BodyParts)). AreAdded (λ (d : ℕ). Contains holidays d ⊎ Contains dates d)
+    s.uid (ended last (schedule_terms s)) l _) (prepared-schedules c.loop-one.prepared.items) c.in_ok-add_parts.ensures) in
+    added-more (λ (x : PublishedSchedule). (x.schedule.uid, published_schedule_terms x)) c.args.holidays.now days c.args.window_last
+    c.args.schedules.now c.loop-one.one-index c.one-item.result (schedule_entries (map schedule_on c.loop-one.prepared.items))
+    (schedule_entries (map schedule_on c.add_parts.new.prepared.items)) last holidays dates
+    c.loop-one-test.true c.one-item.is (c.prepared_last-last.ensures.last c.one-item.result.code) c.of.ensures.days
+    (c.dates_of-dates.ensures days reads) added (c.loop-one.invariant days reads)
+
+pub returns : goal.returns
+returns c = λ days reads.
+    subst (λ (l : List PublishedSchedule). ArePrepared (IsStopAmong c.args.holidays.now days) c.args.window_last (published_schedules l)
+    (schedule_entries (map schedule_on c.loop-one.prepared.items)))
+    (take_all c.loop-one.one-index c.args.schedules.now c.loop-one-test.false) (c.loop-one.invariant days reads)

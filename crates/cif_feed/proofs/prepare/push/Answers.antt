@@ -1,7 +1,0 @@
--- It is the one that was made.
-use Rattle.std.proofs.Common.{refl}
-use Rattle.cif_feed.proofs.PreparedLists.{pushed-is}
-use Rattle.cif_feed.proofs.prepare.push.Goals as goal
-
-pub returns : goal.returns
-returns g c = pushed-is _ _ _ _ _ _ c.in_ok-push.ensures.items refl refl refl

@@ -1,0 +1,146 @@
+//! The keys that clash, and their dates.
+ghost use Rattle.std.specs.Prelude.{◌≡◌, ◌+◌, ◌<◌, ℕ, All, List, [], IfOk, length};
+ghost use Rattle.std.specs.BTreeMap.{get};
+ghost use Rattle.cif_calendar.specs.Keys.{ArePositionsOf, keyed};
+ghost use Rattle.cif_feed.specs.Dropped.{dropped_text};
+ghost use Rattle.cif_feed.specs.Steps.Dropping.{AreFound, IsKeyTold, IsTold, ReadsDates};
+
+use arrayvec::ArrayString;
+use cif_calendar::{Entry, NamedEntry, Window, clash_dates, count_of_first_key, positions_by_key};
+use cif_columns::Day;
+use cif_extract::Clash;
+use itoa::Buffer;
+use std::alloc::{AllocError, Global};
+use std::collections::BTreeMap;
+
+/// A key of which nothing runs on some dates of the window, as its winners differ on them.
+#[derive(Drop, PartialEq, Eq)]
+pub struct DroppedKey {
+    /// The key, with the first of these dates.
+    pub clash: Clash,
+    /// How many dates it has beside the first.
+    pub more: usize,
+}
+
+/// The bytes of the longest text: that of associations.
+const LONGEST_DROPPED: usize = 90;
+
+impl DroppedKey {
+    /// The text of its first clash, and how many more there are, as `train [C00123] on 260112 and 4 more dates`. It
+    /// takes no memory.
+    #[tactic(auto, unfolding(crate::specs::Dropped::dropped_text))]
+    pub fn text(&self) -> ArrayString<LONGEST_DROPPED>
+        ensures { result.bytes ≡ dropped_text self.now }
+    {
+        let mut text = ArrayString::new();
+        text.push_str(self.clash.text().as_str());
+        match self.more {
+            0 => {}
+            1 => text.push_str(" and 1 more date"),
+            _ => {
+                text.push_str(" and ");
+                text.push_str(Buffer::new().format(self.more));
+                text.push_str(" more dates");
+            }
+        }
+        text
+    }
+}
+
+/// What is left out of a prepared extract, so that it has no clash.
+#[derive(Drop)]
+pub struct Dropped {
+    /// The keys that clash, associations before trains, each rising.
+    pub keys: Vec<DroppedKey>,
+    /// How many records of the published extract apply on a date on which their key clashes.
+    pub records: usize,
+}
+
+impl Dropped {
+    /// Nothing.
+    pub(crate) fn none(alloc: Global) -> Dropped
+        ensures keys { result.keys.items ≡ [] }
+        ensures records { result.records ≡ 0 }
+    {
+        Dropped {
+            keys: Vec::new(alloc),
+            records: 0,
+        }
+    }
+}
+
+/// For what stands for each key that clashes, the dates on which it does.
+pub(crate) type ClashDates<R> = BTreeMap<R, Vec<Day>>;
+
+/// The dates on which the key of the entry clashes.
+pub(crate) fn dates_of<'d, E: Entry>(dates: &'d ClashDates<E::Rank>, entry: &E) -> &'d [Day]
+    ensures { (days : E.Key → List ℕ) → ReadsDates E.stands_for days (get E.Rank.cmp dates.now)
+        → result.now ≡ days (E.key entry.now) }
+{
+    match dates.get(&entry.rank()) {
+        Some(days) => days.as_slice(),
+        None => &[],
+    }
+}
+
+/// The dates of the window on which keys of the entries clash. These keys are told behind others, rising.
+pub(crate) fn find_clash_dates<E: NamedEntry>(
+    alloc: Global,
+    entries: &[E],
+    window: &Window,
+    told: &mut Vec<DroppedKey>,
+) -> Result<ClashDates<E::Rank>, AllocError>
+    ensures { IfOk result (λ dates. AreFound E.Key.cmp E.clash_of E.stands_for (keyed E.key E.terms entries.now)
+        window.now.first (window.now.last + 1) told.old.items told.new.items (get E.Rank.cmp dates)) }
+{
+    let positions = positions_by_key(alloc, entries)?;
+    let mut dates = BTreeMap::new(alloc);
+    let mut rest = positions.as_slice();
+    while !rest.is_empty() {
+        let (members, later) = rest.split_at(count_of_first_key(entries, rest));
+        add_key(alloc, entries, members, window, &mut dates, told)?;
+        rest = later;
+    }
+    Ok(dates)
+}
+
+/// Tells the key whose entries are at `members` with its clash dates in the window, if it has one.
+fn add_key<E: NamedEntry>(
+    alloc: Global,
+    entries: &[E],
+    members: &[usize],
+    window: &Window,
+    dates: &mut ClashDates<E::Rank>,
+    told: &mut Vec<DroppedKey>,
+) -> Result<(), AllocError>
+    requires within { All (λ i. i < length entries.now) members.now }
+    requires some { 0 < length members.now }
+    ensures { IfOk result (λ _. (k : E.Key) → ArePositionsOf (keyed E.key E.terms entries.now) k members.now
+        → IsKeyTold E.Key.cmp E.clash_of E.stands_for (keyed E.key E.terms entries.now) window.now.first (window.now.last + 1) k
+        told.old.items told.new.items (get E.Rank.cmp dates.old) (get E.Rank.cmp dates.new)) }
+{
+    let found = clash_dates(alloc, entries, members, window)?;
+    let entry = &entries[members[0]];
+    tell(entry, found, dates, told)
+}
+
+/// Tells the key of the entry with its clash dates, if it has one.
+fn tell<E: NamedEntry>(
+    entry: &E,
+    found: Vec<Day>,
+    dates: &mut ClashDates<E::Rank>,
+    told: &mut Vec<DroppedKey>,
+) -> Result<(), AllocError>
+    ensures { IfOk result (λ _. IsTold E.Key.cmp E.clash_of E.stands_for (E.key entry.now) found.items
+        told.old.items told.new.items (get E.Rank.cmp dates.old) (get E.Rank.cmp dates.new)) }
+{
+    let Some(first) = found.first() else {
+        return Ok(());
+    };
+    told.push(DroppedKey {
+        clash: entry.clash_on(*first),
+        more: found.len() - 1,
+    })?;
+    dates.insert(entry.rank(), found)?;
+    Ok(())
+}
