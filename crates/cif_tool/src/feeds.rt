@@ -5,7 +5,7 @@ use crate::devices::{ExtractInput, Output, Written, buffered};
 use crate::feed_answers::{
     DoneUpdate, KeptPrepare, KeptUpdate, ReadFeed, answer_prepare, answer_update,
 };
-use crate::job::{Call, FeedJob};
+use crate::job::{Call, FeedJob, InputNames};
 use crate::message::Message;
 use crate::told::{end_prepare, end_update};
 use arrayvec::ArrayString;
@@ -33,7 +33,28 @@ pub(crate) fn feed_task<R: Files + Input + Print + AllocGlobal, W: WriteDevice>(
     }
 }
 
+/// The input of this name; `side` says which it is.
+// Inlined, it would keep a second input on the stack of its caller, and each is some kilobytes large.
+#[inline(never)]
+fn source_of<'a, R: Files + Input>(
+    rt: &'a R,
+    side: &'static str,
+    name: &'a String,
+) -> Source<ExtractInput<'a, R>> {
+    Source::new(ExtractInput::of(rt, side, Some(name.as_str())))
+}
+
 // ---- prepare
+
+/// The holidays, the input before the extract, if there is one.
+#[inline(never)]
+fn source_of_holidays<'a, R: Files + Input>(
+    rt: &'a R,
+    inputs: &'a InputNames,
+) -> Option<Source<ExtractInput<'a, R>>> {
+    inputs.rest.first()?;
+    Some(source_of(rt, "holidays (", &inputs.first))
+}
 
 /// Writes the prepared extract of the last input, with the holidays of the one before it, if there is one.
 fn prepare<R: Files + Input + Print + AllocGlobal, W: WriteDevice>(
@@ -43,15 +64,9 @@ fn prepare<R: Files + Input + Print + AllocGlobal, W: WriteDevice>(
     errors: &mut Sink<W>,
 ) -> u8 {
     let alloc = rt.alloc();
-    let first = call.inputs.first.as_str();
-    let (mut holidays, file) = match call.inputs.rest.first() {
-        Some(file) => {
-            let holidays = ExtractInput::of(rt, "holidays (", Some(first));
-            (Some(Source::new(holidays)), file.as_str())
-        }
-        None => (None, first),
-    };
-    let mut source = Source::new(ExtractInput::of(rt, "", Some(file)));
+    let mut holidays = source_of_holidays(rt, &call.inputs);
+    let file = call.inputs.rest.first().unwrap_or(&call.inputs.first);
+    let mut source = source_of(rt, "", file);
     let mut written = Written::new();
     let output = Output {
         writer: io::writer(rt),
@@ -133,9 +148,8 @@ fn update<R: Files + Input + Print + AllocGlobal, W: WriteDevice>(
     errors: &mut Sink<W>,
 ) -> u8 {
     let alloc = rt.alloc();
-    let file = Some(call.inputs.first.as_str());
-    let mut full = Source::new(ExtractInput::of(rt, "FULL (", file));
-    let Ok(mut updates) = sources(rt, call.inputs.rest.as_slice()) else {
+    let mut full = source_of(rt, "FULL (", &call.inputs.first);
+    let Ok(mut updates) = sources_of_updates(rt, call.inputs.rest.as_slice()) else {
         return end_update(&Err(FeedFault::Extract(Fault::Memory)), &[], errors);
     };
     let mut written = Written::new();
@@ -181,14 +195,13 @@ fn update<R: Files + Input + Print + AllocGlobal, W: WriteDevice>(
 }
 
 /// The updates of these names.
-fn sources<'a, R: Files + Input + AllocGlobal>(
+fn sources_of_updates<'a, R: Files + Input + AllocGlobal>(
     rt: &'a R,
     names: &'a [String],
 ) -> Result<Vec<Source<ExtractInput<'a, R>>>, AllocError> {
     let mut sources = Vec::with_capacity(rt.alloc(), names.len())?;
     for name in names {
-        let input = ExtractInput::of(rt, "UPDATE (", Some(name.as_str()));
-        sources.push(Source::new(input))?;
+        sources.push(source_of(rt, "UPDATE (", name))?;
     }
     Ok(sources)
 }
