@@ -12,7 +12,7 @@ use Rattle.cif_feed.specs.Steps.Changes.{same_by}
 
 module _ {A : Type 0} where
   -- a filter after a filter
-  filter-filter : (p q : A → Bool) (xs : List A) → filter p (filter q xs) ≡ filter (λ x. q x && p x) xs
+  pub filter-filter : (p q : A → Bool) (xs : List A) → filter p (filter q xs) ≡ filter (λ x. q x && p x) xs
   filter-filter p q [] = refl
   filter-filter p q (x ∷ xs) = at (q x) (filter-filter p q xs)
     where

@@ -19,6 +19,7 @@ pub mod SpelledFeeds
 pub mod LinesMade
 pub mod MarkedRecords
 pub mod SaidPublished
+pub mod SaidLines
 pub mod SaidUpdate
 pub mod ToldLines
 pub mod UpdatesDone

@@ -1,5 +1,5 @@
 -- The marks of contents are those of the records that their profile lines spell.
-use Rattle.std.proofs.Common.{◌≡◌, ℕ, ◌+◌, ◌-◌, ◌≤◌, Bool, true, false, cond, not, ◌&&◌, List, [], ◌∷◌, ◌++◌, length, filter}
+use Rattle.std.proofs.Common.{◌≡◌, ℕ, ◌≤◌, Bool, true, false, cond, not, ◌&&◌, List, [], ◌∷◌, ◌++◌, length, filter}
 use Rattle.std.proofs.Common.{map, Option, Some, None, refl, sym, ap, ◌∙◌, subst, arith, codes, IsTrue, length-append}
 use Rattle.std.proofs.Common.{append-nil, ⊎_elim, lit<, slice_index, IfOk, Result, Ok, Err}
 use Rattle.std.proofs.lemmas.Grind.{flat_map-append}
@@ -67,20 +67,20 @@ use Rattle.cif_feed.proofs.KnownLines.{pairs-append}
 use Rattle.cif_feed.proofs.ProfileKinds.{HasKind, by_association, by_basic, close, further, same_line, ta_kind, ti_kind, uncode}
 
 -- the marks are those of these records
-abbrev AreMarked : {A : Type 0} → (A → ℕ) → List (Numbered RecordMark) → List A → Type 0
+abbrev pub AreMarked : {A : Type 0} → (A → ℕ) → List (Numbered RecordMark) → List A → Type 0
 AreMarked last ms rs = ArePairs (IsClosed last) rs ms
 
 -- ---- the records of a kind
 
-abbrev tiploc_of : Record → List Tiploc
+abbrev pub tiploc_of : Record → List Tiploc
 tiploc_of (of.Tiploc t) = t ∷ []
 tiploc_of r = []
 
-abbrev association_of : Record → List Association
+abbrev pub association_of : Record → List Association
 association_of (of.Association a) = a ∷ []
 association_of r = []
 
-abbrev basic_of : Record → List Basic
+abbrev pub basic_of : Record → List Basic
 basic_of (of.Basic b) = b ∷ []
 basic_of r = []
 
@@ -132,7 +132,7 @@ pub last_wide : length (yymmdd_of last_day) ≡ 6
 last_wide = ap length last_stands.spelled
 
 -- columns that are those of the last day name it
-is_last : (cs : List ℕ) (n : ℕ) → cs ≡ yymmdd_of last_day → StandsInYymmdd cs n → n ≡ last_day
+pub is_last : (cs : List ℕ) (n : ℕ) → cs ≡ yymmdd_of last_day → StandsInYymmdd cs n → n ≡ last_day
 is_last cs n is stands =
     let one = yymmdd_in-stands cs n stands in
     let other = yymmdd_in-stands cs last_day (subst (λ c. StandsInYymmdd c last_day) (sym is) last_stands) in
@@ -208,7 +208,7 @@ module _ (allowed : HolidayCodes) (c : List ℕ) (is_line : IsLine c) where
   tiploc_named : (l : List ℕ) → kind_in l ≡ Some Ti → (m : TiplocMark) → MarkFor (kind_in l) (mark.Tiploc m)
   tiploc_named l is m = subst (λ (k : Option Kind). MarkFor k (mark.Tiploc m)) (sym is) tt
 
-  by_kind : (feed : Feed) (kind : Option Kind) → kind_in c ≡ kind
+  pub by_kind : (feed : Feed) (kind : Option Kind) → kind_in c ≡ kind
       → MarkFor (kind_in (profile_line_by feed allowed kind c).line) (profile_line_by feed allowed kind c).mark
       × ClosedFor (profile_line_by feed allowed kind c).mark (profile_line_by feed allowed kind c).line
   by_kind feed (Some Ti) is = (named c (Some Ti) _ own is tt, tt)
@@ -235,12 +235,12 @@ module _ (allowed : HolidayCodes) (c : List ℕ) (is_line : IsLine c) where
 
 -- ---- the mark of a line, and the record that it spells
 
-record Fits (number : ℕ) (m : LineMark) (r : Record) : Type 0 where
-  tiplocs : length (tiploc_mark number m) ≡ length (tiploc_of r)
-  associations : AreMarked last_of_association (association_mark number m) (association_of r)
-  schedules : AreMarked (λ (b : Basic). b.last) (schedule_mark number m) (basic_of r)
+pub record Fits (number : ℕ) (m : LineMark) (r : Record) : Type 0 where
+  pub tiplocs : length (tiploc_mark number m) ≡ length (tiploc_of r)
+  pub associations : AreMarked last_of_association (association_mark number m) (association_of r)
+  pub schedules : AreMarked (λ (b : Basic). b.last) (schedule_mark number m) (basic_of r)
 
-fit : (number : ℕ) (m : LineMark) (l : List ℕ) (r : Record) → MarkFor (kind_in l) m → ClosedFor m l → SpellsRecord l r → Fits number m r
+pub fit : (number : ℕ) (m : LineMark) (l : List ℕ) (r : Record) → MarkFor (kind_in l) m → ClosedFor m l → SpellsRecord l r → Fits number m r
 fit number m l r for closes spells = at m r (subst (λ k. MarkFor k m) (kind_there l r spells) for) closes spells
   where
     at : (m : LineMark) (r : Record) → MarkFor (Some (kind_of r)) m → ClosedFor m l → SpellsRecord l r → Fits number m r
@@ -259,7 +259,7 @@ fit number m l r for closes spells = at m r (subst (λ k. MarkFor k m) (kind_the
 
 module _ (feed : Feed) (allowed : HolidayCodes) where
   -- the marks of one numbered content
-  abbrev of_one : {A : Type 0} → (ℕ → LineMark → List A) → ℕ × List ℕ → List A
+  abbrev pub of_one : {A : Type 0} → (ℕ → LineMark → List A) → ℕ × List ℕ → List A
   of_one of_mark n = of_mark n.0 (profile_line feed allowed n.1).mark
 
   record FitAll (ns : List (ℕ × List ℕ)) (rs : List Record) : Type 0 where
@@ -320,6 +320,13 @@ groups_none f quiet none groups (s ∷ ss) are =
     ap (flat_map f) parts ∙ flat_map-append f own others
     ∙ ap (λ l. l ++ flat_map f others) (own_basic f quiet own s one ∙ none one.basic) ∙ groups_none f quiet none others ss more
 
+-- the BS of a schedule stands alone
+pub first_basic : (groups own others : List Record) (s : Schedule) → groups ≡ own ++ others → (one : AreSchedule own s)
+    → flat_map basic_of groups ≡ one.basic ∷ flat_map basic_of others
+first_basic groups own others s parts one =
+    ap (flat_map basic_of) parts ∙ flat_map-append basic_of own others
+    ∙ ap (λ l. l ++ flat_map basic_of others) (own_basic basic_of no_basics own s one)
+
 take_first : (ms : List (Numbered RecordMark)) (b : Basic) (rest : List Basic) (s : Schedule) (ss : List Schedule) → b.last ≡ s.last
     → AreMarked (λ (b : Basic). b.last) ms (b ∷ rest)
     → ((ns : List (Numbered RecordMark)) → AreMarked (λ (b : Basic). b.last) ns rest → AreMarked last_of_schedule ns ss)
@@ -336,9 +343,7 @@ groups_marked ms groups [] are marked = at ms (subst (λ g. AreMarked (λ (b : B
     at (m ∷ ms) p = absurd p
 groups_marked ms groups (s ∷ ss) are marked =
     let (own, others, parts, one, more) = are in
-    let split : flat_map basic_of groups ≡ one.basic ∷ flat_map basic_of others =
-    ap (flat_map basic_of) parts ∙ flat_map-append basic_of own others
-    ∙ ap (λ l. l ++ flat_map basic_of others) (own_basic basic_of no_basics own s one) in
+    let split = first_basic groups own others s parts one in
     take_first ms one.basic (flat_map basic_of others) s ss one.terms.last
     (subst (AreMarked (λ (b : Basic). b.last) ms) split marked) (λ ns. groups_marked ns others ss more)
 
@@ -363,6 +368,31 @@ module _ {B : Type 0} (f : Record → List B) (header : (x : Header) → f (of.H
       ∙ flat_map-append f (map of.Tiploc x.tiplocs) (map of.Association x.associations ++ are.schedules)
       ∙ ap (λ l. flat_map f (map of.Tiploc x.tiplocs) ++ l) (flat_map-append f (map of.Association x.associations) are.schedules)
 
+pub records_tiplocs : (rs : List Record) (e : ExtractParts) → AreExtract rs e → flat_map tiploc_of rs ≡ e.tiplocs
+records_tiplocs rs e are =
+    by_parts tiploc_of (λ x. refl) refl rs e are
+    ∙ ap (λ l. l ++ (flat_map tiploc_of (map of.Association e.associations) ++ flat_map tiploc_of are.schedules))
+    (all_one tiploc_of of.Tiploc (λ t. refl) e.tiplocs)
+    ∙ ap (λ l. e.tiplocs ++ (l ++ flat_map tiploc_of are.schedules)) (none_of tiploc_of of.Association (λ a. refl) e.associations)
+    ∙ ap (λ l. e.tiplocs ++ l) (groups_none tiploc_of no_tiplocs (λ b. refl) are.schedules e.schedules are.are_schedules)
+    ∙ append-nil e.tiplocs
+
+pub records_associations : (rs : List Record) (e : ExtractParts) → AreExtract rs e → flat_map association_of rs ≡ e.associations
+records_associations rs e are =
+    by_parts association_of (λ x. refl) refl rs e are
+    ∙ ap (λ l. l ++ (flat_map association_of (map of.Association e.associations) ++ flat_map association_of are.schedules))
+    (none_of association_of of.Tiploc (λ t. refl) e.tiplocs)
+    ∙ ap (λ l. l ++ flat_map association_of are.schedules) (all_one association_of of.Association (λ a. refl) e.associations)
+    ∙ ap (λ l. e.associations ++ l) (groups_none association_of no_associations (λ b. refl) are.schedules e.schedules are.are_schedules)
+    ∙ append-nil e.associations
+
+pub records_basics : (rs : List Record) (e : ExtractParts) (are : AreExtract rs e) → flat_map basic_of rs ≡ flat_map basic_of are.schedules
+records_basics rs e are =
+    by_parts basic_of (λ x. refl) refl rs e are
+    ∙ ap (λ l. l ++ (flat_map basic_of (map of.Association e.associations) ++ flat_map basic_of are.schedules))
+    (none_of basic_of of.Tiploc (λ t. refl) e.tiplocs)
+    ∙ ap (λ l. l ++ flat_map basic_of are.schedules) (none_of basic_of of.Association (λ a. refl) e.associations)
+
 -- ---- what a published extract holds
 
 record IsMarkedAs (feed : Feed) (allowed : HolidayCodes) (cs : List (List ℕ)) (x : FeedParts) : Type 0 where
@@ -381,25 +411,9 @@ have_marks feed allowed cs x are_contents s =
     let same = enumerate_filter is_record_line 1 cs in
     let all = fit_all feed allowed ns (subst (All IsLine) (sym same) (record_lines cs are_contents)) rs
     (subst (λ l. SpellAll (map (λ (content : List ℕ). (profile_line feed allowed content).line) l) rs) (sym same) s.extract.spelled) in
-    let tiplocs : flat_map tiploc_of rs ≡ e.tiplocs =
-    by_parts tiploc_of (λ x. refl) refl rs e are
-    ∙ ap (λ l. l ++ (flat_map tiploc_of (map of.Association e.associations) ++ flat_map tiploc_of are.schedules))
-    (all_one tiploc_of of.Tiploc (λ t. refl) e.tiplocs)
-    ∙ ap (λ l. e.tiplocs ++ (l ++ flat_map tiploc_of are.schedules)) (none_of tiploc_of of.Association (λ a. refl) e.associations)
-    ∙ ap (λ l. e.tiplocs ++ l) (groups_none tiploc_of no_tiplocs (λ b. refl) are.schedules e.schedules are.are_schedules)
-    ∙ append-nil e.tiplocs in
-    let associations : flat_map association_of rs ≡ e.associations =
-    by_parts association_of (λ x. refl) refl rs e are
-    ∙ ap (λ l. l ++ (flat_map association_of (map of.Association e.associations) ++ flat_map association_of are.schedules))
-    (none_of association_of of.Tiploc (λ t. refl) e.tiplocs)
-    ∙ ap (λ l. l ++ flat_map association_of are.schedules) (all_one association_of of.Association (λ a. refl) e.associations)
-    ∙ ap (λ l. e.associations ++ l) (groups_none association_of no_associations (λ b. refl) are.schedules e.schedules are.are_schedules)
-    ∙ append-nil e.associations in
-    let basics : flat_map basic_of rs ≡ flat_map basic_of are.schedules =
-    by_parts basic_of (λ x. refl) refl rs e are
-    ∙ ap (λ l. l ++ (flat_map basic_of (map of.Association e.associations) ++ flat_map basic_of are.schedules))
-    (none_of basic_of of.Tiploc (λ t. refl) e.tiplocs)
-    ∙ ap (λ l. l ++ flat_map basic_of are.schedules) (none_of basic_of of.Association (λ a. refl) e.associations) in
+    let tiplocs = records_tiplocs rs e are in
+    let associations = records_associations rs e are in
+    let basics = records_basics rs e are in
     record {
       tiplocs = ap length s.tiploc_marks ∙ all.tiplocs ∙ ap length tiplocs;
       associations = subst (λ ms. AreMarked last_of_association ms e.associations) (sym s.association_marks)

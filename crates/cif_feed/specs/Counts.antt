@@ -1,5 +1,5 @@
 -- How many lines of a feed do what, by their columns.
-use Rattle.std.specs.Prelude.{ℕ, ◌+◌, Bool, true, false, not, ◌&&◌, List, Option, Some, None, filter, length, slice_index}
+use Rattle.std.specs.Prelude.{ℕ, Bool, true, false, not, ◌&&◌, List, Option, Some, None, filter, length, slice_index}
 use Rattle.cif_records.specs.Kind.{kind_in}
 use Rattle.cif_records.specs.declared.record.Kind.{Kind}
 use Rattle.cif_records.specs.declared.record.Kind.TheVariants.{Ti, Ta, Td, Aa, Bs}

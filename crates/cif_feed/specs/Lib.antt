@@ -28,6 +28,7 @@ pub mod SpellsFeed
 pub mod Steps
 pub mod ProfileLine
 pub mod Transaction
+pub mod UpdateLines
 pub mod UpdateParts
 pub mod Updated
 pub mod UpdatesInTurn

@@ -37,6 +37,8 @@ ghost use Rattle.cif_feed.specs.HolidayCode.{all_codes};
 ghost use Rattle.cif_feed.specs.OfProfile.{as_published, of_profile};
 ghost use Rattle.cif_feed.specs.PublishedParts.{BytesSpellPublished, SpellPublished};
 ghost use Rattle.cif_feed.specs.PublishedParts.{published_lines, published_text};
+ghost use Rattle.cif_feed.specs.FromLines.{ArePairs};
+ghost use Rattle.cif_feed.specs.UpdateLines.{SayTiplocs, SaysAssociation, SaysSchedule, is_association, is_of_tiploc, lines_of};
 ghost use Rattle.cif_feed.specs.UpdateParts.{BytesSpellUpdate};
 ghost use Rattle.cif_feed.specs.Updated.{IsUpdateFault, IsUpdated, MayBeDone};
 ghost use Rattle.cif_feed.specs.Updated.{published_association_key, published_schedule_key};
@@ -47,7 +49,7 @@ ghost use Rattle.cif_records.specs.Kind.{kind_in};
 ghost use Rattle.cif_records.specs.Record.{record_refusal};
 ghost use Rattle.cif_feed.specs.FeedRefusal.{line_refusal};
 ghost use Rattle.cif_feed.specs.LayoutRefusals.{feed_refusal_as, refusal_at};
-ghost use Rattle.cif_feed.specs.ProfileLine.{is_note, profile_line, profile_lines};
+ghost use Rattle.cif_feed.specs.ProfileLine.{is_basic, is_note, profile_line, profile_lines};
 ghost use Rattle.cif_feed.specs.declared.feed.Feed.{Feed};
 ghost use Rattle.cif_feed.specs.WrittenExtracts.{CodesMayStand};
 ghost use Rattle.cif_feed.specs.declared.changes.RefusedLine.{RefusedLine};
@@ -135,6 +137,16 @@ pub fn changes_leave_the_last_word<K, I>()
     // Two lists of changes one after the other are the one after the other.
     ensures sequence { (same : K → K → Bool) (records : List (K × I)) (one other : List (ChangeParts K I))
         → after_all same records (one ++ other) ≡ after_all same (after_all same records one) other }
+{}
+
+/// What an update says is what its lines say by their columns, line by line.
+pub fn updates_say_what_their_lines_say()
+    ensures locations { (max : ℕ) (bytes : List ℕ) (u : UpdateParts) → BytesSpellUpdate max bytes u
+        → SayTiplocs (lines_of is_of_tiploc (contents_of bytes)) u.tiplocs }
+    ensures associations { (max : ℕ) (bytes : List ℕ) (u : UpdateParts) → BytesSpellUpdate max bytes u
+        → ArePairs SaysAssociation (lines_of is_association (contents_of bytes)) u.associations }
+    ensures schedules { (max : ℕ) (bytes : List ℕ) (u : UpdateParts) → BytesSpellUpdate max bytes u
+        → ArePairs SaysSchedule (lines_of is_basic (contents_of bytes)) u.schedules }
 {}
 
 /// What an update leaves of each key: what the last of its lines with this key puts, or what was there. A line

@@ -1,0 +1,13 @@
+-- Each line has its record and its mark, of which its change is made.
+use Rattle.cif_columns.specs.Contents.{contents_of}
+use Rattle.cif_feed.proofs.SaidLines.{associations_said, schedules_said, tiplocs_said}
+use Rattle.cif_feed.proofs.laws.updates_say_what_their_lines_say.Goals as goal
+
+pub returns-clause-locations : goal.returns-clause-locations
+returns-clause-locations c = λ max bytes u s. tiplocs_said (contents_of bytes) u s.spell
+
+pub returns-clause-associations : goal.returns-clause-associations
+returns-clause-associations c = λ max bytes u s. associations_said (contents_of bytes) u s.spell
+
+pub returns-clause-schedules : goal.returns-clause-schedules
+returns-clause-schedules c = λ max bytes u s. schedules_said (contents_of bytes) u s.spell
