@@ -1,15 +1,15 @@
 -- The rows of tables, as they are made field by field.
-use Rattle.std.proofs.Common.{◌≡◌, ◌≢◌, ℕ, ◌+◌, ◌-◌, ◌<◌, ◌≤◌, Bool, true, false, Bor, IsTrue, List, [], ◌∷◌, ◌++◌, codes, cond, drop}
+use Rattle.std.proofs.Common.{◌≡◌, ℕ, ◌+◌, ◌<◌, ◌≤◌, Bool, true, false, Bor, IsTrue, List, [], ◌∷◌, ◌++◌, codes, cond, drop}
 use Rattle.std.proofs.Common.{length, ◌∙◌}
 use Rattle.std.proofs.Common.{append-nil, append_assoc, ap, arith, inl, inr, length-append, refl, subst, sym, take}
 use borrow.Rule.Slice.PartMut.{put_mid}
 use Rattle.std.specs.Prelude.{◌⊎◌, slice_index_or, slice_set}
 use Rattle.std.specs.Bool.{◌==◌}
 use Rattle.std.specs.List.{enumerate_from, filter, flat_map}
-use Rattle.std.proofs.lemmas.Bool.{and_parts, leb-true}
+use Rattle.std.proofs.lemmas.Bool.{and_parts}
 use Rattle.std.proofs.lemmas.Bool.Decides.{nat_tests}
 use Rattle.std.proofs.lemmas.Grind.{flat_map-append}
-use Rattle.std.proofs.lemmas.List.{at_drop_all, length-set, length-take, length-take-le, take-take, take_more_set}
+use Rattle.std.proofs.lemmas.List.{at_drop_all, length-set, length-take-le, take-take, take_more_set}
 use Rattle.std.proofs.lemmas.List.Folds.{flat_map-map}
 use Rattle.std.proofs.lemmas.Slice.{take-put_mid}
 use Rattle.std.proofs.Math.Seq.{take-append-add, take-append_seam}
