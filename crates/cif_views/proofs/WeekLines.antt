@@ -18,8 +18,8 @@ use Rattle.cif_calendar.specs.Laws.Bodied.{cancelled-from_bodied}
 use Rattle.cif_columns.specs.Day.{weekday_of}
 use Rattle.cif_columns.specs.Stp.{letter}
 use Rattle.cif_columns.specs.declared.stp.Stp.TheVariants.{C, N, O, P}
-use Rattle.cif_views.specs.WeekCalendar.{IsRunningLetter, IsShown, IsWeekCalendar, SaysWhatRuns, cell, character, monday_columns, space, text_of}
-use Rattle.cif_views.specs.WeekCalendar.{weeks_between}
+use Rattle.cif_views.specs.WeekCalendar.{IsRunningLetter, IsShown, IsWeekCalendar, SaysWhatRuns, cell, character, monday_columns, space}
+use Rattle.cif_views.specs.WeekCalendar.{text_of, weeks_between}
 use Rattle.cif_views.proofs.Words.{AreDayStates, AreLawful, DayState, ExtractParts, IsClear, Records, Runs, Schedule, Terms}
 use Rattle.cif_views.proofs.Words.{calendar_text, of_key, week_line, week_of}
 use Rattle.cif_views.proofs.Words.{range_with_len, schedule_entries, state_in}
@@ -211,7 +211,8 @@ pub says-what-runs : (x : ExtractParts) (u text : List ℕ) (d : ℕ) → IsWeek
     SaysWhatRuns x u text d
 says-what-runs x u text d is from upto =
     let s = is.state_on d in
-    let lawful = AreLawful-of_key (λ (e : Schedule). e.uid) schedule_terms (λ e. cancelled-from_bodied e.letter e.body e.bodied) x.schedules u in
+    let cancelled = λ (e : Schedule). cancelled-from_bodied e.letter e.body e.bodied in
+    let lawful = AreLawful-of_key (λ (e : Schedule). e.uid) schedule_terms cancelled x.schedules u in
     let (forth, back) = letter-runs (of_key (schedule_entries x.schedules) u) lawful d s (is.states d from upto) in
     record {
       character = character s;
