@@ -14,9 +14,9 @@ use Rattle.cif_views.specs.declared.columns.Place.{Place}
 use Rattle.cif_views.specs.declared.columns.Place.TheVariants as place
 use Rattle.cif_views.specs.Steps.Columns.{call_columns, change_columns, column, named}
 use Rattle.cif_views.proofs.Words.{Change, Column, Field, JourneyKind, Origin, Other, Stop, TableFields, Terminus, Tsv, after}
-use Rattle.cif_views.proofs.Words.{bytes_decides, columns, count_of_calls, differing_row, differing_rows, field_in, field_row, fields_in}
+use Rattle.cif_views.proofs.Words.{bytes_decides, columns, count_of_calls, differing_rows, field_in, field_row, fields_in}
 use Rattle.cif_views.proofs.Words.{find}
-use Rattle.cif_views.proofs.Words.{flat_map, is_call, is_change, journey_kind, kind_of_line, number, own_columns, own_fields, place_behind}
+use Rattle.cif_views.proofs.Words.{flat_map, is_call, is_change, journey_kind, kind_of_line, number, own_fields, place_behind}
 use Rattle.cif_views.proofs.Words.{places_behind, pointwise, row_behind, row_fields, same_places, shown, trimmed, Whole}
 use Rattle.cif_views.proofs.TableRows.{behind-row, call-fields, within-span}
 

@@ -7,6 +7,7 @@ mod ExplainedMarks
 mod ExplainedTexts
 mod Explaining
 pub mod Moments
+mod OneDifference
 mod PairedBodies
 mod PairedJourneys
 mod PublicMoments

@@ -2,7 +2,7 @@
 use Rattle.std.proofs.Common.{◌≡◌, ℕ, ◌+◌, Bool, true, false, IsTrue, List, [], ◌∷◌, ◌++◌, Option, Some, codes, cond, length, map, ◌∙◌}
 use Rattle.std.proofs.Common.{ap, ap₂, append_assoc, arith, drop, if◌then◌else◌, nat_eq, refl, sym, take}
 use Rattle.std.specs.Cmp.Lexicographic.{pointwise}
-use Rattle.std.proofs.lemmas.Bool.{and_parts, false≢true}
+use Rattle.std.proofs.lemmas.Bool.{and_parts}
 use Rattle.std.proofs.lemmas.Grind.{flat_map-append}
 use Rattle.cif_columns.specs.declared.sink.Sink.{Sink}
 use Rattle.cif_canon.proofs.AppendedTexts.{both, text-is}

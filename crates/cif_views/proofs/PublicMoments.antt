@@ -325,7 +325,7 @@ module _ (j : Journey) (c : Numbered) (lines : List Numbered) (more : (next : Jo
       shows at p is (ap (λ b. some && b) e ∙ ap (λ b. b && true) says.times.some) says
 
   pub one-call : (at : Option Stay) → StaySays j.left (reached_at times) (left_at times) at →
-      Says j (c ∷ lines) (public_call c (behind_stay j times (activities_of c.line) at).1 ++ public_from (behind_stay j times (activities_of c.line) at).0 lines)
+      (let next = behind_stay j times (activities_of c.line) at in Says j (c ∷ lines) (public_call c next.1 ++ public_from next.0 lines))
   one-call None is =
       let next = more j in
       record {

@@ -3,7 +3,8 @@ use Rattle.std.proofs.Common.{◌≡◌, ℕ, ◌+◌, ◌-◌, List, [], ◌∷
 use Rattle.std.proofs.Common.{arith, cond, length, refl, sym}
 use Rattle.std.specs.List.{flat_map}
 use Rattle.std.proofs.lemmas.Grind.{flat_map-append}
-use Rattle.cif_views.specs.PublicCalls.{activities_in, activities_of, pick_up, public_call, public_fields, public_from, set_down, step, step_at}
+use Rattle.cif_views.specs.PublicCalls.{activities_in, activities_of, pick_up, public_call, public_fields, public_from, set_down, step}
+use Rattle.cif_views.specs.PublicCalls.{step_at}
 use Rattle.cif_views.specs.Moments.{midnight, time_text}
 use Rattle.cif_views.specs.PublicCalls.{platform_in, times_in, times_of}
 use Rattle.cif_views.specs.Steps.PublicRows.{behind_schedule, row_of_step}

@@ -1,15 +1,15 @@
 -- The rows of tables, as they are made field by field.
-use Rattle.std.proofs.Common.{◌≡◌, ◌≢◌, ℕ, ◌+◌, ◌-◌, ◌<◌, ◌≤◌, Bool, true, false, Bor, IsTrue, List, [], ◌∷◌, ◌++◌, codes, cond, drop}
+use Rattle.std.proofs.Common.{◌≡◌, ℕ, ◌+◌, ◌<◌, ◌≤◌, Bool, true, false, Bor, IsTrue, List, [], ◌∷◌, ◌++◌, codes, cond, drop}
 use Rattle.std.proofs.Common.{length, ◌∙◌}
 use Rattle.std.proofs.Common.{append-nil, append_assoc, ap, arith, inl, inr, length-append, refl, subst, sym, take}
 use borrow.Rule.Slice.PartMut.{put_mid}
 use Rattle.std.specs.Prelude.{◌⊎◌, slice_index_or, slice_set}
 use Rattle.std.specs.Bool.{◌==◌}
 use Rattle.std.specs.List.{enumerate_from, filter, flat_map}
-use Rattle.std.proofs.lemmas.Bool.{and_parts, leb-true}
+use Rattle.std.proofs.lemmas.Bool.{and_parts}
 use Rattle.std.proofs.lemmas.Bool.Decides.{nat_tests}
 use Rattle.std.proofs.lemmas.Grind.{flat_map-append}
-use Rattle.std.proofs.lemmas.List.{at_drop_all, length-set, length-take, length-take-le, take-take, take_more_set}
+use Rattle.std.proofs.lemmas.List.{at_drop_all, length-set, length-take-le, take-take, take_more_set}
 use Rattle.std.proofs.lemmas.List.Folds.{flat_map-map}
 use Rattle.std.proofs.lemmas.Slice.{take-put_mid}
 use Rattle.std.proofs.Math.Seq.{take-append-add, take-append_seam}
@@ -18,7 +18,8 @@ use Rattle.cif_canon.specs.Lines.{ExtractLines}
 use Rattle.cif_canon.specs.declared.rows.Shape.{Shape}
 use Rattle.cif_canon.proofs.ViewLines.{both-after, joined}
 use Rattle.cif_views.specs.Steps.Columns.{are_within, is_short, is_span, is_within, named, span_in}
-use Rattle.cif_views.specs.Steps.TableRows.{journey_rows, row_of_kind, rows_of, schedule_rows}
+use Rattle.cif_views.specs.Steps.TableRows.{journey_rows, row_of_kind, rows_of}
+use Rattle.cif_views.specs.TableText.{schedule_rows}
 use Rattle.cif_views.specs.Tables.{calls_of, change_fields, changes_of, own_call_fields, row_fields}
 use Rattle.cif_views.specs.declared.columns.Place.{Place}
 use Rattle.cif_views.specs.declared.columns.Place.TheVariants as place
@@ -177,37 +178,14 @@ pub filtered : {A : Type 0} (test : A → Bool) (text : A → List ℕ) (xs : Li
 filtered test text [] = refl
 filtered test text (x ∷ xs) = passing (test x) text x (filter test xs) _ (filtered test text xs)
 
--- what is listed of the items of items
-pub of-parts : {A B : Type 0} (text : B → List ℕ) (parts : A → List B) (xs : List A) →
-    flat_map text (flat_map parts xs) ≡ flat_map (λ x. flat_map text (parts x)) xs
-of-parts text parts [] = refl
-of-parts text parts (x ∷ xs) =
-    flat_map-append text (parts x) (flat_map parts xs) ∙ ap (λ (l : List ℕ). flat_map text (parts x) ++ l) (of-parts text parts xs)
-
--- the rows of a table of calls, of changes and of schedules, schedule by schedule
-pub calls-rows : (x : ExtractLines) →
-    table_rows Calls x ≡ flat_map (λ (s : ℕ × ScheduleLines). schedule_rows Calls s.0 s.1) (enumerate_from 1 x.schedules)
-calls-rows x = of-parts (row_line call_fields) calls_of (enumerate_from 1 x.schedules)
-
-pub changes-rows : (x : ExtractLines) →
-    table_rows Changes x ≡ flat_map (λ (s : ℕ × ScheduleLines). schedule_rows Changes s.0 s.1) (enumerate_from 1 x.schedules)
-changes-rows x = of-parts (row_line change_fields) changes_of (enumerate_from 1 x.schedules)
-
-pub schedules-rows : (x : ExtractLines) →
-    table_rows Schedules x ≡ flat_map (λ (s : ℕ × ScheduleLines). schedule_rows Schedules s.0 s.1) (enumerate_from 1 x.schedules)
-schedules-rows x = flat_map-map (row_line schedule_fields) numbered_schedule (enumerate_from 1 x.schedules)
-
-public-rows : (x : ExtractLines) →
-    table_rows Public x ≡ flat_map (λ (s : ℕ × ScheduleLines). schedule_rows Public s.0 s.1) (enumerate_from 1 x.schedules)
-public-rows x = of-parts (row_line public_fields) public_calls (enumerate_from 1 x.schedules)
-
+-- the rows of a table of calls, of changes, of public calls and of schedules, schedule by schedule
 pub listed-rows : (table : Table) (x : ExtractLines) →
     (table ≡ Schedules) ⊎ ((table ≡ Calls) ⊎ ((table ≡ Changes) ⊎ (table ≡ Public))) →
     flat_map (λ (s : ℕ × ScheduleLines). schedule_rows table s.0 s.1) (enumerate_from 1 x.schedules) ≡ table_rows table x
-listed-rows table x (inl e) = rw e (sym (schedules-rows x))
-listed-rows table x (inr (inl e)) = rw e (sym (calls-rows x))
-listed-rows table x (inr (inr (inl e))) = rw e (sym (changes-rows x))
-listed-rows table x (inr (inr (inr e))) = rw e (sym (public-rows x))
+listed-rows table x (inl e) = rw e refl
+listed-rows table x (inr (inl e)) = rw e refl
+listed-rows table x (inr (inr (inl e))) = rw e refl
+listed-rows table x (inr (inr (inr e))) = rw e refl
 
 -- the rows of a journey, line by line
 pub calls-of_lines : (n : ℕ) (s : ScheduleLines) → journey_rows true n s.further ≡ schedule_rows Calls n s

@@ -1,10 +1,14 @@
 -- Each difference has a row in their table.
-use Rattle.std.specs.Prelude.{ℕ, ◌<◌, Contains, List, length}
+use Rattle.std.specs.Prelude.{◌≡◌, ◌≢◌, ℕ, ◌<◌, Contains, List, [], length}
+use Rattle.std.specs.List.{flat_map}
 use Rattle.cif_canon.specs.Differences.{DifferencesParts}
+use Rattle.cif_canon.specs.Fields.{Field, shown}
 use Rattle.cif_canon.specs.Lines.{ScheduleLines}
 use Rattle.cif_canon.specs.Pairs.{Listed, association_lines, schedule_lines, tiploc_lines}
 use Rattle.cif_canon.specs.declared.listed_differences.Sided.{Sided}
-use Rattle.cif_views.specs.DifferenceTable.{association_differences, schedule_differences, tiploc_row}
+use Rattle.cif_canon.specs.declared.rows.Format.TheVariants.{Tsv}
+use Rattle.cif_views.specs.DifferenceTable.{association_differences, differing_row, differing_rows, schedule_differences, tiploc_row}
+use Rattle.cif_views.specs.Tables.{TableFields}
 
 -- a row is there
 abbrev pub HasRow : List ℕ → Type 0
@@ -15,3 +19,14 @@ pub record HaveRows (d : DifferencesParts) : Type 0 where
   pub tiplocs : (s : Sided (List ℕ)) → Contains (tiploc_lines d) s → HasRow (tiploc_row s)
   pub associations : (l : Listed (List ℕ)) → Contains (association_lines d) l → HasRow (association_differences l)
   pub schedules : (l : Listed ScheduleLines) → Contains (schedule_lines d) l → HasRow (schedule_differences l)
+
+-- A field of a pair has its row exactly if its cells differ, and none if they are the same.
+pub record IsRowOfField (start : List Field) (left right : List ℕ) (name : List ℕ) (field : List ℕ → Field) (row : List ℕ) : Type 0 where
+  pub differs : shown Tsv (field left) ≢ shown Tsv (field right) → row ≡ differing_row start name (field left) (field right)
+  pub same : shown Tsv (field left) ≡ shown Tsv (field right) → row ≡ []
+
+-- So the rows of a pair go field by field.
+pub record AreRowsOfFields (start : List Field) (fields : TableFields (List ℕ)) (left right : List ℕ) : Type 0 where
+  pub rows : List ℕ × (List ℕ → Field) → List ℕ
+  pub each : (f : List ℕ × (List ℕ → Field)) → IsRowOfField start left right f.0 f.1 (rows f)
+  pub all : differing_rows start fields left right ≡ flat_map rows fields

@@ -1,15 +1,19 @@
 -- The calendar of a train: a line for each week, with a character for each day.
-use Rattle.std.specs.Prelude.{◌≡◌, ◌≢◌, ℕ, ◌+◌, ◌-◌, ◌*◌, ◌≤◌, List, [], ◌∷◌, ◌++◌, codes, map, nat_lt, if◌then◌else◌}
+use Rattle.std.specs.Prelude.{◌≡◌, ◌↔◌, ◌⊎◌, ℕ, ◌+◌, ◌-◌, ◌*◌, ◌≤◌, List, [], ◌∷◌, ◌++◌, Some, codes, map, nat_lt, slice_get}
+use Rattle.std.specs.Prelude.{if◌then◌else◌}
 use Rattle.std.specs.List.{flat_map, range_with_len}
+use Rattle.cif_calendar.specs.Clash.{IsClear}
 use Rattle.cif_calendar.specs.DayState.{IsDayState}
 use Rattle.cif_calendar.specs.Entries.{schedule_entries}
 use Rattle.cif_calendar.specs.Keys.{of_key}
+use Rattle.cif_calendar.specs.Runs.{Runs}
 use Rattle.cif_calendar.specs.declared.day_state.DayState.{DayState}
 use Rattle.cif_calendar.specs.declared.day_state.DayState.TheVariants as state
-use Rattle.cif_columns.specs.Day.{week_of}
+use Rattle.cif_columns.specs.Day.{week_of, weekday_of}
 use Rattle.cif_columns.specs.DayDigits.{yymmdd_of}
 use Rattle.cif_columns.specs.Stp.{letter}
-use Rattle.cif_columns.specs.declared.stp.Stp.TheVariants.{C}
+use Rattle.cif_columns.specs.declared.stp.Stp.TheVariants.{N, O, P}
+use Rattle.cif_extract.specs.BodyParts.{BodyParts}
 use Rattle.cif_extract.specs.ExtractParts.{ExtractParts}
 use Rattle.cif_extract.specs.declared.fault.Fault.{Fault}
 use Rattle.cif_extract.specs.declared.fault.Fault.TheVariants.{Memory, Write}
@@ -60,7 +64,31 @@ IsWeekCalendarFault Memory = Unit {0}
 IsWeekCalendarFault Write = Unit {0}
 IsWeekCalendarFault _ = ⊥
 
+-- the date of the Monday of a date's week, as six digits; spaces before 1960
+abbrev pub monday_of : ℕ → List ℕ
+monday_of d = if nat_lt d (weekday_of d) then codes "      " else yymmdd_of (d - weekday_of d)
+
+-- lines of text
+abbrev pub text_of : List (List ℕ) → List ℕ
+text_of lines = flat_map (λ line. line ++ codes "\n") lines
+
+-- Character c is shown of date d: a line has the date of its Monday, a space, and c at its weekday.
+pub record IsShown (text : List ℕ) (d c : ℕ) : Type 0 where
+  pub before : List (List ℕ)
+  pub after : List (List ℕ)
+  pub days : List ℕ
+  pub text_is : text ≡ text_of (before ++ ((monday_of d ++ (space ∷ days)) ∷ after))
+  pub at : slice_get days (weekday_of d) ≡ Some c
+
 -- a letter other than C
-abbrev pub IsRunningLetter : DayState → Type 0
-IsRunningLetter (state.Letter stp) = stp ≢ C
-IsRunningLetter _ = ⊥
+abbrev pub IsRunningLetter : ℕ → Type 0
+IsRunningLetter c = (c ≡ letter P) ⊎ ((c ≡ letter N) ⊎ (c ≡ letter O))
+
+-- Of a date, what the calendar of train u shows says what runs: the letter is one of these exactly where it runs and its winners don't
+-- differ.
+pub record SaysWhatRuns (x : ExtractParts) (u text : List ℕ) (d : ℕ) : Type 0 where
+  pub character : ℕ
+  pub shown : IsShown text d character
+  pub letter : IsRunningLetter character
+      ↔ (IsClear (of_key (schedule_entries x.schedules) u) d
+      × ((body : BodyParts) × Runs (of_key (schedule_entries x.schedules) u) d (Some body)))

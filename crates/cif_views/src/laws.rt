@@ -1,14 +1,13 @@
 //! Laws: what the marks of an explanation and the letters of a calendar say, and that rows have all fields.
-ghost use Rattle.std.specs.Prelude.{◌≡◌, ◌↔◌, ℕ, Contains, List, Some};
+ghost use Rattle.std.specs.Prelude.{◌≡◌, ◌↔◌, ◌≤◌, ℕ, Contains, List};
 ghost use Rattle.cif_calendar.specs.Clash.{IsClear};
-ghost use Rattle.cif_calendar.specs.DayState.{IsDayState};
-ghost use Rattle.cif_calendar.specs.Keys.{of_key};
+ghost use Rattle.cif_calendar.specs.Keys.{keyed, of_key};
 ghost use Rattle.cif_calendar.specs.Runs.{Runs};
-ghost use Rattle.cif_calendar.specs.Terms.{AreLawful, Terms};
-ghost use Rattle.cif_calendar.specs.declared.day_state.DayState.{DayState};
+ghost use Rattle.cif_calendar.specs.Terms.{Terms};
 ghost use Rattle.cif_canon.specs.Accepted.{IsAccepted};
 ghost use Rattle.cif_canon.specs.Differences.{AreDifferences, AreNone, DifferencesParts};
 ghost use Rattle.cif_canon.specs.declared.asked.Asked.{Asked};
+ghost use Rattle.cif_canon.specs.Fields.{Field};
 ghost use Rattle.cif_canon.specs.Lines.{ScheduleLines};
 ghost use Rattle.cif_extract.specs.ExtractParts.{ExtractParts};
 ghost use Rattle.cif_views.specs.AllFields.{CallsHaveAll, DayRowsHaveAll, DifferenceRowsHaveAll};
@@ -17,22 +16,21 @@ ghost use Rattle.cif_views.specs.DifferenceTable.{difference_names, difference_t
 ghost use Rattle.cif_views.specs.Explanation.{AreExplained, Explained, HasWinningMark};
 ghost use Rattle.cif_views.specs.Explanation.{SomeApplies};
 ghost use Rattle.cif_views.specs.PublicCalls.{ArePublicCalls, public_calls};
-ghost use Rattle.cif_views.specs.RowsOfDifferences.{HaveRows};
-ghost use Rattle.cif_views.specs.Tables.{names_line};
-ghost use Rattle.cif_views.specs.WeekCalendar.{IsRunningLetter};
+ghost use Rattle.cif_views.specs.RowsOfDifferences.{AreRowsOfFields, HaveRows};
+ghost use Rattle.cif_views.specs.Tables.{TableFields, names_line};
+ghost use Rattle.cif_views.specs.WeekCalendar.{IsWeekCalendar, SaysWhatRuns};
 ghost use Rattle.cif_views.specs.declared.marks.Mark.TheVariants.{Wins};
 
 use crate::marks::ExplainedEntry;
-use cif_calendar::Entry;
 
 /// What the marks of explained records say.
 pub fn marks_say_what_runs<E: ExplainedEntry>()
     // A record that is marked as the winner has the body that runs; a cancellation has none.
-    ensures runs { (entries : List (E.Key × Terms E.Body))
+    ensures runs { (entries : List E)
         (uid : List ℕ) (day : ℕ) (explained : List (Explained E.Key E.Body))
-        (e : Explained E.Key E.Body) → AreExplained E.Key.cmp E.is_of entries uid day explained
-        → AreLawful (of_key entries e.key) → Contains explained e → e.mark ≡ Wins
-        → Runs (of_key entries e.key) day e.terms.body }
+        (e : Explained E.Key E.Body) → AreExplained E.Key.cmp E.is_of (keyed E.key E.terms entries) uid day explained
+        → Contains explained e → e.mark ≡ Wins
+        → Runs (of_key (keyed E.key E.terms entries) e.key) day e.terms.body }
     // A key has one exactly if some record of it applies and no two winners differ.
     ensures agree { (entries : List (E.Key × Terms E.Body))
         (uid : List ℕ) (day : ℕ) (explained : List (Explained E.Key E.Body)) (key : E.Key)
@@ -63,12 +61,18 @@ pub fn a_row_for_each_difference()
         → (difference_table d ≡ names_line difference_names) ↔ AreNone d }
 {}
 
-/// A letter other than C stands exactly where a train runs and its winners don't differ.
-pub fn letters_say_what_runs<E: Entry>()
-    ensures { (entries : List (E.Key × Terms E.Body)) (key : E.Key) (day : ℕ) (state : DayState)
-        → AreLawful (of_key entries key) → IsDayState (of_key entries key) day state
-        → IsRunningLetter state ↔ (IsClear (of_key entries key) day
-        × ((body : E.Body) × Runs (of_key entries key) day (Some body))) }
+/// A pair of records has a row for each field that differs and for no other, and two extracts have one list
+/// of differences: so one table is right.
+pub fn one_table_of_differences()
+    ensures fields { (start : List Field) (fields : TableFields (List ℕ)) (left right : List ℕ)
+        → AreRowsOfFields start fields left right }
+    ensures once { (x y : ExtractParts) (d e : DifferencesParts) → AreDifferences x y d → AreDifferences x y e → d ≡ e }
+{}
+
+/// In the line of its Monday a calendar shows of each date whether the train runs.
+pub fn calendars_say_what_runs()
+    ensures { (x : ExtractParts) (uid text : List ℕ) (day : ℕ) → IsWeekCalendar x uid text
+        → x.header.first ≤ day → day ≤ x.header.last → SaysWhatRuns x uid text day }
 {}
 
 /// The public calls that a table shows of a schedule are those by the definition of moments.

@@ -103,9 +103,20 @@ impl CallTimes {
         ensures upto { IfSome result (λ shown. (m : ℕ) → before ≤ m → stay.now.reached + 86400 ≤ m
             → stay.now.left + 86400 ≤ m → shown.departure ≤ m) }
     {
-        let arrival = self.public_arrival.map(|time| stay.reached.nearest(time));
-        let departure = self.public_departure.map(|time| stay.left.nearest(time));
-        let (arrival, departure) = (arrival.or(departure)?, departure.or(arrival)?);
+        let (arrival, departure) = match (self.public_arrival, self.public_departure) {
+            (Some(arrival), Some(departure)) => {
+                (stay.reached.nearest(arrival), stay.left.nearest(departure))
+            }
+            (Some(arrival), None) => {
+                let moment = stay.reached.nearest(arrival);
+                (moment, moment)
+            }
+            (None, Some(departure)) => {
+                let moment = stay.left.nearest(departure);
+                (moment, moment)
+            }
+            (None, None) => return None,
+        };
         let arrival = before.or_later(arrival);
         let departure = arrival.or_later(departure);
         Some(Shown { arrival, departure })
@@ -207,7 +218,10 @@ fn answers_of(activities: &Activities, times: &CallTimes) -> (u8, u8)
     let on_request = activities.has(b"R ");
     let down_by_time = !up && times.public_arrival.is_some();
     let up_by_time = !down && times.public_departure.is_some();
-    (answer_of(down || down_by_time, on_request), answer_of(up || up_by_time, on_request))
+    (
+        answer_of(down || down_by_time, on_request),
+        answer_of(up || up_by_time, on_request),
+    )
 }
 
 /// What goes on from call to call.

@@ -134,7 +134,7 @@ fn write_tiplocs<W: WriteDevice>(tiplocs: &[Tiploc], sink: &mut Sink<W>)
 }
 
 impl CanonListing for Table {
-    ghost use Rattle.cif_views.specs.Steps.TableRows.{schedule_rows};
+    ghost use Rattle.cif_views.specs.TableText.{schedule_rows};
     ghost use Rattle.cif_views.specs.Tables.{association_fields, row_line};
 
     ghost association_text = { λ table. row_line association_fields };

@@ -1,14 +1,9 @@
 -- The rows of tables as the code makes them. No public clause cites them.
 use Rattle.std.specs.Prelude.{ℕ, Bool, true, false, List, [], ◌∷◌, cond}
 use Rattle.std.specs.List.{flat_map}
-use Rattle.cif_canon.specs.Lines.{ScheduleLines}
-use Rattle.cif_views.specs.PublicCalls.{public_calls, public_fields}
 use Rattle.cif_views.specs.Steps.Columns.{Column, call_columns, change_columns, fields_in, row_behind}
-use Rattle.cif_views.specs.Tables.{Numbered, call_fields, calls_of, change_fields, changes_of, is_call, is_change, kind_of_line}
-use Rattle.cif_views.specs.Tables.{number, numbered_from, numbered_schedule, row_line, schedule_fields}
+use Rattle.cif_views.specs.Tables.{Numbered, call_fields, change_fields, is_call, is_change, kind_of_line, number, numbered_from, row_line}
 use Rattle.cif_views.specs.declared.tables.JourneyKind.{JourneyKind}
-use Rattle.cif_views.specs.declared.tables.Table.{Table}
-use Rattle.cif_views.specs.declared.tables.Table.TheVariants.{Associations, Calls, Changes, Header, Public, Schedules, Tiplocs}
 
 -- whether the table of the calls, or else that of the changes, has a row of a line of this kind; and its columns
 abbrev pub has_row : Bool → JourneyKind → Bool
@@ -32,13 +27,3 @@ rows_of false p = cond (is_change (kind_of_line p.line)) (row_line change_fields
 -- those of the lines of a schedule
 abbrev pub journey_rows : Bool → ℕ → List (List ℕ) → List ℕ
 journey_rows calls schedule lines = flat_map (rows_of calls) (numbered_from schedule 1 lines)
-
--- what a table has of a schedule with a number
-abbrev pub schedule_rows : Table → ℕ → ScheduleLines → List ℕ
-schedule_rows Header n s = []
-schedule_rows Tiplocs n s = []
-schedule_rows Associations n s = []
-schedule_rows Schedules n s = row_line schedule_fields (numbered_schedule (n, s))
-schedule_rows Calls n s = flat_map (row_line call_fields) (calls_of (n, s))
-schedule_rows Changes n s = flat_map (row_line change_fields) (changes_of (n, s))
-schedule_rows Public n s = flat_map (row_line public_fields) (public_calls (n, s))

@@ -1,11 +1,14 @@
 -- Laws of all explained records (`ExplainedMarks`), for an order of keys that is total and agrees with equality.
+use Rattle.cif_calendar.specs.Keys.{keyed}
 use Rattle.cif_calendar.proofs.FirstClash.{same_key-cmp}
+use Rattle.cif_calendar.proofs.Positions.{AreLawful-of_key}
 use Rattle.cif_views.proofs.ExplainedMarks.{equal-itself, wins-agree, wins-runs}
 use Rattle.cif_views.proofs.laws.marks_say_what_runs.Goals as goal
 
 pub returns-clause-runs : goal.returns-clause-runs
-returns-clause-runs g c entries uid day explained e are lawful in_e is =
-    wins-runs g.E.Key.Ord.cmp g.E.ExplainedEntry.is_of entries uid day explained are e lawful in_e is
+returns-clause-runs g c entries uid day explained e are in_e is =
+    wins-runs g.E.Key.Ord.cmp g.E.ExplainedEntry.is_of (keyed g.E.Entry.key g.E.Entry.terms entries) uid day explained are e
+    (AreLawful-of_key g.E.Entry.key g.E.Entry.terms g.met.E.Entry.cancelled entries e.key) in_e is
 
 pub returns-clause-agree : goal.returns-clause-agree
 returns-clause-agree g c entries uid day explained key are train =

@@ -9,7 +9,7 @@ pub returns-clause-text : goal.returns-clause-text
 returns-clause-text g c =
     let fields = number c.args.call ∷ fields_in c.args.kind (journey_columns c.args.calls) c.args.line.now in
     text-is _ _ _ _ _ _
-    (ap (λ has. cond has (row_behind c.args.row.now fields) []) (c.if-not-has_row.ensures tt))
+    (ap (λ has. cond has (row_behind c.args.row.now fields) []) c.if-not-has_row.ensures)
     (c.write_and_keep.ensures.text c.args.row.now fields c.push_numbered.ensures.text c.len-begun.ensures)
 
 pub returns-clause-same : goal.returns-clause-same

@@ -1,5 +1,5 @@
 -- A record alone has a row, in which its side is shown by its sign (`shown-change`); a pair has the rows of its fields.
-use Rattle.std.proofs.Common.{◌++◌, ◌∙◌, List, Option, Some, ap, codes, drop, replicate, sym, ℕ}
+use Rattle.std.proofs.Common.{◌++◌, ◌∙◌, List, Option, ap, codes, drop, replicate, sym, ℕ}
 use Rattle.cif_canon.specs.Pairs.{Listed, listed_as}
 use Rattle.cif_canon.proofs.AppendedTexts.{text-is}
 use Rattle.cif_views.specs.Tables.{category_fields, type_fields}
