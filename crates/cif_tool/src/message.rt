@@ -45,18 +45,6 @@ impl Message {
     }
 }
 
-/// The bytes of the longest line: that of a clash of associations.
-const LONGEST_LINE: usize = 80;
-
-/// Writes a line of these parts, without memory. That it can't be written changes nothing.
-pub(crate) fn tell_line<W: WriteDevice>(parts: &[&str], errors: &mut Sink<W>) {
-    let mut line = ArrayString::<LONGEST_LINE>::new();
-    for part in parts {
-        let _ = line.try_push_str(part);
-    }
-    let _ = errors.write_all(line.as_str().as_bytes());
-}
-
 /// The text with its characters escaped that hide or turn text, but not its line feeds.
 pub(crate) fn escaped(alloc: Global, text: &str) -> Result<String, AllocError> {
     let mut shown = String::new(alloc);
