@@ -1,23 +1,41 @@
 -- What is found in a prepared extract that only holidays cut: the clash days of the published one.
 use Rattle.std.proofs.Common.{◌≡◌, ◌↔◌, inl, inr, ⊎_elim, ℕ, ◌+◌, ◌<◌, ◌≤◌, List, [], ◌∷◌, ◌++◌, Option, Vec, Global, Contains, map, length}
-use Rattle.std.proofs.Common.{true, false, refl, sym, ap, ap₂, ◌∙◌, subst, arith}
+use Rattle.std.specs.Prelude.{◌==◌, codes, decimal}
+use Rattle.cif_extract.specs.Clash.{clash_text}
+use Rattle.cif_feed.specs.Dropped.{dropped_text, more_text}
+use Rattle.std.proofs.Common.{true, false, cond, append_assoc, refl, sym, ap, ap₂, ◌∙◌, subst, arith}
 use Rattle.cif_calendar.specs.ClashDates.{AreClashDates}
-use Rattle.cif_calendar.specs.Entries.{association_entries, schedule_entries}
+use Rattle.cif_calendar.specs.Entries.{association_entries, association_terms, schedule_entries, schedule_terms}
+use Rattle.cif_calendar.specs.Ranks.{IsNumberOf}
+use Rattle.cif_calendar.specs.Terms.{Terms}
+use Rattle.std.specs.Ordering.{nat_cmp}
+use Rattle.std.specs.Cmp.Lexicographic.{slice_cmp}
+use Rattle.std.specs.declared.cmp.Ordering.{Ordering}
+use Rattle.cif_extract.specs.declared.extract.Schedule.{Schedule}
+use Rattle.cif_extract.specs.declared.fault.Clash.{Clash}
+use Rattle.cif_records.specs.AssocKey.{key_cmp}
+use Rattle.cif_records.specs.declared.association.Association.{Association}
+use Rattle.cif_feed.specs.declared.prepared_record.PreparedRecord.{PreparedRecord}
+use Rattle.cif_feed.specs.declared.published_extract.PublishedExtract.{PublishedExtract}
+use Rattle.cif_feed.proofs.PreparedLists.{prepared-associations, prepared-schedules}
+use Rattle.cif_feed.specs.Steps.PartsSoFar.{records_on}
 use Rattle.cif_calendar.specs.Keys.{of_key}
 use Rattle.cif_calendar.proofs.RisingLists.{Contains-none}
 use Rattle.cif_extract.specs.ExtractParts.{ExtractParts}
 use Rattle.cif_extract.specs.declared.fault.Clash.TheVariants as clash
 use Rattle.cif_records.proofs.Headers.{last_is_day}
+use Rattle.cif_extract.specs.BodyParts.{BodyParts}
+use Rattle.cif_records.specs.declared.association.AssocBody.{AssocBody}
 use Rattle.cif_records.specs.declared.association.AssocKey.{AssocKey}
 use Rattle.cif_records.specs.declared.header.Header.{Header}
 use Rattle.cif_feed.specs.CutCount.{AppliesOnAny, IsCountOf}
 use Rattle.cif_feed.specs.Dropped.{AreClashDays, AreDropped, IsCountOfClashing, told_as}
 use Rattle.cif_feed.specs.LastDay.{last_day}
-use Rattle.cif_feed.specs.PreparedParts.{IsPrepared}
+use Rattle.cif_feed.specs.PreparedParts.{IsPrepared, association_on, prepared_parts, schedule_on}
 use Rattle.cif_feed.specs.Published.{AppliesAsPublished, IsClashDay, PublishedTerms}
 use Rattle.cif_feed.specs.PublishedParts.{PublishedParts, published_association_terms, published_associations, published_schedule_terms}
 use Rattle.cif_feed.specs.PublishedParts.{published_schedules}
-use Rattle.cif_feed.specs.Steps.Dropping.{AreAllFound, IsCutAt, ReadsAssociations, ReadsTrains}
+use Rattle.cif_feed.specs.Steps.Dropping.{AreAllFound, AreFound, IsCutAt, ReadsAssociations, ReadsTrains}
 use Rattle.cif_feed.specs.declared.dropped.Dropped.{Dropped}
 use Rattle.cif_feed.specs.declared.dropped.DroppedKey.{DroppedKey}
 use Rattle.cif_feed.specs.declared.holidays.Holidays.{Holidays}
@@ -40,6 +58,32 @@ no-keys f (x ∷ xs) ys e = absurd (cc)
 no-map : {A B : Type 0} (f : A → B) (xs : List A) → map f xs ≡ [] → xs ≡ []
 no-map f [] e = refl
 no-map f (x ∷ xs) e = absurd (cc)
+
+-- what is found in records that are those of an extract, in the window of its header
+found-in : {R K B : Type 0} (cmp : K → K → Ordering) (name : K → ℕ → Clash) (stands_for : R → K → Type 0) (es fs : List (K × Terms B))
+    (first one last other : ℕ) (known all : List DroppedKey) (found : R → Option (Vec ℕ Global)) → es ≡ fs → first ≡ one → last ≡ other
+    → AreFound cmp name stands_for es first (last + 1) known all found → AreFound cmp name stands_for fs one (other + 1) known all found
+found-in cmp name stands_for es fs first one last other known all found is f l a =
+    subst (λ n. AreFound cmp name stands_for fs n (other + 1) known all found) f
+    (subst (λ n. AreFound cmp name stands_for fs first (n + 1) known all found) l
+    (subst (λ xs. AreFound cmp name stands_for xs first (last + 1) known all found) is a))
+
+pub all-found : (x : PublishedExtract) (xs ys : List (PreparedRecord Association ℕ)) (ss ts : List (PreparedRecord Schedule ℕ))
+    (first last : ℕ) (known between all : List DroppedKey) (associations : AssocKey → Option (Vec ℕ Global))
+    (trains : ℕ → Option (Vec ℕ Global)) → xs ≡ ys → ss ≡ ts → first ≡ x.header.first → last ≡ x.header.last
+    → AreFound key_cmp clash.Association (λ (rank key : AssocKey). rank ≡ key)
+    (records_on {K = AssocKey} {B = AssocBody} (λ (a : Association). a.key) association_terms xs) first (last + 1) known between associations
+    → AreFound (slice_cmp nat_cmp) clash.Train IsNumberOf
+    (records_on {K = List ℕ} {B = BodyParts} (λ (s : Schedule). s.uid) schedule_terms ss) first (last + 1) between all trains
+    → AreAllFound (prepared_parts x ys ts) known all associations trains
+all-found x xs ys ss ts first last known between all associations trains same same_also f l a t = (
+  between,
+  found-in key_cmp clash.Association (λ (rank key : AssocKey). rank ≡ key) _ (association_entries (map association_on ys)) first
+      x.header.first last x.header.last known between associations
+      (prepared-associations xs ∙ ap (λ zs. association_entries (map association_on zs)) same) f l a,
+  found-in (slice_cmp nat_cmp) clash.Train IsNumberOf _ (schedule_entries (map schedule_on ts)) first x.header.first last x.header.last
+      between all trains (prepared-schedules ss ∙ ap (λ zs. schedule_entries (map schedule_on zs)) same_also) f l t,
+)
 
 module _ (h : Holidays) (p : PublishedParts) where
   day : p.header.last ≤ last_day
@@ -65,7 +109,7 @@ module _ (h : Holidays) (p : PublishedParts) where
         clash-days h (published_associations p.associations) (closed-associations p.associations) p.header.first p.header.last day
         (association_entries x.associations) whole.associations k (found.1.days k)
         (subst (λ (v : Header). AreClashDates (of_key (association_entries x.associations) k) v.first (v.last + 1) (found.1.days k))
-        whole.header (found.1.are.days k))
+        whole.header (found.1.are.are k))
 
     trains-are : (k : List ℕ)
         → AreClashDays h (published_schedules p.schedules) p.header.first (p.header.last + 1) k (found.2.days k)
@@ -73,7 +117,7 @@ module _ (h : Holidays) (p : PublishedParts) where
         clash-days h (published_schedules p.schedules) (closed-schedules p.schedules) p.header.first p.header.last day
         (schedule_entries x.schedules) whole.schedules k (found.2.days k)
         (subst (λ (v : Header). AreClashDates (of_key (schedule_entries x.schedules) k) v.first (v.last + 1) (found.2.days k))
-        whole.header (found.2.are.days k))
+        whole.header (found.2.are.are k))
 
     are_keys : all ≡ map (told_as clash.Association found.1.days) found.1.keys ++ map (told_as clash.Train found.2.days) found.2.keys
     are_keys = found.2.added
@@ -92,20 +136,32 @@ module _ (h : Holidays) (p : PublishedParts) where
     told-dropped n m count_associations count_trains dropped keys records = record {
       associations = found.1.keys;
       association_days = found.1.days;
-      of_associations = record { rising = found.1.are.rising; each = found.1.are.each; days = associations-are };
+      of_associations = record { rising = found.1.are.rising; each = found.1.are.each; are = associations-are };
       trains = found.2.keys;
       train_days = found.2.days;
-      of_trains = record { rising = found.2.are.rising; each = found.2.are.each; days = trains-are };
+      of_trains = record { rising = found.2.are.rising; each = found.2.are.each; are = trains-are };
       keys = keys ∙ are_keys;
       clashing_associations = n;
-      are_associations = count-map (λ (a : PublishedAssociation). (a.association.key, published_association_terms a)) _ p.associations n
-          (count-same _ _ (λ (a : PublishedAssociation). (
+      are_associations = count-map (λ (a : PublishedAssociation). (a.association.key, published_association_terms a))
+          (λ (e : AssocKey × PublishedTerms AssocBody). AppliesOnAny
+          (IsClashDay h (published_associations p.associations) p.header.first (p.header.last + 1) e.0) h p.header.last e.1) p.associations n
+          (count-same
+          (λ (a : PublishedAssociation). AppliesOnAny (Contains (found.1.days a.association.key)) h p.header.last (published_association_terms a))
+          (λ (a : PublishedAssociation). AppliesOnAny
+          (IsClashDay h (published_associations p.associations) p.header.first (p.header.last + 1) a.association.key) h p.header.last
+          (published_association_terms a)) (λ (a : PublishedAssociation). (
             λ some. (some.0, ((associations-are a.association.key).are some.0).0 some.1, some.2),
             λ some. (some.0, ((associations-are a.association.key).are some.0).1 some.1, some.2),
           )) p.associations n (count_associations found.1.days found.1.reads));
       clashing_trains = m;
-      are_trains = count-map (λ (s : PublishedSchedule). (s.schedule.uid, published_schedule_terms s)) _ p.schedules m
-          (count-same _ _ (λ (s : PublishedSchedule). (
+      are_trains = count-map (λ (s : PublishedSchedule). (s.schedule.uid, published_schedule_terms s))
+          (λ (e : List ℕ × PublishedTerms BodyParts). AppliesOnAny
+          (IsClashDay h (published_schedules p.schedules) p.header.first (p.header.last + 1) e.0) h p.header.last e.1) p.schedules m
+          (count-same
+          (λ (s : PublishedSchedule). AppliesOnAny (Contains (found.2.days s.schedule.uid)) h p.header.last (published_schedule_terms s))
+          (λ (s : PublishedSchedule). AppliesOnAny
+          (IsClashDay h (published_schedules p.schedules) p.header.first (p.header.last + 1) s.schedule.uid) h p.header.last
+          (published_schedule_terms s)) (λ (s : PublishedSchedule). (
             λ some. (some.0, ((trains-are s.schedule.uid).are some.0).0 some.1, some.2),
             λ some. (some.0, ((trains-are s.schedule.uid).are some.0).1 some.1, some.2),
           )) p.schedules m (count_trains found.2.days found.2.reads));
@@ -138,3 +194,16 @@ module _ (h : Holidays) (p : PublishedParts) where
       schedules = cut-prepared h (published_schedules p.schedules) (closed-schedules p.schedules) p.header.first p.header.last day
           (schedule_entries y.schedules) found.2.days trains-are cut.cut_schedules;
     }
+
+-- the text of a key with several dates more
+pub many-more : (k : DroppedKey) (t : List ℕ) → (k.more == 0) ≡ false → (k.more == 1) ≡ false
+    → t ≡ ((clash_text k.clash ++ codes " and ") ++ decimal k.more) ++ codes " more dates" → t ≡ dropped_text k
+  unfolding dropped_text
+many-more k t some several is =
+    let one = codes " and 1 more date" in
+    let many = codes " and " ++ decimal k.more ++ codes " more dates" in
+    let more : more_text k.more ≡ many = ap (λ b. cond b (codes "") (cond (k.more == 1) one many)) some ∙ ap (λ b. cond b one many) several in
+    is
+    ∙ append_assoc (clash_text k.clash ++ codes " and ") (decimal k.more) (codes " more dates")
+    ∙ append_assoc (clash_text k.clash) (codes " and ") (decimal k.more ++ codes " more dates")
+    ∙ ap (λ l. clash_text k.clash ++ l) (sym more)

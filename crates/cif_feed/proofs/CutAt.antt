@@ -145,6 +145,12 @@ module _ {E K B : Type 0} (key : E → K) (terms : E → Terms B) where
       ap (map entry_of) p.items ∙ map-append entry_of old (p.pushed ∷ [])
       ∙ ap (λ q. map entry_of old ++ q ∷ []) (rw (p.is_of, p.is_first, p.is_last) refl)
 
+  pub pushed-from : (e : E) (first n last : ℕ) (old new : List (PreparedRecord E ℕ)) → first ≡ n → IsPushed e first last old new
+      → IsAdded (key e) (terms e) n last (records_on key terms old) (records_on key terms new)
+  pushed-from e first n last old new same p =
+      subst (λ (m : ℕ). IsAdded (key e) (terms e) m last (records_on key terms old) (records_on key terms new)) same
+      (pushed-added e first last old new p)
+
   -- as the part before a cut
   pub before-added : (e : E) (first last cut : ℕ) (old new : List (PreparedRecord E ℕ)) → last + 1 ≡ cut → first ≤ last
       → IsPushed e first last old new → records_on key terms new ≡ records_on key terms old ++ added_before (key e) (terms e) first cut

@@ -15,10 +15,13 @@ use Rattle.std.proofs.lemmas.List.Elements.{Contains-append_left, Contains-get_o
 use Rattle.std.proofs.lemmas.List.Quantifiers.{all_pairs_push}
 use Rattle.cif_calendar.specs.ByKey.{AnyHasKey, AreOfFirstKey, IsRising}
 use Rattle.cif_calendar.specs.ClashDates.{AreClashDates, IsClashBetween}
-use Rattle.cif_calendar.specs.Keys.{of_key, ArePositionsOf}
+use Rattle.cif_calendar.specs.Keys.{ArePositionsOf, keyed, of_key}
+use Rattle.cif_calendar.specs.Source.{IsChosen}
 use Rattle.cif_calendar.specs.Terms.{Records, SameRecords, Terms}
 use Rattle.cif_calendar.proofs.Elements.{Contains-first, Contains-rest}
-use Rattle.cif_calendar.proofs.KeyTurns.{decided, first-leads, no-entry, rising-after}
+use Rattle.cif_calendar.proofs.KeyPositions.{has-key}
+use Rattle.cif_calendar.proofs.Positions.{positions-records}
+use Rattle.cif_calendar.proofs.KeyTurns.{one-key, decided, first-leads, no-entry, rising-after}
 use Rattle.cif_calendar.proofs.PassedKeys.{HasPassed, key-or-later, later-less, left-before, passed-more, turn}
 use Rattle.cif_calendar.proofs.RisingLists.{Contains-none, not_less}
 use Rattle.cif_calendar.proofs.Sets.{IsClash-same, IsClear-same}
@@ -49,12 +52,31 @@ dates-empty records none first to = record {
   clear = λ d from before lacks. record { agree = λ r s r_wins s_wins. absurd (none r r_wins.listed) };
 }
 
+-- a key is told by its first position
+pub key-told : {E K B R : Type 0} (key : E → K) (terms : E → Terms B) (xs : List E) (members : List ℕ) (cmp : K → K → Ordering)
+    (name : K → ℕ → Clash) (stands_for : R → K → Type 0) (first to : ℕ) (known all : List DroppedKey) (old new : R → Option (Vec ℕ Global))
+    (entry : E) (found : List ℕ) → 0 < length members → get_or members 0 0 < length xs → entry ≡ get_or xs (get_or members 0 0) entry
+    → AreClashDates (IsChosen (map terms xs) members) first to found → IsTold cmp name stands_for (key entry) found known all old new
+    → (k : K) → ArePositionsOf (keyed key terms xs) k members
+    → IsKeyTold cmp name stands_for (keyed key terms xs) first to k known all old new
+key-told {B = B} key terms xs members cmp name stands_for first to known all old new entry found some below is dates told k p =
+    let position = get_or members 0 0 in
+    let at = p.found position (Contains-get_or members 0 0 some) in
+    let same = one-key (keyed key terms xs) position (key entry) k (has-key key terms xs position entry below is)
+    (record { terms = at.0; at = at.1 }) in
+    let e : SameRecords (IsChosen (map terms xs) members) (of_key (keyed key terms xs) k) = positions-records key terms xs k members p in (
+      found,
+      dates-same (IsChosen (map terms xs) members) (of_key (keyed key terms xs) k) e (record { same = λ r. ((e.same r).1, (e.same r).0) })
+          first to found dates,
+      subst (λ j. IsTold cmp name stands_for j found known all old new) same told,
+    )
+
 -- ---- maps
 
 map-agree : {A B : Type 0} (f g : A → B) (xs : List A) → ((x : A) → Contains xs x → f x ≡ g x) → map f xs ≡ map g xs
 map-agree f g [] same = refl
-map-agree f g (x ∷ xs) same =
-    ap₂ (λ y ys. y ∷ ys) (same x (Contains-first x xs)) (map-agree f g xs (λ y has. same y (Contains-rest x xs y has)))
+map-agree {A} {B} f g (x ∷ xs) same =
+    ap₂ (λ (y : B) (ys : List B). y ∷ ys) (same x (Contains-first x xs)) (map-agree f g xs (λ y has. same y (Contains-rest x xs y has)))
 
 -- ---- what is found in a map
 
@@ -119,7 +141,7 @@ module _ {K B : Type 0} (cmp : K → K → Ordering) (es : List (K × Terms B)) 
     passed = λ i j has. inl (whole i (slice_get_within es i (j, has.terms) has.at));
     keys_rising = λ i j d less below. absurd (omega arith);
     before = λ j k has any. absurd (Contains-none j has);
-    each = λ k. (λ has. absurd (Contains-none k has), λ some. absurd (omega arith));
+    each = λ k. (λ has. absurd (Contains-none k has), λ some. absurd (let none : 0 < 0 = some in omega arith));
     done = λ k none. dates-empty (of_key es k) (no-entry es rest whole k none) first to;
     ahead = λ k any. refl;
   }
@@ -242,7 +264,7 @@ module _ {K B : Type 0} (cmp : K → K → Ordering) (es : List (K × Terms B)) 
           are = record {
             rising = s.keys_rising;
             each = s.each;
-            days = λ k. s.done k (λ any. Contains-none any.position any.member);
+            are = λ k. s.done k (λ any. Contains-none any.position any.member);
           };
           added = a.added;
           reads = a.reads;

@@ -140,12 +140,12 @@ says-published h false p x dropped is =
     }
 says-published h true p x dropped is =
     let day : p.header.last ≤ last_day = (let d = last_is_day p.header in omega arith) in
-    let told : AreDropped h p dropped = is.dropped in record {
+    let told : AreDropped h p dropped = is.told in record {
       header = is.prepared.header;
       associations = λ k d from upto. says-cut h (published_associations p.associations) (closed-associations p.associations)
           p.header.first p.header.last day (association_entries x.associations) k d from upto is.prepared.associations
-          (told.association_days k) (told.of_associations.days k);
+          (told.association_days k) (told.of_associations.are k);
       trains = λ k d from upto. says-cut h (published_schedules p.schedules) (closed-schedules p.schedules)
           p.header.first p.header.last day (schedule_entries x.schedules) k d from upto is.prepared.schedules
-          (told.train_days k) (told.of_trains.days k);
+          (told.train_days k) (told.of_trains.are k);
     }

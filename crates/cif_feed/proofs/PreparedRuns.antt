@@ -212,17 +212,14 @@ module _ {K B : Type 0} (Stops : K → Option HolidayCode → ℕ → Type 0) (w
         → SayTheSame (of_key prepared k) (λ r. CountOn h entries k d r) d
     says-same h stops = record {
       winners = (
-        record { winner = match-wins d (of_key prepared k) Count to back },
-        record { winner = match-wins d Count (of_key prepared k) back to },
+        record { winner = match-wins d (of_key prepared k) (λ r. CountOn h entries k d r) to back },
+        record { winner = match-wins d (λ r. CountOn h entries k d r) (of_key prepared k) back to },
       );
-      runs = λ o. (match-runs d (of_key prepared k) Count to back o, match-runs d Count (of_key prepared k) back to o);
-      clear = (match-clear d (of_key prepared k) Count to back, match-clear d Count (of_key prepared k) back to);
+      runs = λ o. (match-runs d (of_key prepared k) (λ r. CountOn h entries k d r) to back o, match-runs d (λ r. CountOn h entries k d r) (of_key prepared k) back to o);
+      clear = (match-clear d (of_key prepared k) (λ r. CountOn h entries k d r) to back, match-clear d (λ r. CountOn h entries k d r) (of_key prepared k) back to);
     }
       where
-        abbrev Count : Records B
-        Count r = CountOn h entries k d r
-
-        to : Match (of_key prepared k) Count d
+        to : Match (of_key prepared k) (λ r. CountOn h entries k d r) d
         to = record {
           found = λ s has on. let (r, m) = prepared-match.found s has on in
               (r, record { listed = record {
@@ -231,7 +228,7 @@ module _ {K B : Type 0} (Stops : K → Option HolidayCode → ℕ → Type 0) (w
               }; applies = m.applies; letters = m.letters; bodies = m.bodies });
         }
 
-        back : Match Count (of_key prepared k) d
+        back : Match (λ r. CountOn h entries k d r) (of_key prepared k) d
         back = record {
           found = λ r count on. published-match.found r (record {
             open_end = count.open_end; code = count.code; listed = count.listed;

@@ -1,5 +1,6 @@
 -- What is told of the keys that clash.
 use Rattle.std.specs.Prelude.{◌≡◌, ◌↔◌, ℕ, ◌+◌, ◌-◌, ◌<◌, ◌≤◌, List, ◌++◌, AllPairs, Contains, codes, decimal, length, map, slice_index_or}
+use Rattle.std.specs.Prelude.{◌==◌, if◌then◌else◌}
 use Rattle.std.specs.Ordering.{nat_cmp}
 use Rattle.std.specs.Cmp.Lexicographic.{slice_cmp}
 use Rattle.std.specs.declared.cmp.Ordering.{Ordering}
@@ -29,7 +30,7 @@ pub record AreKeysWithDays {K : Type 0} (cmp : K → K → Ordering) (Are : K �
     : Type 0 where
   pub rising : AllPairs (λ (j : K) (k : K). cmp j k ≡ Less) keys
   pub each : (k : K) → Contains keys k ↔ (0 < length (days k))
-  pub days : (k : K) → Are k (days k)
+  pub are : (k : K) → Are k (days k)
 
 -- what is told of a key and its days: the first of them, and how many more there are
 abbrev pub told_as : {K : Type 0} → (K → ℕ → Clash) → (K → List ℕ) → K → DroppedKey
@@ -37,8 +38,8 @@ told_as name days k = record { clash = name k (slice_index_or (days k) 0 0); mor
 
 -- so many of the published records apply on a clash day of their key
 abbrev pub IsCountOfClashing : {K B : Type 0} → Holidays → List (K × PublishedTerms B) → ℕ → ℕ → ℕ → Type 0
-IsCountOfClashing {K} {B} h entries first last =
-    IsCountOf (λ (e : K × PublishedTerms B). AppliesOnAny (IsClashDay h entries first (last + 1) e.0) h last e.1) entries
+IsCountOfClashing {K} {B} h entries first last n =
+    IsCountOf (λ (e : K × PublishedTerms B). AppliesOnAny (IsClashDay h entries first (last + 1) e.0) h last e.1) entries n
 
 -- What is told of a published extract, with these holidays: each key that has a clash day, associations before trains, with its first clash
 -- day and how many more it has; and how many records apply on a clash day of their key.
@@ -61,9 +62,7 @@ pub record AreDropped (h : Holidays) (p : PublishedParts) (dropped : Dropped) : 
 
 -- how many more dates there are
 abbrev pub more_text : ℕ → List ℕ
-more_text 0 = codes ""
-more_text 1 = codes " and 1 more date"
-more_text n = codes " and " ++ decimal n ++ codes " more dates"
+more_text n = if n == 0 then codes "" else (if n == 1 then codes " and 1 more date" else codes " and " ++ decimal n ++ codes " more dates")
 
 -- the text of a key that clashes: that of its first clash, and how many more dates there are
 unfoldable pub dropped_text : DroppedKey → List ℕ

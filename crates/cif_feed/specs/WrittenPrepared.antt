@@ -32,7 +32,7 @@ AreDroppedIf false h p dropped = (dropped.keys.items ≡ []) × (dropped.records
 -- the extract is the prepared one of a published extract, with these holidays, and this is told of the keys that clash
 pub record IsPreparedAs (h : Holidays) (drops : Bool) (p : PublishedParts) (x : ExtractParts) (dropped : Dropped) : Type 0 where
   pub prepared : IsPrepared h drops p x
-  pub dropped : AreDroppedIf drops h p dropped
+  pub told : AreDroppedIf drops h p dropped
 
 -- what a call that prepares this published extract owes its sink: the text of the prepared one at Ok, a prefix of it at Write, and nothing
 -- where memory runs out

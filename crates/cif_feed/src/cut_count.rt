@@ -96,17 +96,33 @@ fn applies_on_any<E: Entry>(
     ensures { IsTrue result ↔ ((d : ℕ) × Contains dates.now d
         × AppliesAsPublished holidays.now code (ended last (E.terms entry.now)) d) }
 {
-    let own = Dates {
-        first: entry.first(),
-        last,
-        days: entry.days(),
-    };
     for day in dates {
-        if own.has(*day) && !holidays.has(code, *day) {
+        if applies_on(entry, last, code, holidays, *day) {
             return true;
         }
     }
     false
+}
+
+/// Whether the entry, whose last date is `last`, applies on the day, with these holidays.
+fn applies_on<E: Entry>(
+    entry: &E,
+    last: Day,
+    code: Option<HolidayCode>,
+    holidays: &Holidays,
+    day: Day,
+) -> bool
+    ensures { IsTrue result ↔ AppliesAsPublished holidays.now code (ended last (E.terms entry.now)) day }
+{
+    if holidays.has(code, day) {
+        return false;
+    }
+    let dates = Dates {
+        first: entry.first(),
+        last,
+        days: entry.days(),
+    };
+    dates.has(day)
 }
 
 /// Whether the schedule has a cut, in a window that ends on this date.

@@ -34,15 +34,16 @@ impl DroppedKey {
     {
         let mut text = ArrayString::new();
         text.push_str(self.clash.text().as_str());
-        match self.more {
-            0 => {}
-            1 => text.push_str(" and 1 more date"),
-            _ => {
-                text.push_str(" and ");
-                text.push_str(Buffer::new().format(self.more));
-                text.push_str(" more dates");
-            }
+        if self.more == 0 {
+            return text;
         }
+        if self.more == 1 {
+            text.push_str(" and 1 more date");
+            return text;
+        }
+        text.push_str(" and ");
+        text.push_str(Buffer::new().format(self.more));
+        text.push_str(" more dates");
         text
     }
 }

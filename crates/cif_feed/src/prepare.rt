@@ -5,11 +5,11 @@ ghost use Rattle.std.specs.Ordering.{nat_cmp};
 ghost use Rattle.cif_calendar.specs.Entries.{association_entries, schedule_entries};
 ghost use Rattle.cif_columns.specs.Sink.{Writes};
 ghost use Rattle.cif_extract.specs.Texts.{extract_text};
-ghost use Rattle.cif_feed.specs.Dropped.{AreDropped};
 ghost use Rattle.cif_feed.specs.Prepared.{ArePrepared, prepared_last, published_terms};
 ghost use Rattle.cif_feed.specs.PreparedParts.{IsPrepared, association_on, schedule_on};
 ghost use Rattle.cif_feed.specs.PublishedParts.{published_associations, published_parts, published_schedules};
 ghost use Rattle.cif_feed.specs.Steps.Dropping.{AreAllFound, IsCutAt, IsStopAmong, ReadsAssociations, ReadsTrains};
+ghost use Rattle.cif_feed.specs.WrittenPrepared.{IsPreparedAs};
 ghost use Rattle.cif_feed.specs.declared.holiday_code.HolidayCode.{HolidayCode};
 ghost use Rattle.cif_feed.specs.declared.holidays.Holidays.{Holidays};
 ghost use Rattle.cif_records.specs.AssocKey.{key_cmp};
@@ -68,8 +68,7 @@ impl PublishedExtract {
         alloc: Global,
         holidays: &Holidays,
     ) -> Result<(Prepared<'a>, Dropped), AllocError>
-        ensures prepared { IfOk result (λ done. IsPrepared holidays.now true (published_parts self.now) done.0) }
-        ensures dropped { IfOk result (λ done. AreDropped holidays.now (published_parts self.now) done.1) }
+        ensures { IfOk result (λ done. IsPreparedAs holidays.now true (published_parts self.now) done.0 done.1) }
     {
         let whole = self.prepare(alloc, holidays)?;
         let mut keys = Vec::new(alloc);

@@ -18,10 +18,11 @@ loop-rest-init g c =
       within = subst (λ (rest : List ℕ). All (λ i. i < length c.args.entries.now) rest) (sym c.as_slice-rest.ensures.value)
           (all-within g.E.Entry.key g.E.Entry.terms c.args.entries.now c.in_ok-positions.positions.items c.in_ok-positions.ensures.within);
       found = subst (λ (rest : List ℕ). AreFoundUpTo g.E.Key.Ord.cmp es window.first (window.last + 1) g.E.NamedEntry.clash_of
-          g.E.Entry.stands_for c.args.told.now.items c.args.told.now.items _ rest) (sym c.as_slice-rest.ensures.value)
+          g.E.Entry.stands_for c.args.told.now.items c.args.told.now.items (get g.E.Rank.Ord.cmp c.new-dates.result) rest) (sym c.as_slice-rest.ensures.value)
           (found-nothing g.E.Key.Ord.cmp es window.first (window.last + 1) g.E.NamedEntry.clash_of g.E.Entry.stands_for
-          c.args.told.now.items c.in_ok-positions.positions.items c.in_ok-positions.ensures.whole c.in_ok-positions.ensures.rising _
-          (get-none g.E.Rank.Ord.cmp c.new-dates.result c.new-dates.ensures));
+          c.args.told.now.items c.in_ok-positions.positions.items c.in_ok-positions.ensures.whole c.in_ok-positions.ensures.rising
+          (get g.E.Rank.Ord.cmp c.new-dates.result)
+          (get-none g.E.Rank.Ord.cmp c.new-dates.result c.new-dates.ensures.empty));
     }
 
 pub count_of_first_key-requires-clause-within : goal.count_of_first_key-requires-clause-within
@@ -57,7 +58,7 @@ returns g c =
     let es = keyed g.E.Entry.key g.E.Entry.terms c.args.entries.now in
     let window = c.args.window.now in
     found-all g.E.Key.Ord.cmp es window.first (window.last + 1) g.E.NamedEntry.clash_of g.E.Entry.stands_for c.args.told.now.items
-    c.loop-rest.told.items _
+    c.loop-rest.told.items (get g.E.Rank.Ord.cmp c.loop-rest.dates)
     (subst (λ (rest : List ℕ). AreFoundUpTo g.E.Key.Ord.cmp es window.first (window.last + 1) g.E.NamedEntry.clash_of
-    g.E.Entry.stands_for c.args.told.now.items c.loop-rest.told.items _ rest)
+    g.E.Entry.stands_for c.args.told.now.items c.loop-rest.told.items (get g.E.Rank.Ord.cmp c.loop-rest.dates) rest)
     (nil_from_length c.loop-rest.rest.now (eqb-true _ _ (sym c.loop-rest-test.ensures))) c.loop-rest.invariant.found)

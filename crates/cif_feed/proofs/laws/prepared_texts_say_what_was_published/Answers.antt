@@ -15,5 +15,5 @@ returns c = λ holiday_bytes bytes text h drops max dropped p x holidays is read
       subst (λ q. SayAsPublished h drops q x) same_p
           (subst (SayAsPublished h drops is.published) same_x
           (says-published h drops is.published is.prepared dropped is.is)),
-      subst (λ q. AreDroppedIf drops h q dropped) same_p is.is.dropped,
+      subst (λ q. AreDroppedIf drops h q dropped) same_p is.is.told,
     )

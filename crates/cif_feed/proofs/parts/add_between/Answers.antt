@@ -9,16 +9,17 @@ use Rattle.cif_columns.specs.DaysRun.{RunsOn}
 use Rattle.cif_feed.specs.Parts.{ended}
 use Rattle.cif_feed.specs.Steps.PartsSoFar.{IsLeftFrom, records_on}
 use Rattle.cif_feed.proofs.CutAt.{IsCutUpTo, cut-behind, cut-end, cut-last, cut-next, cut-nothing, cut-passed, never-cut, pushed-added}
+use Rattle.cif_feed.proofs.CutAt.{pushed-from}
 use Rattle.cif_feed.proofs.parts.add_between.Goals as goal
-use Rattle.cif_feed.proofs.parts.add_between.Goals.{then-has+in_ok-add_before+in-Some, else-has}
+use Rattle.cif_feed.proofs.parts.add_between.Goals.{then-has+in_ok-add_before+in-Some-next_up_to, else-has}
 
 pub returns-in_default : goal.returns-in_default
 returns-in_default g c =
     let r = ended c.args.last (g.E.Entry.terms c.args.entry.now) in
     IfOk-weaker _ _ _ (λ done pushed. never-cut c.args.stops.now (g.E.Entry.key c.args.entry.now) r _ _ c.requires.in_order
     (λ w runs. c.in_default.ensures.none w (subst (λ (days : List Bool). RunsOn days w) (sym c.days-days.ensures) runs))
-    (pushed-added g.E.Entry.key g.E.Entry.terms c.args.entry.now r.first c.args.last _ _
-    (rw c.first-first.ensures at pushed))) c.push.ensures
+    (pushed-from g.E.Entry.key g.E.Entry.terms c.args.entry.now c.first-first.result r.first c.args.last _ _ c.first-first.ensures pushed))
+    c.push.ensures
 
 pub loop-stop-init : goal.loop-stop-init
 loop-stop-init g c =
@@ -59,15 +60,18 @@ loop-stop-preserved g c =
     let stop = c.stop-item.result in
     let at = get_or_read left c.loop-stop.stop-index stop c.loop-stop-test.true c.stop-item.is 0 in
     let upto : stop ≤ c.args.last = search rules in
+    let old = records_on g.E.Entry.key g.E.Entry.terms c.args.prepared.now.items in
+    let now = records_on g.E.Entry.key g.E.Entry.terms c.loop-stop.prepared.items in
     elim c.if-has.branch [
-      | then-has+in_ok-add_before+in-Some w ↦ rw (w.prepared-is, w.first-is)
+      | then-has+in_ok-add_before+in-Some-next_up_to w ↦ rw (w.prepared-is, w.first-is)
           (let on = c.has.ensures.0 w.if-has.true in
-          subst (λ (n : ℕ). IsCutUpTo c.args.stops.now left k r _ _ n (c.loop-stop.stop-index + 1)) (sym w.in-Some.ensures.1)
-          (cut-next c.args.stops.now left k r c.requires.rising from _ _ c.loop-stop.first c.loop-stop.stop-index c.loop-stop.invariant
-          _ stop w.in_ok-add_before.ensures c.loop-stop-test.true at on.begun on.unfinished
-          (subst (λ (days : List Bool). RunsOn days (weekday_of stop)) c.days-days.ensures on.on_weekday) w.in-Some.ensures.0))
+          let new = records_on g.E.Entry.key g.E.Entry.terms w.add_before.new.prepared.items in
+          subst (λ (n : ℕ). IsCutUpTo c.args.stops.now left k r old new n (c.loop-stop.stop-index + 1)) (sym w.in-Some-next_up_to.ensures.1)
+          (cut-next c.args.stops.now left k r c.requires.rising from old now c.loop-stop.first c.loop-stop.stop-index c.loop-stop.invariant
+          new stop w.in_ok-add_before.ensures c.loop-stop-test.true at on.begun on.unfinished
+          (subst (λ (days : List Bool). RunsOn days (weekday_of stop)) c.days-days.ensures on.on_weekday) w.in-Some-next_up_to.ensures.0))
       | else-has w ↦ rw (w.prepared-is, w.first-is)
-          (cut-passed c.args.stops.now left k r c.requires.rising from _ _ c.loop-stop.first c.loop-stop.stop-index c.loop-stop.invariant
+          (cut-passed c.args.stops.now left k r c.requires.rising from old now c.loop-stop.first c.loop-stop.stop-index c.loop-stop.invariant
           stop at (⊎_elim
           (λ (before : stop < c.loop-stop.first). inl before)
           (λ (late : c.loop-stop.first ≤ stop). inr (λ runs. false≢true (sym w.if-has.false ∙ c.has.ensures.1 (record {

@@ -4,9 +4,8 @@ use Rattle.std.proofs.lemmas.List.{take_rest}
 use Rattle.std.proofs.lemmas.List.Sorted.{IsPartitionPoint-from_clause, IsPartitionedBy-ltb}
 use Rattle.std.specs.List.Sorted.{IsPartitionPoint}
 use Rattle.cif_feed.proofs.parts.from_day.Goals as goal
-use Rattle.cif_feed.proofs.parts.from_day.Goals.{After-partition_point}
 
-point : (c : After-partition_point) → IsPartitionPoint (λ (d : ℕ). ltb d c.args.day ≡ true) (λ (d : ℕ). ltb d c.args.day ≡ false)
+point : (c : goal.After-result-1) → IsPartitionPoint (λ (d : ℕ). ltb d c.args.day ≡ true) (λ (d : ℕ). ltb d c.args.day ≡ false)
     c.args.dates.now c.partition_point.result
 point c =
     IsPartitionPoint-from_clause (λ (d : ℕ). ltb d c.args.day) _ _ c.partition_point.ensures.partitioned

@@ -2,9 +2,4 @@
 use Rattle.cif_feed.proofs.published_extract.PublishedExtract.append_prepared.Goals as goal
 
 pub returns : goal.returns
-returns g c = (
-  c.drop_if.new.prepared,
-  c.in-Ok-drop_if.clashes.items,
-  record { whole = c.in-Ok.prepared; prepared = c.in-Ok.ensures; dropped = c.in-Ok-drop_if.ensures },
-  c.in-Err.ensures,
-)
+returns g c = (c.in-Ok.prepared, c.in-Ok.dropped, c.in-Ok.ensures, c.in-Err.ensures)

@@ -1,5 +1,5 @@
 -- One association more, which applies on a clash date or not.
-use Rattle.std.proofs.Common.{◌≡◌, ◌↔◌, ◌∙◌, ℕ, Bool, List, Contains, IsTrue, arith, subst, sym, take_all}
+use Rattle.std.proofs.Common.{◌≡◌, ◌↔◌, ◌∙◌, ℕ, Bool, List, None, Contains, IsTrue, arith, subst, sym, take_all}
 use Rattle.std.proofs.lemmas.Bool.{false≢true}
 use Rattle.cif_calendar.specs.Entries.{association_terms}
 use Rattle.cif_feed.specs.CutCount.{AppliesOnAny, IsCountOf}

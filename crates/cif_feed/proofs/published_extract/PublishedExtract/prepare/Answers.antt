@@ -1,0 +1,14 @@
+-- It is cut at no date of its keys (`whole-prepared`).
+use Rattle.std.proofs.Common.{[]}
+use Rattle.std.specs.Ordering.{nat_cmp}
+use Rattle.std.proofs.lemmas.Result.{IfOk-weaker}
+use Rattle.cif_records.specs.AssocKey.{key_cmp}
+use Rattle.cif_feed.specs.PublishedParts.{published_parts}
+use Rattle.cif_feed.proofs.ClashingKeys.{whole-prepared}
+use Rattle.cif_feed.proofs.FoundKeys.{get-none, reads-none}
+use Rattle.cif_feed.proofs.published_extract.PublishedExtract.prepare.Goals as goal
+
+pub returns : goal.returns
+returns c = IfOk-weaker _ _ _ (λ x cut. whole-prepared c.args.holidays.now (published_parts c.args.self.now) x
+    (cut (λ k. []) (λ k. []) (reads-none _ _ (get-none key_cmp c.new.result c.new.ensures.empty))
+    (reads-none _ _ (get-none nat_cmp c.new-2.result c.new-2.ensures.empty)))) c.cut.ensures

@@ -1,0 +1,18 @@
+-- It is the one or the other.
+use Rattle.std.proofs.Common.{Bool, subst, sym}
+use Rattle.std.specs.Prelude.{IfOk}
+use Rattle.cif_feed.specs.PublishedParts.{published_parts}
+use Rattle.cif_feed.specs.WrittenPrepared.{IsPreparedAs}
+use Rattle.cif_feed.proofs.published_extract.PublishedExtract.prepare_if.Goals as goal
+
+pub returns-then-drops_clashes : goal.returns-then-drops_clashes
+returns-then-drops_clashes c =
+    subst (λ (b : Bool). IfOk c.prepare_without_clashes.result
+    (λ done. IsPreparedAs c.args.holidays.now b (published_parts c.args.self.now) done.0 done.1))
+    (sym c.if-drops_clashes.true) c.prepare_without_clashes.ensures
+
+pub returns : goal.returns
+returns c =
+    subst (λ (b : Bool). IsPreparedAs c.args.holidays.now b (published_parts c.args.self.now) c.in_ok-prepared.prepared c.none.result)
+    (sym c.if-drops_clashes.false)
+    (record { prepared = c.in_ok-prepared.ensures; told = (c.none.ensures.keys, c.none.ensures.records) })

@@ -1,0 +1,41 @@
+-- Where no key clashes the whole extract is the one without clashes; else what is cut at the clash dates is (`ClashingKeys`).
+use Rattle.std.proofs.Common.{◌≡◌, length, refl, rules}
+use Rattle.std.specs.BTreeMap.{get}
+use Rattle.std.specs.Ordering.{nat_cmp}
+use Rattle.std.proofs.lemmas.List.{nil_from_length}
+use Rattle.cif_records.specs.AssocKey.{key_cmp}
+use Rattle.cif_feed.specs.PublishedParts.{published_parts}
+use Rattle.cif_feed.proofs.ClashingKeys.{cut-dropped, none-dropped, told-dropped}
+use Rattle.cif_feed.proofs.published_extract.PublishedExtract.prepare_without_clashes.Goals as goal
+
+pub returns-then-is_empty : goal.returns-then-is_empty
+returns-then-is_empty c =
+    let h = c.args.holidays.now in
+    let p = published_parts c.args.self.now in
+    let all = c.clash_dates.new.told.items in
+    let none : length all ≡ 0 = search rules in
+    let associations = get key_cmp c.in_ok-associations.associations in
+    let trains = get nat_cmp c.in_ok-associations.trains in
+    record {
+      prepared = none-dropped h p c.in_ok-whole.whole c.in_ok-whole.ensures c.new-keys.result.items all c.new-keys.ensures.items
+          associations trains c.in_ok-associations.ensures (nil_from_length all none);
+      told = told-dropped h p c.in_ok-whole.whole c.in_ok-whole.ensures c.new-keys.result.items all c.new-keys.ensures.items
+          associations trains c.in_ok-associations.ensures _ _ c.count_clashing_associations.ensures.count
+          c.count_clashing_schedules.ensures.count _ refl refl;
+    }
+
+pub returns : goal.returns
+returns c =
+    let h = c.args.holidays.now in
+    let p = published_parts c.args.self.now in
+    let all = c.clash_dates.new.told.items in
+    let associations = get key_cmp c.in_ok-associations.associations in
+    let trains = get nat_cmp c.in_ok-associations.trains in
+    let found = c.in_ok-associations.ensures in
+    record {
+      prepared = cut-dropped h p c.in_ok-whole.whole c.in_ok-whole.ensures c.new-keys.result.items all c.new-keys.ensures.items
+          associations trains found c.in_ok-prepared.prepared
+          (c.in_ok-prepared.ensures found.1.days found.2.days found.1.reads found.2.reads);
+      told = told-dropped h p c.in_ok-whole.whole c.in_ok-whole.ensures c.new-keys.result.items all c.new-keys.ensures.items
+          associations trains found _ _ c.count_clashing_associations.ensures.count c.count_clashing_schedules.ensures.count _ refl refl;
+    }
