@@ -10,8 +10,8 @@ use arrayvec::ArrayString;
 use cif_columns::{MAX_LINES, ReadDevice, Sink, Source, WriteDevice};
 use cif_extract::Fault;
 use cif_feed::{
-    Dropped, DroppedKey, FeedFault, HolidayCodes, HolidayFault, Holidays, Outcome, Passed, PublishedExtract,
-    RefusedLine, write_prepared,
+    Dropped, DroppedKey, FeedFault, HolidayCodes, HolidayFault, Holidays, Outcome, Passed,
+    PublishedExtract, RefusedLine, write_prepared,
 };
 use cif_records::Header;
 use itoa::Buffer;
