@@ -198,7 +198,7 @@ module _ (h : Holidays) (p : PublishedParts) where
 -- the text of a key with several dates more
 pub many-more : (k : DroppedKey) (t : List ℕ) → (k.more == 0) ≡ false → (k.more == 1) ≡ false
     → t ≡ ((clash_text k.clash ++ codes " and ") ++ decimal k.more) ++ codes " more dates" → t ≡ dropped_text k
-  unfolding dropped_text
+unfolding dropped_text
 many-more k t some several is =
     let one = codes " and 1 more date" in
     let many = codes " and " ++ decimal k.more ++ codes " more dates" in

@@ -52,9 +52,9 @@ module _ (dates later : List ℕ) (days : List Bool) (from place index : ℕ) (r
   pub from-late : (date : ℕ) → index < length later → date ≡ get_or later index 0
       → ((k : ℕ) → place ≤ k → k < length dates → from ≤ get_or dates k 0) → from ≤ date
   from-late date there at after = (
-    let below : place + index < length dates = omega (arith, long) in
-    let same : date ≡ get_or dates (place + index) 0 = at ∙ at_later index in
-    let a = after (place + index) (omega arith) below in omega arith)
+      let below : place + index < length dates = omega (arith, long) in
+      let same : date ≡ get_or dates (place + index) 0 = at ∙ at_later index in
+      let a = after (place + index) (omega arith) below in omega arith)
 
   -- the date at the index is found where its weekday is in the mask
   pub date-found : (last date : ℕ) → index < length later → date ≡ get_or later index 0 → date ≤ last → RunsOn days (weekday_of date)

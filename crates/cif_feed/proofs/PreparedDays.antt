@@ -64,10 +64,18 @@ module _ {K B : Type 0} (h : Holidays) (entries : List (K × PublishedTerms B)) 
     rising = a.rising;
     are = λ d. (
       λ has. let is = (a.are d).0 has in
-          record { from = is.from; before = is.before; clash = clash-also (of_key prepared k) (CountOn h entries k d) d
-              (says d (let b = is.before in omega arith)).winners.0 is.clash },
-      λ is. (a.are d).1 (record { from = is.from; before = is.before; clash = clash-also (CountOn h entries k d) (of_key prepared k) d
-          (says d (let b = is.before in omega arith)).winners.1 is.clash }),
+          record {
+            from = is.from;
+            before = is.before;
+            clash = clash-also (of_key prepared k) (CountOn h entries k d) d
+                (says d (let b = is.before in omega arith)).winners.0 is.clash;
+          },
+      λ is. (a.are d).1 (record {
+        from = is.from;
+        before = is.before;
+        clash = clash-also (CountOn h entries k d) (of_key prepared k) d
+            (says d (let b = is.before in omega arith)).winners.1 is.clash;
+      }),
     );
     clear = λ d from before lacks. (says d (omega arith)).clear.0 (a.clear d from before lacks);
   }

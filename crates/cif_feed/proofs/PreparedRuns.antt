@@ -221,17 +221,28 @@ module _ {K B : Type 0} (Stops : K → Option HolidayCode → ℕ → Type 0) (w
       where
         to : Match (of_key prepared k) (λ r. CountOn h entries k d r) d
         to = record {
-          found = λ s has on. let (r, m) = prepared-match.found s has on in
-              (r, record { listed = record {
-                open_end = m.listed.open_end; code = m.listed.code; listed = m.listed.listed;
+          found = λ s has on. let (r, m) = prepared-match.found s has on in (
+            r,
+            record {
+              listed = record {
+                open_end = m.listed.open_end;
+                code = m.listed.code;
+                listed = m.listed.listed;
                 no_holiday = λ holiday. m.listed.free ((stops m.listed.code).1 holiday);
-              }; applies = m.applies; letters = m.letters; bodies = m.bodies });
+              };
+              applies = m.applies;
+              letters = m.letters;
+              bodies = m.bodies;
+            },
+          );
         }
 
         back : Match (λ r. CountOn h entries k d r) (of_key prepared k) d
         back = record {
           found = λ r count on. published-match.found r (record {
-            open_end = count.open_end; code = count.code; listed = count.listed;
+            open_end = count.open_end;
+            code = count.code;
+            listed = count.listed;
             free = λ stop. count.no_holiday ((stops count.code).0 stop);
           }) on;
         }

@@ -58,7 +58,12 @@ impl PublishedExtract {
     ) -> Result<Prepared<'a>, AllocError>
         ensures { IfOk result (IsPrepared holidays.now false (published_parts self.now)) }
     {
-        self.cut(alloc, holidays, &BTreeMap::new(alloc), &BTreeMap::new(alloc))
+        self.cut(
+            alloc,
+            holidays,
+            &BTreeMap::new(alloc),
+            &BTreeMap::new(alloc),
+        )
     }
 
     /// Its prepared extract, with these holidays, without the dates on which a key clashes: on these no
@@ -97,7 +102,12 @@ impl PublishedExtract {
             → IsCutAt holidays.now (published_parts self.now) of_associations of_trains prepared) }
     {
         let last = self.header.last;
-        let associations = cut_associations(alloc, self.associations.as_slice(), last, associations)?;
+        let associations = cut_associations(
+            alloc,
+            self.associations.as_slice(),
+            last,
+            associations,
+        )?;
         let schedules = cut_schedules(alloc, self.schedules.as_slice(), last, holidays, trains)?;
         Ok(Prepared {
             published: self,
@@ -181,7 +191,14 @@ fn cut_schedules<'a>(
         let schedule = &one.schedule;
         let last = prepared_last(schedule, one.open_end, window_last);
         let dates = dates_of(clash_dates, schedule);
-        add_parts(schedule, last, holidays.of(one.code), dates, &mut stops, &mut prepared)?;
+        add_parts(
+            schedule,
+            last,
+            holidays.of(one.code),
+            dates,
+            &mut stops,
+            &mut prepared,
+        )?;
     }
     Ok(prepared)
 }
