@@ -1,6 +1,7 @@
 -- One content more of a feed: what the contents say then, and what the reading has come to.
 use Rattle.std.proofs.Common.{◌≡◌, ℕ, ◌+◌, ◌≤◌, ◌==◌, Bool, true, false, cond, not, ◌&&◌, ◌||◌, List, [], ◌∷◌, ◌++◌, length, map, filter}
-use Rattle.std.proofs.Common.{Option, Some, None, Result, Ok, Err, refl, sym, ap, ◌∙◌, subst, ne_eqb, take, codes, append-nil, length-append, arith}
+use Rattle.std.proofs.Common.{Option, Some, None, Result, Ok, Err, refl, sym, ap, ◌∙◌, subst, ne_eqb, take, codes, append-nil, arith}
+use Rattle.std.proofs.Common.{length-append}
 use Rattle.std.proofs.lemmas.Bool.{and_parts}
 use Rattle.std.proofs.lemmas.Grind.{flat_map-append}
 use Rattle.std.proofs.lemmas.List.{map-append, take-take}
@@ -183,8 +184,8 @@ module _ (feed : Feed) (allowed : HolidayCodes) (cs : List (List ℕ)) (c : List
   counts_more = rw (count_more puts, count_more revises, count_more deletes, count_more opens) refl
 
   -- a content whose kind does nothing
-  silent_counts : (kind : Option Kind) → kind_in c ≡ kind → ((n : UpdateCounts) → with_line n kind c ≡ with_line n None c) → (n : UpdateCounts)
-      → with_line n (kind_in c) c ≡ n
+  silent_counts : (kind : Option Kind) → kind_in c ≡ kind → ((n : UpdateCounts) → with_line n kind c ≡ with_line n None c)
+      → (n : UpdateCounts) → with_line n (kind_in c) c ≡ n
   silent_counts kind is none n = ap (λ k. with_line n k c) is ∙ none n
 
   counts_same : (kind : Option Kind) → kind_in c ≡ kind → ((n : UpdateCounts) → with_line n kind c ≡ with_line n None c)

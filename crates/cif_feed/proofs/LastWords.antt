@@ -2,7 +2,8 @@
 use Rattle.std.proofs.Common.{◌≡◌, ◌≢◌, Bool, true, false, cond, List, [], ◌∷◌, ◌++◌, All, filter, refl, sym, ap, ◌∙◌}
 use Rattle.std.specs.Prelude.{option_to_list}
 use Rattle.std.proofs.lemmas.List.Elements.{All-head, All-tail}
-use Rattle.cif_feed.specs.Changes.{AreAfter, HaveLastWord, TellsSame, changes_of, key_of, keyed_record, last_word, of_key, put_of, with_keys}
+use Rattle.cif_feed.specs.Changes.{AreAfter, HaveLastWord, TellsSame, changes_of, key_of, keyed_record, last_word, of_key, put_of}
+use Rattle.cif_feed.specs.Changes.{with_keys}
 use Rattle.cif_feed.specs.declared.changes.Action.{Action}
 use Rattle.cif_feed.specs.declared.changes.Action.TheVariants.{New, Revised, Deleted}
 use Rattle.cif_feed.specs.declared.changes.Change.{Change}

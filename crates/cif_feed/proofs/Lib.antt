@@ -20,6 +20,10 @@ pub mod LinesMade
 pub mod MarkedRecords
 pub mod SaidPublished
 pub mod SaidLines
+pub mod SaidAssociations
+pub mod SaidSchedules
+pub mod SaidTiplocs
+pub mod SameDeletions
 pub mod SaidUpdate
 pub mod ToldLines
 pub mod UpdatesDone

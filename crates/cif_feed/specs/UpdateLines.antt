@@ -107,8 +107,8 @@ is_of_tiploc kind = false
 abbrev pub put_tiploc : List ℕ → List ℕ
 put_tiploc line = if are (columns 73 79 line) (replicate 7 32) then columns 3 9 line else columns 73 79 line
 
--- A TI puts the location of its columns 3 to 72. A TA amends that of its own TIPLOC: it puts the one with its columns 10 to 72. A TD deletes
--- its TIPLOC.
+-- A TI puts the location of its columns 3 to 72. A TA amends that of its own TIPLOC: it puts one with its columns 10 to 72. A TD deletes
+-- that of its TIPLOC.
 abbrev pub SaysTiplocAs : Option Kind → ℕ × List ℕ → List (Change (List ℕ) Tiploc) → Type 0
 SaysTiplocAs (Some Ti) line changes = (t : Tiploc) × (t.columns ≡ columns 3 72 line.1)
     × (changes ≡ record { line = line.0; action = New t } ∷ [])

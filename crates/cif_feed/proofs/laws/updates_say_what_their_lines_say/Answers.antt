@@ -1,6 +1,9 @@
 -- Each line has its record and its mark, of which its change is made.
 use Rattle.cif_columns.specs.Contents.{contents_of}
-use Rattle.cif_feed.proofs.SaidLines.{associations_said, schedules_said, tiplocs_said}
+use Rattle.cif_feed.proofs.SameDeletions.{one_association_deletion, one_schedule_deletion}
+use Rattle.cif_feed.proofs.SaidAssociations.{associations_said}
+use Rattle.cif_feed.proofs.SaidSchedules.{schedules_said}
+use Rattle.cif_feed.proofs.SaidTiplocs.{tiplocs_said}
 use Rattle.cif_feed.proofs.laws.updates_say_what_their_lines_say.Goals as goal
 
 pub returns-clause-locations : goal.returns-clause-locations
@@ -11,3 +14,9 @@ returns-clause-associations c = λ max bytes u s. associations_said (contents_of
 
 pub returns-clause-schedules : goal.returns-clause-schedules
 returns-clause-schedules c = λ max bytes u s. schedules_said (contents_of bytes) u s.spell
+
+pub returns-clause-same_association : goal.returns-clause-same_association
+returns-clause-same_association c = λ one other c d is_one is_other. one_association_deletion one other is_one is_other c d
+
+pub returns-clause-same_schedule : goal.returns-clause-same_schedule
+returns-clause-same_schedule c = λ one other c d is_one is_other. one_schedule_deletion one other is_one is_other c d
