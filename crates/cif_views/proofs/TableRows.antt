@@ -8,9 +8,7 @@ use Rattle.std.specs.Bool.{◌==◌}
 use Rattle.std.specs.List.{enumerate_from, filter, flat_map}
 use Rattle.std.proofs.lemmas.Bool.{and_parts}
 use Rattle.std.proofs.lemmas.Bool.Decides.{nat_tests}
-use Rattle.std.proofs.lemmas.Grind.{flat_map-append}
 use Rattle.std.proofs.lemmas.List.{at_drop_all, length-set, length-take-le, take-take, take_more_set}
-use Rattle.std.proofs.lemmas.List.Folds.{flat_map-map}
 use Rattle.std.proofs.lemmas.Slice.{take-put_mid}
 use Rattle.std.proofs.Math.Seq.{take-append-add, take-append_seam}
 use Rattle.cif_canon.specs.Fields.{in_table}
@@ -20,16 +18,15 @@ use Rattle.cif_canon.proofs.ViewLines.{both-after, joined}
 use Rattle.cif_views.specs.Steps.Columns.{are_within, is_short, is_span, is_within, named, span_in}
 use Rattle.cif_views.specs.Steps.TableRows.{journey_rows, row_of_kind, rows_of}
 use Rattle.cif_views.specs.TableText.{schedule_rows}
-use Rattle.cif_views.specs.Tables.{calls_of, change_fields, changes_of, own_call_fields, row_fields}
+use Rattle.cif_views.specs.Tables.{change_fields, own_call_fields, row_fields}
 use Rattle.cif_views.specs.declared.columns.Place.{Place}
 use Rattle.cif_views.specs.declared.columns.Place.TheVariants as place
 use Rattle.cif_views.specs.Steps.Columns.{call_columns, change_columns}
 use Rattle.cif_views.specs.declared.tables.Table.{Table}
-use Rattle.cif_views.specs.PublicCalls.{public_calls, public_fields}
 use Rattle.cif_views.specs.declared.tables.Table.TheVariants.{Calls, Changes, Public, Schedules}
 use Rattle.cif_views.proofs.Words.{Change, Column, Field, JourneyKind, Numbered, Origin, Other, ScheduleLines, Stop, Terminus, Tsv, after}
 use Rattle.cif_views.proofs.Words.{call_fields, fields_in, is_call, is_change, kind_of_line, line_of, name_fields, number, numbered_from}
-use Rattle.cif_views.proofs.Words.{numbered_schedule, room_for, row_behind, row_line, schedule_fields, table_rows}
+use Rattle.cif_views.proofs.Words.{room_for, row_behind, row_line, table_rows}
 
 -- fields with a tab before each are a row without the first tab
 pub row-text : (first : Field) (fields : List Field) → drop 1 (after Tsv (first ∷ fields)) ++ codes "\n" ≡ line_of Tsv (first ∷ fields)

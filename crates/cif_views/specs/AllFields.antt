@@ -1,5 +1,7 @@
 -- Each row of a table has a field for each of its names.
-use Rattle.std.specs.Prelude.{◌≡◌, ℕ, Bool, true, false, List, [], ◌∷◌, ◌++◌, length, replicate}
+use Rattle.std.specs.Prelude.{◌≡◌, ℕ, Bool, true, false, List, [], ◌∷◌, ◌++◌, length, replicate, take}
+use Rattle.std.specs.List.{flat_map}
+use Rattle.cif_columns.specs.Field.{columns}
 use Rattle.cif_extract.specs.BodyParts.{BodyParts}
 use Rattle.cif_records.specs.declared.association.AssocBody.{AssocBody}
 use Rattle.cif_records.specs.declared.association.AssocKey.{AssocKey}
@@ -15,9 +17,11 @@ use Rattle.cif_views.specs.DifferenceTable.{association_head, difference_names, 
 use Rattle.cif_views.specs.Explanation.{Explained, explained_association_fields, explained_train_fields, explanation_names}
 use Rattle.cif_views.specs.Listing.{association_fields_of, date_field, day_names, train_names, uid_field}
 use Rattle.cif_views.specs.PublicCalls.{public_fields}
-use Rattle.cif_views.specs.Tables.{TableFields, association_fields, call_fields, change_fields, header_fields, names, row_fields}
+use Rattle.cif_views.specs.Tables.{TableFields, association_fields, basic_fields, call_fields, change_fields, detail_fields, extra_fields}
+use Rattle.cif_views.specs.Tables.{header_fields, kind_of_line, location_and_suffix, names, own_call_fields, own_change_fields, row_fields}
 use Rattle.cif_views.specs.Tables.{schedule_fields, tiploc_fields}
 use Rattle.cif_views.specs.declared.listing.Listing.{Listing}
+use Rattle.cif_views.specs.declared.tables.JourneyKind.TheVariants as kind
 
 -- as many fields as names
 abbrev pub HasAll : List (List ℕ) → List Field → Type 0
@@ -78,3 +82,25 @@ pub record DifferenceRowsHaveAll : Type 0 where
   pub tiploc : (change : Field) (line : List ℕ) → HaveAllBehind (tiploc_head change line)
   pub association : (change : Field) (line : List ℕ) → HaveAllBehind (association_head change line)
   pub schedule : (change : Field) (line : List ℕ) → HaveAllBehind (schedule_head change line)
+
+-- The columns of a row's fields, one behind another, are those of the line from one to another: none is left out, and none stands twice.
+abbrev pub AreColumns : TableFields (List ℕ) → ℕ → ℕ → List ℕ → Type 0
+AreColumns fields from to line = flat_map (λ f. (f.1 line).1) fields ≡ columns from to line
+
+-- the fields of a call behind the identity of its line
+abbrev pub behind_identity : TableFields (List ℕ)
+behind_identity = location_and_suffix ++ own_call_fields
+
+-- So it is with each record. The dates of an HD stand behind these columns; an LO has its activities behind `pathing`.
+pub record TablesHaveColumns (line : List ℕ) : Type 0 where
+  pub header : AreColumns (take 7 header_fields) 3 48 line
+  pub tiploc : AreColumns tiploc_fields 3 72 line
+  pub association : AreColumns association_fields 4 48 line
+  pub dates : AreColumns (take 4 basic_fields) 4 28 line
+  pub details : AreColumns detail_fields 30 78 line
+  pub extra : AreColumns extra_fields 3 23 line
+  pub change : AreColumns (location_and_suffix ++ own_change_fields) 3 75 line
+  pub origin : kind_of_line line ≡ kind.Origin → flat_map (λ f. (f.1 line).1) behind_identity
+      ≡ columns 3 25 line ++ (columns 30 41 line ++ (columns 26 29 line ++ columns 42 43 line))
+  pub stop : kind_of_line line ≡ kind.Stop → AreColumns behind_identity 3 60 line
+  pub terminus : kind_of_line line ≡ kind.Terminus → AreColumns behind_identity 3 37 line

@@ -11,7 +11,7 @@ ghost use Rattle.cif_canon.specs.Fields.{Field};
 ghost use Rattle.cif_canon.specs.Lines.{ScheduleLines};
 ghost use Rattle.cif_extract.specs.ExtractParts.{ExtractParts};
 ghost use Rattle.cif_views.specs.AllFields.{CallsHaveAll, DayRowsHaveAll, DifferenceRowsHaveAll};
-ghost use Rattle.cif_views.specs.AllFields.{ExplainedRowsHaveAll, TablesHaveAll, TrainRowsHaveAll};
+ghost use Rattle.cif_views.specs.AllFields.{ExplainedRowsHaveAll, TablesHaveAll, TablesHaveColumns, TrainRowsHaveAll};
 ghost use Rattle.cif_views.specs.DifferenceTable.{difference_names, difference_table};
 ghost use Rattle.cif_views.specs.Explanation.{AreExplained, Explained, HasWinningMark};
 ghost use Rattle.cif_views.specs.Explanation.{SomeApplies};
@@ -47,6 +47,8 @@ pub fn rows_have_all_fields()
     ensures train { TrainRowsHaveAll }
     ensures explanation { ExplainedRowsHaveAll }
     ensures differences { DifferenceRowsHaveAll }
+    // The fields of a record are its columns, in the layout's order.
+    ensures columns { (line : List ℕ) → TablesHaveColumns line }
 {}
 
 /// The table of the differences of two accepted inputs has a row for each location, record and pair

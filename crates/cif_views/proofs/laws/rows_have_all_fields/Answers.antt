@@ -1,6 +1,6 @@
--- The fields of each row are as many as the names; a call's go behind those of its train.
+-- The fields of each row are as many as the names; a call's go behind those of its train, and a record's are its columns.
 use Rattle.std.proofs.Common.{arith, refl}
-use Rattle.cif_views.proofs.AllFields.{all-of_association, explained-association, explained-train}
+use Rattle.cif_views.proofs.AllFields.{all-columns, all-of_association, explained-association, explained-train}
 use Rattle.cif_views.proofs.laws.rows_have_all_fields.Goals as goal
 
 pub returns-clause-tables : goal.returns-clause-tables
@@ -39,3 +39,6 @@ returns-clause-differences c = record {
   association = λ change line. (refl, λ call identity location name left right. refl);
   schedule = λ change line. (refl, λ call identity location name left right. refl);
 }
+
+pub returns-clause-columns : goal.returns-clause-columns
+returns-clause-columns c = all-columns
