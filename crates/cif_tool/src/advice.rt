@@ -143,7 +143,7 @@ fn add_reasons<R: Files + Input>(
                 message.line(&[UPDATE]);
                 return;
             }
-            None if input.letter_of_header() != Some(b'F') => return,
+            None if input.header().is_none() => return,
             _ => {}
         }
     }
@@ -527,7 +527,7 @@ const PREPARE_WITH_HOLIDAYS: &str =
 const UPDATE: &str = "cif update applies an update to a full extract";
 
 /// The command that accepts a line of the input which others refuse for this reason, if there is one. Of a
-/// line that isn't known only an open end tells it.
+/// line that isn't known only an open end tells it; of a comment what stands behind it, in a file.
 fn command_for<R: Files + Input>(
     input: &ExtractInput<'_, R>,
     line: Option<&LineAgain>,
@@ -540,7 +540,7 @@ fn command_for<R: Files + Input>(
         (Refusal::BadLength | Refusal::UnknownRecord, Some(line)) if line.is_comment() => {
             match input.letter_of_header() {
                 Some(b'F') => Some(PREPARE),
-                Some(b'U') if input.again().is_some() => Some(UPDATE),
+                Some(b'U') => Some(UPDATE),
                 _ => None,
             }
         }

@@ -11,7 +11,7 @@ use std::fs::OpenFile;
 use std::io::{BufWriter, Read, Seek, SeekFrom, Write};
 use std::mem::ManuallyDrop;
 use std::rt::Files;
-use std::{fs, io, str};
+use std::{fs, io};
 
 /// How many bytes are kept of what was read first: a line and its ending.
 pub(crate) const START: usize = LINE_WIDTH + 2;
@@ -86,17 +86,19 @@ impl<'a, R: Files + Input> ExtractInput<'a, R> {
         Header::read(&Line::of(*columns)?).ok()
     }
 
-    /// Column 47 of the header with which the input begins, or which stands behind its first comments, as far
-    /// as that is known.
+    /// Column 47 of the header that stands behind the first comments of a file, of which there are at most a
+    /// hundred.
     pub(crate) fn letter_of_header(&self) -> Option<u8> {
-        let mut chunk = [0; MOST_LOOKED_AT];
-        match self.again() {
-            Some(mut file) => {
-                let count = file.read(&mut chunk).ok()?;
-                letter_behind_comments(chunk.get(..count)?)
+        for number in 1..=MOST_COMMENTS {
+            let line = line_again(&mut self.again()?, number, MOST_LOOKED_AT)?;
+            if line.bytes.starts_with(b"HD") {
+                return line.bytes.get(46).copied();
             }
-            None => letter_behind_comments(self.start.as_slice()),
+            if !line.is_comment() {
+                return None;
+            }
         }
+        None
     }
 
     /// The file, to be read again from its beginning: none where the input isn't a file that allows
@@ -111,19 +113,6 @@ impl<'a, R: Files + Input> ExtractInput<'a, R> {
             _ => None,
         }
     }
-}
-
-/// Column 47 of the header in these bytes, if no line but comments stands before it.
-fn letter_behind_comments(start: &[u8]) -> Option<u8> {
-    for line in str::from_utf8(start).ok()?.lines() {
-        if line.starts_with("HD") {
-            return line.as_bytes().get(46).copied();
-        }
-        if !line.starts_with("/!!") {
-            return None;
-        }
-    }
-    None
 }
 
 impl<R: Files + Input> Device<'_, R> {
@@ -257,6 +246,9 @@ pub(crate) fn buffered<W: WriteDevice + Drop>(
 
 /// The bytes of a line that are looked at before it counts as endless.
 pub(crate) const MOST_LOOKED_AT: usize = 4096;
+
+/// The comments behind which a header is looked for.
+const MOST_COMMENTS: u64 = 100;
 
 /// The bytes of a line that are kept: those of the longest line of holidays.
 pub(crate) const MOST_KEPT: usize = 1000;

@@ -6,7 +6,8 @@ from . import layouts, values
 from .dates import from_yymmdd, yymmdd
 from .explanation import clashing
 from .holidays import WIDTH
-from .extracts import COMMENT, NOTES, contents_of
+from .extracts import COMMENT, NOTES, contents_of, line_of
+from .faults import Refusal
 from .published import count_clashing, count_cut, count_open_ends, of_kind, transaction_of
 
 # An input: its name as it is shown, its bytes, or None where it can't be read, and whether a line of it can be read again.
@@ -18,8 +19,9 @@ SIDES = {"compare": ("LEFT", "RIGHT"), "diff": ("LEFT", "RIGHT"), "prepare": (""
 HIDDEN = re.compile("[\x00-\x1f\x7f-\x9f]|([\u2028-\u202e\u2066-\u2069])")
 LETTERS = {"\t": r"\t", "\n": r"\n", "\r": r"\r"}
 
-# How many bytes are kept of an input that can't be read again, and how many are looked at of a line of another one.
-KEPT, LOOKED_AT = 82, 4096
+# How many bytes are kept of an input that can't be read again, how many are looked at of a line of another one, and behind how
+# many comments a header is looked for there.
+KEPT, LOOKED_AT, COMMENTS = 82, 4096, 100
 
 WANTED = {"bad date": "must be a valid date as six digits, YYMMDD", "bad UID": "must be six printable ASCII characters"}
 NO_FILE = "No such file or directory (os error 2)"
@@ -72,10 +74,19 @@ def has_code(line):
 
 
 def letter_of_header(one):
-    """Column 47 of the header behind comments with which an input begins, as far as that is known."""
-    known = one.data[: LOOKED_AT if one.again else KEPT]
-    header = next((line for line in known.split(b"\n") if line[:3] != b"/!!"), b"")
-    return header[46:47] if header[:2] == b"HD" and known.isascii() else b""
+    """Column 47 of the header behind the first comments of a file."""
+    lines = contents_of(one.data)[:COMMENTS] if one.again else []
+    header = next((line for line in lines if not COMMENT.fullmatch(line)), b"")
+    return header[46:47] if header[:2] == b"HD" else b""
+
+
+def begins_as_full(one):
+    """Whether an input begins with the header of a full extract."""
+    try:
+        layouts.read("HD", line_of(contents_of(one.data)[0]), {})
+    except Refusal:
+        return False
+    return one.data[:2] == b"HD"
 
 
 def helps(reason, line, one):
@@ -87,7 +98,7 @@ def helps(reason, line, one):
     if reason == "UnknownRecord" and line[:2].decode("latin-1") in NOTES:
         return PREPARE
     if reason in ("BadLength", "UnknownRecord") and COMMENT.fullmatch(line):
-        return {b"F": PREPARE, b"U": UPDATE if one.again else None}.get(letter_of_header(one))
+        return {b"F": PREPARE, b"U": UPDATE}.get(letter_of_header(one))
     if reason == "BankHoliday" and has_code(line):
         return PREPARE_WITH_HOLIDAYS
     return UPDATE if reason == "NotFull" and line[:2] == b"HD" and line[46:47] == b"U" else None
@@ -99,7 +110,7 @@ def help_with_all(one, reasons):
     found = {helps(name, line, one) for name, line in lines.items()}
     if UPDATE in found:
         return [UPDATE]
-    if "NotFull" in lines and lines["NotFull"] is None and letter_of_header(one) != b"F":
+    if "NotFull" in lines and lines["NotFull"] is None and not begins_as_full(one):
         return []
     return [command for command in (PREPARE, PREPARE_WITH_HOLIDAYS) if command in found]
 
