@@ -174,7 +174,7 @@ module _ {R W : Type 0} (remaining : R → Option (List ℕ)) (errors : R → Op
         subst (FeedAnswers contents write_errors (λ d. d) Answer old new) (sym (is ∙ ap Err write)) record {
           text = w.0;
           writes = failed;
-          answer = some-told w.0 (known_so (remaining (reader_of source)) _ _ (λ bytes p. (told a, p)) w.2);
+          answer = some-told w.0 (known_so (remaining (reader_of source)) _ _ (λ bytes p. (a, p)) w.2);
         }
 
 module _ {R : Type 0} (remaining : R → Option (List ℕ)) (errors : R → Option ℕ) (source source_new : Source R) (h : Holidays)

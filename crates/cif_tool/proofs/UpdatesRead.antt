@@ -16,7 +16,8 @@ use Rattle.cif_extract.specs.declared.fault.Fault.TheVariants.{Memory, Read, Ref
 use Rattle.cif_feed.specs.FeedFault.{IsFeedFault, IsOfFeed}
 use Rattle.cif_feed.specs.HolidayCode.{all_codes}
 use Rattle.cif_feed.specs.PublishedParts.{BytesSpellPublished, IsPublishedOf, PublishedParts, published_parts, published_text, reading_published}
-use Rattle.cif_feed.specs.Updated.{IsOfUpdate, IsUpdateFault as IsOneUpdateFault, IsUpdatedBy, updating}
+use Rattle.cif_feed.specs.Updated.{IsOfUpdate, IsOutcomeOf, IsUpdateFault as IsOneUpdateFault, IsUpdatedBy}
+use Rattle.cif_feed.specs.Updated.{updating}
 use Rattle.cif_feed.specs.UpdatesInTurn.{AreUpdatesDone, IsOneRefused, IsRefusedFor, IsWritten}
 use Rattle.cif_feed.specs.WrittenPrepared.{IsDeviceOrMemory}
 use Rattle.cif_feed.specs.declared.changes.RefusedLine.{RefusedLine}
@@ -111,7 +112,10 @@ module _ {R : Type 0} (remaining : R → Option (List ℕ)) (errors : R → Opti
       at : (r : Result (Unit {0}) FeedFault) → IfErr r (λ f. f ≡ Extract Memory) →
           MatchResult r (Makes (updating lenient old new MAX_LINES) (doing lenient old new outcome.waived.items) outcome)
           (Refuses (updating lenient old new MAX_LINES) (doing lenient old new outcome.waived.items) outcome)
-      at (Ok done) h = record { answer = λ bytes is. is; whole = λ asked. tt }
+      at (Ok done) h = record {
+        answer = λ bytes is. let whole : IsOutcomeOf lenient old MAX_LINES bytes new outcome = is in whole.done;
+        whole = λ asked. tt;
+      }
       at (Err f) h = subst (Refuses (updating lenient old new MAX_LINES) (doing lenient old new outcome.waived.items) outcome) (sym h)
           (record { fault = λ bytes after is. tt; answers = tt; other = refl })
 

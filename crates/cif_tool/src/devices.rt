@@ -35,7 +35,13 @@ enum Device<'a, R: Files + Input> {
     Unlocked(&'a R),
     Standard(R::Reader),
     Named { files: &'a R, name: &'a str },
-    Opened(R::File),
+    Opened {
+        file: R::File,
+        files: &'a R,
+        name: &'a str,
+    },
+    /// A file that was read to its end, and can be read again: it is closed, as there may be many.
+    Ended { files: &'a R, name: &'a str },
 }
 
 impl<'a, R: Files + Input> ExtractInput<'a, R> {
@@ -75,7 +81,7 @@ impl<'a, R: Files + Input> ExtractInput<'a, R> {
     /// Whether it was read.
     pub(crate) fn is_touched(&self) -> bool {
         match self.device {
-            Device::Standard(_) | Device::Opened(_) => true,
+            Device::Standard(_) | Device::Opened { .. } | Device::Ended { .. } => true,
             Device::Unlocked(_) | Device::Named { .. } => self.failure.is_some(),
         }
     }
@@ -105,7 +111,8 @@ impl<'a, R: Files + Input> ExtractInput<'a, R> {
     /// it.
     pub(crate) fn again(&self) -> Option<R::File> {
         match &self.device {
-            Device::Opened(file) => {
+            Device::Ended { files, name } => fs::open(*files, *name).ok()?.try_clone().ok(),
+            Device::Opened { file, .. } => {
                 let mut file = file.try_clone().ok()?;
                 file.seek(SeekFrom::Start(0)).ok()?;
                 Some(file)
@@ -122,7 +129,18 @@ impl<R: Files + Input> Device<'_, R> {
     {
         match self {
             Device::Standard(reader) => reader.read(buf),
-            Device::Opened(file) => file.read(buf),
+            Device::Opened { file, files, name } => {
+                let count = file.read(buf);
+                if matches!(count, Ok(0)) && !buf.is_empty() && file.seek(SeekFrom::Start(0)).is_ok()
+                {
+                    *self = Device::Ended {
+                        files: *files,
+                        name: *name,
+                    };
+                }
+                count
+            }
+            Device::Ended { .. } => Ok(0),
             Device::Unlocked(rt) => {
                 let mut reader = rt.reader();
                 let count = reader.read(buf);
@@ -133,7 +151,11 @@ impl<R: Files + Input> Device<'_, R> {
                 // A copy never has the descriptor of a standard stream, of which one may be closed.
                 let mut file = fs::open(*files, *name)?.try_clone()?;
                 let count = file.read(buf);
-                *self = Device::Opened(file);
+                *self = Device::Opened {
+                    file,
+                    files: *files,
+                    name: *name,
+                };
                 count
             }
         }
