@@ -134,6 +134,8 @@ pub fn answer_prepare<R: ReadDevice, W: WriteDevice>(
 }
 
 /// The holidays that the source gives; none where there is no source.
+// Inlined, it would keep its buffer on the stack while the extract is read.
+#[inline(never)]
 fn read_holidays<R: ReadDevice>(
     alloc: Global,
     holidays: &mut Option<Source<R>>,

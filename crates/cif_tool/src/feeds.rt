@@ -100,6 +100,8 @@ fn prepare<R: Files + Input + Print + AllocGlobal, W: WriteDevice>(
 }
 
 /// Writes the prepared extract of the source on the output, through a buffer.
+// Inlined, it would keep what is read ahead on the stack of its caller, beside two inputs.
+#[inline(never)]
 fn prepared<R: ReadDevice, W: WriteDevice + Drop>(
     alloc: Global,
     holidays: &mut Option<Source<R>>,
@@ -141,9 +143,9 @@ fn add_prepared<R: Files + Input>(
 // ---- update
 
 /// Writes what the updates make of the full extract, the first input.
-fn update<R: Files + Input + Print + AllocGlobal, W: WriteDevice>(
-    rt: &R,
-    call: &Call,
+fn update<'a, R: Files + Input + Print + AllocGlobal, W: WriteDevice>(
+    rt: &'a R,
+    call: &'a Call,
     lenient: bool,
     errors: &mut Sink<W>,
 ) -> u8 {
