@@ -14,7 +14,7 @@ const NOWHERE: Span = (1, 0);
 const NOTHING: Column = ("", Text(1, 0));
 
 /// The location of TI.
-const TIPLOC_CODE: Column = ("tiploc", Text(3, 9));
+const LOCATION: Column = ("tiploc", Text(3, 9));
 
 /// The UIDs of AA.
 const BASE_UID: Column = ("base_uid", Whole(4, 9));
@@ -83,7 +83,7 @@ pub(crate) const HEADER: [Column; 9] = [
 
 /// Those of TI.
 pub(crate) const TIPLOC: [Column; 9] = [
-    TIPLOC_CODE,
+    LOCATION,
     ("capitals", Text(10, 11)),
     ("nalco", Text(12, 17)),
     ("nlc_check", Text(18, 18)),
@@ -202,15 +202,7 @@ pub(crate) const CHANGE: [Column; 21] = [
 
 /// The fields up to the days run of TI, in the table of differences.
 pub(crate) const TIPLOC_HEAD: [Column; 9] = [
-    TIPLOC_CODE,
-    NOTHING,
-    NOTHING,
-    NOTHING,
-    NOTHING,
-    NOTHING,
-    NOTHING,
-    NOTHING,
-    NOTHING,
+    LOCATION, NOTHING, NOTHING, NOTHING, NOTHING, NOTHING, NOTHING, NOTHING, NOTHING,
 ];
 
 /// Those of AA.

@@ -9,7 +9,7 @@ ghost use Rattle.cif_canon.specs.Lines.{line_of_tiploc, schedule_plain};
 ghost use Rattle.cif_canon.specs.declared.rows.Format.TheVariants.{Tsv};
 ghost use Rattle.cif_views.specs.Steps.Columns.{are_within, call_columns, fields_in};
 ghost use Rattle.cif_views.specs.Steps.Columns.{name_fields, named, room_for, room_for_names};
-ghost use Rattle.cif_views.specs.Steps.TableRows.{has_row, journey_columns, journey_rows, row_of_kind};
+ghost use Rattle.cif_views.specs.Steps.TableRows.{call_kind, has_row, journey_columns, journey_rows, row_of_kind};
 ghost use Rattle.cif_views.specs.Tables.{extra_in, is_call, kind_of_line, number, numbered_schedule, row_line, schedule_fields};
 ghost use Rattle.cif_views.specs.TableText.{table_heading, table_text};
 ghost use Rattle.cif_views.specs.Tables.{tiploc_fields};
@@ -279,22 +279,35 @@ fn push_numbered(calls: bool, row: &mut TableRow, call: usize, kind: JourneyKind
     row.push_number(call);
     match (calls, kind) {
         (false, _) => row.push_each(&CHANGE, kind, line),
-        (true, JourneyKind::Origin) => push_call(row, JourneyKind::Origin, line),
-        (true, JourneyKind::Stop) => push_call(row, JourneyKind::Stop, line),
-        (true, JourneyKind::Terminus) => push_call(row, JourneyKind::Terminus, line),
+        (true, JourneyKind::Origin) => push_call::<0>(row, line),
+        (true, JourneyKind::Stop) => push_call::<1>(row, line),
+        (true, JourneyKind::Terminus) => push_call::<2>(row, line),
         (true, _) => row.push_each(&CALL, kind, line),
     }
 }
 
-/// Appends the fields of a call of this kind.
-// Nearly all rows are such. The kind and the field are known where this stands: so the compiler knows which
-// columns are copied.
+/// The kinds of calls by number, in the order of a journey.
 #[inline(always)]
-fn push_call(row: &mut TableRow, kind: JourneyKind, line: &Line)
+fn call_kind(number: usize) -> JourneyKind
+    ensures { result ≡ call_kind number }
+{
+    if number == 0 {
+        JourneyKind::Origin
+    } else if number == 1 {
+        JourneyKind::Stop
+    } else {
+        JourneyKind::Terminus
+    }
+}
+
+/// Appends the fields of a call of the kind with this number.
+// Nearly all rows are such. The compiler makes a function for each kind, and so knows which columns are copied.
+fn push_call<const KIND: usize>(row: &mut TableRow, line: &Line)
     requires { length row.old ≤ 82 }
-    ensures text { row.new ≡ row.old ++ after Tsv (fields_in kind call_columns line.now) }
+    ensures text { row.new ≡ row.old ++ after Tsv (fields_in (call_kind KIND) call_columns line.now) }
     ensures len { length row.new ≤ 300 }
 {
+    let kind = call_kind(KIND);
     row.push_of_copy(&CALL[0].1, kind, *line);
     row.push_of_copy(&CALL[1].1, kind, *line);
     row.push_of_copy(&CALL[2].1, kind, *line);

@@ -1,9 +1,14 @@
 -- The rows of tables as the code makes them. No public clause cites them.
-use Rattle.std.specs.Prelude.{ℕ, Bool, true, false, List, [], ◌∷◌, cond}
+use Rattle.std.specs.Prelude.{ℕ, Bool, true, false, List, [], ◌∷◌, cond, nat_eq, if◌then◌else◌}
 use Rattle.std.specs.List.{flat_map}
 use Rattle.cif_views.specs.Steps.Columns.{Column, call_columns, change_columns, fields_in, row_behind}
 use Rattle.cif_views.specs.Tables.{Numbered, call_fields, change_fields, is_call, is_change, kind_of_line, number, numbered_from, row_line}
 use Rattle.cif_views.specs.declared.tables.JourneyKind.{JourneyKind}
+use Rattle.cif_views.specs.declared.tables.JourneyKind.TheVariants.{Origin, Stop, Terminus}
+
+-- the kinds of calls by number
+abbrev pub call_kind : ℕ → JourneyKind
+call_kind n = if nat_eq n 0 then Origin else (if nat_eq n 1 then Stop else Terminus)
 
 -- whether the table of the calls, or else that of the changes, has a row of a line of this kind; and its columns
 abbrev pub has_row : Bool → JourneyKind → Bool

@@ -6,8 +6,8 @@ use Rattle.cif_views.proofs.TableRows.{first-pushed, more-pushed}
 use Rattle.cif_views.proofs.tables.push_call.Goals as goal
 
 pub returns-clause-text : goal.returns-clause-text
-returns-clause-text c =
-    let field : ℕ → List Field = λ n. fields_in c.args.kind (take 1 (drop n call_columns)) c.args.line.now in
+returns-clause-text g c =
+    let field : ℕ → List Field = λ n. fields_in c.call_kind-kind.result (take 1 (drop n call_columns)) c.args.line.now in
     let h0 = first-pushed _ _ (field 0) c.push_of_copy.ensures.text in
     let h1 = more-pushed _ _ _ _ (field 1) h0 c.push_of_copy-2.ensures.text in
     let h2 = more-pushed _ _ _ _ (field 2) h1 c.push_of_copy-3.ensures.text in
@@ -23,4 +23,4 @@ returns-clause-text c =
     let h12 = more-pushed _ _ _ _ (field 12) h11 c.push_of_copy-13.ensures.text in
     let h13 = more-pushed _ _ _ _ (field 13) h12 c.push_of_copy-14.ensures.text in
     let h14 = more-pushed _ _ _ _ (field 14) h13 c.push_of_copy-15.ensures.text in
-    h14.text
+    rw (← c.call_kind-kind.ensures) h14.text
