@@ -1,6 +1,8 @@
 -- One cut of a record after another, among days that don't fall.
-use Rattle.std.proofs.Common.{◌≡◌, ◌⊎◌, inl, inr, ⊎_elim, ℕ, ◌+◌, ◌-◌, ◌<◌, ◌≤◌, List, [], ◌∷◌, ◌++◌, None, Some, Contains, drop, map, length}
-use Rattle.std.proofs.Common.{get_or, refl, sym, ap, ◌∙◌, subst, append_assoc, append-nil, arith, ltb-true, ltb-false, nat_lt, Bool, true, false, cond}
+use Rattle.std.proofs.Common.{◌≡◌, ◌⊎◌, inl, inr, ⊎_elim, ℕ, ◌+◌, ◌-◌, ◌<◌, ◌≤◌}
+use Rattle.std.proofs.Common.{List, [], ◌∷◌, ◌++◌, None, Some, Contains, map, length}
+use Rattle.std.proofs.Common.{get_or, refl, sym, ap, ◌∙◌, subst, append_assoc, append-nil}
+use Rattle.std.proofs.Common.{arith, ltb-true, ltb-false, nat_lt, Bool, true, false, cond}
 use Rattle.std.proofs.lemmas.Bool.{cases_lt}
 use Rattle.std.proofs.lemmas.List.{map-append}
 use Rattle.std.specs.List.Sorted.{IsNonDecreasing}
@@ -8,7 +10,7 @@ use Rattle.cif_calendar.specs.Terms.{Terms}
 use Rattle.cif_columns.specs.Day.{weekday_of}
 use Rattle.cif_columns.specs.DaysRun.{RunsOn}
 use Rattle.cif_feed.specs.HolidayDates.{IsDateOnDaysRun, IsFirstFrom}
-use Rattle.cif_feed.specs.Parts.{AreParts, IsCut, Part}
+use Rattle.cif_feed.specs.Parts.{Part}
 use Rattle.cif_feed.specs.Prepared.{part_entry}
 use Rattle.cif_feed.specs.PreparedRecord.{terms_on}
 use Rattle.cif_feed.specs.Steps.PartsSoFar.{AreAdded, ArePartsBefore, IsAdded, IsLeftFrom, IsPushed, MayBegin, added_before, before_cut}

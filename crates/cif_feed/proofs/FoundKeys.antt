@@ -1,8 +1,9 @@
 -- Keys and their clash days are found one after another, over positions in the order of the keys.
-use Rattle.std.proofs.Common.{◌≡◌, ◌⊎◌, inl, inr, ⊎_elim, ℕ, ◌+◌, ◌<◌, Bool, true, false, cond, List, [], ◌∷◌, ◌++◌, Option, None, Some, Vec}
+use Rattle.std.proofs.Common.{◌≡◌, ◌⊎◌, inl, ⊎_elim, ℕ, ◌<◌, Bool, true}
+use Rattle.std.proofs.Common.{false, cond, List, [], ◌∷◌, ◌++◌, Option, None, Some, Vec}
 use Rattle.std.proofs.Common.{Global, Contains, map, take, drop, length, get_or, refl, sym, ◌∙◌, ap, ap₂, subst, arith, append_assoc}
 use Rattle.std.proofs.Common.{append-nil, ◌↔◌}
-use Rattle.std.specs.Prelude.{All, AllPairs}
+use Rattle.std.specs.Prelude.{AllPairs}
 use Rattle.std.specs.BTreeMap.{BTreeMap, get}
 use Rattle.std.specs.Map.{lookup}
 use Rattle.std.specs.Cmp.{IsTotalOrder, tied_itself}
@@ -14,7 +15,7 @@ use Rattle.std.proofs.lemmas.List.{map-append}
 use Rattle.std.proofs.lemmas.List.Elements.{Contains-append_left, Contains-get_or, Contains-push, Contains-push_cases}
 use Rattle.std.proofs.lemmas.List.Quantifiers.{all_pairs_push}
 use Rattle.cif_calendar.specs.ByKey.{AnyHasKey, AreOfFirstKey, IsRising}
-use Rattle.cif_calendar.specs.ClashDates.{AreClashDates, IsClashBetween}
+use Rattle.cif_calendar.specs.ClashDates.{AreClashDates}
 use Rattle.cif_calendar.specs.Keys.{ArePositionsOf, keyed, of_key}
 use Rattle.cif_calendar.specs.Source.{IsChosen}
 use Rattle.cif_calendar.specs.Terms.{Records, SameRecords, Terms}
@@ -26,7 +27,7 @@ use Rattle.cif_calendar.proofs.PassedKeys.{HasPassed, key-or-later, later-less, 
 use Rattle.cif_calendar.proofs.RisingLists.{Contains-none, not_less}
 use Rattle.cif_calendar.proofs.Sets.{IsClash-same, IsClear-same}
 use Rattle.cif_extract.specs.declared.fault.Clash.{Clash}
-use Rattle.cif_feed.specs.Dropped.{AreKeysWithDays, told_as}
+use Rattle.cif_feed.specs.Dropped.{told_as}
 use Rattle.cif_feed.specs.Steps.Dropping.{AreFound, IsKeyTold, IsTold, ReadsDates, days_in, days_with}
 use Rattle.cif_feed.specs.declared.dropped.DroppedKey.{DroppedKey}
 
