@@ -1,6 +1,6 @@
 -- Keys and their clash days are found one after another, over positions in the order of the keys.
-use Rattle.std.proofs.Common.{◌≡◌, ◌⊎◌, inl, ⊎_elim, ℕ, ◌<◌, Bool, true}
-use Rattle.std.proofs.Common.{false, cond, List, [], ◌∷◌, ◌++◌, Option, None, Some, Vec}
+use Rattle.std.proofs.Common.{◌≡◌, ◌⊎◌, inl, ⊎_elim, ℕ, ◌<◌}
+use Rattle.std.proofs.Common.{cond, List, [], ◌∷◌, ◌++◌, Option, None, Vec}
 use Rattle.std.proofs.Common.{Global, Contains, map, take, drop, length, get_or, refl, sym, ◌∙◌, ap, ap₂, subst, arith, append_assoc}
 use Rattle.std.proofs.Common.{append-nil, ◌↔◌}
 use Rattle.std.specs.Prelude.{AllPairs}
@@ -88,21 +88,6 @@ get-none cmp m empty r = ap (lookup (λ k. is_eq (cmp r k))) empty
 pub reads-none : {R K : Type 0} (stands_for : R → K → Type 0) (found : R → Option (Vec ℕ Global)) → ((r : R) → found r ≡ None)
     → ReadsDates stands_for (λ k. []) found
 reads-none stands_for found none r k stands = ap days_in (none r)
-
--- what is inserted for a key is read for it
-inserted : (b : Bool) (days : Vec ℕ Global) (old : Option (Vec ℕ Global)) (was : List ℕ) → days_in old ≡ was
-    → days_in (cond b (Some days) old) ≡ cond b days.items was
-inserted true days old was e = refl
-inserted false days old was e = e
-
-pub reads-inserted : {R K : Type 0} (rank_cmp : R → R → Ordering) (cmp : K → K → Ordering) (stands_for : R → K → Type 0)
-    → ((r s : R) (a b : K) → stands_for r a → stands_for s b → rank_cmp r s ≡ cmp a b) → (rank : R) (key : K) → stands_for rank key
-    → (found : Vec ℕ Global) (days : K → List ℕ) (old new : R → Option (Vec ℕ Global))
-    → ((r : R) → new r ≡ cond (is_eq (rank_cmp rank r)) (Some found) (old r)) → ReadsDates stands_for days old
-    → ReadsDates stands_for (days_with cmp key found.items days) new
-reads-inserted rank_cmp cmp stands_for same rank key of_key found days old new updates reads r k stands =
-    ap days_in (updates r ∙ ap (λ o. cond (is_eq o) (Some found) (old r)) (same rank r key k of_key stands))
-    ∙ inserted (is_eq (cmp key k)) found (old r) (days k) (reads r k stands)
 
 -- ---- keys
 
