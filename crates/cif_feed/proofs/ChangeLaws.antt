@@ -126,11 +126,6 @@ module _ {K : Type 0} where
     congr = λ x y z is. ap (λ v. same v z) ((tells x y).0 is);
   }
 
-  -- the order of the keys tells it
-  pub told_by_cmp : (eq : K → K → Bool) (cmp : K → K → Ordering) → ((a b : K) → eq a b ≡ eq_by_cmp cmp a b)
-      → ((a b : K) → IsTrue (eq a b) ↔ (a ≡ b)) → TellsSame (eq_by_cmp cmp)
-  told_by_cmp eq cmp matches same a b = (λ is. (same a b).0 (matches a b ∙ is), λ is. sym (matches a b) ∙ (same a b).1 is)
-
   -- what stands for the keys tells it
   pub told_by_rank : {N : Type 0} (eq : N → N → Bool) (cmp : N → N → Ordering) (rank : K → N) → ((a b : N) → eq a b ≡ eq_by_cmp cmp a b)
       → ((a b : K) → IsTrue (eq (rank a) (rank b)) ↔ (a ≡ b)) → TellsSame (same_by cmp rank)

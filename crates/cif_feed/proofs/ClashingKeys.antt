@@ -1,9 +1,9 @@
 -- What is found in a prepared extract that only holidays cut: the clash days of the published one.
-use Rattle.std.proofs.Common.{◌≡◌, ◌↔◌, inl, inr, ⊎_elim, ℕ, ◌+◌, ◌<◌, ◌≤◌, List, [], ◌∷◌, ◌++◌, Option, Vec, Global, Contains, map, length}
+use Rattle.std.proofs.Common.{◌≡◌, ◌↔◌, ℕ, ◌+◌, ◌<◌, ◌≤◌, List, [], ◌∷◌, ◌++◌, Option, Vec, Global, Contains, map, length}
 use Rattle.std.specs.Prelude.{◌==◌, codes, decimal}
 use Rattle.cif_extract.specs.Clash.{clash_text}
 use Rattle.cif_feed.specs.Dropped.{dropped_text, more_text}
-use Rattle.std.proofs.Common.{true, false, cond, append_assoc, refl, sym, ap, ap₂, ◌∙◌, subst, arith}
+use Rattle.std.proofs.Common.{true, false, cond, append_assoc, refl, sym, ap, ◌∙◌, subst, arith}
 use Rattle.cif_calendar.specs.ClashDates.{AreClashDates}
 use Rattle.cif_calendar.specs.Entries.{association_entries, association_terms, schedule_entries, schedule_terms}
 use Rattle.cif_calendar.specs.Ranks.{IsNumberOf}
@@ -29,10 +29,10 @@ use Rattle.cif_records.specs.declared.association.AssocBody.{AssocBody}
 use Rattle.cif_records.specs.declared.association.AssocKey.{AssocKey}
 use Rattle.cif_records.specs.declared.header.Header.{Header}
 use Rattle.cif_feed.specs.CutCount.{AppliesOnAny, IsCountOf}
-use Rattle.cif_feed.specs.Dropped.{AreClashDays, AreDropped, IsCountOfClashing, told_as}
+use Rattle.cif_feed.specs.Dropped.{AreClashDays, AreDropped, told_as}
 use Rattle.cif_feed.specs.LastDay.{last_day}
 use Rattle.cif_feed.specs.PreparedParts.{IsPrepared, association_on, prepared_parts, schedule_on}
-use Rattle.cif_feed.specs.Published.{AppliesAsPublished, IsClashDay, PublishedTerms}
+use Rattle.cif_feed.specs.Published.{IsClashDay, PublishedTerms}
 use Rattle.cif_feed.specs.PublishedParts.{PublishedParts, published_association_terms, published_associations, published_schedule_terms}
 use Rattle.cif_feed.specs.PublishedParts.{published_schedules}
 use Rattle.cif_feed.specs.Steps.Dropping.{AreAllFound, AreFound, IsCutAt, ReadsAssociations, ReadsTrains}
@@ -72,7 +72,8 @@ pub all-found : (x : PublishedExtract) (xs ys : List (PreparedRecord Association
     (first last : ℕ) (known between all : List DroppedKey) (associations : AssocKey → Option (Vec ℕ Global))
     (trains : ℕ → Option (Vec ℕ Global)) → xs ≡ ys → ss ≡ ts → first ≡ x.header.first → last ≡ x.header.last
     → AreFound key_cmp clash.Association (λ (rank key : AssocKey). rank ≡ key)
-    (records_on {K = AssocKey} {B = AssocBody} (λ (a : Association). a.key) association_terms xs) first (last + 1) known between associations
+    (records_on {K = AssocKey} {B = AssocBody} (λ (a : Association). a.key) association_terms xs)
+    first (last + 1) known between associations
     → AreFound (slice_cmp nat_cmp) clash.Train IsNumberOf
     (records_on {K = List ℕ} {B = BodyParts} (λ (s : Schedule). s.uid) schedule_terms ss) first (last + 1) between all trains
     → AreAllFound (prepared_parts x ys ts) known all associations trains
@@ -144,9 +145,11 @@ module _ (h : Holidays) (p : PublishedParts) where
       clashing_associations = n;
       are_associations = count-map (λ (a : PublishedAssociation). (a.association.key, published_association_terms a))
           (λ (e : AssocKey × PublishedTerms AssocBody). AppliesOnAny
-          (IsClashDay h (published_associations p.associations) p.header.first (p.header.last + 1) e.0) h p.header.last e.1) p.associations n
+          (IsClashDay h (published_associations p.associations) p.header.first (p.header.last + 1) e.0) h p.header.last e.1)
+          p.associations n
           (count-same
-          (λ (a : PublishedAssociation). AppliesOnAny (Contains (found.1.days a.association.key)) h p.header.last (published_association_terms a))
+          (λ (a : PublishedAssociation). AppliesOnAny (Contains (found.1.days a.association.key))
+          h p.header.last (published_association_terms a))
           (λ (a : PublishedAssociation). AppliesOnAny
           (IsClashDay h (published_associations p.associations) p.header.first (p.header.last + 1) a.association.key) h p.header.last
           (published_association_terms a)) (λ (a : PublishedAssociation). (
@@ -202,7 +205,8 @@ unfolding dropped_text
 many-more k t some several is =
     let one = codes " and 1 more date" in
     let many = codes " and " ++ decimal k.more ++ codes " more dates" in
-    let more : more_text k.more ≡ many = ap (λ b. cond b (codes "") (cond (k.more == 1) one many)) some ∙ ap (λ b. cond b one many) several in
+    let more : more_text k.more ≡ many = ap (λ b. cond b (codes "") (cond (k.more == 1) one many)) some
+    ∙ ap (λ b. cond b one many) several in
     is
     ∙ append_assoc (clash_text k.clash ++ codes " and ") (decimal k.more) (codes " more dates")
     ∙ append_assoc (clash_text k.clash) (codes " and ") (decimal k.more ++ codes " more dates")

@@ -1,6 +1,8 @@
 -- One cut of a record after another, among days that don't fall.
-use Rattle.std.proofs.Common.{◌≡◌, ◌⊎◌, inl, inr, ⊎_elim, ℕ, ◌+◌, ◌-◌, ◌<◌, ◌≤◌, List, [], ◌∷◌, ◌++◌, None, Some, Contains, drop, map, length}
-use Rattle.std.proofs.Common.{get_or, refl, sym, ap, ◌∙◌, subst, append_assoc, append-nil, arith, ltb-true, ltb-false, nat_lt, Bool, true, false, cond}
+use Rattle.std.proofs.Common.{◌≡◌, ◌⊎◌, inl, inr, ⊎_elim, ℕ, ◌+◌, ◌<◌, ◌≤◌}
+use Rattle.std.proofs.Common.{List, [], ◌∷◌, ◌++◌, None, Some, Contains, map, length}
+use Rattle.std.proofs.Common.{get_or, refl, sym, ap, ◌∙◌, subst, append_assoc, append-nil}
+use Rattle.std.proofs.Common.{arith}
 use Rattle.std.proofs.lemmas.Bool.{cases_lt}
 use Rattle.std.proofs.lemmas.List.{map-append}
 use Rattle.std.specs.List.Sorted.{IsNonDecreasing}
@@ -8,7 +10,7 @@ use Rattle.cif_calendar.specs.Terms.{Terms}
 use Rattle.cif_columns.specs.Day.{weekday_of}
 use Rattle.cif_columns.specs.DaysRun.{RunsOn}
 use Rattle.cif_feed.specs.HolidayDates.{IsDateOnDaysRun, IsFirstFrom}
-use Rattle.cif_feed.specs.Parts.{AreParts, IsCut, Part}
+use Rattle.cif_feed.specs.Parts.{Part}
 use Rattle.cif_feed.specs.Prepared.{part_entry}
 use Rattle.cif_feed.specs.PreparedRecord.{terms_on}
 use Rattle.cif_feed.specs.Steps.PartsSoFar.{AreAdded, ArePartsBefore, IsAdded, IsLeftFrom, IsPushed, MayBegin, added_before, before_cut}
@@ -150,25 +152,3 @@ module _ {E K B : Type 0} (key : E → K) (terms : E → Terms B) where
   pushed-from e first n last old new same p =
       subst (λ (m : ℕ). IsAdded (key e) (terms e) m last (records_on key terms old) (records_on key terms new)) same
       (pushed-added e first last old new p)
-
-  -- as the part before a cut
-  pub before-added : (e : E) (first last cut : ℕ) (old new : List (PreparedRecord E ℕ)) → last + 1 ≡ cut → first ≤ last
-      → IsPushed e first last old new → records_on key terms new ≡ records_on key terms old ++ added_before (key e) (terms e) first cut
-  before-added e first last cut old new next up p =
-      pushed-added e first last old new p ∙ ap (λ l. records_on key terms old ++ l) (at (nat_lt first cut) refl)
-    where
-      at : (b : Bool) → nat_lt first cut ≡ b → (key e, terms_on (terms e) first last) ∷ []
-          ≡ map (part_entry (key e) (terms e)) (cond b (record { first = first; last = cut - 1 } ∷ []) [])
-      at true is = ap (λ (m : ℕ). (let t : Terms B = record (terms e) { first = first; last = m } in (key e, t)) ∷ []) (omega arith)
-      at false is = absurd (let late : cut ≤ first = ltb-false first cut is in omega arith)
-
-  -- there is none
-  pub none-before : (e : E) (first cut : ℕ) (old : List (PreparedRecord E ℕ)) → cut ≤ first
-      → records_on key terms old ≡ records_on key terms old ++ added_before (key e) (terms e) first cut
-  none-before e first cut old late =
-      sym (append-nil (records_on key terms old)) ∙ ap (λ l. records_on key terms old ++ l) (at (nat_lt first cut) refl)
-    where
-      at : (b : Bool) → nat_lt first cut ≡ b
-          → [] ≡ map (part_entry (key e) (terms e)) (cond b (record { first = first; last = cut - 1 } ∷ []) [])
-      at true is = absurd (let early : first < cut = ltb-true first cut is in omega arith)
-      at false is = refl

@@ -1,8 +1,9 @@
 -- Keys and their clash days are found one after another, over positions in the order of the keys.
-use Rattle.std.proofs.Common.{◌≡◌, ◌⊎◌, inl, inr, ⊎_elim, ℕ, ◌+◌, ◌<◌, Bool, true, false, cond, List, [], ◌∷◌, ◌++◌, Option, None, Some, Vec}
+use Rattle.std.proofs.Common.{◌≡◌, ◌⊎◌, inl, ⊎_elim, ℕ, ◌<◌}
+use Rattle.std.proofs.Common.{cond, List, [], ◌∷◌, ◌++◌, Option, None, Vec}
 use Rattle.std.proofs.Common.{Global, Contains, map, take, drop, length, get_or, refl, sym, ◌∙◌, ap, ap₂, subst, arith, append_assoc}
 use Rattle.std.proofs.Common.{append-nil, ◌↔◌}
-use Rattle.std.specs.Prelude.{All, AllPairs}
+use Rattle.std.specs.Prelude.{AllPairs}
 use Rattle.std.specs.BTreeMap.{BTreeMap, get}
 use Rattle.std.specs.Map.{lookup}
 use Rattle.std.specs.Cmp.{IsTotalOrder, tied_itself}
@@ -14,7 +15,7 @@ use Rattle.std.proofs.lemmas.List.{map-append}
 use Rattle.std.proofs.lemmas.List.Elements.{Contains-append_left, Contains-get_or, Contains-push, Contains-push_cases}
 use Rattle.std.proofs.lemmas.List.Quantifiers.{all_pairs_push}
 use Rattle.cif_calendar.specs.ByKey.{AnyHasKey, AreOfFirstKey, IsRising}
-use Rattle.cif_calendar.specs.ClashDates.{AreClashDates, IsClashBetween}
+use Rattle.cif_calendar.specs.ClashDates.{AreClashDates}
 use Rattle.cif_calendar.specs.Keys.{ArePositionsOf, keyed, of_key}
 use Rattle.cif_calendar.specs.Source.{IsChosen}
 use Rattle.cif_calendar.specs.Terms.{Records, SameRecords, Terms}
@@ -26,7 +27,7 @@ use Rattle.cif_calendar.proofs.PassedKeys.{HasPassed, key-or-later, later-less, 
 use Rattle.cif_calendar.proofs.RisingLists.{Contains-none, not_less}
 use Rattle.cif_calendar.proofs.Sets.{IsClash-same, IsClear-same}
 use Rattle.cif_extract.specs.declared.fault.Clash.{Clash}
-use Rattle.cif_feed.specs.Dropped.{AreKeysWithDays, told_as}
+use Rattle.cif_feed.specs.Dropped.{told_as}
 use Rattle.cif_feed.specs.Steps.Dropping.{AreFound, IsKeyTold, IsTold, ReadsDates, days_in, days_with}
 use Rattle.cif_feed.specs.declared.dropped.DroppedKey.{DroppedKey}
 
@@ -87,21 +88,6 @@ get-none cmp m empty r = ap (lookup (λ k. is_eq (cmp r k))) empty
 pub reads-none : {R K : Type 0} (stands_for : R → K → Type 0) (found : R → Option (Vec ℕ Global)) → ((r : R) → found r ≡ None)
     → ReadsDates stands_for (λ k. []) found
 reads-none stands_for found none r k stands = ap days_in (none r)
-
--- what is inserted for a key is read for it
-inserted : (b : Bool) (days : Vec ℕ Global) (old : Option (Vec ℕ Global)) (was : List ℕ) → days_in old ≡ was
-    → days_in (cond b (Some days) old) ≡ cond b days.items was
-inserted true days old was e = refl
-inserted false days old was e = e
-
-pub reads-inserted : {R K : Type 0} (rank_cmp : R → R → Ordering) (cmp : K → K → Ordering) (stands_for : R → K → Type 0)
-    → ((r s : R) (a b : K) → stands_for r a → stands_for s b → rank_cmp r s ≡ cmp a b) → (rank : R) (key : K) → stands_for rank key
-    → (found : Vec ℕ Global) (days : K → List ℕ) (old new : R → Option (Vec ℕ Global))
-    → ((r : R) → new r ≡ cond (is_eq (rank_cmp rank r)) (Some found) (old r)) → ReadsDates stands_for days old
-    → ReadsDates stands_for (days_with cmp key found.items days) new
-reads-inserted rank_cmp cmp stands_for same rank key of_key found days old new updates reads r k stands =
-    ap days_in (updates r ∙ ap (λ o. cond (is_eq o) (Some found) (old r)) (same rank r key k of_key stands))
-    ∙ inserted (is_eq (cmp key k)) found (old r) (days k) (reads r k stands)
 
 -- ---- keys
 

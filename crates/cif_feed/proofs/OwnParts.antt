@@ -1,5 +1,6 @@
 -- An extract of this profile is its own prepared extract, and has no other.
-use Rattle.std.proofs.Common.{◌≡◌, ◌↔◌, ℕ, ◌+◌, ◌<◌, ◌≤◌, false, List, [], ◌∷◌, ◌++◌, map, Option, None, refl, sym, ap, ◌∙◌, subst, ⊎_elim, arith}
+use Rattle.std.proofs.Common.{◌≡◌, ◌↔◌, ℕ, ◌+◌, ◌<◌, ◌≤◌, false, List, [], ◌∷◌}
+use Rattle.std.proofs.Common.{◌++◌, map, Option, None, refl, sym, ap, ◌∙◌, subst, ⊎_elim, arith}
 use Rattle.cif_calendar.specs.Entries.{association_entries, association_entry, schedule_entries, schedule_entry}
 use Rattle.cif_calendar.specs.Terms.{Terms}
 use Rattle.cif_extract.specs.BodyParts.{BodyParts}
@@ -37,7 +38,8 @@ module _ {B : Type 0} (Stops : ℕ → Type 0) (never : (d : ℕ) → ¬ Stops d
 
   one_part : (parts : List Part) → AreParts Stops r parts → parts ≡ itself ∷ []
   one_part [] are =
-      ⊎_elim (λ have. let below = have.1.1 in absurd (omega arith)) (λ cut. absurd (never r.first cut.stops)) (are.covered r.first (omega arith) up)
+      ⊎_elim (λ have. let below = have.1.1 in absurd (omega arith))
+      (λ cut. absurd (never r.first cut.stops)) (are.covered r.first (omega arith) up)
   one_part (p ∷ []) are = ap (λ (q : Part). q ∷ []) (is_itself p (are.are 0 p (omega arith)))
   one_part (p ∷ q ∷ parts) are =
       let one = is_itself p (are.are 0 p (omega arith)) in

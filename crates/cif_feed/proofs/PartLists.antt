@@ -1,5 +1,6 @@
 -- The parts of a record, one after another.
-use Rattle.std.proofs.Common.{◌≡◌, inl, inr, ⊎_elim, ℕ, ◌+◌, ◌-◌, ◌<◌, ◌≤◌, List, [], ◌∷◌, ◌++◌, ◌↔◌, Option, Some, None, Contains, refl, sym}
+use Rattle.std.proofs.Common.{◌≡◌, inl, inr, ⊎_elim, ℕ, ◌+◌, ◌-◌, ◌<◌, ◌≤◌, List}
+use Rattle.std.proofs.Common.{[], ◌∷◌, ◌++◌, ◌↔◌, Some, None, Contains, refl, sym}
 use Rattle.std.proofs.Common.{ap, ◌∙◌, subst, arith, Bool, true, false, cond, nat_lt, append-nil, ltb-true, ltb-false}
 use Rattle.std.proofs.lemmas.Bool.{cases_lt}
 use Rattle.std.proofs.lemmas.List.Elements.{All-contains, All-push, All-weaker, Contains-append_left, Contains-push}
@@ -59,7 +60,8 @@ module _ {B : Type 0} (dates : List ℕ) (r : Terms B) where
   here-cut : (d : ℕ) → IsCut (Contains dates) r d → IsDateOnDaysRun dates r.days d
   here-cut d cut = record { listed = cut.stops; on_weekday = cut.applies.on_weekday }
 
-  module _ (first : ℕ) (own : List Part) (so_far : ArePartsBefore (Contains dates) r first own) (begins : MayBegin (Contains dates) r first) where
+  module _ (first : ℕ) (own : List Part) (so_far : ArePartsBefore (Contains dates) r first own)
+      (begins : MayBegin (Contains dates) r first) where
     -- the first cut from the day on
     module _ (cut : ℕ) (found : IsFirstFrom (IsDateOnDaysRun dates r.days) first r.last (Some cut)) where
       is_cut : IsCut (Contains dates) r cut
@@ -103,7 +105,8 @@ module _ {B : Type 0} (dates : List ℕ) (r : Terms B) where
 
       -- the cut is the record's last day
       pub parts-cut_last : r.last ≤ cut → AreParts (Contains dates) r (own ++ before_cut first cut)
-      parts-cut_last end = parts-all (Contains dates) r (own ++ before_cut first cut) (cut + 1) after_cut (let upto = found.1 in omega arith)
+      parts-cut_last end =
+          parts-all (Contains dates) r (own ++ before_cut first cut) (cut + 1) after_cut (let upto = found.1 in omega arith)
 
     -- there is none
     pub parts-last : IsFirstFrom (IsDateOnDaysRun dates r.days) first r.last None

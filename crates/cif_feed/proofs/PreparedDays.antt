@@ -1,9 +1,9 @@
 -- What a prepared extract says of each day: where clashes are dropped, and where they aren't.
-use Rattle.std.proofs.Common.{◌≡◌, ◌↔◌, ◌⊎◌, inl, inr, ⊎_elim, ℕ, ◌+◌, ◌<◌, ◌≤◌, Bool, true, false, List, [], ◌∷◌, Option, None, Some}
-use Rattle.std.proofs.Common.{Contains, IsTrue, refl, sym, ap, ◌∙◌, subst, arith, length}
+use Rattle.std.proofs.Common.{◌≡◌, ◌⊎◌, inl, inr, ⊎_elim, ℕ, ◌+◌, ◌<◌, ◌≤◌, Bool, true, false, List, [], ◌∷◌, Option}
+use Rattle.std.proofs.Common.{Contains, refl, sym, ◌∙◌, subst, arith}
 use Rattle.std.proofs.lemmas.Bool.{cases_lt, false≢true}
 use Rattle.cif_calendar.specs.Applies.{Applies}
-use Rattle.cif_calendar.specs.Clash.{IsClash, IsClear}
+use Rattle.cif_calendar.specs.Clash.{IsClash}
 use Rattle.cif_calendar.specs.ClashDates.{AreClashDates}
 use Rattle.cif_calendar.specs.Entries.{association_entries, schedule_entries}
 use Rattle.cif_calendar.specs.Keys.{of_key}
@@ -12,16 +12,14 @@ use Rattle.cif_calendar.proofs.Elements.{Contains-cases, Contains-first, Contain
 use Rattle.cif_calendar.proofs.RisingLists.{Contains-none}
 use Rattle.cif_extract.specs.ExtractParts.{ExtractParts}
 use Rattle.cif_records.proofs.Headers.{last_is_day}
-use Rattle.cif_records.specs.declared.association.AssocKey.{AssocKey}
 use Rattle.cif_feed.specs.Dropped.{AreClashDays, AreDropped}
 use Rattle.cif_feed.specs.LastDay.{last_day}
 use Rattle.cif_feed.specs.Prepared.{AreClosed, ArePrepared, SayTheSame, WinAlso}
 use Rattle.cif_feed.specs.PreparedDays.{SayAsPublished, SayOfDay}
-use Rattle.cif_feed.specs.PreparedParts.{IsPrepared}
-use Rattle.cif_feed.specs.Published.{CountOn, IsClashDay, IsHolidayOf, IsStop, PublishedTerms}
+use Rattle.cif_feed.specs.Published.{CountOn, IsClashDay, IsStop, PublishedTerms}
 use Rattle.cif_feed.specs.PublishedParts.{PublishedParts, published_associations, published_schedules}
 use Rattle.cif_feed.specs.Steps.Dropping.{IsStopAmong}
-use Rattle.cif_feed.specs.WrittenPrepared.{AreDroppedIf, IsPreparedAs}
+use Rattle.cif_feed.specs.WrittenPrepared.{IsPreparedAs}
 use Rattle.cif_feed.specs.declared.dropped.Dropped.{Dropped}
 use Rattle.cif_feed.specs.declared.holiday_code.HolidayCode.{HolidayCode}
 use Rattle.cif_feed.specs.declared.holidays.Holidays.{Holidays}
@@ -50,7 +48,13 @@ clash-also : {B : Type 0} (xs ys : Records B) (d : ℕ) → WinAlso xs ys d → 
 clash-also xs ys d also clash =
     let (s, s_wins, s_letter, s_body) = also.winner clash.one clash.one_wins in
     let (t, t_wins, t_letter, t_body) = also.winner clash.other clash.other_wins in
-    record { one = s; other = t; one_wins = s_wins; other_wins = t_wins; bodies_differ = λ e. clash.bodies_differ (sym s_body ∙ e ∙ t_body) }
+    record {
+      one = s;
+      other = t;
+      one_wins = s_wins;
+      other_wins = t_wins;
+      bodies_differ = λ e. clash.bodies_differ (sym s_body ∙ e ∙ t_body);
+    }
 
 module _ {K B : Type 0} (h : Holidays) (entries : List (K × PublishedTerms B)) (closed : AreClosed entries) (first last : ℕ)
     (is_day : last ≤ last_day) where

@@ -48,7 +48,8 @@ module _ {K B : Type 0} (P : K × Terms B → Type 0) (Stops : K → Option Holi
         cond_both r.open_end (max r.terms.first window_last) r.terms.last IsDay
         (λ is. later r.terms.first window_last (takes.first k r.terms p) day) (λ is. takes.last k r.terms p)
 
-    parts_such : (k : K) (r : PublishedTerms B) (ps : List Part) → All (IsPart (Stops k r.code) (ended (prepared_last window_last r) r.terms)) ps
+    parts_such : (k : K) (r : PublishedTerms B) (ps : List Part)
+        → All (IsPart (Stops k r.code) (ended (prepared_last window_last r) r.terms)) ps
         → P (k, r.terms) → Each P (map (λ p. (k, part_terms r.terms p)) ps)
     parts_such k r [] are p = tt
     parts_such k r (q ∷ ps) are p =

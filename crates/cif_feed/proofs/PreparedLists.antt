@@ -1,5 +1,6 @@
 -- The prepared records of one published record more, and of all where the same days stop them.
-use Rattle.std.proofs.Common.{◌≡◌, ◌↔◌, ◌⊎◌, inl, inr, ⊎_elim, ℕ, ◌+◌, ◌<◌, ◌≤◌, List, [], ◌∷◌, ◌++◌, Option, None, Some, Contains, map, max, take}
+use Rattle.std.proofs.Common.{◌≡◌, ◌↔◌, ◌⊎◌, inl, inr, ⊎_elim, ℕ, ◌+◌, ◌<◌}
+use Rattle.std.proofs.Common.{List, [], ◌∷◌, ◌++◌, Option, None, Some, Contains, map, take}
 use Rattle.std.proofs.Common.{length, get_or, refl, sym, ap, ◌∙◌, subst, append_assoc, append-nil, arith}
 use Rattle.std.proofs.lemmas.List.{map-append, take_more}
 use Rattle.std.proofs.lemmas.Simd.{map-map}
@@ -25,7 +26,8 @@ use Rattle.cif_feed.proofs.PartLists.{parts-same}
 
 -- the prepared records as those of an extract
 pub prepared-associations : (xs : List (PreparedRecord Association ℕ))
-    → records_on {K = AssocKey} {B = AssocBody} (λ (a : Association). a.key) association_terms xs ≡ association_entries (map association_on xs)
+    → records_on {K = AssocKey} {B = AssocBody} (λ (a : Association). a.key) association_terms xs
+    ≡ association_entries (map association_on xs)
 prepared-associations xs = sym (map-map association_entry association_on xs)
 
 pub prepared-schedules : (xs : List (PreparedRecord Schedule ℕ))

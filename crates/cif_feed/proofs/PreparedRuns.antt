@@ -183,7 +183,8 @@ module _ {K B : Type 0} (Stops : K → Option HolidayCode → ℕ → Type 0) (w
             let part_on : Applies (part_terms e.1.terms p) d = subst (λ (t : Terms B). Applies t d) terms on in
             let upto : d ≤ prepared_last window_last e.1 =
             (let ends : p.last ≤ prepared_last window_last e.1 =
-            (All-contains (IsPart (Stops e.0 e.1.code) (ended (prepared_last window_last e.1) e.1.terms)) parts p own.are.are listed).upto in
+            (All-contains (IsPart (Stops e.0 e.1.code) (ended (prepared_last window_last e.1) e.1.terms))
+            parts p own.are.are listed).upto in
             let unfinished : d ≤ p.last = part_on.unfinished in omega arith) in
             let applies =
             applies-part (Stops e.0 e.1.code) e.1.terms (prepared_last window_last e.1) parts own.are d
@@ -215,8 +216,14 @@ module _ {K B : Type 0} (Stops : K → Option HolidayCode → ℕ → Type 0) (w
         record { winner = match-wins d (of_key prepared k) (λ r. CountOn h entries k d r) to back },
         record { winner = match-wins d (λ r. CountOn h entries k d r) (of_key prepared k) back to },
       );
-      runs = λ o. (match-runs d (of_key prepared k) (λ r. CountOn h entries k d r) to back o, match-runs d (λ r. CountOn h entries k d r) (of_key prepared k) back to o);
-      clear = (match-clear d (of_key prepared k) (λ r. CountOn h entries k d r) to back, match-clear d (λ r. CountOn h entries k d r) (of_key prepared k) back to);
+      runs = λ o. (
+        match-runs d (of_key prepared k) (λ r. CountOn h entries k d r) to back o,
+        match-runs d (λ r. CountOn h entries k d r) (of_key prepared k) back to o,
+      );
+      clear = (
+        match-clear d (of_key prepared k) (λ r. CountOn h entries k d r) to back,
+        match-clear d (λ r. CountOn h entries k d r) (of_key prepared k) back to,
+      );
     }
       where
         to : Match (of_key prepared k) (λ r. CountOn h entries k d r) d

@@ -72,7 +72,8 @@ abbrev pub AreAllFound : ExtractParts → List DroppedKey → List DroppedKey �
 AreAllFound x known all associations trains = (between : List DroppedKey)
     × AreFound key_cmp clash.Association (λ (rank key : AssocKey). rank ≡ key) (association_entries x.associations) x.header.first
     (x.header.last + 1) known between associations
-    × AreFound (slice_cmp nat_cmp) clash.Train IsNumberOf (schedule_entries x.schedules) x.header.first (x.header.last + 1) between all trains
+    × AreFound (slice_cmp nat_cmp) clash.Train IsNumberOf (schedule_entries x.schedules) x.header.first (x.header.last + 1)
+    between all trains
 
 -- day d stops the records of key k with this code: a holiday of the code, or one of the days that the key has here
 abbrev pub IsStopAmong : {K : Type 0} → Holidays → (K → List ℕ) → K → Option HolidayCode → ℕ → Type 0

@@ -13,4 +13,5 @@ stretches_of-requires-clause-alike g c = rw (
     (alike-none (map g.E.Entry.terms c.args.entries.now) c.args.members.now)
 
 pub returns-then-members-lt2 : goal.returns-then-members-lt2
-returns-then-members-lt2 g c = rw (c.new.ensures.items) (dates-alone _ _ _ _ (search rules) (let order = c.args.window.now.in_order in omega arith))
+returns-then-members-lt2 g c =
+    rw (c.new.ensures.items) (dates-alone _ _ _ _ (search rules) (let order = c.args.window.now.in_order in omega arith))

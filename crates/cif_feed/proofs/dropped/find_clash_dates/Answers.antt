@@ -1,5 +1,5 @@
 -- Key by key (`FoundKeys`): the first run of positions is all of a key, whose clash dates are found.
-use Rattle.std.proofs.Common.{◌≡◌, ◌<◌, ◌+◌, ◌∙◌, List, [], ℕ, length, sym, subst, take}
+use Rattle.std.proofs.Common.{◌<◌, ◌+◌, List, ℕ, length, sym, subst}
 use Rattle.std.specs.Prelude.{All}
 use Rattle.std.specs.BTreeMap.{get}
 use Rattle.std.proofs.lemmas.List.{nil_from_length}
@@ -18,7 +18,8 @@ loop-rest-init g c =
       within = subst (λ (rest : List ℕ). All (λ i. i < length c.args.entries.now) rest) (sym c.as_slice-rest.ensures.value)
           (all-within g.E.Entry.key g.E.Entry.terms c.args.entries.now c.in_ok-positions.positions.items c.in_ok-positions.ensures.within);
       found = subst (λ (rest : List ℕ). AreFoundUpTo g.E.Key.Ord.cmp es window.first (window.last + 1) g.E.NamedEntry.clash_of
-          g.E.Entry.stands_for c.args.told.now.items c.args.told.now.items (get g.E.Rank.Ord.cmp c.new-dates.result) rest) (sym c.as_slice-rest.ensures.value)
+          g.E.Entry.stands_for c.args.told.now.items c.args.told.now.items
+          (get g.E.Rank.Ord.cmp c.new-dates.result) rest) (sym c.as_slice-rest.ensures.value)
           (found-nothing g.E.Key.Ord.cmp es window.first (window.last + 1) g.E.NamedEntry.clash_of g.E.Entry.stands_for
           c.args.told.now.items c.in_ok-positions.positions.items c.in_ok-positions.ensures.whole c.in_ok-positions.ensures.rising
           (get g.E.Rank.Ord.cmp c.new-dates.result)

@@ -1,9 +1,8 @@
 -- Stop by stop (`CutAt`): a cut ends a part, and after it another begins, unless the entry ends there.
-use Rattle.std.proofs.Common.{◌≡◌, ◌<◌, ◌≤◌, ◌+◌, ◌∙◌, ◌⊎◌, inl, inr, ⊎_elim, ℕ, List, Bool, rules, arith, sym, subst}
+use Rattle.std.proofs.Common.{◌<◌, ◌≤◌, ◌+◌, ◌∙◌, inl, inr, ⊎_elim, ℕ, List, Bool, rules, arith, sym, subst}
 use Rattle.std.proofs.lemmas.Bool.{cases_lt, false≢true}
 use Rattle.std.proofs.lemmas.List.{get_or_read}
 use Rattle.std.proofs.lemmas.Result.{IfOk-weaker}
-use Rattle.cif_calendar.specs.Applies.{IsAmongDates}
 use Rattle.cif_columns.specs.Day.{weekday_of}
 use Rattle.cif_columns.specs.DaysRun.{RunsOn}
 use Rattle.cif_feed.specs.Parts.{ended}
@@ -71,7 +70,8 @@ loop-stop-preserved g c =
           new stop w.in_ok-add_before.ensures c.loop-stop-test.true at on.begun on.unfinished
           (subst (λ (days : List Bool). RunsOn days (weekday_of stop)) c.days-days.ensures on.on_weekday) w.in-Some-next_up_to.ensures.0))
       | else-has w ↦ rw (w.prepared-is, w.first-is)
-          (cut-passed c.args.stops.now left k r c.requires.rising from old now c.loop-stop.first c.loop-stop.stop-index c.loop-stop.invariant
+          (cut-passed c.args.stops.now left k r c.requires.rising from old now c.loop-stop.first c.loop-stop.stop-index
+          c.loop-stop.invariant
           stop at (⊎_elim
           (λ (before : stop < c.loop-stop.first). inl before)
           (λ (late : c.loop-stop.first ≤ stop). inr (λ runs. false≢true (sym w.if-has.false ∙ c.has.ensures.1 (record {

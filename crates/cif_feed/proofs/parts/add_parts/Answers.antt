@@ -1,5 +1,5 @@
 -- Where there is no clash date the holidays alone stop the record; else both, in one list.
-use Rattle.std.proofs.Common.{◌≡◌, ◌⊎◌, inl, ⊎_elim, ℕ, List, [], Contains, length, rules, subst, sym}
+use Rattle.std.proofs.Common.{◌≡◌, ◌⊎◌, inl, ⊎_elim, ℕ, List, Contains, length, rules, subst, sym}
 use Rattle.std.proofs.lemmas.List.{nil_from_length}
 use Rattle.std.proofs.lemmas.Result.{IfOk-weaker}
 use Rattle.cif_calendar.proofs.RisingLists.{Contains-none}

@@ -1,5 +1,5 @@
 -- Both lists stand in one, which is sorted.
-use Rattle.std.proofs.Common.{◌≡◌, ◌∙◌, ◌++◌, inl, inr, ⊎_elim, ℕ, List, Contains, ap, subst, sym}
+use Rattle.std.proofs.Common.{◌∙◌, ◌++◌, ⊎_elim, ℕ, List, Contains, ap, subst, sym}
 use Rattle.std.proofs.lemmas.List.Elements.{Contains-append_cases, Contains-append_left, Contains-append_right}
 use Rattle.std.proofs.lemmas.List.Sorted.{Contains-permutation, IsNonDecreasingBy-from_sort, IsPermutation-sym}
 use Rattle.cif_feed.proofs.parts.gather.Goals as goal

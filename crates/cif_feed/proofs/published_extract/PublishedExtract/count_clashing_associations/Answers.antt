@@ -1,10 +1,7 @@
 -- One association more, which applies on a clash date or not.
-use Rattle.std.proofs.Common.{◌≡◌, ◌↔◌, ◌∙◌, ℕ, Bool, List, None, Contains, IsTrue, arith, subst, sym, take_all}
+use Rattle.std.proofs.Common.{◌∙◌, List, None, Contains, arith, subst, sym, take_all}
 use Rattle.std.proofs.lemmas.Bool.{false≢true}
-use Rattle.cif_calendar.specs.Entries.{association_terms}
 use Rattle.cif_feed.specs.CutCount.{AppliesOnAny, IsCountOf}
-use Rattle.cif_feed.specs.Parts.{ended}
-use Rattle.cif_feed.specs.Published.{AppliesAsPublished}
 use Rattle.cif_feed.specs.PublishedParts.{published_association_terms}
 use Rattle.cif_feed.specs.declared.published.PublishedAssociation.{PublishedAssociation}
 use Rattle.cif_feed.proofs.CutCounts.{count-more_no, count-more_yes, on-any}
@@ -36,7 +33,8 @@ loop-one-preserved c =
 
 pub returns-clause-count : goal.returns-clause-count
 returns-clause-count c = λ days reads.
-    let P = λ (x : PublishedAssociation). AppliesOnAny (Contains (days x.association.key)) c.args.holidays.now c.args.self.now.header.last (published_association_terms x) in
+    let P = λ (x : PublishedAssociation). AppliesOnAny (Contains (days x.association.key)) c.args.holidays.now
+    c.args.self.now.header.last (published_association_terms x) in
     subst (λ (l : List PublishedAssociation). IsCountOf P l c.loop-one.count)
     (take_all c.loop-one.one-index c.as_slice-associations.result.now c.loop-one-test.false ∙ c.as_slice-associations.ensures.value)
     (c.loop-one.invariant.1 days reads)

@@ -1,10 +1,7 @@
 -- One schedule more, which applies on a clash date or not.
-use Rattle.std.proofs.Common.{◌≡◌, ◌↔◌, ◌∙◌, ℕ, Bool, List, Contains, IsTrue, arith, subst, sym, take_all}
+use Rattle.std.proofs.Common.{◌∙◌, List, Contains, arith, subst, sym, take_all}
 use Rattle.std.proofs.lemmas.Bool.{false≢true}
-use Rattle.cif_calendar.specs.Entries.{schedule_terms}
 use Rattle.cif_feed.specs.CutCount.{AppliesOnAny, IsCountOf}
-use Rattle.cif_feed.specs.Parts.{ended}
-use Rattle.cif_feed.specs.Published.{AppliesAsPublished}
 use Rattle.cif_feed.specs.PublishedParts.{published_schedule_terms}
 use Rattle.cif_feed.specs.declared.published.PublishedSchedule.{PublishedSchedule}
 use Rattle.cif_feed.proofs.CutCounts.{count-more_no, count-more_yes, on-any}
@@ -16,7 +13,8 @@ loop-one-preserved c =
     let (few, count) = c.loop-one.invariant in
     let h = c.args.holidays.now in
     let r = published_schedule_terms c.one-item.result in
-    let decided = on-any h c.args.self.now.header.last r c.prepared_last-last.result (c.prepared_last-last.ensures.last c.one-item.result.code)
+    let decided = on-any h c.args.self.now.header.last r c.prepared_last-last.result
+    (c.prepared_last-last.ensures.last c.one-item.result.code)
     c.dates_of-dates.result.now c.applies_on_any.result c.applies_on_any.ensures in
     elim c.if-applies_on_any.branch [
       | then-applies_on_any w ↦ rw w.count-is (
@@ -36,7 +34,8 @@ loop-one-preserved c =
 
 pub returns-clause-count : goal.returns-clause-count
 returns-clause-count c = λ days reads.
-    let P = λ (x : PublishedSchedule). AppliesOnAny (Contains (days x.schedule.uid)) c.args.holidays.now c.args.self.now.header.last (published_schedule_terms x) in
+    let P = λ (x : PublishedSchedule). AppliesOnAny (Contains (days x.schedule.uid)) c.args.holidays.now
+    c.args.self.now.header.last (published_schedule_terms x) in
     subst (λ (l : List PublishedSchedule). IsCountOf P l c.loop-one.count)
     (take_all c.loop-one.one-index c.as_slice-schedules.result.now c.loop-one-test.false ∙ c.as_slice-schedules.ensures.value)
     (c.loop-one.invariant.1 days reads)

@@ -10,5 +10,6 @@ use Rattle.cif_feed.proofs.published_extract.PublishedExtract.count_clashing_sch
 
 abbrev pub invariant-loop-one : goal.invariant-loop-one
 invariant-loop-one l = (l.count ≤ l.one-index) × ((days : List ℕ → List ℕ) → ReadsTrains days (get nat_cmp l.clash_dates)
-    → IsCountOf (λ (x : PublishedSchedule). AppliesOnAny (Contains (days x.schedule.uid)) l.holidays l.self.header.last (published_schedule_terms x))
+    → IsCountOf (λ (x : PublishedSchedule). AppliesOnAny (Contains (days x.schedule.uid)) l.holidays
+    l.self.header.last (published_schedule_terms x))
     (take l.one-index l.schedules) l.count)
