@@ -21,8 +21,8 @@ use Rattle.cif_feed.proofs.Cells.{decided}
 use Rattle.cif_feed.proofs.SaidLines.{cells_of, stand_same}
 
 -- deletions of one key
-one_deletion : {K R : Type 0} (key : R → K) (a b : Action K R) → transaction_of a ≡ transaction.Deleted → transaction_of b ≡ transaction.Deleted
-    → key_of key a ≡ key_of key b → a ≡ b
+one_deletion : {K R : Type 0} (key : R → K) (a b : Action K R) → transaction_of a ≡ transaction.Deleted
+    → transaction_of b ≡ transaction.Deleted → key_of key a ≡ key_of key b → a ≡ b
 one_deletion key (Deleted k) (Deleted l) p q e = ap Deleted e
 one_deletion key (Deleted k) (New r) p q e = cc
 one_deletion key (Deleted k) (Revised r) p q e = cc
@@ -44,7 +44,8 @@ same_key x y a b c d e =
     (y.base, y.associated, y.location, y.base_suffix, y.associated_suffix) = cc in
     ap (λ v. record { base = v.0; associated = v.1; location = v.2; base_suffix = v.3; associated_suffix = v.4 }) parts
 
-one_association_key : (l : List ℕ) (k q : AssociationKey) → AllStandIn l (association_key_rows k) → AllStandIn l (association_key_rows q) → k ≡ q
+one_association_key : (l : List ℕ) (k q : AssociationKey) → AllStandIn l (association_key_rows k)
+    → AllStandIn l (association_key_rows q) → k ≡ q
 one_association_key l k q s t =
     let keys = same_key k.0 q.0 (one_exactly _ k.0.base q.0.base s.0 t.0) (one_exactly _ k.0.associated q.0.associated s.1.0 t.1.0)
     (one_text_value (columns 38 44 l) k.0.location q.0.location s.1.1.1.0 t.1.1.1.0)
