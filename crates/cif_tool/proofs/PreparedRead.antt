@@ -54,19 +54,27 @@ silent contents errors told P old Memory = record { text = []; writes = refl; an
 module _ {R : Type 0} (remaining : R → Option (List ℕ)) (errors : R → Option ℕ) where
   pub as-feed : (s t : Source R) (h : Holidays) → IsResultOf remaining errors reading_holidays s t (Ok h) →
       AreHolidaysRead remaining errors (Some s) (Some t) (Ok h)
-  as-feed s t h call = (t, refl, record {
-    ok = call.ok;
-    fault = of_any _ _ (λ bytes. tt);
-    answers = tt;
-    source = call.source;
-    end = call.end;
-  })
+  as-feed s t h call = (
+    t,
+    refl,
+    record {
+      ok = call.ok;
+      fault = of_any _ _ (λ bytes. tt);
+      answers = tt;
+      source = call.source;
+      end = call.end;
+    },
+  )
 
   pub fault-as-feed : (s t : Source R) (hf : HolidayFault) (f : FeedFault) → f ≡ of_holiday_fault hf →
       IsResultOf remaining errors reading_holidays s t (Err hf) → AreHolidaysRead remaining errors (Some s) (Some t) (Err f)
-  fault-as-feed s t hf f is call = (t, refl, refuses remaining errors s t reading_as_feed f
-      (known_so (remaining (reader_of s)) _ _ (λ bytes h. (hf, is, h)) call.fault) (hf, is, call.answers)
-      (subst (λ b. MatchBool b (HasFailedToRead errors s t) (HasReadOn errors s t)) (same-read hf ∙ ap is_feed_read (sym is)) call.source))
+  fault-as-feed s t hf f is call = (
+    t,
+    refl,
+    refuses remaining errors s t reading_as_feed f
+        (known_so (remaining (reader_of s)) _ _ (λ bytes h. (hf, is, h)) call.fault) (hf, is, call.answers)
+        (subst (λ b. MatchBool b (HasFailedToRead errors s t) (HasReadOn errors s t)) (same-read hf ∙ ap is_feed_read (sym is)) call.source),
+  )
 
   -- the holidays are those that the bytes spell
   pub holidays-given : (source after : Option (Source R)) (given : Option (List ℕ)) (h : Holidays) →
@@ -110,72 +118,72 @@ prepare-refused h bytes after _ is = absurd is
 module _ {R W : Type 0} (remaining : R → Option (List ℕ)) (errors : R → Option ℕ) (contents : W → Option (List ℕ))
     (write_errors : W → Option ℕ) (drops : Bool) (holidays after : Option (Source R)) (first : Holidays)
     (at-first : AreHolidaysRead remaining errors holidays after (Ok first)) (h : Holidays) (same : h ≡ first) (source source_new : Source R)
-    where
-  abbrev Answer : List ℕ → Option Dropped → Type 0
-  Answer text told = OfHolidays remaining (λ given bytes. IsTold (IsPrepareAnswer drops given bytes text) told) holidays source
+  where
+    abbrev Answer : List ℕ → Option Dropped → Type 0
+    Answer text told = OfHolidays remaining (λ given bytes. IsTold (IsPrepareAnswer drops given bytes text) told) holidays source
 
-  -- what the call that prepares owes the sink
-  abbrev Written : Sink W → Sink W → Result Dropped FeedFault → Type 0
-  Written old mid result = (text : List ℕ) × FeedWrites contents write_errors text old mid result
-      × IfSome (remaining (reader_of source)) (λ bytes. Prepares h drops MAX_LINES bytes text result)
+    -- what the call that prepares owes the sink
+    abbrev Written : Sink W → Sink W → Result Dropped FeedFault → Type 0
+    Written old mid result = (text : List ℕ) × FeedWrites contents write_errors text old mid result
+        × IfSome (remaining (reader_of source)) (λ bytes. Prepares h drops MAX_LINES bytes text result)
 
-  read : AreHolidaysRead remaining errors holidays after (Ok h)
-  read = subst (λ x. AreHolidaysRead remaining errors holidays after (Ok x)) (sym same) at-first
+    read : AreHolidaysRead remaining errors holidays after (Ok h)
+    read = subst (λ x. AreHolidaysRead remaining errors holidays after (Ok x)) (sym same) at-first
 
-  prepared : (text bytes : List ℕ) (given : Option (List ℕ)) (t : Dropped) → AreHolidaysGiven remaining holidays given →
-      IsPreparedText h drops MAX_LINES bytes text t → IsPrepareAnswer drops given bytes text t
-  prepared text bytes given t are is = record {
-    holidays = h;
-    spelled = holidays-given remaining errors holidays after given h read are;
-    prepared = is;
-  }
-
-  some-told : (text : List ℕ) → IfSome (remaining (reader_of source)) (λ bytes. (t : Dropped) × IsPreparedText h drops MAX_LINES bytes text t) →
-      Answer text None
-  some-told text some given bytes are known =
-      let (t, is) = subst (λ o. IfSome o (λ b. (t : Dropped) × IsPreparedText h drops MAX_LINES b text t)) known some in
-      (t, prepared text bytes given t are is)
-
-  -- it isn't prepared
-  module _ (f : FeedFault) (result : Result Dropped FeedFault) (is : result ≡ Err f) where
-    abbrev Answers : Sink W → Sink W → Result Dropped FeedFault → Type 0
-    Answers = FeedAnswers contents write_errors (λ d. d) Answer
-
-    fails : (old mid : Sink W) (e : FeedFault) → Written old mid (Err e) → Answers old mid (Err e)
-    fails old mid (Extract fault.Write) w = record { text = w.0; writes = w.1; answer = some-told w.0 w.2 }
-    fails old mid (Extract _) w = record { text = w.0; writes = w.1; answer = tt }
-    fails old mid _ w = record { text = w.0; writes = w.1; answer = tt }
-
-    pub unprepared-answer : (old mid : Sink W) → Written old mid (Err f) → Answers old mid result
-    unprepared-answer old mid w = subst (Answers old mid) (sym is) (fails old mid f w)
-
-    module _ (kept : Option PublishedExtract) (call : IsResultOf remaining errors (preparing h MAX_LINES kept) source source_new (Err f))
-      where
-      pub unprepared-fault : OfHolidays remaining (λ given bytes. IfErr result (IsPrepareFault given bytes)) holidays source
-      unprepared-fault given bytes are known = subst (λ r. IfErr r (IsPrepareFault given bytes)) (sym is) (⊎_elim inl
-          (λ why. inr (inr (h, holidays-given remaining errors holidays after given h read are, why)))
-          (prepare-refused h bytes (unread_of remaining source_new) f
-          (fault-of (preparing h MAX_LINES kept) remaining errors source source_new bytes known f call)))
-
-  -- what was prepared is handed on
-  module _ (old mid new : Sink W) (a : Dropped) (w : Written old mid (Ok a)) where
-    pub prepared-answer : HasWritten contents write_errors w.0 old new → FeedAnswers contents write_errors (λ d. d) Answer old new (Ok a)
-    prepared-answer written = record {
-      text = w.0;
-      writes = written;
-      answer = λ given bytes are known. prepared w.0 bytes given a are
-          (subst (λ o. IfSome o (λ b. IsPreparedText h drops MAX_LINES b w.0 a)) known w.2);
+    prepared : (text bytes : List ℕ) (given : Option (List ℕ)) (t : Dropped) → AreHolidaysGiven remaining holidays given →
+        IsPreparedText h drops MAX_LINES bytes text t → IsPrepareAnswer drops given bytes text t
+    prepared text bytes given t are is = record {
+      holidays = h;
+      spelled = holidays-given remaining errors holidays after given h read are;
+      prepared = is;
     }
 
-    -- or isn't
-    pub unhanded-answer : (result : Result Dropped FeedFault) (f : FeedFault) → result ≡ Err f → f ≡ Extract fault.Write →
-        HasFailed contents write_errors w.0 old new → FeedAnswers contents write_errors (λ d. d) Answer old new result
-    unhanded-answer result f is write failed =
-        subst (FeedAnswers contents write_errors (λ d. d) Answer old new) (sym (is ∙ ap Err write)) record {
-          text = w.0;
-          writes = failed;
-          answer = some-told w.0 (known_so (remaining (reader_of source)) _ _ (λ bytes p. (a, p)) w.2);
-        }
+    some-told : (text : List ℕ) → IfSome (remaining (reader_of source)) (λ bytes. (t : Dropped) × IsPreparedText h drops MAX_LINES bytes text t) →
+        Answer text None
+    some-told text some given bytes are known =
+        let (t, is) = subst (λ o. IfSome o (λ b. (t : Dropped) × IsPreparedText h drops MAX_LINES b text t)) known some in
+        (t, prepared text bytes given t are is)
+
+    -- it isn't prepared
+    module _ (f : FeedFault) (result : Result Dropped FeedFault) (is : result ≡ Err f) where
+      abbrev Answers : Sink W → Sink W → Result Dropped FeedFault → Type 0
+      Answers = FeedAnswers contents write_errors (λ d. d) Answer
+
+      fails : (old mid : Sink W) (e : FeedFault) → Written old mid (Err e) → Answers old mid (Err e)
+      fails old mid (Extract fault.Write) w = record { text = w.0; writes = w.1; answer = some-told w.0 w.2 }
+      fails old mid (Extract _) w = record { text = w.0; writes = w.1; answer = tt }
+      fails old mid _ w = record { text = w.0; writes = w.1; answer = tt }
+
+      pub unprepared-answer : (old mid : Sink W) → Written old mid (Err f) → Answers old mid result
+      unprepared-answer old mid w = subst (Answers old mid) (sym is) (fails old mid f w)
+
+      module _ (kept : Option PublishedExtract) (call : IsResultOf remaining errors (preparing h MAX_LINES kept) source source_new (Err f))
+        where
+          pub unprepared-fault : OfHolidays remaining (λ given bytes. IfErr result (IsPrepareFault given bytes)) holidays source
+          unprepared-fault given bytes are known = subst (λ r. IfErr r (IsPrepareFault given bytes)) (sym is) (⊎_elim inl
+              (λ why. inr (inr (h, holidays-given remaining errors holidays after given h read are, why)))
+              (prepare-refused h bytes (unread_of remaining source_new) f
+              (fault-of (preparing h MAX_LINES kept) remaining errors source source_new bytes known f call)))
+
+    -- what was prepared is handed on
+    module _ (old mid new : Sink W) (a : Dropped) (w : Written old mid (Ok a)) where
+      pub prepared-answer : HasWritten contents write_errors w.0 old new → FeedAnswers contents write_errors (λ d. d) Answer old new (Ok a)
+      prepared-answer written = record {
+        text = w.0;
+        writes = written;
+        answer = λ given bytes are known. prepared w.0 bytes given a are
+            (subst (λ o. IfSome o (λ b. IsPreparedText h drops MAX_LINES b w.0 a)) known w.2);
+      }
+
+      -- or isn't
+      pub unhanded-answer : (result : Result Dropped FeedFault) (f : FeedFault) → result ≡ Err f → f ≡ Extract fault.Write →
+          HasFailed contents write_errors w.0 old new → FeedAnswers contents write_errors (λ d. d) Answer old new result
+      unhanded-answer result f is write failed =
+          subst (FeedAnswers contents write_errors (λ d. d) Answer old new) (sym (is ∙ ap Err write)) record {
+            text = w.0;
+            writes = failed;
+            answer = some-told w.0 (known_so (remaining (reader_of source)) _ _ (λ bytes p. (a, p)) w.2);
+          }
 
 module _ {R : Type 0} (remaining : R → Option (List ℕ)) (errors : R → Option ℕ) (source source_new : Source R) (h : Holidays)
     (kept : Option PublishedExtract) where

@@ -64,8 +64,14 @@ module _ {R : Type 0} (remaining : R → Option (List ℕ)) (errors : R → Opti
   done-in-turn (s ∷ ss) after old new waived given (read, others, is, mid, first, way) (bytes, more, same, known, are) =
       subst (λ g. AreUpdatesDone lenient MAX_LINES old g new waived) (sym same)
       (⊎_elim (λ no. let e : Ok tt ≡ Err no.0 = no.1 in absurd (cc))
-      (λ on. (mid, first, on.0, answer-of (doing lenient old mid first) remaining errors s read bytes known tt on.2,
-      done-in-turn ss others mid new on.0 more on.3 are, on.1)) way)
+      (λ on. (
+        mid,
+        first,
+        on.0,
+        answer-of (doing lenient old mid first) remaining errors s read bytes known tt on.2,
+        done-in-turn ss others mid new on.0 more on.3 are,
+        on.1,
+      )) way)
 
   -- or one isn't, for this
   pub refused-in-turn : (sources after : List (Source R)) (old new : PublishedParts) (waived : List RefusedLine) (given : List (List ℕ))
@@ -184,8 +190,16 @@ module _ {R W A : Type 0} (remaining : R → Option (List ℕ)) (errors : R → 
 
   read-first : (done : Result (Unit {0}) FeedFault) (result : Result A FeedFault) → InTurn done → EndsAs told waived done result →
       AreUpdatesRead remaining errors told lenient full full_new updates updates_new result
-  read-first done result turn ends = inr (extract, new, waived, done, call, subst
-      (λ e. AreDoneInTurn remaining errors lenient (published_parts e) new updates updates_new waived done) same turn, ends)
+  read-first done result turn ends = inr (
+    extract,
+    new,
+    waived,
+    done,
+    call,
+    subst
+        (λ e. AreDoneInTurn remaining errors lenient (published_parts e) new updates updates_new waived done) same turn,
+    ends,
+  )
 
   -- an update isn't done
   module _ (f : FeedFault) (turn : InTurn (Err f)) (result : Result A FeedFault) (is : result ≡ Err f) where

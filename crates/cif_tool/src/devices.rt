@@ -34,14 +34,20 @@ pub(crate) struct ExtractInput<'a, R: Files + Input> {
 enum Device<'a, R: Files + Input> {
     Unlocked(&'a R),
     Standard(R::Reader),
-    Named { files: &'a R, name: &'a str },
+    Named {
+        files: &'a R,
+        name: &'a str,
+    },
     Opened {
         file: R::File,
         files: &'a R,
         name: &'a str,
     },
     /// A file that was read to its end, and can be read again: it is closed, as there may be many.
-    Ended { files: &'a R, name: &'a str },
+    Ended {
+        files: &'a R,
+        name: &'a str,
+    },
 }
 
 impl<'a, R: Files + Input> ExtractInput<'a, R> {
@@ -131,7 +137,9 @@ impl<R: Files + Input> Device<'_, R> {
             Device::Standard(reader) => reader.read(buf),
             Device::Opened { file, files, name } => {
                 let count = file.read(buf);
-                if matches!(count, Ok(0)) && !buf.is_empty() && file.seek(SeekFrom::Start(0)).is_ok()
+                if matches!(count, Ok(0))
+                    && !buf.is_empty()
+                    && file.seek(SeekFrom::Start(0)).is_ok()
                 {
                     *self = Device::Ended {
                         files: *files,

@@ -57,6 +57,8 @@ fn source_of_holidays<'a, R: Files + Input>(
 }
 
 /// Writes the prepared extract of the last input, with the holidays of the one before it, if there is one.
+// Inlined, it would keep its inputs on the stack beside those of `update`.
+#[inline(never)]
 fn prepare<R: Files + Input + Print + AllocGlobal, W: WriteDevice>(
     rt: &R,
     call: &Call,
@@ -77,7 +79,14 @@ fn prepare<R: Files + Input + Print + AllocGlobal, W: WriteDevice>(
         extract: None,
         holidays: None,
     });
-    let answer = prepared(alloc, &mut holidays, &mut source, output, drop_clashes, &mut kept);
+    let answer = prepared(
+        alloc,
+        &mut holidays,
+        &mut source,
+        output,
+        drop_clashes,
+        &mut kept,
+    );
     let status = end_prepare(&answer, errors);
     if call.verbose {
         let mut message = Message::new(alloc);
@@ -143,15 +152,15 @@ fn add_prepared<R: Files + Input>(
 // ---- update
 
 /// Writes what the updates make of the full extract, the first input.
-fn update<'a, R: Files + Input + Print + AllocGlobal, W: WriteDevice>(
-    rt: &'a R,
-    call: &'a Call,
+#[inline(never)]
+fn update<R: Files + Input + Print + AllocGlobal, W: WriteDevice>(
+    rt: &R,
+    call: &Call,
     lenient: bool,
     errors: &mut Sink<W>,
 ) -> u8 {
     let alloc = rt.alloc();
-    let mut full = source_of(rt, "FULL (", &call.inputs.first);
-    let Ok(mut updates) = sources_of_updates(rt, call.inputs.rest.as_slice()) else {
+    let Ok(mut sources) = sources_of_update(rt, &call.inputs) else {
         return end_update(&Err(FeedFault::Extract(Fault::Memory)), &[], errors);
     };
     let mut written = Written::new();
@@ -165,30 +174,19 @@ fn update<'a, R: Files + Input + Print + AllocGlobal, W: WriteDevice>(
         full: None,
         done: Vec::new(alloc),
     });
-    let answer = updated(
-        alloc,
-        &mut full,
-        updates.as_mut_slice(),
-        output,
-        lenient,
-        &mut kept,
-    );
+    let answer = updated(alloc, sources.as_mut_slice(), output, lenient, &mut kept);
     let status = end_update(&answer, kept.done.as_slice(), errors);
     if call.verbose {
         let mut message = Message::new(alloc);
         match &answer {
-            Ok(()) => add_updated(&full, updates.as_slice(), &kept, &mut message),
+            Ok(()) => add_updated(sources.as_slice(), &kept, &mut message),
             Err(fault) => {
-                let mut input = full.reader();
-                for update in &updates {
-                    if update.reader().is_touched() {
-                        input = update.reader();
+                if let Some(input) = last_touched(sources.as_slice()) {
+                    if let FeedFault::OutOfSequence { line } = fault {
+                        add_references(input, *line, &kept, &mut message);
                     }
+                    add_feed_fault(alloc, fault, input, &written, &mut message);
                 }
-                if let FeedFault::OutOfSequence { line } = fault {
-                    add_references(input, *line, &kept, &mut message);
-                }
-                add_feed_fault(alloc, fault, input, &written, &mut message);
             }
         }
         message.tell(errors);
@@ -196,45 +194,62 @@ fn update<'a, R: Files + Input + Print + AllocGlobal, W: WriteDevice>(
     status
 }
 
-/// The updates of these names.
-fn sources_of_updates<'a, R: Files + Input + AllocGlobal>(
+/// The full extract, and the updates.
+fn sources_of_update<'a, R: Files + Input + AllocGlobal>(
     rt: &'a R,
-    names: &'a [String],
+    inputs: &'a InputNames,
 ) -> Result<Vec<Source<ExtractInput<'a, R>>>, AllocError> {
-    let mut sources = Vec::with_capacity(rt.alloc(), names.len())?;
-    for name in names {
+    let mut sources = Vec::new(rt.alloc());
+    sources.push(source_of(rt, "FULL (", &inputs.first))?;
+    for name in &inputs.rest {
         sources.push(source_of(rt, "UPDATE (", name))?;
     }
     Ok(sources)
 }
 
-/// Writes what the updates make of the full extract on the output, through a buffer.
+/// Writes what the updates make of the full extract, the first source, on the output, through a buffer.
 fn updated<R: ReadDevice, W: WriteDevice + Drop>(
     alloc: Global,
-    full: &mut Source<R>,
-    updates: &mut [Source<R>],
+    sources: &mut [Source<R>],
     output: W,
     lenient: bool,
     kept: &mut KeptUpdate,
 ) -> Result<(), FeedFault> {
     let mut output = buffered(alloc, output).map_err(FeedFault::Extract)?;
-    answer_update(alloc, full, updates, &mut output, lenient, kept)
+    match sources.split_first_mut() {
+        Some((full, updates)) => { answer_update(alloc, full, updates, &mut output, lenient, kept) }
+        None => Ok(()),
+    }
+}
+
+/// The input that was read last, if one was.
+fn last_touched<'s, 'a, R: Files + Input>(
+    sources: &'s [Source<ExtractInput<'a, R>>],
+) -> Option<&'s ExtractInput<'a, R>> {
+    let mut last = None;
+    for source in sources {
+        if source.reader().is_touched() {
+            last = Some(source.reader());
+        }
+    }
+    last
 }
 
 /// Adds what was read of the full extract, and what each update did.
 fn add_updated<R: Files + Input>(
-    full: &Source<ExtractInput<'_, R>>,
-    updates: &[Source<ExtractInput<'_, R>>],
+    sources: &[Source<ExtractInput<'_, R>>],
     kept: &KeptUpdate,
     message: &mut Message,
 ) {
-    if let Some(read) = &kept.full {
+    if let Some((full, updates)) = sources.split_first()
+        && let Some(read) = &kept.full
+    {
         add_window(full.reader(), &read.header, message);
         let text = counts_of(&read.passed, read.open_ends);
         add_of(full.reader(), text.as_str(), message);
-    }
-    for (update, done) in updates.iter().zip(&kept.done) {
-        add_done(update.reader(), done, message);
+        for (update, done) in updates.iter().zip(&kept.done) {
+            add_done(update.reader(), done, message);
+        }
     }
 }
 
