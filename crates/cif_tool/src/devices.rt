@@ -128,7 +128,7 @@ impl<'a, R: Files + Input> ExtractInput<'a, R> {
     }
 }
 
-impl<R: Files + Input> Device<'_, R> {
+impl<'a, R: Files + Input> Device<'a, R> {
     /// Reads as `Read` does, and touches the input first if it hasn't been touched.
     fn read(&mut self, buf: &mut [u8]) -> io::Result<usize>
         ensures { ReadsAtMost result buf.new }
@@ -150,10 +150,8 @@ impl<R: Files + Input> Device<'_, R> {
             }
             Device::Ended { .. } => Ok(0),
             Device::Unlocked(rt) => {
-                let mut reader = rt.reader();
-                let count = reader.read(buf);
-                *self = Device::Standard(reader);
-                count
+                let rt = *rt;
+                self.read_standard(rt, buf)
             }
             Device::Named { files, name } => {
                 // A copy never has the descriptor of a standard stream, of which one may be closed.
@@ -167,6 +165,18 @@ impl<R: Files + Input> Device<'_, R> {
                 count
             }
         }
+    }
+
+    /// Reads the standard input first.
+    // Inlined, it would keep some kilobytes on the stack of each read.
+    #[inline(never)]
+    fn read_standard(&mut self, rt: &'a R, buf: &mut [u8]) -> io::Result<usize>
+        ensures { ReadsAtMost result buf.new }
+    {
+        let mut reader = rt.reader();
+        let count = reader.read(buf);
+        *self = Device::Standard(reader);
+        count
     }
 }
 

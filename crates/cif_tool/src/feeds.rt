@@ -195,6 +195,8 @@ fn update<R: Files + Input + Print + AllocGlobal, W: WriteDevice>(
 }
 
 /// The full extract, and the updates.
+// Inlined, it would keep copies of inputs on the stack of its caller.
+#[inline(never)]
 fn sources_of_update<'a, R: Files + Input + AllocGlobal>(
     rt: &'a R,
     inputs: &'a InputNames,
