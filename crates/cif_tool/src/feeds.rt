@@ -67,8 +67,9 @@ fn prepare<R: Files + Input + Print + AllocGlobal, W: WriteDevice>(
 ) -> u8 {
     let alloc = rt.alloc();
     let mut holidays = source_of_holidays(rt, &call.inputs);
-    let file = call.inputs.rest.first().unwrap_or(&call.inputs.first);
-    let mut source = source_of(rt, "", file);
+    let Ok(mut sources) = sources_of_prepare(rt, &call.inputs) else {
+        return end_prepare(&Err(FeedFault::Extract(Fault::Memory)), errors);
+    };
     let mut written = Written::new();
     let output = Output {
         writer: io::writer(rt),
@@ -79,10 +80,11 @@ fn prepare<R: Files + Input + Print + AllocGlobal, W: WriteDevice>(
         extract: None,
         holidays: None,
     });
+    let extract = sources.as_mut_slice();
     let answer = prepared(
         alloc,
         &mut holidays,
-        &mut source,
+        extract,
         output,
         drop_clashes,
         &mut kept,
@@ -93,34 +95,52 @@ fn prepare<R: Files + Input + Print + AllocGlobal, W: WriteDevice>(
         match &answer {
             Ok(dropped) => {
                 let clashing = drop_clashes.then_some(dropped.records);
-                add_prepared(source.reader(), &kept, clashing, &mut message);
+                if let Some(source) = sources.first() {
+                    add_prepared(source.reader(), &kept, clashing, &mut message);
+                }
             }
-            Err(fault) => {
-                let input = match &holidays {
-                    Some(holidays) if !source.reader().is_touched() => holidays.reader(),
-                    _ => source.reader(),
-                };
-                add_feed_fault(alloc, fault, input, &written, &mut message);
-            }
+            Err(fault) => match (last_touched(sources.as_slice()), &holidays) {
+                (Some(input), _) => add_feed_fault(alloc, fault, input, &written, &mut message),
+                (None, Some(holidays)) => {
+                    add_feed_fault(alloc, fault, holidays.reader(), &written, &mut message);
+                }
+                (None, None) => {}
+            },
         }
         message.tell(errors);
     }
     status
 }
 
-/// Writes the prepared extract of the source on the output, through a buffer.
-// Inlined, it would keep what is read ahead on the stack of its caller, beside two inputs.
+/// The extract, the last input.
+// Inlined, it would keep copies of it on the stack of its caller.
+#[inline(never)]
+fn sources_of_prepare<'a, R: Files + Input + AllocGlobal>(
+    rt: &'a R,
+    inputs: &'a InputNames,
+) -> Result<Vec<Source<ExtractInput<'a, R>>>, AllocError> {
+    let file = inputs.rest.first().unwrap_or(&inputs.first);
+    let mut sources = Vec::new(rt.alloc());
+    sources.push(source_of(rt, "", file))?;
+    Ok(sources)
+}
+
+/// Writes the prepared extract of the first source on the output, through a buffer.
+// Inlined, it would keep what is read ahead on the stack of its caller.
 #[inline(never)]
 fn prepared<R: ReadDevice, W: WriteDevice + Drop>(
     alloc: Global,
     holidays: &mut Option<Source<R>>,
-    source: &mut Source<R>,
+    sources: &mut [Source<R>],
     output: W,
     drop_clashes: bool,
     kept: &mut KeptPrepare,
 ) -> Result<Dropped, FeedFault> {
     let mut output = buffered(alloc, output).map_err(FeedFault::Extract)?;
-    answer_prepare(alloc, holidays, source, &mut output, drop_clashes, kept)
+    match sources.first_mut() {
+        Some(source) => answer_prepare(alloc, holidays, source, &mut output, drop_clashes, kept),
+        None => Err(FeedFault::Extract(Fault::Memory)),
+    }
 }
 
 /// Adds what was read of the extract that was prepared, and how many of its records were cut: by holidays, and by
