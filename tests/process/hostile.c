@@ -29,6 +29,7 @@ typedef int starter(program *, int, char **, void (*)(void), void (*)(void), voi
 typedef long reader(int, void *, size);
 typedef long writer(int, const void *, size);
 typedef int opener(const char *, int, unsigned);
+typedef int closer(int);
 
 extern void *dlsym(void *, const char *);
 extern char *getenv(const char *);
@@ -40,6 +41,7 @@ extern void (*signal(int, void (*)(int)))(int);
 #define BROKEN_PIPE_SIGNAL 13
 #define SECONDS 10
 #define TOLD 9
+#define CLOSED 0x7fffffff /* no descriptor has this number */
 
 static program *real_main;
 static int begun;
@@ -50,7 +52,7 @@ static size descriptor, most, after, nth, error;
 
 static size calls, moved;
 static int failed, told_again;
-static int ended = -1; /* the descriptor whose input is made to end */
+static int ended = -1; /* the descriptor whose input is made to end, or `CLOSED` once it is closed */
 
 static reader *real_read(void)
 {
@@ -209,4 +211,14 @@ int open(const char *path, int how, unsigned mode)
     if (answer >= 0)
         tell('o');
     return answer;
+}
+
+int close(int on)
+{
+    static closer *real;
+    if (!real)
+        real = (closer *)dlsym(NEXT, "close");
+    if (on == ended)
+        ended = CLOSED;
+    return real(on);
 }

@@ -1,5 +1,6 @@
 -- What comes of the sources of `prepare`, where the bytes that their readers give are known.
-use Rattle.std.proofs.Common.{◌≡◌, ◌∙◌, ◌⊎◌, ⊎_elim, ℕ, List, [], Option, None, Some, Result, Ok, Err, Bool, IfErr, IfOk, IfSome, ap, inl, inr, refl}
+use Rattle.std.proofs.Common.{◌≡◌, ◌∙◌, ◌⊎◌, ⊎_elim, ℕ, List, [], Option, None, Some, Result, Ok, Err, Bool, IfErr, IfOk, IfSome}
+use Rattle.std.proofs.Common.{ap, inl, inr, refl}
 use Rattle.std.proofs.Common.{subst, sym}
 use Rattle.std.specs.Prelude.{MatchResult}
 use Rattle.std.specs.Bool.{MatchBool}
@@ -73,7 +74,8 @@ module _ {R : Type 0} (remaining : R → Option (List ℕ)) (errors : R → Opti
     refl,
     refuses remaining errors s t reading_as_feed f
         (known_so (remaining (reader_of s)) _ _ (λ bytes h. (hf, is, h)) call.fault) (hf, is, call.answers)
-        (subst (λ b. MatchBool b (HasFailedToRead errors s t) (HasReadOn errors s t)) (same-read hf ∙ ap is_feed_read (sym is)) call.source),
+        (subst (λ b. MatchBool b (HasFailedToRead errors s t) (HasReadOn errors s t)) (same-read hf ∙ ap is_feed_read (sym is))
+        call.source),
   )
 
   -- the holidays are those that the bytes spell
@@ -138,7 +140,8 @@ module _ {R W : Type 0} (remaining : R → Option (List ℕ)) (errors : R → Op
       prepared = is;
     }
 
-    some-told : (text : List ℕ) → IfSome (remaining (reader_of source)) (λ bytes. (t : Dropped) × IsPreparedText h drops MAX_LINES bytes text t) →
+    some-told : (text : List ℕ) →
+        IfSome (remaining (reader_of source)) (λ bytes. (t : Dropped) × IsPreparedText h drops MAX_LINES bytes text t) →
         Answer text None
     some-told text some given bytes are known =
         let (t, is) = subst (λ o. IfSome o (λ b. (t : Dropped) × IsPreparedText h drops MAX_LINES b text t)) known some in
@@ -193,7 +196,8 @@ module _ {R : Type 0} (remaining : R → Option (List ℕ)) (errors : R → Opti
       IsResultOf remaining errors (preparing h MAX_LINES kept) source source_new result
   unhanded-read a result f is write call =
       subst (IsResultOf remaining errors (preparing h MAX_LINES kept) source source_new) (sym (is ∙ ap Err write))
-      (goes-on (preparing h MAX_LINES kept) (preparing h MAX_LINES kept) remaining errors source source_new a call (Err (Extract fault.Write))
+      (goes-on (preparing h MAX_LINES kept) (preparing h MAX_LINES kept) remaining errors source source_new a call
+      (Err (Extract fault.Write))
       (record { fault = λ bytes after p. tt; answers = tt; other = refl }))
 
 module _ {R : Type 0} (remaining : R → Option (List ℕ)) (errors : R → Option ℕ) (holidays after : Option (Source R))

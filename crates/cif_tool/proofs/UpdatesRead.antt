@@ -15,7 +15,8 @@ use Rattle.cif_extract.specs.ReadCall.{IsResultOf, ReadCall}
 use Rattle.cif_extract.specs.declared.fault.Fault.TheVariants.{Memory, Read, Refused, Write}
 use Rattle.cif_feed.specs.FeedFault.{IsFeedFault, IsOfFeed}
 use Rattle.cif_feed.specs.HolidayCode.{all_codes}
-use Rattle.cif_feed.specs.PublishedParts.{BytesSpellPublished, IsPublishedOf, PublishedParts, published_parts, published_text, reading_published}
+use Rattle.cif_feed.specs.PublishedParts.{BytesSpellPublished, IsPublishedOf, PublishedParts, published_parts, published_text}
+use Rattle.cif_feed.specs.PublishedParts.{reading_published}
 use Rattle.cif_feed.specs.Updated.{IsOfUpdate, IsOutcomeOf, IsUpdateFault as IsOneUpdateFault, IsUpdatedBy}
 use Rattle.cif_feed.specs.Updated.{updating}
 use Rattle.cif_feed.specs.UpdatesInTurn.{AreUpdatesDone, IsOneRefused, IsRefusedFor, IsWritten}
@@ -28,7 +29,8 @@ use Rattle.cif_feed.specs.declared.feed.FeedFault.TheVariants.{NotUpdate, OutOfS
 use Rattle.cif_feed.specs.declared.holiday_code.HolidayCodes.{HolidayCodes}
 use Rattle.cif_feed.specs.declared.published_extract.PublishedExtract.{PublishedExtract}
 use Rattle.cif_feed.specs.declared.update.Outcome.{Outcome}
-use Rattle.cif_tool.specs.FeedAnswer.{AreDoneInTurn, AreGiven, AreUpdatesRead, EndsAs, FeedAnswers, FeedFinishes, IsTold, IsUpdateFault, OfUpdates}
+use Rattle.cif_tool.specs.FeedAnswer.{AreDoneInTurn, AreGiven, AreUpdatesRead, EndsAs, FeedAnswers, FeedFinishes, IsTold}
+use Rattle.cif_tool.specs.FeedAnswer.{IsUpdateFault, OfUpdates}
 use Rattle.cif_tool.specs.FeedAnswer.{doing, waived_by}
 use Rattle.cif_tool.specs.declared.feed_answers.DoneUpdate.{DoneUpdate}
 
@@ -102,7 +104,8 @@ module _ {R : Type 0} (remaining : R → Option (List ℕ)) (errors : R → Opti
       AreDoneInTurn remaining errors lenient old new sources after waived (Err f) → IsOfUpdate MAX_LINES f
   faults-in-turn [] after old new waived f h = absurd h.1
   faults-in-turn (s ∷ ss) after old new waived f (read, others, is, mid, first, way) =
-      ⊎_elim (λ no. let same : no.0 ≡ f = cc in let call : IsResultOf remaining errors (doing lenient old mid first) s read (Err no.0) = no.3 in
+      ⊎_elim (λ no. let same : no.0 ≡ f = cc in
+      let call : IsResultOf remaining errors (doing lenient old mid first) s read (Err no.0) = no.3 in
       subst (IsOfUpdate MAX_LINES) same call.answers)
       (λ on. faults-in-turn ss others mid new on.0 f on.3) way
 

@@ -1,4 +1,4 @@
--- What `update` answers: a text on the output, and the lines that were waived.
+-- What `prepare` and `update` answer: a text on the output, and what is told beside it.
 use Rattle.std.specs.Prelude.{◌≡◌, ◌⊎◌, ℕ, ⊤, Bool, List, [], ◌∷◌, ◌++◌, Option, None, Some, IfErr, IfOk, Result, Ok, Err}
 use Rattle.std.specs.List.{flat_map}
 use Rattle.cif_columns.specs.Contents.{contents_of}
@@ -87,7 +87,8 @@ IsBadHoliday given fault = ⊥
 -- the codes that they name may stand; or a device failed, or memory ran out
 abbrev pub IsPrepareFault : Option (List ℕ) → List ℕ → FeedFault → Type 0
 IsPrepareFault given bytes fault = IsDeviceOrMemory fault ⊎ (IsBadHoliday given fault
-    ⊎ ((holidays : Holidays) × AreHolidaysOf given holidays × IsFirstOfFeed Full (codes_named holidays) MAX_LINES (contents_of bytes) fault))
+    ⊎ ((holidays : Holidays) × AreHolidaysOf given holidays
+    × IsFirstOfFeed Full (codes_named holidays) MAX_LINES (contents_of bytes) fault))
 
 -- why holidays aren't read, as a fault of feeds
 abbrev pub IsHolidayFeedFault : List ℕ → Unread → FeedFault → Type 0
@@ -112,7 +113,8 @@ AreHolidaysRead {R} remaining errors (Some source) after result = (read : Source
 abbrev pub IsPreparedInTurn : {R : Type 0} → (R → Option (List ℕ)) → (R → Option ℕ) → Option (Source R) → Option (Source R) → Source R →
     Source R → Result Dropped FeedFault → Type 0
 IsPreparedInTurn remaining errors holidays holidays_new source source_new result =
-    ((fault : FeedFault) × (result ≡ Err fault) × (source_new ≡ source) × AreHolidaysRead remaining errors holidays holidays_new (Err fault))
+    ((fault : FeedFault) × (result ≡ Err fault) × (source_new ≡ source)
+    × AreHolidaysRead remaining errors holidays holidays_new (Err fault))
     ⊎ ((h : Holidays) × (kept : Option PublishedExtract) × AreHolidaysRead remaining errors holidays holidays_new (Ok h)
     × IsResultOf remaining errors (preparing h MAX_LINES kept) source source_new result)
 
@@ -137,7 +139,8 @@ OfUpdates remaining P full updates = (bytes : List ℕ) (given : List (List ℕ)
 -- out
 abbrev pub IsUpdateFault : Bool → List ℕ → List (List ℕ) → FeedFault → Type 0
 IsUpdateFault lenient full updates fault =
-    IsDeviceOrMemory fault ⊎ (IsFirstOfFeed Full all_codes MAX_LINES (contents_of full) fault ⊎ IsRefused lenient MAX_LINES full updates fault)
+    IsDeviceOrMemory fault ⊎ (IsFirstOfFeed Full all_codes MAX_LINES (contents_of full) fault
+    ⊎ IsRefused lenient MAX_LINES full updates fault)
 
 -- reading an update and doing it, which makes `new` of `old` and waives these lines
 abbrev pub doing : Bool → PublishedParts → PublishedParts → List RefusedLine → ReadCall (Unit {0}) FeedFault

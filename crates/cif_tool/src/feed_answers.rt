@@ -52,7 +52,7 @@ pub struct ReadFeed {
 
 impl ReadFeed {
     /// That of a published extract.
-    pub fn of(extract: &PublishedExtract) -> ReadFeed {
+    pub(crate) fn of(extract: &PublishedExtract) -> ReadFeed {
         let mut open_ends = 0_u64;
         for association in extract.associations.as_slice() {
             open_ends = open_ends.saturating_add(u64::from(association.open_end));

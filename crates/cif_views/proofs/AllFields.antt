@@ -1,5 +1,6 @@
 -- The rows of associations, and of what is explained, have all fields; and those of records have all columns.
-use Rattle.std.proofs.Common.{◌≡◌, ℕ, ◌+◌, Bool, true, false, List, [], ◌∷◌, ◌++◌, Option, None, Some, append-nil, append_assoc, ap, codes, drop}
+use Rattle.std.proofs.Common.{◌≡◌, ℕ, ◌+◌, Bool, true, false, List, [], ◌∷◌, ◌++◌, Option, None, Some, append-nil, append_assoc, ap}
+use Rattle.std.proofs.Common.{codes, drop}
 use Rattle.std.proofs.Common.{refl, sym, take, ◌∙◌}
 use Rattle.std.proofs.Math.Seq.{take-add}
 use Rattle.std.proofs.lemmas.List.{drop-drop}

@@ -1,7 +1,8 @@
 -- The extract is prepared with the holidays that were read, and its text is handed on; or it isn't.
 use Rattle.std.proofs.Common.{Err, Ok, inr, subst, sym}
 use Rattle.cif_extract.proofs.ReadCalls.{at-fault}
-use Rattle.cif_tool.proofs.PreparedRead.{prepared-answer, prepared-read, unhanded-answer, unhanded-read, unprepared-answer, unprepared-fault}
+use Rattle.cif_tool.proofs.PreparedRead.{prepared-answer, prepared-read, unhanded-answer, unhanded-read, unprepared-answer}
+use Rattle.cif_tool.proofs.PreparedRead.{unprepared-fault}
 use Rattle.cif_tool.proofs.UpdatesRead.{finished}
 use Rattle.cif_tool.proofs.feed_answers.answer_prepare.Goals as goal
 
@@ -17,7 +18,8 @@ pub returns-in_err-dropped-clause-fault : goal.returns-in_err-dropped-clause-fau
 returns-in_err-dropped-clause-fault g c =
     let call = c.from_residual-in_err-dropped in
     let f = c.in_err-dropped.field-0.0 in
-    unprepared-fault _ _ g.W.Write.contents g.W.WriteDevice.write_errors c.args.drop_clashes _ _ c.in_ok-read.read c.in_ok-read.ensures c.insert-holidays.result.now
+    unprepared-fault _ _ g.W.Write.contents g.W.WriteDevice.write_errors c.args.drop_clashes _ _ c.in_ok-read.read c.in_ok-read.ensures
+    c.insert-holidays.result.now
     c.insert-holidays.ensures.value c.args.source.now c.write_prepared.new.source f
     call.result (at-fault call.result f call.ensures.1) _ c.in_err-dropped.ensures.reads
 
@@ -47,7 +49,8 @@ returns-in_err-finish-clause-reads g c =
     let failed = finished _ _ w.0 _ _ _ (Ok (tt {0})) (Err f) w.1 c.in_err-finish.ensures.finishes in
     prepared-read _ _ _ _ _ _ c.in_ok-read.read c.in_ok-read.ensures c.insert-holidays.result.now c.insert-holidays.ensures.value
     c.write_prepared.new.kept call.result
-    (unhanded-read _ _ _ _ c.insert-holidays.result.now c.write_prepared.new.kept c.in_ok-dropped.dropped call.result f (at-fault call.result f call.ensures.1) failed.0
+    (unhanded-read _ _ _ _ c.insert-holidays.result.now c.write_prepared.new.kept c.in_ok-dropped.dropped call.result f
+    (at-fault call.result f call.ensures.1) failed.0
     c.in_ok-dropped.ensures.reads)
 
 pub returns-clause-answer : goal.returns-clause-answer
