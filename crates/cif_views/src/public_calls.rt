@@ -187,15 +187,17 @@ impl Riders {
     }
 
     /// What this activity says.
+    // Each test is made, whatever the others say: that takes less than branches do.
+    #[inline(always)]
     fn of_one(code: [u8; 2]) -> Riders
         ensures { result ≡ said_by (code ∷ []) }
     {
         let one = [code];
         let is = one.as_slice();
         Riders {
-            advertised: !is.contains(b"N ") && !is.contains(b"S "),
-            set_down: is.contains(b"T ") || is.contains(b"D ") || is.contains(b"TF"),
-            pick_up: is.contains(b"T ") || is.contains(b"U ") || is.contains(b"TB"),
+            advertised: !is.contains(b"N ") & !is.contains(b"S "),
+            set_down: is.contains(b"T ") | (is.contains(b"D ") | is.contains(b"TF")),
+            pick_up: is.contains(b"T ") | (is.contains(b"U ") | is.contains(b"TB")),
             on_request: is.contains(b"R "),
         }
     }
@@ -212,16 +214,14 @@ impl Riders {
         }
     }
 
-    /// What the activities in these columns say.
+    /// What the activities in these columns say. Two spaces say nothing.
     fn in_columns(columns: &[u8; 12]) -> Riders
         ensures { result ≡ said_by (codes_in columns.now) }
     {
         let mut riders = Riders::of_none();
         let mut rest: &[u8] = columns;
         while let [a, b, after @ ..] = rest {
-            if !((*a == b' ') & (*b == b' ')) {
-                riders = riders.join(Riders::of_one([*a, *b]));
-            }
+            riders = riders.join(Riders::of_one([*a, *b]));
             rest = after;
         }
         riders
