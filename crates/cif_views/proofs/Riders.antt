@@ -1,8 +1,7 @@
 -- What the activities of a call say of riders, one by one.
 use Rattle.std.proofs.Common.{◌≡◌, ℕ, ◌-◌, ◌≤◌, Bool, true, false, not, ◌&&◌, ◌||◌, List, [], ◌∷◌, ◌∙◌, ap, arith}
 use Rattle.std.proofs.Common.{codes, cond, drop, get_or, length, nat_eq, refl, sym, take}
-use Rattle.std.proofs.Math.Bool.{and-true, and_assoc, or-false, or_assoc}
-use Rattle.std.proofs.lemmas.Bool.{and_parts, eqb-true}
+use Rattle.std.proofs.Math.Bool.{and_assoc, or_assoc}
 use Rattle.std.proofs.lemmas.List.{take_rest}
 use Rattle.cif_columns.specs.Activities.{codes_in, has_code}
 use Rattle.cif_views.specs.PublicCalls.{said_by}
@@ -66,29 +65,19 @@ joined-assoc r s t =
       or_assoc r.on_request s.on_request t.on_request,
     ) refl
 
-pub joined-none : (r : Riders) → joined r (said_by []) ≡ r
-joined-none r = rw (and-true r.advertised, or-false r.set_down, or-false r.pick_up, or-false r.on_request) refl
-
--- two spaces say nothing
-said-blank : (a b : ℕ) → nat_eq a 32 && nat_eq b 32 ≡ true → said_by ((a ∷ b ∷ []) ∷ []) ≡ said_by []
-said-blank a b blank =
-    let (first, second) = and_parts (nat_eq a 32) (nat_eq b 32) blank in rw (eqb-true a 32 first) refl
-
--- the two columns that are left first, where they are spaces or not
-said-pair : (r : Riders) (a b : ℕ) (rest : List ℕ) (blank : Bool) → nat_eq a 32 && nat_eq b 32 ≡ blank →
-    joined (joined r (said_by ((a ∷ b ∷ []) ∷ []))) (said_by (codes_in rest))
-    ≡ joined r (said_by (cond blank (codes_in rest) ((a ∷ b ∷ []) ∷ codes_in rest)))
-said-pair r a b rest true is =
-    ap (λ s. joined s (said_by (codes_in rest))) (ap (joined r) (said-blank a b is) ∙ joined-none r)
-said-pair r a b rest false is =
-    let code : List ℕ = a ∷ b ∷ [] in
-    joined-assoc r (said_by (code ∷ [])) (said_by (codes_in rest)) ∙ ap (joined r) (sym (said-more code (codes_in rest)))
-
--- They are joined to what was said before.
+-- One activity of the columns that are left is joined.
 pub said-next : (r : Riders) (rest : List ℕ) (one next whole : Riders) → 2 ≤ length rest →
+    nat_eq (get_or rest 0 0) 32 && nat_eq (get_or rest 1 0) 32 ≡ false →
     one ≡ said_by ((get_or rest 0 0 ∷ get_or rest 1 0 ∷ []) ∷ []) → next ≡ joined r one → joined r (said_by (codes_in rest)) ≡ whole →
     joined next (said_by (codes_in (take (length rest - 2) (drop 2 rest)))) ≡ whole
-said-next r [] one next whole two one_is next_is is = absurd (omega (arith, two))
-said-next r (a ∷ []) one next whole two one_is next_is is = absurd (omega (arith, two))
-said-next r (a ∷ b ∷ rest) one next whole two one_is next_is is =
-    rw (next_is, one_is, take_rest (a ∷ b ∷ rest) 2) (said-pair r a b rest (nat_eq a 32 && nat_eq b 32) refl ∙ is)
+said-next r [] one next whole two kept one_is next_is is = absurd (omega (arith, two))
+said-next r (a ∷ []) one next whole two kept one_is next_is is = absurd (omega (arith, two))
+said-next r (a ∷ b ∷ rest) one next whole two kept one_is next_is is =
+    let code : List ℕ = a ∷ b ∷ [] in
+    let all : codes_in (a ∷ b ∷ rest) ≡ code ∷ codes_in rest = ap (λ (t : Bool). cond t (codes_in rest) (code ∷ codes_in rest)) kept in
+    rw (next_is, one_is, take_rest (a ∷ b ∷ rest) 2) (
+    joined-assoc r (said_by (code ∷ [])) (said_by (codes_in rest))
+    ∙ ap (joined r) (sym (said-more code (codes_in rest)))
+    ∙ ap (λ cs. joined r (said_by cs)) (sym all)
+    ∙ is
+    )

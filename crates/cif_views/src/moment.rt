@@ -143,6 +143,13 @@ impl Moment {
         ensures text { row.new ≡ row.old ++ (9 ∷ time_text (self - midnight)) }
         ensures len { length row.new ≤ length row.old + 48 }
     {
+        if self.day == FIRST_DAY {
+            row.push(
+                Shape::Whole,
+                &clock_text((self.seconds / 3_600) as u8, self.seconds),
+            );
+            return;
+        }
         let hours = (self.day - FIRST_DAY) * 24 + (self.seconds / 3_600) as u128;
         if hours < 100 {
             row.push(Shape::Whole, &clock_text(hours as u8, self.seconds));

@@ -156,7 +156,8 @@ fn advertised(line: &Line, first: usize) -> Option<TimeOfDay>
     ensures { result ≡ advertised (columns_from first 4 line.now) }
 {
     let columns = columns_at::<4>(line, first);
-    if columns[0] == b' ' {
+    // Most are no time, and need no second look.
+    if columns[0] == b' ' || columns == *b"0000" {
         return None;
     }
     let time = PublicTime::read(&columns)?;
@@ -188,7 +189,6 @@ impl Riders {
 
     /// What this activity says.
     // Each test is made, whatever the others say: that takes less than branches do.
-    #[inline(always)]
     fn of_one(code: [u8; 2]) -> Riders
         ensures { result ≡ said_by (code ∷ []) }
     {
@@ -221,7 +221,9 @@ impl Riders {
         let mut riders = Riders::of_none();
         let mut rest: &[u8] = columns;
         while let [a, b, after @ ..] = rest {
-            riders = riders.join(Riders::of_one([*a, *b]));
+            if !((*a == b' ') & (*b == b' ')) {
+                riders = riders.join(Riders::of_one([*a, *b]));
+            }
             rest = after;
         }
         riders

@@ -1,18 +1,31 @@
 -- The text is that of the moment (`text-is`), by its hours.
-use Rattle.std.proofs.Common.{ℕ, ◌+◌, ◌-◌, ◌*◌, ◌/◌, ◌%◌, ◌^◌, ◌<◌, ◌≤◌, List, ◌∷◌, ◌++◌, ◌∙◌, ap, append_assoc, arith, decimal, sym}
+use Rattle.std.proofs.Common.{ℕ, ◌+◌, ◌-◌, ◌*◌, ◌/◌, ◌%◌, ◌^◌, ◌<◌, ◌≤◌, List, ◌∷◌, ◌++◌, ◌∙◌, ap, append_assoc, arith, decimal, subst, sym, ◌≡◌}
 use Rattle.cif_columns.specs.Digits.{two_digits}
+use Rattle.cif_views.specs.Moments.{two_digits_or_more}
 use Rattle.cif_views.proofs.Moments.{long-hours, short-hours, text-is}
 use Rattle.cif_views.proofs.moment.Moment.push_to.Goals as goal
+
+pub returns-then-self-eq-FIRST_DAY-clause-text : goal.returns-then-self-eq-FIRST_DAY-clause-text
+returns-then-self-eq-FIRST_DAY-clause-text c =
+    let s = c.self.inside.seconds in
+    let within : s < 86400 = c.self.invariant in
+    let none_before : s / 3600 ≡ (2 ^ 64 - 2 ^ 64) * 24 + s / 3600 = omega arith in
+    c.push.ensures.text
+    ∙ ap (λ (l : List ℕ). c.args.row.now ++ (9 ∷ l))
+    (text-is (2 ^ 64) s c.args.self (subst (λ d. d * 86400 + s ≡ c.args.self) c.if-self-eq-FIRST_DAY.true c.self.view_is) within
+    c.requires.from (two_digits (s / 3600)) _
+    (short-hours (s / 3600) (omega (arith, within)) ∙ ap two_digits_or_more none_before)
+    c.clock_text.ensures)
 
 pub returns-then-hours-lt100-clause-text : goal.returns-then-hours-lt100-clause-text
 returns-then-hours-lt100-clause-text c =
     let d = c.self.inside.day in
     let s = c.self.inside.seconds in
     let hours : ℕ = (d - 2 ^ 64) * 24 + s / 3600 in
-    c.push.ensures.text
+    c.push-then-hours-lt100.ensures.text
     ∙ ap (λ (l : List ℕ). c.args.row.now ++ (9 ∷ l))
     (text-is d s c.args.self c.self.view_is c.self.invariant c.requires.from (two_digits hours) _
-    (short-hours hours c.if-hours-lt100.true) c.clock_text.ensures)
+    (short-hours hours c.if-hours-lt100.true) c.clock_text-then-hours-lt100.ensures)
 
 pub returns-clause-text : goal.returns-clause-text
 returns-clause-text c =
