@@ -1,7 +1,9 @@
 -- What the activities of a call say of riders, one by one.
 use Rattle.std.proofs.Common.{◌≡◌, ℕ, ◌-◌, ◌≤◌, Bool, true, false, not, ◌&&◌, ◌||◌, List, [], ◌∷◌, ◌∙◌, ap, arith}
 use Rattle.std.proofs.Common.{codes, cond, drop, get_or, length, nat_eq, refl, sym, take}
+use Rattle.std.specs.Cmp.Lexicographic.{pointwise}
 use Rattle.std.proofs.Math.Bool.{and_assoc, or_assoc}
+use Rattle.std.proofs.lemmas.Bool.{false≢true}
 use Rattle.std.proofs.lemmas.List.{take_rest}
 use Rattle.cif_columns.specs.Activities.{codes_in, has_code}
 use Rattle.cif_views.specs.PublicCalls.{said_by}
@@ -65,16 +67,23 @@ joined-assoc r s t =
       or_assoc r.on_request s.on_request t.on_request,
     ) refl
 
+-- two columns that aren't spaces are a code
+a-code : (s t : Bool) (code : List ℕ) (others : List (List ℕ)) → not (s && (t && true)) ≡ true →
+    cond (s && t) others (code ∷ others) ≡ code ∷ others
+a-code true true code others is = absurd (false≢true is)
+a-code true false code others is = refl
+a-code false t code others is = refl
+
 -- One activity of the columns that are left is joined.
 pub said-next : (r : Riders) (rest : List ℕ) (one next whole : Riders) → 2 ≤ length rest →
-    nat_eq (get_or rest 0 0) 32 && nat_eq (get_or rest 1 0) 32 ≡ false →
+    not (pointwise nat_eq (get_or rest 0 0 ∷ get_or rest 1 0 ∷ []) (codes "  ")) ≡ true →
     one ≡ said_by ((get_or rest 0 0 ∷ get_or rest 1 0 ∷ []) ∷ []) → next ≡ joined r one → joined r (said_by (codes_in rest)) ≡ whole →
     joined next (said_by (codes_in (take (length rest - 2) (drop 2 rest)))) ≡ whole
 said-next r [] one next whole two kept one_is next_is is = absurd (omega (arith, two))
 said-next r (a ∷ []) one next whole two kept one_is next_is is = absurd (omega (arith, two))
 said-next r (a ∷ b ∷ rest) one next whole two kept one_is next_is is =
     let code : List ℕ = a ∷ b ∷ [] in
-    let all : codes_in (a ∷ b ∷ rest) ≡ code ∷ codes_in rest = ap (λ (t : Bool). cond t (codes_in rest) (code ∷ codes_in rest)) kept in
+    let all : codes_in (a ∷ b ∷ rest) ≡ code ∷ codes_in rest = a-code (nat_eq a 32) (nat_eq b 32) code (codes_in rest) kept in
     rw (next_is, one_is, take_rest (a ∷ b ∷ rest) 2) (
     joined-assoc r (said_by (code ∷ [])) (said_by (codes_in rest))
     ∙ ap (joined r) (sym (said-more code (codes_in rest)))

@@ -221,8 +221,9 @@ impl Riders {
         let mut riders = Riders::of_none();
         let mut rest: &[u8] = columns;
         while let [a, b, after @ ..] = rest {
-            if !((*a == b' ') & (*b == b' ')) {
-                riders = riders.join(Riders::of_one([*a, *b]));
+            let code = [*a, *b];
+            if code != *b"  " {
+                riders = riders.join(Riders::of_one(code));
             }
             rest = after;
         }
