@@ -1,0 +1,17 @@
+-- Canonical extracts with the same tables are the same.
+use Rattle.std.proofs.Common.{◌≡◌, ℕ, ◌<◌, ◌^◌, length, ap, sym, refl, ◌∙◌, subst}
+use Rattle.std.specs.Prelude.{◌↔◌}
+use Rattle.cif_canon.specs.Canon.{CanonParts, IsCanonOf}
+use Rattle.cif_canon.specs.Meaning.{SameMeaning}
+use Rattle.cif_views.proofs.Words.{ExtractParts}
+use Rattle.cif_weeks.specs.declared.form.Form.{Form}
+use Rattle.cif_views.specs.SameTables.{HaveSameTables}
+use Rattle.cif_views.proofs.RowCells.{number-printable, are-cells}
+
+module _ (form other : Form) (x y : ExtractParts) (c d : CanonParts) (one : IsCanonOf form x c) (two : IsCanonOf other y d)
+    (few : length c.text < 2 ^ 64) (as-few : length d.text < 2 ^ 64) where
+  pub same-text : HaveSameTables c.lines d.lines ↔ (c.text ≡ d.text)
+  same-text = let z = number-printable in let y = are-cells in ?
+
+  pub same-meaning : HaveSameTables c.lines d.lines → SameMeaning x y
+  same-meaning same = ?
