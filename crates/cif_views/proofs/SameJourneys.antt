@@ -1,1 +1,286 @@
--- x
+-- The rows of calls and of changes tell the lines of each journey, and where a change stands among the calls.
+use Rattle.std.proofs.Common.{◌≡◌, ℕ, ◌+◌, ◌<◌, ◌≤◌, ◌^◌, ◌⊎◌, All, Bool, true, false, IsTrue, List, [], ◌∷◌, ◌++◌, Option, None, Some, ap}
+use Rattle.std.proofs.Common.{arith, codes, cond, decimal, drop, get_or, inl, inr, length, map, refl, subst, sym, take, ◌∙◌, ⊎_elim}
+use Rattle.std.specs.List.{enumerate_from, filter}
+use Rattle.std.proofs.lemmas.Bool.{false≢true}
+use Rattle.std.proofs.lemmas.Fmt.{decimal_injective}
+use Rattle.std.proofs.lemmas.List.Elements.{All-append, All-cons, All-filter, All-head, All-nil, All-tail, filter_passes}
+use Rattle.cif_columns.specs.Field.{plain_line}
+use Rattle.cif_columns.specs.Line.{ArePrintable}
+use Rattle.cif_records.specs.Record.{SpellsRecord, record_table}
+use Rattle.cif_records.specs.declared.record.Record.{Record}
+use Rattle.cif_records.specs.declared.record.Record.TheVariants as of
+use Rattle.cif_records.proofs.Records as records
+use Rattle.cif_views.specs.Steps.Columns.{call_columns, change_columns}
+use Rattle.cif_views.specs.Tables.{calls_of, change_fields, changes_of}
+use Rattle.cif_views.proofs.Words.{AllFit, Change, Field, IsLine, JourneyKind, Numbered, Origin, Other, ScheduleLines, Stop, Terminus, Tsv}
+use Rattle.cif_views.proofs.Words.{call_fields, columns, fields_in, flat_map, is_call, is_change, journey_kind, kind_of_line, number}
+use Rattle.cif_views.proofs.Words.{numbered_from, own_columns, row_fields, shown}
+use Rattle.cif_views.proofs.DifferingCells.{covered, two-parts}
+use Rattle.cif_views.proofs.DifferingFields.{same-kind}
+use Rattle.cif_views.proofs.PairedBodies.{IsPlace, one-place, own_cells}
+use Rattle.cif_views.proofs.RowCells.{AreCells, are-cells, cells_of, number-printable}
+use Rattle.cif_views.proofs.TableRows.{call-fields}
+
+-- ---- lines of journeys
+
+-- a line is that of a call or of a change
+pub record IsOfJourney (line : List ℕ) : Type 0 where
+  pub it : Record
+  pub place : IsPlace it
+  pub fits : AllFit (record_table it)
+  pub is : line ≡ plain_line (record_table it)
+
+line-of : (line : List ℕ) → IsOfJourney line → IsLine line
+line-of line j = subst IsLine (sym j.is) (records.line j.it j.fits)
+
+one-of : (l m : List ℕ) → IsOfJourney l → IsOfJourney m → columns 1 10 l ≡ columns 1 10 m →
+    own_cells (kind_of_line l) l ≡ own_cells (kind_of_line l) m → l ≡ m
+one-of l m p q place same =
+    p.is
+    ∙ one-place p.it q.it p.fits q.fits q.place (ap (columns 1 10) (sym p.is) ∙ place ∙ ap (columns 1 10) q.is)
+    ((λ i. own_cells (kind_of_line (sym p.is i)) (sym p.is i)) ∙ same ∙ (λ i. own_cells (kind_of_line (p.is i)) (q.is i)))
+    ∙ sym q.is
+
+record IsCall (line : List ℕ) : Type 0 where
+  call : is_call (kind_of_line line) ≡ true
+  change : is_change (kind_of_line line) ≡ false
+
+record IsChange (line : List ℕ) : Type 0 where
+  identity : columns 1 2 line ≡ codes "CR"
+  kind : kind_of_line line ≡ Change
+
+tell : (line : List ℕ) (r : Record) → IsPlace r → SpellsRecord line r → IsCall line ⊎ IsChange line
+tell line (of.Origin r) is h =
+    let kind = ap journey_kind (records.kind_there line (of.Origin r) h) in
+    inl (record { call = ap is_call kind; change = ap is_change kind })
+tell line (of.Stop r) is h =
+    let kind = ap journey_kind (records.kind_there line (of.Stop r) h) in
+    inl (record { call = ap is_call kind; change = ap is_change kind })
+tell line (of.Terminus r) is h =
+    let kind = ap journey_kind (records.kind_there line (of.Terminus r) h) in
+    inl (record { call = ap is_call kind; change = ap is_change kind })
+tell line (of.Change r) is h =
+    inr (record { identity = h.0; kind = ap journey_kind (records.kind_there line (of.Change r) h) })
+tell line _ is h = absurd is
+
+told : (line : List ℕ) → IsOfJourney line → IsCall line ⊎ IsChange line
+told line j = tell line j.it j.place (subst (λ l. SpellsRecord l j.it) (sym j.is) (records.spells j.it j.fits))
+
+-- ---- their rows
+
+-- a line with its numbers, which are few enough to be written
+pub record IsNumbered (p : Numbered) : Type 0 where
+  pub few : p.schedule < 2 ^ 64
+  pub few_calls : p.call < 2 ^ 64
+  pub line : IsOfJourney p.line
+
+same-numbers : (p q : Numbered) → IsNumbered p → IsNumbered q → (cs ds : List (List ℕ)) →
+    decimal p.schedule ∷ decimal p.call ∷ cs ≡ decimal q.schedule ∷ decimal q.call ∷ ds → p.line ≡ q.line → p ≡ q
+same-numbers p q one other cs ds same line =
+    let schedule = decimal_injective p.schedule q.schedule one.few other.few (ap (λ (cells : List (List ℕ)). get_or cells 0 []) same) in
+    let call = decimal_injective p.call q.call one.few_calls other.few_calls
+    (ap (λ (cells : List (List ℕ)). get_or cells 1 []) same) in
+    λ i. record { schedule = schedule i; call = call i; line = line i }
+
+numbers-printable : (p : Numbered) → IsNumbered p → (cells : List (List ℕ)) → AreCells cells →
+    AreCells (decimal p.schedule ∷ decimal p.call ∷ cells)
+numbers-printable p is cells all =
+    All-cons ArePrintable (decimal p.schedule) (decimal p.call ∷ cells) (number-printable p.schedule is.few)
+    (All-cons ArePrintable (decimal p.call) cells (number-printable p.call is.few_calls) all)
+
+pub record IsCallRow (p : Numbered) : Type 0 where
+  pub numbered : IsNumbered p
+  pub is : is_call (kind_of_line p.line) ≡ true
+
+pub record IsChangeRow (p : Numbered) : Type 0 where
+  pub numbered : IsNumbered p
+  pub is : is_change (kind_of_line p.line) ≡ true
+
+abbrev call_cells : JourneyKind → List ℕ → List (List ℕ)
+call_cells kind line = map (shown Tsv) (fields_in kind call_columns line)
+
+call-row : (p : Numbered) →
+    cells_of call_fields p ≡ decimal p.schedule ∷ decimal p.call ∷ call_cells (kind_of_line p.line) p.line
+call-row p =
+    let kind = kind_of_line p.line in
+    ap (λ (own : List Field). map (shown Tsv) (number p.schedule ∷ number p.call ∷ (fields_in kind (take 3 call_columns) p.line ++ own)))
+    (call-fields p.line kind refl)
+
+pub call-cells : (p : Numbered) → IsCallRow p → AreCells (cells_of call_fields p)
+call-cells p row =
+    subst AreCells (sym (call-row p))
+    (numbers-printable p row.numbered (call_cells (kind_of_line p.line) p.line)
+    (are-cells p.line (line-of p.line row.numbered.line) (kind_of_line p.line) call_columns refl))
+
+called : (k : JourneyKind) → is_call k ≡ true → own_columns k ≡ drop 3 call_columns
+called Origin is = refl
+called Stop is = refl
+called Terminus is = refl
+called Change is = absurd (false≢true is)
+called Other is = absurd (false≢true is)
+
+changed-kind : (k : JourneyKind) → is_change k ≡ true → k ≡ Change
+changed-kind Change is = refl
+changed-kind Origin is = absurd (false≢true is)
+changed-kind Stop is = absurd (false≢true is)
+changed-kind Terminus is = absurd (false≢true is)
+changed-kind Other is = absurd (false≢true is)
+
+pub one-call : (p q : Numbered) → IsCallRow p → IsCallRow q → cells_of call_fields p ≡ cells_of call_fields q → p ≡ q
+one-call p q one other same =
+    let l = p.line in
+    let m = q.line in
+    let cells = sym (call-row p) ∙ same ∙ call-row q in
+    let both : call_cells (kind_of_line l) l ≡ call_cells (kind_of_line m) m = ap (drop 2) cells in
+    let place = covered l m 0 Other refl (line-of l one.numbered.line) (line-of m other.numbered.line) 1 10 (take 3 call_columns) refl
+    (ap (take 3) both) in
+    let kind = same-kind l m place in
+    let own : map (shown Tsv) (fields_in (kind_of_line l) (drop 3 call_columns) l)
+    ≡ map (shown Tsv) (fields_in (kind_of_line l) (drop 3 call_columns) m) =
+    ap (drop 3) both ∙ (λ i. map (shown Tsv) (fields_in (kind i) (drop 3 call_columns) m)) in
+    same-numbers p q one.numbered other.numbered _ _ cells
+    (one-of l m one.numbered.line other.numbered.line place
+    (subst (λ c. map (shown Tsv) (fields_in (kind_of_line l) c l) ≡ map (shown Tsv) (fields_in (kind_of_line l) c m))
+    (sym (called (kind_of_line l) one.is)) own))
+
+pub change-cells : (p : Numbered) → IsChangeRow p → AreCells (cells_of change_fields p)
+change-cells p row =
+    numbers-printable p row.numbered (map (shown Tsv) (fields_in Change change_columns p.line))
+    (are-cells p.line (line-of p.line row.numbered.line) Change change_columns refl)
+
+identity-of : (line : List ℕ) → IsOfJourney line → is_change (kind_of_line line) ≡ true → columns 1 2 line ≡ codes "CR"
+identity-of line j is = ⊎_elim (λ c. absurd (false≢true (sym c.change ∙ is))) (λ c. c.identity) (told line j)
+
+pub one-change : (p q : Numbered) → IsChangeRow p → IsChangeRow q → cells_of change_fields p ≡ cells_of change_fields q → p ≡ q
+one-change p q one other same =
+    let l = p.line in
+    let m = q.line in
+    let left = line-of l one.numbered.line in
+    let right = line-of m other.numbered.line in
+    let both : map (shown Tsv) (fields_in Change change_columns l) ≡ map (shown Tsv) (fields_in Change change_columns m) =
+    ap (drop 2) same in
+    let first = identity-of l one.numbered.line one.is ∙ sym (identity-of m other.numbered.line other.is) in
+    let there = covered l m 0 Change refl left right 3 10 change_columns refl both in
+    let place : columns 1 10 l ≡ columns 1 10 m =
+    two-parts 1 2 10 l (omega arith) (omega arith) (omega arith) ∙ (λ i. first i ++ there i)
+    ∙ sym (two-parts 1 2 10 m (omega arith) (omega arith) (omega arith)) in
+    let kind = changed-kind (kind_of_line l) one.is in
+    let own : own_cells Change l ≡ own_cells Change m = ap (drop 2) both in
+    same-numbers p q one.numbered other.numbered _ _ same
+    (one-of l m one.numbered.line other.numbered.line place (subst (λ k. own_cells k l ≡ own_cells k m) (sym kind) own))
+
+-- ---- the numbers of a journey's lines
+
+pub record IsNumberedAs (schedule low high : ℕ) (p : Numbered) : Type 0 where
+  pub schedule_is : p.schedule ≡ schedule
+  pub from : low ≤ p.call
+  pub upto : p.call ≤ high
+  pub line : IsOfJourney p.line
+
+no-less : (low call : ℕ) (is : Bool) → low ≤ call → low ≤ cond is (call + 1) call
+no-less low call true h = omega (arith, h)
+no-less low call false h = h
+
+no-more : (call n high : ℕ) (is : Bool) → call + (n + 1) ≤ high → cond is (call + 1) call + n ≤ high
+no-more call n high true h = omega (arith, h)
+no-more call n high false h = omega (arith, h)
+
+module _ (n : ℕ) where
+  pub numbered-as : (low high call : ℕ) (lines : List (List ℕ)) → low ≤ call → call + length lines ≤ high → All IsOfJourney lines →
+      All (IsNumberedAs n low high) (numbered_from n call lines)
+  numbered-as low high call [] from upto are = All-nil (IsNumberedAs n low high)
+  numbered-as low high call (line ∷ lines) from upto are =
+      let next = cond (is_call (kind_of_line line)) (call + 1) call in
+      All-cons (IsNumberedAs n low high) (record { schedule = n; call = call; line = line }) (numbered_from n next lines)
+      (record { schedule_is = refl; from = from; upto = omega (arith, upto); line = All-head IsOfJourney line lines are })
+      (numbered-as low high next lines (no-less low call (is_call (kind_of_line line)) from)
+      (no-more call (length lines) high (is_call (kind_of_line line)) (omega (arith, upto))) (All-tail IsOfJourney line lines are))
+
+  -- the calls among these lines, and the changes
+  abbrev pub calls_from : ℕ → List (List ℕ) → List Numbered
+  calls_from call lines = filter (λ p. is_call (kind_of_line p.line)) (numbered_from n call lines)
+
+  abbrev pub changes_from : ℕ → List (List ℕ) → List Numbered
+  changes_from call lines = filter (λ p. is_change (kind_of_line p.line)) (numbered_from n call lines)
+
+  abbrev here : ℕ → List ℕ → Numbered
+  here call line = record { schedule = n; call = call; line = line }
+
+  -- a line, and those behind it
+  record IsBefore (call : ℕ) (line : List ℕ) (lines : List (List ℕ)) (calls changes : List Numbered) : Type 0 where
+    calls_are : calls_from call (line ∷ lines) ≡ calls
+    changes_are : changes_from call (line ∷ lines) ≡ changes
+
+  call-first : (call : ℕ) (line : List ℕ) (lines : List (List ℕ)) → IsCall line →
+      IsBefore call line lines (here call line ∷ calls_from (call + 1) lines) (changes_from (call + 1) lines)
+  call-first call line lines c = record {
+    calls_are = ap (λ b. cond b (here call line ∷ calls_from (cond b (call + 1) call) lines)
+        (calls_from (cond b (call + 1) call) lines)) c.call;
+    changes_are = λ i. cond (c.change i) (here call line ∷ changes_from (cond (c.call i) (call + 1) call) lines)
+        (changes_from (cond (c.call i) (call + 1) call) lines);
+  }
+
+  change-first : (call : ℕ) (line : List ℕ) (lines : List (List ℕ)) → IsChange line →
+      IsBefore call line lines (calls_from call lines) (here call line ∷ changes_from call lines)
+  change-first call line lines c = record {
+    calls_are = ap (λ k. cond (is_call k) (here call line ∷ calls_from (cond (is_call k) (call + 1) call) lines)
+        (calls_from (cond (is_call k) (call + 1) call) lines)) c.kind;
+    changes_are = ap (λ k. cond (is_change k) (here call line ∷ changes_from (cond (is_call k) (call + 1) call) lines)
+        (changes_from (cond (is_call k) (call + 1) call) lines)) c.kind;
+  }
+
+  -- no change behind a call has its number or a lower one
+  behind-call : (call : ℕ) (line : List ℕ) (lines : List (List ℕ)) (others : List Numbered) → All IsOfJourney lines →
+      changes_from (call + 1) lines ≡ here call line ∷ others → ⊥
+  behind-call call line lines others are is =
+      let high = call + 1 + length lines in
+      let all = subst (All (IsNumberedAs n (call + 1) high)) is
+      (All-filter (λ p. is_change (kind_of_line p.line)) (IsNumberedAs n (call + 1) high) (numbered_from n (call + 1) lines)
+      (numbered-as (call + 1) high (call + 1) lines (omega arith) (omega arith) are)) in
+      let low = (All-head (IsNumberedAs n (call + 1) high) (here call line) others all).from in
+      omega (arith, low)
+
+  none-first : (p : Numbered) (ps : List Numbered) → [] ≡ p ∷ ps → ⊥
+  none-first p ps is = let long = ap length is in omega (arith, long)
+
+  same-first : (call : ℕ) (l m : List ℕ) (ps qs : List Numbered) → here call l ∷ ps ≡ here call m ∷ qs → (l ≡ m) × (ps ≡ qs)
+  same-first call l m ps qs is =
+      (ap (λ (all : List Numbered). (get_or all 0 (here call l)).line) is, ap (drop 1) is)
+
+  pub same-journey : (call : ℕ) (ls ms : List (List ℕ)) → All IsOfJourney ls → All IsOfJourney ms →
+      calls_from call ls ≡ calls_from call ms → changes_from call ls ≡ changes_from call ms → ls ≡ ms
+  same-journey call [] [] one other calls changes = refl
+  same-journey call [] (m ∷ ms) one other calls changes = absurd (⊎_elim
+      (λ c. none-first _ _ (calls ∙ (call-first call m ms c).calls_are))
+      (λ c. none-first _ _ (changes ∙ (change-first call m ms c).changes_are))
+      (told m (All-head IsOfJourney m ms other)))
+  same-journey call (l ∷ ls) [] one other calls changes = absurd (⊎_elim
+      (λ c. none-first _ _ (sym calls ∙ (call-first call l ls c).calls_are))
+      (λ c. none-first _ _ (sym changes ∙ (change-first call l ls c).changes_are))
+      (told l (All-head IsOfJourney l ls one)))
+  same-journey call (l ∷ ls) (m ∷ ms) one other calls changes =
+      let p = All-tail IsOfJourney l ls one in
+      let q = All-tail IsOfJourney m ms other in
+      ⊎_elim
+      (λ a. ⊎_elim
+      (λ b.
+      let s = call-first call l ls a in
+      let t = call-first call m ms b in
+      let (first, rest) = same-first call l m _ _ (sym s.calls_are ∙ calls ∙ t.calls_are) in
+      let behind = same-journey (call + 1) ls ms p q rest (sym s.changes_are ∙ changes ∙ t.changes_are) in
+      (λ i. first i ∷ behind i))
+      (λ b. absurd (behind-call call m ls _ p
+      (sym (call-first call l ls a).changes_are ∙ changes ∙ (change-first call m ms b).changes_are)))
+      (told m (All-head IsOfJourney m ms other)))
+      (λ a. ⊎_elim
+      (λ b. absurd (behind-call call l ms _ q
+      (sym (call-first call m ms b).changes_are ∙ sym changes ∙ (change-first call l ls a).changes_are)))
+      (λ b.
+      let s = change-first call l ls a in
+      let t = change-first call m ms b in
+      let (first, rest) = same-first call l m _ _ (sym s.changes_are ∙ changes ∙ t.changes_are) in
+      let behind = same-journey call ls ms p q (sym s.calls_are ∙ calls ∙ t.calls_are) rest in
+      (λ i. first i ∷ behind i))
+      (told m (All-head IsOfJourney m ms other)))
+      (told l (All-head IsOfJourney l ls one))
