@@ -16,6 +16,7 @@ mod RowCells
 mod RowsOfDifferences
 mod SameJourneys
 mod SameLines
+mod SameSchedules
 mod SameTables
 pub mod TableRows
 pub mod WeekLines

@@ -11,10 +11,12 @@ use Rattle.cif_views.proofs.SameLines.{one-schedule, one-header, one-tiploc, one
 
 use Rattle.cif_views.proofs.SameJourneys.{same-journey, one-change, one-call, change-cells, call-cells}
 
+use Rattle.cif_views.proofs.SameSchedules.{same-schedules, all-numbered, all-rows}
+
 module _ (form other : Form) (x y : ExtractParts) (c d : CanonParts) (one : IsCanonOf form x c) (two : IsCanonOf other y d)
     (few : length c.text < 2 ^ 64) (as-few : length d.text < 2 ^ 64) where
   pub same-text : HaveSameTables c.lines d.lines ↔ (c.text ≡ d.text)
-  same-text = let z1 = same-journey in let z2 = one-change in let z3 = one-call in let z4 = change-cells in let z5 = call-cells in ?
+  same-text = let z1 = same-schedules in let z2 = all-numbered in let z3 = all-rows in ?
 
   pub same-meaning : HaveSameTables c.lines d.lines → SameMeaning x y
   same-meaning same = ?
