@@ -1,22 +1,273 @@
--- Canonical extracts with the same tables are the same.
-use Rattle.std.proofs.Common.{◌≡◌, ℕ, ◌<◌, ◌^◌, length, ap, sym, refl, ◌∙◌, subst}
+-- Canonical extracts have the same tables exactly if they have the same text.
+use Rattle.std.proofs.Common.{◌≡◌, ◌≢◌, ℕ, ◌+◌, ◌<◌, ◌≤◌, ◌^◌, All, List, [], ◌∷◌, ◌++◌, Some, ap, ap₂, ◌∙◌, length, map, refl, subst, sym}
+use Rattle.std.proofs.Common.{append_assoc, arith, drop, get_or, length-append}
+use Rattle.std.specs.List.{enumerate_from}
 use Rattle.std.specs.Prelude.{◌↔◌}
-use Rattle.cif_canon.specs.Canon.{CanonParts, IsCanonOf}
-use Rattle.cif_canon.specs.Meaning.{SameMeaning}
-use Rattle.cif_views.proofs.Words.{ExtractParts}
+use Rattle.std.proofs.lemmas.Grind.{flat_map-append}
+use Rattle.std.proofs.lemmas.List.{append_cancel_left, length-map, map-append}
+use Rattle.std.proofs.lemmas.List.Elements.{All-cons, All-nil}
+use Rattle.std.proofs.lemmas.List.Folds.{flat_map-map}
+use Rattle.std.proofs.lemmas.Simd.{map-map}
+use Rattle.cif_calendar.specs.Terms.{Terms}
+use Rattle.cif_columns.specs.Contents.{contents_of, lines_text}
+use Rattle.cif_columns.specs.Field.{plain_line}
+use Rattle.cif_extract.specs.SpellsExtract.{BytesSpell}
+use Rattle.cif_extract.specs.Texts.{AllTablesFit, body_tables, extract_tables, extract_text, schedule_tables, tables_of}
+use Rattle.cif_extract.proofs.PlainTexts.{fit-back, fit-front, spelled-fits}
+use Rattle.cif_extract.proofs.SpelledBytes.{one_spelled}
+use Rattle.cif_records.specs.Association as aa
+use Rattle.cif_records.specs.Basic.{basic_rows}
+use Rattle.cif_records.specs.Header.{header_table}
+use Rattle.cif_records.specs.Tiploc.{tiploc_table}
+use Rattle.cif_records.specs.Trailer.{trailer_table}
+use Rattle.cif_records.specs.declared.tiploc.Tiploc.{Tiploc}
+use Rattle.cif_weeks.specs.Permanent.{permanent_entries}
 use Rattle.cif_weeks.specs.declared.form.Form.{Form}
+use Rattle.cif_canon.specs.Canon.{CanonParts, IsCanonOf}
+use Rattle.cif_canon.specs.Canonical.{IsCanonicalText}
+use Rattle.cif_canon.specs.Lines.{ExtractLines, line_of_association, lines_of, lines_of_schedule}
+use Rattle.cif_canon.specs.Meaning.{SameMeaning}
+use Rattle.cif_canon.proofs.SameExtracts.{same-sym, same-trans}
 use Rattle.cif_views.specs.SameTables.{HaveSameTables}
-use Rattle.cif_views.proofs.RowCells.{number-printable, are-cells}
-use Rattle.cif_views.proofs.SameLines.{one-schedule, one-header, one-tiploc, one-association, schedule-cells, header-cells, tiploc-cells, association-cells}
+use Rattle.cif_views.specs.TableText.{table_heading, table_text}
+use Rattle.cif_views.specs.Tables.{NumberedSchedule, association_fields, calls_of, change_fields, changes_of, header_fields}
+use Rattle.cif_views.specs.declared.tables.Table.{Table}
+use Rattle.cif_views.specs.declared.tables.Table.TheVariants.{Associations, Calls, Changes, Header, Public, Schedules, Tiplocs}
+use Rattle.cif_views.proofs.Words.{AllFit, AssocBody, AssocKey, Association, BodyParts, ExtractParts, Numbered, Permanent, Row, Schedule}
+use Rattle.cif_views.proofs.Words.{ScheduleLines, association_entries, association_entry, call_fields, flat_map, is_call, is_change}
+use Rattle.cif_views.proofs.Words.{line_of_tiploc, numbered_schedule, row_line, schedule_entries, schedule_entry, schedule_fields, table_rows}
+use Rattle.cif_views.proofs.Words.{tiploc_fields}
+use Rattle.cif_views.proofs.PairedBodies.{association_line}
+use Rattle.cif_views.proofs.RowCells.{same-row, same-rows}
+use Rattle.cif_views.proofs.SameJourneys.{IsCallRow, IsChangeRow, call-cells, change-cells, one-call, one-change}
+use Rattle.cif_views.proofs.SameLines.{IsNumberedPlain, IsPlain, association-cells, header-cells, one-association, one-header, one-schedule}
+use Rattle.cif_views.proofs.SameLines.{one-tiploc, schedule-cells, tiploc-cells}
+use Rattle.cif_views.proofs.SameSchedules.{IsSchedule, all-numbered, all-rows, rows_from, same-schedules, schedules_from}
 
-use Rattle.cif_views.proofs.SameJourneys.{same-journey, one-change, one-call, change-cells, call-cells}
+-- ---- tables, and lines
 
-use Rattle.cif_views.proofs.SameSchedules.{same-schedules, all-numbered, all-rows}
+-- the lines of a canonical extract, of which there are few enough to be numbered
+record ArePlain (x : ExtractLines) : Type 0 where
+  header : IsPlain header_table x.header
+  tiplocs : All (IsPlain tiploc_table) x.tiplocs
+  associations : All (IsPlain association_line) x.associations
+  schedules : All IsSchedule x.schedules
+  few : length x.schedules < 2 ^ 64
+
+flat-twice : {A B C : Type 0} (f : B → List C) (g : A → List B) (xs : List A) →
+    flat_map f (flat_map g xs) ≡ flat_map (λ x. flat_map f (g x)) xs
+flat-twice f g [] = refl
+flat-twice f g (x ∷ xs) = flat_map-append f (g x) (flat_map g xs) ∙ ap (λ l. flat_map f (g x) ++ l) (flat-twice f g xs)
+
+module _ (x y : ExtractLines) (one : ArePlain x) (other : ArePlain y) (same : HaveSameTables x y) where
+  rows : (table : Table) → table ≢ Public → table_rows table x ≡ table_rows table y
+  unfolding table_text
+  rows table not = append_cancel_left (table_heading table) (table_rows table x) (table_rows table y) (same table not)
+
+  few-of : (z : ExtractLines) → ArePlain z → 1 + length z.schedules ≤ 2 ^ 64
+  few-of z p = let few = p.few in omega (arith, few)
+
+  headers : x.header ≡ y.header
+  headers =
+      same-row header_fields (IsPlain header_table) (omega arith) header-cells one-header x.header y.header one.header other.header
+      (rows Header (λ e. absurd (cc)))
+
+  tiplocs : x.tiplocs ≡ y.tiplocs
+  tiplocs =
+      same-rows tiploc_fields (IsPlain tiploc_table) (omega arith) tiploc-cells one-tiploc x.tiplocs y.tiplocs one.tiplocs other.tiplocs
+      (rows Tiplocs (λ e. absurd (cc)))
+
+  associations : x.associations ≡ y.associations
+  associations =
+      same-rows association_fields (IsPlain association_line) (omega arith) association-cells one-association x.associations y.associations
+      one.associations other.associations (rows Associations (λ e. absurd (cc)))
+
+  numbered : schedules_from 1 x.schedules ≡ schedules_from 1 y.schedules
+  numbered =
+      let text : (z : ExtractLines) → flat_map (row_line schedule_fields) (schedules_from 1 z.schedules) ≡ table_rows Schedules z =
+      λ z. flat_map-map (row_line schedule_fields) numbered_schedule (enumerate_from 1 z.schedules) in
+      same-rows schedule_fields IsNumberedPlain (omega arith) schedule-cells one-schedule (schedules_from 1 x.schedules)
+      (schedules_from 1 y.schedules) (all-numbered 1 x.schedules (few-of x one) one.schedules)
+      (all-numbered 1 y.schedules (few-of y other) other.schedules)
+      (text x ∙ rows Schedules (λ e. absurd (cc)) ∙ sym (text y))
+
+  calls : rows_from is_call refl 1 x.schedules ≡ rows_from is_call refl 1 y.schedules
+  calls =
+      let text : (z : ExtractLines) → flat_map (row_line call_fields) (rows_from is_call refl 1 z.schedules) ≡ table_rows Calls z =
+      λ z. flat-twice (row_line call_fields) calls_of (enumerate_from 1 z.schedules) in
+      let are : (z : ExtractLines) → ArePlain z → All IsCallRow (rows_from is_call refl 1 z.schedules) =
+      λ z p k d below.
+      let r = all-rows is_call refl 0 1 z.schedules (omega arith) (few-of z p) p.schedules k d below in
+      record { numbered = r.numbered; is = r.passes } in
+      same-rows call_fields IsCallRow (omega arith) call-cells one-call (rows_from is_call refl 1 x.schedules)
+      (rows_from is_call refl 1 y.schedules) (are x one) (are y other) (text x ∙ rows Calls (λ e. absurd (cc)) ∙ sym (text y))
+
+  changes : rows_from is_change refl 1 x.schedules ≡ rows_from is_change refl 1 y.schedules
+  changes =
+      let text : (z : ExtractLines) → flat_map (row_line change_fields) (rows_from is_change refl 1 z.schedules) ≡ table_rows Changes z =
+      λ z. flat-twice (row_line change_fields) changes_of (enumerate_from 1 z.schedules) in
+      let are : (z : ExtractLines) → ArePlain z → All IsChangeRow (rows_from is_change refl 1 z.schedules) =
+      λ z p k d below.
+      let r = all-rows is_change refl 0 1 z.schedules (omega arith) (few-of z p) p.schedules k d below in
+      record { numbered = r.numbered; is = r.passes } in
+      same-rows change_fields IsChangeRow (omega arith) change-cells one-change (rows_from is_change refl 1 x.schedules)
+      (rows_from is_change refl 1 y.schedules) (are x one) (are y other) (text x ∙ rows Changes (λ e. absurd (cc)) ∙ sym (text y))
+
+  schedules : x.schedules ≡ y.schedules
+  schedules =
+      same-schedules 1 x.schedules y.schedules one.schedules other.schedules (few-of x one) (few-of y other) numbered calls changes
+
+  same-lines : x ≡ y
+  same-lines = λ i. record {
+    header = headers i;
+    tiplocs = tiplocs i;
+    associations = associations i;
+    schedules = schedules i;
+  }
+
+-- ---- the text of lines
+
+abbrev all_lines : ScheduleLines → List (List ℕ)
+all_lines s = s.basic ∷ s.further
+
+abbrev text_of : ExtractLines → List ℕ
+text_of x =
+    lines_text (x.header ∷ (x.tiplocs ++ (x.associations ++ (flat_map all_lines x.schedules ++ (plain_line trailer_table ∷ [])))))
+
+lines-of_schedules : (ss : List Schedule) → map plain_line (flat_map tables_of ss) ≡ flat_map all_lines (map lines_of_schedule ss)
+lines-of_schedules [] = refl
+lines-of_schedules (s ∷ ss) =
+    map-append plain_line (tables_of s) (flat_map tables_of ss)
+    ∙ ap (λ (l : List (List ℕ)). map plain_line (tables_of s) ++ l) (lines-of_schedules ss)
+
+text-is : (x : ExtractParts) → extract_text x ≡ text_of (lines_of x)
+text-is x =
+    let locations = map tiploc_table x.tiplocs in
+    let own = map aa.association_table x.associations in
+    let trains = flat_map tables_of x.schedules in
+    let end : List (List Row) = trailer_table ∷ [] in
+    ap (λ (ls : List (List ℕ)). lines_text (plain_line (header_table x.header) ∷ ls))
+    (map-append plain_line locations (own ++ (trains ++ end))
+    ∙ ap₂ (λ (a b : List (List ℕ)). a ++ b) (map-map plain_line tiploc_table x.tiplocs)
+    (map-append plain_line own (trains ++ end)
+    ∙ ap₂ (λ (a b : List (List ℕ)). a ++ b) (map-map plain_line aa.association_table x.associations)
+    (map-append plain_line trains end ∙ ap (λ (l : List (List ℕ)). l ++ (plain_line trailer_table ∷ [])) (lines-of_schedules x.schedules))))
+
+-- it has a byte at least for each line
+some-byte : (ls : List (List ℕ)) → length ls ≤ length (lines_text ls)
+some-byte [] = omega arith
+some-byte (l ∷ ls) =
+    omega (arith, some-byte ls, length-append (l ++ (10 ∷ [])) (lines_text ls), length-append l (10 ∷ []))
+
+-- ---- what a canonical extract has
+
+plain-tiplocs : (ts : List Tiploc) → AllTablesFit (map tiploc_table ts) → All (IsPlain tiploc_table) (map line_of_tiploc ts)
+plain-tiplocs [] fits = All-nil (IsPlain tiploc_table)
+plain-tiplocs (t ∷ ts) fits =
+    All-cons (IsPlain tiploc_table) (line_of_tiploc t) (map line_of_tiploc ts) (record { it = t; fits = fits.0; is = refl })
+    (plain-tiplocs ts fits.1)
+
+-- the tables of entries
+abbrev association_of : AssocKey × Terms AssocBody → List Row
+association_of e = aa.association_rows e.0 e.1.first e.1.last e.1.days e.1.letter e.1.body
+
+abbrev schedule_of : List ℕ × Terms BodyParts → List (List Row)
+schedule_of e = schedule_tables e.0 e.1.first e.1.last e.1.days e.1.letter e.1.body
+
+abbrev lines_in : List (List Row) → ScheduleLines
+lines_in tables = record { basic = plain_line (get_or tables 0 []); further = map plain_line (drop 1 tables) }
+
+plain-associations : (xs : List Association) (es : List (AssocKey × Permanent AssocBody)) → association_entries xs ≡ permanent_entries es →
+    AllTablesFit (map aa.association_table xs) → All (IsPlain association_line) (map line_of_association xs)
+plain-associations [] es are fits = All-nil (IsPlain association_line)
+plain-associations (a ∷ xs) [] are fits = absurd (let long = ap length are in omega (arith, long))
+plain-associations (a ∷ xs) (e ∷ es) are fits =
+    let first = ap (λ (all : List (AssocKey × Terms AssocBody)). get_or all 0 (association_entry a)) are in
+    All-cons (IsPlain association_line) (line_of_association a) (map line_of_association xs)
+    (record {
+      it = e;
+      fits = subst (λ (p : AssocKey × Terms AssocBody). AllFit (association_of p)) first fits.0;
+      is = ap (λ (p : AssocKey × Terms AssocBody). plain_line (association_of p)) first;
+    }) (plain-associations xs es (ap (drop 1) are) fits.1)
+
+plain-schedules : (xs : List Schedule) (es : List (List ℕ × Permanent BodyParts)) → schedule_entries xs ≡ permanent_entries es →
+    AllTablesFit (flat_map tables_of xs) → length (flat_map tables_of xs) < 2 ^ 64 → All IsSchedule (map lines_of_schedule xs)
+plain-schedules [] es are fits few = All-nil IsSchedule
+plain-schedules (s ∷ xs) [] are fits few = absurd (let long = ap length are in omega (arith, long))
+plain-schedules (s ∷ xs) (e ∷ es) are fits few =
+    let first = ap (λ (all : List (List ℕ × Terms BodyParts)). get_or all 0 (schedule_entry s)) are in
+    let own = subst (λ (p : List ℕ × Terms BodyParts). AllTablesFit (schedule_of p)) first
+    (fit-front (tables_of s) (flat_map tables_of xs) fits) in
+    let long = length-append (tables_of s) (flat_map tables_of xs) in
+    let as-many = length-map (body_tables s.body) plain_line in
+    All-cons IsSchedule (lines_of_schedule s) (map lines_of_schedule xs)
+    (record {
+      it = e;
+      fits = record { basic = own.0; further = own.1 };
+      is = ap (λ (p : List ℕ × Terms BodyParts). lines_in (schedule_of p)) first;
+      few = omega (arith, few, long, as-many);
+    }) (plain-schedules xs es (ap (drop 1) are) (fit-back (tables_of s) (flat_map tables_of xs) fits) (omega (arith, few, long)))
+
+fewer-schedules : (xs : List Schedule) → length (map lines_of_schedule xs) ≤ length (flat_map tables_of xs)
+fewer-schedules [] = omega arith
+fewer-schedules (s ∷ xs) = omega (arith, fewer-schedules xs, length-append (tables_of s) (flat_map tables_of xs))
+
+module _ (form : Form) (x : ExtractParts) (text : List ℕ) (is : IsCanonicalText form x text) (few : length text < 2 ^ 64) where
+  are-plain : ArePlain (lines_of x)
+  are-plain =
+      let locations = map tiploc_table x.tiplocs in
+      let own = map aa.association_table x.associations in
+      let trains = flat_map tables_of x.schedules in
+      let end : List (List Row) = trailer_table ∷ [] in
+      let fits = spelled-fits (contents_of text) x is.spelled.are_lines is.spelled.spelled in
+      let behind = fit-back locations (own ++ (trains ++ end)) fits.1 in
+      let back = fit-back own (trains ++ end) behind in
+      let bytes = ap length is.text in
+      let lines = some-byte (map plain_line (extract_tables x)) in
+      let all = length-map (extract_tables x) plain_line in
+      let more = length-append locations (own ++ (trains ++ end)) in
+      let others = length-append own (trains ++ end) in
+      let last = length-append trains end in
+      let some : length trains < 2 ^ 64 = omega (arith, few, bytes, lines, all, more, others, last) in
+      let fewer = fewer-schedules x.schedules in
+      record {
+        header = record { it = x.header; fits = fits.0; is = refl };
+        tiplocs = plain-tiplocs x.tiplocs (fit-front locations (own ++ (trains ++ end)) fits.1);
+        associations = plain-associations x.associations is.canonical.associations.records is.canonical.associations.are
+            (fit-front own (trains ++ end) behind);
+        schedules = plain-schedules x.schedules is.canonical.schedules.records is.canonical.schedules.are (fit-front trains end back) some;
+        few = omega (arith, some, fewer);
+      }
+
+-- ---- canonical extracts
 
 module _ (form other : Form) (x y : ExtractParts) (c d : CanonParts) (one : IsCanonOf form x c) (two : IsCanonOf other y d)
     (few : length c.text < 2 ^ 64) (as-few : length d.text < 2 ^ 64) where
+  abbrev made : ExtractParts
+  made = one.canonical.made
+
+  abbrev other_made : ExtractParts
+  other_made = two.canonical.made
+
+  text-of_tables : HaveSameTables c.lines d.lines → c.text ≡ d.text
+  text-of_tables same =
+      let lines = same-lines (lines_of made) (lines_of other_made) (are-plain form made c.text one.canonical.canonical few)
+      (are-plain other other_made d.text two.canonical.canonical as-few)
+      (λ table not. ap (table_text table) (sym one.lines_are) ∙ same table not ∙ ap (table_text table) two.lines_are) in
+      one.canonical.canonical.text ∙ text-is made ∙ ap text_of lines ∙ sym (text-is other_made) ∙ sym two.canonical.canonical.text
+
+  one-made : c.text ≡ d.text → made ≡ other_made
+  one-made same =
+      one_spelled d.text made other_made (subst (λ t. BytesSpell t made) same one.canonical.canonical.spelled)
+      two.canonical.canonical.spelled
+
   pub same-text : HaveSameTables c.lines d.lines ↔ (c.text ≡ d.text)
-  same-text = let z1 = same-schedules in let z2 = all-numbered in let z3 = all-rows in ?
+  same-text = (
+    text-of_tables,
+    λ same table not. ap (table_text table) (one.lines_are ∙ ap lines_of (one-made same) ∙ sym two.lines_are),
+  )
 
   pub same-meaning : HaveSameTables c.lines d.lines → SameMeaning x y
-  same-meaning same = ?
+  same-meaning same =
+      same-trans x made y one.canonical.same
+      (subst (λ m. SameMeaning m y) (sym (one-made (text-of_tables same))) (same-sym y other_made two.canonical.same))
