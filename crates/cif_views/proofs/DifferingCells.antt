@@ -135,6 +135,8 @@ two-parts from mid to line one some more =
     ∙ ap (λ (l : List ℕ). columns from mid line ++ take (to - mid) l) (drop-drop (mid - (from - 1)) (from - 1) line)
     ∙ (λ i. columns from mid line ++ take (n i) (drop (k i) line))
 
+-- ---- all columns of a record are the same if those of fields are
+
 -- fields that stand one behind another, from one column to another
 abbrev pub is_run : JourneyKind → ℕ → ℕ → List Column → Bool
 is_run kind from to [] = false
@@ -142,6 +144,28 @@ is_run kind from to (c ∷ own) =
     let span = span_in kind c.1 in
     is_six c.1 span.0 span.1
     && (nat_eq span.0 from && (nat_le from span.1 && (nat_le span.1 to && (nat_eq span.1 to || is_run kind (span.1 + 1) to own))))
+
+-- these columns are those of fields
+abbrev pub is_field : JourneyKind → ℕ → ℕ → List Column → Bool
+is_field kind from to [] = false
+is_field kind from to (c ∷ own) = is_run kind from to (c ∷ own) || is_field kind from to own
+
+-- they are among the first of the line, or those of a field
+abbrev pub is_among : ℕ → JourneyKind → List Column → ℕ → ℕ → Bool
+is_among front kind own from to =
+    (nat_le 1 from && (nat_le from to && nat_le to 80)) && (nat_le to front || is_field kind from to own)
+
+abbrev pub is_there : JourneyKind → List Column → ℕ → ℕ → Bool
+is_there kind own from to = is_among 0 kind own from to
+
+-- all are, but for spare ones
+abbrev pub if_used : FieldValue → Bool → Bool
+if_used spare test = true
+if_used _ test = test
+
+abbrev pub are_covered : ℕ → JourneyKind → List Column → List Row → Bool
+are_covered front kind own [] = true
+are_covered front kind own (r ∷ rows) = if_used r.value (is_among front kind own r.from r.to) && are_covered front kind own rows
 
 module _ (l m : List ℕ) where
   -- ---- what stands in one line stands in another with the same columns, but for spare ones
@@ -153,30 +177,6 @@ module _ (l m : List ℕ) where
   abbrev pub AllSame : List Row → Type 0
   AllSame [] = Unit {0}
   AllSame (r ∷ rows) = AreSame r.value (columns r.from r.to l) (columns r.from r.to m) × AllSame rows
-
-  -- ---- all columns of a record are the same if those of fields are
-
-  -- these columns are those of fields
-  abbrev pub is_field : JourneyKind → ℕ → ℕ → List Column → Bool
-  is_field kind from to [] = false
-  is_field kind from to (c ∷ own) = is_run kind from to (c ∷ own) || is_field kind from to own
-
-  -- they are among the first of the line, or those of a field
-  abbrev pub is_among : ℕ → JourneyKind → List Column → ℕ → ℕ → Bool
-  is_among front kind own from to =
-      (nat_le 1 from && (nat_le from to && nat_le to 80)) && (nat_le to front || is_field kind from to own)
-
-  abbrev pub is_there : JourneyKind → List Column → ℕ → ℕ → Bool
-  is_there kind own from to = is_among 0 kind own from to
-
-  -- all are, but for spare ones
-  abbrev pub if_used : FieldValue → Bool → Bool
-  if_used spare test = true
-  if_used _ test = test
-
-  abbrev pub are_covered : ℕ → JourneyKind → List Column → List Row → Bool
-  are_covered front kind own [] = true
-  are_covered front kind own (r ∷ rows) = if_used r.value (is_among front kind own r.from r.to) && are_covered front kind own rows
 
   module _ (front : ℕ) (kind : JourneyKind) (first_are : take front l ≡ take front m) (left : IsLine l) (right : IsLine m) where
     among-first : (from to : ℕ) → 1 ≤ from → from ≤ to → to ≤ front → columns from to l ≡ columns from to m

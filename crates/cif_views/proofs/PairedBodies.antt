@@ -66,7 +66,7 @@ module _ (l m : List ℕ) (left : IsLine l) (right : IsLine m) (place : columns 
     (same : own_cells (kind_of_line l) l ≡ own_cells (kind_of_line l) m) where
   -- where the cells of all fields that a line of a kind has cover a record of the kind, what the other line spells this one does
   by-cells : (kind : JourneyKind) (r : Record) → kind_of_line m ≡ kind →
-      IsTrue (are_covered l m 10 kind (own_columns kind) (record_table r)) → AllSame l m (record_table r)
+      IsTrue (are_covered 10 kind (own_columns kind) (record_table r)) → AllSame l m (record_table r)
   by-cells kind r is covered =
       all-covered l m 10 kind place left right (own_columns kind) (record_table r) covered
       (subst (λ k. own_cells k l ≡ own_cells k m) (sym (same-kind l m place) ∙ is) same)
@@ -364,7 +364,7 @@ module _ (e g : AssocKey × Permanent AssocBody) (one : AllFit (association_line
       let a = (stands-plain_line (association_line e) refl one).1.1.1.1.1.1.1 in
       let b = (stands-plain_line (association_line g) refl other).1.1.1.1.1.1.1 in
       let same = same-cells (in_record (association_head changed l) (codes "AA")) l m (category_fields ++ type_fields) none in
-      let there : (from to : ℕ) → IsTrue (is_there l m kinds_of.Other compared from to) → columns from to l ≡ columns from to m =
+      let there : (from to : ℕ) → IsTrue (is_there kinds_of.Other compared from to) → columns from to l ≡ columns from to m =
       λ from to is. covered l m 0 kinds_of.Other refl left right from to compared is same in
       let both : (from to : ℕ) (v w : List ℕ) → columns from to l ≡ columns from to m → StandsIn (columns from to l) (text v) →
       StandsIn (columns from to m) (text w) → v ≡ w =

@@ -1,12 +1,12 @@
 -- The text of rows tells their cells: none has a tab or a line feed.
-use Rattle.std.proofs.Common.{◌≡◌, ℕ, zero, suc, ◌+◌, ◌-◌, ◌<◌, ◌≤◌, ◌^◌, All, Bool, true, false, IsTrue, List, [], ◌∷◌, ◌++◌, length, map, ◌∙◌, ap}
-use Rattle.std.proofs.Common.{append-nil, append_assoc, arith, codes, decimal, drop, get_or, length-append, refl, sym, take}
+use Rattle.std.proofs.Common.{◌≡◌, ℕ, zero, suc, ◌+◌, ◌-◌, ◌<◌, ◌^◌, All, IsTrue, List, [], ◌∷◌, ◌++◌, length, map, ◌∙◌, ap}
+use Rattle.std.proofs.Common.{append_assoc, arith, codes, decimal, drop, length-append, refl, sym}
 use Rattle.std.specs.List.{join_with_byte}
 use Rattle.std.specs.Prelude.{◌&&◌, nat_eq, nat_le}
 use Rattle.std.specs.Str.Parse.{AllDigits}
 use Rattle.std.proofs.lemmas.Bool.{and_parts, eqb-true, leb-true}
 use Rattle.std.proofs.lemmas.Fmt.{decimal_is_IsNumeral}
-use Rattle.std.proofs.lemmas.List.{append_cancel_left, length-map}
+use Rattle.std.proofs.lemmas.List.{length-map}
 use Rattle.std.proofs.lemmas.List.Elements.{All-cons, All-drop, All-head, All-nil, All-tail, All-take}
 use Rattle.std.proofs.lemmas.Str.Parse.{digit_from_value}
 use Rattle.cif_columns.specs.Line.{ArePrintable, IsPrintable}
@@ -18,7 +18,6 @@ use Rattle.cif_views.specs.declared.columns.Place.{Place}
 use Rattle.cif_views.specs.declared.columns.Place.TheVariants as place
 use Rattle.cif_views.proofs.Words.{Column, IsLine, JourneyKind, TableFields, Tsv, columns, fields_in, flat_map, row_fields, row_line, shown}
 use Rattle.cif_views.proofs.Words.{yymmdd_from}
-use Rattle.cif_views.proofs.TableRows.{within-span}
 
 -- ---- a text, cut at bytes that no cell has
 

@@ -1,10 +1,10 @@
 -- The rows of calls and of changes tell the lines of each journey, and where a change stands among the calls.
-use Rattle.std.proofs.Common.{◌≡◌, ℕ, ◌+◌, ◌<◌, ◌≤◌, ◌^◌, ◌⊎◌, All, Bool, true, false, IsTrue, List, [], ◌∷◌, ◌++◌, Option, None, Some, ap}
+use Rattle.std.proofs.Common.{◌≡◌, ℕ, ◌+◌, ◌<◌, ◌≤◌, ◌^◌, ◌⊎◌, All, Bool, true, false, List, [], ◌∷◌, ◌++◌, ap}
 use Rattle.std.proofs.Common.{arith, codes, cond, decimal, drop, get_or, inl, inr, length, map, refl, subst, sym, take, ◌∙◌, ⊎_elim}
-use Rattle.std.specs.List.{enumerate_from, filter}
+use Rattle.std.specs.List.{filter}
 use Rattle.std.proofs.lemmas.Bool.{false≢true}
 use Rattle.std.proofs.lemmas.Fmt.{decimal_injective}
-use Rattle.std.proofs.lemmas.List.Elements.{All-append, All-cons, All-filter, All-head, All-nil, All-tail, filter_passes}
+use Rattle.std.proofs.lemmas.List.Elements.{All-cons, All-filter, All-head, All-nil, All-tail}
 use Rattle.cif_columns.specs.Field.{plain_line}
 use Rattle.cif_columns.specs.Line.{ArePrintable}
 use Rattle.cif_records.specs.Record.{SpellsRecord, record_table}
@@ -12,10 +12,10 @@ use Rattle.cif_records.specs.declared.record.Record.{Record}
 use Rattle.cif_records.specs.declared.record.Record.TheVariants as of
 use Rattle.cif_records.proofs.Records as records
 use Rattle.cif_views.specs.Steps.Columns.{call_columns, change_columns}
-use Rattle.cif_views.specs.Tables.{calls_of, change_fields, changes_of}
-use Rattle.cif_views.proofs.Words.{AllFit, Change, Field, IsLine, JourneyKind, Numbered, Origin, Other, ScheduleLines, Stop, Terminus, Tsv}
-use Rattle.cif_views.proofs.Words.{call_fields, columns, fields_in, flat_map, is_call, is_change, journey_kind, kind_of_line, number}
-use Rattle.cif_views.proofs.Words.{numbered_from, own_columns, row_fields, shown}
+use Rattle.cif_views.specs.Tables.{change_fields}
+use Rattle.cif_views.proofs.Words.{AllFit, Change, Field, IsLine, JourneyKind, Numbered, Origin, Other, Stop, Terminus, Tsv}
+use Rattle.cif_views.proofs.Words.{call_fields, columns, fields_in, is_call, is_change, journey_kind, kind_of_line, number}
+use Rattle.cif_views.proofs.Words.{numbered_from, own_columns, shown}
 use Rattle.cif_views.proofs.DifferingCells.{covered, two-parts}
 use Rattle.cif_views.proofs.DifferingFields.{same-kind}
 use Rattle.cif_views.proofs.PairedBodies.{IsPlace, one-place, own_cells}

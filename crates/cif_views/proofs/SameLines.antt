@@ -1,6 +1,6 @@
 -- Rows with the same cells are those of the same plain lines: of a header, a location, an association, and a schedule.
-use Rattle.std.proofs.Common.{◌≡◌, ℕ, ◌+◌, ◌-◌, ◌<◌, ◌≤◌, ◌^◌, All, Bool, true, false, IsTrue, List, [], ◌∷◌, ◌++◌, Option, None, Some}
-use Rattle.std.proofs.Common.{append_assoc, arith, cond, decimal, drop, length, length-append, map, nat_eq, refl, replicate, subst, sym, take}
+use Rattle.std.proofs.Common.{◌≡◌, ℕ, ◌+◌, ◌-◌, ◌<◌, ◌^◌, Bool, true, false, IsTrue, List, [], ◌∷◌, ◌++◌, Option, None, Some}
+use Rattle.std.proofs.Common.{append_assoc, arith, decimal, drop, length, length-append, map, nat_eq, refl, subst, sym, take}
 use Rattle.std.proofs.Common.{◌∙◌, ap, ap₂, get_or, ⊎_elim}
 use Rattle.std.specs.Prelude.{◌&&◌, ◌||◌}
 use Rattle.std.proofs.Math.Seq.{take-append_seam}
@@ -9,7 +9,7 @@ use Rattle.std.proofs.lemmas.Fmt.{decimal_injective}
 use Rattle.std.proofs.lemmas.List.{drop_at}
 use Rattle.std.proofs.lemmas.List.Elements.{All-append, All-cons}
 use Rattle.cif_columns.specs.Field.{is_whole_from, plain_columns, plain_line, width_of}
-use Rattle.cif_columns.specs.Line.{ArePrintable, IsPrintable}
+use Rattle.cif_columns.specs.Line.{ArePrintable}
 use Rattle.cif_columns.proofs.Parts.{length-plain_columns, whole-first}
 use Rattle.cif_columns.proofs.PlainLines.{line-plain_line}
 use Rattle.cif_canon.proofs.ViewLines.{spaces}
@@ -21,11 +21,11 @@ use Rattle.cif_records.specs.Tiploc.{tiploc_table}
 use Rattle.cif_records.specs.declared.extra.Extra.{Extra}
 use Rattle.cif_records.specs.declared.record.Record.TheVariants as of
 use Rattle.cif_records.proofs.Records as records
-use Rattle.cif_views.specs.Steps.Columns.{are_within, association_columns, basic_columns, extra_columns, over}
+use Rattle.cif_views.specs.Steps.Columns.{association_columns, basic_columns, extra_columns, over}
 use Rattle.cif_views.specs.Tables.{NumberedSchedule, association_fields, header_fields}
 use Rattle.cif_views.specs.declared.columns.TheConstants.{HEADER, TIPLOC}
 use Rattle.cif_views.specs.declared.tables.JourneyKind.TheVariants.{Other}
-use Rattle.cif_views.proofs.Words.{AllFit, Column, IsLine, JourneyKind, Row, TableFields, Tsv, bytes_decides, columns, fields_in, pointwise}
+use Rattle.cif_views.proofs.Words.{AllFit, Column, IsLine, Row, Tsv, bytes_decides, columns, fields_in, pointwise}
 use Rattle.cif_views.proofs.Words.{schedule_fields, shown, tiploc_fields}
 use Rattle.cif_views.proofs.DifferingCells.{covered, is_among}
 use Rattle.cif_views.proofs.PairedBodies.{association_line, basic_line, extra_line, same-extra}
@@ -73,7 +73,7 @@ are_alike own (r ∷ rows) [] = false
 are_alike own (r ∷ rows) (q ∷ qs) =
     nat_eq r.from q.from
     && (nat_eq r.to q.to
-    && ((is_among [] [] 0 Other own r.from r.to
+    && ((is_among 0 Other own r.from r.to
     || pointwise nat_eq (plain_columns (width_of r) r.value) (plain_columns (width_of q) q.value)) && are_alike own rows qs))
 
 module _ (l m : List ℕ) (left : IsLine l) (right : IsLine m) (own : List Column)
@@ -91,7 +91,7 @@ module _ (l m : List ℕ) (left : IsLine l) (right : IsLine m) (own : List Colum
       let here : plain_columns (width_of r) r.value ≡ plain_columns (width_of q) q.value = ⊎_elim
       (λ among. sym one.0 ∙ covered l m 0 Other refl left right r.from r.to own among same ∙ (λ i. columns (begin i) (end i) m) ∙ other.0)
       (λ equal. (bytes_decides _ _).0 equal)
-      (or_cases (is_among l m 0 Other own r.from r.to) _ there) in
+      (or_cases (is_among 0 Other own r.from r.to) _ there) in
       ap₂ (λ (c d : List ℕ). c ++ d) here (same-values rows qs rest one.1 other.1)
 
 -- a line is the plain line of a record of a kind, whose values fit
@@ -166,7 +166,7 @@ schedule-cells s p =
     let basic = are-cells s.basic (is-line basic_line basic_columns (λ e. refl) (λ e g. refl) s.basic p.basic) Other basic_columns refl in
     let extra = are-cells s.extra (line-of_extra s.extra p.extra) Other extra_columns refl in
     All-cons ArePrintable (decimal s.schedule) (cells_in basic_columns s.basic ++ cells_in extra_columns s.extra)
-    (number-printable s.schedule p.few) 
+    (number-printable s.schedule p.few)
     (All-append ArePrintable (cells_in basic_columns s.basic) (cells_in extra_columns s.extra) basic extra)
 
 same-numbered : (s t : NumberedSchedule) → s.schedule ≡ t.schedule → s.basic ≡ t.basic → s.extra ≡ t.extra → s ≡ t

@@ -16,7 +16,7 @@ use Rattle.cif_views.specs.Tables.{NumberedSchedule, extra_fields}
 use Rattle.cif_views.proofs.Words.{BodyParts, JourneyKind, Numbered, Other, Permanent, ScheduleLines, Tsv, columns, extra_in, flat_map, is_call}
 use Rattle.cif_views.proofs.Words.{is_change, journey_kind, kind_of_line, numbered_from, numbered_schedule, row_fields, schedule_plain, shown}
 use Rattle.cif_views.proofs.Words.{trimmed}
-use Rattle.cif_views.proofs.PairedBodies.{AreFurther, ArePlaces, FitsLines, are-further, are-places, extra-fits, extra_line, journey-fits}
+use Rattle.cif_views.proofs.PairedBodies.{ArePlaces, FitsLines, are-further, are-places, extra-fits, extra_line, journey-fits}
 use Rattle.cif_views.proofs.PairedBodies.{lines_of, same-extra}
 use Rattle.cif_views.proofs.SameJourneys.{IsNumbered, IsNumberedAs, IsOfJourney, numbered-as, same-journey}
 use Rattle.cif_views.proofs.SameLines.{IsNumberedPlain}

@@ -1,6 +1,6 @@
 -- Canonical extracts have the same tables exactly if they have the same text.
-use Rattle.std.proofs.Common.{◌≡◌, ◌≢◌, ℕ, ◌+◌, ◌<◌, ◌≤◌, ◌^◌, All, List, [], ◌∷◌, ◌++◌, Some, ap, ap₂, ◌∙◌, length, map, refl, subst, sym}
-use Rattle.std.proofs.Common.{append_assoc, arith, drop, get_or, length-append}
+use Rattle.std.proofs.Common.{◌≡◌, ◌≢◌, ℕ, ◌+◌, ◌<◌, ◌≤◌, ◌^◌, All, List, [], ◌∷◌, ◌++◌, ap, ap₂, ◌∙◌, length, map, refl, subst, sym}
+use Rattle.std.proofs.Common.{arith, drop, get_or, length-append}
 use Rattle.std.specs.List.{enumerate_from}
 use Rattle.std.specs.Prelude.{◌↔◌}
 use Rattle.std.proofs.lemmas.Grind.{flat_map-append}
@@ -16,7 +16,6 @@ use Rattle.cif_extract.specs.Texts.{AllTablesFit, body_tables, extract_tables, e
 use Rattle.cif_extract.proofs.PlainTexts.{fit-back, fit-front, spelled-fits}
 use Rattle.cif_extract.proofs.SpelledBytes.{one_spelled}
 use Rattle.cif_records.specs.Association as aa
-use Rattle.cif_records.specs.Basic.{basic_rows}
 use Rattle.cif_records.specs.Header.{header_table}
 use Rattle.cif_records.specs.Tiploc.{tiploc_table}
 use Rattle.cif_records.specs.Trailer.{trailer_table}
@@ -30,10 +29,10 @@ use Rattle.cif_canon.specs.Meaning.{SameMeaning}
 use Rattle.cif_canon.proofs.SameExtracts.{same-sym, same-trans}
 use Rattle.cif_views.specs.SameTables.{HaveSameTables}
 use Rattle.cif_views.specs.TableText.{table_heading, table_text}
-use Rattle.cif_views.specs.Tables.{NumberedSchedule, association_fields, calls_of, change_fields, changes_of, header_fields}
+use Rattle.cif_views.specs.Tables.{association_fields, calls_of, change_fields, changes_of, header_fields}
 use Rattle.cif_views.specs.declared.tables.Table.{Table}
 use Rattle.cif_views.specs.declared.tables.Table.TheVariants.{Associations, Calls, Changes, Header, Public, Schedules, Tiplocs}
-use Rattle.cif_views.proofs.Words.{AllFit, AssocBody, AssocKey, Association, BodyParts, ExtractParts, Numbered, Permanent, Row, Schedule}
+use Rattle.cif_views.proofs.Words.{AllFit, AssocBody, AssocKey, Association, BodyParts, ExtractParts, Permanent, Row, Schedule}
 use Rattle.cif_views.proofs.Words.{ScheduleLines, association_entries, association_entry, call_fields, flat_map, is_call, is_change}
 use Rattle.cif_views.proofs.Words.{line_of_tiploc, numbered_schedule, row_line, schedule_entries, schedule_entry, schedule_fields, table_rows}
 use Rattle.cif_views.proofs.Words.{tiploc_fields}
