@@ -12,10 +12,9 @@ mod PairedBodies
 mod PairedJourneys
 mod PublicMoments
 pub mod PublicRows
-mod RowCells
+mod RowLines
 mod RowsOfDifferences
 mod SameJourneys
-mod SameLines
 mod SameSchedules
 mod SameTables
 pub mod TableRows

@@ -1,5 +1,5 @@
 -- The rows of calls and of changes tell the lines of each journey, and where a change stands among the calls.
-use Rattle.std.proofs.Common.{◌≡◌, ℕ, ◌+◌, ◌<◌, ◌≤◌, ◌^◌, ◌⊎◌, All, Bool, true, false, List, [], ◌∷◌, ◌++◌, ap}
+use Rattle.std.proofs.Common.{◌≡◌, ℕ, ◌+◌, ◌-◌, ◌≤◌, ◌^◌, ◌⊎◌, All, Bool, true, false, List, [], ◌∷◌, ◌++◌, ap}
 use Rattle.std.proofs.Common.{arith, codes, cond, decimal, drop, get_or, inl, inr, length, map, refl, subst, sym, take, ◌∙◌, ⊎_elim}
 use Rattle.std.specs.List.{filter}
 use Rattle.std.proofs.lemmas.Bool.{false≢true}
@@ -19,7 +19,7 @@ use Rattle.cif_views.proofs.Words.{numbered_from, own_columns, shown}
 use Rattle.cif_views.proofs.DifferingCells.{covered, two-parts}
 use Rattle.cif_views.proofs.DifferingFields.{same-kind}
 use Rattle.cif_views.proofs.PairedBodies.{IsPlace, one-place, own_cells}
-use Rattle.cif_views.proofs.RowCells.{AreCells, are-cells, cells_of, number-printable}
+use Rattle.cif_views.proofs.RowLines.{AreCells, are-cells, cells_of, number-printable}
 use Rattle.cif_views.proofs.TableRows.{call-fields}
 
 -- ---- lines of journeys
@@ -69,33 +69,37 @@ told line j = tell line j.it j.place (subst (λ l. SpellsRecord l j.it) (sym j.i
 
 -- ---- their rows
 
--- a line with its numbers, which are few enough to be written
-pub record IsNumbered (p : Numbered) : Type 0 where
-  pub few : p.schedule < 2 ^ 64
-  pub few_calls : p.call < 2 ^ 64
+-- the highest number that can be written
+abbrev pub most : ℕ
+most = 2 ^ 64 - 1
+
+-- a line of a schedule, and with the number of a call, in these ranges
+pub record IsNumbered (first last low high : ℕ) (p : Numbered) : Type 0 where
+  pub from : first ≤ p.schedule
+  pub upto : p.schedule ≤ last
+  pub call_from : low ≤ p.call
+  pub call_upto : p.call ≤ high
   pub line : IsOfJourney p.line
 
-same-numbers : (p q : Numbered) → IsNumbered p → IsNumbered q → (cs ds : List (List ℕ)) →
+-- a row of a table of such lines, in which those of some kinds are
+pub record IsRow (test : JourneyKind → Bool) (first last : ℕ) (p : Numbered) : Type 0 where
+  pub numbered : IsNumbered first last 1 most p
+  pub passes : test (kind_of_line p.line) ≡ true
+
+same-numbers : (p q : Numbered) → IsNumbered 1 most 1 most p → IsNumbered 1 most 1 most q → (cs ds : List (List ℕ)) →
     decimal p.schedule ∷ decimal p.call ∷ cs ≡ decimal q.schedule ∷ decimal q.call ∷ ds → p.line ≡ q.line → p ≡ q
 same-numbers p q one other cs ds same line =
-    let schedule = decimal_injective p.schedule q.schedule one.few other.few (ap (λ (cells : List (List ℕ)). get_or cells 0 []) same) in
-    let call = decimal_injective p.call q.call one.few_calls other.few_calls
+    let schedule = decimal_injective p.schedule q.schedule (omega (arith, one.upto)) (omega (arith, other.upto))
+    (ap (λ (cells : List (List ℕ)). get_or cells 0 []) same) in
+    let call = decimal_injective p.call q.call (omega (arith, one.call_upto)) (omega (arith, other.call_upto))
     (ap (λ (cells : List (List ℕ)). get_or cells 1 []) same) in
     λ i. record { schedule = schedule i; call = call i; line = line i }
 
-numbers-printable : (p : Numbered) → IsNumbered p → (cells : List (List ℕ)) → AreCells cells →
+numbers-printable : (p : Numbered) → IsNumbered 1 most 1 most p → (cells : List (List ℕ)) → AreCells cells →
     AreCells (decimal p.schedule ∷ decimal p.call ∷ cells)
 numbers-printable p is cells all =
-    All-cons ArePrintable (decimal p.schedule) (decimal p.call ∷ cells) (number-printable p.schedule is.few)
-    (All-cons ArePrintable (decimal p.call) cells (number-printable p.call is.few_calls) all)
-
-pub record IsCallRow (p : Numbered) : Type 0 where
-  pub numbered : IsNumbered p
-  pub is : is_call (kind_of_line p.line) ≡ true
-
-pub record IsChangeRow (p : Numbered) : Type 0 where
-  pub numbered : IsNumbered p
-  pub is : is_change (kind_of_line p.line) ≡ true
+    All-cons ArePrintable (decimal p.schedule) (decimal p.call ∷ cells) (number-printable p.schedule (omega (arith, is.upto)))
+    (All-cons ArePrintable (decimal p.call) cells (number-printable p.call (omega (arith, is.call_upto))) all)
 
 abbrev call_cells : JourneyKind → List ℕ → List (List ℕ)
 call_cells kind line = map (shown Tsv) (fields_in kind call_columns line)
@@ -107,7 +111,7 @@ call-row p =
     ap (λ (own : List Field). map (shown Tsv) (number p.schedule ∷ number p.call ∷ (fields_in kind (take 3 call_columns) p.line ++ own)))
     (call-fields p.line kind refl)
 
-pub call-cells : (p : Numbered) → IsCallRow p → AreCells (cells_of call_fields p)
+pub call-cells : (p : Numbered) → IsRow is_call 1 most p → AreCells (cells_of call_fields p)
 call-cells p row =
     subst AreCells (sym (call-row p))
     (numbers-printable p row.numbered (call_cells (kind_of_line p.line) p.line)
@@ -127,7 +131,7 @@ changed-kind Stop is = absurd (false≢true is)
 changed-kind Terminus is = absurd (false≢true is)
 changed-kind Other is = absurd (false≢true is)
 
-pub one-call : (p q : Numbered) → IsCallRow p → IsCallRow q → cells_of call_fields p ≡ cells_of call_fields q → p ≡ q
+pub one-call : (p q : Numbered) → IsRow is_call 1 most p → IsRow is_call 1 most q → cells_of call_fields p ≡ cells_of call_fields q → p ≡ q
 one-call p q one other same =
     let l = p.line in
     let m = q.line in
@@ -142,9 +146,9 @@ one-call p q one other same =
     same-numbers p q one.numbered other.numbered _ _ cells
     (one-of l m one.numbered.line other.numbered.line place
     (subst (λ c. map (shown Tsv) (fields_in (kind_of_line l) c l) ≡ map (shown Tsv) (fields_in (kind_of_line l) c m))
-    (sym (called (kind_of_line l) one.is)) own))
+    (sym (called (kind_of_line l) one.passes)) own))
 
-pub change-cells : (p : Numbered) → IsChangeRow p → AreCells (cells_of change_fields p)
+pub change-cells : (p : Numbered) → IsRow is_change 1 most p → AreCells (cells_of change_fields p)
 change-cells p row =
     numbers-printable p row.numbered (map (shown Tsv) (fields_in Change change_columns p.line))
     (are-cells p.line (line-of p.line row.numbered.line) Change change_columns refl)
@@ -152,7 +156,7 @@ change-cells p row =
 identity-of : (line : List ℕ) → IsOfJourney line → is_change (kind_of_line line) ≡ true → columns 1 2 line ≡ codes "CR"
 identity-of line j is = ⊎_elim (λ c. absurd (false≢true (sym c.change ∙ is))) (λ c. c.identity) (told line j)
 
-pub one-change : (p q : Numbered) → IsChangeRow p → IsChangeRow q → cells_of change_fields p ≡ cells_of change_fields q → p ≡ q
+pub one-change : (p q : Numbered) → IsRow is_change 1 most p → IsRow is_change 1 most q → cells_of change_fields p ≡ cells_of change_fields q → p ≡ q
 one-change p q one other same =
     let l = p.line in
     let m = q.line in
@@ -160,23 +164,17 @@ one-change p q one other same =
     let right = line-of m other.numbered.line in
     let both : map (shown Tsv) (fields_in Change change_columns l) ≡ map (shown Tsv) (fields_in Change change_columns m) =
     ap (drop 2) same in
-    let first = identity-of l one.numbered.line one.is ∙ sym (identity-of m other.numbered.line other.is) in
+    let first = identity-of l one.numbered.line one.passes ∙ sym (identity-of m other.numbered.line other.passes) in
     let there = covered l m 0 Change refl left right 3 10 change_columns refl both in
     let place : columns 1 10 l ≡ columns 1 10 m =
     two-parts 1 2 10 l (omega arith) (omega arith) (omega arith) ∙ (λ i. first i ++ there i)
     ∙ sym (two-parts 1 2 10 m (omega arith) (omega arith) (omega arith)) in
-    let kind = changed-kind (kind_of_line l) one.is in
+    let kind = changed-kind (kind_of_line l) one.passes in
     let own : own_cells Change l ≡ own_cells Change m = ap (drop 2) both in
     same-numbers p q one.numbered other.numbered _ _ same
     (one-of l m one.numbered.line other.numbered.line place (subst (λ k. own_cells k l ≡ own_cells k m) (sym kind) own))
 
 -- ---- the numbers of a journey's lines
-
-pub record IsNumberedAs (schedule low high : ℕ) (p : Numbered) : Type 0 where
-  pub schedule_is : p.schedule ≡ schedule
-  pub from : low ≤ p.call
-  pub upto : p.call ≤ high
-  pub line : IsOfJourney p.line
 
 no-less : (low call : ℕ) (is : Bool) → low ≤ call → low ≤ cond is (call + 1) call
 no-less low call true h = omega (arith, h)
@@ -187,15 +185,22 @@ no-more call n high true h = omega (arith, h)
 no-more call n high false h = omega (arith, h)
 
 module _ (n : ℕ) where
-  pub numbered-as : (low high call : ℕ) (lines : List (List ℕ)) → low ≤ call → call + length lines ≤ high → All IsOfJourney lines →
-      All (IsNumberedAs n low high) (numbered_from n call lines)
-  numbered-as low high call [] from upto are = All-nil (IsNumberedAs n low high)
-  numbered-as low high call (line ∷ lines) from upto are =
-      let next = cond (is_call (kind_of_line line)) (call + 1) call in
-      All-cons (IsNumberedAs n low high) (record { schedule = n; call = call; line = line }) (numbered_from n next lines)
-      (record { schedule_is = refl; from = from; upto = omega (arith, upto); line = All-head IsOfJourney line lines are })
-      (numbered-as low high next lines (no-less low call (is_call (kind_of_line line)) from)
-      (no-more call (length lines) high (is_call (kind_of_line line)) (omega (arith, upto))) (All-tail IsOfJourney line lines are))
+  pub are-numbered : (first last low high call : ℕ) (lines : List (List ℕ)) → first ≤ n → n ≤ last → low ≤ call →
+      call + length lines ≤ high → All IsOfJourney lines → All (IsNumbered first last low high) (numbered_from n call lines)
+  are-numbered first last low high call [] after before from upto are = All-nil (IsNumbered first last low high)
+  are-numbered first last low high call (line ∷ lines) after before from upto are =
+      let is = is_call (kind_of_line line) in
+      All-cons (IsNumbered first last low high) (record { schedule = n; call = call; line = line })
+      (numbered_from n (cond is (call + 1) call) lines)
+      (record {
+        from = after;
+        upto = before;
+        call_from = from;
+        call_upto = omega (arith, upto);
+        line = All-head IsOfJourney line lines are;
+      })
+      (are-numbered first last low high (cond is (call + 1) call) lines after before (no-less low call is from)
+      (no-more call (length lines) high is (omega (arith, upto))) (All-tail IsOfJourney line lines are))
 
   -- the calls among these lines, and the changes
   abbrev pub calls_from : ℕ → List (List ℕ) → List Numbered
@@ -234,12 +239,12 @@ module _ (n : ℕ) where
   behind-call : (call : ℕ) (line : List ℕ) (lines : List (List ℕ)) (others : List Numbered) → All IsOfJourney lines →
       changes_from (call + 1) lines ≡ here call line ∷ others → ⊥
   behind-call call line lines others are is =
-      let high = call + 1 + length lines in
-      let all = subst (All (IsNumberedAs n (call + 1) high)) is
-      (All-filter (λ p. is_change (kind_of_line p.line)) (IsNumberedAs n (call + 1) high) (numbered_from n (call + 1) lines)
-      (numbered-as (call + 1) high (call + 1) lines (omega arith) (omega arith) are)) in
-      let low = (All-head (IsNumberedAs n (call + 1) high) (here call line) others all).from in
-      omega (arith, low)
+      let low = call + 1 in
+      let high = low + length lines in
+      let all = subst (All (IsNumbered n n low high)) is
+      (All-filter (λ p. is_change (kind_of_line p.line)) (IsNumbered n n low high) (numbered_from n low lines)
+      (are-numbered n n low high low lines (omega arith) (omega arith) (omega arith) (omega arith) are)) in
+      omega (arith, (All-head (IsNumbered n n low high) (here call line) others all).call_from)
 
   none-first : (p : Numbered) (ps : List Numbered) → [] ≡ p ∷ ps → ⊥
   none-first p ps is = let long = ap length is in omega (arith, long)

@@ -1,9 +1,12 @@
 -- Schedules with the same rows in the tables of schedules, calls and changes are the same.
-use Rattle.std.proofs.Common.{◌≡◌, ℕ, ◌+◌, ◌<◌, ◌≤◌, ◌^◌, All, Bool, true, false, List, [], ◌∷◌, ◌++◌, Option, None, Some, ap, ◌∙◌}
-use Rattle.std.proofs.Common.{arith, cond, drop, get_or, length, map, refl, subst, sym}
+use Rattle.std.proofs.Common.{◌≡◌, ℕ, ◌+◌, ◌<◌, ◌≤◌, ◌^◌, All, Bool, false, List, [], ◌∷◌, ◌++◌, Option, None, Some, ap, ◌∙◌}
+use Rattle.std.proofs.Common.{arith, cond, decimal, drop, get_or, length, map, refl, subst, sym, take}
 use Rattle.std.specs.List.{enumerate_from, filter}
+use Rattle.std.proofs.lemmas.Fmt.{decimal_injective}
 use Rattle.std.proofs.lemmas.List.Elements.{All-append, All-cons, All-filter, All-head, All-nil, All-tail, filter_passes}
 use Rattle.cif_columns.specs.Field.{plain_line}
+use Rattle.cif_columns.specs.Line.{ArePrintable}
+use Rattle.cif_canon.proofs.ViewLines.{spaces}
 use Rattle.cif_extract.specs.BodyParts.{extra_records, journey_records}
 use Rattle.cif_extract.specs.Call.{call_record}
 use Rattle.cif_extract.specs.Texts.{AllTablesFit}
@@ -12,21 +15,22 @@ use Rattle.cif_records.specs.declared.extra.Extra.{Extra}
 use Rattle.cif_records.specs.declared.record.Record.{Record}
 use Rattle.cif_records.specs.declared.record.Record.TheVariants as of
 use Rattle.cif_records.proofs.Records as records
+use Rattle.cif_views.specs.Steps.Columns.{basic_columns, extra_columns}
 use Rattle.cif_views.specs.Tables.{NumberedSchedule, extra_fields}
-use Rattle.cif_views.proofs.Words.{BodyParts, JourneyKind, Numbered, Other, Permanent, ScheduleLines, Tsv, columns, extra_in, flat_map, is_call}
+use Rattle.cif_views.proofs.Words.{BodyParts, IsLine, JourneyKind, Numbered, Other, Permanent, ScheduleLines, Tsv, columns, extra_in, flat_map, is_call}
 use Rattle.cif_views.proofs.Words.{is_change, journey_kind, kind_of_line, numbered_from, numbered_schedule, row_fields, schedule_plain, shown}
-use Rattle.cif_views.proofs.Words.{trimmed}
+use Rattle.cif_views.proofs.Words.{schedule_fields, trimmed}
 use Rattle.cif_views.proofs.PairedBodies.{ArePlaces, FitsLines, are-further, are-places, extra-fits, extra_line, journey-fits}
-use Rattle.cif_views.proofs.PairedBodies.{lines_of, same-extra}
-use Rattle.cif_views.proofs.SameJourneys.{IsNumbered, IsNumberedAs, IsOfJourney, numbered-as, same-journey}
-use Rattle.cif_views.proofs.SameLines.{IsNumberedPlain}
+use Rattle.cif_views.proofs.PairedBodies.{basic_line, lines_of, same-extra}
+use Rattle.cif_views.proofs.RowLines.{AreCells, IsPlain, are-cells, cells_in, cells_of, is-line, number-printable, one-line}
+use Rattle.cif_views.proofs.SameJourneys.{IsNumbered, IsOfJourney, IsRow, are-numbered, most, same-journey}
 
 -- the lines of a schedule of a canonical extract; the numbers of its calls can be written
 pub record IsSchedule (s : ScheduleLines) : Type 0 where
   pub it : List ℕ × Permanent BodyParts
   pub fits : FitsLines it
   pub is : s ≡ schedule_plain it
-  pub few : length s.further + 1 < 2 ^ 64
+  pub few : length s.further < most
 
 -- its journey
 abbrev journey_of : List ℕ × Permanent BodyParts → List (List ℕ)
@@ -83,85 +87,101 @@ module _ (test : JourneyKind → Bool) (no-other : test Other ≡ false) where
   listed-of n s p =
       ap (listed n) (further-of s p) ∙ listed-behind n p.it.1.body.extra (journey_of p.it) (extra-fits p.it p.fits)
 
-  -- rows from those of the schedule with this number on
-  pub record IsRow (low : ℕ) (p : Numbered) : Type 0 where
-    pub from : low ≤ p.schedule
-    pub numbered : IsNumbered p
-    pub passes : test (kind_of_line p.line) ≡ true
-
-  -- and of this schedule
-  record IsRowOf (n : ℕ) (p : Numbered) : Type 0 where
-    schedule_is : p.schedule ≡ n
-    row : IsRow n p
-
-  of-schedule : (n : ℕ) (s : ScheduleLines) → n < 2 ^ 64 → IsSchedule s → All (IsRowOf n) (listed n s.further)
-  of-schedule n s few p =
+  of-schedule : (first last n : ℕ) (s : ScheduleLines) → first ≤ n → n ≤ last → IsSchedule s →
+      All (IsRow test first last) (listed n s.further)
+  of-schedule first last n s from upto p =
       let lines = journey_of p.it in
       let numbered = numbered_from n 1 lines in
-      let high = 1 + length lines in
-      let few_lines = p.few in
-      let long = ap length (further-of s p) in
-      let more = no-longer p.it.1.body.extra lines in
-      let each = All-filter (λ p. test (kind_of_line p.line)) (IsNumberedAs n 1 high) numbered
-      (numbered-as n 1 high 1 lines (omega arith) (omega arith) (of-journey p.it p.fits)) in
-      let passing = filter_passes (λ (p : Numbered). test (kind_of_line p.line)) numbered in
-      subst (All (IsRowOf n)) (sym (listed-of n s p))
-      (λ k d below.
-      let a = each k d below in
-      let is = a.schedule_is in
-      let upto = a.upto in
-      record {
-        schedule_is = is;
-        row = record {
-          from = omega (arith, is);
-          numbered = record { few = omega (arith, is, few); few_calls = omega (arith, upto, few_lines, long, more); line = a.line };
-          passes = passing k d below;
-        };
-      })
+      let few = p.few in
+      let high : 1 + length lines ≤ most = omega (arith, few, ap length (further-of s p), no-longer p.it.1.body.extra lines) in
+      let are = All-filter (λ p. test (kind_of_line p.line)) (IsNumbered first last 1 most) numbered
+      (are-numbered n first last 1 most 1 lines from upto (omega arith) high (of-journey p.it p.fits)) in
+      let pass = filter_passes (λ (p : Numbered). test (kind_of_line p.line)) numbered in
+      subst (All (IsRow test first last)) (sym (listed-of n s p))
+      (λ k d below. record { numbered = are k d below; passes = pass k d below })
 
   abbrev pub rows_from : ℕ → List ScheduleLines → List Numbered
   rows_from n xs = flat_map (λ (s : ℕ × ScheduleLines). listed s.0 s.1.further) (enumerate_from n xs)
 
-  pub all-rows : (low n : ℕ) (xs : List ScheduleLines) → low ≤ n → n + length xs ≤ 2 ^ 64 → All IsSchedule xs →
-      All (IsRow low) (rows_from n xs)
-  all-rows low n [] from few are = All-nil (IsRow low)
-  all-rows low n (s ∷ xs) from few are =
-      let own = of-schedule n s (omega (arith, few)) (All-head IsSchedule s xs are) in
-      All-append (IsRow low) (listed n s.further) (rows_from (n + 1) xs)
-      (λ k d below.
-      let r = (own k d below).row in
-      let at = r.from in
-      record { from = omega (arith, at, from); numbered = r.numbered; passes = r.passes })
-      (all-rows low (n + 1) xs (omega (arith, from)) (omega (arith, few)) (All-tail IsSchedule s xs are))
+  pub all-rows : (first n : ℕ) (xs : List ScheduleLines) → first ≤ n → n + length xs ≤ 2 ^ 64 → All IsSchedule xs →
+      All (IsRow test first most) (rows_from n xs)
+  all-rows first n [] from few are = All-nil (IsRow test first most)
+  all-rows first n (s ∷ xs) from few are =
+      All-append (IsRow test first most) (listed n s.further) (rows_from (n + 1) xs)
+      (of-schedule first most n s from (omega (arith, few)) (All-head IsSchedule s xs are))
+      (all-rows first (n + 1) xs (omega (arith, from)) (omega (arith, few)) (All-tail IsSchedule s xs are))
 
   -- the rows of a schedule, and those of the others
-  no-later : (n : ℕ) (p : Numbered) (ps s : List Numbered) → IsRowOf n p → All (IsRow (n + 1)) s → s ≡ p ∷ ps → ⊥
+  no-later : (n : ℕ) (p : Numbered) (ps s : List Numbered) → IsRow test n n p → All (IsRow test (n + 1) most) s → s ≡ p ∷ ps → ⊥
   no-later n p ps s own later is =
-      let low = (All-head (IsRow (n + 1)) p ps (subst (All (IsRow (n + 1))) is later)).from in
-      let at = own.schedule_is in
-      omega (arith, low, at)
+      let later_first = All-head (IsRow test (n + 1) most) p ps (subst (All (IsRow test (n + 1) most)) is later) in
+      omega (arith, later_first.numbered.from, own.numbered.upto)
 
-  apart : (n : ℕ) (a b s t : List Numbered) → All (IsRowOf n) a → All (IsRowOf n) b → All (IsRow (n + 1)) s → All (IsRow (n + 1)) t →
-      a ++ s ≡ b ++ t → (a ≡ b) × (s ≡ t)
+  apart : (n : ℕ) (a b s t : List Numbered) → All (IsRow test n n) a → All (IsRow test n n) b → All (IsRow test (n + 1) most) s →
+      All (IsRow test (n + 1) most) t → a ++ s ≡ b ++ t → (a ≡ b) × (s ≡ t)
   apart n [] [] s t one other p q is = (refl, is)
-  apart n [] (y ∷ b) s t one other p q is = absurd (no-later n y (b ++ t) s (All-head (IsRowOf n) y b other) p is)
-  apart n (x ∷ a) [] s t one other p q is = absurd (no-later n x (a ++ s) t (All-head (IsRowOf n) x a one) q (sym is))
+  apart n [] (y ∷ b) s t one other p q is = absurd (no-later n y (b ++ t) s (All-head (IsRow test n n) y b other) p is)
+  apart n (x ∷ a) [] s t one other p q is = absurd (no-later n x (a ++ s) t (All-head (IsRow test n n) x a one) q (sym is))
   apart n (x ∷ a) (y ∷ b) s t one other p q is =
       let first : x ≡ y = ap (λ (all : List Numbered). get_or all 0 x) is in
-      let (rest, behind) = apart n a b s t (All-tail (IsRowOf n) x a one) (All-tail (IsRowOf n) y b other) p q (ap (drop 1) is) in
+      let (rest, behind) = apart n a b s t (All-tail (IsRow test n n) x a one) (All-tail (IsRow test n n) y b other) p q
+      (ap (drop 1) is) in
       ((λ i. first i ∷ rest i), behind)
 
-  pub first-apart : (n : ℕ) (s t : ScheduleLines) (xs ys : List ScheduleLines) → All IsSchedule (s ∷ xs) → All IsSchedule (t ∷ ys) →
+  first-apart : (n : ℕ) (s t : ScheduleLines) (xs ys : List ScheduleLines) → All IsSchedule (s ∷ xs) → All IsSchedule (t ∷ ys) →
       n + length (s ∷ xs) ≤ 2 ^ 64 → n + length (t ∷ ys) ≤ 2 ^ 64 → rows_from n (s ∷ xs) ≡ rows_from n (t ∷ ys) →
       (listed n s.further ≡ listed n t.further) × (rows_from (n + 1) xs ≡ rows_from (n + 1) ys)
   first-apart n s t xs ys one other few as-few is =
       apart n (listed n s.further) (listed n t.further) (rows_from (n + 1) xs) (rows_from (n + 1) ys)
-      (of-schedule n s (omega (arith, few)) (All-head IsSchedule s xs one))
-      (of-schedule n t (omega (arith, as-few)) (All-head IsSchedule t ys other))
+      (of-schedule n n n s (omega arith) (omega arith) (All-head IsSchedule s xs one))
+      (of-schedule n n n t (omega arith) (omega arith) (All-head IsSchedule t ys other))
       (all-rows (n + 1) (n + 1) xs (omega arith) (omega (arith, few)) (All-tail IsSchedule s xs one))
       (all-rows (n + 1) (n + 1) ys (omega arith) (omega (arith, as-few)) (All-tail IsSchedule t ys other)) is
 
 -- ---- the rows of schedules
+
+-- a line has a BX, or spaces in its place
+pub record IsExtra (line : List ℕ) : Type 0 where
+  pub it : Option Extra
+  pub fits : AllTablesFit (map record_table (extra_records it))
+  pub is : line ≡ extra_line it
+
+-- a row of schedules
+pub record IsNumberedPlain (s : NumberedSchedule) : Type 0 where
+  pub few : s.schedule < 2 ^ 64
+  pub basic : IsPlain basic_line s.basic
+  pub extra : IsExtra s.extra
+
+line-of_extra : (line : List ℕ) → IsExtra line → IsLine line
+line-of_extra line x = subst IsLine (sym x.is) (is x.it x.fits)
+  where
+    is : (o : Option Extra) → AllTablesFit (map record_table (extra_records o)) → IsLine (extra_line o)
+    is None fits = record { width = refl; printable = spaces 80 }
+    is (Some e) fits = records.line (of.Extra e) fits.0
+
+pub schedule-cells : (s : NumberedSchedule) → IsNumberedPlain s → AreCells (cells_of schedule_fields s)
+schedule-cells s p =
+    let basic = are-cells s.basic (is-line basic_line basic_columns (λ e. refl) (λ e g. refl) s.basic p.basic) Other basic_columns refl in
+    let extra = are-cells s.extra (line-of_extra s.extra p.extra) Other extra_columns refl in
+    All-cons ArePrintable (decimal s.schedule) (cells_in basic_columns s.basic ++ cells_in extra_columns s.extra)
+    (number-printable s.schedule p.few)
+    (All-append ArePrintable (cells_in basic_columns s.basic) (cells_in extra_columns s.extra) basic extra)
+
+same-numbered : (s t : NumberedSchedule) → s.schedule ≡ t.schedule → s.basic ≡ t.basic → s.extra ≡ t.extra → s ≡ t
+same-numbered s t a b c = λ i. record { schedule = a i; basic = b i; extra = c i }
+
+pub same-row_of : (s t : NumberedSchedule) → IsNumberedPlain s → IsNumberedPlain t →
+    cells_of schedule_fields s ≡ cells_of schedule_fields t → s ≡ t
+same-row_of s t p q same =
+    let number = decimal_injective s.schedule t.schedule p.few q.few (ap (λ (cells : List (List ℕ)). get_or cells 0 []) same) in
+    let basic = one-line basic_line basic_columns (λ e. refl) (λ e g. refl) s.basic t.basic p.basic q.basic
+    (ap (λ (cells : List (List ℕ)). take 21 (drop 1 cells)) same) in
+    let behind : cells_in extra_columns s.extra ≡ cells_in extra_columns t.extra = ap (drop 22) same in
+    let a = p.extra in
+    let b = q.extra in
+    let both = ap (cells_in extra_columns) (sym a.is) ∙ behind ∙ ap (cells_in extra_columns) b.is in
+    let extra = same-extra a.it b.it a.fits b.fits (ap (λ (cells : List (List ℕ)). get_or cells 0 []) both) (ap (drop 1) both) in
+    same-numbered s t number basic (a.is ∙ ap extra_line extra ∙ sym b.is)
 
 abbrev pub schedules_from : ℕ → List ScheduleLines → List NumberedSchedule
 schedules_from n xs = map numbered_schedule (enumerate_from n xs)

@@ -1,6 +1,6 @@
 -- Canonical extracts have the same tables exactly if they have the same text.
 use Rattle.std.proofs.Common.{◌≡◌, ◌≢◌, ℕ, ◌+◌, ◌<◌, ◌≤◌, ◌^◌, All, List, [], ◌∷◌, ◌++◌, ap, ap₂, ◌∙◌, length, map, refl, subst, sym}
-use Rattle.std.proofs.Common.{arith, drop, get_or, length-append}
+use Rattle.std.proofs.Common.{Bool, arith, drop, false, get_or, length-append}
 use Rattle.std.specs.List.{enumerate_from}
 use Rattle.std.specs.Prelude.{◌↔◌}
 use Rattle.std.proofs.lemmas.Grind.{flat_map-append}
@@ -28,20 +28,27 @@ use Rattle.cif_canon.specs.Lines.{ExtractLines, line_of_association, lines_of, l
 use Rattle.cif_canon.specs.Meaning.{SameMeaning}
 use Rattle.cif_canon.proofs.SameExtracts.{same-sym, same-trans}
 use Rattle.cif_views.specs.SameTables.{HaveSameTables}
+use Rattle.cif_views.specs.Steps.Columns.{association_columns, over}
+use Rattle.cif_views.specs.declared.columns.TheConstants.{HEADER, TIPLOC}
 use Rattle.cif_views.specs.TableText.{table_heading, table_text}
-use Rattle.cif_views.specs.Tables.{association_fields, calls_of, change_fields, changes_of, header_fields}
+use Rattle.cif_views.specs.Tables.{association_fields, change_fields, header_fields}
 use Rattle.cif_views.specs.declared.tables.Table.{Table}
 use Rattle.cif_views.specs.declared.tables.Table.TheVariants.{Associations, Calls, Changes, Header, Public, Schedules, Tiplocs}
 use Rattle.cif_views.proofs.Words.{AllFit, AssocBody, AssocKey, Association, BodyParts, ExtractParts, Permanent, Row, Schedule}
 use Rattle.cif_views.proofs.Words.{ScheduleLines, association_entries, association_entry, call_fields, flat_map, is_call, is_change}
 use Rattle.cif_views.proofs.Words.{line_of_tiploc, numbered_schedule, row_line, schedule_entries, schedule_entry, schedule_fields, table_rows}
-use Rattle.cif_views.proofs.Words.{tiploc_fields}
+use Rattle.cif_views.proofs.Words.{Column, JourneyKind, Numbered, Other, TableFields, tiploc_fields}
 use Rattle.cif_views.proofs.PairedBodies.{association_line}
-use Rattle.cif_views.proofs.RowCells.{same-row, same-rows}
-use Rattle.cif_views.proofs.SameJourneys.{IsCallRow, IsChangeRow, call-cells, change-cells, one-call, one-change}
-use Rattle.cif_views.proofs.SameLines.{IsNumberedPlain, IsPlain, association-cells, header-cells, one-association, one-header, one-schedule}
-use Rattle.cif_views.proofs.SameLines.{one-tiploc, schedule-cells, tiploc-cells}
-use Rattle.cif_views.proofs.SameSchedules.{IsSchedule, all-numbered, all-rows, rows_from, same-schedules, schedules_from}
+use Rattle.cif_views.proofs.RowLines.{AreCells, IsPlain, cells_of, same-plain_row, same-plain_rows, same-rows}
+use Rattle.cif_views.proofs.SameJourneys.{IsRow, call-cells, change-cells, most, one-call, one-change}
+use Rattle.cif_views.proofs.SameSchedules.{IsNumberedPlain, IsSchedule, all-numbered, all-rows, listed, rows_from, same-row_of}
+use Rattle.cif_views.proofs.SameSchedules.{same-schedules, schedule-cells, schedules_from}
+
+abbrev header_columns : List Column
+header_columns = over HEADER (λ c. (c.0.now, c.1))
+
+abbrev tiploc_columns : List Column
+tiploc_columns = over TIPLOC (λ c. (c.0.now, c.1))
 
 -- ---- tables, and lines
 
@@ -68,53 +75,53 @@ module _ (x y : ExtractLines) (one : ArePlain x) (other : ArePlain y) (same : Ha
 
   headers : x.header ≡ y.header
   headers =
-      same-row header_fields (IsPlain header_table) (omega arith) header-cells one-header x.header y.header one.header other.header
-      (rows Header (λ e. absurd (cc)))
+      same-plain_row header_table header_columns (λ h. refl) (λ h k. refl) header_fields (λ l. refl) refl (omega arith) x.header y.header
+      one.header other.header (rows Header (λ e. absurd (cc)))
 
   tiplocs : x.tiplocs ≡ y.tiplocs
   tiplocs =
-      same-rows tiploc_fields (IsPlain tiploc_table) (omega arith) tiploc-cells one-tiploc x.tiplocs y.tiplocs one.tiplocs other.tiplocs
-      (rows Tiplocs (λ e. absurd (cc)))
+      same-plain_rows tiploc_table tiploc_columns (λ t. refl) (λ t u. refl) tiploc_fields (λ l. refl) refl (omega arith) x.tiplocs y.tiplocs
+      one.tiplocs other.tiplocs (rows Tiplocs (λ e. absurd (cc)))
 
   associations : x.associations ≡ y.associations
   associations =
-      same-rows association_fields (IsPlain association_line) (omega arith) association-cells one-association x.associations y.associations
-      one.associations other.associations (rows Associations (λ e. absurd (cc)))
+      same-plain_rows association_line association_columns (λ e. refl) (λ e g. refl) association_fields (λ l. refl) refl (omega arith)
+      x.associations y.associations one.associations other.associations (rows Associations (λ e. absurd (cc)))
 
   numbered : schedules_from 1 x.schedules ≡ schedules_from 1 y.schedules
   numbered =
       let text : (z : ExtractLines) → flat_map (row_line schedule_fields) (schedules_from 1 z.schedules) ≡ table_rows Schedules z =
       λ z. flat_map-map (row_line schedule_fields) numbered_schedule (enumerate_from 1 z.schedules) in
-      same-rows schedule_fields IsNumberedPlain (omega arith) schedule-cells one-schedule (schedules_from 1 x.schedules)
+      same-rows schedule_fields IsNumberedPlain (omega arith) schedule-cells same-row_of (schedules_from 1 x.schedules)
       (schedules_from 1 y.schedules) (all-numbered 1 x.schedules (few-of x one) one.schedules)
       (all-numbered 1 y.schedules (few-of y other) other.schedules)
       (text x ∙ rows Schedules (λ e. absurd (cc)) ∙ sym (text y))
 
-  calls : rows_from is_call refl 1 x.schedules ≡ rows_from is_call refl 1 y.schedules
-  calls =
-      let text : (z : ExtractLines) → flat_map (row_line call_fields) (rows_from is_call refl 1 z.schedules) ≡ table_rows Calls z =
-      λ z. flat-twice (row_line call_fields) calls_of (enumerate_from 1 z.schedules) in
-      let are : (z : ExtractLines) → ArePlain z → All IsCallRow (rows_from is_call refl 1 z.schedules) =
-      λ z p k d below.
-      let r = all-rows is_call refl 0 1 z.schedules (omega arith) (few-of z p) p.schedules k d below in
-      record { numbered = r.numbered; is = r.passes } in
-      same-rows call_fields IsCallRow (omega arith) call-cells one-call (rows_from is_call refl 1 x.schedules)
-      (rows_from is_call refl 1 y.schedules) (are x one) (are y other) (text x ∙ rows Calls (λ e. absurd (cc)) ∙ sym (text y))
+  -- the rows of lines of journeys, of some kinds
+  module _ (test : JourneyKind → Bool) (no-other : test Other ≡ false) (fields : TableFields Numbered) (some : 0 < length fields)
+      (cells : (p : Numbered) → IsRow test 1 most p → AreCells (cells_of fields p))
+      (one-row : (p q : Numbered) → IsRow test 1 most p → IsRow test 1 most q → cells_of fields p ≡ cells_of fields q → p ≡ q) where
+    abbrev text_of_rows : ExtractLines → List ℕ
+    text_of_rows z =
+        flat_map (λ (s : ℕ × ScheduleLines). flat_map (row_line fields) (listed test no-other s.0 s.1.further))
+        (enumerate_from 1 z.schedules)
 
-  changes : rows_from is_change refl 1 x.schedules ≡ rows_from is_change refl 1 y.schedules
-  changes =
-      let text : (z : ExtractLines) → flat_map (row_line change_fields) (rows_from is_change refl 1 z.schedules) ≡ table_rows Changes z =
-      λ z. flat-twice (row_line change_fields) changes_of (enumerate_from 1 z.schedules) in
-      let are : (z : ExtractLines) → ArePlain z → All IsChangeRow (rows_from is_change refl 1 z.schedules) =
-      λ z p k d below.
-      let r = all-rows is_change refl 0 1 z.schedules (omega arith) (few-of z p) p.schedules k d below in
-      record { numbered = r.numbered; is = r.passes } in
-      same-rows change_fields IsChangeRow (omega arith) change-cells one-change (rows_from is_change refl 1 x.schedules)
-      (rows_from is_change refl 1 y.schedules) (are x one) (are y other) (text x ∙ rows Changes (λ e. absurd (cc)) ∙ sym (text y))
+    text-of_rows : (z : ExtractLines) → flat_map (row_line fields) (rows_from test no-other 1 z.schedules) ≡ text_of_rows z
+    text-of_rows z = flat-twice (row_line fields) _ (enumerate_from 1 z.schedules)
+
+    same-lines_of : text_of_rows x ≡ text_of_rows y → rows_from test no-other 1 x.schedules ≡ rows_from test no-other 1 y.schedules
+    same-lines_of is =
+        same-rows fields (IsRow test 1 most) some cells one-row (rows_from test no-other 1 x.schedules)
+        (rows_from test no-other 1 y.schedules)
+        (all-rows test no-other 1 1 x.schedules (omega arith) (few-of x one) one.schedules)
+        (all-rows test no-other 1 1 y.schedules (omega arith) (few-of y other) other.schedules)
+        (text-of_rows x ∙ is ∙ sym (text-of_rows y))
 
   schedules : x.schedules ≡ y.schedules
   schedules =
-      same-schedules 1 x.schedules y.schedules one.schedules other.schedules (few-of x one) (few-of y other) numbered calls changes
+      same-schedules 1 x.schedules y.schedules one.schedules other.schedules (few-of x one) (few-of y other) numbered
+      (same-lines_of is_call refl call_fields (omega arith) call-cells one-call (rows Calls (λ e. absurd (cc))))
+      (same-lines_of is_change refl change_fields (omega arith) change-cells one-change (rows Changes (λ e. absurd (cc))))
 
   same-lines : x ≡ y
   same-lines = λ i. record {

@@ -1,23 +1,27 @@
--- The text of rows tells their cells: none has a tab or a line feed.
-use Rattle.std.proofs.Common.{◌≡◌, ℕ, zero, suc, ◌+◌, ◌-◌, ◌<◌, ◌^◌, All, IsTrue, List, [], ◌∷◌, ◌++◌, length, map, ◌∙◌, ap}
-use Rattle.std.proofs.Common.{append_assoc, arith, codes, decimal, drop, length-append, refl, sym}
+-- The text of rows tells their cells, in which there is no tab and no line feed, and these tell the plain lines.
+use Rattle.std.proofs.Common.{◌≡◌, ℕ, zero, suc, ◌+◌, ◌-◌, ◌<◌, ◌^◌, All, Bool, true, false, IsTrue, List, [], ◌∷◌, ◌++◌, length, map, ◌∙◌}
+use Rattle.std.proofs.Common.{ap, ap₂, append_assoc, arith, codes, decimal, drop, length-append, refl, subst, sym, take, ⊎_elim}
 use Rattle.std.specs.List.{join_with_byte}
-use Rattle.std.specs.Prelude.{◌&&◌, nat_eq, nat_le}
+use Rattle.std.specs.Prelude.{◌&&◌, ◌||◌, nat_eq, nat_le}
 use Rattle.std.specs.Str.Parse.{AllDigits}
-use Rattle.std.proofs.lemmas.Bool.{and_parts, eqb-true, leb-true}
+use Rattle.std.proofs.Math.Seq.{take-append_seam}
+use Rattle.std.proofs.lemmas.Bool.{and_parts, eqb-true, false≢true, leb-true, or_cases}
 use Rattle.std.proofs.lemmas.Fmt.{decimal_is_IsNumeral}
-use Rattle.std.proofs.lemmas.List.{length-map}
+use Rattle.std.proofs.lemmas.List.{drop_at, length-map}
 use Rattle.std.proofs.lemmas.List.Elements.{All-cons, All-drop, All-head, All-nil, All-tail, All-take}
 use Rattle.std.proofs.lemmas.Str.Parse.{digit_from_value}
+use Rattle.cif_columns.specs.Field.{is_whole_from, plain_columns, plain_line, width_of}
 use Rattle.cif_columns.specs.Line.{ArePrintable, IsPrintable}
 use Rattle.cif_columns.specs.Lines.{used}
-use Rattle.cif_columns.proofs.PlainLines.{length-columns}
+use Rattle.cif_columns.proofs.Parts.{length-plain_columns, whole-first}
+use Rattle.cif_columns.proofs.PlainLines.{length-columns, line-plain_line}
 use Rattle.cif_canon.proofs.ViewLines.{printable-date}
 use Rattle.cif_views.specs.Steps.Columns.{are_within, is_span, is_within, shown_at, span_in}
 use Rattle.cif_views.specs.declared.columns.Place.{Place}
 use Rattle.cif_views.specs.declared.columns.Place.TheVariants as place
-use Rattle.cif_views.proofs.Words.{Column, IsLine, JourneyKind, TableFields, Tsv, columns, fields_in, flat_map, row_fields, row_line, shown}
-use Rattle.cif_views.proofs.Words.{yymmdd_from}
+use Rattle.cif_views.proofs.Words.{AllFit, Column, IsLine, JourneyKind, Other, Row, TableFields, Tsv, bytes_decides, columns, fields_in}
+use Rattle.cif_views.proofs.Words.{flat_map, pointwise, row_fields, row_line, shown, yymmdd_from}
+use Rattle.cif_views.proofs.DifferingCells.{covered, is_among}
 
 -- ---- a text, cut at bytes that no cell has
 
@@ -153,3 +157,98 @@ digits-printable (d ∷ ds) all =
 
 pub number-printable : (n : ℕ) → n < 2 ^ 64 → ArePrintable (decimal n)
 number-printable n few = digits-printable (decimal n) (decimal_is_IsNumeral n few).0.1
+
+-- ---- cells tell plain lines
+
+-- the cells of a line's fields
+abbrev pub cells_in : List Column → List ℕ → List (List ℕ)
+cells_in own line = map (shown Tsv) (fields_in Other own line)
+
+-- in each row's columns of the line stand the plain columns of its value
+abbrev AllPlain : List ℕ → List Row → Type 0
+AllPlain line [] = Unit {0}
+AllPlain line (r ∷ rows) = (columns r.from r.to line ≡ plain_columns (width_of r) r.value) × AllPlain line rows
+
+plain-behind : (front : List ℕ) (rows : List Row) → is_whole_from (length front + 1) rows ≡ true → AllFit rows →
+    AllPlain (front ++ plain_line rows) rows
+plain-behind front [] whole fits = tt
+plain-behind front (r ∷ rows) whole fits =
+    let first = whole-first (length front + 1) r rows whole in
+    let part = plain_columns (width_of r) r.value in
+    let rest = plain_line rows in
+    let wide = length-plain_columns (width_of r) r.value fits.0 in
+    let start : length front ≡ r.from - 1 = omega (arith, first.0) in
+    let width : r.to - (r.from - 1) ≡ length part = omega (arith, first.0, first.1, wide) in
+    let next : length (front ++ part) + 1 ≡ r.to + 1 = omega (arith, first.0, first.1, wide, length-append front part) in (
+      ap (take (r.to - (r.from - 1))) (drop_at front (part ++ rest) (r.from - 1) start) ∙ ap (λ n. take n (part ++ rest)) width
+          ∙ take-append_seam part rest,
+      subst (λ line. AllPlain line rows) (append_assoc front part rest)
+          (plain-behind (front ++ part) rows (ap (λ c. is_whole_from c rows) next ∙ first.2) fits.1),
+    )
+
+-- two tables have rows in the same columns, and in each a field shows what stands there, or the same stands in both
+abbrev pub are_alike : List Column → List Row → List Row → Bool
+are_alike own [] [] = true
+are_alike own [] (q ∷ qs) = false
+are_alike own (r ∷ rows) [] = false
+are_alike own (r ∷ rows) (q ∷ qs) =
+    nat_eq r.from q.from
+    && (nat_eq r.to q.to
+    && ((is_among 0 Other own r.from r.to
+    || pointwise nat_eq (plain_columns (width_of r) r.value) (plain_columns (width_of q) q.value)) && are_alike own rows qs))
+
+module _ (l m : List ℕ) (left : IsLine l) (right : IsLine m) (own : List Column)
+    (same : cells_in own l ≡ cells_in own m) where
+  same-values : (rows qs : List Row) → IsTrue (are_alike own rows qs) → AllPlain l rows → AllPlain m qs → plain_line rows ≡ plain_line qs
+  same-values [] [] alike one other = refl
+  same-values [] (q ∷ qs) alike one other = absurd (false≢true alike)
+  same-values (r ∷ rows) [] alike one other = absurd (false≢true alike)
+  same-values (r ∷ rows) (q ∷ qs) alike one other =
+      let (from, a) = and_parts (nat_eq r.from q.from) _ alike in
+      let (to, b) = and_parts (nat_eq r.to q.to) _ a in
+      let (there, rest) = and_parts _ (are_alike own rows qs) b in
+      let begin = eqb-true r.from q.from from in
+      let end = eqb-true r.to q.to to in
+      let here : plain_columns (width_of r) r.value ≡ plain_columns (width_of q) q.value = ⊎_elim
+      (λ among. sym one.0 ∙ covered l m 0 Other refl left right r.from r.to own among same ∙ (λ i. columns (begin i) (end i) m) ∙ other.0)
+      (λ equal. (bytes_decides _ _).0 equal)
+      (or_cases (is_among 0 Other own r.from r.to) _ there) in
+      ap₂ (λ (c d : List ℕ). c ++ d) here (same-values rows qs rest one.1 other.1)
+
+-- a line is the plain line of a record of a kind, whose values fit
+pub record IsPlain {X : Type 0} (table : X → List Row) (line : List ℕ) : Type 0 where
+  pub it : X
+  pub fits : AllFit (table it)
+  pub is : line ≡ plain_line (table it)
+
+-- two lines of one kind are the same where the cells of their rows are
+module _ {X : Type 0} (table : X → List Row) (own : List Column) (whole : (x : X) → is_whole_from 1 (table x) ≡ true)
+    (alike : (x y : X) → IsTrue (are_alike own (table x) (table y))) where
+  pub is-line : (line : List ℕ) → IsPlain table line → IsLine line
+  is-line line p = subst IsLine (sym p.is) (line-plain_line (table p.it) (whole p.it) p.fits)
+
+  all-plain : (line : List ℕ) (p : IsPlain table line) → AllPlain line (table p.it)
+  all-plain line p =
+      subst (λ l. AllPlain l (table p.it)) (sym p.is) (plain-behind [] (table p.it) (whole p.it) p.fits)
+
+  pub one-line : (l m : List ℕ) → IsPlain table l → IsPlain table m → cells_in own l ≡ cells_in own m → l ≡ m
+  one-line l m p q same =
+      p.is
+      ∙ same-values l m (is-line l p) (is-line m q) own same (table p.it) (table q.it) (alike p.it q.it) (all-plain l p) (all-plain m q)
+      ∙ sym q.is
+
+  -- so they are where their rows are, in a table whose fields have these columns
+  module _ (fields : TableFields (List ℕ)) (cells : (line : List ℕ) → cells_of fields line ≡ cells_in own line)
+      (within : IsTrue (are_within own)) (some : 0 < length fields) where
+    plain-cells : (line : List ℕ) → IsPlain table line → AreCells (cells_of fields line)
+    plain-cells line p = subst AreCells (sym (cells line)) (are-cells line (is-line line p) Other own within)
+
+    one-plain : (l m : List ℕ) → IsPlain table l → IsPlain table m → cells_of fields l ≡ cells_of fields m → l ≡ m
+    one-plain l m p q same = one-line l m p q (sym (cells l) ∙ same ∙ cells m)
+
+    pub same-plain_row : (l m : List ℕ) → IsPlain table l → IsPlain table m → row_line fields l ≡ row_line fields m → l ≡ m
+    same-plain_row = same-row fields (IsPlain table) some plain-cells one-plain
+
+    pub same-plain_rows : (ls ms : List (List ℕ)) → All (IsPlain table) ls → All (IsPlain table) ms →
+        flat_map (row_line fields) ls ≡ flat_map (row_line fields) ms → ls ≡ ms
+    same-plain_rows = same-rows fields (IsPlain table) some plain-cells one-plain
