@@ -1,7 +1,8 @@
 -- The rows of calls and of changes tell the lines of each journey, and where a change stands among the calls.
 use Rattle.std.proofs.Common.{◌≡◌, ℕ, ◌+◌, ◌-◌, ◌≤◌, ◌^◌, ◌⊎◌, All, Bool, true, false, List, [], ◌∷◌, ◌++◌, ap}
-use Rattle.std.proofs.Common.{arith, codes, cond, decimal, drop, get_or, inl, inr, length, map, refl, subst, sym, take, ◌∙◌, ⊎_elim}
+use Rattle.std.proofs.Common.{IsTrue, arith, codes, cond, decimal, drop, get_or, inl, inr, length, map, refl, subst, sym, take, ◌∙◌, ⊎_elim}
 use Rattle.std.specs.List.{filter}
+use Rattle.std.specs.Prelude.{not}
 use Rattle.std.proofs.lemmas.Bool.{false≢true}
 use Rattle.std.proofs.lemmas.Fmt.{decimal_injective}
 use Rattle.std.proofs.lemmas.List.Elements.{All-cons, All-filter, All-head, All-nil, All-tail}
@@ -12,8 +13,9 @@ use Rattle.cif_records.specs.declared.record.Record.{Record}
 use Rattle.cif_records.specs.declared.record.Record.TheVariants as of
 use Rattle.cif_records.proofs.Records as records
 use Rattle.cif_views.specs.Steps.Columns.{call_columns, change_columns}
+use Rattle.cif_views.specs.Steps.TableRows.{has_row}
 use Rattle.cif_views.specs.Tables.{change_fields}
-use Rattle.cif_views.proofs.Words.{AllFit, Change, Field, IsLine, JourneyKind, Numbered, Origin, Other, Stop, Terminus, Tsv}
+use Rattle.cif_views.proofs.Words.{TableFields, AllFit, Change, Field, IsLine, JourneyKind, Numbered, Origin, Other, Stop, Terminus, Tsv}
 use Rattle.cif_views.proofs.Words.{call_fields, columns, fields_in, is_call, is_change, journey_kind, kind_of_line, number}
 use Rattle.cif_views.proofs.Words.{numbered_from, own_columns, shown}
 use Rattle.cif_views.proofs.DifferingCells.{covered, two-parts}
@@ -42,30 +44,33 @@ one-of l m p q place same =
     ((λ i. own_cells (kind_of_line (sym p.is i)) (sym p.is i)) ∙ same ∙ (λ i. own_cells (kind_of_line (p.is i)) (q.is i)))
     ∙ sym q.is
 
-record IsCall (line : List ℕ) : Type 0 where
-  call : is_call (kind_of_line line) ≡ true
-  change : is_change (kind_of_line line) ≡ false
+-- what tells of a line whether it is a call or a change
+record IsTold (line : List ℕ) (call : Bool) : Type 0 where
+  kind : (calls : Bool) → has_row calls (kind_of_line line) ≡ cond calls call (not call)
+  change : IsTrue (not call) → columns 1 2 line ≡ codes "CR"
 
-record IsChange (line : List ℕ) : Type 0 where
-  identity : columns 1 2 line ≡ codes "CR"
-  kind : kind_of_line line ≡ Change
+kind-told : (k : JourneyKind) (line : List ℕ) → kind_of_line line ≡ k → is_change k ≡ not (is_call k) → (calls : Bool) →
+    has_row calls (kind_of_line line) ≡ cond calls (is_call k) (not (is_call k))
+kind-told k line e other true = ap is_call e
+kind-told k line e other false = ap is_change e ∙ other
 
-tell : (line : List ℕ) (r : Record) → IsPlace r → SpellsRecord line r → IsCall line ⊎ IsChange line
-tell line (of.Origin r) is h =
+told-as : (line : List ℕ) (r : Record) → IsPlace r → SpellsRecord line r → (call : Bool) × IsTold line call
+told-as line (of.Origin r) is h =
     let kind = ap journey_kind (records.kind_there line (of.Origin r) h) in
-    inl (record { call = ap is_call kind; change = ap is_change kind })
-tell line (of.Stop r) is h =
+    (true, record { kind = kind-told Origin line kind refl; change = λ no. absurd (false≢true no) })
+told-as line (of.Stop r) is h =
     let kind = ap journey_kind (records.kind_there line (of.Stop r) h) in
-    inl (record { call = ap is_call kind; change = ap is_change kind })
-tell line (of.Terminus r) is h =
+    (true, record { kind = kind-told Stop line kind refl; change = λ no. absurd (false≢true no) })
+told-as line (of.Terminus r) is h =
     let kind = ap journey_kind (records.kind_there line (of.Terminus r) h) in
-    inl (record { call = ap is_call kind; change = ap is_change kind })
-tell line (of.Change r) is h =
-    inr (record { identity = h.0; kind = ap journey_kind (records.kind_there line (of.Change r) h) })
-tell line _ is h = absurd is
+    (true, record { kind = kind-told Terminus line kind refl; change = λ no. absurd (false≢true no) })
+told-as line (of.Change r) is h =
+    let kind = ap journey_kind (records.kind_there line (of.Change r) h) in
+    (false, record { kind = kind-told Change line kind refl; change = λ so. h.0 })
+told-as line _ is h = absurd is
 
-told : (line : List ℕ) → IsOfJourney line → IsCall line ⊎ IsChange line
-told line j = tell line j.it j.place (subst (λ l. SpellsRecord l j.it) (sym j.is) (records.spells j.it j.fits))
+told : (line : List ℕ) → IsOfJourney line → (call : Bool) × IsTold line call
+told line j = told-as line j.it j.place (subst (λ l. SpellsRecord l j.it) (sym j.is) (records.spells j.it j.fits))
 
 -- ---- their rows
 
@@ -81,10 +86,10 @@ pub record IsNumbered (first last low high : ℕ) (p : Numbered) : Type 0 where
   pub call_upto : p.call ≤ high
   pub line : IsOfJourney p.line
 
--- a row of a table of such lines, in which those of some kinds are
-pub record IsRow (test : JourneyKind → Bool) (first last : ℕ) (p : Numbered) : Type 0 where
+-- a row of the calls, or else of the changes
+pub record IsRow (calls : Bool) (first last : ℕ) (p : Numbered) : Type 0 where
   pub numbered : IsNumbered first last 1 most p
-  pub passes : test (kind_of_line p.line) ≡ true
+  pub passes : has_row calls (kind_of_line p.line) ≡ true
 
 same-numbers : (p q : Numbered) → IsNumbered 1 most 1 most p → IsNumbered 1 most 1 most q → (cs ds : List (List ℕ)) →
     decimal p.schedule ∷ decimal p.call ∷ cs ≡ decimal q.schedule ∷ decimal q.call ∷ ds → p.line ≡ q.line → p ≡ q
@@ -111,7 +116,7 @@ call-row p =
     ap (λ (own : List Field). map (shown Tsv) (number p.schedule ∷ number p.call ∷ (fields_in kind (take 3 call_columns) p.line ++ own)))
     (call-fields p.line kind refl)
 
-pub call-cells : (p : Numbered) → IsRow is_call 1 most p → AreCells (cells_of call_fields p)
+call-cells : (p : Numbered) → IsRow true 1 most p → AreCells (cells_of call_fields p)
 call-cells p row =
     subst AreCells (sym (call-row p))
     (numbers-printable p row.numbered (call_cells (kind_of_line p.line) p.line)
@@ -131,7 +136,7 @@ changed-kind Stop is = absurd (false≢true is)
 changed-kind Terminus is = absurd (false≢true is)
 changed-kind Other is = absurd (false≢true is)
 
-pub one-call : (p q : Numbered) → IsRow is_call 1 most p → IsRow is_call 1 most q → cells_of call_fields p ≡ cells_of call_fields q → p ≡ q
+one-call : (p q : Numbered) → IsRow true 1 most p → IsRow true 1 most q → cells_of call_fields p ≡ cells_of call_fields q → p ≡ q
 one-call p q one other same =
     let l = p.line in
     let m = q.line in
@@ -148,15 +153,15 @@ one-call p q one other same =
     (subst (λ c. map (shown Tsv) (fields_in (kind_of_line l) c l) ≡ map (shown Tsv) (fields_in (kind_of_line l) c m))
     (sym (called (kind_of_line l) one.passes)) own))
 
-pub change-cells : (p : Numbered) → IsRow is_change 1 most p → AreCells (cells_of change_fields p)
+change-cells : (p : Numbered) → IsRow false 1 most p → AreCells (cells_of change_fields p)
 change-cells p row =
     numbers-printable p row.numbered (map (shown Tsv) (fields_in Change change_columns p.line))
     (are-cells p.line (line-of p.line row.numbered.line) Change change_columns refl)
 
 identity-of : (line : List ℕ) → IsOfJourney line → is_change (kind_of_line line) ≡ true → columns 1 2 line ≡ codes "CR"
-identity-of line j is = ⊎_elim (λ c. absurd (false≢true (sym c.change ∙ is))) (λ c. c.identity) (told line j)
+identity-of line j is = let (call, t) = told line j in t.change (sym (t.kind false) ∙ is)
 
-pub one-change : (p q : Numbered) → IsRow is_change 1 most p → IsRow is_change 1 most q → cells_of change_fields p ≡ cells_of change_fields q → p ≡ q
+one-change : (p q : Numbered) → IsRow false 1 most p → IsRow false 1 most q → cells_of change_fields p ≡ cells_of change_fields q → p ≡ q
 one-change p q one other same =
     let l = p.line in
     let m = q.line in
@@ -173,6 +178,20 @@ one-change p q one other same =
     let own : own_cells Change l ≡ own_cells Change m = ap (drop 2) both in
     same-numbers p q one.numbered other.numbered _ _ same
     (one-of l m one.numbered.line other.numbered.line place (subst (λ k. own_cells k l ≡ own_cells k m) (sym kind) own))
+
+-- so it is with the rows of both tables
+abbrev pub fields_of : Bool → TableFields Numbered
+fields_of true = call_fields
+fields_of false = change_fields
+
+pub row-cells : (calls : Bool) (p : Numbered) → IsRow calls 1 most p → AreCells (cells_of (fields_of calls) p)
+row-cells true = call-cells
+row-cells false = change-cells
+
+pub one-row : (calls : Bool) (p q : Numbered) → IsRow calls 1 most p → IsRow calls 1 most q →
+    cells_of (fields_of calls) p ≡ cells_of (fields_of calls) q → p ≡ q
+one-row true = one-call
+one-row false = one-change
 
 -- ---- the numbers of a journey's lines
 
@@ -202,90 +221,79 @@ module _ (n : ℕ) where
       (are-numbered first last low high (cond is (call + 1) call) lines after before (no-less low call is from)
       (no-more call (length lines) high is (omega (arith, upto))) (All-tail IsOfJourney line lines are))
 
-  -- the calls among these lines, and the changes
-  abbrev pub calls_from : ℕ → List (List ℕ) → List Numbered
-  calls_from call lines = filter (λ p. is_call (kind_of_line p.line)) (numbered_from n call lines)
-
-  abbrev pub changes_from : ℕ → List (List ℕ) → List Numbered
-  changes_from call lines = filter (λ p. is_change (kind_of_line p.line)) (numbered_from n call lines)
+  -- the calls among these lines, or else the changes
+  abbrev pub listed_from : Bool → ℕ → List (List ℕ) → List Numbered
+  listed_from calls call lines = filter (λ p. has_row calls (kind_of_line p.line)) (numbered_from n call lines)
 
   abbrev here : ℕ → List ℕ → Numbered
   here call line = record { schedule = n; call = call; line = line }
 
-  -- a line, and those behind it
-  record IsBefore (call : ℕ) (line : List ℕ) (lines : List (List ℕ)) (calls changes : List Numbered) : Type 0 where
-    calls_are : calls_from call (line ∷ lines) ≡ calls
-    changes_are : changes_from call (line ∷ lines) ≡ changes
+  -- a line, if it is one of them, and those behind it
+  abbrev first_listed : Bool → Bool → ℕ → List ℕ → List (List ℕ) → List Numbered
+  first_listed is calls call line lines =
+      let others = listed_from calls (cond is (call + 1) call) lines in cond (cond calls is (not is)) (here call line ∷ others) others
 
-  call-first : (call : ℕ) (line : List ℕ) (lines : List (List ℕ)) → IsCall line →
-      IsBefore call line lines (here call line ∷ calls_from (call + 1) lines) (changes_from (call + 1) lines)
-  call-first call line lines c = record {
-    calls_are = ap (λ b. cond b (here call line ∷ calls_from (cond b (call + 1) call) lines)
-        (calls_from (cond b (call + 1) call) lines)) c.call;
-    changes_are = λ i. cond (c.change i) (here call line ∷ changes_from (cond (c.call i) (call + 1) call) lines)
-        (changes_from (cond (c.call i) (call + 1) call) lines);
-  }
+  first-is : (calls : Bool) (call : ℕ) (line : List ℕ) (lines : List (List ℕ)) (is : Bool) → IsTold line is →
+      listed_from calls call (line ∷ lines) ≡ first_listed is calls call line lines
+  first-is calls call line lines is t =
+      λ i. let others = listed_from calls (cond (t.kind true i) (call + 1) call) lines in
+      cond (t.kind calls i) (here call line ∷ others) others
 
-  change-first : (call : ℕ) (line : List ℕ) (lines : List (List ℕ)) → IsChange line →
-      IsBefore call line lines (calls_from call lines) (here call line ∷ changes_from call lines)
-  change-first call line lines c = record {
-    calls_are = ap (λ k. cond (is_call k) (here call line ∷ calls_from (cond (is_call k) (call + 1) call) lines)
-        (calls_from (cond (is_call k) (call + 1) call) lines)) c.kind;
-    changes_are = ap (λ k. cond (is_change k) (here call line ∷ changes_from (cond (is_call k) (call + 1) call) lines)
-        (changes_from (cond (is_call k) (call + 1) call) lines)) c.kind;
-  }
+  none-first : (call : ℕ) (line : List ℕ) (lines : List (List ℕ)) (is : Bool) → [] ≡ first_listed is is call line lines → ⊥
+  none-first call line lines true none = let long = ap length none in omega (arith, long)
+  none-first call line lines false none = let long = ap length none in omega (arith, long)
 
   -- no change behind a call has its number or a lower one
-  behind-call : (call : ℕ) (line : List ℕ) (lines : List (List ℕ)) (others : List Numbered) → All IsOfJourney lines →
-      changes_from (call + 1) lines ≡ here call line ∷ others → ⊥
-  behind-call call line lines others are is =
+  behind-call : (call : ℕ) (l m : List ℕ) (ls ms : List (List ℕ)) → All IsOfJourney ls →
+      first_listed true false call l ls ≡ first_listed false false call m ms → ⊥
+  behind-call call l m ls ms are is =
       let low = call + 1 in
-      let high = low + length lines in
+      let high = low + length ls in
       let all = subst (All (IsNumbered n n low high)) is
-      (All-filter (λ p. is_change (kind_of_line p.line)) (IsNumbered n n low high) (numbered_from n low lines)
-      (are-numbered n n low high low lines (omega arith) (omega arith) (omega arith) (omega arith) are)) in
-      omega (arith, (All-head (IsNumbered n n low high) (here call line) others all).call_from)
+      (All-filter (λ p. is_change (kind_of_line p.line)) (IsNumbered n n low high) (numbered_from n low ls)
+      (are-numbered n n low high low ls (omega arith) (omega arith) (omega arith) (omega arith) are)) in
+      omega (arith, (All-head (IsNumbered n n low high) (here call m) (listed_from false call ms) all).call_from)
 
-  none-first : (p : Numbered) (ps : List Numbered) → [] ≡ p ∷ ps → ⊥
-  none-first p ps is = let long = ap length is in omega (arith, long)
+  -- where two lists begin with lines of one sort, both lines are the same, and what is listed behind them
+  same-first : (is : Bool) (call : ℕ) (l m : List ℕ) (ls ms : List (List ℕ)) →
+      first_listed is is call l ls ≡ first_listed is is call m ms → l ≡ m
+  same-first true call l m ls ms is = ap (λ (all : List Numbered). (get_or all 0 (here call l)).line) is
+  same-first false call l m ls ms is = ap (λ (all : List Numbered). (get_or all 0 (here call l)).line) is
 
-  same-first : (call : ℕ) (l m : List ℕ) (ps qs : List Numbered) → here call l ∷ ps ≡ here call m ∷ qs → (l ≡ m) × (ps ≡ qs)
-  same-first call l m ps qs is =
-      (ap (λ (all : List Numbered). (get_or all 0 (here call l)).line) is, ap (drop 1) is)
+  same-behind : (is calls : Bool) (call : ℕ) (l m : List ℕ) (ls ms : List (List ℕ)) →
+      first_listed is calls call l ls ≡ first_listed is calls call m ms →
+      listed_from calls (cond is (call + 1) call) ls ≡ listed_from calls (cond is (call + 1) call) ms
+  same-behind true true call l m ls ms is = ap (drop 1) is
+  same-behind true false call l m ls ms is = is
+  same-behind false true call l m ls ms is = is
+  same-behind false false call l m ls ms is = ap (drop 1) is
+
+  -- by whether the first lines are calls
+  by-first : (a b : Bool) (call : ℕ) (l m : List ℕ) (ls ms : List (List ℕ)) → All IsOfJourney ls → All IsOfJourney ms →
+      ((next : ℕ) → ((calls : Bool) → listed_from calls next ls ≡ listed_from calls next ms) → ls ≡ ms) →
+      ((calls : Bool) → first_listed a calls call l ls ≡ first_listed b calls call m ms) → l ∷ ls ≡ m ∷ ms
+  by-first true true call l m ls ms one other again same =
+      let behind = again (call + 1) (λ calls. same-behind true calls call l m ls ms (same calls)) in
+      (λ i. same-first true call l m ls ms (same true) i ∷ behind i)
+  by-first false false call l m ls ms one other again same =
+      let behind = again call (λ calls. same-behind false calls call l m ls ms (same calls)) in
+      (λ i. same-first false call l m ls ms (same false) i ∷ behind i)
+  by-first true false call l m ls ms one other again same = absurd (behind-call call l m ls ms one (same false))
+  by-first false true call l m ls ms one other again same = absurd (behind-call call m l ms ls other (sym (same false)))
 
   pub same-journey : (call : ℕ) (ls ms : List (List ℕ)) → All IsOfJourney ls → All IsOfJourney ms →
-      calls_from call ls ≡ calls_from call ms → changes_from call ls ≡ changes_from call ms → ls ≡ ms
-  same-journey call [] [] one other calls changes = refl
-  same-journey call [] (m ∷ ms) one other calls changes = absurd (⊎_elim
-      (λ c. none-first _ _ (calls ∙ (call-first call m ms c).calls_are))
-      (λ c. none-first _ _ (changes ∙ (change-first call m ms c).changes_are))
-      (told m (All-head IsOfJourney m ms other)))
-  same-journey call (l ∷ ls) [] one other calls changes = absurd (⊎_elim
-      (λ c. none-first _ _ (sym calls ∙ (call-first call l ls c).calls_are))
-      (λ c. none-first _ _ (sym changes ∙ (change-first call l ls c).changes_are))
-      (told l (All-head IsOfJourney l ls one)))
-  same-journey call (l ∷ ls) (m ∷ ms) one other calls changes =
+      ((calls : Bool) → listed_from calls call ls ≡ listed_from calls call ms) → ls ≡ ms
+  same-journey call [] [] one other same = refl
+  same-journey call [] (m ∷ ms) one other same =
+      let (b, t) = told m (All-head IsOfJourney m ms other) in
+      absurd (none-first call m ms b (same b ∙ first-is b call m ms b t))
+  same-journey call (l ∷ ls) [] one other same =
+      let (a, t) = told l (All-head IsOfJourney l ls one) in
+      absurd (none-first call l ls a (sym (same a) ∙ first-is a call l ls a t))
+  same-journey call (l ∷ ls) (m ∷ ms) one other same =
+      let (a, s) = told l (All-head IsOfJourney l ls one) in
+      let (b, t) = told m (All-head IsOfJourney m ms other) in
       let p = All-tail IsOfJourney l ls one in
       let q = All-tail IsOfJourney m ms other in
-      ⊎_elim
-      (λ a. ⊎_elim
-      (λ b.
-      let s = call-first call l ls a in
-      let t = call-first call m ms b in
-      let (first, rest) = same-first call l m _ _ (sym s.calls_are ∙ calls ∙ t.calls_are) in
-      let behind = same-journey (call + 1) ls ms p q rest (sym s.changes_are ∙ changes ∙ t.changes_are) in
-      (λ i. first i ∷ behind i))
-      (λ b. absurd (behind-call call m ls _ p
-      (sym (call-first call l ls a).changes_are ∙ changes ∙ (change-first call m ms b).changes_are)))
-      (told m (All-head IsOfJourney m ms other)))
-      (λ a. ⊎_elim
-      (λ b. absurd (behind-call call l ms _ q
-      (sym (call-first call m ms b).changes_are ∙ sym changes ∙ (change-first call l ls a).changes_are)))
-      (λ b.
-      let s = change-first call l ls a in
-      let t = change-first call m ms b in
-      let (first, rest) = same-first call l m _ _ (sym s.changes_are ∙ changes ∙ t.changes_are) in
-      let behind = same-journey call ls ms p q (sym s.calls_are ∙ calls ∙ t.calls_are) rest in
-      (λ i. first i ∷ behind i))
-      (told m (All-head IsOfJourney m ms other)))
-      (told l (All-head IsOfJourney l ls one))
+      by-first a b call l m ls ms p q (λ next more. same-journey next ls ms p q more)
+      (λ calls. sym (first-is calls call l ls a s) ∙ same calls ∙ first-is calls call m ms b t)

@@ -1,6 +1,6 @@
 -- Schedules with the same rows in the tables of schedules, calls and changes are the same.
 use Rattle.std.proofs.Common.{◌≡◌, ℕ, ◌+◌, ◌<◌, ◌≤◌, ◌^◌, All, Bool, false, List, [], ◌∷◌, ◌++◌, Option, None, Some, ap, ◌∙◌}
-use Rattle.std.proofs.Common.{arith, cond, decimal, drop, get_or, length, map, refl, subst, sym, take}
+use Rattle.std.proofs.Common.{true, arith, cond, decimal, drop, get_or, length, map, refl, subst, sym, take}
 use Rattle.std.specs.List.{enumerate_from, filter}
 use Rattle.std.proofs.lemmas.Fmt.{decimal_injective}
 use Rattle.std.proofs.lemmas.List.Elements.{All-append, All-cons, All-filter, All-head, All-nil, All-tail, filter_passes}
@@ -15,6 +15,7 @@ use Rattle.cif_records.specs.declared.extra.Extra.{Extra}
 use Rattle.cif_records.specs.declared.record.Record.{Record}
 use Rattle.cif_records.specs.declared.record.Record.TheVariants as of
 use Rattle.cif_records.proofs.Records as records
+use Rattle.cif_views.specs.Steps.TableRows.{has_row}
 use Rattle.cif_views.specs.Steps.Columns.{basic_columns, extra_columns}
 use Rattle.cif_views.specs.Tables.{NumberedSchedule, extra_fields}
 use Rattle.cif_views.proofs.Words.{BodyParts, IsLine, JourneyKind, Numbered, Other, Permanent, ScheduleLines, Tsv, columns, extra_in, flat_map, is_call}
@@ -23,7 +24,7 @@ use Rattle.cif_views.proofs.Words.{schedule_fields, trimmed}
 use Rattle.cif_views.proofs.PairedBodies.{ArePlaces, FitsLines, are-further, are-places, extra-fits, extra_line, journey-fits}
 use Rattle.cif_views.proofs.PairedBodies.{basic_line, lines_of, same-extra}
 use Rattle.cif_views.proofs.RowLines.{AreCells, IsPlain, are-cells, cells_in, cells_of, is-line, number-printable, one-line}
-use Rattle.cif_views.proofs.SameJourneys.{IsNumbered, IsOfJourney, IsRow, are-numbered, most, same-journey}
+use Rattle.cif_views.proofs.SameJourneys.{IsNumbered, IsOfJourney, IsRow, are-numbered, most, listed_from, same-journey}
 
 -- the lines of a schedule of a canonical extract; the numbers of its calls can be written
 pub record IsSchedule (s : ScheduleLines) : Type 0 where
@@ -67,9 +68,13 @@ no-longer (Some e) lines = omega arith
 
 -- ---- the rows of calls, or those of changes
 
-module _ (test : JourneyKind → Bool) (no-other : test Other ≡ false) where
+no-other : (calls : Bool) → has_row calls Other ≡ false
+no-other true = refl
+no-other false = refl
+
+module _ (calls : Bool) where
   abbrev pub listed : ℕ → List (List ℕ) → List Numbered
-  listed n lines = filter (λ p. test (kind_of_line p.line)) (numbered_from n 1 lines)
+  listed n lines = listed_from n calls 1 lines
 
   -- there is none of a BX
   listed-behind : (n : ℕ) (x : Option Extra) (lines : List (List ℕ)) → AllTablesFit (map record_table (extra_records x)) →
@@ -80,51 +85,51 @@ module _ (test : JourneyKind → Bool) (no-other : test Other ≡ false) where
       let kind = ap journey_kind (records.kind_there line (of.Extra e) (records.spells (of.Extra e) fits.0)) in
       let first : Numbered = record { schedule = n; call = 1; line = line } in
       let rest : JourneyKind → List Numbered =
-      λ k. filter (λ p. test (kind_of_line p.line)) (numbered_from n (cond (is_call k) 2 1) lines) in
-      (λ i. cond (test (kind i)) (first ∷ rest (kind i)) (rest (kind i))) ∙ ap (λ b. cond b (first ∷ rest Other) (rest Other)) no-other
+      λ k. filter (λ p. has_row calls (kind_of_line p.line)) (numbered_from n (cond (is_call k) 2 1) lines) in
+      (λ i. cond (has_row calls (kind i)) (first ∷ rest (kind i)) (rest (kind i))) ∙ ap (λ b. cond b (first ∷ rest Other) (rest Other)) (no-other calls)
 
   pub listed-of : (n : ℕ) (s : ScheduleLines) (p : IsSchedule s) → listed n s.further ≡ listed n (journey_of p.it)
   listed-of n s p =
       ap (listed n) (further-of s p) ∙ listed-behind n p.it.1.body.extra (journey_of p.it) (extra-fits p.it p.fits)
 
   of-schedule : (first last n : ℕ) (s : ScheduleLines) → first ≤ n → n ≤ last → IsSchedule s →
-      All (IsRow test first last) (listed n s.further)
+      All (IsRow calls first last) (listed n s.further)
   of-schedule first last n s from upto p =
       let lines = journey_of p.it in
       let numbered = numbered_from n 1 lines in
       let few = p.few in
       let high : 1 + length lines ≤ most = omega (arith, few, ap length (further-of s p), no-longer p.it.1.body.extra lines) in
-      let are = All-filter (λ p. test (kind_of_line p.line)) (IsNumbered first last 1 most) numbered
+      let are = All-filter (λ p. has_row calls (kind_of_line p.line)) (IsNumbered first last 1 most) numbered
       (are-numbered n first last 1 most 1 lines from upto (omega arith) high (of-journey p.it p.fits)) in
-      let pass = filter_passes (λ (p : Numbered). test (kind_of_line p.line)) numbered in
-      subst (All (IsRow test first last)) (sym (listed-of n s p))
+      let pass = filter_passes (λ (p : Numbered). has_row calls (kind_of_line p.line)) numbered in
+      subst (All (IsRow calls first last)) (sym (listed-of n s p))
       (λ k d below. record { numbered = are k d below; passes = pass k d below })
 
   abbrev pub rows_from : ℕ → List ScheduleLines → List Numbered
   rows_from n xs = flat_map (λ (s : ℕ × ScheduleLines). listed s.0 s.1.further) (enumerate_from n xs)
 
   pub all-rows : (first n : ℕ) (xs : List ScheduleLines) → first ≤ n → n + length xs ≤ 2 ^ 64 → All IsSchedule xs →
-      All (IsRow test first most) (rows_from n xs)
-  all-rows first n [] from few are = All-nil (IsRow test first most)
+      All (IsRow calls first most) (rows_from n xs)
+  all-rows first n [] from few are = All-nil (IsRow calls first most)
   all-rows first n (s ∷ xs) from few are =
-      All-append (IsRow test first most) (listed n s.further) (rows_from (n + 1) xs)
+      All-append (IsRow calls first most) (listed n s.further) (rows_from (n + 1) xs)
       (of-schedule first most n s from (omega (arith, few)) (All-head IsSchedule s xs are))
       (all-rows first (n + 1) xs (omega (arith, from)) (omega (arith, few)) (All-tail IsSchedule s xs are))
 
   -- the rows of a schedule, and those of the others
-  no-later : (n : ℕ) (p : Numbered) (ps s : List Numbered) → IsRow test n n p → All (IsRow test (n + 1) most) s → s ≡ p ∷ ps → ⊥
+  no-later : (n : ℕ) (p : Numbered) (ps s : List Numbered) → IsRow calls n n p → All (IsRow calls (n + 1) most) s → s ≡ p ∷ ps → ⊥
   no-later n p ps s own later is =
-      let later_first = All-head (IsRow test (n + 1) most) p ps (subst (All (IsRow test (n + 1) most)) is later) in
+      let later_first = All-head (IsRow calls (n + 1) most) p ps (subst (All (IsRow calls (n + 1) most)) is later) in
       omega (arith, later_first.numbered.from, own.numbered.upto)
 
-  apart : (n : ℕ) (a b s t : List Numbered) → All (IsRow test n n) a → All (IsRow test n n) b → All (IsRow test (n + 1) most) s →
-      All (IsRow test (n + 1) most) t → a ++ s ≡ b ++ t → (a ≡ b) × (s ≡ t)
+  apart : (n : ℕ) (a b s t : List Numbered) → All (IsRow calls n n) a → All (IsRow calls n n) b → All (IsRow calls (n + 1) most) s →
+      All (IsRow calls (n + 1) most) t → a ++ s ≡ b ++ t → (a ≡ b) × (s ≡ t)
   apart n [] [] s t one other p q is = (refl, is)
-  apart n [] (y ∷ b) s t one other p q is = absurd (no-later n y (b ++ t) s (All-head (IsRow test n n) y b other) p is)
-  apart n (x ∷ a) [] s t one other p q is = absurd (no-later n x (a ++ s) t (All-head (IsRow test n n) x a one) q (sym is))
+  apart n [] (y ∷ b) s t one other p q is = absurd (no-later n y (b ++ t) s (All-head (IsRow calls n n) y b other) p is)
+  apart n (x ∷ a) [] s t one other p q is = absurd (no-later n x (a ++ s) t (All-head (IsRow calls n n) x a one) q (sym is))
   apart n (x ∷ a) (y ∷ b) s t one other p q is =
       let first : x ≡ y = ap (λ (all : List Numbered). get_or all 0 x) is in
-      let (rest, behind) = apart n a b s t (All-tail (IsRow test n n) x a one) (All-tail (IsRow test n n) y b other) p q
+      let (rest, behind) = apart n a b s t (All-tail (IsRow calls n n) x a one) (All-tail (IsRow calls n n) y b other) p q
       (ap (drop 1) is) in
       ((λ i. first i ∷ rest i), behind)
 
@@ -208,30 +213,26 @@ same-lines : (s t : ScheduleLines) → s.basic ≡ t.basic → s.further ≡ t.f
 same-lines s t basic further = λ i. record { basic = basic i; further = further i }
 
 one-schedule : (n : ℕ) (s t : ScheduleLines) → IsSchedule s → IsSchedule t → s.basic ≡ t.basic → extra_in s.further ≡ extra_in t.further →
-    listed is_call refl n s.further ≡ listed is_call refl n t.further →
-    listed is_change refl n s.further ≡ listed is_change refl n t.further → s ≡ t
-one-schedule n s t p q basic extra calls changes =
+    ((calls : Bool) → listed calls n s.further ≡ listed calls n t.further) → s ≡ t
+one-schedule n s t p q basic extra rows =
     let line = sym (extra-there s p) ∙ extra ∙ extra-there t q in
     let same = same-extra p.it.1.body.extra q.it.1.body.extra (extra-fits p.it p.fits) (extra-fits q.it q.fits)
     (ap (λ (l : List ℕ). trimmed (columns 1 2 l)) line) (ap (λ (l : List ℕ). map (shown Tsv) (row_fields extra_fields l)) line) in
     let journey = same-journey n 1 (journey_of p.it) (journey_of q.it) (of-journey p.it p.fits) (of-journey q.it q.fits)
-    (sym (listed-of is_call refl n s p) ∙ calls ∙ listed-of is_call refl n t q)
-    (sym (listed-of is_change refl n s p) ∙ changes ∙ listed-of is_change refl n t q) in
+    (λ calls. sym (listed-of calls n s p) ∙ rows calls ∙ listed-of calls n t q) in
     same-lines s t basic (further-of s p ∙ (λ i. behind_extra (same i) (journey i)) ∙ sym (further-of t q))
 
 pub same-schedules : (n : ℕ) (xs ys : List ScheduleLines) → All IsSchedule xs → All IsSchedule ys → n + length xs ≤ 2 ^ 64 →
-    n + length ys ≤ 2 ^ 64 → schedules_from n xs ≡ schedules_from n ys → rows_from is_call refl n xs ≡ rows_from is_call refl n ys →
-    rows_from is_change refl n xs ≡ rows_from is_change refl n ys → xs ≡ ys
-same-schedules n [] [] one other few as-few same calls changes = refl
-same-schedules n [] (t ∷ ys) one other few as-few same calls changes = absurd (let long = ap length same in omega (arith, long))
-same-schedules n (s ∷ xs) [] one other few as-few same calls changes = absurd (let long = ap length same in omega (arith, long))
-same-schedules n (s ∷ xs) (t ∷ ys) one other few as-few same calls changes =
-    let first : numbered_schedule (n, s) ≡ numbered_schedule (n, t) =
-    ap (λ (all : List NumberedSchedule). get_or all 0 (numbered_schedule (n, s))) same in
-    let (own-calls, more-calls) = first-apart is_call refl n s t xs ys one other few as-few calls in
-    let (own-changes, more-changes) = first-apart is_change refl n s t xs ys one other few as-few changes in
+    n + length ys ≤ 2 ^ 64 → schedules_from n xs ≡ schedules_from n ys → ((calls : Bool) → rows_from calls n xs ≡ rows_from calls n ys) →
+    xs ≡ ys
+same-schedules n [] [] one other few as-few same rows = refl
+same-schedules n [] (t ∷ ys) one other few as-few same rows = absurd (let long = ap length same in omega (arith, long))
+same-schedules n (s ∷ xs) [] one other few as-few same rows = absurd (let long = ap length same in omega (arith, long))
+same-schedules n (s ∷ xs) (t ∷ ys) one other few as-few same rows =
+    let first = ap (λ (all : List NumberedSchedule). get_or all 0 (numbered_schedule (n, s))) same in
+    let both = λ (calls : Bool). first-apart calls n s t xs ys one other few as-few (rows calls) in
     let here = one-schedule n s t (All-head IsSchedule s xs one) (All-head IsSchedule t ys other) (λ i. (first i).basic)
-    (λ i. (first i).extra) own-calls own-changes in
+    (λ i. (first i).extra) (λ calls. (both calls).0) in
     let rest = same-schedules (n + 1) xs ys (All-tail IsSchedule s xs one) (All-tail IsSchedule t ys other) (omega (arith, few))
-    (omega (arith, as-few)) (ap (drop 1) same) more-calls more-changes in
+    (omega (arith, as-few)) (ap (drop 1) same) (λ calls. (both calls).1) in
     (λ i. here i ∷ rest i)

@@ -1,6 +1,6 @@
 -- Canonical extracts have the same tables exactly if they have the same text.
 use Rattle.std.proofs.Common.{◌≡◌, ◌≢◌, ℕ, ◌+◌, ◌<◌, ◌≤◌, ◌^◌, All, List, [], ◌∷◌, ◌++◌, ap, ap₂, ◌∙◌, length, map, refl, subst, sym}
-use Rattle.std.proofs.Common.{Bool, arith, drop, false, get_or, length-append}
+use Rattle.std.proofs.Common.{Bool, Some, arith, drop, false, true, get_or, length-append}
 use Rattle.std.specs.List.{enumerate_from}
 use Rattle.std.specs.Prelude.{◌↔◌}
 use Rattle.std.proofs.lemmas.Grind.{flat_map-append}
@@ -20,7 +20,7 @@ use Rattle.cif_records.specs.Header.{header_table}
 use Rattle.cif_records.specs.Tiploc.{tiploc_table}
 use Rattle.cif_records.specs.Trailer.{trailer_table}
 use Rattle.cif_records.specs.declared.tiploc.Tiploc.{Tiploc}
-use Rattle.cif_weeks.specs.Permanent.{permanent_entries}
+use Rattle.cif_weeks.specs.Permanent.{permanent_entries, terms_of}
 use Rattle.cif_weeks.specs.declared.form.Form.{Form}
 use Rattle.cif_canon.specs.Canon.{CanonParts, IsCanonOf}
 use Rattle.cif_canon.specs.Canonical.{IsCanonicalText}
@@ -37,10 +37,10 @@ use Rattle.cif_views.specs.declared.tables.Table.TheVariants.{Associations, Call
 use Rattle.cif_views.proofs.Words.{AllFit, AssocBody, AssocKey, Association, BodyParts, ExtractParts, Permanent, Row, Schedule}
 use Rattle.cif_views.proofs.Words.{ScheduleLines, association_entries, association_entry, call_fields, flat_map, is_call, is_change}
 use Rattle.cif_views.proofs.Words.{line_of_tiploc, numbered_schedule, row_line, schedule_entries, schedule_entry, schedule_fields, table_rows}
-use Rattle.cif_views.proofs.Words.{Column, JourneyKind, Numbered, Other, TableFields, tiploc_fields}
-use Rattle.cif_views.proofs.PairedBodies.{association_line}
+use Rattle.cif_views.proofs.Words.{Column, JourneyKind, schedule_plain, Numbered, Other, TableFields, tiploc_fields}
+use Rattle.cif_views.proofs.PairedBodies.{association_line, basic_line}
 use Rattle.cif_views.proofs.RowLines.{AreCells, IsPlain, cells_of, same-plain_row, same-plain_rows, same-rows}
-use Rattle.cif_views.proofs.SameJourneys.{IsRow, call-cells, change-cells, most, one-call, one-change}
+use Rattle.cif_views.proofs.SameJourneys.{IsRow, fields_of, most, one-row, row-cells}
 use Rattle.cif_views.proofs.SameSchedules.{IsNumberedPlain, IsSchedule, all-numbered, all-rows, listed, rows_from, same-row_of}
 use Rattle.cif_views.proofs.SameSchedules.{same-schedules, schedule-cells, schedules_from}
 
@@ -97,31 +97,32 @@ module _ (x y : ExtractLines) (one : ArePlain x) (other : ArePlain y) (same : Ha
       (all-numbered 1 y.schedules (few-of y other) other.schedules)
       (text x ∙ rows Schedules (λ e. absurd (cc)) ∙ sym (text y))
 
-  -- the rows of lines of journeys, of some kinds
-  module _ (test : JourneyKind → Bool) (no-other : test Other ≡ false) (fields : TableFields Numbered) (some : 0 < length fields)
-      (cells : (p : Numbered) → IsRow test 1 most p → AreCells (cells_of fields p))
-      (one-row : (p q : Numbered) → IsRow test 1 most p → IsRow test 1 most q → cells_of fields p ≡ cells_of fields q → p ≡ q) where
-    abbrev text_of_rows : ExtractLines → List ℕ
-    text_of_rows z =
-        flat_map (λ (s : ℕ × ScheduleLines). flat_map (row_line fields) (listed test no-other s.0 s.1.further))
-        (enumerate_from 1 z.schedules)
+  -- the rows of calls, or else of changes
+  abbrev text_of_rows : Bool → ExtractLines → List ℕ
+  text_of_rows calls z =
+      flat_map (λ (s : ℕ × ScheduleLines). flat_map (row_line (fields_of calls)) (listed calls s.0 s.1.further))
+      (enumerate_from 1 z.schedules)
 
-    text-of_rows : (z : ExtractLines) → flat_map (row_line fields) (rows_from test no-other 1 z.schedules) ≡ text_of_rows z
-    text-of_rows z = flat-twice (row_line fields) _ (enumerate_from 1 z.schedules)
+  texts-of_rows : (calls : Bool) → text_of_rows calls x ≡ text_of_rows calls y
+  texts-of_rows true = rows Calls (λ e. absurd (cc))
+  texts-of_rows false = rows Changes (λ e. absurd (cc))
 
-    same-lines_of : text_of_rows x ≡ text_of_rows y → rows_from test no-other 1 x.schedules ≡ rows_from test no-other 1 y.schedules
-    same-lines_of is =
-        same-rows fields (IsRow test 1 most) some cells one-row (rows_from test no-other 1 x.schedules)
-        (rows_from test no-other 1 y.schedules)
-        (all-rows test no-other 1 1 x.schedules (omega arith) (few-of x one) one.schedules)
-        (all-rows test no-other 1 1 y.schedules (omega arith) (few-of y other) other.schedules)
-        (text-of_rows x ∙ is ∙ sym (text-of_rows y))
+  some-field : (calls : Bool) → 0 < length (fields_of calls)
+  some-field true = omega arith
+  some-field false = omega arith
+
+  journeys : (calls : Bool) → rows_from calls 1 x.schedules ≡ rows_from calls 1 y.schedules
+  journeys calls =
+      let text : (z : ExtractLines) → flat_map (row_line (fields_of calls)) (rows_from calls 1 z.schedules) ≡ text_of_rows calls z =
+      λ z. flat-twice (row_line (fields_of calls)) _ (enumerate_from 1 z.schedules) in
+      same-rows (fields_of calls) (IsRow calls 1 most) (some-field calls) (row-cells calls) (one-row calls) (rows_from calls 1 x.schedules)
+      (rows_from calls 1 y.schedules) (all-rows calls 1 1 x.schedules (omega arith) (few-of x one) one.schedules)
+      (all-rows calls 1 1 y.schedules (omega arith) (few-of y other) other.schedules)
+      (text x ∙ texts-of_rows calls ∙ sym (text y))
 
   schedules : x.schedules ≡ y.schedules
   schedules =
-      same-schedules 1 x.schedules y.schedules one.schedules other.schedules (few-of x one) (few-of y other) numbered
-      (same-lines_of is_call refl call_fields (omega arith) call-cells one-call (rows Calls (λ e. absurd (cc))))
-      (same-lines_of is_change refl change_fields (omega arith) change-cells one-change (rows Changes (λ e. absurd (cc))))
+      same-schedules 1 x.schedules y.schedules one.schedules other.schedules (few-of x one) (few-of y other) numbered journeys
 
   same-lines : x ≡ y
   same-lines = λ i. record {
@@ -167,56 +168,73 @@ some-byte (l ∷ ls) =
 
 -- ---- what a canonical extract has
 
-plain-tiplocs : (ts : List Tiploc) → AllTablesFit (map tiploc_table ts) → All (IsPlain tiploc_table) (map line_of_tiploc ts)
-plain-tiplocs [] fits = All-nil (IsPlain tiploc_table)
-plain-tiplocs (t ∷ ts) fits =
-    All-cons (IsPlain tiploc_table) (line_of_tiploc t) (map line_of_tiploc ts) (record { it = t; fits = fits.0; is = refl })
-    (plain-tiplocs ts fits.1)
+plain-all : {X : Type 0} (table : X → List Row) (xs : List X) → AllTablesFit (map table xs) →
+    All (IsPlain table) (map (λ x. plain_line (table x)) xs)
+plain-all table [] fits = All-nil (IsPlain table)
+plain-all table (x ∷ xs) fits =
+    All-cons (IsPlain table) (plain_line (table x)) (map (λ x. plain_line (table x)) xs) (record { it = x; fits = fits.0; is = refl })
+    (plain-all table xs fits.1)
 
--- the tables of entries
+-- the tables of an association, and of a schedule, as entries and as permanent records
 abbrev association_of : AssocKey × Terms AssocBody → List Row
 association_of e = aa.association_rows e.0 e.1.first e.1.last e.1.days e.1.letter e.1.body
 
 abbrev schedule_of : List ℕ × Terms BodyParts → List (List Row)
 schedule_of e = schedule_tables e.0 e.1.first e.1.last e.1.days e.1.letter e.1.body
 
+abbrev permanent_tables : List ℕ × Permanent BodyParts → List (List Row)
+permanent_tables e = basic_line e ∷ body_tables (Some e.1.body)
+
 abbrev lines_in : List (List Row) → ScheduleLines
 lines_in tables = record { basic = plain_line (get_or tables 0 []); further = map plain_line (drop 1 tables) }
 
+-- what canonical entries have is what their records have
+module _ {A K B : Type 0} (entry : A → K × Terms B) (xs : List A) (es : List (K × Permanent B)) (are : map entry xs ≡ permanent_entries es)
+    where
+  by-records : {C : Type 0} (of : K × Terms B → C) → map (λ x. of (entry x)) xs ≡ map (λ (e : K × Permanent B). of (e.0, terms_of e.1)) es
+  by-records of =
+      sym (map-map of entry xs) ∙ ap (map of) are ∙ map-map of (λ (e : K × Permanent B). (e.0, terms_of e.1)) es
+
 plain-associations : (xs : List Association) (es : List (AssocKey × Permanent AssocBody)) → association_entries xs ≡ permanent_entries es →
     AllTablesFit (map aa.association_table xs) → All (IsPlain association_line) (map line_of_association xs)
-plain-associations [] es are fits = All-nil (IsPlain association_line)
-plain-associations (a ∷ xs) [] are fits = absurd (let long = ap length are in omega (arith, long))
-plain-associations (a ∷ xs) (e ∷ es) are fits =
-    let first = ap (λ (all : List (AssocKey × Terms AssocBody)). get_or all 0 (association_entry a)) are in
-    All-cons (IsPlain association_line) (line_of_association a) (map line_of_association xs)
-    (record {
-      it = e;
-      fits = subst (λ (p : AssocKey × Terms AssocBody). AllFit (association_of p)) first fits.0;
-      is = ap (λ (p : AssocKey × Terms AssocBody). plain_line (association_of p)) first;
-    }) (plain-associations xs es (ap (drop 1) are) fits.1)
+plain-associations xs es are fits =
+    subst (All (IsPlain association_line)) (sym (by-records association_entry xs es are (λ p. plain_line (association_of p))))
+    (plain-all association_line es (subst AllTablesFit (by-records association_entry xs es are association_of) fits))
+
+plain-records : (es : List (List ℕ × Permanent BodyParts)) → AllTablesFit (flat_map permanent_tables es) →
+    length (flat_map permanent_tables es) < 2 ^ 64 → All IsSchedule (map schedule_plain es) × (length (map schedule_plain es) < 2 ^ 64)
+plain-records [] fits few = (All-nil IsSchedule, omega arith)
+plain-records (e ∷ es) fits few =
+    let rest = flat_map permanent_tables es in
+    let own = fit-front (permanent_tables e) rest fits in
+    let long = length-append (permanent_tables e) rest in
+    let as-many = length-map (body_tables (Some e.1.body)) plain_line in
+    let (others, count) = plain-records es (fit-back (permanent_tables e) rest fits) (omega (arith, few, long)) in (
+      All-cons IsSchedule (schedule_plain e) (map schedule_plain es)
+          (record {
+            it = e;
+            fits = record { basic = own.0; further = own.1 };
+            is = refl;
+            few = omega (arith, few, long, as-many);
+          }) others,
+      omega (arith, few, long, fewer es),
+    )
+  where
+    fewer : (es : List (List ℕ × Permanent BodyParts)) → length (map schedule_plain es) ≤ length (flat_map permanent_tables es)
+    fewer [] = omega arith
+    fewer (e ∷ es) = omega (arith, fewer es, length-append (permanent_tables e) (flat_map permanent_tables es))
 
 plain-schedules : (xs : List Schedule) (es : List (List ℕ × Permanent BodyParts)) → schedule_entries xs ≡ permanent_entries es →
-    AllTablesFit (flat_map tables_of xs) → length (flat_map tables_of xs) < 2 ^ 64 → All IsSchedule (map lines_of_schedule xs)
-plain-schedules [] es are fits few = All-nil IsSchedule
-plain-schedules (s ∷ xs) [] are fits few = absurd (let long = ap length are in omega (arith, long))
-plain-schedules (s ∷ xs) (e ∷ es) are fits few =
-    let first = ap (λ (all : List (List ℕ × Terms BodyParts)). get_or all 0 (schedule_entry s)) are in
-    let own = subst (λ (p : List ℕ × Terms BodyParts). AllTablesFit (schedule_of p)) first
-    (fit-front (tables_of s) (flat_map tables_of xs) fits) in
-    let long = length-append (tables_of s) (flat_map tables_of xs) in
-    let as-many = length-map (body_tables s.body) plain_line in
-    All-cons IsSchedule (lines_of_schedule s) (map lines_of_schedule xs)
-    (record {
-      it = e;
-      fits = record { basic = own.0; further = own.1 };
-      is = ap (λ (p : List ℕ × Terms BodyParts). lines_in (schedule_of p)) first;
-      few = omega (arith, few, long, as-many);
-    }) (plain-schedules xs es (ap (drop 1) are) (fit-back (tables_of s) (flat_map tables_of xs) fits) (omega (arith, few, long)))
-
-fewer-schedules : (xs : List Schedule) → length (map lines_of_schedule xs) ≤ length (flat_map tables_of xs)
-fewer-schedules [] = omega arith
-fewer-schedules (s ∷ xs) = omega (arith, fewer-schedules xs, length-append (tables_of s) (flat_map tables_of xs))
+    AllTablesFit (flat_map tables_of xs) → length (flat_map tables_of xs) < 2 ^ 64 →
+    All IsSchedule (map lines_of_schedule xs) × (length (map lines_of_schedule xs) < 2 ^ 64)
+plain-schedules xs es are fits few =
+    let tables : flat_map tables_of xs ≡ flat_map permanent_tables es =
+    sym (flat_map-map (λ (t : List (List Row)). t) tables_of xs)
+    ∙ ap (flat_map (λ (t : List (List Row)). t)) (by-records schedule_entry xs es are schedule_of)
+    ∙ flat_map-map (λ (t : List (List Row)). t) permanent_tables es in
+    subst (λ (ls : List ScheduleLines). All IsSchedule ls × (length ls < 2 ^ 64))
+    (sym (by-records schedule_entry xs es are (λ p. lines_in (schedule_of p))))
+    (plain-records es (subst AllTablesFit tables fits) (subst (λ (ts : List (List Row)). length ts < 2 ^ 64) tables few))
 
 module _ (form : Form) (x : ExtractParts) (text : List ℕ) (is : IsCanonicalText form x text) (few : length text < 2 ^ 64) where
   are-plain : ArePlain (lines_of x)
@@ -235,14 +253,15 @@ module _ (form : Form) (x : ExtractParts) (text : List ℕ) (is : IsCanonicalTex
       let others = length-append own (trains ++ end) in
       let last = length-append trains end in
       let some : length trains < 2 ^ 64 = omega (arith, few, bytes, lines, all, more, others, last) in
-      let fewer = fewer-schedules x.schedules in
+      let (schedules, count) = plain-schedules x.schedules is.canonical.schedules.records is.canonical.schedules.are
+      (fit-front trains end back) some in
       record {
         header = record { it = x.header; fits = fits.0; is = refl };
-        tiplocs = plain-tiplocs x.tiplocs (fit-front locations (own ++ (trains ++ end)) fits.1);
+        tiplocs = plain-all tiploc_table x.tiplocs (fit-front locations (own ++ (trains ++ end)) fits.1);
         associations = plain-associations x.associations is.canonical.associations.records is.canonical.associations.are
             (fit-front own (trains ++ end) behind);
-        schedules = plain-schedules x.schedules is.canonical.schedules.records is.canonical.schedules.are (fit-front trains end back) some;
-        few = omega (arith, some, fewer);
+        schedules = schedules;
+        few = count;
       }
 
 -- ---- canonical extracts
