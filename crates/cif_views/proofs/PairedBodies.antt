@@ -232,7 +232,8 @@ shown-extra e fits same =
     let long : 2 ≡ 0 = ap length (sym (ap trimmed (records.spells (of.Extra e) fits).0) ∙ same) in
     absurd (omega (arith, long))
 
-pub same-extra : (x y : Option Extra) → AllTablesFit (map record_table (extra_records x)) → AllTablesFit (map record_table (extra_records y)) →
+pub same-extra : (x y : Option Extra) → AllTablesFit (map record_table (extra_records x)) →
+    AllTablesFit (map record_table (extra_records y)) →
     identity_of_extra (extra_line x) ≡ identity_of_extra (extra_line y) → extra_cells (extra_line x) ≡ extra_cells (extra_line y) → x ≡ y
 same-extra None None one other identity same = refl
 same-extra None (Some f) one other identity same = absurd (shown-extra f other.0 (sym identity))

@@ -1,6 +1,6 @@
 -- The rows of calls and of changes tell the lines of each journey, and where a change stands among the calls.
-use Rattle.std.proofs.Common.{◌≡◌, ℕ, ◌+◌, ◌-◌, ◌≤◌, ◌^◌, ◌⊎◌, All, Bool, true, false, List, [], ◌∷◌, ◌++◌, ap}
-use Rattle.std.proofs.Common.{IsTrue, arith, codes, cond, decimal, drop, get_or, inl, inr, length, map, refl, subst, sym, take, ◌∙◌, ⊎_elim}
+use Rattle.std.proofs.Common.{◌≡◌, ℕ, ◌+◌, ◌-◌, ◌≤◌, ◌^◌, All, Bool, true, false, List, [], ◌∷◌, ◌++◌, ap}
+use Rattle.std.proofs.Common.{IsTrue, arith, codes, cond, decimal, drop, get_or, length, map, refl, subst, sym, take, ◌∙◌}
 use Rattle.std.specs.List.{filter}
 use Rattle.std.specs.Prelude.{not}
 use Rattle.std.proofs.lemmas.Bool.{false≢true}
@@ -15,9 +15,9 @@ use Rattle.cif_records.proofs.Records as records
 use Rattle.cif_views.specs.Steps.Columns.{call_columns, change_columns}
 use Rattle.cif_views.specs.Steps.TableRows.{has_row}
 use Rattle.cif_views.specs.Tables.{change_fields}
-use Rattle.cif_views.proofs.Words.{TableFields, AllFit, Change, Field, IsLine, JourneyKind, Numbered, Origin, Other, Stop, Terminus, Tsv}
-use Rattle.cif_views.proofs.Words.{call_fields, columns, fields_in, is_call, is_change, journey_kind, kind_of_line, number}
-use Rattle.cif_views.proofs.Words.{numbered_from, own_columns, shown}
+use Rattle.cif_views.proofs.Words.{AllFit, Change, Field, IsLine, JourneyKind, Numbered, Origin, Other, Stop, TableFields, Terminus, Tsv}
+use Rattle.cif_views.proofs.Words.{call_fields, columns, fields_in, is_call, is_change, journey_kind, kind_of_line, number, numbered_from}
+use Rattle.cif_views.proofs.Words.{own_columns, shown}
 use Rattle.cif_views.proofs.DifferingCells.{covered, two-parts}
 use Rattle.cif_views.proofs.DifferingFields.{same-kind}
 use Rattle.cif_views.proofs.PairedBodies.{IsPlace, one-place, own_cells}

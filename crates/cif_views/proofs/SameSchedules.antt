@@ -1,6 +1,6 @@
 -- Schedules with the same rows in the tables of schedules, calls and changes are the same.
-use Rattle.std.proofs.Common.{◌≡◌, ℕ, ◌+◌, ◌<◌, ◌≤◌, ◌^◌, All, Bool, false, List, [], ◌∷◌, ◌++◌, Option, None, Some, ap, ◌∙◌}
-use Rattle.std.proofs.Common.{true, arith, cond, decimal, drop, get_or, length, map, refl, subst, sym, take}
+use Rattle.std.proofs.Common.{◌≡◌, ℕ, ◌+◌, ◌<◌, ◌≤◌, ◌^◌, All, Bool, true, false, List, [], ◌∷◌, ◌++◌, Option, None, Some, ap, ◌∙◌}
+use Rattle.std.proofs.Common.{arith, cond, decimal, drop, get_or, length, map, refl, subst, sym, take}
 use Rattle.std.specs.List.{enumerate_from, filter}
 use Rattle.std.proofs.lemmas.Fmt.{decimal_injective}
 use Rattle.std.proofs.lemmas.List.Elements.{All-append, All-cons, All-filter, All-head, All-nil, All-tail, filter_passes}
@@ -15,16 +15,16 @@ use Rattle.cif_records.specs.declared.extra.Extra.{Extra}
 use Rattle.cif_records.specs.declared.record.Record.{Record}
 use Rattle.cif_records.specs.declared.record.Record.TheVariants as of
 use Rattle.cif_records.proofs.Records as records
-use Rattle.cif_views.specs.Steps.TableRows.{has_row}
 use Rattle.cif_views.specs.Steps.Columns.{basic_columns, extra_columns}
+use Rattle.cif_views.specs.Steps.TableRows.{has_row}
 use Rattle.cif_views.specs.Tables.{NumberedSchedule, extra_fields}
-use Rattle.cif_views.proofs.Words.{BodyParts, IsLine, JourneyKind, Numbered, Other, Permanent, ScheduleLines, Tsv, columns, extra_in, flat_map, is_call}
-use Rattle.cif_views.proofs.Words.{is_change, journey_kind, kind_of_line, numbered_from, numbered_schedule, row_fields, schedule_plain, shown}
-use Rattle.cif_views.proofs.Words.{schedule_fields, trimmed}
-use Rattle.cif_views.proofs.PairedBodies.{ArePlaces, FitsLines, are-further, are-places, extra-fits, extra_line, journey-fits}
-use Rattle.cif_views.proofs.PairedBodies.{basic_line, lines_of, same-extra}
+use Rattle.cif_views.proofs.Words.{BodyParts, IsLine, JourneyKind, Numbered, Other, Permanent, ScheduleLines, Tsv, columns, extra_in}
+use Rattle.cif_views.proofs.Words.{flat_map, is_call, journey_kind, kind_of_line, numbered_from, numbered_schedule, row_fields}
+use Rattle.cif_views.proofs.Words.{schedule_fields, schedule_plain, shown, trimmed}
+use Rattle.cif_views.proofs.PairedBodies.{ArePlaces, FitsLines, are-further, are-places, basic_line, extra-fits, extra_line, journey-fits}
+use Rattle.cif_views.proofs.PairedBodies.{lines_of, same-extra}
 use Rattle.cif_views.proofs.RowLines.{AreCells, IsPlain, are-cells, cells_in, cells_of, is-line, number-printable, one-line}
-use Rattle.cif_views.proofs.SameJourneys.{IsNumbered, IsOfJourney, IsRow, are-numbered, most, listed_from, same-journey}
+use Rattle.cif_views.proofs.SameJourneys.{IsNumbered, IsOfJourney, IsRow, are-numbered, listed_from, most, same-journey}
 
 -- the lines of a schedule of a canonical extract; the numbers of its calls can be written
 pub record IsSchedule (s : ScheduleLines) : Type 0 where
@@ -86,7 +86,8 @@ module _ (calls : Bool) where
       let first : Numbered = record { schedule = n; call = 1; line = line } in
       let rest : JourneyKind → List Numbered =
       λ k. filter (λ p. has_row calls (kind_of_line p.line)) (numbered_from n (cond (is_call k) 2 1) lines) in
-      (λ i. cond (has_row calls (kind i)) (first ∷ rest (kind i)) (rest (kind i))) ∙ ap (λ b. cond b (first ∷ rest Other) (rest Other)) (no-other calls)
+      (λ i. cond (has_row calls (kind i)) (first ∷ rest (kind i)) (rest (kind i)))
+      ∙ ap (λ b. cond b (first ∷ rest Other) (rest Other)) (no-other calls)
 
   pub listed-of : (n : ℕ) (s : ScheduleLines) (p : IsSchedule s) → listed n s.further ≡ listed n (journey_of p.it)
   listed-of n s p =

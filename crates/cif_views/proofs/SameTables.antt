@@ -1,6 +1,6 @@
 -- Canonical extracts have the same tables exactly if they have the same text.
-use Rattle.std.proofs.Common.{◌≡◌, ◌≢◌, ℕ, ◌+◌, ◌<◌, ◌≤◌, ◌^◌, All, List, [], ◌∷◌, ◌++◌, ap, ap₂, ◌∙◌, length, map, refl, subst, sym}
-use Rattle.std.proofs.Common.{Bool, Some, arith, drop, false, true, get_or, length-append}
+use Rattle.std.proofs.Common.{◌≡◌, ◌≢◌, ℕ, ◌+◌, ◌<◌, ◌≤◌, ◌^◌, All, Bool, true, false, List, [], ◌∷◌, ◌++◌, Some, ap, ap₂, ◌∙◌}
+use Rattle.std.proofs.Common.{arith, drop, get_or, length, length-append, map, refl, subst, sym}
 use Rattle.std.specs.List.{enumerate_from}
 use Rattle.std.specs.Prelude.{◌↔◌}
 use Rattle.std.proofs.lemmas.Grind.{flat_map-append}
@@ -19,7 +19,6 @@ use Rattle.cif_records.specs.Association as aa
 use Rattle.cif_records.specs.Header.{header_table}
 use Rattle.cif_records.specs.Tiploc.{tiploc_table}
 use Rattle.cif_records.specs.Trailer.{trailer_table}
-use Rattle.cif_records.specs.declared.tiploc.Tiploc.{Tiploc}
 use Rattle.cif_weeks.specs.Permanent.{permanent_entries, terms_of}
 use Rattle.cif_weeks.specs.declared.form.Form.{Form}
 use Rattle.cif_canon.specs.Canon.{CanonParts, IsCanonOf}
@@ -31,15 +30,14 @@ use Rattle.cif_views.specs.SameTables.{HaveSameTables}
 use Rattle.cif_views.specs.Steps.Columns.{association_columns, over}
 use Rattle.cif_views.specs.declared.columns.TheConstants.{HEADER, TIPLOC}
 use Rattle.cif_views.specs.TableText.{table_heading, table_text}
-use Rattle.cif_views.specs.Tables.{association_fields, change_fields, header_fields}
+use Rattle.cif_views.specs.Tables.{association_fields, header_fields}
 use Rattle.cif_views.specs.declared.tables.Table.{Table}
 use Rattle.cif_views.specs.declared.tables.Table.TheVariants.{Associations, Calls, Changes, Header, Public, Schedules, Tiplocs}
-use Rattle.cif_views.proofs.Words.{AllFit, AssocBody, AssocKey, Association, BodyParts, ExtractParts, Permanent, Row, Schedule}
-use Rattle.cif_views.proofs.Words.{ScheduleLines, association_entries, association_entry, call_fields, flat_map, is_call, is_change}
-use Rattle.cif_views.proofs.Words.{line_of_tiploc, numbered_schedule, row_line, schedule_entries, schedule_entry, schedule_fields, table_rows}
-use Rattle.cif_views.proofs.Words.{Column, JourneyKind, schedule_plain, Numbered, Other, TableFields, tiploc_fields}
+use Rattle.cif_views.proofs.Words.{AssocBody, AssocKey, Association, BodyParts, Column, ExtractParts, Permanent, Row, Schedule}
+use Rattle.cif_views.proofs.Words.{ScheduleLines, association_entries, association_entry, flat_map, numbered_schedule, row_line}
+use Rattle.cif_views.proofs.Words.{schedule_entries, schedule_entry, schedule_fields, schedule_plain, table_rows, tiploc_fields}
 use Rattle.cif_views.proofs.PairedBodies.{association_line, basic_line}
-use Rattle.cif_views.proofs.RowLines.{AreCells, IsPlain, cells_of, same-plain_row, same-plain_rows, same-rows}
+use Rattle.cif_views.proofs.RowLines.{IsPlain, same-plain_row, same-plain_rows, same-rows}
 use Rattle.cif_views.proofs.SameJourneys.{IsRow, fields_of, most, one-row, row-cells}
 use Rattle.cif_views.proofs.SameSchedules.{IsNumberedPlain, IsSchedule, all-numbered, all-rows, listed, rows_from, same-row_of}
 use Rattle.cif_views.proofs.SameSchedules.{same-schedules, schedule-cells, schedules_from}
@@ -190,10 +188,10 @@ lines_in tables = record { basic = plain_line (get_or tables 0 []); further = ma
 
 -- what canonical entries have is what their records have
 module _ {A K B : Type 0} (entry : A → K × Terms B) (xs : List A) (es : List (K × Permanent B)) (are : map entry xs ≡ permanent_entries es)
-    where
-  by-records : {C : Type 0} (of : K × Terms B → C) → map (λ x. of (entry x)) xs ≡ map (λ (e : K × Permanent B). of (e.0, terms_of e.1)) es
-  by-records of =
-      sym (map-map of entry xs) ∙ ap (map of) are ∙ map-map of (λ (e : K × Permanent B). (e.0, terms_of e.1)) es
+  where
+    by-records : {C : Type 0} (of : K × Terms B → C) → map (λ x. of (entry x)) xs ≡ map (λ (e : K × Permanent B). of (e.0, terms_of e.1)) es
+    by-records of =
+        sym (map-map of entry xs) ∙ ap (map of) are ∙ map-map of (λ (e : K × Permanent B). (e.0, terms_of e.1)) es
 
 plain-associations : (xs : List Association) (es : List (AssocKey × Permanent AssocBody)) → association_entries xs ≡ permanent_entries es →
     AllTablesFit (map aa.association_table xs) → All (IsPlain association_line) (map line_of_association xs)
@@ -202,7 +200,8 @@ plain-associations xs es are fits =
     (plain-all association_line es (subst AllTablesFit (by-records association_entry xs es are association_of) fits))
 
 plain-records : (es : List (List ℕ × Permanent BodyParts)) → AllTablesFit (flat_map permanent_tables es) →
-    length (flat_map permanent_tables es) < 2 ^ 64 → All IsSchedule (map schedule_plain es) × (length (map schedule_plain es) < 2 ^ 64)
+    length (flat_map permanent_tables es) < 2 ^ 64 →
+    All IsSchedule (map schedule_plain es) × (length (map schedule_plain es) ≤ length (flat_map permanent_tables es))
 plain-records [] fits few = (All-nil IsSchedule, omega arith)
 plain-records (e ∷ es) fits few =
     let rest = flat_map permanent_tables es in
@@ -217,12 +216,8 @@ plain-records (e ∷ es) fits few =
             is = refl;
             few = omega (arith, few, long, as-many);
           }) others,
-      omega (arith, few, long, fewer es),
+      omega (arith, long, count),
     )
-  where
-    fewer : (es : List (List ℕ × Permanent BodyParts)) → length (map schedule_plain es) ≤ length (flat_map permanent_tables es)
-    fewer [] = omega arith
-    fewer (e ∷ es) = omega (arith, fewer es, length-append (permanent_tables e) (flat_map permanent_tables es))
 
 plain-schedules : (xs : List Schedule) (es : List (List ℕ × Permanent BodyParts)) → schedule_entries xs ≡ permanent_entries es →
     AllTablesFit (flat_map tables_of xs) → length (flat_map tables_of xs) < 2 ^ 64 →
@@ -232,9 +227,10 @@ plain-schedules xs es are fits few =
     sym (flat_map-map (λ (t : List (List Row)). t) tables_of xs)
     ∙ ap (flat_map (λ (t : List (List Row)). t)) (by-records schedule_entry xs es are schedule_of)
     ∙ flat_map-map (λ (t : List (List Row)). t) permanent_tables es in
+    let some = ap length tables in
+    let (all, count) = plain-records es (subst AllTablesFit tables fits) (omega (arith, few, some)) in
     subst (λ (ls : List ScheduleLines). All IsSchedule ls × (length ls < 2 ^ 64))
-    (sym (by-records schedule_entry xs es are (λ p. lines_in (schedule_of p))))
-    (plain-records es (subst AllTablesFit tables fits) (subst (λ (ts : List (List Row)). length ts < 2 ^ 64) tables few))
+    (sym (by-records schedule_entry xs es are (λ p. lines_in (schedule_of p)))) (all, omega (arith, few, some, count))
 
 module _ (form : Form) (x : ExtractParts) (text : List ℕ) (is : IsCanonicalText form x text) (few : length text < 2 ^ 64) where
   are-plain : ArePlain (lines_of x)

@@ -1,4 +1,4 @@
-//! Laws: what the marks of an explanation and the letters of a calendar say, and that rows have all fields.
+//! Laws: what the marks of an explanation and the letters of a calendar say, and what tables tell.
 ghost use Rattle.std.specs.Prelude.{◌≡◌, ◌↔◌, ◌<◌, ◌≤◌, ◌^◌, ℕ, Contains, List, length};
 ghost use Rattle.cif_calendar.specs.Clash.{IsClear};
 ghost use Rattle.cif_calendar.specs.Keys.{keyed, of_key};
@@ -55,9 +55,9 @@ pub fn rows_have_all_fields()
     ensures columns { (line : List ℕ) → TablesHaveColumns line }
 {}
 
-/// The tables of a canonical extract, but for that of public calls, together say what it says: two have the
-/// same tables exactly if they have the same text. The texts have fewer than 2^64 bytes, since that is as far
-/// as schedules and calls are numbered.
+/// The tables of a canonical extract, but for that of public calls, together say what it says: two extracts
+/// have the same tables exactly if they have the same text, each of fewer than 2^64 bytes. In longer ones
+/// the numbers of schedules and calls may not fit 64 bits.
 pub fn equal_tables_equal_extracts()
     ensures text { (form other : Form) (x y : ExtractParts) (c d : CanonParts)
         → IsCanonOf form x c → IsCanonOf other y d → length c.text < 2 ^ 64 → length d.text < 2 ^ 64
