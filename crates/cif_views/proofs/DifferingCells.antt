@@ -125,7 +125,7 @@ same-shown (place.DayFirst _ _) from to a b p q six same =
     ∙ six-digits b (omega (arith, q, end))
 
 -- columns, and those behind them
-pub two-parts : (from mid to : ℕ) (line : List ℕ) → 1 ≤ from → from ≤ mid → mid ≤ to →
+two-parts : (from mid to : ℕ) (line : List ℕ) → 1 ≤ from → from ≤ mid → mid ≤ to →
     columns from to line ≡ columns from mid line ++ columns (mid + 1) to line
 two-parts from mid to line one some more =
     let n : to - mid ≡ to - (mid + 1 - 1) = omega arith in

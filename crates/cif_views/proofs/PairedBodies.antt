@@ -58,18 +58,15 @@ ArePlaces (r ∷ rs) = IsPlace r × ArePlaces rs
 
 -- ---- one place of two journeys
 
--- the cells of a place behind its suffix
-abbrev pub own_cells : JourneyKind → List ℕ → List (List ℕ)
-own_cells kind line = map (shown Tsv) (fields_in kind (own_columns kind) line)
-
-module _ (l m : List ℕ) (left : IsLine l) (right : IsLine m) (place : columns 1 10 l ≡ columns 1 10 m)
-    (same : own_cells (kind_of_line l) l ≡ own_cells (kind_of_line l) m) where
+module _ (begun : List ℕ) (call : ℕ) (l m : List ℕ) (left : IsLine l) (right : IsLine m)
+    (place : columns 1 10 l ≡ columns 1 10 m) (none : place_behind begun call (kind_of_line l) l m ≡ []) where
   -- where the cells of all fields that a line of a kind has cover a record of the kind, what the other line spells this one does
   by-cells : (kind : JourneyKind) (r : Record) → kind_of_line m ≡ kind →
       IsTrue (are_covered 10 kind (own_columns kind) (record_table r)) → AllSame l m (record_table r)
   by-cells kind r is covered =
       all-covered l m 10 kind place left right (own_columns kind) (record_table r) covered
-      (subst (λ k. own_cells k l ≡ own_cells k m) (sym (same-kind l m place) ∙ is) same)
+      (subst (λ k. map (shown Tsv) (fields_in k (own_columns k) l) ≡ map (shown Tsv) (fields_in k (own_columns k) m))
+      (sym (same-kind l m place) ∙ is) (same-cells_in _ (kind_of_line l) l m (own_columns (kind_of_line l)) none))
 
   same-place : (r : Record) → IsPlace r → SpellsRecord m r → AllSame l m (record_table r)
   same-place (of.Origin r) is h = by-cells kinds_of.Origin (of.Origin r) (ap journey_kind (records.kind_there m (of.Origin r) h)) refl
@@ -78,23 +75,6 @@ module _ (l m : List ℕ) (left : IsLine l) (right : IsLine m) (place : columns 
   same-place (of.Terminus r) is h = by-cells kinds_of.Terminus (of.Terminus r) (ap journey_kind (records.kind_there m (of.Terminus r) h))
       refl
   same-place _ is h = absurd is
-
--- so they are one line
-module _ (r q : Record) (one : AllFit (record_table r)) (other : AllFit (record_table q)) (is : IsPlace q) where
-  abbrev line_of_one : List ℕ
-  line_of_one = plain_line (record_table r)
-
-  abbrev line_of_other : List ℕ
-  line_of_other = plain_line (record_table q)
-
-  pub one-place : columns 1 10 line_of_one ≡ columns 1 10 line_of_other →
-      own_cells (kind_of_line line_of_one) line_of_one ≡ own_cells (kind_of_line line_of_one) line_of_other → line_of_one ≡ line_of_other
-  one-place place same =
-      let spelled = records.spells q other in
-      ap (λ (p : Record). plain_line (record_table p))
-      (records.one_record line_of_one r q (records.spells r one)
-      (all-moved line_of_one line_of_other (record_table q)
-      (same-place line_of_one line_of_other (records.line r one) (records.line q other) place same q is spelled) spelled))
 
 -- ---- two journeys
 
@@ -116,8 +96,12 @@ module _ (begun : List ℕ) where
       let next = cond (is_call (kind_of_line l)) (call + 1) call in
       let (here, behind) = both-none (place_behind begun call (kind_of_line l) l m)
       (places_behind begun next (lines_of rs) (lines_of qs)) none in
-      ap₂ (λ (line : List ℕ) (lines : List (List ℕ)). line ∷ lines)
-      (one-place r q one.0 other.0 are.0 place (same-cells_in _ (kind_of_line l) l m (own_columns (kind_of_line l)) here))
+      let left = records.line r one.0 in
+      let right = records.line q other.0 in
+      let spelled = records.spells q other.0 in
+      let same = records.one_record l r q (records.spells r one.0)
+      (all-moved l m (record_table q) (same-place begun call l m left right place here q are.0 spelled) spelled) in
+      ap₂ (λ (line : List ℕ) (lines : List (List ℕ)). line ∷ lines) (ap (λ (p : Record). plain_line (record_table p)) same)
       (same-journeys next rs qs are.1 one.1 other.1 later behind)
 
 -- the records of a journey are places

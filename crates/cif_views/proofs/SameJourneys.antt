@@ -1,5 +1,5 @@
 -- The rows of calls and of changes tell the lines of each journey, and where a change stands among the calls.
-use Rattle.std.proofs.Common.{◌≡◌, ℕ, ◌+◌, ◌-◌, ◌≤◌, ◌^◌, All, Bool, true, false, List, [], ◌∷◌, ◌++◌, ap}
+use Rattle.std.proofs.Common.{◌≡◌, ℕ, ◌+◌, ◌-◌, ◌≤◌, ◌^◌, All, Bool, true, false, List, [], ◌∷◌, ◌++◌, Some, ap}
 use Rattle.std.proofs.Common.{IsTrue, arith, codes, cond, decimal, drop, get_or, length, map, refl, subst, sym, take, ◌∙◌}
 use Rattle.std.specs.List.{filter}
 use Rattle.std.specs.Prelude.{not}
@@ -8,19 +8,18 @@ use Rattle.std.proofs.lemmas.Fmt.{decimal_injective}
 use Rattle.std.proofs.lemmas.List.Elements.{All-cons, All-filter, All-head, All-nil, All-tail}
 use Rattle.cif_columns.specs.Field.{plain_line}
 use Rattle.cif_columns.specs.Line.{ArePrintable}
+use Rattle.cif_records.specs.Kind.{is_identity, kinds}
 use Rattle.cif_records.specs.Record.{SpellsRecord, record_table}
 use Rattle.cif_records.specs.declared.record.Record.{Record}
 use Rattle.cif_records.specs.declared.record.Record.TheVariants as of
 use Rattle.cif_records.proofs.Records as records
-use Rattle.cif_views.specs.Steps.Columns.{call_columns, change_columns}
-use Rattle.cif_views.specs.Steps.TableRows.{has_row}
+use Rattle.cif_views.specs.Steps.Columns.{are_within, call_columns}
+use Rattle.cif_views.specs.Steps.TableRows.{has_row, journey_columns}
 use Rattle.cif_views.specs.Tables.{change_fields}
-use Rattle.cif_views.proofs.Words.{AllFit, Change, Field, IsLine, JourneyKind, Numbered, Origin, Other, Stop, TableFields, Terminus, Tsv}
-use Rattle.cif_views.proofs.Words.{call_fields, columns, fields_in, is_call, is_change, journey_kind, kind_of_line, number, numbered_from}
-use Rattle.cif_views.proofs.Words.{own_columns, shown}
-use Rattle.cif_views.proofs.DifferingCells.{covered, two-parts}
-use Rattle.cif_views.proofs.DifferingFields.{same-kind}
-use Rattle.cif_views.proofs.PairedBodies.{IsPlace, one-place, own_cells}
+use Rattle.cif_views.proofs.Words.{AllFit, Field, IsLine, JourneyKind, Numbered, Other, TableFields, Tsv, call_fields, columns, fields_in}
+use Rattle.cif_views.proofs.Words.{find, is_call, is_change, journey_kind, kind_of_line, number, numbered_from, shown}
+use Rattle.cif_views.proofs.DifferingCells.{all-covered, all-moved, are_covered, covered}
+use Rattle.cif_views.proofs.PairedBodies.{IsPlace}
 use Rattle.cif_views.proofs.RowLines.{AreCells, are-cells, cells_of, number-printable}
 use Rattle.cif_views.proofs.TableRows.{call-fields}
 
@@ -33,44 +32,28 @@ pub record IsOfJourney (line : List ℕ) : Type 0 where
   pub fits : AllFit (record_table it)
   pub is : line ≡ plain_line (record_table it)
 
-line-of : (line : List ℕ) → IsOfJourney line → IsLine line
-line-of line j = subst IsLine (sym j.is) (records.line j.it j.fits)
+-- the kind of a record of a journey
+abbrev sort_of : Record → JourneyKind
+sort_of r = journey_kind (Some (records.kind_of r))
 
-one-of : (l m : List ℕ) → IsOfJourney l → IsOfJourney m → columns 1 10 l ≡ columns 1 10 m →
-    own_cells (kind_of_line l) l ≡ own_cells (kind_of_line l) m → l ≡ m
-one-of l m p q place same =
-    p.is
-    ∙ one-place p.it q.it p.fits q.fits q.place (ap (columns 1 10) (sym p.is) ∙ place ∙ ap (columns 1 10) q.is)
-    ((λ i. own_cells (kind_of_line (sym p.is i)) (sym p.is i)) ∙ same ∙ (λ i. own_cells (kind_of_line (p.is i)) (q.is i)))
-    ∙ sym q.is
+module _ (line : List ℕ) (j : IsOfJourney line) where
+  line-of : IsLine line
+  line-of = subst IsLine (sym j.is) (records.line j.it j.fits)
 
--- what tells of a line whether it is a call or a change
-record IsTold (line : List ℕ) (call : Bool) : Type 0 where
-  kind : (calls : Bool) → has_row calls (kind_of_line line) ≡ cond calls call (not call)
-  change : IsTrue (not call) → columns 1 2 line ≡ codes "CR"
+  spelled : SpellsRecord line j.it
+  spelled = subst (λ l. SpellsRecord l j.it) (sym j.is) (records.spells j.it j.fits)
 
-kind-told : (k : JourneyKind) (line : List ℕ) → kind_of_line line ≡ k → is_change k ≡ not (is_call k) → (calls : Bool) →
-    has_row calls (kind_of_line line) ≡ cond calls (is_call k) (not (is_call k))
-kind-told k line e other true = ap is_call e
-kind-told k line e other false = ap is_change e ∙ other
+  kind-is : kind_of_line line ≡ sort_of j.it
+  kind-is = ap journey_kind (records.kind_there line j.it spelled)
 
-told-as : (line : List ℕ) (r : Record) → IsPlace r → SpellsRecord line r → (call : Bool) × IsTold line call
-told-as line (of.Origin r) is h =
-    let kind = ap journey_kind (records.kind_there line (of.Origin r) h) in
-    (true, record { kind = kind-told Origin line kind refl; change = λ no. absurd (false≢true no) })
-told-as line (of.Stop r) is h =
-    let kind = ap journey_kind (records.kind_there line (of.Stop r) h) in
-    (true, record { kind = kind-told Stop line kind refl; change = λ no. absurd (false≢true no) })
-told-as line (of.Terminus r) is h =
-    let kind = ap journey_kind (records.kind_there line (of.Terminus r) h) in
-    (true, record { kind = kind-told Terminus line kind refl; change = λ no. absurd (false≢true no) })
-told-as line (of.Change r) is h =
-    let kind = ap journey_kind (records.kind_there line (of.Change r) h) in
-    (false, record { kind = kind-told Change line kind refl; change = λ so. h.0 })
-told-as line _ is h = absurd is
-
-told : (line : List ℕ) → IsOfJourney line → (call : Bool) × IsTold line call
-told line j = told-as line j.it j.place (subst (λ l. SpellsRecord l j.it) (sym j.is) (records.spells j.it j.fits))
+-- it is a call, or else a change
+one-sort : (r : Record) → IsPlace r → (calls : Bool) → has_row calls (sort_of r) ≡ cond calls (is_call (sort_of r)) (not (is_call (sort_of r)))
+one-sort r place true = refl
+one-sort (of.Origin r) place false = refl
+one-sort (of.Stop r) place false = refl
+one-sort (of.Terminus r) place false = refl
+one-sort (of.Change r) place false = refl
+one-sort _ place false = absurd place
 
 -- ---- their rows
 
@@ -91,107 +74,92 @@ pub record IsRow (calls : Bool) (first last : ℕ) (p : Numbered) : Type 0 where
   pub numbered : IsNumbered first last 1 most p
   pub passes : has_row calls (kind_of_line p.line) ≡ true
 
-same-numbers : (p q : Numbered) → IsNumbered 1 most 1 most p → IsNumbered 1 most 1 most q → (cs ds : List (List ℕ)) →
-    decimal p.schedule ∷ decimal p.call ∷ cs ≡ decimal q.schedule ∷ decimal q.call ∷ ds → p.line ≡ q.line → p ≡ q
-same-numbers p q one other cs ds same line =
-    let schedule = decimal_injective p.schedule q.schedule (omega (arith, one.upto)) (omega (arith, other.upto))
-    (ap (λ (cells : List (List ℕ)). get_or cells 0 []) same) in
-    let call = decimal_injective p.call q.call (omega (arith, one.call_upto)) (omega (arith, other.call_upto))
-    (ap (λ (cells : List (List ℕ)). get_or cells 1 []) same) in
-    λ i. record { schedule = schedule i; call = call i; line = line i }
+-- ---- the tables of calls and of changes
 
-numbers-printable : (p : Numbered) → IsNumbered 1 most 1 most p → (cells : List (List ℕ)) → AreCells cells →
-    AreCells (decimal p.schedule ∷ decimal p.call ∷ cells)
-numbers-printable p is cells all =
-    All-cons ArePrintable (decimal p.schedule) (decimal p.call ∷ cells) (number-printable p.schedule (omega (arith, is.upto)))
-    (All-cons ArePrintable (decimal p.call) cells (number-printable p.call (omega (arith, is.call_upto))) all)
-
-abbrev call_cells : JourneyKind → List ℕ → List (List ℕ)
-call_cells kind line = map (shown Tsv) (fields_in kind call_columns line)
-
-call-row : (p : Numbered) →
-    cells_of call_fields p ≡ decimal p.schedule ∷ decimal p.call ∷ call_cells (kind_of_line p.line) p.line
-call-row p =
-    let kind = kind_of_line p.line in
-    ap (λ (own : List Field). map (shown Tsv) (number p.schedule ∷ number p.call ∷ (fields_in kind (take 3 call_columns) p.line ++ own)))
-    (call-fields p.line kind refl)
-
-call-cells : (p : Numbered) → IsRow true 1 most p → AreCells (cells_of call_fields p)
-call-cells p row =
-    subst AreCells (sym (call-row p))
-    (numbers-printable p row.numbered (call_cells (kind_of_line p.line) p.line)
-    (are-cells p.line (line-of p.line row.numbered.line) (kind_of_line p.line) call_columns refl))
-
-called : (k : JourneyKind) → is_call k ≡ true → own_columns k ≡ drop 3 call_columns
-called Origin is = refl
-called Stop is = refl
-called Terminus is = refl
-called Change is = absurd (false≢true is)
-called Other is = absurd (false≢true is)
-
-changed-kind : (k : JourneyKind) → is_change k ≡ true → k ≡ Change
-changed-kind Change is = refl
-changed-kind Origin is = absurd (false≢true is)
-changed-kind Stop is = absurd (false≢true is)
-changed-kind Terminus is = absurd (false≢true is)
-changed-kind Other is = absurd (false≢true is)
-
-one-call : (p q : Numbered) → IsRow true 1 most p → IsRow true 1 most q → cells_of call_fields p ≡ cells_of call_fields q → p ≡ q
-one-call p q one other same =
-    let l = p.line in
-    let m = q.line in
-    let cells = sym (call-row p) ∙ same ∙ call-row q in
-    let both : call_cells (kind_of_line l) l ≡ call_cells (kind_of_line m) m = ap (drop 2) cells in
-    let place = covered l m 0 Other refl (line-of l one.numbered.line) (line-of m other.numbered.line) 1 10 (take 3 call_columns) refl
-    (ap (take 3) both) in
-    let kind = same-kind l m place in
-    let own : map (shown Tsv) (fields_in (kind_of_line l) (drop 3 call_columns) l)
-    ≡ map (shown Tsv) (fields_in (kind_of_line l) (drop 3 call_columns) m) =
-    ap (drop 3) both ∙ (λ i. map (shown Tsv) (fields_in (kind i) (drop 3 call_columns) m)) in
-    same-numbers p q one.numbered other.numbered _ _ cells
-    (one-of l m one.numbered.line other.numbered.line place
-    (subst (λ c. map (shown Tsv) (fields_in (kind_of_line l) c l) ≡ map (shown Tsv) (fields_in (kind_of_line l) c m))
-    (sym (called (kind_of_line l) one.passes)) own))
-
-change-cells : (p : Numbered) → IsRow false 1 most p → AreCells (cells_of change_fields p)
-change-cells p row =
-    numbers-printable p row.numbered (map (shown Tsv) (fields_in Change change_columns p.line))
-    (are-cells p.line (line-of p.line row.numbered.line) Change change_columns refl)
-
-identity-of : (line : List ℕ) → IsOfJourney line → is_change (kind_of_line line) ≡ true → columns 1 2 line ≡ codes "CR"
-identity-of line j is = let (call, t) = told line j in t.change (sym (t.kind false) ∙ is)
-
-one-change : (p q : Numbered) → IsRow false 1 most p → IsRow false 1 most q → cells_of change_fields p ≡ cells_of change_fields q → p ≡ q
-one-change p q one other same =
-    let l = p.line in
-    let m = q.line in
-    let left = line-of l one.numbered.line in
-    let right = line-of m other.numbered.line in
-    let both : map (shown Tsv) (fields_in Change change_columns l) ≡ map (shown Tsv) (fields_in Change change_columns m) =
-    ap (drop 2) same in
-    let first = identity-of l one.numbered.line one.passes ∙ sym (identity-of m other.numbered.line other.passes) in
-    let there = covered l m 0 Change refl left right 3 10 change_columns refl both in
-    let place : columns 1 10 l ≡ columns 1 10 m =
-    two-parts 1 2 10 l (omega arith) (omega arith) (omega arith) ∙ (λ i. first i ++ there i)
-    ∙ sym (two-parts 1 2 10 m (omega arith) (omega arith) (omega arith)) in
-    let kind = changed-kind (kind_of_line l) one.passes in
-    let own : own_cells Change l ≡ own_cells Change m = ap (drop 2) both in
-    same-numbers p q one.numbered other.numbered _ _ same
-    (one-of l m one.numbered.line other.numbered.line place (subst (λ k. own_cells k l ≡ own_cells k m) (sym kind) own))
-
--- so it is with the rows of both tables
 abbrev pub fields_of : Bool → TableFields Numbered
 fields_of true = call_fields
 fields_of false = change_fields
 
+abbrev cells_at : Bool → JourneyKind → List ℕ → List (List ℕ)
+cells_at calls kind line = map (shown Tsv) (fields_in kind (journey_columns calls) line)
+
+row-is : (calls : Bool) (p : Numbered) →
+    cells_of (fields_of calls) p ≡ decimal p.schedule ∷ decimal p.call ∷ cells_at calls (kind_of_line p.line) p.line
+row-is true p =
+    let kind = kind_of_line p.line in
+    ap (λ (own : List Field). map (shown Tsv) (number p.schedule ∷ number p.call ∷ (fields_in kind (take 3 call_columns) p.line ++ own)))
+    (call-fields p.line kind refl)
+row-is false p = refl
+
+are-within : (calls : Bool) → IsTrue (are_within (journey_columns calls))
+are-within true = refl
+are-within false = refl
+
 pub row-cells : (calls : Bool) (p : Numbered) → IsRow calls 1 most p → AreCells (cells_of (fields_of calls) p)
-row-cells true = call-cells
-row-cells false = change-cells
+row-cells calls p row =
+    let n = row.numbered in
+    let own = cells_at calls (kind_of_line p.line) p.line in
+    subst AreCells (sym (row-is calls p))
+    (All-cons ArePrintable (decimal p.schedule) (decimal p.call ∷ own) (number-printable p.schedule (omega (arith, n.upto)))
+    (All-cons ArePrintable (decimal p.call) own (number-printable p.call (omega (arith, n.call_upto)))
+    (are-cells p.line (line-of p.line n.line) (kind_of_line p.line) (journey_columns calls) (are-within calls))))
+
+-- the cells of a row cover what its record says behind its identity
+covers : (calls : Bool) (r : Record) → IsPlace r → has_row calls (sort_of r) ≡ true →
+    IsTrue (are_covered 2 (sort_of r) (journey_columns calls) (record_table r))
+covers true (of.Origin r) place is = refl
+covers true (of.Stop r) place is = refl
+covers true (of.Terminus r) place is = refl
+covers false (of.Change r) place is = refl
+covers true (of.Change r) place is = absurd (false≢true is)
+covers false (of.Origin r) place is = absurd (false≢true is)
+covers false (of.Stop r) place is = absurd (false≢true is)
+covers false (of.Terminus r) place is = absurd (false≢true is)
+covers _ _ place is = absurd place
+
+change-identity : (line : List ℕ) (r : Record) → IsPlace r → SpellsRecord line r → is_change (sort_of r) ≡ true →
+    columns 1 2 line ≡ codes "CR"
+change-identity line (of.Change r) place h is = h.0
+change-identity line (of.Origin r) place h is = absurd (false≢true is)
+change-identity line (of.Stop r) place h is = absurd (false≢true is)
+change-identity line (of.Terminus r) place h is = absurd (false≢true is)
+change-identity line _ place h is = absurd place
+
+module _ (l m : List ℕ) (j : IsOfJourney l) (i : IsOfJourney m) where
+  same-identity : (calls : Bool) → has_row calls (sort_of j.it) ≡ true → has_row calls (sort_of i.it) ≡ true →
+      cells_at calls (kind_of_line l) l ≡ cells_at calls (kind_of_line m) m → columns 1 2 l ≡ columns 1 2 m
+  same-identity true one other same =
+      covered l m 0 Other refl (line-of l j) (line-of m i) 1 2 (take 1 call_columns) refl (ap (take 1) same)
+  same-identity false one other same =
+      change-identity l j.it j.place (spelled l j) one ∙ sym (change-identity m i.it i.place (spelled m i) other)
+
+  one-line : (calls : Bool) → has_row calls (sort_of j.it) ≡ true → has_row calls (sort_of i.it) ≡ true →
+      cells_at calls (kind_of_line l) l ≡ cells_at calls (kind_of_line m) m → l ≡ m
+  one-line calls one other same =
+      let identity = same-identity calls one other same in
+      let sort = kind-is m i in
+      let kind = ap (λ (two : List ℕ). journey_kind (find (is_identity two) kinds)) identity ∙ sort in
+      let cells = (λ n. cells_at calls (sym kind n) l) ∙ same ∙ (λ n. cells_at calls (sort n) m) in
+      let all = all-covered l m 2 (sort_of i.it) identity (line-of l j) (line-of m i) (journey_columns calls) (record_table i.it)
+      (covers calls i.it i.place other) cells in
+      j.is
+      ∙ ap (λ (r : Record). plain_line (record_table r))
+      (records.one_record l j.it i.it (spelled l j) (all-moved l m (record_table i.it) all (spelled m i)))
+      ∙ sym i.is
 
 pub one-row : (calls : Bool) (p q : Numbered) → IsRow calls 1 most p → IsRow calls 1 most q →
     cells_of (fields_of calls) p ≡ cells_of (fields_of calls) q → p ≡ q
-one-row true = one-call
-one-row false = one-change
+one-row calls p q one other is =
+    let a = one.numbered in
+    let b = other.numbered in
+    let same = sym (row-is calls p) ∙ is ∙ row-is calls q in
+    let schedule = decimal_injective p.schedule q.schedule (omega (arith, a.upto)) (omega (arith, b.upto))
+    (ap (λ (cells : List (List ℕ)). get_or cells 0 []) same) in
+    let call = decimal_injective p.call q.call (omega (arith, a.call_upto)) (omega (arith, b.call_upto))
+    (ap (λ (cells : List (List ℕ)). get_or cells 1 []) same) in
+    let line = one-line p.line q.line a.line b.line calls (ap (has_row calls) (sym (kind-is p.line a.line)) ∙ one.passes)
+    (ap (has_row calls) (sym (kind-is q.line b.line)) ∙ other.passes) (ap (drop 2) same) in
+    λ n. record { schedule = schedule n; call = call n; line = line n }
 
 -- ---- the numbers of a journey's lines
 
@@ -233,11 +201,13 @@ module _ (n : ℕ) where
   first_listed is calls call line lines =
       let others = listed_from calls (cond is (call + 1) call) lines in cond (cond calls is (not is)) (here call line ∷ others) others
 
-  first-is : (calls : Bool) (call : ℕ) (line : List ℕ) (lines : List (List ℕ)) (is : Bool) → IsTold line is →
-      listed_from calls call (line ∷ lines) ≡ first_listed is calls call line lines
-  first-is calls call line lines is t =
-      λ i. let others = listed_from calls (cond (t.kind true i) (call + 1) call) lines in
-      cond (t.kind calls i) (here call line ∷ others) others
+  first-is : (calls : Bool) (call : ℕ) (line : List ℕ) (lines : List (List ℕ)) (j : IsOfJourney line) →
+      listed_from calls call (line ∷ lines) ≡ first_listed (is_call (sort_of j.it)) calls call line lines
+  first-is calls call line lines j =
+      let kind = kind-is line j in
+      let passes = ap (has_row calls) kind ∙ one-sort j.it j.place calls in
+      λ i. let others = listed_from calls (cond (is_call (kind i)) (call + 1) call) lines in
+      cond (passes i) (here call line ∷ others) others
 
   none-first : (call : ℕ) (line : List ℕ) (lines : List (List ℕ)) (is : Bool) → [] ≡ first_listed is is call line lines → ⊥
   none-first call line lines true none = let long = ap length none in omega (arith, long)
@@ -285,15 +255,17 @@ module _ (n : ℕ) where
       ((calls : Bool) → listed_from calls call ls ≡ listed_from calls call ms) → ls ≡ ms
   same-journey call [] [] one other same = refl
   same-journey call [] (m ∷ ms) one other same =
-      let (b, t) = told m (All-head IsOfJourney m ms other) in
-      absurd (none-first call m ms b (same b ∙ first-is b call m ms b t))
+      let i = All-head IsOfJourney m ms other in
+      let b = is_call (sort_of i.it) in
+      absurd (none-first call m ms b (same b ∙ first-is b call m ms i))
   same-journey call (l ∷ ls) [] one other same =
-      let (a, t) = told l (All-head IsOfJourney l ls one) in
-      absurd (none-first call l ls a (sym (same a) ∙ first-is a call l ls a t))
+      let j = All-head IsOfJourney l ls one in
+      let a = is_call (sort_of j.it) in
+      absurd (none-first call l ls a (sym (same a) ∙ first-is a call l ls j))
   same-journey call (l ∷ ls) (m ∷ ms) one other same =
-      let (a, s) = told l (All-head IsOfJourney l ls one) in
-      let (b, t) = told m (All-head IsOfJourney m ms other) in
+      let j = All-head IsOfJourney l ls one in
+      let i = All-head IsOfJourney m ms other in
       let p = All-tail IsOfJourney l ls one in
       let q = All-tail IsOfJourney m ms other in
-      by-first a b call l m ls ms p q (λ next more. same-journey next ls ms p q more)
-      (λ calls. sym (first-is calls call l ls a s) ∙ same calls ∙ first-is calls call m ms b t)
+      by-first (is_call (sort_of j.it)) (is_call (sort_of i.it)) call l m ls ms p q (λ next more. same-journey next ls ms p q more)
+      (λ calls. sym (first-is calls call l ls j) ∙ same calls ∙ first-is calls call m ms i)
