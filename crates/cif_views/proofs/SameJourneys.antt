@@ -47,7 +47,8 @@ module _ (line : List ℕ) (j : IsOfJourney line) where
   kind-is = ap journey_kind (records.kind_there line j.it spelled)
 
 -- it is a call, or else a change
-one-sort : (r : Record) → IsPlace r → (calls : Bool) → has_row calls (sort_of r) ≡ cond calls (is_call (sort_of r)) (not (is_call (sort_of r)))
+one-sort : (r : Record) → IsPlace r → (calls : Bool) →
+    has_row calls (sort_of r) ≡ cond calls (is_call (sort_of r)) (not (is_call (sort_of r)))
 one-sort r place true = refl
 one-sort (of.Origin r) place false = refl
 one-sort (of.Stop r) place false = refl

@@ -1,5 +1,5 @@
 -- Canonical extracts have the same tables exactly if they have the same text.
-use Rattle.std.proofs.Common.{◌≡◌, ◌≢◌, ℕ, ◌+◌, ◌<◌, ◌≤◌, ◌^◌, All, Bool, true, false, List, [], ◌∷◌, ◌++◌, Some, ap, ap₂, ◌∙◌}
+use Rattle.std.proofs.Common.{◌≡◌, ◌≢◌, ℕ, ◌+◌, ◌<◌, ◌≤◌, ◌^◌, All, Bool, true, false, List, [], ◌∷◌, ◌++◌, Some, ap, ◌∙◌}
 use Rattle.std.proofs.Common.{arith, drop, get_or, length, length-append, map, refl, subst, sym}
 use Rattle.std.specs.List.{enumerate_from}
 use Rattle.std.specs.Prelude.{◌↔◌}
@@ -22,10 +22,11 @@ use Rattle.cif_records.specs.Trailer.{trailer_table}
 use Rattle.cif_weeks.specs.Permanent.{permanent_entries, terms_of}
 use Rattle.cif_weeks.specs.declared.form.Form.{Form}
 use Rattle.cif_canon.specs.Canon.{CanonParts, IsCanonOf}
-use Rattle.cif_canon.specs.Canonical.{IsCanonicalText}
+use Rattle.cif_canon.specs.Canonical.{IsCanonicalOf, IsCanonicalText}
 use Rattle.cif_canon.specs.Lines.{ExtractLines, line_of_association, lines_of, lines_of_schedule}
 use Rattle.cif_canon.specs.Meaning.{SameMeaning}
 use Rattle.cif_canon.proofs.SameExtracts.{same-sym, same-trans}
+use Rattle.cif_canon.proofs.Unique.{extracts-unique}
 use Rattle.cif_views.specs.SameTables.{HaveSameTables}
 use Rattle.cif_views.specs.Steps.Columns.{association_columns, over}
 use Rattle.cif_views.specs.declared.columns.TheConstants.{HEADER, TIPLOC}
@@ -146,17 +147,7 @@ lines-of_schedules (s ∷ ss) =
     ∙ ap (λ (l : List (List ℕ)). map plain_line (tables_of s) ++ l) (lines-of_schedules ss)
 
 text-is : (x : ExtractParts) → extract_text x ≡ text_of (lines_of x)
-text-is x =
-    let locations = map tiploc_table x.tiplocs in
-    let own = map aa.association_table x.associations in
-    let trains = flat_map tables_of x.schedules in
-    let end : List (List Row) = trailer_table ∷ [] in
-    ap (λ (ls : List (List ℕ)). lines_text (plain_line (header_table x.header) ∷ ls))
-    (map-append plain_line locations (own ++ (trains ++ end))
-    ∙ ap₂ (λ (a b : List (List ℕ)). a ++ b) (map-map plain_line tiploc_table x.tiplocs)
-    (map-append plain_line own (trains ++ end)
-    ∙ ap₂ (λ (a b : List (List ℕ)). a ++ b) (map-map plain_line aa.association_table x.associations)
-    (map-append plain_line trains end ∙ ap (λ (l : List (List ℕ)). l ++ (plain_line trailer_table ∷ [])) (lines-of_schedules x.schedules))))
+text-is x = simp (map-append, map-map, lines-of_schedules)
 
 -- it has a byte at least for each line
 some-byte : (ls : List (List ℕ)) → length ls ≤ length (lines_text ls)
@@ -288,7 +279,25 @@ module _ (form other : Form) (x y : ExtractParts) (c d : CanonParts) (one : IsCa
     λ same table not. ap (table_text table) (one.lines_are ∙ ap lines_of (one-made same) ∙ sym two.lines_are),
   )
 
-  pub same-meaning : HaveSameTables c.lines d.lines → SameMeaning x y
-  same-meaning same =
-      same-trans x made y one.canonical.same
-      (subst (λ m. SameMeaning m y) (sym (one-made (text-of_tables same))) (same-sym y other_made two.canonical.same))
+-- of one form they have the same tables exactly if they say the same
+module _ (form : Form) (x y : ExtractParts) (c d : CanonParts) (one : IsCanonOf form x c) (two : IsCanonOf form y d)
+    (few : length c.text < 2 ^ 64) (as-few : length d.text < 2 ^ 64) where
+  abbrev p : IsCanonicalOf form x c.text
+  p = one.canonical
+
+  abbrev q : IsCanonicalOf form y d.text
+  q = two.canonical
+
+  said : HaveSameTables c.lines d.lines → SameMeaning x y
+  said same =
+      let made = one-made form form x y c d one two few as-few (text-of_tables form form x y c d one two few as-few same) in
+      same-trans x p.made y p.same (subst (λ m. SameMeaning m y) (sym made) (same-sym y q.made q.same))
+
+  shown-same : SameMeaning x y → HaveSameTables c.lines d.lines
+  shown-same same =
+      let made = extracts-unique form p.made q.made p.canonical.canonical q.canonical.canonical
+      (same-trans p.made x q.made (same-sym x p.made p.same) (same-trans x y q.made same q.same)) in
+      (same-text form form x y c d one two few as-few).1 (p.canonical.text ∙ ap extract_text made ∙ sym q.canonical.text)
+
+  pub same-meaning : HaveSameTables c.lines d.lines ↔ SameMeaning x y
+  same-meaning = (said, shown-same)

@@ -62,10 +62,10 @@ pub fn equal_tables_equal_extracts()
     ensures text { (form other : Form) (x y : ExtractParts) (c d : CanonParts)
         → IsCanonOf form x c → IsCanonOf other y d → length c.text < 2 ^ 64 → length d.text < 2 ^ 64
         → HaveSameTables c.lines d.lines ↔ (c.text ≡ d.text) }
-    // So the extracts from which they were made say the same.
-    ensures meaning { (form other : Form) (x y : ExtractParts) (c d : CanonParts)
-        → IsCanonOf form x c → IsCanonOf other y d → length c.text < 2 ^ 64 → length d.text < 2 ^ 64
-        → HaveSameTables c.lines d.lines → SameMeaning x y }
+    // In one form they have the same tables exactly if they were made of extracts that say the same.
+    ensures meaning { (form : Form) (x y : ExtractParts) (c d : CanonParts)
+        → IsCanonOf form x c → IsCanonOf form y d → length c.text < 2 ^ 64 → length d.text < 2 ^ 64
+        → HaveSameTables c.lines d.lines ↔ SameMeaning x y }
 {}
 
 /// The table of the differences of two accepted inputs has a row for each location, record and pair

@@ -1,4 +1,4 @@
--- Equal tables have equal lines (`same-tables`).
+-- Equal tables have equal lines (`same-lines`), and what says the same has one canonical extract.
 use Rattle.cif_views.proofs.SameTables.{same-meaning, same-text}
 use Rattle.cif_views.proofs.laws.equal_tables_equal_extracts.Goals as goal
 
