@@ -13,7 +13,11 @@ mod PairedJourneys
 mod PublicMoments
 pub mod PublicRows
 pub mod Riders
+mod RowLines
 mod RowsOfDifferences
+mod SameJourneys
+mod SameSchedules
+mod SameTables
 pub mod TableRows
 pub mod WeekLines
 pub mod Words
