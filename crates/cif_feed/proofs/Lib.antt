@@ -12,6 +12,8 @@ pub mod HolidayReadings
 pub mod WrittenColumns
 pub mod ChangeSteps
 pub mod Enumerated
+pub mod FeedLines
+pub mod RecordsTaken
 pub mod FeedSteps
 pub mod FeedRuns
 pub mod ProfileKinds

@@ -5,16 +5,13 @@ use Rattle.cif_columns.specs.Day.{ddmmyy_in}
 use Rattle.cif_columns.specs.Field.{columns}
 use Rattle.cif_columns.specs.declared.refusal.Refusal.{Refusal}
 use Rattle.cif_columns.specs.declared.refusal.Refusal.TheVariants.{BankHoliday, DatesReversed, NotFull}
-use Rattle.cif_extract.specs.FirstRefusal.{order_refusal}
-use Rattle.cif_extract.specs.declared.place.Place.{Place}
 use Rattle.cif_records.specs.Checks.{are, are_in_order, date_refusal, dates_refusal, days_refusal, first_of, header_date_refusal}
 use Rattle.cif_records.specs.Checks.{letter_refusal}
 use Rattle.cif_records.specs.Checks.{transaction_refusal, unless}
-use Rattle.cif_records.specs.Kind.{kind_in}
 use Rattle.cif_records.specs.Record.{refusal_as}
 use Rattle.cif_records.specs.declared.record.Kind.{Kind}
 use Rattle.cif_records.specs.declared.record.Kind.TheVariants.{Hd, Ti, Ta, Td, Aa, Bs}
-use Rattle.cif_feed.specs.ProfileLine.{code_of}
+use Rattle.cif_feed.specs.FeedLine.{code_of}
 use Rattle.cif_feed.specs.Transaction.{transaction_in}
 use Rattle.cif_feed.specs.declared.feed.Feed.{Feed}
 use Rattle.cif_feed.specs.declared.feed.Feed.TheVariants.{Full, Update}
@@ -103,10 +100,3 @@ abbrev pub kind_read_as : Feed → Option Kind → Option Kind
 kind_read_as Update (Some Ta) = Some Ti
 kind_read_as Update (Some Td) = Some Ti
 kind_read_as feed kind = kind
-
--- The first reason to refuse a line that comes at this place: its kind may not stand there, or it is refused as a record.
-abbrev pub refusal_at : Feed → HolidayCodes → Place → List ℕ → Option Refusal
-refusal_at feed allowed place line = first_of (
-    order_refusal place (kind_read_as feed (kind_in line))
-    ∷ feed_refusal_as feed allowed (kind_in line) line
-    ∷ [])
