@@ -16,7 +16,6 @@ pub mod FeedLines
 pub mod RecordsTaken
 pub mod FeedSteps
 pub mod FeedRuns
-pub mod ProfileKinds
 pub mod SpelledFeeds
 pub mod LinesMade
 pub mod MarkedRecords
@@ -41,12 +40,10 @@ pub mod OwnLines
 pub mod OwnParts
 pub mod PublishedLines
 pub mod PublishedTexts
-pub mod StillLines
 pub mod FittingUpdates
 pub mod UpdatesInTurn
 pub mod PreparedFits
 pub mod PreparedDays
 pub mod ClashingKeys
 pub mod Cells
-pub mod FeedLayouts
 pub mod WrittenPrepared
