@@ -24,7 +24,7 @@ use Rattle.cif_records.specs.Association.{association_refusal}
 use Rattle.cif_records.specs.Basic.{basic_refusal}
 use Rattle.cif_records.specs.Checks.{are, are_in_order, date_refusal, dates_refusal, days_refusal, first_of, header_date_refusal}
 use Rattle.cif_records.specs.Checks.{last_date_refusal, letter_refusal, unless}
-use Rattle.cif_records.specs.Header.{header_refusal}
+use Rattle.cif_records.specs.Header.{header_refusal, header_refusal_by}
 use Rattle.cif_records.specs.Kind.{identity, is_identity, kind_in, kinds}
 use Rattle.cif_records.specs.Record.{record_refusal, refusal_as}
 use Rattle.cif_records.specs.Tiploc.{tiploc_refusal}
@@ -34,8 +34,10 @@ use Rattle.cif_records.proofs.Identities.{found_kind}
 use Rattle.cif_records.proofs.Judging.{no_open_end}
 use Rattle.cif_feed.specs.FeedRefusal.{line_refusal}
 use Rattle.cif_feed.specs.LastDay.{last_day}
-use Rattle.cif_feed.specs.LayoutRefusals.{feed_refusal_as, holiday_code_refusal, kind_read_as, open_dates_refusal, refusal_at}
-use Rattle.cif_feed.specs.LayoutRefusals.{update_association_refusal, update_basic_refusal, update_header_refusal}
+use Rattle.cif_feed.specs.FeedLine.{transaction_at}
+use Rattle.cif_feed.specs.FeedLine as line
+use Rattle.cif_feed.specs.LayoutRefusals.{association_refusal_by, basic_refusal_by, feed_refusal_as, holiday_code_refusal, kind_read_as}
+use Rattle.cif_feed.specs.LayoutRefusals.{open_dates_refusal, refusal_at}
 use Rattle.cif_feed.specs.ProfileLine.{closed, deleted_association_line, deleted_basic_line, code_of, header_line, is_note, is_open}
 use Rattle.cif_feed.specs.ProfileLine.{notes_may_stand, profile_line}
 use Rattle.cif_feed.specs.ProfileLine.{profile_line_by, profile_lines, ta_line, ti_line, update_association_by, update_basic_by}
@@ -216,27 +218,27 @@ basic_deleted l wide = at (is_some (stp_in (slice_index l 79))) refl
 
 -- an HD of an update, by its indicator
 abbrev header_told : List ℕ → Bool → Option Refusal
-header_told l told = first_of (unless told NotFull ∷ header_date_refusal (columns 49 54 l) ∷ header_date_refusal (columns 55 60 l)
+header_told l told = first_of (unless (are (columns 1 2 l) (codes "HD")) UnknownRecord ∷ unless told NotFull ∷ header_date_refusal (columns 49 54 l) ∷ header_date_refusal (columns 55 60 l)
     ∷ unless (are_in_order (ddmmyy_in (columns 49 54 l)) (ddmmyy_in (columns 55 60 l))) DatesReversed ∷ [])
 
-header_read : (l : List ℕ) → length l ≡ 80 → columns 1 2 l ≡ codes "HD" → header_refusal (header_line l) ≡ update_header_refusal l
-unfolding header_refusal with_columns
-header_read l wide letters = at (slice_index l 46 == 85) refl
+header_read : (l : List ℕ) → length l ≡ 80 → header_refusal (header_line l) ≡ header_refusal_by (codes "U") l
+unfolding header_refusal_by with_columns
+header_read l wide = at (slice_index l 46 == 85) refl
   where
     is_update : are (columns 47 47 l) (codes "U") ≡ (slice_index l 46 == 85)
     is_update = decided (λ k. are (columns 47 47 k) (codes "U")) (λ k. slice_index k 46 == 85 && true) l wide refl
         ∙ and-true (slice_index l 46 == 85)
 
     at : (b : Bool) → (slice_index l 46 == 85) ≡ b
-        → header_refusal (with_columns 47 (cond b (codes "F") (codes " ")) l) ≡ update_header_refusal l
+        → header_refusal (with_columns 47 (cond b (codes "F") (codes " ")) l) ≡ header_refusal_by (codes "U") l
     at true is =
         decided (λ k. header_refusal (with_columns 47 (codes "F") k)) (λ k. header_by (columns 1 2 k) (codes "F") (columns 49 54 k)
         (columns 55 60 k)) l wide refl
-        ∙ rw letters (sym (ap (header_told l) (is_update ∙ is)))
+        ∙ sym (ap (header_told l) (is_update ∙ is))
     at false is =
         decided (λ k. header_refusal (with_columns 47 (codes " ") k)) (λ k. header_by (columns 1 2 k) (codes " ") (columns 49 54 k)
         (columns 55 60 k)) l wide refl
-        ∙ rw letters (sym (ap (header_told l) (is_update ∙ is)))
+        ∙ sym (ap (header_told l) (is_update ∙ is))
 
 -- ---- by the transaction
 
@@ -254,6 +256,10 @@ module _ (c : List ℕ) (is_line : IsLine c) where
   -- column 3
   third : columns 3 3 c ≡ slice_index c 2 ∷ []
   third = decided (columns 3 3) (λ k. slice_index k 2 ∷ []) c wide refl
+
+  -- by which it is read
+  column_three : transaction_at Update c ≡ transaction_in (slice_index c 2)
+  column_three = ap (λ l. transaction_in (slice_index l 0)) third
 
   is_new : (n : ℕ) → transaction_in n ≡ Some New → n ≡ 78
   is_new n e = at (n == 78) (n == 82) (n == 68) refl e
@@ -300,7 +306,7 @@ module _ (c : List ℕ) (is_line : IsLine c) where
   association_full letters = association_closed c wide ∙ rw letters (association_put (columns 3 3 c))
 
   association_by_transaction : (t : Option Transaction) → transaction_in (slice_index c 2) ≡ t → columns 1 2 c ≡ codes "AA"
-      → association_refusal (update_association_by t c).line ≡ update_association_refusal t c
+      → association_refusal (update_association_by t c).line ≡ association_refusal_by t c
   unfolding with_columns
   association_by_transaction None e letters =
       association_full letters ∙ ap (λ b. first_of (unless b NotFull ∷ open_dates_refusal (columns 16 21 c) (columns 22 27 c)
@@ -318,6 +324,9 @@ module _ (c : List ℕ) (is_line : IsLine c) where
 
   -- BS likewise
   module _ (allowed : HolidayCodes) where
+    same_code : code_of allowed c ≡ line.code_of allowed c
+    same_code = decided (code_of allowed) (line.code_of allowed) c wide refl
+
     abbrev basic_read : List ℕ → Option Refusal
     basic_read transaction = first_of (unless (are transaction (codes "N")) NotFull
         ∷ open_dates_refusal (columns 10 15 c) (columns 16 21 c) ∷ days_refusal (columns 22 28 c) ∷ holiday_code_refusal allowed c
@@ -330,14 +339,15 @@ module _ (c : List ℕ) (is_line : IsLine c) where
         ∷ unless (are (freed (code_of allowed c) (columns 29 29 c)) (codes " ")) BankHoliday ∷ letter_refusal c ∷ []))
         (shut-dates (columns 10 15 c) (columns 16 21 c) (six_columns 10 15 (lit≤ tt) (lit≤ tt) (lit≤ tt) refl))
         ∙ ap (λ r. first_of (unless (are transaction (codes "N")) NotFull ∷ open_dates_refusal (columns 10 15 c) (columns 16 21 c)
-        ∷ days_refusal (columns 22 28 c) ∷ r ∷ letter_refusal c ∷ [])) (freed-holiday (code_of allowed c) (columns 29 29 c))
+        ∷ days_refusal (columns 22 28 c) ∷ r ∷ letter_refusal c ∷ [])) (freed-holiday (code_of allowed c) (columns 29 29 c)
+        ∙ ap (λ b. unless (are (columns 29 29 c) (codes " ") || is_some b) BankHoliday) same_code)
 
     pub basic_full : columns 1 2 c ≡ codes "BS"
         → basic_refusal (without_code (code_of allowed c) (closed 16 c)) ≡ basic_read (columns 3 3 c)
     basic_full letters = basic_closed (code_of allowed c) c wide ∙ rw letters (basic_put (columns 3 3 c))
 
     basic_by_transaction : (t : Option Transaction) → transaction_in (slice_index c 2) ≡ t
-        → columns 1 2 c ≡ codes "BS" → basic_refusal (update_basic_by allowed t c).line ≡ update_basic_refusal allowed t c
+        → columns 1 2 c ≡ codes "BS" → basic_refusal (update_basic_by allowed t c).line ≡ basic_refusal_by allowed t c
     unfolding with_columns
     basic_by_transaction None e letters =
         basic_full letters ∙ ap (λ b. first_of (unless b NotFull ∷ open_dates_refusal (columns 10 15 c) (columns 16 21 c)
@@ -386,13 +396,27 @@ module _ (allowed : HolidayCodes) (c : List ℕ) (is_line : IsLine c) where
 
   by_kind : (feed : Feed) (kind : Option Kind) → kind_in c ≡ kind
       → refusal_as (kind_read_as feed kind) (profile_line_by feed allowed kind c).line ≡ feed_refusal_as feed allowed kind c
-  by_kind Full (Some Aa) is = association_full c is_line (named c is_line Aa is)
-  by_kind Full (Some Bs) is = basic_full c is_line allowed (named c is_line Bs is)
-  by_kind Update (Some Hd) is = header_read c (wide c is_line) (named c is_line Hd is)
+  by_kind Full (Some Aa) is = association_full c is_line (named c is_line Aa is) ∙ at (are (columns 3 3 c) (codes "N"))
+    where
+      at : (b : Bool) → first_of (unless b NotFull ∷ open_dates_refusal (columns 16 21 c) (columns 22 27 c) ∷ days_refusal (columns 28 34 c)
+          ∷ letter_refusal c ∷ []) ≡ association_refusal_by (cond b (Some New) None) c
+      at true = refl
+      at false = refl
+  by_kind Full (Some Bs) is = basic_full c is_line allowed (named c is_line Bs is) ∙ at (are (columns 3 3 c) (codes "N"))
+    where
+      at : (b : Bool) → first_of (unless b NotFull ∷ open_dates_refusal (columns 10 15 c) (columns 16 21 c) ∷ days_refusal (columns 22 28 c)
+          ∷ holiday_code_refusal allowed c ∷ letter_refusal c ∷ []) ≡ basic_refusal_by allowed (cond b (Some New) None) c
+      at true = refl
+      at false = refl
+  by_kind Update (Some Hd) is = header_read c (wide c is_line)
   by_kind Update (Some Ta) is = tiploc_fine (ta_line c) (ta_kind c allowed itself_kind)
   by_kind Update (Some Td) is = tiploc_fine (ti_line c) (ti_kind c allowed itself_kind)
-  by_kind Update (Some Aa) is = association_by_transaction c is_line (transaction_in (slice_index c 2)) refl (named c is_line Aa is)
-  by_kind Update (Some Bs) is = basic_by_transaction c is_line allowed (transaction_in (slice_index c 2)) refl (named c is_line Bs is)
+  by_kind Update (Some Aa) is =
+      association_by_transaction c is_line (transaction_in (slice_index c 2)) refl (named c is_line Aa is)
+      ∙ ap (λ t. association_refusal_by t c) (sym (column_three c is_line))
+  by_kind Update (Some Bs) is =
+      basic_by_transaction c is_line allowed (transaction_in (slice_index c 2)) refl (named c is_line Bs is)
+      ∙ ap (λ t. basic_refusal_by allowed t c) (sym (column_three c is_line))
   by_kind Full _ is = refl
   by_kind Update _ is = refl
 

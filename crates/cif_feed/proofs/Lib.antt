@@ -47,4 +47,6 @@ pub mod PreparedDays
 pub mod ClashingKeys
 pub mod Cells
 pub mod FeedLayouts
+pub mod FeedLines
+pub mod ReadLines
 pub mod WrittenPrepared

@@ -3,6 +3,7 @@ pub mod Counts
 pub mod CutCount
 pub mod Dropped
 pub mod FeedFault
+pub mod FeedLine
 pub mod FeedRefusal
 pub mod FeedTexts
 pub mod FromLines

@@ -14,7 +14,8 @@ use Rattle.cif_records.specs.Checks.{are}
 use Rattle.cif_records.specs.Kind.{kind_in}
 use Rattle.cif_records.specs.declared.record.Kind.{Kind}
 use Rattle.cif_records.specs.declared.record.Kind.TheVariants.{Hd, Ti, Ta, Td, Aa, Bs, Zz}
-use Rattle.cif_feed.specs.HolidayCode.{code_in, has_code}
+pub use Rattle.cif_feed.specs.FeedLine.{if_allowed, is_open}
+use Rattle.cif_feed.specs.HolidayCode.{code_in}
 use Rattle.cif_feed.specs.LastDay.{last_day}
 use Rattle.cif_feed.specs.Transaction.{transaction_in}
 use Rattle.cif_feed.specs.declared.feed.Feed.{Feed}
@@ -36,18 +37,9 @@ use Rattle.cif_feed.specs.declared.profile_line.ProfileLine.{ProfileLine}
 unfoldable pub with_columns : ℕ → List ℕ → List ℕ → List ℕ
 with_columns first columns line = take (first - 1) line ++ (columns ++ drop (first - 1 + length columns) line)
 
--- the end in the six columns from the one of this number on is open
-abbrev pub is_open : ℕ → List ℕ → Bool
-is_open first line = are (columns_from first 6 line) (codes "999999")
-
 -- the last day in place of an open end
 abbrev pub closed : ℕ → List ℕ → List ℕ
 closed first line = if is_open first line then with_columns first (yymmdd_of last_day) line else line
-
--- the code, if it may stand
-abbrev pub if_allowed : HolidayCodes → Option HolidayCode → Option HolidayCode
-if_allowed allowed None = None
-if_allowed allowed (Some code) = if has_code allowed code then Some code else None
 
 -- the code in column 29 of a BS, where it may stand
 abbrev pub code_of : HolidayCodes → List ℕ → Option HolidayCode

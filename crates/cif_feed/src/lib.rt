@@ -6,6 +6,7 @@ mod counts;
 mod cut_count;
 mod dropped;
 mod feed;
+mod feed_line;
 mod feed_reading;
 mod from_lines;
 mod holiday_code;
