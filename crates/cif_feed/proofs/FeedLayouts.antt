@@ -218,7 +218,8 @@ basic_deleted l wide = at (is_some (stp_in (slice_index l 79))) refl
 
 -- an HD of an update, by its indicator
 abbrev header_told : List ℕ → Bool → Option Refusal
-header_told l told = first_of (unless (are (columns 1 2 l) (codes "HD")) UnknownRecord ∷ unless told NotFull ∷ header_date_refusal (columns 49 54 l) ∷ header_date_refusal (columns 55 60 l)
+header_told l told = first_of (unless (are (columns 1 2 l) (codes "HD")) UnknownRecord ∷ unless told NotFull
+    ∷ header_date_refusal (columns 49 54 l) ∷ header_date_refusal (columns 55 60 l)
     ∷ unless (are_in_order (ddmmyy_in (columns 49 54 l)) (ddmmyy_in (columns 55 60 l))) DatesReversed ∷ [])
 
 header_read : (l : List ℕ) → length l ≡ 80 → header_refusal (header_line l) ≡ header_refusal_by (codes "U") l

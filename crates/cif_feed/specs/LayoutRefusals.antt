@@ -53,8 +53,8 @@ basic_refusal_by allowed (Some put) line = first_of (
 
 -- ---- any line
 
--- By its kind: HD has the update indicator of the feed, and else is NotFull, which is told as NotUpdate of an update; TA and TD of an update
--- are read as TI, of which nothing is refused; all other lines are as in an extract of this profile.
+-- By its kind: HD without the update indicator of the feed is NotFull, which is told as NotUpdate of an update; TA and TD of an update are
+-- read as TI, of which nothing is refused; all other lines are as in an extract of this profile.
 abbrev pub feed_refusal_as : Feed → HolidayCodes → Option Kind → List ℕ → Option Refusal
 feed_refusal_as feed allowed (Some Hd) line = header_refusal_by (indicator_of feed) line
 feed_refusal_as feed allowed (Some Aa) line = association_refusal_by (transaction_at feed line) line

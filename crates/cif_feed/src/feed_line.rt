@@ -1,28 +1,29 @@
 //! Reading the lines of feeds: the records that they spell, and their marks.
-ghost use Rattle.std.specs.Prelude.{◌≡◌, ◌≤◌, ◌+◌, ◌++◌, ◌∷◌, [], false, None, Some, IfSome, IsTrue, codes};
+ghost use Rattle.std.specs.Prelude.{◌≡◌, ◌≤◌, ◌+◌, ◌++◌, ◌∷◌, [], Some, IfSome, codes};
 ghost use Rattle.cif_columns.specs.Field.{AllStandIn, StandsIn, columns, columns_from, date};
 ghost use Rattle.cif_columns.specs.Line.{ArePrintable};
 ghost use Rattle.cif_records.specs.Basic.{basic_back};
 ghost use Rattle.cif_records.specs.Checks.{IsJudged};
 ghost use Rattle.cif_records.specs.Kind.{kind_in};
 ghost use Rattle.cif_records.specs.declared.record.Record.TheVariants as of;
-ghost use Rattle.cif_feed.specs.FeedLine.{IsClosedAt, IsDeletion, SpellsInFeed, code_of, code_value, deleted_association_rows};
-ghost use Rattle.cif_feed.specs.FeedLine.{deleted_basic_rows, end_value, is_open, letter_of, mark_in, no_days, put_association_rows};
-ghost use Rattle.cif_feed.specs.FeedLine.{put_basic_front, put_mark, put_tiploc, record_mark, transaction_at};
+ghost use Rattle.cif_feed.specs.FeedLine.{IsClosedAt, IsDeletion, SpellsAssociationBy, SpellsInFeed, code_of};
+ghost use Rattle.cif_feed.specs.FeedLine.{code_value, deleted_basic_rows, end_value, is_open, letter_of, mark_by};
+ghost use Rattle.cif_feed.specs.FeedLine.{no_days, put_association_rows, put_basic_front, put_tiploc, record_mark};
+ghost use Rattle.cif_feed.specs.FeedLine.{tiploc_mark_of, transaction_at};
+ghost use Rattle.cif_feed.specs.HolidayCode.{letter};
 ghost use Rattle.cif_feed.specs.LastDay.{last_day};
 ghost use Rattle.cif_feed.specs.LayoutRefusals.{association_refusal_by, basic_refusal_by, feed_refusal_as};
-ghost use Rattle.cif_feed.specs.LayoutRefusals.{holiday_code_refusal, kind_read_as, open_dates_refusal};
-ghost use Rattle.cif_feed.specs.Steps.FeedLine.{ReadsAssociation, ReadsBasic};
+ghost use Rattle.cif_feed.specs.LayoutRefusals.{holiday_code_refusal, open_dates_refusal};
+ghost use Rattle.cif_feed.specs.Steps.FeedLine.{IsOfTiploc, ReadsBasic};
 ghost use Rattle.cif_feed.specs.Transaction.{transaction_letter};
-ghost use Rattle.cif_feed.specs.declared.feed.Feed.{Feed};
-ghost use Rattle.cif_feed.specs.declared.feed.Feed.TheVariants as feed;
 ghost use Rattle.cif_feed.specs.declared.holiday_code.HolidayCodes.{HolidayCodes};
-ghost use Rattle.cif_feed.specs.declared.mark.LineMark.TheVariants as mark;
 
-use crate::mark::{RecordMark, TiplocMark};
+use crate::mark::{LineMark, RecordMark, TiplocMark};
 use crate::{Feed, HolidayCode, HolidayCodes, Transaction};
-use cif_columns::{Day, DaysRun, Line, Refusal, Stp, columns_at, uid_at};
-use cif_records::{AssocKey, Association, BasicTerms, Header, Kind, Tiploc, dates_at, field_or};
+use cif_columns::{Day, DaysRun, Line, Refusal, Stp, columns_at, field_at, uid_at};
+use cif_records::{
+    AssocKey, Association, BasicTerms, Dates, Header, Kind, Tiploc, dates_at, field_or,
+};
 
 /// The number of the last day there is, 31 December 2059.
 const LAST_DAY: u16 = 36_524;
@@ -38,21 +39,15 @@ pub(crate) fn read_header(feed: Feed, line: &Line) -> Result<Header, Refusal>
     }
 }
 
-/// The location that a line of this kind spells, a TI, or a TA or a TD of an update, and its mark.
-pub(crate) fn read_tiploc(kind: Kind, line: &Line) -> (Tiploc, TiplocMark)
+/// The location that a line of this kind spells: a TI, or a TA or a TD of an update.
+pub(crate) fn read_tiploc(feed: Feed, kind: Kind, line: &Line) -> Tiploc
     requires kind { kind_in line.now ≡ Some kind }
-    requires located { kind_read_as feed.Update (Some kind) ≡ Some Kind.Ti }
-    ensures spells { (feed : Feed) (allowed : HolidayCodes) → kind_read_as feed (Some kind) ≡ Some Kind.Ti
-        → SpellsInFeed feed allowed line.now (of.Tiploc result.0) }
-    ensures mark { (feed : Feed) (allowed : HolidayCodes) → mark_in feed allowed line.now ≡ mark.Tiploc result.1 }
+    requires located { IsOfTiploc kind feed }
+    ensures { (allowed : HolidayCodes) → SpellsInFeed feed allowed line.now (of.Tiploc result) }
 {
-    match kind {
-        Kind::Ta => (
-            put_by_amendment(line),
-            tiploc_mark(Transaction::Revised, line),
-        ),
-        Kind::Td => (tiploc_at(line), tiploc_mark(Transaction::Deleted, line)),
-        _ => (tiploc_at(line), tiploc_mark(Transaction::New, line)),
+    match (feed, kind) {
+        (Feed::Update, Kind::Ta) => put_by_amendment(line),
+        _ => tiploc_at(line),
     }
 }
 
@@ -87,25 +82,11 @@ fn renamed(line: &Line, tiploc: &[u8; 7]) -> Tiploc
     Tiploc { columns }
 }
 
-/// The mark of a TI, a TA or a TD with this transaction.
-fn tiploc_mark(transaction: Transaction, line: &Line) -> TiplocMark
-    ensures { result ≡ record { transaction = transaction; tiploc = columns 3 9 line.now } }
-{
-    TiplocMark {
-        transaction,
-        tiploc: columns_at(line, 3),
-    }
-}
-
-/// The association that an AA of the feed spells, and its mark, or the first reason in column order why it spells
-/// none.
-pub(crate) fn read_association(
-    feed: Feed,
-    line: &Line,
-) -> Result<(Association, RecordMark), Refusal>
+/// The association that an AA of the feed spells, or the first reason in column order why it spells none.
+pub(crate) fn read_association(feed: Feed, line: &Line) -> Result<Association, Refusal>
     requires { kind_in line.now ≡ Some Kind.Aa }
     ensures { (allowed : HolidayCodes) → IsJudged (feed_refusal_as feed allowed (Some Kind.Aa) line.now)
-        (ReadsAssociation feed allowed line.now) result }
+        (λ a. SpellsInFeed feed allowed line.now (of.Association a)) result }
 {
     match transaction_at(feed, line) {
         Some(Transaction::New) => put_association(Transaction::New, line),
@@ -115,65 +96,54 @@ pub(crate) fn read_association(
     }
 }
 
-/// What an AA spells that puts an association by this transaction.
-fn put_association(
-    transaction: Transaction,
-    line: &Line,
-) -> Result<(Association, RecordMark), Refusal>
+/// The association that an AA puts by this transaction.
+fn put_association(transaction: Transaction, line: &Line) -> Result<Association, Refusal>
     requires identity { columns 1 2 line.now ≡ codes "AA" }
     requires transaction { columns 3 3 line.now ≡ transaction_letter transaction ∷ [] }
     ensures { IsJudged (association_refusal_by (Some Transaction.New) line.now)
-        (λ read. (AllStandIn line.now (put_association_rows transaction (is_open 22 line.now) read.0)
-        × IsClosedAt (is_open 22 line.now) read.0.last)
-        × (read.1 ≡ put_mark transaction 22 None line.now)) result }
+        (λ a. AllStandIn line.now (put_association_rows transaction (is_open 22 line.now) a)
+        × IsClosedAt (is_open 22 line.now) a.last) result }
 {
     let dates = open_dates_at(line, 16)?;
     let days = field_or(line, 28, Refusal::BadDays)?;
     let letter = field_or(line, 80, Refusal::BadStp)?;
-    let association = Association {
+    Ok(Association {
         key: AssocKey::read(line),
         first: dates.first,
         last: dates.last,
         days,
         letter,
         body: Association::body_at(line, letter),
-    };
-    Ok((
-        association,
-        put_mark(transaction, letter, dates.open_end, None),
-    ))
+    })
 }
 
-/// What an AA spells that deletes an association.
-fn deleted_association(line: &Line) -> Result<(Association, RecordMark), Refusal>
+/// What the deletion of an association is read as.
+fn deleted_association(line: &Line) -> Result<Association, Refusal>
     requires identity { columns 1 2 line.now ≡ codes "AA" }
     requires transaction { columns 3 3 line.now ≡ codes "D" }
     ensures { IsJudged (association_refusal_by (Some Transaction.Deleted) line.now)
-        (λ read. (AllStandIn line.now (deleted_association_rows read.0.key read.0.first (letter_of line.now))
-        × IsDeletion read.0.last read.0.days read.0.letter)
-        × (read.1 ≡ record_mark (Some Transaction.Deleted) 22 None line.now)) result }
+        (SpellsAssociationBy (Some Transaction.Deleted) line.now) result }
 {
     let first: Day = field_or(line, 16, Refusal::BadDate)?;
-    let letter = field_or(line, 80, Refusal::BadStp)?;
+    let _: Stp = field_or(line, 80, Refusal::BadStp)?;
     first.fits();
-    let association = Association {
+    Ok(Association {
         key: AssocKey::read(line),
         first,
         last: last_day(),
         days: no_days(),
         letter: Stp::C,
         body: None,
-    };
-    Ok((association, deletion_mark(letter)))
+    })
 }
 
-/// The terms of the schedule that a BS of the feed spells, and its mark, or the first reason in column order why
-/// it spells none. `allowed` are the holiday codes that may stand in the feed.
+/// The terms of the schedule that a BS of the feed spells, or the first reason in column order why it spells none.
+/// `allowed` are the holiday codes that may stand in the feed.
 pub(crate) fn read_basic(
     feed: Feed,
     allowed: HolidayCodes,
     line: &Line,
-) -> Result<(BasicTerms, RecordMark), Refusal>
+) -> Result<BasicTerms, Refusal>
     requires { kind_in line.now ≡ Some Kind.Bs }
     ensures { IsJudged (feed_refusal_as feed allowed (Some Kind.Bs) line.now)
         (ReadsBasic feed allowed line.now) result }
@@ -186,54 +156,111 @@ pub(crate) fn read_basic(
     }
 }
 
-/// What a BS spells that puts a schedule by this transaction.
+/// The terms of the schedule that a BS puts by this transaction.
 fn put_basic(
     allowed: HolidayCodes,
     transaction: Transaction,
     line: &Line,
-) -> Result<(BasicTerms, RecordMark), Refusal>
+) -> Result<BasicTerms, Refusal>
     requires identity { columns 1 2 line.now ≡ codes "BS" }
     requires transaction { columns 3 3 line.now ≡ transaction_letter transaction ∷ [] }
     ensures { IsJudged (basic_refusal_by allowed (Some Transaction.New) line.now)
-        (λ read. (AllStandIn line.now (put_basic_front transaction (is_open 16 line.now) (code_of allowed line.now) read.0)
-        × AllStandIn line.now (basic_back read.0.letter)
-        × IsClosedAt (is_open 16 line.now) read.0.last)
-        × (read.1 ≡ put_mark transaction 16 (code_of allowed line.now) line.now)) result }
+        (λ t. AllStandIn line.now (put_basic_front transaction (is_open 16 line.now) (code_of allowed line.now) t)
+        × AllStandIn line.now (basic_back t.letter)
+        × IsClosedAt (is_open 16 line.now) t.last) result }
 {
     let dates = open_dates_at(line, 10)?;
     let days = field_or(line, 22, Refusal::BadDays)?;
-    let code = holiday_code_at(allowed, line)?;
+    check_holiday_code(allowed, line)?;
     let letter = field_or(line, 80, Refusal::BadStp)?;
-    let terms = BasicTerms {
+    Ok(BasicTerms {
         uid: uid_at(line, 4),
         first: dates.first,
         last: dates.last,
         days,
         letter,
-    };
-    Ok((terms, put_mark(transaction, letter, dates.open_end, code)))
+    })
 }
 
-/// What a BS spells that deletes a schedule.
-fn deleted_basic(line: &Line) -> Result<(BasicTerms, RecordMark), Refusal>
+/// What the deletion of a schedule is read as.
+fn deleted_basic(line: &Line) -> Result<BasicTerms, Refusal>
     requires identity { columns 1 2 line.now ≡ codes "BS" }
     requires transaction { columns 3 3 line.now ≡ codes "D" }
     ensures { (allowed : HolidayCodes) → IsJudged (basic_refusal_by allowed (Some Transaction.Deleted) line.now)
-        (λ read. (AllStandIn line.now (deleted_basic_rows read.0.uid read.0.first (letter_of line.now))
-        × IsDeletion read.0.last read.0.days read.0.letter)
-        × (read.1 ≡ record_mark (Some Transaction.Deleted) 16 None line.now)) result }
+        (λ t. AllStandIn line.now (deleted_basic_rows t.uid t.first (letter_of line.now))
+        × IsDeletion t.last t.days t.letter) result }
 {
     let first: Day = field_or(line, 10, Refusal::BadDate)?;
-    let letter = field_or(line, 80, Refusal::BadStp)?;
+    let _: Stp = field_or(line, 80, Refusal::BadStp)?;
     first.fits();
-    let terms = BasicTerms {
+    Ok(BasicTerms {
         uid: uid_at(line, 4),
         first,
         last: last_day(),
         days: no_days(),
         letter: Stp::C,
-    };
-    Ok((terms, deletion_mark(letter)))
+    })
+}
+
+/// The mark of a line of this kind.
+pub(crate) fn mark_of(
+    feed: Feed,
+    allowed: HolidayCodes,
+    kind: Option<Kind>,
+    line: &Line,
+) -> LineMark
+    ensures { result ≡ mark_by feed allowed kind line.now }
+{
+    match kind {
+        Some(Kind::Ti) => tiploc_mark(Transaction::New, line),
+        Some(Kind::Ta) => tiploc_mark(Transaction::Revised, line),
+        Some(Kind::Td) => tiploc_mark(Transaction::Deleted, line),
+        Some(Kind::Aa) => {
+            LineMark::Association(record_mark(transaction_at(feed, line), line, 22, None))
+        }
+        Some(Kind::Bs) => {
+            let code = code_of(allowed, line);
+            LineMark::Schedule(record_mark(transaction_at(feed, line), line, 16, code))
+        }
+        _ => LineMark::Nothing,
+    }
+}
+
+/// The mark of a TI, a TA or a TD with this transaction.
+fn tiploc_mark(transaction: Transaction, line: &Line) -> LineMark
+    ensures { result ≡ tiploc_mark_of transaction line.now }
+{
+    LineMark::Tiploc(TiplocMark {
+        transaction,
+        tiploc: columns_at(line, 3),
+    })
+}
+
+/// The mark of an AA or a BS with this transaction, whose last date is in the six columns from `last` on.
+fn record_mark(
+    transaction: Option<Transaction>,
+    line: &Line,
+    last: usize,
+    code: Option<HolidayCode>,
+) -> RecordMark
+    requires from_one { 1 ≤ last }
+    requires within { last ≤ 75 }
+    ensures { result ≡ record_mark transaction last code line.now }
+{
+    match transaction {
+        Some(Transaction::Deleted) => RecordMark {
+            transaction: Transaction::Deleted,
+            letter: letter_of(line),
+            open_end: false,
+            code: None,
+        },
+        _ => RecordMark {
+            transaction: transaction.unwrap_or(Transaction::New),
+            letter: letter_of(line),
+            open_end: has_open_end(line, last),
+            code,
+        },
+    }
 }
 
 /// The transaction in column 3, where it may stand in the feed.
@@ -249,82 +276,67 @@ fn transaction_at(feed: Feed, line: &Line) -> Option<Transaction>
     }
 }
 
-/// The first and the last date of a record, and whether its end is open, in which case the last date is the last
-/// day there is.
-#[derive(Clone, Copy)]
-struct OpenDates {
-    first: Day,
-    last: Day,
-    open_end: bool,
-    ghost in_order: { first ≤ last },
-    ghost closed: { IsTrue open_end → last ≡ last_day },
-}
-
-/// The dates in the twelve columns of a line from `at` on, counted from 1; the last may be `999999`.
-fn open_dates_at(line: &Line, at: usize) -> Result<OpenDates, Refusal>
+/// The dates in the twelve columns of a line from `at` on, counted from 1; the last may be `999999`, which is read
+/// as the last day there is.
+fn open_dates_at(line: &Line, at: usize) -> Result<Dates, Refusal>
     requires from_one { 1 ≤ at }
     requires within { at ≤ 69 }
     ensures { IsJudged (open_dates_refusal (columns_from at 6 line.now) (columns_from (at + 6) 6 line.now))
         (λ dates. StandsIn (columns_from at 6 line.now) (date dates.first)
-        × StandsIn (columns_from (at + 6) 6 line.now) (end_value dates.open_end dates.last)
-        × (dates.open_end ≡ is_open (at + 6) line.now)) result }
+        × StandsIn (columns_from (at + 6) 6 line.now) (end_value (is_open (at + 6) line.now) dates.last)
+        × IsClosedAt (is_open (at + 6) line.now) dates.last) result }
 {
-    if columns_at(line, at + 6) == *b"999999" {
+    if has_open_end(line, at + 6) {
         let first: Day = field_or(line, at, Refusal::BadDate)?;
         first.fits();
-        return Ok(OpenDates {
+        return Ok(Dates {
             first,
             last: last_day(),
-            open_end: true,
         });
     }
-    match dates_at(line, at) {
-        Ok(dates) => Ok(OpenDates {
-            first: dates.first,
-            last: dates.last,
-            open_end: false,
-        }),
-        Err(why) => Err(why),
-    }
+    dates_at(line, at)
 }
 
-/// The holiday code in column 29, where it may stand; none where a space stands there.
-fn holiday_code_at(allowed: HolidayCodes, line: &Line) -> Result<Option<HolidayCode>, Refusal>
-    ensures { IsJudged (holiday_code_refusal allowed line.now)
-        (λ code. (code ≡ code_of allowed line.now) × StandsIn (columns 29 29 line.now) (code_value code)) result }
+/// Whether the last date in the six columns from `first` on is open.
+pub(crate) fn has_open_end(line: &Line, first: usize) -> bool
+    requires from_one { 1 ≤ first }
+    requires within { first ≤ 75 }
+    ensures { result ≡ is_open first line.now }
+{
+    columns_at(line, first) == *b"999999"
+}
+
+/// The letter in column 80; where it is none, the line is refused, and this is any.
+fn letter_of(line: &Line) -> Stp
+    ensures { result ≡ letter_of line.now }
+{
+    field_at(line, 80).unwrap_or(Stp::C)
+}
+
+/// The holiday code in column 29, where it may stand.
+fn code_of(allowed: HolidayCodes, line: &Line) -> Option<HolidayCode>
+    ensures exact { result ≡ code_of allowed line.now }
+    ensures stands { IfSome result (λ code. columns 29 29 line.now ≡ letter code ∷ []) }
 {
     let column: [u8; 1] = columns_at(line, 29);
-    if column == *b" " {
-        return Ok(None);
-    }
     match HolidayCode::read(column[0]) {
-        Some(code) if allowed.has(code) => Ok(Some(code)),
-        _ => Err(Refusal::BankHoliday),
+        Some(code) if allowed.has(code) => Some(code),
+        _ => None,
     }
 }
 
-/// The mark of an AA or a BS with this letter that puts a record.
-fn put_mark(
-    transaction: Transaction,
-    letter: Stp,
-    open_end: bool,
-    code: Option<HolidayCode>,
-) -> RecordMark
-    ensures { result ≡ record { transaction = transaction; letter = letter; open_end = open_end; code = code } }
+/// Refuses a BS if in column 29 stands neither a space nor a holiday code that may stand.
+fn check_holiday_code(allowed: HolidayCodes, line: &Line) -> Result<(), Refusal>
+    ensures { IsJudged (holiday_code_refusal allowed line.now)
+        (λ _. StandsIn (columns 29 29 line.now) (code_value (code_of allowed line.now))) result }
 {
-    RecordMark {
-        transaction,
-        letter,
-        open_end,
-        code,
+    if columns_at(line, 29) == *b" " {
+        return Ok(());
     }
-}
-
-/// The mark of an AA or a BS with this letter that deletes a record.
-fn deletion_mark(letter: Stp) -> RecordMark
-    ensures { result ≡ record { transaction = Transaction.Deleted; letter = letter; open_end = false; code = None } }
-{
-    put_mark(Transaction::Deleted, letter, false, None)
+    match code_of(allowed, line) {
+        Some(_) => Ok(()),
+        None => Err(Refusal::BankHoliday),
+    }
 }
 
 /// The last day there is.
