@@ -4,7 +4,8 @@ use Rattle.cif_extract.specs.BodyParts.{BodyParts, extra_records, journey_record
 use Rattle.cif_extract.specs.Call.{call_record}
 use Rattle.cif_extract.specs.ExtractParts.{ExtractParts}
 use Rattle.cif_extract.specs.Grammar.{AreExtract, AreJourney, AreSchedule, AreSchedules, HaveBody, records_before_trailer}
-use Rattle.cif_extract.specs.SpellsExtract.{SpellAll, SpellExtract}
+use Rattle.cif_extract.specs.Layouts.{Layouts}
+use Rattle.cif_extract.specs.SpellsExtract.{SpellAllBy, SpellExtractBy}
 use Rattle.cif_extract.specs.declared.call.Call.{Call}
 use Rattle.cif_extract.specs.declared.call.Call.TheVariants.{At, Turn}
 use Rattle.cif_extract.specs.declared.extract.Schedule.{Schedule}
@@ -19,7 +20,8 @@ use Rattle.cif_records.specs.declared.record.Record.{Record}
 use Rattle.cif_records.specs.declared.record.Record.TheVariants as of
 use Rattle.cif_records.specs.declared.terminus.Terminus.{Terminus}
 use Rattle.cif_records.specs.declared.tiploc.Tiploc.{Tiploc}
-use Rattle.cif_records.proofs.Records.{kind_of, one_record}
+use Rattle.cif_records.proofs.Records.{kind_of}
+use Rattle.cif_extract.proofs.LayoutLaws.{AreLayouts}
 use Rattle.cif_extract.specs.Laws.SameBody.{same_values as same_parts}
 use Rattle.cif_extract.proofs.Schedules.{same_schedule}
 
@@ -300,17 +302,18 @@ one_extract_of records x y p q =
     (one_schedules q.schedules x.schedules y.schedules (subst
     (λ rs. AreSchedules rs x.schedules) schedules.0 p.are_schedules) q.are_schedules)
 
-one_spelling : (lines : List (List ℕ)) (rs qs : List Record) → SpellAll lines rs → SpellAll lines qs → rs ≡ qs
-one_spelling [] [] [] p q = refl
-one_spelling [] [] (y ∷ qs) p q = absurd q
-one_spelling [] (x ∷ rs) qs p q = absurd p
-one_spelling (line ∷ lines) [] qs p q = absurd p
-one_spelling (line ∷ lines) (x ∷ rs) [] p q = absurd q
-one_spelling (line ∷ lines) (x ∷ rs) (y ∷ qs) p q =
-    ap (λ r. r ∷ rs) (one_record line x y p.0 q.0) ∙ ap (λ zs. y ∷ zs) (one_spelling lines rs qs p.1 q.1)
+module _ (layouts : Layouts) (laws : AreLayouts layouts) where
+  one_spelling : (lines : List (List ℕ)) (rs qs : List Record) → SpellAllBy layouts lines rs → SpellAllBy layouts lines qs → rs ≡ qs
+  one_spelling [] [] [] p q = refl
+  one_spelling [] [] (y ∷ qs) p q = absurd q
+  one_spelling [] (x ∷ rs) qs p q = absurd p
+  one_spelling (line ∷ lines) [] qs p q = absurd p
+  one_spelling (line ∷ lines) (x ∷ rs) [] p q = absurd q
+  one_spelling (line ∷ lines) (x ∷ rs) (y ∷ qs) p q =
+      ap (λ r. r ∷ rs) (laws.one line x y p.0 q.0) ∙ ap (λ zs. y ∷ zs) (one_spelling lines rs qs p.1 q.1)
 
--- lines spell at most one extract
-pub one_extract : (lines : List (List ℕ)) (x y : ExtractParts) → SpellExtract lines x → SpellExtract lines y → x ≡ y
-one_extract lines x y p q =
-    one_extract_of q.records x y
-    (subst (λ rs. AreExtract rs x) (one_spelling lines p.records q.records p.spelled q.spelled) p.are) q.are
+  -- lines spell at most one extract
+  pub one_extract : (lines : List (List ℕ)) (x y : ExtractParts) → SpellExtractBy layouts lines x → SpellExtractBy layouts lines y → x ≡ y
+  one_extract lines x y p q =
+      one_extract_of q.records x y
+      (subst (λ rs. AreExtract rs x) (one_spelling lines p.records q.records p.spelled q.spelled) p.are) q.are

@@ -153,10 +153,13 @@ UnlessRefused refusal P (Ok done) = (refusal ≡ None) × P
 UnlessRefused refusal P (Err (untaken.Refused why)) = refusal ≡ Some why
 UnlessRefused refusal P (Err untaken.Memory) = Unit {0}
 
--- taking a line comes to one step more with the record that it spells
+-- taking a line comes to one step more with the record that it spells, by any layouts and by those of this profile
+abbrev pub IsTakenAs : Option Refusal → (Record → Type 0) → Progress → Result Unit TakeFault → Progress → Type 0
+IsTakenAs refusal spells before result after =
+    UnlessRefused refusal ((r : Record) × spells r × IsKeepable r × (after ≡ step before r)) result
+
 abbrev pub IsTaken : Option Refusal → List ℕ → Progress → Result Unit TakeFault → Progress → Type 0
-IsTaken refusal line before result after = UnlessRefused refusal ((r : Record) × SpellsRecord line r × IsKeepable r
-    × (after ≡ step before r)) result
+IsTaken refusal line = IsTakenAs refusal (SpellsRecord line)
 
 -- keeping a line comes to its record's plain line more, if it is kept
 abbrev pub IsKept : Option Refusal → List ℕ → Progress → Result Unit TakeFault → Progress → Type 0
