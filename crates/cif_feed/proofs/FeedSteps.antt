@@ -25,7 +25,7 @@ use Rattle.cif_records.specs.Kind.{is_identity, kind_in, kinds}
 use Rattle.cif_records.specs.declared.record.Kind.{Kind}
 use Rattle.cif_records.specs.declared.record.Kind.TheVariants.{Li}
 use Rattle.cif_feed.specs.FeedLayouts.{feed_layouts}
-use Rattle.cif_feed.specs.FeedLine.{mark_in}
+use Rattle.cif_feed.specs.FeedLine.{mark_by, mark_in}
 use Rattle.cif_feed.specs.RecordLines.{association_mark, is_basic, is_header, is_note, is_record_line, is_trailer, marks, notes_may_stand}
 use Rattle.cif_feed.specs.RecordLines.{record_lines, schedule_mark, tiploc_mark}
 use Rattle.cif_feed.specs.SpellsFeed.{header_from, passed_of}
@@ -312,16 +312,16 @@ module _ (feed : Feed) (allowed : HolidayCodes) (cs : List (List ℕ)) (c : List
 
   pub line_marked : (number : ℕ) (m : LineMark) (result : Result Unit TakeFault) (old mid new : FeedReading) → number ≡ length cs + 1
       → HasTakenFeed feed allowed cs old → IsTaken number old mid
-      → IsRecordTaken feed allowed c (progress_of old.reading) (Ok m) (progress_of mid.reading)
+      → IsRecordTaken feed allowed c (progress_of old.reading) (Ok tt) (progress_of mid.reading) → m ≡ mark_in feed allowed c
       → UnlessMemory (IsMarked mid number m new) result → IsFeedTaken feed allowed cs c result new
-  line_marked number m (Ok done) old mid new at so_far kept taken is =
+  line_marked number m (Ok done) old mid new at so_far kept taken told is =
       let (fine, more) = taken_behind (feed_layouts feed allowed) (feed_are feed allowed) (record_lines cs) c (progress_of old.reading)
-      so_far.taken (Ok tt) (progress_of mid.reading) taken.1 in (
+      so_far.taken (Ok tt) (progress_of mid.reading) taken in (
         rw kept.no_note fine,
-        line_step number at old mid new so_far kept more (subst (λ (x : LineMark). IsMarked mid number x new) (sym taken.0) is),
+        line_step number at old mid new so_far kept more (subst (λ (x : LineMark). IsMarked mid number x new) told is),
       )
-  line_marked number m (Err (Refused why)) old mid new at so_far kept taken is = absurd is
-  line_marked number m (Err Memory) old mid new at so_far kept taken is = tt
+  line_marked number m (Err (Refused why)) old mid new at so_far kept taken told is = absurd is
+  line_marked number m (Err Memory) old mid new at so_far kept taken told is = tt
 
   pub line_untaken : is_note c ≡ false → (fault : TakeFault) (old mid new : FeedReading) → HasTakenFeed feed allowed cs old
       → IsRecordTaken feed allowed c (progress_of old.reading) (Err fault) (progress_of mid.reading)
@@ -351,7 +351,7 @@ module _ (feed : Feed) (allowed : HolidayCodes) (cs : List (List ℕ)) (c : List
         basic = ap (λ (r : FeedReading). r.has_basic) is ∙ sym (or_false old.has_basic (is_basic (kind_in c)) (ap is_basic kind));
         trailer = ap (λ (r : FeedReading). r.has_trailer) is
             ∙ sym (or_false old.has_trailer (is_trailer (kind_in c)) (ap is_trailer kind));
-      }) own (record {
+      }) own (sym (ap (λ k. mark_by feed allowed k c) kind)) (record {
         marked = sym (with_nothing (marks_of new) (length cs + 1));
         reading = refl;
         header_line = refl;

@@ -46,4 +46,5 @@ pub mod PreparedFits
 pub mod PreparedDays
 pub mod ClashingKeys
 pub mod Cells
+pub mod ReadLines
 pub mod WrittenPrepared

@@ -1,14 +1,14 @@
 -- What the step of a line of a feed comes to that says a record.
-use Rattle.std.proofs.Common.{◌≡◌, ℕ, Bool, true, false, List, [], ◌∷◌, Option, Some, None, Result, Ok, Err, ap, refl, subst, ◌∙◌}
-use Rattle.cif_columns.specs.declared.refusal.Refusal.TheVariants.{NotFull, OutOfOrder}
+use Rattle.std.proofs.Common.{◌≡◌, ℕ, true, false, List, [], ◌∷◌, Option, Some, None, Result, ap, refl, sym, subst, ◌∙◌}
+use Rattle.cif_columns.specs.declared.refusal.Refusal.TheVariants.{OutOfOrder}
 use Rattle.cif_extract.specs.FirstRefusal.{order_refusal}
 use Rattle.cif_extract.specs.OrderOfRecords.{may_stand}
-use Rattle.cif_extract.specs.Steps.Reading.{IsKeepable, IsTaken, Progress, UnlessMemory, refusal_here, step}
+use Rattle.cif_extract.specs.Steps.Reading.{IsKeepable, IsTaken, IsTakenAs, Progress, UnlessMemory, refusal_here, step}
 use Rattle.cif_extract.specs.Taken.{refusal_at}
 use Rattle.cif_extract.specs.declared.reading.TakeFault.{TakeFault}
-use Rattle.cif_extract.specs.declared.reading.TakeFault.TheVariants as untaken
 use Rattle.cif_extract.proofs.FirstRefusals.{or_none}
 use Rattle.cif_extract.proofs.SpelledLines.{fine_here}
+use Rattle.cif_extract.proofs.TakenLines.{fine_so, refused_so}
 use Rattle.cif_records.specs.Checks.{first_of, unless}
 use Rattle.cif_records.specs.Kind.{kind_in}
 use Rattle.cif_records.specs.Record.{SpellsRecord, refusal_as}
@@ -18,14 +18,13 @@ use Rattle.cif_records.specs.declared.record.Record.{Record}
 use Rattle.cif_records.specs.declared.record.Record.TheVariants as of
 use Rattle.cif_records.proofs.Records.{kind_of, kind_there}
 use Rattle.cif_feed.specs.FeedLayouts.{feed_layouts}
-use Rattle.cif_feed.specs.FeedLine.{SpellsInFeed, mark_by, mark_in}
+use Rattle.cif_feed.specs.FeedLine.{SpellsInFeed}
 use Rattle.cif_feed.specs.LayoutRefusals.{feed_refusal_as, kind_read_as}
-use Rattle.cif_feed.specs.Steps.FeedReading.{IsOwn, IsRecordTaken, marked}
+use Rattle.cif_feed.specs.Steps.FeedLine.{IsOfTiploc}
+use Rattle.cif_feed.specs.Steps.FeedReading.{IsOwn, IsRecordTaken}
 use Rattle.cif_feed.specs.declared.feed.Feed.{Feed}
 use Rattle.cif_feed.specs.declared.feed.Feed.TheVariants.{Full, Update}
 use Rattle.cif_feed.specs.declared.holiday_code.HolidayCodes.{HolidayCodes}
-use Rattle.cif_feed.specs.declared.mark.LineMark.{LineMark}
-use Rattle.cif_feed.specs.declared.mark.LineMark.TheVariants as mark
 use Rattle.cif_feed.proofs.FeedLines.{feed_are}
 
 -- but for locations the kinds are the lines' own
@@ -48,10 +47,14 @@ pub as_basic : (feed : Feed) → kind_read_as feed (Some Bs) ≡ Some Bs
 as_basic Full = refl
 as_basic Update = refl
 
--- what is read as a location is so in an update
-pub in_update : (feed : Feed) (kind : Kind) → kind_read_as feed (Some kind) ≡ Some Ti → kind_read_as Update (Some kind) ≡ Some Ti
-in_update Update kind is = is
-in_update Full kind is = ap (kind_read_as Update) is
+pub as_tiploc : (kind : Kind) (feed : Feed) → IsOfTiploc kind feed → kind_read_as feed (Some kind) ≡ Some Ti
+as_tiploc Ti Full is = refl
+as_tiploc Ti Update is = refl
+as_tiploc Ta Update is = refl
+as_tiploc Td Update is = refl
+as_tiploc Ta Full is = absurd is
+as_tiploc Td Full is = absurd is
+as_tiploc _ feed is = absurd is
 
 module _ (feed : Feed) (allowed : HolidayCodes) (line : List ℕ) (before : Progress) where
   -- a line of this kind, which may stand where that one may
@@ -71,13 +74,12 @@ module _ (feed : Feed) (allowed : HolidayCodes) (line : List ℕ) (before : Prog
     in_place may = by_place ∙ rw may (or_none (feed_refusal_as feed allowed (Some kind) line))
 
   -- a record that it spells is put where it may stand
-  pub put_taken : (r : Record) → SpellsInFeed feed allowed line r → may_stand before.place (kind_of r) ≡ true → (m : LineMark)
-      → mark_in feed allowed line ≡ m → (result : Result Unit TakeFault) (after : Progress)
-      → UnlessMemory (IsKeepable r × (after ≡ step before r)) result → IsRecordTaken feed allowed line before (marked m result) after
-  put_taken r spells may m told (Ok done) after is =
-      (told, (fine_here (feed_layouts feed allowed) (feed_are feed allowed) before.place line r spells may, (r, spells, is.0, is.1)))
-  put_taken r spells may m told (Err (untaken.Refused why)) after is = absurd is
-  put_taken r spells may m told (Err untaken.Memory) after is = tt
+  pub put_taken : (r : Record) → SpellsInFeed feed allowed line r → may_stand before.place (kind_of r) ≡ true
+      → (result : Result Unit TakeFault) (after : Progress) → UnlessMemory (IsKeepable r × (after ≡ step before r)) result
+      → IsRecordTaken feed allowed line before result after
+  put_taken r spells may result after =
+      fine_so _ (λ is. (r, spells, is.0, is.1)) result
+      (fine_here (feed_layouts feed allowed) (feed_are feed allowed) before.place line r spells may)
 
   -- a line that is as in an extract of this profile
   own_refusal : (f : Feed) (kind : Option Kind) → IsOwn kind f
@@ -103,32 +105,13 @@ module _ (feed : Feed) (allowed : HolidayCodes) (line : List ℕ) (before : Prog
   own_spells (of.Basic b) own s = absurd own
   own_spells _ own s = s
 
-  -- of TA and TD no line is taken there
-  not_full : (may : Bool) → first_of (unless may OutOfOrder ∷ Some NotFull ∷ []) ≡ None → ⊥
-  not_full true e = absurd (cc)
-  not_full false e = absurd (cc)
-
-  own_mark : (f : Feed) (kind : Option Kind) → IsOwn kind f → refusal_here before.place kind line ≡ None
-      → mark_by f allowed kind line ≡ mark.Nothing
-  own_mark f (Some Hd) own fine = absurd own
-  own_mark f (Some Ti) own fine = absurd own
-  own_mark Full (Some Ta) own fine = absurd (not_full (may_stand before.place Ta) fine)
-  own_mark Full (Some Td) own fine = absurd (not_full (may_stand before.place Td) fine)
-  own_mark Update (Some Ta) own fine = absurd own
-  own_mark Update (Some Td) own fine = absurd own
-  own_mark f (Some Aa) own fine = absurd own
-  own_mark f (Some Bs) own fine = absurd own
-  own_mark f _ own fine = refl
-
   pub own_taken : IsOwn (kind_in line) feed → (result : Result Unit TakeFault) (after : Progress)
-      → IsTaken (refusal_here before.place (kind_in line) line) line before result after
-      → IsRecordTaken feed allowed line before (marked mark.Nothing result) after
-  own_taken own (Ok done) after (fine, (r, spells, keepable, is)) = (
-    own_mark feed (kind_in line) own fine,
-    (
-      own_refusal feed (kind_in line) own ∙ fine,
-      (r, own_spells r (subst (λ k. IsOwn k feed) (kind_there line r spells) own) spells, keepable, is),
-    ),
-  )
-  own_taken own (Err (untaken.Refused why)) after taken = own_refusal feed (kind_in line) own ∙ taken
-  own_taken own (Err untaken.Memory) after taken = tt
+      → IsTaken (refusal_here before.place (kind_in line) line) line before result after → IsRecordTaken feed allowed line before result after
+  own_taken own result after taken =
+      subst (λ refusal. IsTakenAs refusal (SpellsInFeed feed allowed line) before result after) (sym (own_refusal feed (kind_in line) own))
+      (refused_so _ (λ (r, spells, keepable, is). (
+        r,
+        own_spells r (subst (λ k. IsOwn k feed) (kind_there line r spells) own) spells,
+        keepable,
+        is,
+      )) result taken)

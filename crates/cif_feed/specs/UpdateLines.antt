@@ -15,6 +15,7 @@ use Rattle.cif_records.specs.declared.record.Kind.{Kind}
 use Rattle.cif_records.specs.declared.record.Kind.TheVariants.{Ti, Ta, Td, Aa}
 use Rattle.cif_records.specs.declared.tiploc.Tiploc.{Tiploc}
 use Rattle.cif_feed.specs.Changes.{key_of, put_of, transaction_of}
+pub use Rattle.cif_feed.specs.FeedLine.{put_tiploc}
 use Rattle.cif_feed.specs.HolidayCode.{code_in}
 use Rattle.cif_feed.specs.LastDay.{last_day}
 use Rattle.cif_feed.specs.Transaction.{transaction_in}
@@ -102,10 +103,6 @@ is_of_tiploc (Some Ti) = true
 is_of_tiploc (Some Ta) = true
 is_of_tiploc (Some Td) = true
 is_of_tiploc kind = false
-
--- the TIPLOC that a TA puts: that in columns 73 to 79, or its own, if they are blank
-abbrev pub put_tiploc : List ℕ → List ℕ
-put_tiploc line = if are (columns 73 79 line) (replicate 7 32) then columns 3 9 line else columns 73 79 line
 
 -- A TI puts the location of its columns 3 to 72. A TA amends that of its own TIPLOC: it puts one with its columns 10 to 72. A TD deletes
 -- that of its TIPLOC.

@@ -20,6 +20,7 @@ ghost use Rattle.cif_feed.specs.declared.feed.Feed.{Feed};
 ghost use Rattle.cif_feed.specs.declared.holiday_code.HolidayCodes.{HolidayCodes};
 ghost use Rattle.cif_records.specs.Kind.{kind_in};
 
+use crate::feed_line::mark_of;
 use crate::mark::{LineMark, Numbered, RecordMark, TiplocMark};
 use crate::record_taking::take_record;
 use crate::{Feed, FeedFault, HolidayCodes, UpdateCounts};
@@ -176,12 +177,12 @@ impl FeedReading {
         }
         let kind = kind_of(line);
         match take_record(alloc, &mut self.reading, feed, allowed, kind, line) {
-            Ok(mark) => {
+            Ok(()) => {
                 self.header_line = header_behind(self.header_line, kind, number);
                 self.counts.add(kind, line);
                 self.has_basic |= is_basic(kind);
                 self.has_trailer |= is_trailer(kind);
-                self.push_mark(number, mark)
+                self.push_mark(number, mark_of(feed, allowed, kind, line))
             }
             Err(fault) => Err(fault),
         }

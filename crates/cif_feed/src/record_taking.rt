@@ -1,21 +1,20 @@
 //! Taking one line of a feed that says a record into what was read.
 ghost use Rattle.std.specs.Prelude.{◌≡◌, List, Some};
 ghost use Rattle.cif_extract.specs.Steps.Reading.{HasRead, progress_of};
-ghost use Rattle.cif_feed.specs.LayoutRefusals.{kind_read_as};
-ghost use Rattle.cif_feed.specs.Steps.FeedReading.{IsOwn, IsRecordTaken, marked};
+ghost use Rattle.cif_feed.specs.Steps.FeedLine.{IsOfTiploc};
+ghost use Rattle.cif_feed.specs.Steps.FeedReading.{IsOwn, IsRecordTaken};
 ghost use Rattle.cif_feed.specs.declared.holiday_code.HolidayCodes.{HolidayCodes};
 ghost use Rattle.cif_records.specs.Kind.{kind_in};
 ghost use Rattle.cif_records.specs.declared.record.Record.{Record};
 
 use crate::feed_line::{read_association, read_basic, read_header, read_tiploc};
-use crate::mark::LineMark;
 use crate::{Feed, HolidayCodes};
 use cif_columns::{Line, Refusal};
 use cif_extract::{Reading, TakeFault};
 use cif_records::Kind;
 use std::alloc::Global;
 
-/// Takes a line of this kind, and gives its mark. Its place is judged before its fields, and memory is asked for after them.
+/// Takes a line of this kind. Its place is judged before its fields, and memory is asked for after them.
 pub(crate) fn take_record(
     alloc: Global,
     reading: &mut Reading,
@@ -23,7 +22,7 @@ pub(crate) fn take_record(
     allowed: HolidayCodes,
     kind: Option<Kind>,
     line: &Line,
-) -> Result<LineMark, TakeFault>
+) -> Result<(), TakeFault>
     requires kind { kind ≡ kind_in line.now }
     requires read { (records : List Record) × HasRead records (progress_of reading.old) }
     ensures { IsRecordTaken feed allowed line.now (progress_of reading.old) result (progress_of reading.new) }
@@ -45,17 +44,17 @@ fn take_own(
     reading: &mut Reading,
     feed: Feed,
     line: &Line,
-) -> Result<LineMark, TakeFault>
+) -> Result<(), TakeFault>
     requires own { IsOwn (kind_in line.now) feed }
     requires read { (records : List Record) × HasRead records (progress_of reading.old) }
     ensures { (allowed : HolidayCodes)
         → IsRecordTaken feed allowed line.now (progress_of reading.old) result (progress_of reading.new) }
 {
-    marked(reading.take(alloc, line), LineMark::Nothing)
+    reading.take(alloc, line)
 }
 
 /// Takes a header.
-fn take_header(reading: &mut Reading, feed: Feed, line: &Line) -> Result<LineMark, TakeFault>
+fn take_header(reading: &mut Reading, feed: Feed, line: &Line) -> Result<(), TakeFault>
     requires { kind_in line.now ≡ Some Kind.Hd }
     ensures { (allowed : HolidayCodes)
         → IsRecordTaken feed allowed line.now (progress_of reading.old) result (progress_of reading.new) }
@@ -66,7 +65,7 @@ fn take_header(reading: &mut Reading, feed: Feed, line: &Line) -> Result<LineMar
     match read_header(feed, line) {
         Ok(header) => {
             reading.put_header(header);
-            Ok(LineMark::Nothing)
+            Ok(())
         }
         Err(why) => Err(TakeFault::Refused(why)),
     }
@@ -78,21 +77,20 @@ fn take_tiploc(
     feed: Feed,
     kind: Kind,
     line: &Line,
-) -> Result<LineMark, TakeFault>
+) -> Result<(), TakeFault>
     requires kind { kind_in line.now ≡ Some kind }
-    requires located { kind_read_as feed (Some kind) ≡ Some Kind.Ti }
+    requires tiploc { IsOfTiploc kind feed }
     ensures { (allowed : HolidayCodes)
         → IsRecordTaken feed allowed line.now (progress_of reading.old) result (progress_of reading.new) }
 {
     if !reading.allows(Kind::Ti) {
         return Err(TakeFault::Refused(Refusal::OutOfOrder));
     }
-    let (tiploc, mark) = read_tiploc(kind, line);
-    marked(reading.put_tiploc(tiploc), LineMark::Tiploc(mark))
+    reading.put_tiploc(read_tiploc(feed, kind, line))
 }
 
 /// Takes an association, or the deletion of one.
-fn take_association(reading: &mut Reading, feed: Feed, line: &Line) -> Result<LineMark, TakeFault>
+fn take_association(reading: &mut Reading, feed: Feed, line: &Line) -> Result<(), TakeFault>
     requires { kind_in line.now ≡ Some Kind.Aa }
     ensures { (allowed : HolidayCodes)
         → IsRecordTaken feed allowed line.now (progress_of reading.old) result (progress_of reading.new) }
@@ -101,10 +99,7 @@ fn take_association(reading: &mut Reading, feed: Feed, line: &Line) -> Result<Li
         return Err(TakeFault::Refused(Refusal::OutOfOrder));
     }
     match read_association(feed, line) {
-        Ok((association, mark)) => marked(
-            reading.put_association(association),
-            LineMark::Association(mark),
-        ),
+        Ok(association) => reading.put_association(association),
         Err(why) => Err(TakeFault::Refused(why)),
     }
 }
@@ -115,7 +110,7 @@ fn take_basic(
     feed: Feed,
     allowed: HolidayCodes,
     line: &Line,
-) -> Result<LineMark, TakeFault>
+) -> Result<(), TakeFault>
     requires { kind_in line.now ≡ Some Kind.Bs }
     ensures { IsRecordTaken feed allowed line.now (progress_of reading.old) result (progress_of reading.new) }
 {
@@ -123,17 +118,7 @@ fn take_basic(
         return Err(TakeFault::Refused(Refusal::OutOfOrder));
     }
     match read_basic(feed, allowed, line) {
-        Ok((terms, mark)) => marked(reading.put_basic(terms, line), LineMark::Schedule(mark)),
+        Ok(terms) => reading.put_basic(terms, line),
         Err(why) => Err(TakeFault::Refused(why)),
-    }
-}
-
-/// What came of a step, with this mark of its line.
-fn marked(step: Result<(), TakeFault>, mark: LineMark) -> Result<LineMark, TakeFault>
-    ensures { result ≡ marked mark step }
-{
-    match step {
-        Ok(()) => Ok(mark),
-        Err(fault) => Err(fault),
     }
 }

@@ -3,25 +3,26 @@ use Rattle.std.specs.Prelude.{◌≡◌, ℕ, true, List, Some}
 use Rattle.cif_records.specs.Basic.{terms_of}
 use Rattle.cif_records.specs.Bodies.{has_body}
 use Rattle.cif_records.specs.Detail.{detail_in}
-use Rattle.cif_records.specs.declared.association.Association.{Association}
 use Rattle.cif_records.specs.declared.basic.Basic.{Basic}
 use Rattle.cif_records.specs.declared.basic.BasicTerms.{BasicTerms}
+use Rattle.cif_records.specs.declared.record.Kind.{Kind}
+use Rattle.cif_records.specs.declared.record.Kind.TheVariants.{Ti, Ta, Td}
 use Rattle.cif_records.specs.declared.record.Record.TheVariants as of
-use Rattle.cif_feed.specs.FeedLine.{SpellsInFeed, mark_in}
+use Rattle.cif_feed.specs.FeedLine.{SpellsInFeed}
 use Rattle.cif_feed.specs.declared.feed.Feed.{Feed}
+use Rattle.cif_feed.specs.declared.feed.Feed.TheVariants.{Update}
 use Rattle.cif_feed.specs.declared.holiday_code.HolidayCodes.{HolidayCodes}
-use Rattle.cif_feed.specs.declared.mark.LineMark.TheVariants as mark
-use Rattle.cif_feed.specs.declared.mark.RecordMark.{RecordMark}
 
--- the line spells the association, and has this mark
-pub record ReadsAssociation (feed : Feed) (allowed : HolidayCodes) (line : List ℕ) (read : Association × RecordMark) : Type 0 where
-  pub spells : SpellsInFeed feed allowed line (of.Association read.0)
-  pub mark : mark_in feed allowed line ≡ mark.Association read.1
+-- a line of this kind spells a location in this feed
+abbrev pub IsOfTiploc : Kind → Feed → Type 0
+IsOfTiploc Ti feed = Unit {0}
+IsOfTiploc Ta Update = Unit {0}
+IsOfTiploc Td Update = Unit {0}
+IsOfTiploc kind feed = ⊥
 
--- the line spells a basic schedule with these terms, whose detail, if it has one, stands in its columns, and has this mark
-pub record ReadsBasic (feed : Feed) (allowed : HolidayCodes) (line : List ℕ) (read : BasicTerms × RecordMark) : Type 0 where
+-- the line spells a basic schedule with these terms, whose detail, if it has one, stands in its columns
+pub record ReadsBasic (feed : Feed) (allowed : HolidayCodes) (line : List ℕ) (t : BasicTerms) : Type 0 where
   pub basic : Basic
-  pub terms : read.0 ≡ terms_of basic
+  pub terms : t ≡ terms_of basic
   pub spells : SpellsInFeed feed allowed line (of.Basic basic)
   pub detail : has_body basic.letter ≡ true → basic.detail ≡ Some (detail_in line)
-  pub mark : mark_in feed allowed line ≡ mark.Schedule read.1

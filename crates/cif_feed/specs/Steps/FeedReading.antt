@@ -15,7 +15,7 @@ use Rattle.cif_extract.specs.declared.reading.TakeFault.TheVariants.{Refused, Me
 use Rattle.cif_records.specs.declared.record.Kind.{Kind}
 use Rattle.cif_records.specs.declared.record.Kind.TheVariants.{Hd, Ti, Ta, Td, Aa, Bs}
 use Rattle.cif_feed.specs.FeedLayouts.{feed_layouts}
-use Rattle.cif_feed.specs.FeedLine.{SpellsInFeed, mark_in}
+use Rattle.cif_feed.specs.FeedLine.{SpellsInFeed}
 use Rattle.cif_feed.specs.RecordLines.{association_mark, is_basic, is_header, is_trailer, marks, record_lines, schedule_mark}
 use Rattle.cif_feed.specs.RecordLines.{tiploc_mark}
 use Rattle.cif_feed.specs.Counts.{counts_of}
@@ -74,17 +74,10 @@ pub record HasTakenFeed (feed : Feed) (allowed : HolidayCodes) (contents : List 
   pub basic : r.has_basic ≡ list_any (λ content. is_basic (kind_in content)) contents
   pub trailer : r.has_trailer ≡ list_any (λ content. is_trailer (kind_in content)) contents
 
--- what the step of a line that says a record comes to, with its mark
-abbrev pub IsRecordTaken : Feed → HolidayCodes → List ℕ → Progress → Result LineMark TakeFault → Progress → Type 0
-IsRecordTaken feed allowed line before (Ok m) after = (mark_in feed allowed line ≡ m)
-    × IsTakenAs (refusal_at (feed_layouts feed allowed) before.place line) (SpellsInFeed feed allowed line) before (Ok tt) after
-IsRecordTaken feed allowed line before (Err fault) after =
-    IsTakenAs (refusal_at (feed_layouts feed allowed) before.place line) (SpellsInFeed feed allowed line) before (Err fault) after
-
--- a step with the mark of its line
-abbrev pub marked : LineMark → Result Unit TakeFault → Result LineMark TakeFault
-marked m (Ok done) = Ok m
-marked m (Err fault) = Err fault
+-- what the step of a line that says a record comes to
+abbrev pub IsRecordTaken : Feed → HolidayCodes → List ℕ → Progress → Result Unit TakeFault → Progress → Type 0
+IsRecordTaken feed allowed line before =
+    IsTakenAs (refusal_at (feed_layouts feed allowed) before.place line) (SpellsInFeed feed allowed line) before
 
 -- a line of this kind is read as one of an extract of this profile
 abbrev pub IsOwn : Option Kind → Feed → Type 0

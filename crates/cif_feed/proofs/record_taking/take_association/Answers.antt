@@ -5,7 +5,6 @@ use Rattle.cif_records.specs.declared.record.Kind.TheVariants.{Aa}
 use Rattle.cif_records.specs.declared.record.Record.TheVariants as of
 use Rattle.cif_extract.proofs.TakenLines.{memory_so}
 use Rattle.cif_feed.proofs.RecordsTaken.{as_association, in_place, out_of_place, put_taken}
-use Rattle.cif_feed.specs.declared.mark.LineMark.TheVariants as mark
 use Rattle.cif_feed.proofs.record_taking.take_association.Goals as goal
 
 pub returns-then-not-allows : goal.returns-then-not-allows
@@ -20,9 +19,6 @@ returns-in-Err c = λ allowed.
 
 pub returns-in-Ok : goal.returns-in-Ok
 returns-in-Ok c = λ allowed.
-    let read = (c.in-Ok.ensures allowed).1 in
-    rw c.marked.ensures
-    (put_taken c.args.feed allowed c.args.line.now (progress_of c.args.reading.now) (of.Association c.in-Ok.association) read.spells
-    (sym c.allows.ensures ∙ c.if-not-allows.false) (mark.Association c.in-Ok.mark) read.mark c.put_association.result
-    (progress_of c.put_association.new.self)
-    (memory_so None (λ is. (tt, is)) c.put_association.result c.put_association.ensures))
+    put_taken c.args.feed allowed c.args.line.now (progress_of c.args.reading.now) (of.Association c.in-Ok.association)
+    (c.in-Ok.ensures allowed).1 (sym c.allows.ensures ∙ c.if-not-allows.false) c.put_association.result
+    (progress_of c.put_association.new.self) (memory_so None (λ is. (tt, is)) c.put_association.result c.put_association.ensures)

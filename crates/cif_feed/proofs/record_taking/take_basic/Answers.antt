@@ -4,7 +4,6 @@ use Rattle.cif_extract.specs.Steps.Reading.{progress_of}
 use Rattle.cif_records.specs.declared.record.Kind.TheVariants.{Bs}
 use Rattle.cif_records.specs.declared.record.Record.TheVariants as of
 use Rattle.cif_feed.proofs.RecordsTaken.{as_basic, in_place, out_of_place, put_taken}
-use Rattle.cif_feed.specs.declared.mark.LineMark.TheVariants as mark
 use Rattle.cif_feed.proofs.record_taking.take_basic.Goals as goal
 
 pub returns-then-not-allows : goal.returns-then-not-allows
@@ -20,7 +19,6 @@ returns-in-Err c =
 pub returns-in-Ok : goal.returns-in-Ok
 returns-in-Ok c =
     let read = c.in-Ok.ensures.1 in
-    rw c.marked.ensures
-    (put_taken c.args.feed c.args.allowed c.args.line.now (progress_of c.args.reading.now) (of.Basic read.basic) read.spells
-    (sym c.allows.ensures ∙ c.if-not-allows.false) (mark.Schedule c.in-Ok.mark) read.mark c.put_basic.result
-    (progress_of c.put_basic.new.self) (c.put_basic.ensures read.basic read.terms read.detail))
+    put_taken c.args.feed c.args.allowed c.args.line.now (progress_of c.args.reading.now) (of.Basic read.basic) read.spells
+    (sym c.allows.ensures ∙ c.if-not-allows.false) c.put_basic.result (progress_of c.put_basic.new.self)
+    (c.put_basic.ensures read.basic read.terms read.detail)

@@ -1,11 +1,9 @@
 -- It is refused where it may not stand (`out_of_place`), or for its fields (`in_place`); the record that it spells is put (`put_taken`).
-use Rattle.std.proofs.Common.{◌∙◌, Ok, ap, sym}
+use Rattle.std.proofs.Common.{◌∙◌, Ok, sym}
 use Rattle.cif_extract.specs.Steps.Reading.{progress_of}
 use Rattle.cif_records.specs.declared.record.Kind.TheVariants.{Hd}
 use Rattle.cif_records.specs.declared.record.Record.TheVariants as of
 use Rattle.cif_feed.proofs.RecordsTaken.{as_header, in_place, out_of_place, put_taken}
-use Rattle.cif_feed.specs.FeedLine.{mark_by}
-use Rattle.cif_feed.specs.declared.mark.LineMark.TheVariants as mark
 use Rattle.cif_feed.proofs.record_taking.take_header.Goals as goal
 
 pub returns-then-not-allows : goal.returns-then-not-allows
@@ -21,6 +19,5 @@ returns-in-Err c = λ allowed.
 pub returns-in-Ok : goal.returns-in-Ok
 returns-in-Ok c = λ allowed.
     put_taken c.args.feed allowed c.args.line.now (progress_of c.args.reading.now) (of.Header c.in-Ok.header)
-    (c.in-Ok.ensures allowed).1 (sym c.allows.ensures ∙ c.if-not-allows.false) mark.Nothing
-    (ap (λ k. mark_by c.args.feed allowed k c.args.line.now) c.requires) (Ok tt) (progress_of c.put_header.new.self)
+    (c.in-Ok.ensures allowed).1 (sym c.allows.ensures ∙ c.if-not-allows.false) (Ok tt) (progress_of c.put_header.new.self)
     (tt, c.put_header.ensures)

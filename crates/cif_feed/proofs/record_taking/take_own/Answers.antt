@@ -5,6 +5,5 @@ use Rattle.cif_feed.proofs.record_taking.take_own.Goals as goal
 
 pub returns : goal.returns
 returns c = λ allowed.
-    rw c.marked.ensures
-    (own_taken c.args.feed allowed c.args.line.now (progress_of c.args.reading.now) c.requires.own c.take.result
-    (progress_of c.take.new.self) c.take.ensures.taken)
+    own_taken c.args.feed allowed c.args.line.now (progress_of c.args.reading.now) c.requires.own c.take.result
+    (progress_of c.take.new.self) c.take.ensures.taken

@@ -1,5 +1,6 @@
 -- A note is counted (`note_taken`); of a line that is taken its mark is kept (`line_marked`).
 use Rattle.std.proofs.Common.{◌||◌, ap, refl, sym, ◌∙◌}
+use Rattle.cif_feed.specs.FeedLine.{mark_by}
 use Rattle.cif_feed.specs.RecordLines.{is_basic, is_trailer}
 use Rattle.cif_feed.specs.Steps.FeedReading.{header_behind}
 use Rattle.cif_feed.specs.Steps.Counts.{with_line}
@@ -17,7 +18,7 @@ take_record-requires-clause-read c = (c.requires.taken.1.taken.records, c.requir
 pub returns-in-Ok-clause-taken : goal.returns-in-Ok-clause-taken
 returns-in-Ok-clause-taken c = λ cs so_far at.
     let a = c.args in
-    line_marked a.feed a.allowed cs a.line.now a.number c.in-Ok.mark c.push_mark.result a.self.now
+    line_marked a.feed a.allowed cs a.line.now a.number c.mark_of.result c.push_mark.result a.self.now
     (record a.self.now {
       reading = c.take_record.new.reading;
       header_line = c.header_behind-self.result;
@@ -35,7 +36,8 @@ returns-in-Ok-clause-taken c = λ cs so_far at.
       passed = refl;
       basic = ap (λ b. a.self.now.has_basic || b) (c.is_basic.ensures ∙ ap is_basic c.kind_of-kind.ensures.kind);
       trailer = ap (λ b. a.self.now.has_trailer || b) (c.is_trailer.ensures ∙ ap is_trailer c.kind_of-kind.ensures.kind);
-    }) c.in-Ok.ensures c.push_mark.ensures
+    }) c.in-Ok.ensures
+    (c.mark_of.ensures ∙ ap (λ kind. mark_by a.feed a.allowed kind a.line.now) c.kind_of-kind.ensures.kind) c.push_mark.ensures
 
 pub returns-in-Err-clause-taken : goal.returns-in-Err-clause-taken
 returns-in-Err-clause-taken c = λ cs so_far at.
