@@ -37,7 +37,7 @@ use Rattle.cif_extract.specs.declared.reading.TakeFault.TheVariants as untaken
 use Rattle.cif_records.specs.Bodies.{has_body}
 use Rattle.cif_records.specs.Checks.{first_of, unless}
 use Rattle.cif_records.specs.Kind.{kind_in}
-use Rattle.cif_records.specs.Record.{record_refusal, SpellsRecord}
+use Rattle.cif_records.specs.Record.{record_refusal}
 use Rattle.cif_records.specs.declared.basic.Basic.{Basic}
 use Rattle.cif_records.specs.declared.detail.Detail.{Detail}
 use Rattle.cif_records.specs.declared.header.Header.{Header}
@@ -143,11 +143,11 @@ module _ (layouts : Layouts) (laws : AreLayouts layouts) where
     taken_behind (Err untaken.Memory) after is = tt
 
 -- the same by the layouts of this profile
-pub taken_own : (place : Place) (line : List ℕ) (before : Progress) (result : Result Unit TakeFault) (after : Progress) →
-    IsTaken (refusal_here place (kind_in line) line) line before result after →
-    IsTakenAs (refusal_at own_layouts place line) (SpellsRecord line) before result after
+pub own_behind : (lines : List (List ℕ)) (line : List ℕ) (before : Progress) → HasTaken own_layouts lines before →
+    (result : Result Unit TakeFault) (after : Progress) → IsTaken (refusal_here before.place (kind_in line) line) line before result after →
+    IsTakenBehind own_layouts lines line result after
 unfolding record_refusal
-taken_own place line before result after is = is
+own_behind lines line before so_far = taken_behind own_layouts own_are lines line before so_far
 
 module _ (max : ℕ) (lines : List (List ℕ)) (line : List ℕ) (is_line : IsLine line) (room : length lines < max) (before : Progress)
     (so_far : HasCome max lines before) where
@@ -158,7 +158,7 @@ module _ (max : ℕ) (lines : List (List ℕ)) (line : List ℕ) (is_line : IsLi
   pub come_more : (after : Progress) → IsTaken (refusal_here before.place (kind_in line) line) line before (Ok tt) after →
       HasCome max (lines ++ (line ∷ [])) after
   come_more after is = record {
-    taken = taken_more own_layouts own_are lines line before so_far.taken after (taken_own before.place line before (Ok tt) after is);
+    taken = (own_behind lines line before so_far.taken (Ok tt) after is).1;
     fine = none_refused-more max lines line so_far.fine (refused_here ∙ is.0);
   }
 

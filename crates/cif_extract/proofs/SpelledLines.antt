@@ -19,7 +19,7 @@ use Rattle.cif_extract.proofs.Places.{place_more, place_past}
 
 module _ (layouts : Layouts) (laws : AreLayouts layouts) where
   -- what spells a record that may stand there isn't refused
-  fine_here : (place : Place) (line : List ℕ) (r : Record) → layouts.spells line r → may_stand place (record_kind r) ≡ true
+  pub fine_here : (place : Place) (line : List ℕ) (r : Record) → layouts.spells line r → may_stand place (record_kind r) ≡ true
       → refusal_at layouts place line ≡ None
   fine_here place line r spells may = rw (laws.kind line r spells, may, laws.fine line r spells) refl
 

@@ -2,7 +2,7 @@
 use Rattle.std.proofs.Common.{◌≡◌, ℕ, suc, zero, ◌+◌, ◌-◌, ◌≤◌, List, [], ◌∷◌, ◌++◌, length, length-append, length-drop}
 use Rattle.std.proofs.Common.{length-take, take, drop, slice_index, sym, ap, ◌∙◌, subst, arith, refl}
 use Rattle.std.proofs.lemmas.List.{drop_more, take_all}
-use Rattle.cif_feed.specs.ProfileLine.{with_columns}
+use Rattle.cif_feed.specs.PublishedParts.{with_columns}
 
 -- so many of its columns, behind the first ones
 abbrev pub cells : ℕ → ℕ → List ℕ → List ℕ

@@ -15,7 +15,8 @@ use Rattle.cif_columns.proofs.FieldLaws.{one_date_value, one_exactly, one_weekda
 use Rattle.cif_columns.proofs.Masks.{days_of-stands}
 use Rattle.cif_columns.proofs.PrintableBytes.{printable_fact}
 use Rattle.cif_columns.proofs.StoodValues as stood
-use Rattle.cif_extract.specs.OrderOfRecords.{cancels}
+use Rattle.cif_extract.specs.Layouts.{cancels}
+use Rattle.cif_extract.proofs.LayoutLaws.{AreLayouts}
 use Rattle.cif_records.specs.Association.{association_rows, association_rows_by, association_table}
 use Rattle.cif_records.specs.Basic.{basic_back, basic_front_by, basic_rows, basic_table, terms_of}
 use Rattle.cif_records.specs.Bodies.{has_body}
@@ -44,6 +45,7 @@ use Rattle.cif_records.proofs.Records.{kind_of}
 use Rattle.cif_records.proofs.Rows.{◌&◌}
 use Rattle.cif_records.proofs.Tiplocs as tiplocs
 use Rattle.cif_feed.specs.FeedLine.{IsClosedAt, IsDeletion, SpellsAssociationBy, SpellsBasicBy, SpellsInFeed, SpellsTiplocBy}
+use Rattle.cif_feed.specs.FeedLayouts.{feed_layouts}
 use Rattle.cif_feed.specs.FeedLine.{cancels_in_feed, code_of, code_value, deleted_association_rows, deleted_basic_rows, deletes}
 use Rattle.cif_feed.specs.FeedLine.{end_value, indicator_of, is_open, letter_of, put_association_rows, put_basic_front, put_basic_rows}
 use Rattle.cif_feed.specs.FeedLine.{record_mark, transaction_at}
@@ -433,3 +435,13 @@ module _ (allowed : HolidayCodes) (line : List ℕ) where
       refused_own feed Bs None (named feed allowed line Bs (basic_named line allowed t b s)) (basic_fine line allowed t b s)
   fine Full r s = refused_own Full (kind_of r) None (records.kind_there line r s) (records.no_refusal_as line r s)
   fine Update r s = refused_own Update (kind_of r) None (records.kind_there line r s) (records.no_refusal_as line r s)
+
+-- so these are layouts
+pub feed_are : (feed : Feed) (allowed : HolidayCodes) → AreLayouts (feed_layouts feed allowed)
+feed_are feed allowed = record {
+  kind = kind_there feed allowed;
+  cancels = cancels_there feed allowed;
+  fine = λ line r s. fine allowed line feed r s;
+  one = one feed allowed;
+  fits = fits feed allowed;
+}

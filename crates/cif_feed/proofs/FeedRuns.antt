@@ -44,7 +44,9 @@ use Rattle.cif_records.specs.Kind.{kind_in}
 use Rattle.cif_records.specs.declared.record.Kind.{Kind}
 use Rattle.cif_records.specs.declared.record.Kind.TheVariants.{Hd, Zz}
 use Rattle.cif_feed.specs.FeedFault.{IsFeedFault, IsOfFeed}
-use Rattle.cif_feed.specs.ProfileLine.{as_it_stands, is_note, notes_may_stand, profile_line, profile_line_by, is_record_line, profile_lines}
+use Rattle.cif_feed.specs.FeedLayouts.{feed_layouts}
+use Rattle.cif_feed.specs.LayoutRefusals.{kind_read_as}
+use Rattle.cif_feed.specs.RecordLines.{is_note, is_record_line, notes_may_stand, record_lines}
 use Rattle.cif_feed.specs.FeedRefusal.{IsFeedContent, IsFeedCut, IsFirstOfFeed, NoneOfFeedRefused, fault_for, feed_refusal, line_refusal}
 use Rattle.cif_feed.specs.FeedRefusal.{not_full, untaken_fault}
 use Rattle.cif_feed.specs.FeedFault.{is_feed_read, reading_feed}
@@ -108,7 +110,7 @@ module _ (feed : Feed) (allowed : HolidayCodes) (max : ℕ) where
   content_fault number c kind refusal.BadByte reason = refl
   content_fault number c kind _ reason = absurd reason
 
-  -- what is profile_line of any fault is profile_line of the one that has this name
+  -- what is said of any fault is said of the one that has this name
   named_fault : (P : FeedFault → Type 0) (number : ℕ) (kind : Option Kind) (why : Refusal)
       → ((w : Refusal) → P (Extract (fault.Refused number w))) → P (NotUpdate number) → P (BadTransaction number)
       → P (fault_for feed number kind why)
@@ -170,36 +172,34 @@ module _ (feed : Feed) (allowed : HolidayCodes) (max : ℕ) where
 
   -- ---- trailers
 
-  plain_trailer : (f : Feed) (c : List ℕ) → profile_line_by f allowed (Some Zz) c ≡ as_it_stands c
-  plain_trailer Full c = refl
-  plain_trailer Update c = refl
+  -- a line is a trailer where it is read as one
+  as_trailer : (f : Feed) → kind_read_as f (Some Zz) ≡ Some Zz
+  as_trailer Full = refl
+  as_trailer Update = refl
 
-  -- a line is a trailer where its profile line is
-  no_trailer_one : (c : List ℕ) → IsNoTrailer (profile_line feed allowed c).line → IsNoTrailer c
-  no_trailer_one c none is =
-      let same : profile_line feed allowed c ≡ as_it_stands c = ap (λ kind. profile_line_by feed allowed kind c) is
-      ∙ plain_trailer feed c in
-      none (rw same is)
-
-  silent_one : (c : List ℕ) → is_record_line c ≡ false → IsNoTrailer c
+  silent_one : (c : List ℕ) → is_record_line c ≡ false → kind_in c ≢ Some Zz
   silent_one c silent is =
       let other = named_line c Zz is in
       let says : is_record_line c ≡ true = rw (other.0, other.1) refl in
       true≢false (sym says ∙ silent)
 
-  pub no_trailers : (cs : List (List ℕ)) → All IsNoTrailer (profile_lines feed allowed cs) → All IsNoTrailer cs
-  no_trailers [] all = All-nil IsNoTrailer
+  pub no_trailers : (cs : List (List ℕ)) → All (IsNoTrailer (feed_layouts feed allowed)) (record_lines cs)
+      → All (λ c. kind_in c ≢ Some Zz) cs
+  no_trailers [] all = All-nil (λ c. kind_in c ≢ Some Zz)
   no_trailers (c ∷ cs) all = at (is_record_line c) refl all (no_trailers cs)
     where
-      at : (b : Bool) → b ≡ is_record_line c
-          → All IsNoTrailer (map (λ (content : List ℕ). (profile_line feed allowed content).line)
-          (cond b (c ∷ filter is_record_line cs) (filter is_record_line cs)))
-          → (All IsNoTrailer (profile_lines feed allowed cs) → All IsNoTrailer cs) → All IsNoTrailer (c ∷ cs)
+      Other : List ℕ → Type 0
+      Other = λ c. kind_in c ≢ Some Zz
+
+      None : List ℕ → Type 0
+      None = IsNoTrailer (feed_layouts feed allowed)
+
+      at : (b : Bool) → b ≡ is_record_line c → All None (cond b (c ∷ filter is_record_line cs) (filter is_record_line cs))
+          → (All None (record_lines cs) → All Other cs) → All Other (c ∷ cs)
       at true e all more =
-          All-cons IsNoTrailer c cs (no_trailer_one c (All-head IsNoTrailer (profile_line feed allowed c).line
-          (profile_lines feed allowed cs) all))
-          (more (All-tail IsNoTrailer (profile_line feed allowed c).line (profile_lines feed allowed cs) all))
-      at false e all more = All-cons IsNoTrailer c cs (silent_one c (sym e)) (more all)
+          All-cons Other c cs (λ is. All-head None c (record_lines cs) all (ap (kind_read_as feed) is ∙ as_trailer feed))
+          (more (All-tail None c (record_lines cs) all))
+      at false e all more = All-cons Other c cs (silent_one c (sym e)) (more all)
 
   -- ---- where a reading stops, and why
 
@@ -338,7 +338,7 @@ module _ (feed : Feed) (allowed : HolidayCodes) (max : ℕ) {R : Type 0} (remain
         → IsReadWhole remaining old new → source_failed old ≡ false → HasReadOn errors old new → (number : ℕ) → number ≡ length cs
         → number ≤ max → (result : Result FeedExtract FeedFault) → IfOk result (IsFeedHeld feed allowed cs)
         → IfErr result (λ f. f ≡ Extract (fault.Refused (number + 1) refusal.Truncated))
-        → IfErr result (λ f. All IsNoTrailer (profile_lines feed allowed cs)) → Comes result
+        → IfErr result (λ f. All (IsNoTrailer (feed_layouts feed allowed)) (record_lines cs)) → Comes result
     comes-end all read fresh read_on number is within (Ok x) held truncated unfinished =
         answers remaining errors old new (reading_feed feed allowed max) x
         (known_so (remaining (reader_of old)) (λ bytes. AreAllContents IsFeedContent max bytes cs)

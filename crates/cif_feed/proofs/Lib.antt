@@ -12,9 +12,10 @@ pub mod HolidayReadings
 pub mod WrittenColumns
 pub mod ChangeSteps
 pub mod Enumerated
+pub mod FeedLines
+pub mod RecordsTaken
 pub mod FeedSteps
 pub mod FeedRuns
-pub mod ProfileKinds
 pub mod SpelledFeeds
 pub mod LinesMade
 pub mod MarkedRecords
@@ -39,14 +40,11 @@ pub mod OwnLines
 pub mod OwnParts
 pub mod PublishedLines
 pub mod PublishedTexts
-pub mod StillLines
 pub mod FittingUpdates
 pub mod UpdatesInTurn
 pub mod PreparedFits
 pub mod PreparedDays
 pub mod ClashingKeys
 pub mod Cells
-pub mod FeedLayouts
-pub mod FeedLines
 pub mod ReadLines
 pub mod WrittenPrepared

@@ -1,4 +1,4 @@
--- Lines of a kind with the records that their profile lines spell and their marks, and columns that stay the same in these.
+-- Lines of a kind with the records that they spell and their marks.
 use Rattle.std.proofs.Common.{◌≡◌, ℕ, Bool, true, false, cond, not, ◌&&◌, List, [], ◌∷◌, ◌++◌, All, length, filter, map, Option, Some, None}
 use Rattle.std.proofs.Common.{◌==◌, refl, sym, ap, ◌∙◌, subst, codes, slice_index, unwrap_or, lit≤}
 use Rattle.std.proofs.lemmas.Bool.{eqb-true}
@@ -10,7 +10,7 @@ use Rattle.cif_columns.specs.Line.{IsLine}
 use Rattle.cif_columns.specs.Stp.{letter, stp_in}
 use Rattle.cif_columns.specs.declared.stp.Stp.{Stp}
 use Rattle.cif_columns.specs.declared.stp.Stp.TheVariants.{P, N, O, C}
-use Rattle.cif_extract.specs.SpellsExtract.{SpellAll}
+use Rattle.cif_extract.specs.SpellsExtract.{SpellAllBy}
 use Rattle.cif_records.specs.Checks.{are}
 use Rattle.cif_records.specs.Kind.{kind_in}
 use Rattle.cif_records.specs.Record.{SpellsRecord}
@@ -18,7 +18,9 @@ use Rattle.cif_records.specs.declared.record.Kind.{Kind}
 use Rattle.cif_records.specs.declared.record.Record.{Record}
 use Rattle.cif_feed.specs.FromLines.{ArePairs, AreTriples}
 use Rattle.cif_feed.specs.HolidayCode.{all_codes}
-use Rattle.cif_feed.specs.ProfileLine.{is_note, is_record_line, letter_of, marks, profile_line, with_columns}
+use Rattle.cif_feed.specs.FeedLayouts.{feed_layouts}
+use Rattle.cif_feed.specs.FeedLine.{SpellsInFeed, letter_of, mark_in}
+use Rattle.cif_feed.specs.RecordLines.{is_note, is_record_line, marks}
 use Rattle.cif_feed.specs.SpellsFeed.{FeedParts, SpellFeed}
 use Rattle.cif_feed.specs.Transaction.{transaction_in}
 use Rattle.cif_feed.specs.UpdateLines.{lines_of}
@@ -30,7 +32,7 @@ use Rattle.cif_feed.proofs.Cells.{decided}
 use Rattle.cif_feed.proofs.ChangeLaws.{filter-alike, filter-filter}
 use Rattle.cif_feed.proofs.Enumerated.{enumerate_filter}
 use Rattle.cif_feed.proofs.FeedSteps.{named_line}
-use Rattle.cif_feed.proofs.MarkedRecords.{of_one, record_lines}
+use Rattle.cif_feed.proofs.MarkedRecords.{lines_are, of_one}
 use Rattle.cif_feed.proofs.PublishedLines.{line_still}
 use Rattle.cif_columns.proofs.PrintableBytes.{printable_fact}
 use Rattle.cif_columns.proofs.FieldLaws.{stp_in-letter}
@@ -62,10 +64,10 @@ module _ {A B : Type 0} (Q : ℕ × List ℕ → A → B → Type 0) where
 
 module _ {A B : Type 0} (is : Option Kind → Bool) (f : Record → List A) (of_mark : ℕ → LineMark → List B)
     (Q : ℕ × List ℕ → A → B → Type 0)
-    (step : (n : ℕ) (c : List ℕ) → IsLine c → (r : Record) → SpellsRecord (profile_line Update all_codes c).line r
-    → AreTriples Q (cond (is (kind_in c)) ((n, c) ∷ []) []) (f r) (of_mark n (profile_line Update all_codes c).mark)) where
+    (step : (n : ℕ) (c : List ℕ) → IsLine c → (r : Record) → SpellsInFeed Update all_codes c r
+    → AreTriples Q (cond (is (kind_in c)) ((n, c) ∷ []) []) (f r) (of_mark n (mark_in Update all_codes c))) where
   all_lines : (ns : List (ℕ × List ℕ)) → All IsLine (map (λ (n : ℕ × List ℕ). n.1) ns) → (rs : List Record)
-      → SpellAll (map (λ (content : List ℕ). (profile_line Update all_codes content).line) (map (λ (n : ℕ × List ℕ). n.1) ns)) rs
+      → SpellAllBy (feed_layouts Update all_codes) (map (λ (n : ℕ × List ℕ). n.1) ns) rs
       → AreTriples Q (filter (λ (line : ℕ × List ℕ). is (kind_in line.1)) ns) (flat_map f rs)
       (flat_map (of_one Update all_codes of_mark) ns)
   all_lines [] are [] spell = tt
@@ -111,9 +113,8 @@ module _ {A B : Type 0} (is : Option Kind → Bool) (f : Record → List A) (of_
         subst (λ ls. AreTriples Q ls (flat_map f s.extract.records) (marks of_mark Update all_codes cs))
         (filter-filter (λ (line : ℕ × List ℕ). is (kind_in line.1)) (λ (n : ℕ × List ℕ). is_record_line n.1) (enumerate_from 1 cs)
         ∙ filter-alike _ (λ (line : ℕ × List ℕ). is (kind_in line.1)) kinds_speak (enumerate_from 1 cs))
-        (all_lines ns (subst (All IsLine) (sym same) (record_lines cs s.are_contents)) s.extract.records
-        (subst (λ l. SpellAll (map (λ (content : List ℕ). (profile_line Update all_codes content).line) l) s.extract.records) (sym same)
-        s.extract.spelled))
+        (all_lines ns (subst (All IsLine) (sym same) (lines_are cs s.are_contents)) s.extract.records
+        (subst (λ l. SpellAllBy (feed_layouts Update all_codes) l s.extract.records) (sym same) s.extract.spelled))
 
 -- ---- columns that stay
 

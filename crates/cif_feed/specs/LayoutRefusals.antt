@@ -4,11 +4,8 @@ use Rattle.std.specs.Prelude.{ℕ, ◌||◌, List, [], ◌∷◌, Option, None, 
 use Rattle.cif_columns.specs.Field.{columns}
 use Rattle.cif_columns.specs.declared.refusal.Refusal.{Refusal}
 use Rattle.cif_columns.specs.declared.refusal.Refusal.TheVariants.{BankHoliday, NotFull}
-use Rattle.cif_extract.specs.FirstRefusal.{order_refusal}
-use Rattle.cif_extract.specs.declared.place.Place.{Place}
 use Rattle.cif_records.specs.Checks.{are, date_refusal, dates_refusal, days_refusal, first_of, letter_refusal, unless}
 use Rattle.cif_records.specs.Header.{header_refusal_by}
-use Rattle.cif_records.specs.Kind.{kind_in}
 use Rattle.cif_records.specs.Record.{refusal_as}
 use Rattle.cif_records.specs.declared.record.Kind.{Kind}
 use Rattle.cif_records.specs.declared.record.Kind.TheVariants.{Hd, Ti, Ta, Td, Aa, Bs}
@@ -68,10 +65,3 @@ abbrev pub kind_read_as : Feed → Option Kind → Option Kind
 kind_read_as Update (Some Ta) = Some Ti
 kind_read_as Update (Some Td) = Some Ti
 kind_read_as feed kind = kind
-
--- The first reason to refuse a line that comes at this place: its kind may not stand there, or it is refused as a record.
-abbrev pub refusal_at : Feed → HolidayCodes → Place → List ℕ → Option Refusal
-refusal_at feed allowed place line = first_of (
-    order_refusal place (kind_read_as feed (kind_in line))
-    ∷ feed_refusal_as feed allowed (kind_in line) line
-    ∷ [])

@@ -49,13 +49,7 @@ ghost use Rattle.cif_feed.specs.Updated.{IsUpdateFault, IsUpdated, MayBeDone};
 ghost use Rattle.cif_feed.specs.Updated.{published_association_key, published_schedule_key};
 ghost use Rattle.cif_feed.specs.UpdatesInTurn.{IsRefused, IsWritten};
 ghost use Rattle.cif_columns.specs.Line.{IsLine};
-ghost use Rattle.cif_extract.specs.OrderOfRecords.{place_behind};
-ghost use Rattle.cif_records.specs.Kind.{kind_in};
-ghost use Rattle.cif_records.specs.Record.{record_refusal};
-ghost use Rattle.cif_feed.specs.FeedRefusal.{line_refusal};
-ghost use Rattle.cif_feed.specs.LayoutRefusals.{feed_refusal_as, refusal_at};
-ghost use Rattle.cif_feed.specs.ProfileLine.{is_basic, is_note, profile_line, profile_lines};
-ghost use Rattle.cif_feed.specs.declared.feed.Feed.{Feed};
+ghost use Rattle.cif_feed.specs.RecordLines.{is_basic};
 ghost use Rattle.cif_feed.specs.WrittenExtracts.{CodesMayStand};
 ghost use Rattle.cif_feed.specs.declared.changes.RefusedLine.{RefusedLine};
 ghost use Rattle.cif_feed.specs.declared.feed.FeedFault.{FeedFault};
@@ -251,15 +245,4 @@ pub fn prepared_texts_spell_extracts()
         → FitsColumns (of_profile p) → IsPrepared h drops p x → FitsColumns x }
     ensures spells { (h : Holidays) (drops : Bool) (p : PublishedParts) (x : ExtractParts)
         → FitsColumns (of_profile p) → IsPrepared h drops p x → BytesSpell (extract_text x) x }
-{}
-
-/// A line of a feed is refused for the first of its fields that may not stand in its columns, as the layouts
-/// have them: that its profile line is judged in its place changes nothing.
-pub fn lines_are_refused_by_their_layouts()
-    ensures record { (feed : Feed) (allowed : HolidayCodes) (line : List ℕ) → IsLine line
-        → record_refusal (profile_line feed allowed line).line ≡ feed_refusal_as feed allowed (kind_in line) line }
-    // Before that it is refused where its kind may not stand. A note is refused for its place alone.
-    ensures place { (feed : Feed) (allowed : HolidayCodes) (before : List (List ℕ)) (line : List ℕ) → IsLine line
-        → is_note line ≡ false → line_refusal feed allowed before line
-        ≡ refusal_at feed allowed (place_behind (profile_lines feed allowed before)) line }
 {}
