@@ -39,12 +39,7 @@ pub(crate) fn take_record(
 }
 
 /// Takes a line that is as in an extract of this profile.
-fn take_own(
-    alloc: Global,
-    reading: &mut Reading,
-    feed: Feed,
-    line: &Line,
-) -> Result<(), TakeFault>
+fn take_own(alloc: Global, reading: &mut Reading, feed: Feed, line: &Line) -> Result<(), TakeFault>
     requires own { IsOwn (kind_in line.now) feed }
     requires read { (records : List Record) × HasRead records (progress_of reading.old) }
     ensures { (allowed : HolidayCodes)
@@ -72,12 +67,7 @@ fn take_header(reading: &mut Reading, feed: Feed, line: &Line) -> Result<(), Tak
 }
 
 /// Takes a line that is read as a location, where one may stand.
-fn take_tiploc(
-    reading: &mut Reading,
-    feed: Feed,
-    kind: Kind,
-    line: &Line,
-) -> Result<(), TakeFault>
+fn take_tiploc(reading: &mut Reading, feed: Feed, kind: Kind, line: &Line) -> Result<(), TakeFault>
     requires kind { kind_in line.now ≡ Some kind }
     requires tiploc { IsOfTiploc kind feed }
     ensures { (allowed : HolidayCodes)
