@@ -49,7 +49,6 @@ use Rattle.cif_feed.specs.FeedLayouts.{feed_layouts}
 use Rattle.cif_feed.specs.FeedLine.{cancels_in_feed, code_of, code_value, deleted_association_rows, deleted_basic_rows, deletes}
 use Rattle.cif_feed.specs.FeedLine.{end_value, indicator_of, is_open, letter_of, put_association_rows, put_basic_front, put_basic_rows}
 use Rattle.cif_feed.specs.FeedLine.{record_mark, transaction_at}
-use Rattle.cif_feed.specs.LastDay.{last_day}
 use Rattle.cif_feed.specs.LayoutRefusals.{association_refusal_by, basic_refusal_by, feed_refusal_as, kind_read_as, open_dates_refusal}
 use Rattle.cif_feed.specs.Transaction.{transaction_letter}
 use Rattle.cif_feed.specs.declared.feed.Feed.{Feed}

@@ -1,5 +1,5 @@
 -- What the step of a line of a feed comes to that says a record.
-use Rattle.std.proofs.Common.{◌≡◌, ℕ, true, false, List, [], ◌∷◌, Option, Some, None, Result, ap, refl, sym, subst, ◌∙◌}
+use Rattle.std.proofs.Common.{◌≡◌, ℕ, true, false, List, [], ◌∷◌, Option, Some, Result, ap, refl, sym, subst, ◌∙◌}
 use Rattle.cif_columns.specs.declared.refusal.Refusal.TheVariants.{OutOfOrder}
 use Rattle.cif_extract.specs.FirstRefusal.{order_refusal}
 use Rattle.cif_extract.specs.OrderOfRecords.{may_stand}
@@ -11,7 +11,7 @@ use Rattle.cif_extract.proofs.SpelledLines.{fine_here}
 use Rattle.cif_extract.proofs.TakenLines.{fine_so, refused_so}
 use Rattle.cif_records.specs.Checks.{first_of, unless}
 use Rattle.cif_records.specs.Kind.{kind_in}
-use Rattle.cif_records.specs.Record.{SpellsRecord, refusal_as}
+use Rattle.cif_records.specs.Record.{SpellsRecord}
 use Rattle.cif_records.specs.declared.record.Kind.{Kind}
 use Rattle.cif_records.specs.declared.record.Kind.TheVariants.{Hd, Ti, Ta, Td, Aa, Bs}
 use Rattle.cif_records.specs.declared.record.Record.{Record}

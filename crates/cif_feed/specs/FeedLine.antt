@@ -2,11 +2,14 @@
 -- profile, but for what feeds have otherwise: transactions, open ends, holiday codes, and TA and TD.
 use Rattle.std.specs.Prelude.{◌≡◌, ℕ, ◌||◌, Bool, true, false, List, [], ◌∷◌, ◌++◌, Option, Some, None, IsTrue, codes, replicate}
 use Rattle.std.specs.Prelude.{slice_index, unwrap_or, if◌then◌else◌}
+use Rattle.std.specs.Option.{option_map}
 use Rattle.cif_columns.specs.Field.{AllStandIn, FieldValue, Row, columns, columns_from, date, exactly, spare, weekdays}
 use Rattle.cif_columns.specs.Stp.{stp_in}
 use Rattle.cif_columns.specs.declared.stp.Stp.{Stp}
 use Rattle.cif_columns.specs.declared.stp.Stp.TheVariants.{C}
+use Rattle.cif_extract.specs.BodyParts.{BodyParts}
 use Rattle.cif_extract.specs.Layouts.{cancels}
+use Rattle.cif_extract.specs.declared.extract.Schedule.{Schedule}
 use Rattle.cif_records.specs.Association.{association_rows_by}
 use Rattle.cif_records.specs.Basic.{basic_back, basic_front_by, terms_of}
 use Rattle.cif_records.specs.Checks.{are}
@@ -37,6 +40,8 @@ use Rattle.cif_feed.specs.declared.mark.LineMark.TheVariants as mark
 use Rattle.cif_feed.specs.declared.mark.RecordMark.{RecordMark}
 use Rattle.cif_feed.specs.declared.mark.Transaction.{Transaction}
 use Rattle.cif_feed.specs.declared.mark.Transaction.TheVariants.{New, Revised, Deleted}
+use Rattle.cif_feed.specs.declared.published.PublishedAssociation.{PublishedAssociation}
+use Rattle.cif_feed.specs.declared.published.PublishedSchedule.{PublishedSchedule}
 
 -- ---- what columns say
 
@@ -108,6 +113,17 @@ put_basic_rows transaction open_end code t detail =
 -- of the deletion of one with this UID, first date and letter
 abbrev pub deleted_basic_rows : List ℕ → ℕ → Stp → List Row
 deleted_basic_rows uid first letter = basic_front_by (codes "D") uid first spare spare spare ++ (detail_rows None ++ basic_back letter)
+
+-- of a published association, and of a published schedule
+abbrev pub published_association_rows : Transaction → PublishedAssociation → List Row
+published_association_rows transaction p = put_association_rows transaction p.open_end p.association
+
+abbrev pub basic_terms : Schedule → BasicTerms
+basic_terms s = record { uid = s.uid; first = s.first; last = s.last; days = s.days; letter = s.letter; in_order = s.in_order }
+
+abbrev pub published_basic_rows : Transaction → PublishedSchedule → List Row
+published_basic_rows transaction p = put_basic_rows transaction p.open_end p.code (basic_terms p.schedule)
+    (option_map (λ (b : BodyParts). b.detail) p.schedule.body)
 
 -- ---- the record
 

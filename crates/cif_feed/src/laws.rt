@@ -148,15 +148,14 @@ pub fn updates_say_what_their_lines_say()
         → ArePairs SaysSchedule (lines_of is_basic (contents_of bytes)) u.schedules }
     // Two deletions of associations that agree in columns 3 to 21, 38 to 46 and 80 are the same,
     ensures same_association { (one other : ℕ × List ℕ) (c d : Change AssociationKey PublishedAssociation)
-        → IsLine one.1 → IsLine other.1 → SaysAssociation one c → SaysAssociation other d
-        → transaction_of c.action ≡ transaction.Deleted → columns 3 21 one.1 ≡ columns 3 21 other.1
-        → columns 38 46 one.1 ≡ columns 38 46 other.1 → columns 80 80 one.1 ≡ columns 80 80 other.1
-        → c.action ≡ d.action }
+        → SaysAssociation one c → SaysAssociation other d → transaction_of c.action ≡ transaction.Deleted
+        → columns 3 21 one.1 ≡ columns 3 21 other.1 → columns 38 46 one.1 ≡ columns 38 46 other.1
+        → columns 80 80 one.1 ≡ columns 80 80 other.1 → c.action ≡ d.action }
     // and two of schedules that agree in columns 3 to 15 and 80.
     ensures same_schedule { (one other : ℕ × List ℕ) (c d : Change ScheduleKey PublishedSchedule)
-        → IsLine one.1 → IsLine other.1 → SaysSchedule one c → SaysSchedule other d
-        → transaction_of c.action ≡ transaction.Deleted → columns 3 15 one.1 ≡ columns 3 15 other.1
-        → columns 80 80 one.1 ≡ columns 80 80 other.1 → c.action ≡ d.action }
+        → SaysSchedule one c → SaysSchedule other d → transaction_of c.action ≡ transaction.Deleted
+        → columns 3 15 one.1 ≡ columns 3 15 other.1 → columns 80 80 one.1 ≡ columns 80 80 other.1
+        → c.action ≡ d.action }
 {}
 
 /// What an update leaves of each key: what the last of its lines with this key puts, or what was there. A line
