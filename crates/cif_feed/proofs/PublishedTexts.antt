@@ -180,11 +180,14 @@ module _ (allowed : HolidayCodes) where
         schedules = λ n.
             subst (λ (k : Option Kind). AreTriples IsPublishedSchedule (s.schedule ∷ [])
             (schedule_mark n (mark_by Full allowed k c) ++ []) (s ∷ []))
-            (sym named) (record {
-              of_profile = refl;
-              open_end = ap (λ (m : RecordMark). m.open_end) (sym w.mark);
-              code = ap (λ (m : RecordMark). m.code) (sym w.mark);
-            }, tt);
+            (sym named) (
+              record {
+                of_profile = refl;
+                open_end = ap (λ (m : RecordMark). m.open_end) (sym w.mark);
+                code = ap (λ (m : RecordMark). m.code) (sym w.mark);
+              },
+              tt,
+            );
       }
 
   -- ---- the records of a kind
