@@ -232,7 +232,7 @@ one_schedules records (x ∷ xs) (y ∷ ys) p q =
     ∙ ap (λ ss. y ∷ ss) (one_schedules more xs ys (subst (λ rs. AreSchedules rs xs) two.1 rest) last)
 
 -- the records of an extract, its parts one behind another
-laid_out : (x : ExtractParts) (groups : List Record) → records_before_trailer x groups ++ (of.Trailer ∷ [])
+pub laid_out : (x : ExtractParts) (groups : List Record) → records_before_trailer x groups ++ (of.Trailer ∷ [])
     ≡ of.Header x.header ∷ (map of.Tiploc x.tiplocs ++ (map of.Association x.associations ++ (groups ++ (of.Trailer ∷ []))))
 laid_out x groups =
     ap (λ rs. of.Header x.header ∷ rs)

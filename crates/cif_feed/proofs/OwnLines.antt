@@ -1,25 +1,22 @@
 -- A line of this profile spells its record in a published extract too, and its mark says nothing: so an extract of this profile is a
 -- published one.
-use Rattle.std.proofs.Common.{◌≡◌, ℕ, ◌+◌, false, List, [], ◌∷◌, ◌++◌, map, drop, get_or, Option, Some, None, refl, sym, ap, subst}
-use Rattle.std.proofs.Common.{◌∙◌, codes, arith, get_or-take, get_or-drop, slice_index}
+use Rattle.std.proofs.Common.{◌≡◌, ℕ, ◌+◌, false, List, [], ◌∷◌, ◌++◌, map, Option, Some, None, refl, sym, subst}
 use Rattle.std.proofs.lemmas.List.Elements.{All-head, All-tail}
 use Rattle.std.specs.Prelude.{All}
 use Rattle.cif_columns.specs.Contents.{contents_of}
-use Rattle.cif_columns.specs.Field.{columns}
 use Rattle.cif_columns.specs.Line.{IsLine}
 use Rattle.cif_extract.specs.ExtractParts.{ExtractParts}
 use Rattle.cif_extract.specs.SpellsExtract.{BytesSpellWithin, SpellAll, SpellExtract}
 use Rattle.cif_extract.specs.declared.extract.Schedule.{Schedule}
+use Rattle.cif_records.specs.Kind.{kind_in}
 use Rattle.cif_records.specs.Record.{SpellsRecord}
 use Rattle.cif_records.specs.declared.association.Association.{Association}
 use Rattle.cif_records.specs.declared.record.Kind.{Kind}
 use Rattle.cif_records.specs.declared.record.Record.{Record}
 use Rattle.cif_records.specs.declared.record.Record.TheVariants as of
-use Rattle.cif_records.proofs.Judging.{no_open_end}
 use Rattle.cif_records.proofs.Records.{kind_of, kind_there}
-use Rattle.cif_feed.specs.FeedLine.{SpellsInFeed, code_of, if_allowed, is_open, mark_by, mark_in}
+use Rattle.cif_feed.specs.FeedLine.{SpellsInFeed, mark_by, mark_in}
 use Rattle.cif_feed.specs.FromLines.{ArePairs, AreTriples}
-use Rattle.cif_feed.specs.HolidayCode.{code_in}
 use Rattle.cif_feed.specs.OfProfile.{as_published, association_as_published, schedule_as_published}
 use Rattle.cif_feed.specs.PublishedParts.{BytesSpellPublished, IsPublishedAssociation, IsPublishedSchedule, SayPublished}
 use Rattle.cif_feed.specs.RecordLines.{association_mark, marks, schedule_mark}
@@ -32,6 +29,7 @@ use Rattle.cif_feed.specs.declared.mark.Numbered.{Numbered}
 use Rattle.cif_feed.specs.declared.mark.RecordMark.{RecordMark}
 use Rattle.cif_feed.proofs.KnownLines.{AreReadAs, all_marks, marks_from, parts_read, spell_read}
 use Rattle.cif_feed.proofs.MarkedRecords.{marks_spelled}
+use Rattle.cif_feed.proofs.PublishedLines.{association_spelled, basic_spelled}
 
 -- the mark says nothing of an end and of a code
 record IsBare (m : RecordMark) : Type 0 where
@@ -49,30 +47,25 @@ module _ (allowed : HolidayCodes) where
     spells : SpellsInFeed Full allowed c r
     says : SaysNothing (mark_by Full allowed kind c)
 
-  -- column 29 is a space
-  no_code : (c : List ℕ) → columns 29 29 c ≡ codes " " → code_of allowed c ≡ None
-  no_code c space =
-      let there : slice_index c 28 ≡ 32 =
-      sym (get_or-drop 28 c 0 0) ∙ sym (get_or-take 1 (drop 28 c) 0 0 (omega arith)) ∙ ap (λ (l : List ℕ). get_or l 0 0) space in
-      ap (λ (n : ℕ). if_allowed allowed (code_in n)) there
-
   own : (c : List ℕ) (r : Record) → SpellsRecord c r → IsOwn c r (Some (kind_of r))
   own c (of.Association a) s =
-      let ends : is_open 22 c ≡ false = no_open_end (columns 22 27 c) a.last s.1.1.1.1.1.0 in
-      record { spells = ?; says = ? }
+      let (spells, told) = association_spelled allowed c a false s (λ e. cc) in
+      record { spells = spells; says = subst IsBare (sym told) (record { open_end = refl; code = refl }) }
   own c (of.Basic b) s =
-      let ends : is_open 16 c ≡ false = no_open_end (columns 16 21 c) b.last s.1.1.1.1.0 in
-      let none = no_code c s.1.1.1.1.1.1.0 in
-      record { spells = ?; says = ? }
+      let (spells, told) = basic_spelled allowed c b false None s (λ e. cc) (λ k e. cc) in
+      record { spells = spells; says = subst IsBare (sym told) (record { open_end = refl; code = refl }) }
   own c r s = record { spells = s; says = tt }
 
   own_line : (c : List ℕ) (r : Record) → SpellsRecord c r → IsOwn c r (kind_in c)
   own_line c r s = subst (IsOwn c r) (sym (kind_there c r s)) (own c r s)
 
+  pub own_spells : (c : List ℕ) (r : Record) → SpellsRecord c r → SpellsInFeed Full allowed c r
+  own_spells c r s = (own_line c r s).spells
+
   own_lines : (cs : List (List ℕ)) (rs : List Record) → All IsLine cs → SpellAll cs rs → AreReadAs allowed cs rs
   own_lines [] [] are spell = tt
   own_lines (c ∷ cs) (r ∷ rs) are spell = (
-    record { is_line = All-head IsLine c cs are; spells = (own_line c r spell.0).spells },
+    record { is_line = All-head IsLine c cs are; spells = own_spells c r spell.0 },
     own_lines cs rs (All-tail IsLine c cs are) spell.1,
   )
   own_lines _ _ are spell = absurd spell
