@@ -1,7 +1,7 @@
 -- What layouts owe: what holds of the records that a line spells by them.
 use Rattle.std.proofs.Common.{◌≡◌, ℕ, not, List, [], ◌∷◌, ◌++◌, Some, None, codes, refl, ap, ◌∙◌}
 use Rattle.std.specs.Str.{bytes_eq}
-use Rattle.cif_columns.specs.Field.{AllFit}
+use Rattle.cif_columns.specs.Field.{AllFit, columns}
 use Rattle.cif_columns.specs.Line.{IsLine}
 use Rattle.cif_columns.specs.Stp.{letter}
 use Rattle.cif_columns.specs.declared.stp.Stp.{Stp}
@@ -28,16 +28,18 @@ pub record AreLayouts (l : Layouts) : Type 0 where
   -- what it says fits the columns of lines
   pub fits : (line : List ℕ) → IsLine line → (r : Record) → l.spells line r → AllFit (record_table r)
 
--- column 80 of a BS is the letter C exactly where it has no body
-own_cancels : (line : List ℕ) (b : Basic) → SpellsRecord line (of.Basic b) → cancels line ≡ not (has_body b.letter)
-own_cancels line b s =
-    let back = stands-back line (detail_rows b.detail) (basic_back b.letter)
-    (stands-back line (basic_front b.uid b.first b.last b.days) (detail_rows b.detail ++ basic_back b.letter) s) in
-    ap (λ (columns : List ℕ). bytes_eq columns (codes "C")) back.1.0 ∙ by_letter b.letter
+-- column 80 is the letter C exactly where there is no body
+pub letter_cancels : (line : List ℕ) (stp : Stp) → columns 80 80 line ≡ letter stp ∷ [] → cancels line ≡ not (has_body stp)
+letter_cancels line stp s = ap (λ (cs : List ℕ). bytes_eq cs (codes "C")) s ∙ by_letter stp
   where
-    by_letter : (l : Stp) → bytes_eq (letter l ∷ []) (codes "C") ≡ not (has_body l)
+    by_letter : (stp : Stp) → bytes_eq (letter stp ∷ []) (codes "C") ≡ not (has_body stp)
     by_letter C = refl
     by_letter _ = refl
+
+own_cancels : (line : List ℕ) (b : Basic) → SpellsRecord line (of.Basic b) → cancels line ≡ not (has_body b.letter)
+own_cancels line b s =
+    letter_cancels line b.letter (stands-back line (detail_rows b.detail) (basic_back b.letter)
+    (stands-back line (basic_front b.uid b.first b.last b.days) (detail_rows b.detail ++ basic_back b.letter) s)).1.0
 
 pub own_are : AreLayouts own_layouts
 own_are = record {

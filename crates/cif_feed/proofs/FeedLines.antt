@@ -16,7 +16,7 @@ use Rattle.cif_columns.proofs.Masks.{days_of-stands}
 use Rattle.cif_columns.proofs.PrintableBytes.{printable_fact}
 use Rattle.cif_columns.proofs.StoodValues as stood
 use Rattle.cif_extract.specs.Layouts.{cancels}
-use Rattle.cif_extract.proofs.LayoutLaws.{AreLayouts}
+use Rattle.cif_extract.proofs.LayoutLaws.{AreLayouts, letter_cancels}
 use Rattle.cif_records.specs.Association.{association_rows, association_rows_by, association_table}
 use Rattle.cif_records.specs.Basic.{basic_back, basic_front_by, basic_rows, basic_table, terms_of}
 use Rattle.cif_records.specs.Bodies.{has_body}
@@ -87,10 +87,6 @@ one_end : (open_end : Bool) (cs : List ℕ) (a b : ℕ) → StandsIn cs (end_val
 one_end true cs a b s p t q = p refl ∙ sym (q refl)
 one_end false cs a b s p t q = one_date_value cs a b s t
 
-letter_cancels : (stp : Stp) → are (letter stp ∷ []) (codes "C") ≡ not (has_body stp)
-letter_cancels C = refl
-letter_cancels _ = refl
-
 -- ---- rows
 
 -- what a feed's columns say fits those of this profile
@@ -108,34 +104,53 @@ fits_basic t uid f n l d h days stp b fit day seven =
     & (refl, printable_fact (codes " ") refl) & fit.1.1.1.1.1.1.1
 
 -- their widths
-association_widths : (t : Transaction) (open_end : Bool) (a : Association) (b : Option AssocBody) → a.body ≡ b
-    → stood.have_widths (put_association_rows t open_end a) ≡ true
-association_widths t true a None e = rw e refl
-association_widths t true a (Some b) e = rw e refl
-association_widths t false a None e = rw e refl
-association_widths t false a (Some b) e = rw e refl
+end_width : (open_end : Bool) (last : ℕ) → stood.has_width 6 (end_value open_end last) ≡ true
+end_width true last = refl
+end_width false last = refl
+
+code_width : (code : Option HolidayCode) → stood.has_width 1 (code_value code) ≡ true
+code_width None = refl
+code_width (Some code) = refl
+
+association_widths : (t : List ℕ) (k : AssocKey) (f n : ℕ) (days : List Bool) (stp : Stp) (open_end : Bool) (b : Option AssocBody)
+    → stood.have_widths (association_rows_by t k f (end_value open_end n) (weekdays days) stp b) ≡ true
+association_widths t k f n days stp open_end None = rw (end_width open_end n) refl
+association_widths t k f n days stp open_end (Some b) = rw (end_width open_end n) refl
 
 basic_widths : (t : Transaction) (open_end : Bool) (code : Option HolidayCode) (terms : BasicTerms) (d : Option Detail)
     → stood.have_widths (put_basic_rows t open_end code terms d) ≡ true
-basic_widths t true None terms None = refl
-basic_widths t true None terms (Some d) = refl
-basic_widths t true (Some code) terms None = refl
-basic_widths t true (Some code) terms (Some d) = refl
-basic_widths t false None terms None = refl
-basic_widths t false None terms (Some d) = refl
-basic_widths t false (Some code) terms None = refl
-basic_widths t false (Some code) terms (Some d) = refl
+basic_widths t open_end code terms None = rw (end_width open_end terms.last, code_width code) refl
+basic_widths t open_end code terms (Some d) = rw (end_width open_end terms.last, code_width code) refl
 
 -- ---- by the transaction
+
+-- what a line of these letters owes, by the records that it spells
+record Owes {R : Type 0} (line letters : List ℕ) (refusal : Option Refusal) (ends : Bool) (last : R → ℕ) (table : R → List Row)
+    (Spells : R → Type 0) : Type 0 where
+  named : (r : R) → Spells r → columns 1 2 line ≡ letters
+  fine : (r : R) → Spells r → refusal ≡ None
+  one : (r q : R) → Spells r → Spells q → r ≡ q
+  fits : IsLine line → (r : R) → Spells r → AllFit (table r)
+  closed : (r : R) → Spells r → IsClosedAt ends (last r)
+
+owes_nothing : {R : Type 0} (line letters : List ℕ) (refusal : Option Refusal) (ends : Bool) (last : R → ℕ) (table : R → List Row)
+    → Owes line letters refusal ends last table (λ r. ⊥)
+owes_nothing line letters refusal ends last table = record {
+  named = λ r p. absurd p;
+  fine = λ r p. absurd p;
+  one = λ r q p s. absurd p;
+  fits = λ is_line r p. absurd p;
+  closed = λ r p. absurd p;
+}
 
 module _ (line : List ℕ) where
   letter_fine : (stp : Stp) → columns 80 80 line ≡ letter stp ∷ [] → letter_refusal line ≡ None
   letter_fine stp s = rw (s, stp_in-letter stp)
 
-  letter_cancelled : (stp : Stp) → columns 80 80 line ≡ letter stp ∷ [] → cancels line ≡ not (has_body stp)
-  letter_cancelled stp s = ap (λ cs. are cs (codes "C")) s ∙ letter_cancels stp
+  abbrev OwesAssociation : Option Refusal → Bool → (Association → Type 0) → Type 0
+  OwesAssociation refusal ends = Owes line (codes "AA") refusal ends (λ (a : Association). a.last) association_table
 
-  -- of an AA that is put
+  -- an AA that puts
   module _ (t : Transaction) where
     abbrev IsPut : Association → Type 0
     IsPut a = AllStandIn line (put_association_rows t (is_open 22 line) a) × IsClosedAt (is_open 22 line) a.last
@@ -163,32 +178,22 @@ module _ (line : List ℕ) where
     put_fits is_line a p =
         let s = put_parts a p in
         let fit = stood.fit line is_line (put_association_rows t (is_open 22 line) a) refl
-        (association_widths t (is_open 22 line) a a.body refl) p.0 in
+        (association_widths (transaction_letter t ∷ []) a.key a.first a.last a.days a.letter (is_open 22 line) a.body) p.0 in
         fits_association (transaction_letter t ∷ []) a.key a.first a.last (end_value (is_open 22 line) a.last) (weekdays a.days) a.days
         a.letter a.body fit (end_day (is_open 22 line) (columns 22 27 line) a.last s.last p.1) s.days.week
 
-  -- of one that is deleted
-  module _ (a : Association) where
-    abbrev IsCut : Type 0
-    IsCut = AllStandIn line (deleted_association_rows a.key a.first (letter_of line)) × IsDeletion a.last a.days a.letter
+    put_owes : OwesAssociation (association_refusal_by (Some New) line) (is_open 22 line) IsPut
+    put_owes = record { named = λ a p. p.0.0; fine = put_fine; one = put_one; fits = put_fits; closed = λ a p. p.1 }
 
-    cut_bare : IsCut → a.body ≡ None
-    cut_bare p = none_there a.body (a.bodied ∙ ap has_body p.1.letter)
+  -- one that deletes
+  abbrev IsCut : Association → Type 0
+  IsCut a = AllStandIn line (deleted_association_rows a.key a.first (letter_of line)) × IsDeletion a.last a.days a.letter
 
-    abbrev cut_parts : IsCut → associations.Parts line (codes "D") a.key a.first spare spare (letter_of line) None
-    cut_parts p = associations.parts_by line (codes "D") a.key a.first spare spare (letter_of line) None p.0
+  cut_bare : (a : Association) → IsCut a → a.body ≡ None
+  cut_bare a p = none_there a.body (a.bodied ∙ ap has_body p.1.letter)
 
-    cut_fine : IsCut → association_refusal_by (Some Deleted) line ≡ None
-    cut_fine p =
-        let s = cut_parts p in
-        rw (yymmdd_in-stands (columns 16 21 line) a.first s.first, letter_fine (letter_of line) s.letter)
-
-    cut_fits : IsLine line → IsCut → AllFit (association_table a)
-    cut_fits is_line p =
-        let fit = stood.fit line is_line (deleted_association_rows a.key a.first (letter_of line)) refl refl p.0 in
-        subst (λ b. AllFit (association_rows a.key a.first a.last a.days a.letter b)) (sym (cut_bare p))
-        (fits_association (codes "D") a.key a.first a.last spare spare a.days a.letter None fit (subst IsDay (sym p.1.last) (lit< tt))
-        (ap length p.1.days))
+  abbrev cut_parts : (a : Association) → IsCut a → associations.Parts line (codes "D") a.key a.first spare spare (letter_of line) None
+  cut_parts a p = associations.parts_by line (codes "D") a.key a.first spare spare (letter_of line) None p.0
 
   cut_one : (a b : Association) → IsCut a → IsCut b → a ≡ b
   cut_one a b p q =
@@ -197,40 +202,36 @@ module _ (line : List ℕ) where
       associations.same_association a b (associations.one_key line a.key b.key s.key u.key) (one_date_value _ _ _ s.first u.first)
       (p.1.last ∙ sym q.1.last) (p.1.days ∙ sym q.1.days) (p.1.letter ∙ sym q.1.letter) (cut_bare a p ∙ sym (cut_bare b q))
 
-  -- of any AA
-  association_fine : (t : Option Transaction) (a : Association) → SpellsAssociationBy t line a → association_refusal_by t line ≡ None
-  association_fine None a p = absurd p
-  association_fine (Some New) a p = put_fine New a p
-  association_fine (Some Revised) a p = put_fine Revised a p
-  association_fine (Some Deleted) a p = cut_fine a p
+  cut_fits : IsLine line → (a : Association) → IsCut a → AllFit (association_table a)
+  cut_fits is_line a p =
+      let fit = stood.fit line is_line (deleted_association_rows a.key a.first (letter_of line)) refl refl p.0 in
+      subst (λ b. AllFit (association_rows a.key a.first a.last a.days a.letter b)) (sym (cut_bare a p))
+      (fits_association (codes "D") a.key a.first a.last spare spare a.days a.letter None fit (subst IsDay (sym p.1.last) (lit< tt))
+      (ap length p.1.days))
 
-  association_one : (t : Option Transaction) (a b : Association) → SpellsAssociationBy t line a → SpellsAssociationBy t line b → a ≡ b
-  association_one None a b p q = absurd p
-  association_one (Some New) a b p q = put_one New a b p q
-  association_one (Some Revised) a b p q = put_one Revised a b p q
-  association_one (Some Deleted) a b p q = cut_one a b p q
+  cut_fine : (a : Association) → IsCut a → association_refusal_by (Some Deleted) line ≡ None
+  cut_fine a p =
+      let s = cut_parts a p in
+      rw (yymmdd_in-stands (columns 16 21 line) a.first s.first, letter_fine (letter_of line) s.letter)
 
-  association_fits : IsLine line → (t : Option Transaction) (a : Association) → SpellsAssociationBy t line a → AllFit (association_table a)
-  association_fits is_line None a p = absurd p
-  association_fits is_line (Some New) a p = put_fits New is_line a p
-  association_fits is_line (Some Revised) a p = put_fits Revised is_line a p
-  association_fits is_line (Some Deleted) a p = cut_fits a is_line p
-
-  association_named : (t : Option Transaction) (a : Association) → SpellsAssociationBy t line a → columns 1 2 line ≡ codes "AA"
-  association_named None a p = absurd p
-  association_named (Some New) a p = p.0.0
-  association_named (Some Revised) a p = p.0.0
-  association_named (Some Deleted) a p = p.0.0
+  -- any AA
+  association_owes : (t : Option Transaction)
+      → OwesAssociation (association_refusal_by t line) (record_mark t 22 None line).open_end (SpellsAssociationBy t line)
+  association_owes None = owes_nothing line (codes "AA") _ _ _ _
+  association_owes (Some New) = put_owes New
+  association_owes (Some Revised) = put_owes Revised
+  association_owes (Some Deleted) =
+      record { named = λ a p. p.0.0; fine = cut_fine; one = cut_one; fits = cut_fits; closed = λ a p ends. p.1.last }
 
   pub association_closed : (t : Option Transaction) (a : Association) → SpellsAssociationBy t line a
       → IsClosedAt (record_mark t 22 None line).open_end a.last
-  association_closed None a p = absurd p
-  association_closed (Some New) a p = p.1
-  association_closed (Some Revised) a p = p.1
-  association_closed (Some Deleted) a p = λ ends. p.1.last
+  association_closed t = (association_owes t).closed
 
-  -- of a BS that is put
   module _ (allowed : HolidayCodes) where
+    abbrev OwesBasic : Option Refusal → Bool → (Basic → Type 0) → Type 0
+    OwesBasic refusal ends = Owes line (codes "BS") refusal ends (λ (b : Basic). b.last) basic_table
+
+    -- a BS that puts
     module _ (t : Transaction) where
       abbrev IsBasicPut : Basic → Type 0
       IsBasicPut b = AllStandIn line (put_basic_rows t (is_open 16 line) (code_of allowed line) (terms_of b) b.detail)
@@ -272,29 +273,30 @@ module _ (line : List ℕ) where
           (code_value (code_of allowed line)) b.days b.letter b.detail fit
           (end_day (is_open 16 line) (columns 16 21 line) b.last s.front.1.1.1.1.0 p.1) s.front.1.1.1.1.1.0.week
 
-    -- of one that is deleted
-    module _ (b : Basic) where
-      abbrev IsBasicCut : Type 0
-      IsBasicCut = AllStandIn line (deleted_basic_rows b.uid b.first (letter_of line)) × IsDeletion b.last b.days b.letter
+      basic_put_owes : OwesBasic (basic_refusal_by allowed (Some New) line) (is_open 16 line) IsBasicPut
+      basic_put_owes = record {
+        named = λ b p. p.0.0;
+        fine = basic_put_fine;
+        one = basic_put_one;
+        fits = basic_put_fits;
+        closed = λ b p. p.1;
+      }
 
-      basic_bare : IsBasicCut → b.detail ≡ None
-      basic_bare p = basics.no_detail_there b (ap has_body p.1.letter)
+    -- one that deletes
+    abbrev IsBasicCut : Basic → Type 0
+    IsBasicCut b = AllStandIn line (deleted_basic_rows b.uid b.first (letter_of line)) × IsDeletion b.last b.days b.letter
 
-      abbrev basic_cut_parts : IsBasicCut
-          → basics.Parts line (basic_front_by (codes "D") b.uid b.first spare spare spare) None (letter_of line)
-      basic_cut_parts p = basics.parts_by line (basic_front_by (codes "D") b.uid b.first spare spare spare) None (letter_of line) p.0
+    basic_bare : (b : Basic) → IsBasicCut b → b.detail ≡ None
+    basic_bare b p = basics.no_detail_there b (ap has_body p.1.letter)
 
-      basic_cut_fine : IsBasicCut → basic_refusal_by allowed (Some Deleted) line ≡ None
-      basic_cut_fine p =
-          let s = basic_cut_parts p in
-          rw (yymmdd_in-stands (columns 10 15 line) b.first s.front.1.1.1.0, letter_fine (letter_of line) s.back.1.0)
+    abbrev basic_cut_parts : (b : Basic) → IsBasicCut b
+        → basics.Parts line (basic_front_by (codes "D") b.uid b.first spare spare spare) None (letter_of line)
+    basic_cut_parts b p = basics.parts_by line (basic_front_by (codes "D") b.uid b.first spare spare spare) None (letter_of line) p.0
 
-      basic_cut_fits : IsLine line → IsBasicCut → AllFit (basic_table b)
-      basic_cut_fits is_line p =
-          let fit = stood.fit line is_line (deleted_basic_rows b.uid b.first (letter_of line)) refl refl p.0 in
-          subst (λ d. AllFit (basic_rows b.uid b.first b.last b.days b.letter d)) (sym (basic_bare p))
-          (fits_basic (codes "D") b.uid b.first b.last spare spare spare b.days b.letter None fit (subst IsDay (sym p.1.last) (lit< tt))
-          (ap length p.1.days))
+    basic_cut_fine : (b : Basic) → IsBasicCut b → basic_refusal_by allowed (Some Deleted) line ≡ None
+    basic_cut_fine b p =
+        let s = basic_cut_parts b p in
+        rw (yymmdd_in-stands (columns 10 15 line) b.first s.front.1.1.1.0, letter_fine (letter_of line) s.back.1.0)
 
     basic_cut_one : (a b : Basic) → IsBasicCut a → IsBasicCut b → a ≡ b
     basic_cut_one a b p q =
@@ -303,66 +305,37 @@ module _ (line : List ℕ) where
         basics.same_basic a b (one_exactly _ _ _ s.front.1.1.0 u.front.1.1.0) (one_date_value _ _ _ s.front.1.1.1.0 u.front.1.1.1.0)
         (p.1.last ∙ sym q.1.last) (p.1.days ∙ sym q.1.days) (p.1.letter ∙ sym q.1.letter) (basic_bare a p ∙ sym (basic_bare b q))
 
-    -- of any BS
-    basic_fine : (t : Option Transaction) (b : Basic) → SpellsBasicBy allowed t line b → basic_refusal_by allowed t line ≡ None
-    basic_fine None b p = absurd p
-    basic_fine (Some New) b p = basic_put_fine New b p
-    basic_fine (Some Revised) b p = basic_put_fine Revised b p
-    basic_fine (Some Deleted) b p = basic_cut_fine b p
+    basic_cut_fits : IsLine line → (b : Basic) → IsBasicCut b → AllFit (basic_table b)
+    basic_cut_fits is_line b p =
+        let fit = stood.fit line is_line (deleted_basic_rows b.uid b.first (letter_of line)) refl refl p.0 in
+        subst (λ d. AllFit (basic_rows b.uid b.first b.last b.days b.letter d)) (sym (basic_bare b p))
+        (fits_basic (codes "D") b.uid b.first b.last spare spare spare b.days b.letter None fit (subst IsDay (sym p.1.last) (lit< tt))
+        (ap length p.1.days))
 
-    basic_one : (t : Option Transaction) (a b : Basic) → SpellsBasicBy allowed t line a → SpellsBasicBy allowed t line b → a ≡ b
-    basic_one None a b p q = absurd p
-    basic_one (Some New) a b p q = basic_put_one New a b p q
-    basic_one (Some Revised) a b p q = basic_put_one Revised a b p q
-    basic_one (Some Deleted) a b p q = basic_cut_one a b p q
-
-    basic_fits : IsLine line → (t : Option Transaction) (b : Basic) → SpellsBasicBy allowed t line b → AllFit (basic_table b)
-    basic_fits is_line None b p = absurd p
-    basic_fits is_line (Some New) b p = basic_put_fits New is_line b p
-    basic_fits is_line (Some Revised) b p = basic_put_fits Revised is_line b p
-    basic_fits is_line (Some Deleted) b p = basic_cut_fits b is_line p
-
-    basic_named : (t : Option Transaction) (b : Basic) → SpellsBasicBy allowed t line b → columns 1 2 line ≡ codes "BS"
-    basic_named None b p = absurd p
-    basic_named (Some New) b p = p.0.0
-    basic_named (Some Revised) b p = p.0.0
-    basic_named (Some Deleted) b p = p.0.0
+    -- any BS
+    basic_owes : (t : Option Transaction)
+        → OwesBasic (basic_refusal_by allowed t line) (record_mark t 16 (code_of allowed line) line).open_end (SpellsBasicBy allowed t line)
+    basic_owes None = owes_nothing line (codes "BS") _ _ _ _
+    basic_owes (Some New) = basic_put_owes New
+    basic_owes (Some Revised) = basic_put_owes Revised
+    basic_owes (Some Deleted) = record {
+      named = λ b p. p.0.0;
+      fine = basic_cut_fine;
+      one = basic_cut_one;
+      fits = basic_cut_fits;
+      closed = λ b p ends. p.1.last;
+    }
 
     basic_cancels : (t : Option Transaction) (b : Basic) → SpellsBasicBy allowed t line b
         → (deletes t || cancels line) ≡ not (has_body b.letter)
     basic_cancels None b p = absurd p
-    basic_cancels (Some New) b p = letter_cancelled b.letter (basic_parts New b p).back.1.0
-    basic_cancels (Some Revised) b p = letter_cancelled b.letter (basic_parts Revised b p).back.1.0
+    basic_cancels (Some New) b p = letter_cancels line b.letter (basic_parts New b p).back.1.0
+    basic_cancels (Some Revised) b p = letter_cancels line b.letter (basic_parts Revised b p).back.1.0
     basic_cancels (Some Deleted) b p = ap (λ stp. not (has_body stp)) (sym p.1.letter)
 
     pub basic_closed : (t : Option Transaction) (b : Basic) → SpellsBasicBy allowed t line b
         → IsClosedAt (record_mark t 16 (code_of allowed line) line).open_end b.last
-    basic_closed None b p = absurd p
-    basic_closed (Some New) b p = p.1
-    basic_closed (Some Revised) b p = p.1
-    basic_closed (Some Deleted) b p = λ ends. p.1.last
-
-  -- of a TI, a TA or a TD
-  tiploc_one : (feed : Feed) (k : Option Kind) (t u : Tiploc) → SpellsTiplocBy feed k line t → SpellsTiplocBy feed k line u → t ≡ u
-  tiploc_one Update (Some Ta) t u p q = tiplocs.same_tiploc t u (p ∙ sym q)
-  tiploc_one Update (Some Td) t u p q = tiplocs.same_tiploc t u (p ∙ sym q)
-  tiploc_one feed k t u p q = tiplocs.one_tiploc line t u p q
-
-  tiploc_named : (feed : Feed) (k : Option Kind) (t : Tiploc) → kind_in line ≡ k → SpellsTiplocBy feed k line t
-      → kind_read_as feed k ≡ Some Ti
-  tiploc_named Update (Some Ta) t is p = refl
-  tiploc_named Update (Some Td) t is p = refl
-  tiploc_named Update k t is p = ap (kind_read_as Update) (sym is ∙ only_kind (columns 1 2 line) Ti p.0)
-  tiploc_named Full k t is p = ap (kind_read_as Full) (sym is ∙ only_kind (columns 1 2 line) Ti p.0)
-
-  tiploc_fine : (feed : Feed) (allowed : HolidayCodes) (k : Option Kind) (t : Tiploc) → kind_in line ≡ k → SpellsTiplocBy feed k line t
-      → feed_refusal_as feed allowed k line ≡ None
-  tiploc_fine Update allowed (Some Ta) t is p = refl
-  tiploc_fine Update allowed (Some Td) t is p = refl
-  tiploc_fine Update allowed k t is p =
-      ap (λ o. feed_refusal_as Update allowed o line) (sym is ∙ only_kind (columns 1 2 line) Ti p.0) ∙ tiplocs.no_refusal line t p
-  tiploc_fine Full allowed k t is p =
-      ap (λ o. feed_refusal_as Full allowed o line) (sym is ∙ only_kind (columns 1 2 line) Ti p.0) ∙ tiplocs.no_refusal line t p
+    basic_closed t = (basic_owes t).closed
 
 -- ---- any line
 
@@ -373,33 +346,45 @@ own_kind Update (of.Header h) = refl
 own_kind Update _ = refl
 
 module _ (feed : Feed) (allowed : HolidayCodes) (line : List ℕ) where
-  -- columns 1 and 2, but of a location
-  named : (k : Kind) → columns 1 2 line ≡ identity k → kind_in line ≡ Some k
-  named k e = only_kind (columns 1 2 line) k e
+  abbrev Spells : Record → Type 0
+  Spells = SpellsInFeed feed allowed line
 
-  pub kind_there : (r : Record) → SpellsInFeed feed allowed line r → kind_read_as feed (kind_in line) ≡ Some (kind_of r)
-  kind_there (of.Header h) s = ap (kind_read_as feed) (named Hd s.0) ∙ own_kind feed (of.Header h)
-  kind_there (of.Tiploc t) s = tiploc_named line feed (kind_in line) t refl s
-  kind_there (of.Association a) s =
-      ap (kind_read_as feed) (named Aa (association_named line (transaction_at feed line) a s)) ∙ own_kind feed (of.Association a)
-  kind_there (of.Basic b) s =
-      ap (kind_read_as feed) (named Bs (basic_named line allowed (transaction_at feed line) b s)) ∙ own_kind feed (of.Basic b)
-  kind_there r s = ap (kind_read_as feed) (records.kind_there line r s) ∙ own_kind feed r
+  -- a line of another kind than TI, TA and TD names it
+  named : (r : Record) → columns 1 2 line ≡ identity (kind_of r) → kind_read_as feed (kind_in line) ≡ Some (kind_of r)
+  named r letters = ap (kind_read_as feed) (only_kind (columns 1 2 line) (kind_of r) letters) ∙ own_kind feed r
 
-  pub cancels_there : (b : Basic) → SpellsInFeed feed allowed line (of.Basic b) → cancels_in_feed feed line ≡ not (has_body b.letter)
+  tiploc_named : (f : Feed) (k : Option Kind) (t : Tiploc) → kind_in line ≡ k → SpellsTiplocBy f k line t → kind_read_as f k ≡ Some Ti
+  tiploc_named Update (Some Ta) t is p = refl
+  tiploc_named Update (Some Td) t is p = refl
+  tiploc_named f k t is p = ap (kind_read_as f) (sym is ∙ only_kind (columns 1 2 line) Ti p.0) ∙ own_kind f (of.Tiploc t)
+
+  pub kind_there : (r : Record) → Spells r → kind_read_as feed (kind_in line) ≡ Some (kind_of r)
+  kind_there (of.Header h) s = named (of.Header h) s.0
+  kind_there (of.Tiploc t) s = tiploc_named feed (kind_in line) t refl s
+  kind_there (of.Association a) s = named (of.Association a) ((association_owes line (transaction_at feed line)).named a s)
+  kind_there (of.Basic b) s = named (of.Basic b) ((basic_owes line allowed (transaction_at feed line)).named b s)
+  kind_there r s = named r s.0
+
+  pub cancels_there : (b : Basic) → Spells (of.Basic b) → cancels_in_feed feed line ≡ not (has_body b.letter)
   cancels_there b s = basic_cancels line allowed (transaction_at feed line) b s
 
-  pub one : (r q : Record) → SpellsInFeed feed allowed line r → SpellsInFeed feed allowed line q → r ≡ q
+  tiploc_one : (f : Feed) (k : Option Kind) (t u : Tiploc) → SpellsTiplocBy f k line t → SpellsTiplocBy f k line u → t ≡ u
+  tiploc_one Update (Some Ta) t u p q = tiplocs.same_tiploc t u (p ∙ sym q)
+  tiploc_one Update (Some Td) t u p q = tiplocs.same_tiploc t u (p ∙ sym q)
+  tiploc_one f k t u p q = tiplocs.one_tiploc line t u p q
+
+  pub one : (r q : Record) → Spells r → Spells q → r ≡ q
   one r q m n =
       let both : ◌≡◌ {A = Option Kind} (Some (kind_of r)) (Some (kind_of q)) = sym (kind_there r m) ∙ kind_there q n in
       let same : kind_of r ≡ kind_of q = cc in
       at r q same m n
     where
-      at : (r q : Record) → kind_of r ≡ kind_of q → SpellsInFeed feed allowed line r → SpellsInFeed feed allowed line q → r ≡ q
+      at : (r q : Record) → kind_of r ≡ kind_of q → Spells r → Spells q → r ≡ q
       at (of.Header h) (of.Header k) e m n = ap of.Header (headers.one_header line (indicator_of feed) h k m n)
-      at (of.Tiploc t) (of.Tiploc u) e m n = ap of.Tiploc (tiploc_one line feed (kind_in line) t u m n)
-      at (of.Association a) (of.Association b) e m n = ap of.Association (association_one line (transaction_at feed line) a b m n)
-      at (of.Basic a) (of.Basic b) e m n = ap of.Basic (basic_one line allowed (transaction_at feed line) a b m n)
+      at (of.Tiploc t) (of.Tiploc u) e m n = ap of.Tiploc (tiploc_one feed (kind_in line) t u m n)
+      at (of.Association a) (of.Association b) e m n =
+          ap of.Association ((association_owes line (transaction_at feed line)).one a b m n)
+      at (of.Basic a) (of.Basic b) e m n = ap of.Basic ((basic_owes line allowed (transaction_at feed line)).one a b m n)
       at (of.Header h) _ e m n = absurd (cc)
       at (of.Tiploc t) _ e m n = absurd (cc)
       at (of.Association a) _ e m n = absurd (cc)
@@ -410,37 +395,47 @@ module _ (feed : Feed) (allowed : HolidayCodes) (line : List ℕ) where
       at _ (of.Basic b) e m n = absurd (cc)
       at r q e m n = records.one_record line r q m n
 
-  pub fits : IsLine line → (r : Record) → SpellsInFeed feed allowed line r → AllFit (record_table r)
+  pub fits : IsLine line → (r : Record) → Spells r → AllFit (record_table r)
   fits is_line (of.Header h) s = headers.fits h
   fits is_line (of.Tiploc t) s = tiplocs.fits t
-  fits is_line (of.Association a) s = association_fits line is_line (transaction_at feed line) a s
-  fits is_line (of.Basic b) s = basic_fits line allowed is_line (transaction_at feed line) b s
+  fits is_line (of.Association a) s = (association_owes line (transaction_at feed line)).fits is_line a s
+  fits is_line (of.Basic b) s = (basic_owes line allowed (transaction_at feed line)).fits is_line b s
   fits is_line r s = records.fit line is_line r s
 
 -- there is no reason to refuse it
-module _ (allowed : HolidayCodes) (line : List ℕ) where
-  refused_own : (feed : Feed) (k : Kind) (why : Option Refusal) → kind_in line ≡ Some k
-      → feed_refusal_as feed allowed (Some k) line ≡ why → feed_refusal_as feed allowed (kind_in line) line ≡ why
-  refused_own feed k why is own = ap (λ o. feed_refusal_as feed allowed o line) is ∙ own
+pub fine : (feed : Feed) (allowed : HolidayCodes) (line : List ℕ) (r : Record) → SpellsInFeed feed allowed line r
+    → feed_refusal_as feed allowed (kind_in line) line ≡ None
+fine feed allowed line r s = at feed r (kind_in line) refl s
+  where
+    own : (f : Feed) (k : Option Kind) (r : Record) → kind_in line ≡ k → columns 1 2 line ≡ identity (kind_of r)
+        → feed_refusal_as f allowed (Some (kind_of r)) line ≡ None → feed_refusal_as f allowed k line ≡ None
+    own f k r is letters fine =
+        ap (λ o. feed_refusal_as f allowed o line) (sym is ∙ only_kind (columns 1 2 line) (kind_of r) letters) ∙ fine
 
-  pub fine : (feed : Feed) (r : Record) → SpellsInFeed feed allowed line r → feed_refusal_as feed allowed (kind_in line) line ≡ None
-  fine feed (of.Header h) s = refused_own feed Hd None (named feed allowed line Hd s.0) (headers.no_refusal line (indicator_of feed) h s)
-  fine feed (of.Tiploc t) s = tiploc_fine line feed allowed (kind_in line) t refl s
-  fine feed (of.Association a) s =
-      let t = transaction_at feed line in
-      refused_own feed Aa None (named feed allowed line Aa (association_named line t a s)) (association_fine line t a s)
-  fine feed (of.Basic b) s =
-      let t = transaction_at feed line in
-      refused_own feed Bs None (named feed allowed line Bs (basic_named line allowed t b s)) (basic_fine line allowed t b s)
-  fine Full r s = refused_own Full (kind_of r) None (records.kind_there line r s) (records.no_refusal_as line r s)
-  fine Update r s = refused_own Update (kind_of r) None (records.kind_there line r s) (records.no_refusal_as line r s)
+    tiploc : (f : Feed) (k : Option Kind) (t : Tiploc) → kind_in line ≡ k → SpellsTiplocBy f k line t
+        → feed_refusal_as f allowed k line ≡ None
+    tiploc Update (Some Ta) t is p = refl
+    tiploc Update (Some Td) t is p = refl
+    tiploc Update k t is p = own Update k (of.Tiploc t) is p.0 (tiplocs.no_refusal line t p)
+    tiploc Full k t is p = own Full k (of.Tiploc t) is p.0 (tiplocs.no_refusal line t p)
+
+    at : (f : Feed) (r : Record) (k : Option Kind) → kind_in line ≡ k → SpellsInFeed f allowed line r
+        → feed_refusal_as f allowed k line ≡ None
+    at f (of.Header h) k is s = own f k (of.Header h) is s.0 (headers.no_refusal line (indicator_of f) h s)
+    at f (of.Tiploc t) k is s = tiploc f k t is (subst (λ o. SpellsTiplocBy f o line t) is s)
+    at f (of.Association a) k is s =
+        let owes = association_owes line (transaction_at f line) in own f k (of.Association a) is (owes.named a s) (owes.fine a s)
+    at f (of.Basic b) k is s =
+        let owes = basic_owes line allowed (transaction_at f line) in own f k (of.Basic b) is (owes.named b s) (owes.fine b s)
+    at Full r k is s = own Full k r is s.0 (records.no_refusal_as line r s)
+    at Update r k is s = own Update k r is s.0 (records.no_refusal_as line r s)
 
 -- so these are layouts
 pub feed_are : (feed : Feed) (allowed : HolidayCodes) → AreLayouts (feed_layouts feed allowed)
 feed_are feed allowed = record {
   kind = kind_there feed allowed;
   cancels = cancels_there feed allowed;
-  fine = λ line r s. fine allowed line feed r s;
+  fine = fine feed allowed;
   one = one feed allowed;
   fits = fits feed allowed;
 }

@@ -186,16 +186,15 @@ cancels_in_feed feed line = deletes (transaction_at feed line) || cancels line
 abbrev pub tiploc_mark_of : Transaction → List ℕ → LineMark
 tiploc_mark_of transaction line = mark.Tiploc (record { transaction = transaction; tiploc = columns 3 9 line })
 
--- of an AA or a BS that is put, whose last date is in the columns from this one on
-abbrev pub put_mark : Transaction → ℕ → Option HolidayCode → List ℕ → RecordMark
-put_mark transaction last code line =
-    record { transaction = transaction; letter = letter_of line; open_end = is_open last line; code = code }
-
--- of one with this transaction; a line without a transaction is refused
+-- Of an AA or a BS whose last date is in the columns from this one on. A line without a transaction is refused; of a deletion the
+-- transaction and the letter say something alone.
 abbrev pub record_mark : Option Transaction → ℕ → Option HolidayCode → List ℕ → RecordMark
-record_mark (Some Deleted) last code line =
-    record { transaction = Deleted; letter = letter_of line; open_end = false; code = None }
-record_mark transaction last code line = put_mark (unwrap_or transaction New) last code line
+record_mark transaction last code line = record {
+  transaction = unwrap_or transaction New;
+  letter = letter_of line;
+  open_end = is_open last line;
+  code = code;
+}
 
 -- of a line of this kind
 abbrev pub mark_by : Feed → HolidayCodes → Option Kind → List ℕ → LineMark

@@ -45,41 +45,25 @@ pub(crate) fn read_tiploc(feed: Feed, kind: Kind, line: &Line) -> Tiploc
     requires located { IsOfTiploc kind feed }
     ensures { (allowed : HolidayCodes) → SpellsInFeed feed allowed line.now (of.Tiploc result) }
 {
-    match (feed, kind) {
-        (Feed::Update, Kind::Ta) => put_by_amendment(line),
-        _ => tiploc_at(line),
-    }
-}
-
-/// The location with columns 3 to 72 of the line.
-fn tiploc_at(line: &Line) -> Tiploc
-    ensures { result.columns ≡ columns 3 72 line.now }
-{
     Tiploc {
-        columns: columns_at(line, 3),
+        columns: match (feed, kind) {
+            (Feed::Update, Kind::Ta) => put_columns(line),
+            _ => columns_at(line, 3),
+        },
     }
 }
 
-/// The location that a TA puts: columns 73 to 79 are its new TIPLOC, if they aren't blank.
-fn put_by_amendment(line: &Line) -> Tiploc
-    ensures { result.columns ≡ put_tiploc line.now ++ columns 10 72 line.now }
+/// The columns of the location that a TA puts: columns 73 to 79 are its new TIPLOC, if they aren't blank.
+fn put_columns(line: &Line) -> [u8; 70]
+    ensures value { result ≡ put_tiploc line.now ++ columns 10 72 line.now }
+    ensures printable { ArePrintable result }
 {
     let new_tiploc: [u8; 7] = columns_at(line, 73);
-    if new_tiploc == [b' '; 7] {
-        tiploc_at(line)
-    } else {
-        renamed(line, &new_tiploc)
-    }
-}
-
-/// The location with columns 10 to 72 of the line, and this TIPLOC.
-fn renamed(line: &Line, tiploc: &[u8; 7]) -> Tiploc
-    requires { ArePrintable tiploc.now }
-    ensures { result.columns ≡ tiploc.now ++ columns 10 72 line.now }
-{
     let mut columns: [u8; 70] = columns_at(line, 3);
-    columns[..7].copy_from_slice(tiploc);
-    Tiploc { columns }
+    if new_tiploc != [b' '; 7] {
+        columns[..7].copy_from_slice(&new_tiploc);
+    }
+    columns
 }
 
 /// The association that an AA of the feed spells, or the first reason in column order why it spells none.
@@ -247,19 +231,11 @@ fn record_mark(
     requires within { last ≤ 75 }
     ensures { result ≡ record_mark transaction last code line.now }
 {
-    match transaction {
-        Some(Transaction::Deleted) => RecordMark {
-            transaction: Transaction::Deleted,
-            letter: letter_of(line),
-            open_end: false,
-            code: None,
-        },
-        _ => RecordMark {
-            transaction: transaction.unwrap_or(Transaction::New),
-            letter: letter_of(line),
-            open_end: has_open_end(line, last),
-            code,
-        },
+    RecordMark {
+        transaction: transaction.unwrap_or(Transaction::New),
+        letter: field_at(line, 80).unwrap_or(Stp::C),
+        open_end: has_open_end(line, last),
+        code,
     }
 }
 
@@ -304,13 +280,6 @@ pub(crate) fn has_open_end(line: &Line, first: usize) -> bool
     ensures { result ≡ is_open first line.now }
 {
     columns_at(line, first) == *b"999999"
-}
-
-/// The letter in column 80; where it is none, the line is refused, and this is any.
-fn letter_of(line: &Line) -> Stp
-    ensures { result ≡ letter_of line.now }
-{
-    field_at(line, 80).unwrap_or(Stp::C)
 }
 
 /// The holiday code in column 29, where it may stand.

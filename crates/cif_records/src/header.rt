@@ -1,9 +1,9 @@
 //! The header of an extract.
-ghost use Rattle.std.specs.Prelude.{◌≡◌, ◌≤◌, ◌↔◌, Some, Ok, IsTrue, codes, length, slice_set};
+ghost use Rattle.std.specs.Prelude.{◌≡◌, ◌≤◌, ◌↔◌, Some, Ok, IsTrue, codes, length};
 ghost use Rattle.std.proofs.Props.{props};
 ghost use Rattle.cif_columns.specs.Day.{ddmmyy_in};
 ghost use Rattle.cif_columns.specs.Field.{AllStandIn, columns, columns_from, plain_line};
-ghost use Rattle.cif_columns.specs.Line.{ArePrintable, IsLine};
+ghost use Rattle.cif_columns.specs.Line.{ArePrintable};
 ghost use Rattle.cif_records.specs.Checks.{IsJudged};
 ghost use Rattle.cif_records.specs.HeaderColumns.{IsFull, kept, with_window as columns_with_window};
 
@@ -83,11 +83,15 @@ impl Header {
         ensures only { (h : Header) → AllStandIn line.now (header_rows_by indicator.now h) → result ≡ Ok h }
     {
         match Header::window_at(line, indicator) {
-            Ok(dates) => Ok(Header {
-                columns: full_columns(line),
-                first: dates.first,
-                last: dates.last,
-            }),
+            Ok(dates) => {
+                let mut columns: [u8; 58] = columns_at(line, 3);
+                columns[INDICATOR] = b'F';
+                Ok(Header {
+                    columns,
+                    first: dates.first,
+                    last: dates.last,
+                })
+            }
             Err(why) => Err(why),
         }
     }
@@ -142,15 +146,4 @@ impl Header {
     pub fn equality_of_headers()
         ensures { (h k : Header) → IsTrue (⟦<Header as PartialEq>⟧.eq h k) ↔ (h ≡ k) }
     {}
-}
-
-/// Columns 3 to 60 of a line, with the update indicator of a full extract.
-fn full_columns(line: &Line) -> [u8; 58]
-    ensures value { result ≡ slice_set (columns 3 60 line.now) 44 70 }
-    ensures printable { ArePrintable result }
-    ensures line { IsLine line.now }
-{
-    let mut columns: [u8; 58] = columns_at(line, 3);
-    columns[INDICATOR] = b'F';
-    columns
 }

@@ -1,7 +1,9 @@
 -- Columns 3 to 60 are kept at once: `full-47` and its like number them as in the line, for the type and for the table.
 use Rattle.std.proofs.Common.{ap, ◌∙◌, sym, arith}
+use Rattle.std.proofs.lemmas.List.Elements.{All-set}
 use Rattle.cif_columns.specs.Day.{ddmmyy_in}
 use Rattle.cif_columns.specs.Field.{columns}
+use Rattle.cif_columns.specs.Line.{IsPrintable}
 use Rattle.cif_columns.proofs.PlainLines.{length-columns}
 use Rattle.cif_records.proofs.Headers.{digits_of, full-3, full-47, full-48, full-49, full-55, full-wide, no_refusal, one_header}
 use Rattle.cif_records.proofs.Judging.{only}
@@ -11,23 +13,23 @@ use Rattle.cif_records.proofs.header.Header.read_by.Goals as goal
 pub invariant_of-result : goal.invariant_of-result
 invariant_of-result c =
     let line = c.args.line.now in
-    let value = c.full_columns.ensures.value in
-    let wide = length-columns 3 60 line c.full_columns.ensures.line (omega arith) (omega arith) (omega arith) in
+    let old = c.columns_at-columns.ensures in
+    let wide = length-columns 3 60 line old.line (omega arith) (omega arith) (omega arith) in
     let found = c.in-Ok.ensures.1 in
     record {
-      wide = rw value (full-wide line wide);
-      printable = c.full_columns.ensures.printable;
-      full = rw value (full-47 line wide);
-      first_stands = rw value (ap ddmmyy_in (full-49 line wide) ∙ found.2);
-      last_stands = rw value (ap ddmmyy_in (full-55 line wide) ∙ found.3);
+      wide = rw old.value (full-wide line wide);
+      printable = All-set IsPrintable _ 44 70 (omega arith, omega arith) old.printable;
+      full = rw old.value (full-47 line wide);
+      first_stands = rw old.value (ap ddmmyy_in (full-49 line wide) ∙ found.2);
+      last_stands = rw old.value (ap ddmmyy_in (full-55 line wide) ∙ found.3);
       in_order = c.in-Ok.dates.in_order;
     }
 
 pub returns-in-Ok-clause-exact : goal.returns-in-Ok-clause-exact
 returns-in-Ok-clause-exact c =
     let line = c.args.line.now in
-    let value = c.full_columns.ensures.value in
-    let is_line = c.full_columns.ensures.line in
+    let value = c.columns_at-columns.ensures.value in
+    let is_line = c.columns_at-columns.ensures.line in
     let wide = length-columns 3 60 line is_line (omega arith) (omega arith) (omega arith) in
     let found = c.in-Ok.ensures.1 in
     c.in-Ok.ensures.0
