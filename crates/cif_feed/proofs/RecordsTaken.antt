@@ -20,12 +20,11 @@ use Rattle.cif_records.proofs.Records.{kind_of, kind_there}
 use Rattle.cif_feed.specs.FeedLayouts.{feed_layouts}
 use Rattle.cif_feed.specs.FeedLine.{SpellsInFeed}
 use Rattle.cif_feed.specs.LayoutRefusals.{feed_refusal_as, kind_read_as}
-use Rattle.cif_feed.specs.Steps.FeedLine.{IsOfTiploc}
-use Rattle.cif_feed.specs.Steps.FeedReading.{IsOwn, IsRecordTaken}
+use Rattle.cif_feed.specs.Steps.FeedReading.{IsOwn, IsRecordTaken, read_as}
 use Rattle.cif_feed.specs.declared.feed.Feed.{Feed}
 use Rattle.cif_feed.specs.declared.feed.Feed.TheVariants.{Full, Update}
 use Rattle.cif_feed.specs.declared.holiday_code.HolidayCodes.{HolidayCodes}
-use Rattle.cif_feed.proofs.FeedLines.{feed_are}
+use Rattle.cif_feed.proofs.FeedLines.{feed_are, kind_there as feed_kind}
 
 -- but for locations the kinds are the lines' own
 pub read_back : (feed : Feed) (read : Option Kind) (kind : Kind) → (kind ≡ Ti → ⊥) → kind_read_as feed read ≡ Some kind → read ≡ Some kind
@@ -34,52 +33,41 @@ read_back Update (Some Ta) kind other is = absurd (other (cc))
 read_back Update (Some Td) kind other is = absurd (other (cc))
 read_back Update read kind other is = is
 
--- where a line of this kind may stand
-pub as_header : (feed : Feed) → kind_read_as feed (Some Hd) ≡ Some Hd
-as_header Full = refl
-as_header Update = refl
-
-pub as_association : (feed : Feed) → kind_read_as feed (Some Aa) ≡ Some Aa
-as_association Full = refl
-as_association Update = refl
-
-pub as_basic : (feed : Feed) → kind_read_as feed (Some Bs) ≡ Some Bs
-as_basic Full = refl
-as_basic Update = refl
-
-pub as_tiploc : (kind : Kind) (feed : Feed) → IsOfTiploc kind feed → kind_read_as feed (Some kind) ≡ Some Ti
-as_tiploc Ti Full is = refl
-as_tiploc Ti Update is = refl
-as_tiploc Ta Update is = refl
-as_tiploc Td Update is = refl
-as_tiploc Ta Full is = absurd is
-as_tiploc Td Full is = absurd is
-as_tiploc _ feed is = absurd is
+-- a line of a kind stands where the kind may that it is read as
+read_there : (feed : Feed) (kind : Kind) → kind_read_as feed (Some kind) ≡ Some (read_as feed kind)
+read_there Full kind = refl
+read_there Update Ta = refl
+read_there Update Td = refl
+read_there Update _ = refl
 
 module _ (feed : Feed) (allowed : HolidayCodes) (line : List ℕ) (before : Progress) where
-  -- a line of this kind, which may stand where that one may
-  module _ (kind read : Kind) (named : kind_in line ≡ Some kind) (read_as : kind_read_as feed (Some kind) ≡ Some read) where
+  -- a line of this kind
+  module _ (kind : Kind) (named : Some kind ≡ kind_in line) where
     by_place : refusal_at (feed_layouts feed allowed) before.place line
-        ≡ first_of (unless (may_stand before.place read) OutOfOrder ∷ feed_refusal_as feed allowed (Some kind) line ∷ [])
+        ≡ first_of (unless (may_stand before.place (read_as feed kind)) OutOfOrder ∷ feed_refusal_as feed allowed (Some kind) line ∷ [])
     by_place =
-        ap (λ k. first_of (order_refusal before.place (kind_read_as feed k) ∷ feed_refusal_as feed allowed k line ∷ [])) named
-        ∙ ap (λ k. first_of (order_refusal before.place k ∷ feed_refusal_as feed allowed (Some kind) line ∷ [])) read_as
+        ap (λ k. first_of (order_refusal before.place (kind_read_as feed k) ∷ feed_refusal_as feed allowed k line ∷ [])) (sym named)
+        ∙ ap (λ k. first_of (order_refusal before.place k ∷ feed_refusal_as feed allowed (Some kind) line ∷ [])) (read_there feed kind)
 
-    -- it is refused where it may not stand, and else for its fields
-    pub out_of_place : may_stand before.place read ≡ false → refusal_at (feed_layouts feed allowed) before.place line ≡ Some OutOfOrder
+    -- it is refused where it may not stand
+    pub out_of_place : may_stand before.place (read_as feed kind) ≡ false
+        → refusal_at (feed_layouts feed allowed) before.place line ≡ Some OutOfOrder
     out_of_place forbidden = by_place ∙ rw forbidden refl
 
-    pub in_place : may_stand before.place read ≡ true
-        → refusal_at (feed_layouts feed allowed) before.place line ≡ feed_refusal_as feed allowed (Some kind) line
-    in_place may = by_place ∙ rw may (or_none (feed_refusal_as feed allowed (Some kind) line))
+    module _ (may : may_stand before.place (read_as feed kind) ≡ true) where
+      -- else it is refused for its fields
+      pub in_place : refusal_at (feed_layouts feed allowed) before.place line ≡ feed_refusal_as feed allowed (Some kind) line
+      in_place = by_place ∙ rw may (or_none (feed_refusal_as feed allowed (Some kind) line))
 
-  -- a record that it spells is put where it may stand
-  pub put_taken : (r : Record) → SpellsInFeed feed allowed line r → may_stand before.place (kind_of r) ≡ true
-      → (result : Result Unit TakeFault) (after : Progress) → UnlessMemory (IsKeepable r × (after ≡ step before r)) result
-      → IsRecordTaken feed allowed line before result after
-  put_taken r spells may result after =
-      fine_so _ (λ is. (r, spells, is.0, is.1)) result
-      (fine_here (feed_layouts feed allowed) (feed_are feed allowed) before.place line r spells may)
+      -- and a record that it spells is put
+      pub put_taken : (r : Record) → SpellsInFeed feed allowed line r → (result : Result Unit TakeFault) (after : Progress)
+          → UnlessMemory (IsKeepable r × (after ≡ step before r)) result → IsRecordTaken feed allowed line before result after
+      put_taken r spells result after =
+          let both : Some (kind_of r) ≡ Some (read_as feed kind) =
+          sym (feed_kind feed allowed line r spells) ∙ ap (kind_read_as feed) (sym named) ∙ read_there feed kind in
+          let same : kind_of r ≡ read_as feed kind = cc in
+          fine_so _ (λ is. (r, spells, is.0, is.1)) result
+          (fine_here (feed_layouts feed allowed) (feed_are feed allowed) before.place line r spells (ap (may_stand before.place) same ∙ may))
 
   -- a line that is as in an extract of this profile
   own_refusal : (f : Feed) (kind : Option Kind) → IsOwn kind f

@@ -89,6 +89,12 @@ IsOwn (Some Aa) feed = ⊥
 IsOwn (Some Bs) feed = ⊥
 IsOwn kind feed = Unit {0}
 
+-- the kind whose place a line of this kind has
+abbrev pub read_as : Feed → Kind → Kind
+read_as Update Ta = Ti
+read_as Update Td = Ti
+read_as feed kind = kind
+
 -- what comes of one line more: it is taken, or there is a reason to refuse it, or memory runs out
 abbrev pub IsFeedTaken : Feed → HolidayCodes → List (List ℕ) → List ℕ → Result Unit TakeFault → FeedReading → Type 0
 IsFeedTaken feed allowed contents line (Ok done) r =
