@@ -1,5 +1,6 @@
 //! Reading the lines of feeds: the records that they spell, and their marks.
-ghost use Rattle.std.specs.Prelude.{◌≡◌, ◌≤◌, ◌+◌, ◌++◌, ◌∷◌, [], Some, IfSome, codes};
+ghost use Rattle.std.specs.Prelude.{◌≡◌, ◌≤◌, ◌+◌, ◌++◌, ◌∷◌, [], None, Some, IfSome, codes};
+ghost use Rattle.std.specs.Result.{result_unwrap_or};
 ghost use Rattle.cif_columns.specs.Field.{AllStandIn, StandsIn, columns, columns_from, date};
 ghost use Rattle.cif_columns.specs.Line.{ArePrintable};
 ghost use Rattle.cif_records.specs.Basic.{basic_back};
@@ -8,13 +9,12 @@ ghost use Rattle.cif_records.specs.Kind.{kind_in};
 ghost use Rattle.cif_records.specs.declared.record.Record.TheVariants as of;
 ghost use Rattle.cif_feed.specs.FeedLine.{IsClosedAt, IsDeletion, SpellsAssociationBy, SpellsInFeed, code_of};
 ghost use Rattle.cif_feed.specs.FeedLine.{code_value, deleted_basic_rows, end_value, is_open, letter_of, mark_by};
-ghost use Rattle.cif_feed.specs.FeedLine.{no_days, put_association_rows, put_basic_front, put_tiploc, record_mark};
+ghost use Rattle.cif_feed.specs.FeedLine.{put_association_rows, put_basic_front, put_tiploc, record_mark};
 ghost use Rattle.cif_feed.specs.FeedLine.{tiploc_mark_of, transaction_at};
-ghost use Rattle.cif_feed.specs.HolidayCode.{letter};
 ghost use Rattle.cif_feed.specs.LastDay.{last_day};
 ghost use Rattle.cif_feed.specs.LayoutRefusals.{association_refusal_by, basic_refusal_by, feed_refusal_as};
-ghost use Rattle.cif_feed.specs.LayoutRefusals.{holiday_code_refusal, open_dates_refusal};
-ghost use Rattle.cif_feed.specs.Steps.FeedLine.{IsOfTiploc, ReadsBasic};
+ghost use Rattle.cif_feed.specs.LayoutRefusals.{holiday_code_refusal, kind_read_as, open_dates_refusal};
+ghost use Rattle.cif_feed.specs.Steps.FeedLine.{ReadsBasic};
 ghost use Rattle.cif_feed.specs.Transaction.{transaction_letter};
 ghost use Rattle.cif_feed.specs.declared.holiday_code.HolidayCodes.{HolidayCodes};
 
@@ -42,7 +42,7 @@ pub(crate) fn read_header(feed: Feed, line: &Line) -> Result<Header, Refusal>
 /// The location that a line of this kind spells: a TI, or a TA or a TD of an update.
 pub(crate) fn read_tiploc(feed: Feed, kind: Kind, line: &Line) -> Tiploc
     requires kind { kind_in line.now ≡ Some kind }
-    requires located { IsOfTiploc kind feed }
+    requires located { kind_read_as feed (Some kind) ≡ Some Kind.Ti }
     ensures { (allowed : HolidayCodes) → SpellsInFeed feed allowed line.now (of.Tiploc result) }
 {
     Tiploc {
@@ -115,7 +115,7 @@ fn deleted_association(line: &Line) -> Result<Association, Refusal>
         key: AssocKey::read(line),
         first,
         last: last_day(),
-        days: no_days(),
+        days: DaysRun::of([false; 7]),
         letter: Stp::C,
         body: None,
     })
@@ -155,7 +155,7 @@ fn put_basic(
 {
     let dates = open_dates_at(line, 10)?;
     let days = field_or(line, 22, Refusal::BadDays)?;
-    check_holiday_code(allowed, line)?;
+    let _ = code_at(allowed, line)?;
     let letter = field_or(line, 80, Refusal::BadStp)?;
     Ok(BasicTerms {
         uid: uid_at(line, 4),
@@ -181,7 +181,7 @@ fn deleted_basic(line: &Line) -> Result<BasicTerms, Refusal>
         uid: uid_at(line, 4),
         first,
         last: last_day(),
-        days: no_days(),
+        days: DaysRun::of([false; 7]),
         letter: Stp::C,
     })
 }
@@ -203,7 +203,7 @@ pub(crate) fn mark_of(
             LineMark::Association(record_mark(transaction_at(feed, line), line, 22, None))
         }
         Some(Kind::Bs) => {
-            let code = code_of(allowed, line);
+            let code = code_at(allowed, line).unwrap_or(None);
             LineMark::Schedule(record_mark(transaction_at(feed, line), line, 16, code))
         }
         _ => LineMark::Nothing,
@@ -282,29 +282,19 @@ pub(crate) fn has_open_end(line: &Line, first: usize) -> bool
     columns_at(line, first) == *b"999999"
 }
 
-/// The holiday code in column 29, where it may stand.
-fn code_of(allowed: HolidayCodes, line: &Line) -> Option<HolidayCode>
-    ensures exact { result ≡ code_of allowed line.now }
-    ensures stands { IfSome result (λ code. columns 29 29 line.now ≡ letter code ∷ []) }
+/// The holiday code in column 29, where it may stand; none for a space.
+fn code_at(allowed: HolidayCodes, line: &Line) -> Result<Option<HolidayCode>, Refusal>
+    ensures judged { IsJudged (holiday_code_refusal allowed line.now)
+        (λ _. StandsIn (columns 29 29 line.now) (code_value (code_of allowed line.now))) result }
+    ensures code { result_unwrap_or result None ≡ code_of allowed line.now }
 {
     let column: [u8; 1] = columns_at(line, 29);
+    if column == *b" " {
+        return Ok(None);
+    }
     match HolidayCode::read(column[0]) {
-        Some(code) if allowed.has(code) => Some(code),
-        _ => None,
-    }
-}
-
-/// Refuses a BS if in column 29 stands neither a space nor a holiday code that may stand.
-fn check_holiday_code(allowed: HolidayCodes, line: &Line) -> Result<(), Refusal>
-    ensures { IsJudged (holiday_code_refusal allowed line.now)
-        (λ _. StandsIn (columns 29 29 line.now) (code_value (code_of allowed line.now))) result }
-{
-    if columns_at(line, 29) == *b" " {
-        return Ok(());
-    }
-    match code_of(allowed, line) {
-        Some(_) => Ok(()),
-        None => Err(Refusal::BankHoliday),
+        Some(code) if allowed.has(code) => Ok(Some(code)),
+        _ => Err(Refusal::BankHoliday),
     }
 }
 
@@ -316,11 +306,4 @@ fn last_day() -> Day
         Some(day) => day,
         None => unreachable!(),
     }
-}
-
-/// No weekday.
-fn no_days() -> DaysRun
-    ensures { result ≡ no_days }
-{
-    DaysRun::of([false; 7])
 }

@@ -11,6 +11,7 @@ ghost use Rattle.cif_feed.specs.UpdateParts.{IsUpdateOf};
 ghost use Rattle.cif_feed.specs.WrittenPrepared.{AreDroppedIf, IsDeviceOrMemory, IsPrepareFault, IsPreparedText};
 ghost use Rattle.cif_feed.specs.WrittenPrepared.{codes_named};
 ghost use Rattle.cif_feed.specs.declared.dropped.Dropped.{Dropped};
+ghost use Rattle.cif_feed.specs.declared.feed.Feed.{Feed};
 ghost use Rattle.cif_feed.specs.declared.feed.Feed.TheVariants.{Full};
 ghost use Rattle.cif_feed.specs.declared.feed.Feed.TheVariants as feed;
 ghost use Rattle.cif_feed.specs.declared.holiday_text.HolidayFault.{HolidayFault};
@@ -48,7 +49,10 @@ ghost use Rattle.cif_feed.specs.UpdateParts.{BytesSpellUpdate};
 ghost use Rattle.cif_feed.specs.Updated.{IsUpdateFault, IsUpdated, MayBeDone};
 ghost use Rattle.cif_feed.specs.Updated.{published_association_key, published_schedule_key};
 ghost use Rattle.cif_feed.specs.UpdatesInTurn.{IsRefused, IsWritten};
-ghost use Rattle.cif_columns.specs.Line.{IsLine};
+ghost use Rattle.cif_feed.specs.FeedLine.{SpellsInFeed};
+ghost use Rattle.cif_records.specs.Kind.{kind_in};
+ghost use Rattle.cif_records.specs.declared.record.Record.{Record};
+ghost use Rattle.cif_feed.specs.LayoutRefusals.{feed_refusal_as};
 ghost use Rattle.cif_feed.specs.RecordLines.{is_basic};
 ghost use Rattle.cif_feed.specs.WrittenExtracts.{CodesMayStand};
 ghost use Rattle.cif_feed.specs.declared.changes.RefusedLine.{RefusedLine};
@@ -244,4 +248,12 @@ pub fn prepared_texts_spell_extracts()
         → FitsColumns (of_profile p) → IsPrepared h drops p x → FitsColumns x }
     ensures spells { (h : Holidays) (drops : Bool) (p : PublishedParts) (x : ExtractParts)
         → FitsColumns (of_profile p) → IsPrepared h drops p x → BytesSpell (extract_text x) x }
+{}
+
+/// A line of a feed spells one record at most, and then there is no reason to refuse it.
+pub fn lines_of_feeds_spell_one_record()
+    ensures one { (feed : Feed) (allowed : HolidayCodes) (line : List ℕ) (r q : Record)
+        → SpellsInFeed feed allowed line r → SpellsInFeed feed allowed line q → r ≡ q }
+    ensures fine { (feed : Feed) (allowed : HolidayCodes) (line : List ℕ) (r : Record)
+        → SpellsInFeed feed allowed line r → feed_refusal_as feed allowed (kind_in line) line ≡ None }
 {}

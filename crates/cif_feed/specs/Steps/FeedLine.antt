@@ -5,20 +5,10 @@ use Rattle.cif_records.specs.Bodies.{has_body}
 use Rattle.cif_records.specs.Detail.{detail_in}
 use Rattle.cif_records.specs.declared.basic.Basic.{Basic}
 use Rattle.cif_records.specs.declared.basic.BasicTerms.{BasicTerms}
-use Rattle.cif_records.specs.declared.record.Kind.{Kind}
-use Rattle.cif_records.specs.declared.record.Kind.TheVariants.{Ti, Ta, Td}
 use Rattle.cif_records.specs.declared.record.Record.TheVariants as of
 use Rattle.cif_feed.specs.FeedLine.{SpellsInFeed}
 use Rattle.cif_feed.specs.declared.feed.Feed.{Feed}
-use Rattle.cif_feed.specs.declared.feed.Feed.TheVariants.{Update}
 use Rattle.cif_feed.specs.declared.holiday_code.HolidayCodes.{HolidayCodes}
-
--- a line of this kind spells a location in this feed
-abbrev pub IsOfTiploc : Kind → Feed → Type 0
-IsOfTiploc Ti feed = Unit {0}
-IsOfTiploc Ta Update = Unit {0}
-IsOfTiploc Td Update = Unit {0}
-IsOfTiploc kind feed = ⊥
 
 -- the line spells a basic schedule with these terms, whose detail, if it has one, stands in its columns
 pub record ReadsBasic (feed : Feed) (allowed : HolidayCodes) (line : List ℕ) (t : BasicTerms) : Type 0 where
