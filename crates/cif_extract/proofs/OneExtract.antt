@@ -26,7 +26,7 @@ use Rattle.cif_extract.specs.Laws.SameBody.{same_values as same_parts}
 use Rattle.cif_extract.proofs.Schedules.{same_schedule}
 
 -- P holds of each record
-abbrev Each : (Record → Type 0) → List Record → Type 0
+abbrev pub Each : (Record → Type 0) → List Record → Type 0
 Each P [] = Unit {0}
 Each P (r ∷ records) = P r × Each P records
 
@@ -91,10 +91,13 @@ one_call (Turn x) (At y) e = cc
 one_call (Turn x) (Turn y) e = cc
 
 -- neither a BS nor the trailer
-abbrev Inside : Record → Type 0
-Inside (of.Basic b) = ⊥
-Inside of.Trailer = ⊥
-Inside _ = Unit {0}
+abbrev pub Inside : Record → Type 0
+Inside (of.Extra x) = Unit {0}
+Inside (of.Origin o) = Unit {0}
+Inside (of.Stop s) = Unit {0}
+Inside (of.Change c) = Unit {0}
+Inside (of.Terminus t) = Unit {0}
+Inside _ = ⊥
 
 call_isnt : (c : Call) → Isnt Lt (call_record c)
 call_isnt (At s) = λ e. cc
@@ -175,7 +178,7 @@ one_schedule records s t p q =
     (one_body q.basic.detail q.extra q.journey s.body t.body body q.body)
 
 -- a schedule has one BS, at its front, and no trailer
-further_inside : (d : Option Detail) (x : Option Extra) (journey : List Record) (body : Option BodyParts) → HaveBody d x journey body →
+pub further_inside : (d : Option Detail) (x : Option Extra) (journey : List Record) (body : Option BodyParts) → HaveBody d x journey body →
     Each Inside (extra_records x ++ journey)
 further_inside d x journey body h = each_append Inside (extra_records x) journey (extra_inside x) (journey_inside d body h)
   where

@@ -8,7 +8,6 @@ use Rattle.cif_columns.specs.Line.{IsLine}
 use Rattle.cif_columns.specs.Stp.{letter}
 use Rattle.cif_columns.specs.declared.refusal.Refusal.{Refusal}
 use Rattle.cif_columns.specs.declared.stp.Stp.{Stp}
-use Rattle.cif_columns.specs.declared.stp.Stp.TheVariants.{C}
 use Rattle.cif_columns.proofs.DayColumns.{yymmdd_in-stands}
 use Rattle.cif_columns.proofs.DayDigits.{is_day-yymmdd}
 use Rattle.cif_columns.proofs.FieldLaws.{one_date_value, one_exactly, one_weekdays, stp_in-letter}
@@ -31,7 +30,7 @@ use Rattle.cif_records.specs.declared.basic.Basic.{Basic}
 use Rattle.cif_records.specs.declared.basic.BasicTerms.{BasicTerms}
 use Rattle.cif_records.specs.declared.detail.Detail.{Detail}
 use Rattle.cif_records.specs.declared.record.Kind.{Kind}
-use Rattle.cif_records.specs.declared.record.Kind.TheVariants.{Hd, Ti, Ta, Td, Aa, Bs}
+use Rattle.cif_records.specs.declared.record.Kind.TheVariants.{Ti, Ta, Td}
 use Rattle.cif_records.specs.declared.record.Record.{Record}
 use Rattle.cif_records.specs.declared.record.Record.TheVariants as of
 use Rattle.cif_records.specs.declared.tiploc.Tiploc.{Tiploc}

@@ -1,7 +1,7 @@
 -- What the contents of a feed so far have come to, and how its reading ends.
 use Rattle.std.proofs.Common.{◌≡◌, ◌≢◌, ℕ, ◌+◌, ◌<◌, ◌≤◌, Bool, true, false, cond, nat_eq, nat_lt, List, [], ◌∷◌, ◌++◌, length, take}
 use Rattle.std.proofs.Common.{Option, Some, None, IfErr, IfOk, IfSome, IsSomeAnd, Result, Ok, Err, refl, sym, ap, ◌∙◌, arith, append_assoc}
-use Rattle.std.proofs.Common.{below_more, codes, filter, get_or, inl, inr, length-append, map, ne_eqb, true≢false}
+use Rattle.std.proofs.Common.{below_more, codes, filter, get_or, inl, inr, length-append, ne_eqb, true≢false}
 use Rattle.std.proofs.lemmas.Bool.Decides.{nat_tests}
 use Rattle.std.proofs.lemmas.List.{append_cancel_left, get_or_append_left, take-append-le}
 use Rattle.std.proofs.lemmas.Bool.{eqb-true}

@@ -18,7 +18,8 @@ pub mod FeedSteps
 pub mod FeedRuns
 pub mod SpelledFeeds
 pub mod LinesMade
-pub mod MarkedRecords
+pub mod KindsOfRecords
+pub mod HeldMarks
 pub mod SaidPublished
 pub mod SaidLines
 pub mod SaidAssociations
@@ -45,6 +46,5 @@ pub mod UpdatesInTurn
 pub mod PreparedFits
 pub mod PreparedDays
 pub mod ClashingKeys
-pub mod Cells
 pub mod ReadLines
 pub mod WrittenPrepared

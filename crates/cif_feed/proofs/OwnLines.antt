@@ -28,7 +28,7 @@ use Rattle.cif_feed.specs.declared.mark.LineMark.TheVariants as mark
 use Rattle.cif_feed.specs.declared.mark.Numbered.{Numbered}
 use Rattle.cif_feed.specs.declared.mark.RecordMark.{RecordMark}
 use Rattle.cif_feed.proofs.KnownLines.{AreReadAs, all_marks, marks_from, parts_read, spell_read}
-use Rattle.cif_feed.proofs.MarkedRecords.{marks_spelled}
+use Rattle.cif_feed.proofs.HeldMarks.{marks_spelled}
 use Rattle.cif_feed.proofs.PublishedLines.{association_spelled, basic_spelled}
 
 -- the mark says nothing of an end and of a code

@@ -1,6 +1,6 @@
 -- The lines that are written of an association and of a BS spell them, with their open ends and holiday codes.
-use Rattle.std.proofs.Common.{◌≡◌, ◌≤◌, ℕ, ◌+◌, ◌-◌, Bool, true, false, cond, List, [], ◌∷◌, ◌++◌, length, take, drop, Option, Some, None}
-use Rattle.std.proofs.Common.{refl, sym, ap, ◌∙◌, subst, codes, arith, IsTrue, slice_index, length-append, append-nil}
+use Rattle.std.proofs.Common.{◌≡◌, ℕ, ◌+◌, ◌-◌, Bool, true, false, cond, List, [], ◌∷◌, ◌++◌, length, take, drop, Option, Some, None}
+use Rattle.std.proofs.Common.{refl, sym, ap, ◌∙◌, subst, codes, arith, IsTrue, slice_index, length-append}
 use Rattle.std.proofs.Math.Seq.{drop-append-add, take-append_seam}
 use Rattle.cif_columns.specs.Field.{AllFit, AllStandIn, FieldValue, Fits, Row, StandsIn, columns, date, exactly, is_whole_from, plain_columns}
 use Rattle.cif_columns.specs.Field.{plain_line, row, width_of}
@@ -20,14 +20,12 @@ use Rattle.cif_records.proofs.Judging.{no_open_end}
 use Rattle.cif_feed.specs.FeedLine.{IsClosedAt, SpellsAssociationBy, SpellsBasicBy, SpellsInFeed, code_of, code_value, end_value, if_allowed}
 use Rattle.cif_feed.specs.FeedLine.{is_open, letter_of, put_association_rows, put_basic_rows, record_mark, transaction_at}
 use Rattle.cif_feed.specs.HolidayCode.{code_in, has_code, letter}
-use Rattle.cif_feed.specs.LastDay.{last_day}
 use Rattle.cif_feed.specs.PublishedParts.{published_association_line, published_basic_line, with_code, with_columns, with_open_end}
 use Rattle.cif_feed.specs.declared.feed.Feed.TheVariants.{Full}
 use Rattle.cif_feed.specs.declared.holiday_code.HolidayCode.{HolidayCode}
 use Rattle.cif_feed.specs.declared.holiday_code.HolidayCode.TheVariants.{X, E, G}
 use Rattle.cif_feed.specs.declared.holiday_code.HolidayCodes.{HolidayCodes}
 use Rattle.cif_feed.specs.declared.mark.RecordMark.{RecordMark}
-use Rattle.cif_feed.specs.declared.mark.Transaction.{Transaction}
 use Rattle.cif_feed.specs.declared.mark.Transaction.TheVariants.{New}
 use Rattle.cif_feed.specs.declared.published.PublishedAssociation.{PublishedAssociation}
 use Rattle.cif_feed.specs.declared.published.PublishedSchedule.{PublishedSchedule}

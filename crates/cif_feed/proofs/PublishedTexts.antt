@@ -2,9 +2,8 @@
 use Rattle.std.proofs.Common.{◌≡◌, ℕ, ◌+◌, ◌≤◌, List, [], ◌∷◌, ◌++◌, length, map, Option, Some, None, refl, sym, ap, ◌∙◌, subst, arith}
 use Rattle.std.proofs.Common.{IsTrue, append-nil, append_assoc}
 use Rattle.std.proofs.lemmas.List.{map-append}
-use Rattle.std.proofs.lemmas.List.Elements.{All-cons, All-nil, All-head, All-tail}
+use Rattle.std.proofs.lemmas.List.Elements.{All-head, All-tail}
 use Rattle.std.specs.List.{flat_map}
-use Rattle.std.specs.Prelude.{All}
 use Rattle.cif_columns.specs.Contents.{contents_of}
 use Rattle.cif_columns.specs.Field.{AllFit, plain_line}
 use Rattle.cif_columns.proofs.PlainLines.{contents-lines_text}
@@ -54,7 +53,7 @@ use Rattle.cif_feed.specs.declared.published.PublishedAssociation.{PublishedAsso
 use Rattle.cif_feed.specs.declared.published.PublishedSchedule.{PublishedSchedule}
 use Rattle.cif_feed.proofs.FeedLines.{kind_there as feed_kind}
 use Rattle.cif_feed.proofs.KnownLines.{AreReadAs, IsReadAs, all_marks, marks_from, pairs-append, parts_read, read_are, spell_read}
-use Rattle.cif_feed.proofs.MarkedRecords.{feed_fits}
+use Rattle.cif_feed.proofs.HeldMarks.{feed_fits}
 use Rattle.cif_feed.proofs.OwnLines.{own_spells}
 use Rattle.cif_feed.proofs.PublishedLines.{association_written, basic_written}
 use Rattle.cif_feed.proofs.RecordsTaken.{read_back}

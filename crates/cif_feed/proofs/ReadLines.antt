@@ -1,5 +1,5 @@
 -- What the readers of AA and BS of a feed find, by the transaction.
-use Rattle.std.proofs.Common.{◌≡◌, ℕ, List, Option, Some, None, Result, Ok, Err, IfSome, refl, sym, ap, ◌∙◌, subst}
+use Rattle.std.proofs.Common.{◌≡◌, ℕ, List, Option, Some, Result, Ok, Err, IfSome, refl, sym, subst}
 use Rattle.cif_columns.specs.Field.{AllStandIn, columns}
 use Rattle.cif_columns.specs.declared.refusal.Refusal.{Refusal}
 use Rattle.cif_records.specs.Basic.{basic_back}

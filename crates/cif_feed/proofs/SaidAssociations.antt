@@ -1,25 +1,27 @@
 -- The AA of an update say its changes of associations, one by one.
-use Rattle.std.proofs.Common.{◌≡◌, ℕ, true, false, cond, List, [], ◌∷◌, Option, Some, None, refl, sym, ap, ◌∙◌, subst}
-use Rattle.std.specs.List.{flat_map}
+use Rattle.std.proofs.Common.{◌≡◌, ℕ, false, cond, List, [], ◌∷◌, Option, Some, None, refl, sym, ap, ◌∙◌, subst}
+use Rattle.cif_extract.specs.ExtractParts.{ExtractParts}
+use Rattle.cif_extract.specs.SpellsExtract.{SpellExtractBy}
 use Rattle.cif_columns.specs.Field.{AllStandIn}
 use Rattle.cif_records.specs.Kind.{kind_in}
 use Rattle.cif_records.specs.declared.association.Association.{Association}
 use Rattle.cif_records.specs.declared.record.Kind.{Kind}
-use Rattle.cif_records.specs.declared.record.Kind.TheVariants.{Ta, Td, Aa}
+use Rattle.cif_records.specs.declared.record.Kind.TheVariants.{Aa}
 use Rattle.cif_records.specs.declared.record.Record.{Record}
 use Rattle.cif_records.specs.declared.record.Record.TheVariants as of
 use Rattle.cif_records.proofs.Records.{kind_of}
+use Rattle.cif_feed.specs.FeedLayouts.{feed_layouts}
 use Rattle.cif_feed.specs.FeedLine.{SpellsAssociationBy, SpellsInFeed, is_open, mark_by, published_association_rows}
 use Rattle.cif_feed.specs.FeedLine.{put_association_rows, record_mark, transaction_at}
 use Rattle.cif_feed.specs.FromLines.{ArePairs, AreTriples}
 use Rattle.cif_feed.specs.HolidayCode.{all_codes}
 use Rattle.cif_feed.specs.LayoutRefusals.{kind_read_as}
-use Rattle.cif_feed.specs.RecordLines.{association_mark}
+use Rattle.cif_feed.specs.RecordLines.{association_mark, marks, record_lines}
 use Rattle.cif_feed.specs.UpdateLines.{SaysAssociation, is_association, lines_of}
 use Rattle.cif_feed.specs.UpdateParts.{AssociationKey, IsAssociationChange, SpellUpdate, UpdateParts}
 use Rattle.cif_feed.specs.declared.changes.Change.{Change}
 use Rattle.cif_feed.specs.declared.feed.Feed.{Feed}
-use Rattle.cif_feed.specs.declared.feed.Feed.TheVariants.{Full, Update}
+use Rattle.cif_feed.specs.declared.feed.Feed.TheVariants.{Update}
 use Rattle.cif_feed.specs.declared.holiday_code.HolidayCodes.{HolidayCodes}
 use Rattle.cif_feed.specs.declared.mark.Numbered.{Numbered}
 use Rattle.cif_feed.specs.declared.mark.RecordMark.{RecordMark}
@@ -27,23 +29,16 @@ use Rattle.cif_feed.specs.declared.mark.Transaction.{Transaction}
 use Rattle.cif_feed.specs.declared.mark.Transaction.TheVariants.{New, Revised, Deleted}
 use Rattle.cif_feed.specs.declared.published.PublishedAssociation.{PublishedAssociation}
 use Rattle.cif_feed.proofs.FeedLines.{kind_there}
-use Rattle.cif_feed.proofs.MarkedRecords.{association_of, records_associations}
+use Rattle.cif_feed.proofs.KindsOfRecords.{association_of, records_associations}
 use Rattle.cif_feed.proofs.RecordsTaken.{read_back}
-use Rattle.cif_feed.proofs.SaidLines.{lines_spelled, said_pairs}
+use Rattle.cif_feed.proofs.SaidLines.{kept_kind, lines_spelled, said_pairs}
 
 -- ---- an AA, the association that it spells, and its mark
 
-record IsAssociationLine (feed : Feed) (allowed : HolidayCodes) (line : ℕ × List ℕ) (a : Association) (m : Numbered RecordMark)
+pub record IsAssociationLine (feed : Feed) (allowed : HolidayCodes) (line : ℕ × List ℕ) (a : Association) (m : Numbered RecordMark)
     : Type 0 where
-  spells : SpellsInFeed feed allowed line.1 (of.Association a)
-  mark : m ≡ record { number = line.0; mark = record_mark (transaction_at feed line.1) 22 None line.1 }
-
--- a kind is read as an AA or not
-kept_kind : (feed : Feed) (k : Option Kind) → is_association k ≡ is_association (kind_read_as feed k)
-kept_kind Full k = refl
-kept_kind Update (Some Ta) = refl
-kept_kind Update (Some Td) = refl
-kept_kind Update _ = refl
+  pub spells : SpellsInFeed feed allowed line.1 (of.Association a)
+  pub mark : m ≡ record { number = line.0; mark = record_mark (transaction_at feed line.1) 22 None line.1 }
 
 module _ (feed : Feed) (allowed : HolidayCodes) (n : ℕ) (c : List ℕ) where
   abbrev Are : Option Kind → List Association → Type 0
@@ -60,11 +55,17 @@ module _ (feed : Feed) (allowed : HolidayCodes) (n : ℕ) (c : List ℕ) where
       at : (r : Record) → SpellsInFeed feed allowed c r → kind_read_as feed (kind_in c) ≡ Some (kind_of r) → Are (kind_in c) (association_of r)
       at (of.Association a) s e =
           subst (λ k. Are k (a ∷ [])) (sym (read_back feed (kind_in c) Aa (λ no. cc) e)) (record { spells = s; mark = refl }, tt)
-      at r s e = none (kind_in c) (kept_kind feed (kind_in c) ∙ ap is_association e)
+      at r s e = none (kind_in c) (kept_kind is_association refl refl feed (kind_in c) ∙ ap is_association e)
 
-named_association : (kind : Option Kind) → is_association kind ≡ true → (k : Kind) × (kind ≡ Some k)
-named_association (Some k) e = (k, refl)
-named_association None e = absurd (cc)
+-- all of them, their associations and marks
+pub associations_marked : (feed : Feed) (allowed : HolidayCodes) (cs : List (List ℕ)) (x : ExtractParts)
+    → SpellExtractBy (feed_layouts feed allowed) (record_lines cs) x
+    → AreTriples (IsAssociationLine feed allowed) (lines_of is_association cs) x.associations (marks association_mark feed allowed cs)
+associations_marked feed allowed cs x s =
+    subst (λ l. AreTriples (IsAssociationLine feed allowed) (lines_of is_association cs) l (marks association_mark feed allowed cs))
+    (records_associations s.records x s.are)
+    (lines_spelled feed allowed is_association association_of association_mark (IsAssociationLine feed allowed)
+    (association_step feed allowed) refl cs x s)
 
 -- ---- what it says
 
@@ -96,12 +97,7 @@ pub associations_said : (cs : List (List ℕ)) (u : UpdateParts) → SpellUpdate
     → ArePairs SaysAssociation (lines_of is_association cs) u.associations
 associations_said cs u s =
     let x = s.lines in
-    let Q = IsAssociationLine Update all_codes in
-    said_pairs Q IsAssociationChange SaysAssociation association_said (lines_of is_association cs) x.extract.associations
-    x.association_marks u.associations
-    (subst (λ l. AreTriples Q (lines_of is_association cs) l x.association_marks)
-    (records_associations s.spelled.extract.records x.extract s.spelled.extract.are)
-    (subst (λ ms. AreTriples Q (lines_of is_association cs) (flat_map association_of s.spelled.extract.records) ms)
-    (sym s.spelled.association_marks)
-    (lines_spelled Update all_codes is_association association_of association_mark Q (association_step Update all_codes)
-    named_association cs x s.spelled))) s.says.associations
+    said_pairs (IsAssociationLine Update all_codes) IsAssociationChange SaysAssociation association_said (lines_of is_association cs)
+    x.extract.associations x.association_marks u.associations
+    (subst (AreTriples (IsAssociationLine Update all_codes) (lines_of is_association cs) x.extract.associations)
+    (sym s.spelled.association_marks) (associations_marked Update all_codes cs x.extract s.spelled.extract)) s.says.associations

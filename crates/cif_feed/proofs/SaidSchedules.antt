@@ -1,11 +1,13 @@
 -- The BS of an update say its changes of schedules, one by one.
-use Rattle.std.proofs.Common.{◌≡◌, ℕ, Bool, true, false, cond, List, [], ◌∷◌, ◌++◌, Option, Some, None, refl, sym, ap, ◌∙◌, subst}
+use Rattle.std.proofs.Common.{◌≡◌, ℕ, Bool, false, cond, List, [], ◌∷◌, ◌++◌, Option, Some, None, refl, sym, ap, ◌∙◌, subst}
 use Rattle.std.specs.List.{flat_map}
 use Rattle.std.specs.Option.{option_map}
 use Rattle.cif_columns.specs.Field.{AllStandIn, Row, weekdays}
 use Rattle.cif_columns.specs.declared.stp.Stp.{Stp}
 use Rattle.cif_extract.specs.BodyParts.{BodyParts}
+use Rattle.cif_extract.specs.ExtractParts.{ExtractParts}
 use Rattle.cif_extract.specs.Grammar.{AreSchedules, HasTerms, HaveBody}
+use Rattle.cif_extract.specs.SpellsExtract.{SpellExtractBy}
 use Rattle.cif_extract.specs.declared.extract.Schedule.{Schedule}
 use Rattle.cif_records.specs.Basic.{basic_back, basic_front_by, terms_of}
 use Rattle.cif_records.specs.Detail.{detail_rows}
@@ -14,22 +16,23 @@ use Rattle.cif_records.specs.declared.basic.Basic.{Basic}
 use Rattle.cif_records.specs.declared.detail.Detail.{Detail}
 use Rattle.cif_records.specs.declared.extra.Extra.{Extra}
 use Rattle.cif_records.specs.declared.record.Kind.{Kind}
-use Rattle.cif_records.specs.declared.record.Kind.TheVariants.{Ta, Td, Bs}
+use Rattle.cif_records.specs.declared.record.Kind.TheVariants.{Bs}
 use Rattle.cif_records.specs.declared.record.Record.{Record}
 use Rattle.cif_records.specs.declared.record.Record.TheVariants as of
 use Rattle.cif_records.proofs.Records.{kind_of}
+use Rattle.cif_feed.specs.FeedLayouts.{feed_layouts}
 use Rattle.cif_feed.specs.FeedLine.{SpellsBasicBy, SpellsInFeed, code_of, code_value, deleted_basic_rows, end_value, is_open, letter_of}
 use Rattle.cif_feed.specs.FeedLine.{mark_by, published_basic_rows, put_basic_rows, record_mark, transaction_at}
 use Rattle.cif_feed.specs.FromLines.{ArePairs, AreTriples}
 use Rattle.cif_feed.specs.HolidayCode.{all_codes}
 use Rattle.cif_feed.specs.LayoutRefusals.{kind_read_as}
-use Rattle.cif_feed.specs.RecordLines.{is_basic, schedule_mark}
+use Rattle.cif_feed.specs.RecordLines.{is_basic, marks, record_lines, schedule_mark}
 use Rattle.cif_feed.specs.Transaction.{transaction_letter}
 use Rattle.cif_feed.specs.UpdateLines.{SaysSchedule, lines_of}
 use Rattle.cif_feed.specs.UpdateParts.{IsScheduleChange, ScheduleKey, SpellUpdate, UpdateParts}
 use Rattle.cif_feed.specs.declared.changes.Change.{Change}
 use Rattle.cif_feed.specs.declared.feed.Feed.{Feed}
-use Rattle.cif_feed.specs.declared.feed.Feed.TheVariants.{Full, Update}
+use Rattle.cif_feed.specs.declared.feed.Feed.TheVariants.{Update}
 use Rattle.cif_feed.specs.declared.holiday_code.HolidayCode.{HolidayCode}
 use Rattle.cif_feed.specs.declared.holiday_code.HolidayCodes.{HolidayCodes}
 use Rattle.cif_feed.specs.declared.mark.Numbered.{Numbered}
@@ -38,29 +41,22 @@ use Rattle.cif_feed.specs.declared.mark.Transaction.{Transaction}
 use Rattle.cif_feed.specs.declared.mark.Transaction.TheVariants.{New, Revised, Deleted}
 use Rattle.cif_feed.specs.declared.published.PublishedSchedule.{PublishedSchedule}
 use Rattle.cif_feed.proofs.FeedLines.{kind_there}
-use Rattle.cif_feed.proofs.MarkedRecords.{basic_of, first_basic, records_basics}
+use Rattle.cif_feed.proofs.KindsOfRecords.{basic_of, first_basic, records_basics}
 use Rattle.cif_feed.proofs.RecordsTaken.{read_back}
-use Rattle.cif_feed.proofs.SaidLines.{lines_spelled, said_pairs}
+use Rattle.cif_feed.proofs.SaidLines.{kept_kind, lines_spelled, said_pairs}
 
 -- ---- a BS, the basic schedule that it spells, and its mark
 
-record IsBasicLine (feed : Feed) (allowed : HolidayCodes) (line : ℕ × List ℕ) (b : Basic) (m : Numbered RecordMark) : Type 0 where
-  spells : SpellsInFeed feed allowed line.1 (of.Basic b)
-  mark : m ≡ record { number = line.0; mark = record_mark (transaction_at feed line.1) 16 (code_of allowed line.1) line.1 }
+pub record IsBasicLine (feed : Feed) (allowed : HolidayCodes) (line : ℕ × List ℕ) (b : Basic) (m : Numbered RecordMark) : Type 0 where
+  pub spells : SpellsInFeed feed allowed line.1 (of.Basic b)
+  pub mark : m ≡ record { number = line.0; mark = record_mark (transaction_at feed line.1) 16 (code_of allowed line.1) line.1 }
 
 -- the same of its schedule
-record IsScheduleLine (feed : Feed) (allowed : HolidayCodes) (line : ℕ × List ℕ) (s : Schedule) (m : Numbered RecordMark) : Type 0 where
-  basic : Basic
-  of_basic : IsBasicLine feed allowed line basic m
-  terms : HasTerms basic s
-  detail : basic.detail ≡ option_map (λ (body : BodyParts). body.detail) s.body
-
--- a kind is read as a BS or not
-kept_kind : (feed : Feed) (k : Option Kind) → is_basic k ≡ is_basic (kind_read_as feed k)
-kept_kind Full k = refl
-kept_kind Update (Some Ta) = refl
-kept_kind Update (Some Td) = refl
-kept_kind Update _ = refl
+pub record IsScheduleLine (feed : Feed) (allowed : HolidayCodes) (line : ℕ × List ℕ) (s : Schedule) (m : Numbered RecordMark) : Type 0 where
+  pub basic : Basic
+  pub of_basic : IsBasicLine feed allowed line basic m
+  pub terms : HasTerms basic s
+  pub detail : basic.detail ≡ option_map (λ (body : BodyParts). body.detail) s.body
 
 module _ (feed : Feed) (allowed : HolidayCodes) (n : ℕ) (c : List ℕ) where
   abbrev Are : Option Kind → List Basic → Type 0
@@ -76,7 +72,7 @@ module _ (feed : Feed) (allowed : HolidayCodes) (n : ℕ) (c : List ℕ) where
       at : (r : Record) → SpellsInFeed feed allowed c r → kind_read_as feed (kind_in c) ≡ Some (kind_of r) → Are (kind_in c) (basic_of r)
       at (of.Basic b) s e =
           subst (λ k. Are k (b ∷ [])) (sym (read_back feed (kind_in c) Bs (λ no. cc) e)) (record { spells = s; mark = refl }, tt)
-      at r s e = none (kind_in c) (kept_kind feed (kind_in c) ∙ ap is_basic e)
+      at r s e = none (kind_in c) (kept_kind is_basic refl refl feed (kind_in c) ∙ ap is_basic e)
 
 -- ---- the schedules of their BS
 
@@ -116,9 +112,13 @@ module _ (feed : Feed) (allowed : HolidayCodes) where
       (subst (λ bs. AreTriples Basics ls bs ms) (first_basic groups own others s parts one) p)
       (λ ls ms. schedule_lines ls ms others ss more)
 
-named_basic : (kind : Option Kind) → is_basic kind ≡ true → (k : Kind) × (kind ≡ Some k)
-named_basic (Some k) e = (k, refl)
-named_basic None e = absurd (cc)
+  -- all of them, their schedules and marks
+  pub schedules_marked : (cs : List (List ℕ)) (x : ExtractParts) → SpellExtractBy (feed_layouts feed allowed) (record_lines cs) x
+      → AreTriples Schedules (lines_of is_basic cs) x.schedules (marks schedule_mark feed allowed cs)
+  schedules_marked cs x s =
+      schedule_lines (lines_of is_basic cs) (marks schedule_mark feed allowed cs) s.are.schedules x.schedules s.are.are_schedules
+      (subst (λ bs. AreTriples Basics (lines_of is_basic cs) bs (marks schedule_mark feed allowed cs)) (records_basics s.records x s.are)
+      (lines_spelled feed allowed is_basic basic_of schedule_mark Basics (basic_step feed allowed) refl cs x s))
 
 -- ---- what it says
 
@@ -176,12 +176,7 @@ schedule_said line s m change q is =
 pub schedules_said : (cs : List (List ℕ)) (u : UpdateParts) → SpellUpdate cs u → ArePairs SaysSchedule (lines_of is_basic cs) u.schedules
 schedules_said cs u s =
     let x = s.lines in
-    let are = s.spelled.extract.are in
-    let Q = IsBasicLine Update all_codes in
     said_pairs (IsScheduleLine Update all_codes) IsScheduleChange SaysSchedule schedule_said (lines_of is_basic cs) x.extract.schedules
     x.schedule_marks u.schedules
-    (schedule_lines Update all_codes (lines_of is_basic cs) x.schedule_marks are.schedules x.extract.schedules are.are_schedules
-    (subst (λ bs. AreTriples Q (lines_of is_basic cs) bs x.schedule_marks) (records_basics s.spelled.extract.records x.extract are)
-    (subst (λ ms. AreTriples Q (lines_of is_basic cs) (flat_map basic_of s.spelled.extract.records) ms) (sym s.spelled.schedule_marks)
-    (lines_spelled Update all_codes is_basic basic_of schedule_mark Q (basic_step Update all_codes) named_basic cs x s.spelled))))
-    s.says.schedules
+    (subst (AreTriples (IsScheduleLine Update all_codes) (lines_of is_basic cs) x.extract.schedules) (sym s.spelled.schedule_marks)
+    (schedules_marked Update all_codes cs x.extract s.spelled.extract)) s.says.schedules

@@ -11,7 +11,7 @@ use Rattle.cif_feed.specs.RecordLines.{is_note}
 use Rattle.cif_feed.specs.declared.feed_reading.Passed.{Passed}
 use Rattle.cif_feed.proofs.FeedRuns.{at_feed_line, comes-end, comes-line_fault, comes-memory, comes-untaken, comment_fine, feed_comment}
 use Rattle.cif_feed.proofs.FeedRuns.{feed_line, feed_reason, fewer, line_why, none_more, none_none, room_more}
-use Rattle.cif_feed.proofs.MarkedRecords.{marked_result}
+use Rattle.cif_feed.proofs.HeldMarks.{marked_result}
 use Rattle.cif_feed.proofs.feed_reading.read_feed.Goals as goal
 
 pub loop-columns-init : goal.loop-columns-init
