@@ -11,7 +11,7 @@ use Rattle.cif_columns.proofs.PlainLines.{contents-lines_text}
 use Rattle.cif_extract.specs.BodyParts.{BodyParts, extra_records}
 use Rattle.cif_extract.specs.ExtractParts.{ExtractParts}
 use Rattle.cif_extract.specs.Grammar.{AreExtract, AreSchedule, AreSchedules, HaveBody}
-use Rattle.cif_extract.specs.Layouts.{Layouts}
+use Rattle.cif_extract.specs.Layouts.{Layouts, own_layouts}
 use Rattle.cif_extract.specs.SpellsExtract.{BytesSpell, SpellAll, SpellAllBy, SpellExtract, SpellExtractBy}
 use Rattle.cif_extract.specs.Texts.{AllTablesFit, FitsColumns, body_tables, extract_lines, extract_text, tables_of}
 use Rattle.cif_extract.specs.declared.extract.Schedule.{Schedule}
@@ -24,7 +24,7 @@ use Rattle.cif_records.specs.declared.detail.Detail.{Detail}
 use Rattle.cif_records.specs.declared.extra.Extra.{Extra}
 use Rattle.cif_records.specs.declared.record.Record.{Record}
 use Rattle.cif_records.proofs.Records as records
-use Rattle.cif_extract.proofs.LayoutLaws.{AreLayouts}
+use Rattle.cif_extract.proofs.LayoutLaws.{AreLayouts, own_are}
 use Rattle.cif_extract.proofs.PlainRecords.{are-extract, plain_records, tables-append, tables-extract, tables-plain}
 
 -- tables that follow others
@@ -109,8 +109,11 @@ module _ (layouts : Layouts) (laws : AreLayouts layouts) where
   )
 
   -- what lines spell fits its columns
-  pub spelled-fits : (lines : List (List ℕ)) (x : ExtractParts) → All IsLine lines → SpellExtractBy layouts lines x → FitsColumns x
-  spelled-fits lines x are_lines s = fit-extract s.records x s.are (fit-spelled lines s.records are_lines s.spelled)
+  pub spelled-fits-by : (lines : List (List ℕ)) (x : ExtractParts) → All IsLine lines → SpellExtractBy layouts lines x → FitsColumns x
+  spelled-fits-by lines x are_lines s = fit-extract s.records x s.are (fit-spelled lines s.records are_lines s.spelled)
+
+pub spelled-fits : (lines : List (List ℕ)) (x : ExtractParts) → All IsLine lines → SpellExtract lines x → FitsColumns x
+spelled-fits = spelled-fits-by own_layouts own_are
 
 -- the plain lines of records that fit are lines, and spell them
 plain-lines : (rs : List Record) → AllTablesFit (map record_table rs) → All IsLine (map plain_line (map record_table rs))

@@ -7,7 +7,7 @@ use Rattle.cif_columns.specs.Comment.{is_comment}
 use Rattle.cif_columns.specs.Line.{IsLine}
 use Rattle.cif_extract.specs.Texts.{FitsColumns}
 use Rattle.cif_extract.specs.declared.extract.Schedule.{Schedule}
-use Rattle.cif_extract.proofs.PlainTexts.{spelled-fits}
+use Rattle.cif_extract.proofs.PlainTexts.{spelled-fits-by}
 use Rattle.cif_records.specs.declared.association.Association.{Association}
 use Rattle.cif_feed.specs.FeedLayouts.{feed_layouts}
 use Rattle.cif_feed.specs.FeedLine.{transaction_at}
@@ -78,5 +78,5 @@ lines_are (c ∷ cs) are =
 pub feed_fits : (feed : Feed) (allowed : HolidayCodes) (cs : List (List ℕ)) (x : FeedParts) → SpellFeed feed allowed cs x
     → FitsColumns x.extract
 feed_fits feed allowed cs x s =
-    spelled-fits (feed_layouts feed allowed) (feed_are feed allowed) (record_lines cs) x.extract (lines_are cs s.are_contents)
+    spelled-fits-by (feed_layouts feed allowed) (feed_are feed allowed) (record_lines cs) x.extract (lines_are cs s.are_contents)
     s.says.extract

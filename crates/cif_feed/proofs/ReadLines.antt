@@ -1,18 +1,15 @@
 -- What the readers of AA and BS of a feed find, by the transaction.
-use Rattle.std.proofs.Common.{◌≡◌, ℕ, List, Option, Some, Result, Ok, Err, IfSome, refl, sym, subst}
-use Rattle.cif_columns.specs.Field.{AllStandIn, columns}
+use Rattle.std.proofs.Common.{◌≡◌, ℕ, List, Option, Some, Result, Ok, Err, refl, sym, subst}
+use Rattle.cif_columns.specs.Field.{AllStandIn}
 use Rattle.cif_columns.specs.declared.refusal.Refusal.{Refusal}
 use Rattle.cif_records.specs.Basic.{basic_back}
 use Rattle.cif_records.specs.Checks.{IsJudged}
-use Rattle.cif_records.specs.Kind.{identity, kind_in, kinds}
 use Rattle.cif_records.specs.declared.association.Association.{Association}
 use Rattle.cif_records.specs.declared.basic.BasicTerms.{BasicTerms}
-use Rattle.cif_records.specs.declared.record.Kind.{Kind}
 use Rattle.cif_records.specs.declared.record.Kind.TheVariants.{Aa, Bs}
 use Rattle.cif_records.specs.declared.record.Record.TheVariants as of
 use Rattle.cif_records.proofs.Basics.{detail_read}
 use Rattle.cif_records.proofs.Details.{basic_with, stands_by, stands_with}
-use Rattle.cif_records.proofs.Identities.{found_kind}
 use Rattle.cif_feed.specs.FeedLine.{IsClosedAt, SpellsAssociationBy, SpellsBasicBy, code_of, is_open, put_basic_front}
 use Rattle.cif_feed.specs.FeedLine.{SpellsInFeed, put_basic_rows, transaction_at}
 use Rattle.cif_feed.specs.LayoutRefusals.{association_refusal_by, basic_refusal_by, feed_refusal_as}
@@ -21,11 +18,6 @@ use Rattle.cif_feed.specs.declared.feed.Feed.{Feed}
 use Rattle.cif_feed.specs.declared.holiday_code.HolidayCodes.{HolidayCodes}
 use Rattle.cif_feed.specs.declared.mark.Transaction.{Transaction}
 use Rattle.cif_feed.specs.declared.mark.Transaction.TheVariants.{New}
-
--- the letters of a line of a kind
-pub letters : (line : List ℕ) (k : Kind) → kind_in line ≡ Some k → columns 1 2 line ≡ identity k
-letters line k is =
-    subst (λ (o : Option Kind). IfSome o (λ kind. columns 1 2 line ≡ identity kind)) is (found_kind (columns 1 2 line) kinds)
 
 -- what is judged holds of another fact that follows
 judged_by : {T : Type 0} (P Q : T → Type 0) (refusal : Option Refusal) (result : Result T Refusal) → ((value : T) → P value → Q value)

@@ -137,14 +137,7 @@ module _ (line : ℕ × List ℕ) (b : Basic) (s : Schedule) (terms : HasTerms b
         let k = code_of all_codes line.1 in
         let own = option_map (λ (body : BodyParts). body.detail) s.body in
         let all : rows b.uid b.first b.last b.days b.letter b.detail o k ≡ rows s.uid s.first s.last s.days s.letter own p.open_end p.code =
-        ap (λ v. rows v b.first b.last b.days b.letter b.detail o k) terms.uid
-        ∙ ap (λ v. rows s.uid v b.last b.days b.letter b.detail o k) terms.first
-        ∙ ap (λ v. rows s.uid s.first v b.days b.letter b.detail o k) terms.last
-        ∙ ap (λ v. rows s.uid s.first s.last v b.letter b.detail o k) terms.days
-        ∙ ap (λ v. rows s.uid s.first s.last s.days v b.detail o k) terms.letter
-        ∙ ap (λ v. rows s.uid s.first s.last s.days s.letter v o k) detail
-        ∙ ap (λ v. rows s.uid s.first s.last s.days s.letter own v k) (sym ends)
-        ∙ ap (λ v. rows s.uid s.first s.last s.days s.letter own p.open_end v) (sym code) in
+        cc in
         subst (λ (x : Schedule). AllStandIn line.1 (rows x.uid x.first x.last x.days x.letter
         (option_map (λ (body : BodyParts). body.detail) x.body) p.open_end p.code)) (sym same) (subst (AllStandIn line.1) all stands)
 

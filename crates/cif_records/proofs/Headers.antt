@@ -1,5 +1,5 @@
 -- What stands in a header's columns; a line spells at most one header, and there is no reason to refuse a line that spells one.
-use Rattle.std.proofs.Common.{◌≡◌, ◌+◌, ◌≤◌, ℕ, nat_le, true, List, ◌++◌, length, Option, Some, None, refl, sym, ap, ◌∙◌, codes, arith}
+use Rattle.std.proofs.Common.{◌≡◌, ◌+◌, ◌<◌, ◌≤◌, ℕ, nat_le, true, List, ◌++◌, length, Option, Some, None, refl, sym, ap, ◌∙◌, codes, arith}
 use Rattle.std.proofs.Common.{take, drop, set, subst, lit≤, length-take, length-drop, append_assoc, take-append-drop}
 use Rattle.std.proofs.Math.ListN.{length-set}
 use Rattle.std.proofs.Props.{props}
@@ -29,19 +29,6 @@ part_of_kept a n m line e =
     ∙ ap (λ (xs : List ℕ). take n (take (n + m) xs)) (drop-drop a 2 line)
     ∙ take-take n (n + m) (drop (2 + a) line) (omega arith)
 
-module _ (line : List ℕ) where
-  kept-3 : kept 3 46 (columns 3 60 line) ≡ columns 3 46 line
-  kept-3 = part_of_kept 0 44 14 line refl
-
-  kept-48 : kept 48 48 (columns 3 60 line) ≡ columns 48 48 line
-  kept-48 = part_of_kept 45 1 12 line refl
-
-  kept-49 : kept 49 54 (columns 3 60 line) ≡ columns 49 54 line
-  kept-49 = part_of_kept 46 6 6 line refl
-
-  kept-55 : kept 55 60 (columns 3 60 line) ≡ columns 55 60 line
-  kept-55 = part_of_kept 52 6 0 line refl
-
 -- and so are those with the update indicator of a full extract
 module _ (line : List ℕ) (wide : length (columns 3 60 line) ≡ 58) where
   abbrev pub full_columns : List ℕ
@@ -50,20 +37,14 @@ module _ (line : List ℕ) (wide : length (columns 3 60 line) ≡ 58) where
   pub full-wide : length full_columns ≡ 58
   full-wide = length-set (columns 3 60 line) 44 70 ∙ wide
 
-  pub full-3 : kept 3 46 full_columns ≡ columns 3 46 line
-  full-3 = take-set-le 44 (columns 3 60 line) 44 70 (lit≤ tt) ∙ kept-3 line
+  pub full-before : kept 3 46 full_columns ≡ columns 3 46 line
+  full-before = take-set-le 44 (columns 3 60 line) 44 70 (lit≤ tt) ∙ part_of_kept 0 44 14 line refl
 
-  pub full-47 : kept 47 47 full_columns ≡ codes "F"
-  full-47 = ap (take 1) (drop-set (columns 3 60 line) 44 70 (omega (arith, wide)))
+  pub full-there : kept 47 47 full_columns ≡ codes "F"
+  full-there = ap (take 1) (drop-set (columns 3 60 line) 44 70 (omega (arith, wide)))
 
-  pub full-48 : kept 48 48 full_columns ≡ columns 48 48 line
-  full-48 = ap (take 1) (drop-set-lt 45 (columns 3 60 line) 44 70 (lit≤ tt)) ∙ kept-48 line
-
-  pub full-49 : kept 49 54 full_columns ≡ columns 49 54 line
-  full-49 = ap (take 6) (drop-set-lt 46 (columns 3 60 line) 44 70 (lit≤ tt)) ∙ kept-49 line
-
-  pub full-55 : kept 55 60 full_columns ≡ columns 55 60 line
-  full-55 = ap (take 6) (drop-set-lt 52 (columns 3 60 line) 44 70 (lit≤ tt)) ∙ kept-55 line
+  pub full-behind : (a n m : ℕ) → 44 < a → a + (n + m) ≡ 58 → take n (drop a full_columns) ≡ take n (drop (2 + a) line)
+  full-behind a n m later e = ap (take n) (drop-set-lt a (columns 3 60 line) 44 70 later) ∙ part_of_kept a n m line e
 
 -- fifty-eight columns are their parts
 cut : (a n : ℕ) (c : List ℕ) → drop a c ≡ take n (drop a c) ++ drop (a + n) c

@@ -1,12 +1,10 @@
 -- Laws of all extracts, by induction over tables: what lines spell fits, and the text of what fits spells it (`PlainTexts`).
-use Rattle.cif_extract.specs.Layouts.{own_layouts}
-use Rattle.cif_extract.proofs.LayoutLaws.{own_are}
 use Rattle.cif_extract.proofs.PlainTexts.{spelled-fits, text-lines, text-spells}
 use Rattle.cif_columns.specs.Contents.{contents_of}
 use Rattle.cif_extract.proofs.laws.texts_spell_their_extracts.Goals as goal
 
 pub returns-clause-fits : goal.returns-clause-fits
-returns-clause-fits c bytes x s = spelled-fits own_layouts own_are (contents_of bytes) x s.are_lines s.spelled
+returns-clause-fits c bytes x s = spelled-fits (contents_of bytes) x s.are_lines s.spelled
 
 pub returns-clause-spells : goal.returns-clause-spells
 returns-clause-spells c = text-spells
