@@ -1,16 +1,14 @@
 -- The place after a line that spells a record is the place after that record.
-use Rattle.std.proofs.Common.{◌≡◌, ℕ, ◌<◌, Bool, true, false, not, List, [], ◌∷◌, ◌++◌, length, Some, cond, refl, ap, ◌∙◌}
+use Rattle.std.proofs.Common.{◌≡◌, ℕ, ◌<◌, Bool, true, false, not, List, [], ◌∷◌, ◌++◌, length, None, Some, cond, refl, ap, ◌∙◌}
 use Rattle.std.proofs.lemmas.List.Sums.{fold-append}
 use Rattle.cif_columns.specs.Line.{IsLine}
 use Rattle.cif_extract.specs.FirstRefusal.{refusal_of}
-use Rattle.cif_extract.specs.Layouts.{Layouts}
-use Rattle.cif_extract.specs.OrderOfRecords.{after_extra, place_after, place_behind, place_behind_by}
-use Rattle.cif_extract.specs.Steps.Reading.{refusal_here}
+use Rattle.cif_extract.specs.Layouts.{Layouts, own_layouts}
+use Rattle.cif_extract.specs.OrderOfRecords.{after_extra, may_stand, place_after, place_behind, place_behind_by}
+use Rattle.cif_extract.specs.Taken.{refusal_at}
 use Rattle.cif_extract.specs.declared.place.Place.{Place}
 use Rattle.cif_extract.specs.declared.place.Place.TheVariants as at
 use Rattle.cif_records.specs.Bodies.{has_body}
-use Rattle.cif_records.specs.Kind.{kind_in}
-use Rattle.cif_records.specs.Record.{record_refusal}
 use Rattle.cif_records.specs.declared.record.Record.{Record}
 use Rattle.cif_records.specs.declared.record.Record.TheVariants as of
 use Rattle.cif_records.proofs.Records.{kind_of as record_kind}
@@ -19,10 +17,9 @@ use Rattle.cif_extract.proofs.LayoutLaws.{AreLayouts}
 
 -- why a line is refused after these, by the place behind them
 pub refused_at : (max : ℕ) (lines : List (List ℕ)) (line : List ℕ) (place : Place) → IsLine line → length lines < max →
-    place_behind lines ≡ place → refusal_of max lines line ≡ refusal_here place (kind_in line) line
-unfolding record_refusal
+    place_behind lines ≡ place → refusal_of max lines line ≡ refusal_at own_layouts place line
 refused_at max lines line place is_line room behind =
-    line_refusal max lines line is_line room ∙ ap (λ p. refusal_here p (kind_in line) line) behind
+    line_refusal max lines line is_line room ∙ ap (λ p. refusal_at own_layouts p line) behind
 
 -- the place after a record, from the one before it
 abbrev pub place_past : Place → Record → Place
@@ -54,3 +51,8 @@ module _ (layouts : Layouts) (laws : AreLayouts layouts) where
       fold-append (λ before l. place_after before (layouts.kind l) (layouts.cancels l)) at.Start lines (line ∷ [])
       ∙ ap (λ kind. place_after (place_behind_by layouts lines) kind (layouts.cancels line)) (laws.kind line r s)
       ∙ past_record (place_behind_by layouts lines) line r s ∙ ap (λ p. place_past p r) behind
+
+  -- what spells a record that may stand there isn't refused
+  pub fine_here : (place : Place) (line : List ℕ) (r : Record) → layouts.spells line r → may_stand place (record_kind r) ≡ true
+      → refusal_at layouts place line ≡ None
+  fine_here place line r spells may = rw (laws.kind line r spells, may, laws.fine line r spells) refl

@@ -24,7 +24,7 @@ use Rattle.cif_extract.specs.OrderOfRecords.{may_stand}
 use Rattle.cif_extract.specs.ReadCall.{IsResultOf, IsReadWhole}
 use Rattle.cif_extract.specs.ReadFault.{IsReadFault, reading_extract}
 use Rattle.cif_extract.specs.Steps.Reading.{HasRead, HasReadAt, IsTaken, IsTakenAs, IsWhole, Progress, begun, no_progress}
-use Rattle.cif_extract.specs.Steps.Reading.{fault_at_line, parts_with_header, refusal_here, step}
+use Rattle.cif_extract.specs.Steps.Reading.{fault_at_line, parts_with_header, step}
 use Rattle.cif_extract.specs.SpellsExtract.{BytesSpellWithin, SpellAllBy, SpellExtract}
 use Rattle.cif_extract.specs.Taken.{HasTaken, IsNoTrailer, IsTakenBehind, refusal_at, refusal_behind}
 use Rattle.cif_extract.specs.declared.extract.Extract.{Extract}
@@ -142,23 +142,16 @@ module _ (layouts : Layouts) (laws : AreLayouts layouts) where
     taken_behind (Err (untaken.Refused why)) after is = refused_behind ∙ is
     taken_behind (Err untaken.Memory) after is = tt
 
--- the same by the layouts of this profile
-pub own_behind : (lines : List (List ℕ)) (line : List ℕ) (before : Progress) → HasTaken own_layouts lines before →
-    (result : Result Unit TakeFault) (after : Progress) → IsTaken (refusal_here before.place (kind_in line) line) line before result after →
-    IsTakenBehind own_layouts lines line result after
-unfolding record_refusal
-own_behind lines line before so_far = taken_behind own_layouts own_are lines line before so_far
-
 module _ (max : ℕ) (lines : List (List ℕ)) (line : List ℕ) (is_line : IsLine line) (room : length lines < max) (before : Progress)
     (so_far : HasCome max lines before) where
   -- why a line is refused here
-  pub refused_here : refusal_of max lines line ≡ refusal_here before.place (kind_in line) line
+  pub refused_here : refusal_of max lines line ≡ refusal_at own_layouts before.place line
   refused_here = refused_at max lines line before.place is_line room so_far.taken.place
 
-  pub come_more : (after : Progress) → IsTaken (refusal_here before.place (kind_in line) line) line before (Ok tt) after →
+  pub come_more : (after : Progress) → IsTaken (refusal_at own_layouts before.place line) line before (Ok tt) after →
       HasCome max (lines ++ (line ∷ [])) after
   come_more after is = record {
-    taken = (own_behind lines line before so_far.taken (Ok tt) after is).1;
+    taken = taken_more own_layouts own_are lines line before so_far.taken after is;
     fine = none_refused-more max lines line so_far.fine (refused_here ∙ is.0);
   }
 

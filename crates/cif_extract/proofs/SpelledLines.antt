@@ -15,21 +15,16 @@ use Rattle.cif_records.specs.declared.record.Record.TheVariants as of
 use Rattle.cif_records.proofs.Records.{kind_of as record_kind}
 use Rattle.cif_extract.proofs.LayoutLaws.{AreLayouts}
 use Rattle.cif_extract.proofs.OrderLaws.{MayStand, stand_extract}
-use Rattle.cif_extract.proofs.Places.{place_more, place_past}
+use Rattle.cif_extract.proofs.Places.{fine_here, place_more, place_past}
 
 module _ (layouts : Layouts) (laws : AreLayouts layouts) where
-  -- what spells a record that may stand there isn't refused
-  pub fine_here : (place : Place) (line : List ℕ) (r : Record) → layouts.spells line r → may_stand place (record_kind r) ≡ true
-      → refusal_at layouts place line ≡ None
-  fine_here place line r spells may = rw (laws.kind line r spells, may, laws.fine line r spells) refl
-
   fine_at : (front : List (List ℕ)) (place : Place) (before : List (List ℕ)) (line : List ℕ) (after : List (List ℕ))
       (records : List Record) (to : Place) → place_behind_by layouts front ≡ place → SpellAllBy layouts (before ++ line ∷ after) records
       → MayStand place records to → refusal_behind layouts (front ++ before) line ≡ None
   fine_at front place [] line after [] to is spell stand = absurd spell
   fine_at front place [] line after (r ∷ records) to is spell stand =
       ap (λ ls. refusal_behind layouts ls line) (append-nil front) ∙ ap (λ p. refusal_at layouts p line) is
-      ∙ fine_here place line r spell.0 stand.0
+      ∙ fine_here layouts laws place line r spell.0 stand.0
   fine_at front place (l ∷ before) line after [] to is spell stand = absurd spell
   fine_at front place (l ∷ before) line after (r ∷ records) to is spell stand =
       ap (λ ls. refusal_behind layouts ls line) (sym (append_assoc front (l ∷ []) before))

@@ -82,7 +82,9 @@ impl Reading {
     ghost use Rattle.cif_extract.specs.OrderOfRecords.{may_stand};
     ghost use Rattle.cif_extract.specs.Steps.Reading.{HasRead, IsClosed, IsFurther, IsKeepable, IsKept, IsTaken};
     ghost use Rattle.cif_extract.specs.Steps.Reading.{GoesOnPlainly, keeping, no_progress, progress_of, step};
-    ghost use Rattle.cif_extract.specs.Steps.Reading.{UnlessMemory, refusal_here};
+    ghost use Rattle.cif_extract.specs.Steps.Reading.{UnlessMemory};
+    ghost use Rattle.cif_extract.specs.Layouts.{own_layouts};
+    ghost use Rattle.cif_extract.specs.Taken.{refusal_at};
     ghost use Rattle.cif_records.specs.Basic.{terms_of};
     ghost use Rattle.cif_records.specs.Detail.{detail_in};
     ghost use Rattle.cif_records.specs.declared.basic.Basic.{Basic};
@@ -135,9 +137,10 @@ impl Reading {
     /// asked for after them. After a fault nothing is said of the reading.
     // It is called for each line. What few lines need is kept out of the loop that it is inlined into.
     #[inline(always)]
+    #[tactic(auto, unfolding(cif_records::specs::Record::record_refusal))]
     pub fn take(&mut self, alloc: Global, line: &Line) -> Result<(), TakeFault>
         requires { (records : List Record) × HasRead records (progress_of self.old) }
-        ensures taken { IsTaken (refusal_here self.old.place (kind_in line.now) line.now)
+        ensures taken { IsTaken (refusal_at own_layouts self.old.place line.now)
             line.now (progress_of self.old) result (progress_of self.new) }
         ensures line { IsLine line.now }
     {
@@ -180,7 +183,7 @@ impl Reading {
     #[inline(always)]
     pub fn take_plain_stop(&mut self, columns: &[u8; LINE_WIDTH]) -> Result<(), TakeFault>
         requires { GoesOnPlainly self.old.place columns.now }
-        ensures { UnlessMemory (IsTaken (refusal_here self.old.place (kind_in columns.now) columns.now)
+        ensures { UnlessMemory (IsTaken (refusal_at own_layouts self.old.place columns.now)
             columns.now (progress_of self.old) (Ok tt) (progress_of self.new)) result }
     {
         self.keep_columns(columns)

@@ -15,9 +15,10 @@ use Rattle.cif_columns.specs.Field.{columns}
 use Rattle.cif_columns.specs.declared.refusal.Refusal.TheVariants.{OutOfOrder}
 use Rattle.cif_extract.proofs.FirstRefusals.{not_true}
 use Rattle.cif_extract.proofs.ReadingRuns.{refused_behind, taken_behind}
-use Rattle.cif_extract.specs.Steps.Reading.{GoesOnPlainly, UnlessMemory, progress_of, refusal_here}
+use Rattle.cif_extract.specs.Steps.Reading.{GoesOnPlainly, UnlessMemory, progress_of}
 use Rattle.cif_extract.specs.Steps.Reading as read
-use Rattle.cif_extract.specs.Taken.{HasTaken}
+use Rattle.cif_extract.specs.Layouts.{own_layouts}
+use Rattle.cif_extract.specs.Taken.{HasTaken, refusal_at}
 use Rattle.cif_extract.specs.declared.reading.TakeFault.{TakeFault}
 use Rattle.cif_extract.specs.declared.reading.TakeFault.TheVariants.{Refused, Memory}
 use Rattle.cif_records.specs.Checks.{are, unless}
@@ -333,7 +334,7 @@ module _ (feed : Feed) (allowed : HolidayCodes) (cs : List (List ℕ)) (c : List
 
   -- a plain line of a location on the way
   pub stop_taken : (old new : FeedReading) → HasTakenFeed feed allowed cs old → GoesOnPlainly (progress_of old.reading).place c
-      → read.IsTaken (refusal_here (progress_of old.reading).place (kind_in c) c) c (progress_of old.reading) (Ok tt)
+      → read.IsTaken (refusal_at own_layouts (progress_of old.reading).place c) c (progress_of old.reading) (Ok tt)
       (progress_of new.reading)
       → new ≡ record old { reading = new.reading } → IsStopTaken feed allowed cs c new
   stop_taken old new so_far plain taken is =

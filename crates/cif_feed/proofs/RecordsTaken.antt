@@ -2,16 +2,17 @@
 use Rattle.std.proofs.Common.{◌≡◌, ℕ, true, false, List, [], ◌∷◌, Option, Some, Result, ap, refl, sym, subst, ◌∙◌}
 use Rattle.cif_columns.specs.declared.refusal.Refusal.TheVariants.{OutOfOrder}
 use Rattle.cif_extract.specs.FirstRefusal.{order_refusal}
+use Rattle.cif_extract.specs.Layouts.{own_layouts}
 use Rattle.cif_extract.specs.OrderOfRecords.{may_stand}
-use Rattle.cif_extract.specs.Steps.Reading.{IsKeepable, IsTaken, IsTakenAs, Progress, UnlessMemory, refusal_here, step}
+use Rattle.cif_extract.specs.Steps.Reading.{IsKeepable, IsTaken, IsTakenAs, Progress, UnlessMemory, step}
 use Rattle.cif_extract.specs.Taken.{refusal_at}
 use Rattle.cif_extract.specs.declared.reading.TakeFault.{TakeFault}
 use Rattle.cif_extract.proofs.FirstRefusals.{or_none}
-use Rattle.cif_extract.proofs.SpelledLines.{fine_here}
+use Rattle.cif_extract.proofs.Places.{fine_here}
 use Rattle.cif_extract.proofs.TakenLines.{fine_so, refused_so}
 use Rattle.cif_records.specs.Checks.{first_of, unless}
 use Rattle.cif_records.specs.Kind.{kind_in}
-use Rattle.cif_records.specs.Record.{SpellsRecord}
+use Rattle.cif_records.specs.Record.{SpellsRecord, record_refusal, refusal_as}
 use Rattle.cif_records.specs.declared.record.Kind.{Kind}
 use Rattle.cif_records.specs.declared.record.Kind.TheVariants.{Hd, Ti, Ta, Td, Aa, Bs}
 use Rattle.cif_records.specs.declared.record.Record.{Record}
@@ -72,7 +73,7 @@ module _ (feed : Feed) (allowed : HolidayCodes) (line : List ℕ) (before : Prog
   -- a line that is as in an extract of this profile
   own_refusal : (f : Feed) (kind : Option Kind) → IsOwn kind f
       → first_of (order_refusal before.place (kind_read_as f kind) ∷ feed_refusal_as f allowed kind line ∷ [])
-      ≡ refusal_here before.place kind line
+      ≡ first_of (order_refusal before.place kind ∷ refusal_as kind line ∷ [])
   own_refusal Full (Some Hd) own = absurd own
   own_refusal Full (Some Ti) own = absurd own
   own_refusal Full (Some Aa) own = absurd own
@@ -94,7 +95,8 @@ module _ (feed : Feed) (allowed : HolidayCodes) (line : List ℕ) (before : Prog
   own_spells _ own s = s
 
   pub own_taken : IsOwn (kind_in line) feed → (result : Result Unit TakeFault) (after : Progress)
-      → IsTaken (refusal_here before.place (kind_in line) line) line before result after → IsRecordTaken feed allowed line before result after
+      → IsTaken (refusal_at own_layouts before.place line) line before result after → IsRecordTaken feed allowed line before result after
+  unfolding record_refusal
   own_taken own result after taken =
       subst (λ refusal. IsTakenAs refusal (SpellsInFeed feed allowed line) before result after) (sym (own_refusal feed (kind_in line) own))
       (refused_so _ (λ (r, spells, keepable, is). (

@@ -8,7 +8,6 @@ use Rattle.cif_extract.specs.Body.{KeepAll, kept_tables, parts_in}
 use Rattle.cif_extract.specs.BodyParts.{BodyParts, extra_records}
 use Rattle.cif_extract.specs.Call.{call_record}
 use Rattle.cif_extract.specs.ExtractParts.{ExtractParts}
-use Rattle.cif_extract.specs.FirstRefusal.{order_refusal}
 use Rattle.cif_extract.specs.Grammar.{AreExtract, AreSchedules, HasTerms, records_before_trailer}
 use Rattle.cif_extract.specs.OrderOfRecords.{after_extra}
 use Rattle.cif_extract.specs.declared.call.Call.{Call}
@@ -22,9 +21,8 @@ use Rattle.cif_extract.specs.declared.reading.TakeFault.{TakeFault}
 use Rattle.cif_extract.specs.declared.reading.TakeFault.TheVariants as untaken
 use Rattle.cif_records.specs.Basic.{terms_of}
 use Rattle.cif_records.specs.Bodies.{has_body}
-use Rattle.cif_records.specs.Checks.{first_of}
 use Rattle.cif_records.specs.Detail.{detail_table}
-use Rattle.cif_records.specs.Record.{record_table, refusal_as, SpellsRecord}
+use Rattle.cif_records.specs.Record.{record_table, SpellsRecord}
 use Rattle.cif_records.specs.Stop.{SpellsStop, stop_table}
 use Rattle.cif_records.specs.declared.stop.Stop.{Stop}
 use Rattle.cif_records.specs.declared.association.Association.{Association}
@@ -127,10 +125,6 @@ step p (of.Terminus t) = record p {
   lines = kept p.opened p.lines (of.Terminus t);
 }
 step p of.Trailer = record p { place = at.Ended }
-
--- the first reason to refuse a line that stands here
-abbrev pub refusal_here : Place → Option Kind → List ℕ → Option Refusal
-refusal_here place kind line = first_of (order_refusal place kind ∷ refusal_as kind line ∷ [])
 
 -- the plain line that is kept of a record, or of its detail, spells it again
 abbrev pub IsKeepable : Record → Type 0
