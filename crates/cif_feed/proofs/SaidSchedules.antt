@@ -124,22 +124,13 @@ module _ (feed : Feed) (allowed : HolidayCodes) where
 
 module _ (line : ℕ × List ℕ) (b : Basic) (s : Schedule) (terms : HasTerms b s)
     (detail : b.detail ≡ option_map (λ (body : BodyParts). body.detail) s.body) (change : Change ScheduleKey PublishedSchedule) where
-  module _ (t : Transaction) where
-    abbrev rows : List ℕ → ℕ → ℕ → List Bool → Stp → Option Detail → Bool → Option HolidayCode → List Row
-    rows uid first last days stp d ends code = basic_front_by (transaction_letter t ∷ []) uid first (end_value ends last) (weekdays days)
-        (code_value code) ++ (detail_rows d ++ basic_back stp)
-
-    put_stands : (p : PublishedSchedule) → p.schedule ≡ s → p.open_end ≡ is_open 16 line.1 → p.code ≡ code_of all_codes line.1
-        → AllStandIn line.1 (put_basic_rows t (is_open 16 line.1) (code_of all_codes line.1) (terms_of b) b.detail)
-        → AllStandIn line.1 (published_basic_rows t p)
-    put_stands p same ends code stands =
-        let o = is_open 16 line.1 in
-        let k = code_of all_codes line.1 in
-        let own = option_map (λ (body : BodyParts). body.detail) s.body in
-        let all : rows b.uid b.first b.last b.days b.letter b.detail o k ≡ rows s.uid s.first s.last s.days s.letter own p.open_end p.code =
-        cc in
-        subst (λ (x : Schedule). AllStandIn line.1 (rows x.uid x.first x.last x.days x.letter
-        (option_map (λ (body : BodyParts). body.detail) x.body) p.open_end p.code)) (sym same) (subst (AllStandIn line.1) all stands)
+  put_stands : (t : Transaction) (p : PublishedSchedule) → p.schedule ≡ s → p.open_end ≡ is_open 16 line.1
+      → p.code ≡ code_of all_codes line.1
+      → AllStandIn line.1 (put_basic_rows t (is_open 16 line.1) (code_of all_codes line.1) (terms_of b) b.detail)
+      → AllStandIn line.1 (published_basic_rows t p)
+  put_stands t p same ends code stands =
+      let all : put_basic_rows t (is_open 16 line.1) (code_of all_codes line.1) (terms_of b) b.detail ≡ published_basic_rows t p = cc in
+      subst (AllStandIn line.1) all stands
 
   deletion_stands : AllStandIn line.1 (deleted_basic_rows b.uid b.first (letter_of line.1))
       → AllStandIn line.1 (deleted_basic_rows s.uid s.first (letter_of line.1))
