@@ -54,8 +54,8 @@ use Rattle.cif_columns.specs.declared.line_reader.TheConstants.{MAX_LINES}
 use Rattle.cif_feed.specs.Counts.{counts_of}
 use Rattle.cif_feed.specs.Steps.Counts.{HaveRoom}
 use Rattle.cif_feed.specs.declared.counts.UpdateCounts.{UpdateCounts}
-use Rattle.cif_feed.specs.SpellsFeed.{BytesSpellFeed, SpellFeed, feed_parts}
-use Rattle.cif_feed.specs.Steps.FeedReading.{IsFeedHeld, IsFeedTaken}
+use Rattle.cif_feed.specs.SpellsFeed.{BytesSpellFeed, SayFeed, SpellFeed, feed_parts}
+use Rattle.cif_feed.specs.Steps.FeedReading.{IsFeedTaken}
 use Rattle.cif_feed.specs.declared.feed.Feed.{Feed}
 use Rattle.cif_feed.specs.declared.feed.Feed.TheVariants.{Full, Update}
 use Rattle.cif_feed.specs.declared.feed.FeedFault.{FeedFault}
@@ -336,7 +336,7 @@ module _ (feed : Feed) (allowed : HolidayCodes) (max : ℕ) {R : Type 0} (remain
     -- there is none
     pub comes-end : IfSome (remaining (reader_of old)) (λ bytes. AreAllContents IsFeedContent max bytes cs)
         → IsReadWhole remaining old new → source_failed old ≡ false → HasReadOn errors old new → (number : ℕ) → number ≡ length cs
-        → number ≤ max → (result : Result FeedExtract FeedFault) → IfOk result (IsFeedHeld feed allowed cs)
+        → number ≤ max → (result : Result FeedExtract FeedFault) → IfOk result (λ x. SayFeed feed allowed cs (feed_parts x))
         → IfErr result (λ f. f ≡ Extract (fault.Refused (number + 1) refusal.Truncated))
         → IfErr result (λ f. All (IsNoTrailer (feed_layouts feed allowed)) (record_lines cs)) → Comes result
     comes-end all read fresh read_on number is within (Ok x) held truncated unfinished =
@@ -353,13 +353,7 @@ module _ (feed : Feed) (allowed : HolidayCodes) (max : ℕ) {R : Type 0} (remain
             are_contents = are;
             notes_stand = λ k below note.
                 note_stands feed allowed max (take k cs) (slice_index_or cs k []) (fine.fine k below) note;
-            extract = held.extract;
-            header_line = held.header_line;
-            tiploc_marks = held.tiploc_marks;
-            association_marks = held.association_marks;
-            schedule_marks = held.schedule_marks;
-            counts = held.counts;
-            passed = held.passed;
+            says = held;
           }),
           rw is within,
         )

@@ -5,7 +5,6 @@ use Rattle.std.proofs.lemmas.List.Elements.{All-cons, All-head, All-nil, All-tai
 use Rattle.std.specs.Prelude.{All}
 use Rattle.cif_columns.specs.Comment.{is_comment}
 use Rattle.cif_columns.specs.Line.{IsLine}
-use Rattle.cif_extract.specs.SpellsExtract.{SpellExtractBy}
 use Rattle.cif_extract.specs.Texts.{FitsColumns}
 use Rattle.cif_extract.specs.declared.extract.Schedule.{Schedule}
 use Rattle.cif_extract.proofs.PlainTexts.{spelled-fits-by}
@@ -15,8 +14,7 @@ use Rattle.cif_feed.specs.FeedLine.{transaction_at}
 use Rattle.cif_feed.specs.FeedRefusal.{IsFeedContent}
 use Rattle.cif_feed.specs.FromLines.{ArePairs}
 use Rattle.cif_feed.specs.RecordLines.{association_mark, is_basic, is_note, is_record_line, marks, record_lines, schedule_mark, tiploc_mark}
-use Rattle.cif_feed.specs.SpellsFeed.{FeedParts, SpellFeed, feed_parts}
-use Rattle.cif_feed.specs.Steps.FeedReading.{IsFeedHeld}
+use Rattle.cif_feed.specs.SpellsFeed.{FeedParts, SayFeed, SpellFeed, feed_parts}
 use Rattle.cif_feed.specs.Steps.Marked.{HasMarks, IsClosed, last_of_association, last_of_schedule}
 use Rattle.cif_feed.specs.UpdateLines.{is_association, is_of_tiploc, lines_of}
 use Rattle.cif_feed.specs.declared.feed.Feed.{Feed}
@@ -46,29 +44,24 @@ module _ (feed : Feed) (allowed : HolidayCodes) where
       (λ ends. sym is.terms.last ∙ basic_closed line.1 allowed (transaction_at feed line.1) is.basic b.spells ends)
 
   module _ (cs : List (List ℕ)) where
-    have_marks : (x : FeedParts) → SpellExtractBy (feed_layouts feed allowed) (record_lines cs) x.extract
-        → x.tiploc_marks ≡ marks tiploc_mark feed allowed cs → x.association_marks ≡ marks association_mark feed allowed cs
-        → x.schedule_marks ≡ marks schedule_mark feed allowed cs → HasMarks x
-    have_marks x s t a b =
+    pub have_marks : (x : FeedParts) → SayFeed feed allowed cs x → HasMarks x
+    have_marks x s =
         let e = x.extract in
         record {
-          tiplocs = ap length t ∙ triples-length (IsTiplocLine feed allowed) (lines_of is_of_tiploc cs) e.tiplocs
-              (marks tiploc_mark feed allowed cs) (tiplocs_marked feed allowed cs e s);
-          associations = subst (ArePairs (IsClosed last_of_association) e.associations) (sym a)
+          tiplocs = ap length s.tiploc_marks ∙ triples-length (IsTiplocLine feed allowed) (lines_of is_of_tiploc cs) e.tiplocs
+              (marks tiploc_mark feed allowed cs) (tiplocs_marked feed allowed cs e s.extract);
+          associations = subst (ArePairs (IsClosed last_of_association) e.associations) (sym s.association_marks)
               (triples-pairs (IsAssociationLine feed allowed) (IsClosed last_of_association) association_ends (lines_of is_association cs)
-              e.associations (marks association_mark feed allowed cs) (associations_marked feed allowed cs e s));
-          schedules = subst (ArePairs (IsClosed last_of_schedule) e.schedules) (sym b)
+              e.associations (marks association_mark feed allowed cs) (associations_marked feed allowed cs e s.extract));
+          schedules = subst (ArePairs (IsClosed last_of_schedule) e.schedules) (sym s.schedule_marks)
               (triples-pairs (IsScheduleLine feed allowed) (IsClosed last_of_schedule) schedule_ends (lines_of is_basic cs)
-              e.schedules (marks schedule_mark feed allowed cs) (schedules_marked feed allowed cs e s));
+              e.schedules (marks schedule_mark feed allowed cs) (schedules_marked feed allowed cs e s.extract));
         }
 
-    pub marks_spelled : (x : FeedParts) → SpellFeed feed allowed cs x → HasMarks x
-    marks_spelled x s = have_marks x s.extract s.tiploc_marks s.association_marks s.schedule_marks
-
-    pub marked_result : (result : Result FeedExtract FeedFault) → IfOk result (IsFeedHeld feed allowed cs)
+    pub marked_result : (result : Result FeedExtract FeedFault) → IfOk result (λ x. SayFeed feed allowed cs (feed_parts x))
         → IfOk result (λ x. HasMarks (feed_parts x))
-    marked_result (Ok x) held = have_marks (feed_parts x) held.extract held.tiploc_marks held.association_marks held.schedule_marks
-    marked_result (Err f) held = tt
+    marked_result (Ok x) says = have_marks (feed_parts x) says
+    marked_result (Err f) says = tt
 
 lines_are : (cs : List (List ℕ)) → All IsFeedContent cs → All IsLine (filter is_record_line cs)
 lines_are [] are = All-nil IsLine
@@ -85,4 +78,5 @@ lines_are (c ∷ cs) are =
 pub feed_fits : (feed : Feed) (allowed : HolidayCodes) (cs : List (List ℕ)) (x : FeedParts) → SpellFeed feed allowed cs x
     → FitsColumns x.extract
 feed_fits feed allowed cs x s =
-    spelled-fits-by (feed_layouts feed allowed) (feed_are feed allowed) (record_lines cs) x.extract (lines_are cs s.are_contents) s.extract
+    spelled-fits-by (feed_layouts feed allowed) (feed_are feed allowed) (record_lines cs) x.extract (lines_are cs s.are_contents)
+    s.says.extract

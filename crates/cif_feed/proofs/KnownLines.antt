@@ -100,15 +100,17 @@ module _ (allowed : HolidayCodes) where
   spell_read cs rs x are extract = record {
     are_contents = λ k d below. inl (read_are cs rs are k d below);
     notes_stand = λ k below note. let none = no_notes cs rs are k [] below in absurd (cc);
-    extract = record {
-      records = rs;
-      spelled = subst (λ ls. SpellAllBy (feed_layouts Full allowed) ls rs) (sym (speak cs rs are)) (spell cs rs are);
-      are = extract;
+    says = record {
+      extract = record {
+        records = rs;
+        spelled = subst (λ ls. SpellAllBy (feed_layouts Full allowed) ls rs) (sym (speak cs rs are)) (spell cs rs are);
+        are = extract;
+      };
+      header_line = refl;
+      tiploc_marks = refl;
+      association_marks = refl;
+      schedule_marks = refl;
+      counts = refl;
+      passed = refl;
     };
-    header_line = refl;
-    tiploc_marks = refl;
-    association_marks = refl;
-    schedule_marks = refl;
-    counts = refl;
-    passed = refl;
   }

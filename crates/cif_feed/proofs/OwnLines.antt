@@ -28,7 +28,7 @@ use Rattle.cif_feed.specs.declared.mark.LineMark.TheVariants as mark
 use Rattle.cif_feed.specs.declared.mark.Numbered.{Numbered}
 use Rattle.cif_feed.specs.declared.mark.RecordMark.{RecordMark}
 use Rattle.cif_feed.proofs.KnownLines.{AreReadAs, all_marks, marks_from, parts_read, spell_read}
-use Rattle.cif_feed.proofs.HeldMarks.{marks_spelled}
+use Rattle.cif_feed.proofs.HeldMarks.{have_marks}
 use Rattle.cif_feed.proofs.PublishedLines.{association_spelled, basic_spelled}
 
 -- the mark says nothing of an end and of a code
@@ -115,7 +115,7 @@ module _ (allowed : HolidayCodes) where
       → SayPublished (parts_read allowed cs x) (as_published x)
   own_says cs x are s =
       let reads = own_lines cs s.records are s.spelled in
-      let marked = marks_spelled Full allowed cs (parts_read allowed cs x) (spell_read allowed cs s.records x reads s.are) in
+      let marked = have_marks Full allowed cs (parts_read allowed cs x) (spell_read allowed cs s.records x reads s.are).says in
       record {
         header = refl;
         tiplocs = refl;

@@ -322,7 +322,7 @@ said_all P f one (x ∷ xs) (m ∷ ms) (z ∷ zs) t =
     ap (λ y. y ∷ map f zs) (one x m z t.0) ∙ ap (λ ys. x ∷ ys) (said_all P f one xs ms zs t.1)
 said_all P f one _ _ _ t = absurd t
 
--- a published extract says the records of its profile lines
+-- a published extract says the records of its lines
 said_profile : (lines : FeedParts) (p : PublishedParts) → SayPublished lines p → of_profile p ≡ lines.extract
 said_profile lines p s =
     let x = lines.extract in

@@ -99,4 +99,4 @@ associations_said cs u s =
     said_pairs (IsAssociationLine Update all_codes) IsAssociationChange SaysAssociation association_said (lines_of is_association cs)
     x.extract.associations x.association_marks u.associations
     (subst (AreTriples (IsAssociationLine Update all_codes) (lines_of is_association cs) x.extract.associations)
-    (sym s.spelled.association_marks) (associations_marked Update all_codes cs x.extract s.spelled.extract)) s.says.associations
+    (sym s.spelled.says.association_marks) (associations_marked Update all_codes cs x.extract s.spelled.says.extract)) s.says.associations

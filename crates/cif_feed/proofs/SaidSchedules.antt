@@ -158,5 +158,5 @@ schedules_said cs u s =
     let x = s.lines in
     said_pairs (IsScheduleLine Update all_codes) IsScheduleChange SaysSchedule schedule_said (lines_of is_basic cs) x.extract.schedules
     x.schedule_marks u.schedules
-    (subst (AreTriples (IsScheduleLine Update all_codes) (lines_of is_basic cs) x.extract.schedules) (sym s.spelled.schedule_marks)
-    (schedules_marked Update all_codes cs x.extract s.spelled.extract)) s.says.schedules
+    (subst (AreTriples (IsScheduleLine Update all_codes) (lines_of is_basic cs) x.extract.schedules) (sym s.spelled.says.schedule_marks)
+    (schedules_marked Update all_codes cs x.extract s.spelled.says.extract)) s.says.schedules

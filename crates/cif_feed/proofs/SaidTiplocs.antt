@@ -89,5 +89,5 @@ tiplocs_said cs u s =
     let x = s.lines in
     subst (SayTiplocs (lines_of is_of_tiploc cs)) (sym s.says.tiplocs)
     (all_tiplocs (lines_of is_of_tiploc cs) x.extract.tiplocs x.tiploc_marks
-    (subst (AreTriples (IsTiplocLine Update all_codes) (lines_of is_of_tiploc cs) x.extract.tiplocs) (sym s.spelled.tiploc_marks)
-    (tiplocs_marked Update all_codes cs x.extract s.spelled.extract)))
+    (subst (AreTriples (IsTiplocLine Update all_codes) (lines_of is_of_tiploc cs) x.extract.tiplocs) (sym s.spelled.says.tiploc_marks)
+    (tiplocs_marked Update all_codes cs x.extract s.spelled.says.extract)))

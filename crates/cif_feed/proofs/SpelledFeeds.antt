@@ -23,7 +23,7 @@ use Rattle.cif_feed.specs.FeedFault.{IsFailure, IsFeedFault}
 use Rattle.cif_feed.specs.FeedLayouts.{feed_layouts}
 use Rattle.cif_feed.specs.RecordLines.{is_note, is_record_line, notes_may_stand, record_lines}
 use Rattle.cif_feed.specs.FeedRefusal.{IsFeedContent, IsFeedTruncated, IsFirstOfFeed, IsRefusedContent, line_refusal}
-use Rattle.cif_feed.specs.SpellsFeed.{BytesSpellFeed, FeedParts, SpellFeed}
+use Rattle.cif_feed.specs.SpellsFeed.{BytesSpellFeed, FeedParts, SayFeed, SpellFeed}
 use Rattle.cif_feed.specs.declared.feed.Feed.{Feed}
 use Rattle.cif_feed.specs.declared.feed.FeedFault.{FeedFault}
 use Rattle.cif_feed.specs.declared.feed.FeedFault.TheVariants.{Extract, NotUpdate, BadTransaction}
@@ -45,8 +45,8 @@ same_parts a b e h t aa s n c =
     ∙ ap (λ (v : UpdateCounts). record b { counts = v; passed = a.passed }) n ∙ ap (λ (v : Passed). record b { passed = v }) c
 
 module _ (feed : Feed) (allowed : HolidayCodes) (max : ℕ) where
-  -- contents spell one at most
-  pub one_feed : (cs : List (List ℕ)) (x y : FeedParts) → SpellFeed feed allowed cs x → SpellFeed feed allowed cs y → x ≡ y
+  -- contents say one at most
+  pub one_feed : (cs : List (List ℕ)) (x y : FeedParts) → SayFeed feed allowed cs x → SayFeed feed allowed cs y → x ≡ y
   one_feed cs x y p q =
       same_parts x y
       (one_extract (feed_layouts feed allowed) (feed_are feed allowed) (record_lines cs) x.extract y.extract p.extract q.extract)
@@ -110,7 +110,7 @@ module _ (feed : Feed) (allowed : HolidayCodes) (max : ℕ) where
                 let says : is_record_line r.content ≡ true = ap (λ b. not b && not (is_note r.content)) (sym eb) ∙ ap not (sym en) in
                 let fine = spelled_behind (feed_layouts feed allowed) (feed_are feed allowed) (record_lines r.before) r.content
                 (record_lines r.after) x.extract (subst (λ ls. SpellExtractBy (feed_layouts feed allowed) ls x.extract)
-                (parts r.before r.content r.after says) s.extract) in
+                (parts r.before r.content r.after says) s.says.extract) in
                 none-some _ r.why (ap (λ b. cond b (unless (notes_may_stand r.before) OutOfOrder)
                 (refusal_behind (feed_layouts feed allowed) (record_lines r.before) r.content)) (sym en) ∙ fine)
                 (refused (sym eb))
@@ -118,7 +118,7 @@ module _ (feed : Feed) (allowed : HolidayCodes) (max : ℕ) where
     -- and one is a trailer
     spelled_whole : (f : FeedFault) → SpellFeed feed allowed cs x → IsFeedTruncated feed allowed max cs f → ⊥
     spelled_whole f s t =
-        spelled_trailer (feed_layouts feed allowed) (feed_are feed allowed) (record_lines cs) x.extract s.extract
+        spelled_trailer (feed_layouts feed allowed) (feed_are feed allowed) (record_lines cs) x.extract s.says.extract
         (no_trailers cs t.no_trailer)
 
     pub spelled_first : (f : FeedFault) → SpellFeed feed allowed cs x → IsFirstOfFeed feed allowed max cs f → ⊥

@@ -55,11 +55,8 @@ header_line contents = header_from 1 contents
 abbrev pub passed_of : List (List ℕ) → Passed
 passed_of contents = record { comments = length (filter is_comment contents); notes = length (filter is_note contents) }
 
--- The contents spell these parts: comments may stand anywhere, notes behind a BS and before ZZ, and the others spell the extract.
-pub record SpellFeed (feed : Feed) (allowed : HolidayCodes) (contents : List (List ℕ)) (x : FeedParts) : Type 0 where
-  pub are_contents : All IsFeedContent contents
-  pub notes_stand : (k : ℕ) → k < length contents → is_note (slice_index_or contents k []) ≡ true
-      → notes_may_stand (take k contents) ≡ true
+-- The contents say these parts, line by line.
+pub record SayFeed (feed : Feed) (allowed : HolidayCodes) (contents : List (List ℕ)) (x : FeedParts) : Type 0 where
   pub extract : SpellExtractBy (feed_layouts feed allowed) (record_lines contents) x.extract
   pub header_line : x.header_line ≡ header_line contents
   pub tiploc_marks : x.tiploc_marks ≡ marks tiploc_mark feed allowed contents
@@ -67,6 +64,13 @@ pub record SpellFeed (feed : Feed) (allowed : HolidayCodes) (contents : List (Li
   pub schedule_marks : x.schedule_marks ≡ marks schedule_mark feed allowed contents
   pub counts : x.counts ≡ counts_of contents
   pub passed : x.passed ≡ passed_of contents
+
+-- The contents spell these parts: comments may stand anywhere, notes behind a BS and before ZZ, and the others say them.
+pub record SpellFeed (feed : Feed) (allowed : HolidayCodes) (contents : List (List ℕ)) (x : FeedParts) : Type 0 where
+  pub are_contents : All IsFeedContent contents
+  pub notes_stand : (k : ℕ) → k < length contents → is_note (slice_index_or contents k []) ≡ true
+      → notes_may_stand (take k contents) ≡ true
+  pub says : SayFeed feed allowed contents x
 
 -- the bytes spell them, in at most max contents
 pub record BytesSpellFeed (feed : Feed) (allowed : HolidayCodes) (max : ℕ) (bytes : List ℕ) (x : FeedParts) : Type 0 where

@@ -11,8 +11,8 @@ ghost use Rattle.cif_feed.specs.FeedRefusal.{not_full, untaken_fault};
 ghost use Rattle.cif_feed.specs.FeedLayouts.{feed_layouts};
 ghost use Rattle.cif_feed.specs.RecordLines.{is_basic, is_note, is_trailer, record_lines};
 ghost use Rattle.cif_feed.specs.FeedFault.{reading_feed};
-ghost use Rattle.cif_feed.specs.SpellsFeed.{feed_parts};
-ghost use Rattle.cif_feed.specs.Steps.FeedReading.{HasTakenFeed, IsFeedHeld, IsFeedTaken, IsMarked, IsNoteTaken};
+ghost use Rattle.cif_feed.specs.SpellsFeed.{SayFeed, feed_parts};
+ghost use Rattle.cif_feed.specs.Steps.FeedReading.{HasTakenFeed, IsFeedTaken, IsMarked, IsNoteTaken};
 ghost use Rattle.cif_feed.specs.Steps.Counts.{HaveRoom};
 ghost use Rattle.cif_feed.specs.Steps.FeedReading.{IsStopTaken, header_behind};
 ghost use Rattle.cif_feed.specs.Steps.Marked.{HasMarks};
@@ -229,7 +229,8 @@ impl FeedReading {
     fn finish(self, lines: u64) -> Result<FeedExtract, FeedFault>
         requires { lines < 2 ^ 32 }
         ensures held { (feed : Feed) (allowed : HolidayCodes) (contents : List (List ℕ))
-            → HasTakenFeed feed allowed contents self → IfOk result (IsFeedHeld feed allowed contents) }
+            → HasTakenFeed feed allowed contents self
+            → IfOk result (λ x. SayFeed feed allowed contents (feed_parts x)) }
         ensures truncated { IfErr result (λ fault.
             fault ≡ FeedFault.Extract (Fault.Refused (lines + 1) Refusal.Truncated)) }
         ensures unfinished { (feed : Feed) (allowed : HolidayCodes) (contents : List (List ℕ))

@@ -7,8 +7,6 @@ use Rattle.cif_columns.specs.Line.{IsLine}
 use Rattle.cif_records.specs.Kind.{kind_in}
 use Rattle.cif_columns.specs.declared.refusal.Refusal.TheVariants.{OutOfOrder}
 use Rattle.cif_extract.specs.Steps.Reading.{IsTakenAs, Progress, progress_of}
-use Rattle.cif_extract.specs.ExtractParts.{extract_parts}
-use Rattle.cif_extract.specs.SpellsExtract.{SpellExtractBy}
 use Rattle.cif_extract.specs.Taken.{HasTaken, refusal_at}
 use Rattle.cif_extract.specs.declared.reading.TakeFault.{TakeFault}
 use Rattle.cif_extract.specs.declared.reading.TakeFault.TheVariants.{Refused, Memory}
@@ -23,7 +21,6 @@ use Rattle.cif_feed.specs.SpellsFeed.{header_line, passed_of}
 use Rattle.cif_feed.specs.FeedRefusal.{line_refusal}
 use Rattle.cif_feed.specs.declared.feed.Feed.{Feed}
 use Rattle.cif_feed.specs.declared.feed.Feed.TheVariants.{Update}
-use Rattle.cif_feed.specs.declared.feed_reading.FeedExtract.{FeedExtract}
 use Rattle.cif_feed.specs.declared.feed_reading.FeedReading.{FeedReading}
 use Rattle.cif_feed.specs.declared.holiday_code.HolidayCodes.{HolidayCodes}
 use Rattle.cif_feed.specs.declared.mark.LineMark.{LineMark}
@@ -125,13 +122,3 @@ pub record IsMarked (old : FeedReading) (number : ℕ) (mark : LineMark) (new : 
   pub passed : new.passed ≡ old.passed
   pub basic : new.has_basic ≡ old.has_basic
   pub trailer : new.has_trailer ≡ old.has_trailer
-
--- what was read holds what these contents say
-pub record IsFeedHeld (feed : Feed) (allowed : HolidayCodes) (contents : List (List ℕ)) (x : FeedExtract) : Type 0 where
-  pub extract : SpellExtractBy (feed_layouts feed allowed) (record_lines contents) (extract_parts x.extract)
-  pub header_line : x.header_line ≡ header_line contents
-  pub tiploc_marks : x.tiploc_marks.items ≡ marks tiploc_mark feed allowed contents
-  pub association_marks : x.association_marks.items ≡ marks association_mark feed allowed contents
-  pub schedule_marks : x.schedule_marks.items ≡ marks schedule_mark feed allowed contents
-  pub counts : x.counts ≡ counts_of contents
-  pub passed : x.passed ≡ passed_of contents
