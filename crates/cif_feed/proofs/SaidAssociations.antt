@@ -73,8 +73,7 @@ module _ (line : ℕ × List ℕ) (a : Association) (change : Change Association
   put_stands : (t : Transaction) (p : PublishedAssociation) → p.association ≡ a → p.open_end ≡ is_open 22 line.1
       → AllStandIn line.1 (put_association_rows t (is_open 22 line.1) a) → AllStandIn line.1 (published_association_rows t p)
   put_stands t p same ends stands =
-      subst (λ b. AllStandIn line.1 (put_association_rows t b p.association)) (sym ends)
-      (subst (λ (x : Association). AllStandIn line.1 (put_association_rows t (is_open 22 line.1) x)) (sym same) stands)
+      let all : put_association_rows t (is_open 22 line.1) a ≡ published_association_rows t p = cc in subst (AllStandIn line.1) all stands
 
   said_by : (t : Option Transaction) → SpellsAssociationBy t line.1 a
       → IsAssociationChange a (record { number = line.0; mark = record_mark t 22 None line.1 }) change → SaysAssociation line change

@@ -1,16 +1,14 @@
 -- The BS of an update say its changes of schedules, one by one.
-use Rattle.std.proofs.Common.{◌≡◌, ℕ, Bool, false, cond, List, [], ◌∷◌, ◌++◌, Option, Some, None, refl, sym, ap, ◌∙◌, subst}
+use Rattle.std.proofs.Common.{◌≡◌, ℕ, false, cond, List, [], ◌∷◌, Option, Some, None, refl, sym, ap, ◌∙◌, subst}
 use Rattle.std.specs.List.{flat_map}
 use Rattle.std.specs.Option.{option_map}
-use Rattle.cif_columns.specs.Field.{AllStandIn, Row, weekdays}
-use Rattle.cif_columns.specs.declared.stp.Stp.{Stp}
+use Rattle.cif_columns.specs.Field.{AllStandIn}
 use Rattle.cif_extract.specs.BodyParts.{BodyParts}
 use Rattle.cif_extract.specs.ExtractParts.{ExtractParts}
 use Rattle.cif_extract.specs.Grammar.{AreSchedules, HasTerms, HaveBody}
 use Rattle.cif_extract.specs.SpellsExtract.{SpellExtractBy}
 use Rattle.cif_extract.specs.declared.extract.Schedule.{Schedule}
-use Rattle.cif_records.specs.Basic.{basic_back, basic_front_by, terms_of}
-use Rattle.cif_records.specs.Detail.{detail_rows}
+use Rattle.cif_records.specs.Basic.{terms_of}
 use Rattle.cif_records.specs.Kind.{kind_in}
 use Rattle.cif_records.specs.declared.basic.Basic.{Basic}
 use Rattle.cif_records.specs.declared.detail.Detail.{Detail}
@@ -21,19 +19,17 @@ use Rattle.cif_records.specs.declared.record.Record.{Record}
 use Rattle.cif_records.specs.declared.record.Record.TheVariants as of
 use Rattle.cif_records.proofs.Records.{kind_of}
 use Rattle.cif_feed.specs.FeedLayouts.{feed_layouts}
-use Rattle.cif_feed.specs.FeedLine.{SpellsBasicBy, SpellsInFeed, code_of, code_value, deleted_basic_rows, end_value, is_open, letter_of}
+use Rattle.cif_feed.specs.FeedLine.{SpellsBasicBy, SpellsInFeed, code_of, deleted_basic_rows, is_open, letter_of}
 use Rattle.cif_feed.specs.FeedLine.{mark_by, published_basic_rows, put_basic_rows, record_mark, transaction_at}
 use Rattle.cif_feed.specs.FromLines.{ArePairs, AreTriples}
 use Rattle.cif_feed.specs.HolidayCode.{all_codes}
 use Rattle.cif_feed.specs.LayoutRefusals.{kind_read_as}
 use Rattle.cif_feed.specs.RecordLines.{is_basic, marks, record_lines, schedule_mark}
-use Rattle.cif_feed.specs.Transaction.{transaction_letter}
 use Rattle.cif_feed.specs.UpdateLines.{SaysSchedule, lines_of}
 use Rattle.cif_feed.specs.UpdateParts.{IsScheduleChange, ScheduleKey, SpellUpdate, UpdateParts}
 use Rattle.cif_feed.specs.declared.changes.Change.{Change}
 use Rattle.cif_feed.specs.declared.feed.Feed.{Feed}
 use Rattle.cif_feed.specs.declared.feed.Feed.TheVariants.{Update}
-use Rattle.cif_feed.specs.declared.holiday_code.HolidayCode.{HolidayCode}
 use Rattle.cif_feed.specs.declared.holiday_code.HolidayCodes.{HolidayCodes}
 use Rattle.cif_feed.specs.declared.mark.Numbered.{Numbered}
 use Rattle.cif_feed.specs.declared.mark.RecordMark.{RecordMark}
@@ -124,22 +120,13 @@ module _ (feed : Feed) (allowed : HolidayCodes) where
 
 module _ (line : ℕ × List ℕ) (b : Basic) (s : Schedule) (terms : HasTerms b s)
     (detail : b.detail ≡ option_map (λ (body : BodyParts). body.detail) s.body) (change : Change ScheduleKey PublishedSchedule) where
-  module _ (t : Transaction) where
-    abbrev rows : List ℕ → ℕ → ℕ → List Bool → Stp → Option Detail → Bool → Option HolidayCode → List Row
-    rows uid first last days stp d ends code = basic_front_by (transaction_letter t ∷ []) uid first (end_value ends last) (weekdays days)
-        (code_value code) ++ (detail_rows d ++ basic_back stp)
-
-    put_stands : (p : PublishedSchedule) → p.schedule ≡ s → p.open_end ≡ is_open 16 line.1 → p.code ≡ code_of all_codes line.1
-        → AllStandIn line.1 (put_basic_rows t (is_open 16 line.1) (code_of all_codes line.1) (terms_of b) b.detail)
-        → AllStandIn line.1 (published_basic_rows t p)
-    put_stands p same ends code stands =
-        let o = is_open 16 line.1 in
-        let k = code_of all_codes line.1 in
-        let own = option_map (λ (body : BodyParts). body.detail) s.body in
-        let all : rows b.uid b.first b.last b.days b.letter b.detail o k ≡ rows s.uid s.first s.last s.days s.letter own p.open_end p.code =
-        cc in
-        subst (λ (x : Schedule). AllStandIn line.1 (rows x.uid x.first x.last x.days x.letter
-        (option_map (λ (body : BodyParts). body.detail) x.body) p.open_end p.code)) (sym same) (subst (AllStandIn line.1) all stands)
+  put_stands : (t : Transaction) (p : PublishedSchedule) → p.schedule ≡ s → p.open_end ≡ is_open 16 line.1
+      → p.code ≡ code_of all_codes line.1
+      → AllStandIn line.1 (put_basic_rows t (is_open 16 line.1) (code_of all_codes line.1) (terms_of b) b.detail)
+      → AllStandIn line.1 (published_basic_rows t p)
+  put_stands t p same ends code stands =
+      let all : put_basic_rows t (is_open 16 line.1) (code_of all_codes line.1) (terms_of b) b.detail ≡ published_basic_rows t p = cc in
+      subst (AllStandIn line.1) all stands
 
   deletion_stands : AllStandIn line.1 (deleted_basic_rows b.uid b.first (letter_of line.1))
       → AllStandIn line.1 (deleted_basic_rows s.uid s.first (letter_of line.1))
