@@ -46,7 +46,8 @@ in-order front place (line ∷ lines) (r ∷ rs) to behind spell stand = (
       ap (λ p. may_stand p kind) behind
       ∙ ap (λ k. may_stand place k) (one_kind line kind (records.kind_of r) named (records.kind_there line r spell.0))
       ∙ stand.0,
-  in-order (front ++ (line ∷ [])) (place_past place r) lines rs to (place_more own_layouts own_are front line r place behind spell.0) spell.1 stand.1,
+  in-order (front ++ (line ∷ [])) (place_past place r) lines rs to
+      (place_more own_layouts own_are front line r place behind spell.0) spell.1 stand.1,
 )
 
 pub spelled-in_order : (lines : List (List ℕ)) (x : ExtractParts) → SpellExtract lines x → AreInOrder [] lines

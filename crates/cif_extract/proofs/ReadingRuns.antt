@@ -1,6 +1,6 @@
 -- What the lines so far have come to, line by line.
-use Rattle.std.proofs.Common.{◌≡◌, ◌≢◌, ◌≤◌, ℕ, ◌<◌, Bool, true, false, List, [], ◌∷◌, ◌++◌, length, Option, Some, None, Result, Ok, Err, arith}
-use Rattle.std.proofs.Common.{refl, sym, ap, ◌∙◌, subst, is_some, cond, IfSome, IfErr, IfOk, inr, ◌+◌, true≢false}
+use Rattle.std.proofs.Common.{◌≡◌, ◌≢◌, ◌≤◌, ℕ, ◌<◌, Bool, true, false, List, [], ◌∷◌, ◌++◌, length, Option, Some, None, Result, Ok, Err}
+use Rattle.std.proofs.Common.{arith, refl, sym, ap, ◌∙◌, subst, is_some, cond, IfSome, IfErr, IfOk, inr, ◌+◌, true≢false}
 use Rattle.std.proofs.lemmas.List.Elements.{All-cons, All-nil, All-append}
 use Rattle.std.specs.Prelude.{All}
 use Rattle.cif_columns.specs.GivenLines.{AreAllLines, AreLinesToFault, IsDecided}

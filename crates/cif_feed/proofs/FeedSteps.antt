@@ -233,8 +233,8 @@ module _ (feed : Feed) (allowed : HolidayCodes) (cs : List (List ℕ)) (c : List
     pub basic : mid.has_basic ≡ (old.has_basic || is_basic (kind_in c))
     pub trailer : mid.has_trailer ≡ (old.has_trailer || is_trailer (kind_in c))
 
-  line_step : (number : ℕ) → number ≡ length cs + 1 → (old mid new : FeedReading) → HasTakenFeed feed allowed cs old → IsTaken number old mid
-      → HasTaken (feed_layouts feed allowed) (record_lines cs ++ (c ∷ [])) (progress_of mid.reading)
+  line_step : (number : ℕ) → number ≡ length cs + 1 → (old mid new : FeedReading) → HasTakenFeed feed allowed cs old
+      → IsTaken number old mid → HasTaken (feed_layouts feed allowed) (record_lines cs ++ (c ∷ [])) (progress_of mid.reading)
       → IsMarked mid number (mark_in feed allowed c) new → HasTakenFeed feed allowed (cs ++ c ∷ []) new
   line_step number at old mid new so_far kept taken m =
       let is = is_line kept.no_comment kept.no_note in

@@ -55,8 +55,8 @@ no_basics (of.Basic b) inside = absurd inside
 no_basics _ inside = refl
 
 -- groups have the basics of their schedules, and nothing else of these
-groups_none : {A : Type 0} (f : Record → List A) → ((r : Record) → Inside r → f r ≡ []) → ((b : Basic) → f (of.Basic b) ≡ []) → (groups : List Record)
-    (ss : List Schedule) → AreSchedules groups ss → flat_map f groups ≡ []
+groups_none : {A : Type 0} (f : Record → List A) → ((r : Record) → Inside r → f r ≡ []) → ((b : Basic) → f (of.Basic b) ≡ [])
+    → (groups : List Record) (ss : List Schedule) → AreSchedules groups ss → flat_map f groups ≡ []
 groups_none f quiet none groups [] are = ap (flat_map f) are
 groups_none f quiet none groups (s ∷ ss) are =
     let (own, others, parts, one, more) = are in

@@ -146,8 +146,8 @@ module _ (max : ℕ) (cs : List (List ℕ)) (c : List ℕ) (own : own_reason c �
   none_refused_more fine none = none_refused-more max cs c fine (line_refusal max cs c (own_none c own) room ∙ none)
 
   -- the first that is refused
-  pub refused_here : NoneRefused max cs → (why : Refusal) → refusal_behind own_layouts cs c ≡ Some why → (number : ℕ) → number ≡ length cs + 1
-      → IsRefusedLine max (cs ++ c ∷ []) number OutOfOrder
+  pub refused_here : NoneRefused max cs → (why : Refusal) → refusal_behind own_layouts cs c ≡ Some why → (number : ℕ)
+      → number ≡ length cs + 1 → IsRefusedLine max (cs ++ c ∷ []) number OutOfOrder
   refused_here fine why is number numbered = record {
     before = cs;
     content = c;

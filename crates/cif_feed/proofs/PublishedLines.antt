@@ -2,8 +2,8 @@
 use Rattle.std.proofs.Common.{◌≡◌, ℕ, ◌+◌, ◌-◌, Bool, true, false, cond, List, [], ◌∷◌, ◌++◌, length, take, drop, Option, Some, None}
 use Rattle.std.proofs.Common.{refl, sym, ap, ◌∙◌, subst, codes, arith, IsTrue, slice_index, length-append}
 use Rattle.std.proofs.Math.Seq.{drop-append-add, take-append_seam}
-use Rattle.cif_columns.specs.Field.{AllFit, AllStandIn, FieldValue, Fits, Row, StandsIn, columns, date, exactly, is_whole_from, plain_columns}
-use Rattle.cif_columns.specs.Field.{plain_line, row, width_of}
+use Rattle.cif_columns.specs.Field.{AllFit, AllStandIn, FieldValue, Fits, Row, StandsIn, columns, date, exactly, is_whole_from}
+use Rattle.cif_columns.specs.Field.{plain_columns, plain_line, row, width_of}
 use Rattle.cif_columns.proofs.Parts.{length-plain_columns, length-plain_line, length_behind, plain_line-append, stands-plain_line}
 use Rattle.cif_columns.proofs.PlainLines.{line-plain_line}
 use Rattle.cif_columns.proofs.PrintableBytes.{printable_fact}
@@ -17,8 +17,8 @@ use Rattle.cif_records.specs.declared.basic.Basic.{Basic}
 use Rattle.cif_records.specs.declared.record.Record.{Record}
 use Rattle.cif_records.specs.declared.record.Record.TheVariants as of
 use Rattle.cif_records.proofs.Judging.{no_open_end}
-use Rattle.cif_feed.specs.FeedLine.{IsClosedAt, SpellsAssociationBy, SpellsBasicBy, SpellsInFeed, code_of, code_value, end_value, if_allowed}
-use Rattle.cif_feed.specs.FeedLine.{is_open, letter_of, put_association_rows, put_basic_rows, record_mark, transaction_at}
+use Rattle.cif_feed.specs.FeedLine.{IsClosedAt, SpellsAssociationBy, SpellsBasicBy, SpellsInFeed, code_of, code_value, end_value}
+use Rattle.cif_feed.specs.FeedLine.{if_allowed, is_open, letter_of, put_association_rows, put_basic_rows, record_mark, transaction_at}
 use Rattle.cif_feed.specs.HolidayCode.{code_in, has_code, letter}
 use Rattle.cif_feed.specs.PublishedParts.{published_association_line, published_basic_line, with_code, with_columns, with_open_end}
 use Rattle.cif_feed.specs.declared.feed.Feed.TheVariants.{Full}
@@ -66,7 +66,8 @@ nines_fit = (refl, printable_fact (codes "999999") refl)
 -- ---- what stands in the columns of a published record, it spells
 
 -- whether an end is open that stands there
-opened : (columns : List ℕ) (open_end : Bool) (last : ℕ) → StandsIn columns (end_value open_end last) → are columns (codes "999999") ≡ open_end
+opened : (columns : List ℕ) (open_end : Bool) (last : ℕ) → StandsIn columns (end_value open_end last)
+    → are columns (codes "999999") ≡ open_end
 opened columns true last stands = ap (λ (l : List ℕ). are l (codes "999999")) stands
 opened columns false last stands = no_open_end columns last stands
 
@@ -134,7 +135,8 @@ module _ (allowed : HolidayCodes) where
     abbrev association_rows : Bool → List Row
     association_rows open_end = put_association_rows New open_end association
 
-    association_is : (open_end : Bool) → with_open_end open_end 22 (plain_line (association_rows false)) ≡ plain_line (association_rows open_end)
+    association_is : (open_end : Bool)
+        → with_open_end open_end 22 (plain_line (association_rows false)) ≡ plain_line (association_rows open_end)
     association_is false = refl
     association_is true = written (take 5 (association_rows false)) (row 22 27 (date association.last)) (drop 6 (association_rows false))
         (exactly (codes "999999")) refl refl fits fits.1.1.1.1.1 nines_fit

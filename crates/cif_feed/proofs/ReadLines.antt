@@ -26,7 +26,8 @@ judged_by P Q refusal (Ok value) so judged = (judged.0, so value judged.1)
 judged_by P Q refusal (Err why) so judged = judged
 
 module _ (feed : Feed) (allowed : HolidayCodes) (line : List ℕ) (t : Option Transaction) (is : transaction_at feed line ≡ t) where
-  pub association_read : (result : Result Association Refusal) → IsJudged (association_refusal_by t line) (SpellsAssociationBy t line) result
+  pub association_read : (result : Result Association Refusal)
+      → IsJudged (association_refusal_by t line) (SpellsAssociationBy t line) result
       → IsJudged (feed_refusal_as feed allowed (Some Aa) line) (λ a. SpellsInFeed feed allowed line (of.Association a)) result
   association_read result = subst (λ o. IsJudged (association_refusal_by o line) (SpellsAssociationBy o line) result) (sym is)
 

@@ -68,7 +68,8 @@ module _ (feed : Feed) (allowed : HolidayCodes) (line : List ℕ) (before : Prog
           sym (feed_kind feed allowed line r spells) ∙ ap (kind_read_as feed) (sym named) ∙ read_there feed kind in
           let same : kind_of r ≡ read_as feed kind = cc in
           fine_so _ (λ is. (r, spells, is.0, is.1)) result
-          (fine_here (feed_layouts feed allowed) (feed_are feed allowed) before.place line r spells (ap (may_stand before.place) same ∙ may))
+          (fine_here (feed_layouts feed allowed) (feed_are feed allowed) before.place line r spells
+          (ap (may_stand before.place) same ∙ may))
 
   -- a line that is as in an extract of this profile
   own_refusal : (f : Feed) (kind : Option Kind) → IsOwn kind f

@@ -52,7 +52,8 @@ module _ (feed : Feed) (allowed : HolidayCodes) (n : ℕ) (c : List ℕ) where
   association_step : (r : Record) → SpellsInFeed feed allowed c r → Are (kind_in c) (association_of r)
   association_step r s = at r s (kind_there feed allowed c r s)
     where
-      at : (r : Record) → SpellsInFeed feed allowed c r → kind_read_as feed (kind_in c) ≡ Some (kind_of r) → Are (kind_in c) (association_of r)
+      at : (r : Record) → SpellsInFeed feed allowed c r → kind_read_as feed (kind_in c) ≡ Some (kind_of r)
+          → Are (kind_in c) (association_of r)
       at (of.Association a) s e =
           subst (λ k. Are k (a ∷ [])) (sym (read_back feed (kind_in c) Aa (λ no. cc) e)) (record { spells = s; mark = refl }, tt)
       at r s e = none (kind_in c) (kept_kind is_association refl refl feed (kind_in c) ∙ ap is_association e)

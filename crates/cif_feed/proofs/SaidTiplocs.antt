@@ -66,8 +66,8 @@ tiplocs_marked feed allowed cs x s =
     (records_tiplocs s.records x s.are)
     (lines_spelled feed allowed is_of_tiploc tiploc_of tiploc_mark (IsTiplocLine feed allowed) (tiploc_step feed allowed) refl cs x s)
 
-all_tiplocs : (ls : List (ℕ × List ℕ)) (ts : List Tiploc) (ms : List (Numbered TiplocMark)) → AreTriples (IsTiplocLine Update all_codes) ls ts ms
-    → SayTiplocs ls (tiploc_changes ts ms)
+all_tiplocs : (ls : List (ℕ × List ℕ)) (ts : List Tiploc) (ms : List (Numbered TiplocMark))
+    → AreTriples (IsTiplocLine Update all_codes) ls ts ms → SayTiplocs ls (tiploc_changes ts ms)
 all_tiplocs [] [] [] p = refl
 all_tiplocs (l ∷ ls) (t ∷ ts) (m ∷ ms) p = (
   tiploc_changes_by m.mark.transaction m.number m.mark.tiploc t,

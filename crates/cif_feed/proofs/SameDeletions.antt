@@ -49,7 +49,8 @@ module _ (l q : List ℕ) where
             base_suffix = subst (λ c. StandsIn c (text j.0.base_suffix)) (agree 37 7 1 1 middle) a.key.base_suffix;
             associated_suffix = subst (λ c. StandsIn c (text j.0.associated_suffix)) (agree 37 8 1 0 middle) a.key.associated_suffix;
           }) b.key in
-          let first = one_date_value (columns 16 21 q) j.1 k.1 (subst (λ c. StandsIn c (date j.1)) (agree 2 13 6 0 front) a.first) b.first in
+          let first = one_date_value (columns 16 21 q) j.1 k.1
+          (subst (λ c. StandsIn c (date j.1)) (agree 2 13 6 0 front) a.first) b.first in
           let stp = one_indicator (columns 80 80 q) j.2 k.2 (subst (λ c. StandsIn c (indicator j.2)) back a.letter) b.letter in
           ap (λ (x : AssocKey). let v : AssociationKey = (x, j.1, j.2) in v) key
           ∙ ap (λ (x : ℕ). let v : AssociationKey = (k.0, x, j.2) in v) first

@@ -61,8 +61,8 @@ is_of_tiploc (Some Ta) = true
 is_of_tiploc (Some Td) = true
 is_of_tiploc kind = false
 
--- A TI puts the location that it spells, of its columns 3 to 72. A TA amends that of its own TIPLOC: it puts the one that it spells, with its
--- columns 10 to 72. A TD deletes that of its TIPLOC.
+-- A TI puts the location that it spells, of its columns 3 to 72. A TA amends that of its own TIPLOC: it puts the one that it spells, with
+-- its columns 10 to 72. A TD deletes that of its TIPLOC.
 pub record SaysTiploc (line : ℕ × List ℕ) (changes : List (Change (List ℕ) Tiploc)) : Type 0 where
   pub tiploc : Tiploc
   pub spells : SpellsInFeed Update all_codes line.1 (of.Tiploc tiploc)

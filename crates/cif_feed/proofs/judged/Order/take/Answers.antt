@@ -19,8 +19,8 @@ returns-in-Ok-clause-taken c = λ max contents so_far numbered within own.
     let line = c.args.line.now in
     let here = rw c.in-Reading.is at so_far in
     let room : length contents < max = omega (arith, numbered, within) in
-    let taken = taken_behind own_layouts own_are contents line (progress_of c.in-Reading.reading) here.2 (Ok tt) (progress_of c.take.new.self) c.in-Ok.ensures.taken
-    in (
+    let taken = taken_behind own_layouts own_are contents line (progress_of c.in-Reading.reading) here.2 (Ok tt)
+    (progress_of c.take.new.self) c.in-Ok.ensures.taken in (
       none_has_more contents line here.0 own,
       none_refused_more max contents line own room here.1 taken.0,
       taken.1,
@@ -31,11 +31,10 @@ returns-in-Err-Refused-clause-taken c = λ max contents so_far numbered within o
     let line = c.args.line.now in
     let here = rw c.in-Reading.is at so_far in
     let room : length contents < max = omega (arith, numbered, within) in
-    let behind = rw c.in-Err-Refused.field-0-is at c.in-Err-Refused.ensures in (
-      none_has_more contents line here.0 own,
-      refused_here max contents line own room here.1 _ (taken_behind own_layouts own_are contents line (progress_of c.in-Reading.reading) here.2
-          (Err (Refused _)) (progress_of c.take.new.self) behind.taken) c.args.number numbered,
-    )
+    let behind = rw c.in-Err-Refused.field-0-is at c.in-Err-Refused.ensures in
+    let why = taken_behind own_layouts own_are contents line (progress_of c.in-Reading.reading) here.2 (Err (Refused _))
+    (progress_of c.take.new.self) behind.taken in
+    (none_has_more contents line here.0 own, refused_here max contents line own room here.1 _ why c.args.number numbered)
 
 pub returns-in-Refused-clause-taken : goal.returns-in-Refused-clause-taken
 returns-in-Refused-clause-taken c = λ max contents so_far numbered within own.
