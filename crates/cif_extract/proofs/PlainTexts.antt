@@ -98,7 +98,7 @@ fit-extract rs x are fits =
 
 module _ (layouts : Layouts) (laws : AreLayouts layouts) where
   -- what lines say of records fits
-  fit-spelled : (lines : List (List ℕ)) (rs : List Record) → All IsLine lines → SpellAllBy layouts lines rs →
+  fit-spelled : (lines : List (List ℕ)) (rs : List Record) → All IsLine lines → SpellAllBy layouts.spells lines rs →
       AllTablesFit (map record_table rs)
   fit-spelled [] [] are_lines spell = tt
   fit-spelled [] (r ∷ rs) are_lines spell = absurd spell
@@ -109,7 +109,7 @@ module _ (layouts : Layouts) (laws : AreLayouts layouts) where
   )
 
   -- what lines spell fits its columns
-  pub spelled-fits-by : (lines : List (List ℕ)) (x : ExtractParts) → All IsLine lines → SpellExtractBy layouts lines x → FitsColumns x
+  pub spelled-fits-by : (lines : List (List ℕ)) (x : ExtractParts) → All IsLine lines → SpellExtractBy layouts.spells lines x → FitsColumns x
   spelled-fits-by lines x are_lines s = fit-extract s.records x s.are (fit-spelled lines s.records are_lines s.spelled)
 
 pub spelled-fits : (lines : List (List ℕ)) (x : ExtractParts) → All IsLine lines → SpellExtract lines x → FitsColumns x

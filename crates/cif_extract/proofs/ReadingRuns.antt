@@ -99,8 +99,8 @@ ends_by_trailer p of.Trailer h e = h refl
 ends_by_trailer p _ h e = cc
 
 module _ (layouts : Layouts) (laws : AreLayouts layouts) where
-  spell_more : (lines : List (List ℕ)) (records : List Record) (line : List ℕ) (r : Record) → SpellAllBy layouts lines records →
-      layouts.spells line r → SpellAllBy layouts (lines ++ (line ∷ [])) (records ++ (r ∷ []))
+  spell_more : (lines : List (List ℕ)) (records : List Record) (line : List ℕ) (r : Record) → SpellAllBy layouts.spells lines records →
+      layouts.spells line r → SpellAllBy layouts.spells (lines ++ (line ∷ [])) (records ++ (r ∷ []))
   spell_more [] [] line r all one = (one, tt)
   spell_more [] (x ∷ records) line r all one = absurd all
   spell_more (l ∷ lines) [] line r all one = absurd all

@@ -4,28 +4,28 @@ use Rattle.cif_columns.specs.Contents.{contents_of}
 use Rattle.cif_columns.specs.Line.{IsLine}
 use Rattle.cif_extract.specs.ExtractParts.{ExtractParts}
 use Rattle.cif_extract.specs.Grammar.{AreExtract}
-use Rattle.cif_extract.specs.Layouts.{Layouts, own_layouts}
+use Rattle.cif_records.specs.Record.{SpellsRecord}
 use Rattle.cif_records.specs.declared.record.Record.{Record}
 
--- each line spells its record by these layouts
-abbrev pub SpellAllBy : Layouts → List (List ℕ) → List Record → Type 0
-SpellAllBy layouts [] [] = Unit {0}
-SpellAllBy layouts [] (r ∷ records) = ⊥
-SpellAllBy layouts (line ∷ lines) [] = ⊥
-SpellAllBy layouts (line ∷ lines) (r ∷ records) = layouts.spells line r × SpellAllBy layouts lines records
+-- each line spells its record, by this relation of a line and a record
+abbrev pub SpellAllBy : (List ℕ → Record → Type 0) → List (List ℕ) → List Record → Type 0
+SpellAllBy Spells [] [] = Unit {0}
+SpellAllBy Spells [] (r ∷ records) = ⊥
+SpellAllBy Spells (line ∷ lines) [] = ⊥
+SpellAllBy Spells (line ∷ lines) (r ∷ records) = Spells line r × SpellAllBy Spells lines records
 
 -- the lines spell the records of an extract of these parts
-pub record SpellExtractBy (layouts : Layouts) (lines : List (List ℕ)) (x : ExtractParts) : Type 0 where
+pub record SpellExtractBy (Spells : List ℕ → Record → Type 0) (lines : List (List ℕ)) (x : ExtractParts) : Type 0 where
   pub records : List Record
-  pub spelled : SpellAllBy layouts lines records
+  pub spelled : SpellAllBy Spells lines records
   pub are : AreExtract records x
 
--- by the layouts of this profile
+-- as lines of this profile
 abbrev pub SpellAll : List (List ℕ) → List Record → Type 0
-SpellAll = SpellAllBy own_layouts
+SpellAll = SpellAllBy SpellsRecord
 
 abbrev pub SpellExtract : List (List ℕ) → ExtractParts → Type 0
-SpellExtract = SpellExtractBy own_layouts
+SpellExtract = SpellExtractBy SpellsRecord
 
 -- the bytes spell an extract of these parts: their contents are lines, and these spell it
 pub record BytesSpell (bytes : List ℕ) (x : ExtractParts) : Type 0 where

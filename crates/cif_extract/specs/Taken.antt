@@ -29,7 +29,7 @@ refusal_behind layouts lines line = refusal_at layouts (place_behind_by layouts 
 -- a reading has taken these lines and come to this
 pub record HasTaken (layouts : Layouts) (lines : List (List ℕ)) (p : Progress) : Type 0 where
   pub records : List Record
-  pub spelled : SpellAllBy layouts lines records
+  pub spelled : SpellAllBy layouts.spells lines records
   pub read : HasRead records p
   pub place : place_behind_by layouts lines ≡ p.place
   pub no_trailer : (p.place ≡ Ended → ⊥) → All (IsNoTrailer layouts) lines

@@ -10,7 +10,6 @@ use Rattle.cif_extract.specs.Grammar.{AreExtract}
 use Rattle.cif_extract.specs.SpellsExtract.{SpellAllBy}
 use Rattle.cif_records.specs.declared.record.Record.{Record}
 use Rattle.cif_records.proofs.Records.{kind_of}
-use Rattle.cif_feed.specs.FeedLayouts.{feed_layouts}
 use Rattle.cif_feed.specs.FeedLine.{SpellsInFeed, mark_in}
 use Rattle.cif_feed.specs.FromLines.{ArePairs}
 use Rattle.cif_feed.specs.RecordLines.{association_mark, is_note, is_record_line, marks, record_lines, schedule_mark, tiploc_mark}
@@ -78,7 +77,7 @@ module _ (allowed : HolidayCodes) where
   no_notes (c ∷ cs) (r ∷ rs) are = All-cons (λ c. is_note c ≡ false) c cs (neither c r are.0).1 (no_notes cs rs are.1)
   no_notes _ _ are = absurd are
 
-  spell : (cs : List (List ℕ)) (rs : List Record) → AreReadAs cs rs → SpellAllBy (feed_layouts Full allowed) cs rs
+  spell : (cs : List (List ℕ)) (rs : List Record) → AreReadAs cs rs → SpellAllBy (SpellsInFeed Full allowed) cs rs
   spell [] [] are = tt
   spell (c ∷ cs) (r ∷ rs) are = (are.0.spells, spell cs rs are.1)
   spell _ _ are = absurd are
@@ -103,7 +102,7 @@ module _ (allowed : HolidayCodes) where
     says = record {
       extract = record {
         records = rs;
-        spelled = subst (λ ls. SpellAllBy (feed_layouts Full allowed) ls rs) (sym (speak cs rs are)) (spell cs rs are);
+        spelled = subst (λ ls. SpellAllBy (SpellsInFeed Full allowed) ls rs) (sym (speak cs rs are)) (spell cs rs are);
         are = extract;
       };
       header_line = refl;

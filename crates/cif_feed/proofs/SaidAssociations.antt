@@ -10,7 +10,6 @@ use Rattle.cif_records.specs.declared.record.Kind.TheVariants.{Aa}
 use Rattle.cif_records.specs.declared.record.Record.{Record}
 use Rattle.cif_records.specs.declared.record.Record.TheVariants as of
 use Rattle.cif_records.proofs.Records.{kind_of}
-use Rattle.cif_feed.specs.FeedLayouts.{feed_layouts}
 use Rattle.cif_feed.specs.FeedLine.{SpellsAssociationBy, SpellsInFeed, is_open, mark_by, published_association_rows}
 use Rattle.cif_feed.specs.FeedLine.{put_association_rows, record_mark, transaction_at}
 use Rattle.cif_feed.specs.FromLines.{ArePairs, AreTriples}
@@ -60,7 +59,7 @@ module _ (feed : Feed) (allowed : HolidayCodes) (n : ℕ) (c : List ℕ) where
 
 -- all of them, their associations and marks
 pub associations_marked : (feed : Feed) (allowed : HolidayCodes) (cs : List (List ℕ)) (x : ExtractParts)
-    → SpellExtractBy (feed_layouts feed allowed) (record_lines cs) x
+    → SpellExtractBy (SpellsInFeed feed allowed) (record_lines cs) x
     → AreTriples (IsAssociationLine feed allowed) (lines_of is_association cs) x.associations (marks association_mark feed allowed cs)
 associations_marked feed allowed cs x s =
     subst (λ l. AreTriples (IsAssociationLine feed allowed) (lines_of is_association cs) l (marks association_mark feed allowed cs))

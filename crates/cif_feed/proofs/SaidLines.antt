@@ -9,7 +9,6 @@ use Rattle.cif_records.specs.Kind.{kind_in}
 use Rattle.cif_records.specs.declared.record.Kind.{Kind}
 use Rattle.cif_records.specs.declared.record.Kind.TheVariants.{Ti, Ta, Td}
 use Rattle.cif_records.specs.declared.record.Record.{Record}
-use Rattle.cif_feed.specs.FeedLayouts.{feed_layouts}
 use Rattle.cif_feed.specs.FeedLine.{SpellsInFeed, mark_in}
 use Rattle.cif_feed.specs.FromLines.{ArePairs, AreTriples}
 use Rattle.cif_feed.specs.LayoutRefusals.{kind_read_as}
@@ -74,7 +73,7 @@ module _ (feed : Feed) (allowed : HolidayCodes) {A B : Type 0} (is : Option Kind
   abbrev marks_of : List (ℕ × List ℕ) → List B
   marks_of ns = flat_map (λ (n : ℕ × List ℕ). of_mark n.0 (mark_in feed allowed n.1)) ns
 
-  all_lines : (ns : List (ℕ × List ℕ)) (rs : List Record) → SpellAllBy (feed_layouts feed allowed) (map (λ (n : ℕ × List ℕ). n.1) ns) rs
+  all_lines : (ns : List (ℕ × List ℕ)) (rs : List Record) → SpellAllBy (SpellsInFeed feed allowed) (map (λ (n : ℕ × List ℕ). n.1) ns) rs
       → AreTriples Q (filter of_kind ns) (flat_map f rs) (marks_of ns)
   all_lines [] [] spell = tt
   all_lines (n ∷ ns) (r ∷ rs) spell =
@@ -88,7 +87,7 @@ module _ (feed : Feed) (allowed : HolidayCodes) {A B : Type 0} (is : Option Kind
   all_lines _ _ spell = absurd spell
 
   module _ (none : is None ≡ false) (cs : List (List ℕ)) (x : ExtractParts)
-      (s : SpellExtractBy (feed_layouts feed allowed) (record_lines cs) x) where
+      (s : SpellExtractBy (SpellsInFeed feed allowed) (record_lines cs) x) where
     -- a line of such a kind is no comment and no note
     kinds_speak : (n : ℕ × List ℕ) → (is_record_line n.1 && is (kind_in n.1)) ≡ is (kind_in n.1)
     kinds_speak n = at (kind_in n.1) refl
@@ -105,4 +104,4 @@ module _ (feed : Feed) (allowed : HolidayCodes) {A B : Type 0} (is : Option Kind
         (filter-filter of_kind (λ (n : ℕ × List ℕ). is_record_line n.1) (enumerate_from 1 cs)
         ∙ filter-alike _ of_kind kinds_speak (enumerate_from 1 cs))
         (all_lines (filter (λ (n : ℕ × List ℕ). is_record_line n.1) (enumerate_from 1 cs)) s.records
-        (subst (λ l. SpellAllBy (feed_layouts feed allowed) l s.records) (sym (enumerate_filter is_record_line 1 cs)) s.spelled))
+        (subst (λ l. SpellAllBy (SpellsInFeed feed allowed) l s.records) (sym (enumerate_filter is_record_line 1 cs)) s.spelled))

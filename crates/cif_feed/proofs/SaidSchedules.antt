@@ -18,7 +18,6 @@ use Rattle.cif_records.specs.declared.record.Kind.TheVariants.{Bs}
 use Rattle.cif_records.specs.declared.record.Record.{Record}
 use Rattle.cif_records.specs.declared.record.Record.TheVariants as of
 use Rattle.cif_records.proofs.Records.{kind_of}
-use Rattle.cif_feed.specs.FeedLayouts.{feed_layouts}
 use Rattle.cif_feed.specs.FeedLine.{SpellsBasicBy, SpellsInFeed, code_of, deleted_basic_rows, is_open, letter_of}
 use Rattle.cif_feed.specs.FeedLine.{mark_by, published_basic_rows, put_basic_rows, record_mark, transaction_at}
 use Rattle.cif_feed.specs.FromLines.{ArePairs, AreTriples}
@@ -109,7 +108,7 @@ module _ (feed : Feed) (allowed : HolidayCodes) where
       (λ ls ms. schedule_lines ls ms others ss more)
 
   -- all of them, their schedules and marks
-  pub schedules_marked : (cs : List (List ℕ)) (x : ExtractParts) → SpellExtractBy (feed_layouts feed allowed) (record_lines cs) x
+  pub schedules_marked : (cs : List (List ℕ)) (x : ExtractParts) → SpellExtractBy (SpellsInFeed feed allowed) (record_lines cs) x
       → AreTriples Schedules (lines_of is_basic cs) x.schedules (marks schedule_mark feed allowed cs)
   schedules_marked cs x s =
       schedule_lines (lines_of is_basic cs) (marks schedule_mark feed allowed cs) s.are.schedules x.schedules s.are.are_schedules

@@ -9,7 +9,6 @@ use Rattle.cif_records.specs.declared.record.Record.{Record}
 use Rattle.cif_records.specs.declared.record.Record.TheVariants as of
 use Rattle.cif_records.specs.declared.tiploc.Tiploc.{Tiploc}
 use Rattle.cif_records.proofs.Records.{kind_of}
-use Rattle.cif_feed.specs.FeedLayouts.{feed_layouts}
 use Rattle.cif_feed.specs.FeedLine.{SpellsInFeed, mark_by, mark_in}
 use Rattle.cif_feed.specs.FromLines.{AreTriples}
 use Rattle.cif_feed.specs.HolidayCode.{all_codes}
@@ -59,7 +58,7 @@ module _ (feed : Feed) (allowed : HolidayCodes) (n : ℕ) (c : List ℕ) where
 
 -- all of them, their locations and marks
 pub tiplocs_marked : (feed : Feed) (allowed : HolidayCodes) (cs : List (List ℕ)) (x : ExtractParts)
-    → SpellExtractBy (feed_layouts feed allowed) (record_lines cs) x
+    → SpellExtractBy (SpellsInFeed feed allowed) (record_lines cs) x
     → AreTriples (IsTiplocLine feed allowed) (lines_of is_of_tiploc cs) x.tiplocs (marks tiploc_mark feed allowed cs)
 tiplocs_marked feed allowed cs x s =
     subst (λ l. AreTriples (IsTiplocLine feed allowed) (lines_of is_of_tiploc cs) l (marks tiploc_mark feed allowed cs))

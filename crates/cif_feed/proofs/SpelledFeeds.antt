@@ -21,6 +21,7 @@ use Rattle.cif_records.specs.declared.record.Kind.TheVariants.{Zz}
 use Rattle.cif_records.proofs.Judging.{none-some}
 use Rattle.cif_feed.specs.FeedFault.{IsFailure, IsFeedFault}
 use Rattle.cif_feed.specs.FeedLayouts.{feed_layouts}
+use Rattle.cif_feed.specs.FeedLine.{SpellsInFeed}
 use Rattle.cif_feed.specs.RecordLines.{is_note, is_record_line, notes_may_stand, record_lines}
 use Rattle.cif_feed.specs.FeedRefusal.{IsFeedContent, IsFeedTruncated, IsFirstOfFeed, IsRefusedContent, line_refusal}
 use Rattle.cif_feed.specs.SpellsFeed.{BytesSpellFeed, FeedParts, SayFeed, SpellFeed}
@@ -109,7 +110,7 @@ module _ (feed : Feed) (allowed : HolidayCodes) (max : ℕ) where
             by false false eb en =
                 let says : is_record_line r.content ≡ true = ap (λ b. not b && not (is_note r.content)) (sym eb) ∙ ap not (sym en) in
                 let fine = spelled_behind (feed_layouts feed allowed) (feed_are feed allowed) (record_lines r.before) r.content
-                (record_lines r.after) x.extract (subst (λ ls. SpellExtractBy (feed_layouts feed allowed) ls x.extract)
+                (record_lines r.after) x.extract (subst (λ ls. SpellExtractBy (SpellsInFeed feed allowed) ls x.extract)
                 (parts r.before r.content r.after says) s.says.extract) in
                 none-some _ r.why (ap (λ b. cond b (unless (notes_may_stand r.before) OutOfOrder)
                 (refusal_behind (feed_layouts feed allowed) (record_lines r.before) r.content)) (sym en) ∙ fine)

@@ -7,7 +7,7 @@ use Rattle.cif_extract.specs.SpellsExtract.{SpellExtractBy}
 use Rattle.cif_feed.specs.Counts.{counts_of}
 use Rattle.cif_feed.specs.FeedRefusal.{IsFeedContent}
 use Rattle.cif_records.specs.Kind.{kind_in}
-use Rattle.cif_feed.specs.FeedLayouts.{feed_layouts}
+use Rattle.cif_feed.specs.FeedLine.{SpellsInFeed}
 use Rattle.cif_feed.specs.RecordLines.{association_mark, is_header, is_note, marks, notes_may_stand, record_lines, schedule_mark}
 use Rattle.cif_feed.specs.RecordLines.{tiploc_mark}
 use Rattle.cif_feed.specs.declared.counts.UpdateCounts.{UpdateCounts}
@@ -57,7 +57,7 @@ passed_of contents = record { comments = length (filter is_comment contents); no
 
 -- The contents say these parts, line by line.
 pub record SayFeed (feed : Feed) (allowed : HolidayCodes) (contents : List (List ℕ)) (x : FeedParts) : Type 0 where
-  pub extract : SpellExtractBy (feed_layouts feed allowed) (record_lines contents) x.extract
+  pub extract : SpellExtractBy (SpellsInFeed feed allowed) (record_lines contents) x.extract
   pub header_line : x.header_line ≡ header_line contents
   pub tiploc_marks : x.tiploc_marks ≡ marks tiploc_mark feed allowed contents
   pub association_marks : x.association_marks ≡ marks association_mark feed allowed contents
