@@ -306,7 +306,8 @@ one_extract_of records x y p q =
     (λ rs. AreSchedules rs x.schedules) schedules.0 p.are_schedules) q.are_schedules)
 
 module _ (layouts : Layouts) (laws : AreLayouts layouts) where
-  one_spelling : (lines : List (List ℕ)) (rs qs : List Record) → SpellAllBy layouts.spells lines rs → SpellAllBy layouts.spells lines qs → rs ≡ qs
+  one_spelling : (lines : List (List ℕ)) (rs qs : List Record) → SpellAllBy layouts.spells lines rs → SpellAllBy layouts.spells lines qs →
+      rs ≡ qs
   one_spelling [] [] [] p q = refl
   one_spelling [] [] (y ∷ qs) p q = absurd q
   one_spelling [] (x ∷ rs) qs p q = absurd p
@@ -316,7 +317,8 @@ module _ (layouts : Layouts) (laws : AreLayouts layouts) where
       ap (λ r. r ∷ rs) (laws.one line x y p.0 q.0) ∙ ap (λ zs. y ∷ zs) (one_spelling lines rs qs p.1 q.1)
 
   -- lines spell at most one extract
-  pub one_extract : (lines : List (List ℕ)) (x y : ExtractParts) → SpellExtractBy layouts.spells lines x → SpellExtractBy layouts.spells lines y → x ≡ y
+  pub one_extract : (lines : List (List ℕ)) (x y : ExtractParts) → SpellExtractBy layouts.spells lines x →
+      SpellExtractBy layouts.spells lines y → x ≡ y
   one_extract lines x y p q =
       one_extract_of q.records x y
       (subst (λ rs. AreExtract rs x) (one_spelling lines p.records q.records p.spelled q.spelled) p.are) q.are

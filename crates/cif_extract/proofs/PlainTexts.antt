@@ -109,7 +109,8 @@ module _ (layouts : Layouts) (laws : AreLayouts layouts) where
   )
 
   -- what lines spell fits its columns
-  pub spelled-fits-by : (lines : List (List ℕ)) (x : ExtractParts) → All IsLine lines → SpellExtractBy layouts.spells lines x → FitsColumns x
+  pub spelled-fits-by : (lines : List (List ℕ)) (x : ExtractParts) → All IsLine lines → SpellExtractBy layouts.spells lines x →
+      FitsColumns x
   spelled-fits-by lines x are_lines s = fit-extract s.records x s.are (fit-spelled lines s.records are_lines s.spelled)
 
 pub spelled-fits : (lines : List (List ℕ)) (x : ExtractParts) → All IsLine lines → SpellExtract lines x → FitsColumns x

@@ -19,8 +19,8 @@ use Rattle.cif_extract.proofs.Places.{fine_here, place_more, place_past}
 
 module _ (layouts : Layouts) (laws : AreLayouts layouts) where
   fine_at : (front : List (List ℕ)) (place : Place) (before : List (List ℕ)) (line : List ℕ) (after : List (List ℕ))
-      (records : List Record) (to : Place) → place_behind_by layouts front ≡ place → SpellAllBy layouts.spells (before ++ line ∷ after) records
-      → MayStand place records to → refusal_behind layouts (front ++ before) line ≡ None
+      (records : List Record) (to : Place) → place_behind_by layouts front ≡ place
+      → SpellAllBy layouts.spells (before ++ line ∷ after) records → MayStand place records to → refusal_behind layouts (front ++ before) line ≡ None
   fine_at front place [] line after [] to is spell stand = absurd spell
   fine_at front place [] line after (r ∷ records) to is spell stand =
       ap (λ ls. refusal_behind layouts ls line) (append-nil front) ∙ ap (λ p. refusal_at layouts p line) is
@@ -44,6 +44,7 @@ module _ (layouts : Layouts) (laws : AreLayouts layouts) where
   no_last (line ∷ lines) [] spell all = all 0 [] (omega arith) (laws.kind line of.Trailer spell.0)
   no_last (line ∷ lines) (r ∷ records) spell all = no_last lines records spell.1 (All-tail (IsNoTrailer layouts) line lines all)
 
-  pub spelled_trailer : (lines : List (List ℕ)) (x : ExtractParts) → SpellExtractBy layouts.spells lines x → All (IsNoTrailer layouts) lines → ⊥
+  pub spelled_trailer : (lines : List (List ℕ)) (x : ExtractParts) → SpellExtractBy layouts.spells lines x
+      → All (IsNoTrailer layouts) lines → ⊥
   spelled_trailer lines x s none =
       no_last lines (records_before_trailer x s.are.schedules) (subst (SpellAllBy layouts.spells lines) s.are.parts s.spelled) none
