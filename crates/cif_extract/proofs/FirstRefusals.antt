@@ -1,6 +1,6 @@
 -- Why a line is refused first.
-use Rattle.std.proofs.Common.{◌≡◌, ℕ, ◌+◌, ◌<◌, ◌≤◌, true, false, nat_eq, nat_lt, List, [], ◌∷◌, ◌++◌, length, take, Option, Some}
-use Rattle.std.proofs.Common.{None, IfErr, IfSome, IsSomeAnd, Result, Err, refl, sym, ap, ◌∙◌, subst, arith, append_assoc, below_more}
+use Rattle.std.proofs.Common.{◌≡◌, ℕ, ◌+◌, ◌<◌, true, false, nat_eq, nat_lt, List, [], ◌∷◌, ◌++◌, length, take, Option, Some}
+use Rattle.std.proofs.Common.{None, IfSome, IsSomeAnd, refl, sym, ap, ◌∙◌, subst, arith, append_assoc, below_more}
 use Rattle.std.proofs.Common.{get_or, inl, length-append, ne_eqb}
 pub use Rattle.std.proofs.lemmas.Bool.{false_from_ne_true as not_true}
 use Rattle.std.proofs.lemmas.Bool.Decides.{nat_tests}
@@ -12,9 +12,8 @@ use Rattle.cif_columns.specs.Contents.{contents_of, HasLineReason}
 use Rattle.cif_columns.specs.FirstLine.{is_printable}
 use Rattle.cif_columns.specs.GivenLines.{AreLinesToFailure, AreLinesToFault, AreWholeContentsAndRest}
 use Rattle.cif_columns.specs.Line.{IsLine}
-use Rattle.cif_columns.specs.LineReader.{IsNextFault, LineReads, left}
-use Rattle.cif_columns.specs.Source.{HasReadOn, Unread}
-use Rattle.cif_columns.specs.declared.line.Line.{Line}
+use Rattle.cif_columns.specs.LineReader.{left}
+use Rattle.cif_columns.specs.Source.{Unread}
 use Rattle.cif_columns.specs.declared.refusal.LineFault.{LineFault}
 use Rattle.cif_columns.specs.declared.refusal.LineFault.TheVariants as line_fault
 use Rattle.cif_columns.specs.declared.line_reader.LineReader.{LineReader}
@@ -22,13 +21,11 @@ use Rattle.cif_columns.specs.declared.refusal.Refusal.{Refusal}
 use Rattle.cif_columns.specs.declared.refusal.Refusal.TheVariants as refusal
 use Rattle.cif_columns.specs.declared.source.Source.{Source}
 use Rattle.cif_columns.proofs.GivenLinesLaws.{IsReading, contents_given, known_so, with_rest}
-use Rattle.cif_columns.proofs.ReadSources.{failed_after, read_on_both}
 use Rattle.cif_columns.proofs.PrintableBytes.{printable_fact, printable_true}
 use Rattle.cif_extract.specs.Fault.{of_line_fault}
 use Rattle.cif_extract.specs.FirstRefusal.{NoneRefused, IsCutBeforeRefusal, IsFirstRefusal, IsRefusedLine, order_refusal, refusal_of}
 use Rattle.cif_extract.specs.OrderOfRecords.{place_behind}
 use Rattle.cif_extract.specs.ReadFault.{IsReadFault}
-use Rattle.cif_extract.specs.declared.fault.Fault.{Fault}
 use Rattle.cif_records.specs.Checks.{first_of}
 use Rattle.cif_records.specs.Kind.{kind_in}
 use Rattle.cif_records.specs.Record.{record_refusal}

@@ -8,6 +8,7 @@ pub mod GoesOn
 pub mod GrammarLists
 pub mod JourneySteps
 pub mod KeptLines
+pub mod LayoutLaws
 pub mod OneExtract
 pub mod OrderLaws
 pub mod OrderOfLines

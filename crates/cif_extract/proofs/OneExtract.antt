@@ -4,7 +4,8 @@ use Rattle.cif_extract.specs.BodyParts.{BodyParts, extra_records, journey_record
 use Rattle.cif_extract.specs.Call.{call_record}
 use Rattle.cif_extract.specs.ExtractParts.{ExtractParts}
 use Rattle.cif_extract.specs.Grammar.{AreExtract, AreJourney, AreSchedule, AreSchedules, HaveBody, records_before_trailer}
-use Rattle.cif_extract.specs.SpellsExtract.{SpellAll, SpellExtract}
+use Rattle.cif_extract.specs.Layouts.{Layouts}
+use Rattle.cif_extract.specs.SpellsExtract.{SpellAllBy, SpellExtractBy}
 use Rattle.cif_extract.specs.declared.call.Call.{Call}
 use Rattle.cif_extract.specs.declared.call.Call.TheVariants.{At, Turn}
 use Rattle.cif_extract.specs.declared.extract.Schedule.{Schedule}
@@ -19,12 +20,13 @@ use Rattle.cif_records.specs.declared.record.Record.{Record}
 use Rattle.cif_records.specs.declared.record.Record.TheVariants as of
 use Rattle.cif_records.specs.declared.terminus.Terminus.{Terminus}
 use Rattle.cif_records.specs.declared.tiploc.Tiploc.{Tiploc}
-use Rattle.cif_records.proofs.Records.{kind_of, one_record}
+use Rattle.cif_records.proofs.Records.{kind_of}
+use Rattle.cif_extract.proofs.LayoutLaws.{AreLayouts}
 use Rattle.cif_extract.specs.Laws.SameBody.{same_values as same_parts}
 use Rattle.cif_extract.proofs.Schedules.{same_schedule}
 
 -- P holds of each record
-abbrev Each : (Record → Type 0) → List Record → Type 0
+abbrev pub Each : (Record → Type 0) → List Record → Type 0
 Each P [] = Unit {0}
 Each P (r ∷ records) = P r × Each P records
 
@@ -89,10 +91,13 @@ one_call (Turn x) (At y) e = cc
 one_call (Turn x) (Turn y) e = cc
 
 -- neither a BS nor the trailer
-abbrev Inside : Record → Type 0
-Inside (of.Basic b) = ⊥
-Inside of.Trailer = ⊥
-Inside _ = Unit {0}
+abbrev pub Inside : Record → Type 0
+Inside (of.Extra x) = Unit {0}
+Inside (of.Origin o) = Unit {0}
+Inside (of.Stop s) = Unit {0}
+Inside (of.Change c) = Unit {0}
+Inside (of.Terminus t) = Unit {0}
+Inside _ = ⊥
 
 call_isnt : (c : Call) → Isnt Lt (call_record c)
 call_isnt (At s) = λ e. cc
@@ -173,7 +178,7 @@ one_schedule records s t p q =
     (one_body q.basic.detail q.extra q.journey s.body t.body body q.body)
 
 -- a schedule has one BS, at its front, and no trailer
-further_inside : (d : Option Detail) (x : Option Extra) (journey : List Record) (body : Option BodyParts) → HaveBody d x journey body →
+pub further_inside : (d : Option Detail) (x : Option Extra) (journey : List Record) (body : Option BodyParts) → HaveBody d x journey body →
     Each Inside (extra_records x ++ journey)
 further_inside d x journey body h = each_append Inside (extra_records x) journey (extra_inside x) (journey_inside d body h)
   where
@@ -230,7 +235,7 @@ one_schedules records (x ∷ xs) (y ∷ ys) p q =
     ∙ ap (λ ss. y ∷ ss) (one_schedules more xs ys (subst (λ rs. AreSchedules rs xs) two.1 rest) last)
 
 -- the records of an extract, its parts one behind another
-laid_out : (x : ExtractParts) (groups : List Record) → records_before_trailer x groups ++ (of.Trailer ∷ [])
+pub laid_out : (x : ExtractParts) (groups : List Record) → records_before_trailer x groups ++ (of.Trailer ∷ [])
     ≡ of.Header x.header ∷ (map of.Tiploc x.tiplocs ++ (map of.Association x.associations ++ (groups ++ (of.Trailer ∷ []))))
 laid_out x groups =
     ap (λ rs. of.Header x.header ∷ rs)
@@ -300,17 +305,20 @@ one_extract_of records x y p q =
     (one_schedules q.schedules x.schedules y.schedules (subst
     (λ rs. AreSchedules rs x.schedules) schedules.0 p.are_schedules) q.are_schedules)
 
-one_spelling : (lines : List (List ℕ)) (rs qs : List Record) → SpellAll lines rs → SpellAll lines qs → rs ≡ qs
-one_spelling [] [] [] p q = refl
-one_spelling [] [] (y ∷ qs) p q = absurd q
-one_spelling [] (x ∷ rs) qs p q = absurd p
-one_spelling (line ∷ lines) [] qs p q = absurd p
-one_spelling (line ∷ lines) (x ∷ rs) [] p q = absurd q
-one_spelling (line ∷ lines) (x ∷ rs) (y ∷ qs) p q =
-    ap (λ r. r ∷ rs) (one_record line x y p.0 q.0) ∙ ap (λ zs. y ∷ zs) (one_spelling lines rs qs p.1 q.1)
+module _ (layouts : Layouts) (laws : AreLayouts layouts) where
+  one_spelling : (lines : List (List ℕ)) (rs qs : List Record) → SpellAllBy layouts.spells lines rs → SpellAllBy layouts.spells lines qs →
+      rs ≡ qs
+  one_spelling [] [] [] p q = refl
+  one_spelling [] [] (y ∷ qs) p q = absurd q
+  one_spelling [] (x ∷ rs) qs p q = absurd p
+  one_spelling (line ∷ lines) [] qs p q = absurd p
+  one_spelling (line ∷ lines) (x ∷ rs) [] p q = absurd q
+  one_spelling (line ∷ lines) (x ∷ rs) (y ∷ qs) p q =
+      ap (λ r. r ∷ rs) (laws.one line x y p.0 q.0) ∙ ap (λ zs. y ∷ zs) (one_spelling lines rs qs p.1 q.1)
 
--- lines spell at most one extract
-pub one_extract : (lines : List (List ℕ)) (x y : ExtractParts) → SpellExtract lines x → SpellExtract lines y → x ≡ y
-one_extract lines x y p q =
-    one_extract_of q.records x y
-    (subst (λ rs. AreExtract rs x) (one_spelling lines p.records q.records p.spelled q.spelled) p.are) q.are
+  -- lines spell at most one extract
+  pub one_extract : (lines : List (List ℕ)) (x y : ExtractParts) → SpellExtractBy layouts.spells lines x →
+      SpellExtractBy layouts.spells lines y → x ≡ y
+  one_extract lines x y p q =
+      one_extract_of q.records x y
+      (subst (λ rs. AreExtract rs x) (one_spelling lines p.records q.records p.spelled q.spelled) p.are) q.are

@@ -9,6 +9,7 @@ use Rattle.cif_extract.specs.Call.{call_record}
 use Rattle.cif_extract.specs.ExtractParts.{ExtractParts}
 use Rattle.cif_extract.specs.FirstRefusal.{NoneRefused}
 use Rattle.cif_extract.specs.Grammar.{AreExtract, AreJourney, AreSchedule, AreSchedules, HaveBody}
+use Rattle.cif_extract.specs.Layouts.{own_layouts}
 use Rattle.cif_extract.specs.OrderOfRecords.{may_stand, place_behind}
 use Rattle.cif_extract.specs.SpellsExtract.{SpellAll, SpellExtract}
 use Rattle.cif_extract.specs.declared.call.Call.{Call}
@@ -28,10 +29,10 @@ use Rattle.cif_records.specs.declared.record.Record.{Record}
 use Rattle.cif_records.specs.declared.record.Record.TheVariants as of
 use Rattle.cif_records.specs.declared.terminus.Terminus.{Terminus}
 use Rattle.cif_records.specs.declared.tiploc.Tiploc.{Tiploc}
-use Rattle.cif_records.proofs.Records.{kind_of as record_kind, kind_there as spelled_kind, no_refusal_as}
+use Rattle.cif_records.proofs.Records.{kind_of as record_kind}
 use Rattle.cif_extract.proofs.FirstRefusals.{none_refused-more, none_refused-none}
-use Rattle.cif_extract.proofs.Places.{place_more, place_past, refused_at}
-use Rattle.cif_extract.proofs.TakenLines.{refusal_of_fields}
+use Rattle.cif_extract.proofs.LayoutLaws.{own_are}
+use Rattle.cif_extract.proofs.Places.{fine_here, place_more, place_past, refused_at}
 
 -- from one place to another these records may stand, one after another
 abbrev pub MayStand : Place → List Record → Place → Type 0
@@ -164,9 +165,8 @@ fine_more : (max : ℕ) (lines : List (List ℕ)) (place : Place) (line : List �
     (place_past place r)
 fine_more max lines place line r so_far is_line room spells may = record {
   fine = none_refused-more max lines line so_far.fine
-      (refused_at max lines line place is_line room so_far.behind
-      ∙ refusal_of_fields place line (record_kind r) (spelled_kind line r spells) may ∙ no_refusal_as line r spells);
-  behind = place_more lines line r place so_far.behind spells;
+      (refused_at max lines line place is_line room so_far.behind ∙ fine_here own_layouts own_are place line r spells may);
+  behind = place_more own_layouts own_are lines line r place so_far.behind spells;
 }
 
 fine_all : (max : ℕ) (front : List (List ℕ)) (place : Place) (lines : List (List ℕ)) (records : List Record) (to : Place) →

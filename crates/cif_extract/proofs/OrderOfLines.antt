@@ -7,6 +7,7 @@ use Rattle.cif_columns.specs.Line.{IsLine}
 use Rattle.cif_columns.proofs.Parts.{fits-append, fits-front, stands-plain_line}
 use Rattle.cif_extract.specs.ExtractParts.{ExtractParts}
 use Rattle.cif_extract.specs.Grammar.{BeginExtract}
+use Rattle.cif_extract.specs.Layouts.{own_layouts}
 use Rattle.cif_extract.specs.OrderOfRecords.{AreInOrder, MayComeAfter, may_stand, place_behind}
 use Rattle.cif_extract.specs.SpellsExtract.{SpellAll, SpellExtract}
 use Rattle.cif_extract.specs.Steps.Reading.{HasRead, IsKeepable, Progress, no_progress, step}
@@ -25,6 +26,7 @@ use Rattle.cif_records.specs.declared.record.Record.TheVariants as of
 use Rattle.cif_records.proofs.Records as records
 use Rattle.cif_extract.proofs.GoesOn.{read_begins}
 use Rattle.cif_extract.proofs.JourneySteps.{has_read_more}
+use Rattle.cif_extract.proofs.LayoutLaws.{own_are}
 use Rattle.cif_extract.proofs.OrderLaws.{MayStand, stand_extract}
 use Rattle.cif_extract.proofs.Places.{place_more, place_past}
 use Rattle.cif_extract.proofs.ReadingRuns.{place_step}
@@ -44,7 +46,8 @@ in-order front place (line ∷ lines) (r ∷ rs) to behind spell stand = (
       ap (λ p. may_stand p kind) behind
       ∙ ap (λ k. may_stand place k) (one_kind line kind (records.kind_of r) named (records.kind_there line r spell.0))
       ∙ stand.0,
-  in-order (front ++ (line ∷ [])) (place_past place r) lines rs to (place_more front line r place behind spell.0) spell.1 stand.1,
+  in-order (front ++ (line ∷ [])) (place_past place r) lines rs to
+      (place_more own_layouts own_are front line r place behind spell.0) spell.1 stand.1,
 )
 
 pub spelled-in_order : (lines : List (List ℕ)) (x : ExtractParts) → SpellExtract lines x → AreInOrder [] lines
@@ -103,7 +106,7 @@ module _ (front : List (List ℕ)) (rs : List Record) (so_far : IsReadSoFar fron
       ap (λ place. may_stand place (records.kind_of r)) (sym so_far.behind) ∙ may (records.kind_of r) named in record {
         progress = step p r;
         read = has_read_more rs p r (keepable r (records.fit line is_line r spells)) so_far.read stands;
-        behind = place_more front line r p.place so_far.behind spells ∙ place_step p r;
+        behind = place_more own_layouts own_are front line r p.place so_far.behind spells ∙ place_step p r;
       }
 
   started : one_more.progress.place ≡ at.Start → ⊥

@@ -33,7 +33,7 @@ abbrev journey_of : Option BodyParts → List Record
 journey_of None = []
 journey_of (Some body) = journey_records body.origin body.calls body.terminus
 
-abbrev records_of_body : Option BodyParts → List Record
+abbrev pub records_of_body : Option BodyParts → List Record
 records_of_body body = extra_records (extra_of body) ++ journey_of body
 
 pub bodied-detail : (body : Option BodyParts) → is_some (detail_of body) ≡ is_some body
@@ -44,12 +44,12 @@ have-body : (body : Option BodyParts) → HaveBody (detail_of body) (extra_of bo
 have-body None = inl refl
 have-body (Some body) = (refl, refl, refl)
 
-tables-body : (body : Option BodyParts) → map record_table (records_of_body body) ≡ body_tables body
+pub tables-body : (body : Option BodyParts) → map record_table (records_of_body body) ≡ body_tables body
 tables-body None = refl
 tables-body (Some body) = refl
 
 -- a schedule's BS, and its records
-abbrev basic_of : Schedule → Basic
+abbrev pub basic_of : Schedule → Basic
 basic_of s = record {
   uid = s.uid;
   first = s.first;
@@ -61,7 +61,7 @@ basic_of s = record {
   bodied = bodied-detail s.body ∙ s.bodied;
 }
 
-abbrev records_of : Schedule → List Record
+abbrev pub records_of : Schedule → List Record
 records_of s = of.Basic (basic_of s) ∷ records_of_body s.body
 
 are-schedule : (s : Schedule) → AreSchedule (records_of s) s

@@ -11,7 +11,8 @@ use Rattle.cif_columns.proofs.PlainLines.{contents-lines_text}
 use Rattle.cif_extract.specs.BodyParts.{BodyParts, extra_records}
 use Rattle.cif_extract.specs.ExtractParts.{ExtractParts}
 use Rattle.cif_extract.specs.Grammar.{AreExtract, AreSchedule, AreSchedules, HaveBody}
-use Rattle.cif_extract.specs.SpellsExtract.{BytesSpell, SpellAll, SpellExtract}
+use Rattle.cif_extract.specs.Layouts.{Layouts, own_layouts}
+use Rattle.cif_extract.specs.SpellsExtract.{BytesSpell, SpellAll, SpellAllBy, SpellExtract, SpellExtractBy}
 use Rattle.cif_extract.specs.Texts.{AllTablesFit, FitsColumns, body_tables, extract_lines, extract_text, tables_of}
 use Rattle.cif_extract.specs.declared.extract.Schedule.{Schedule}
 use Rattle.cif_records.specs.Basic.{basic_rows}
@@ -23,6 +24,7 @@ use Rattle.cif_records.specs.declared.detail.Detail.{Detail}
 use Rattle.cif_records.specs.declared.extra.Extra.{Extra}
 use Rattle.cif_records.specs.declared.record.Record.{Record}
 use Rattle.cif_records.proofs.Records as records
+use Rattle.cif_extract.proofs.LayoutLaws.{AreLayouts, own_are}
 use Rattle.cif_extract.proofs.PlainRecords.{are-extract, plain_records, tables-append, tables-extract, tables-plain}
 
 -- tables that follow others
@@ -37,16 +39,6 @@ fit-front (t ∷ a) b p = (p.0, fit-front a b p.1)
 pub fit-back : (a b : List (List Row)) → AllTablesFit (a ++ b) → AllTablesFit b
 fit-back [] b p = p
 fit-back (t ∷ a) b p = fit-back a b p.1
-
--- what lines say of records fits
-fit-spelled : (lines : List (List ℕ)) (rs : List Record) → All IsLine lines → SpellAll lines rs → AllTablesFit (map record_table rs)
-fit-spelled [] [] are_lines spell = tt
-fit-spelled [] (r ∷ rs) are_lines spell = absurd spell
-fit-spelled (line ∷ lines) [] are_lines spell = absurd spell
-fit-spelled (line ∷ lines) (r ∷ rs) are_lines spell = (
-  records.fit line (All-head IsLine line lines are_lines) r spell.0,
-  fit-spelled lines rs (All-tail IsLine line lines are_lines) spell.1,
-)
 
 -- what the records of a schedule say is what it says
 fit-body : (d : Option Detail) (extra : Option Extra) (journey : List Record) (body : Option BodyParts) → HaveBody d extra journey body →
@@ -104,9 +96,25 @@ fit-extract rs x are fits =
           (fit-schedules are.schedules x.schedules are.are_schedules (fit-front own end back)) (fit-back own end back))),
     )
 
--- what lines spell fits its columns
+module _ (layouts : Layouts) (laws : AreLayouts layouts) where
+  -- what lines say of records fits
+  fit-spelled : (lines : List (List ℕ)) (rs : List Record) → All IsLine lines → SpellAllBy layouts.spells lines rs →
+      AllTablesFit (map record_table rs)
+  fit-spelled [] [] are_lines spell = tt
+  fit-spelled [] (r ∷ rs) are_lines spell = absurd spell
+  fit-spelled (line ∷ lines) [] are_lines spell = absurd spell
+  fit-spelled (line ∷ lines) (r ∷ rs) are_lines spell = (
+    laws.fits line (All-head IsLine line lines are_lines) r spell.0,
+    fit-spelled lines rs (All-tail IsLine line lines are_lines) spell.1,
+  )
+
+  -- what lines spell fits its columns
+  pub spelled-fits-by : (lines : List (List ℕ)) (x : ExtractParts) → All IsLine lines → SpellExtractBy layouts.spells lines x →
+      FitsColumns x
+  spelled-fits-by lines x are_lines s = fit-extract s.records x s.are (fit-spelled lines s.records are_lines s.spelled)
+
 pub spelled-fits : (lines : List (List ℕ)) (x : ExtractParts) → All IsLine lines → SpellExtract lines x → FitsColumns x
-spelled-fits lines x are_lines s = fit-extract s.records x s.are (fit-spelled lines s.records are_lines s.spelled)
+spelled-fits = spelled-fits-by own_layouts own_are
 
 -- the plain lines of records that fit are lines, and spell them
 plain-lines : (rs : List Record) → AllTablesFit (map record_table rs) → All IsLine (map plain_line (map record_table rs))

@@ -1,6 +1,6 @@
 -- What the lines so far have come to, line by line.
-use Rattle.std.proofs.Common.{◌≡◌, ◌≤◌, ℕ, ◌<◌, Bool, true, false, List, [], ◌∷◌, ◌++◌, length, Option, Some, None, Result, Ok, Err, arith}
-use Rattle.std.proofs.Common.{refl, sym, ap, ◌∙◌, subst, is_some, cond, IfSome, IfErr, IfOk, inr, ◌+◌, true≢false}
+use Rattle.std.proofs.Common.{◌≡◌, ◌≢◌, ◌≤◌, ℕ, ◌<◌, Bool, true, false, List, [], ◌∷◌, ◌++◌, length, Option, Some, None, Result, Ok, Err}
+use Rattle.std.proofs.Common.{arith, refl, sym, ap, ◌∙◌, subst, is_some, cond, IfSome, IfErr, IfOk, inr, ◌+◌, true≢false}
 use Rattle.std.proofs.lemmas.List.Elements.{All-cons, All-nil, All-append}
 use Rattle.std.specs.Prelude.{All}
 use Rattle.cif_columns.specs.GivenLines.{AreAllLines, AreLinesToFault, IsDecided}
@@ -17,15 +17,16 @@ use Rattle.cif_columns.proofs.GivenLinesLaws.{known_so}
 use Rattle.cif_columns.proofs.ReadSources.{failed_after, read_on_both}
 use Rattle.cif_extract.specs.ExtractParts.{ExtractParts, extract_parts}
 use Rattle.cif_extract.specs.Fault.{of_line_fault}
-use Rattle.cif_extract.specs.FirstRefusal.{NoneRefused, IsFirstRefusal, refusal_of}
+use Rattle.cif_extract.specs.FirstRefusal.{NoneRefused, IsFirstRefusal, order_refusal, refusal_of}
 use Rattle.cif_extract.specs.Grammar.{AreExtract}
+use Rattle.cif_extract.specs.Layouts.{Layouts, own_layouts}
 use Rattle.cif_extract.specs.OrderOfRecords.{may_stand}
 use Rattle.cif_extract.specs.ReadCall.{IsResultOf, IsReadWhole}
 use Rattle.cif_extract.specs.ReadFault.{IsReadFault, reading_extract}
-use Rattle.cif_extract.specs.Steps.Reading.{GoesOnPlainly, HasReadAt, IsTaken, IsWhole, Progress, begun, no_progress}
-use Rattle.cif_extract.specs.Steps.Reading.{fault_at_line, parts_with_header, refusal_here, step}
-use Rattle.cif_extract.specs.SpellsExtract.{BytesSpellWithin, SpellAll, SpellExtract}
-use Rattle.cif_extract.specs.Taken.{HasTaken, IsNoTrailer, IsTakenBehind, IsTakenPlainly, refusal_behind}
+use Rattle.cif_extract.specs.Steps.Reading.{HasRead, HasReadAt, IsTaken, IsTakenAs, IsWhole, Progress, begun, no_progress}
+use Rattle.cif_extract.specs.Steps.Reading.{fault_at_line, parts_with_header, step}
+use Rattle.cif_extract.specs.SpellsExtract.{BytesSpellWithin, SpellAllBy, SpellExtract}
+use Rattle.cif_extract.specs.Taken.{HasTaken, IsNoTrailer, IsTakenBehind, refusal_at, refusal_behind}
 use Rattle.cif_extract.specs.declared.extract.Extract.{Extract}
 use Rattle.cif_extract.specs.declared.fault.Fault.{Fault}
 use Rattle.cif_extract.specs.declared.fault.Fault.TheVariants as fault
@@ -36,7 +37,7 @@ use Rattle.cif_extract.specs.declared.reading.TakeFault.TheVariants as untaken
 use Rattle.cif_records.specs.Bodies.{has_body}
 use Rattle.cif_records.specs.Checks.{first_of, unless}
 use Rattle.cif_records.specs.Kind.{kind_in}
-use Rattle.cif_records.specs.Record.{record_refusal, refusal_as, SpellsRecord}
+use Rattle.cif_records.specs.Record.{record_refusal}
 use Rattle.cif_records.specs.declared.basic.Basic.{Basic}
 use Rattle.cif_records.specs.declared.detail.Detail.{Detail}
 use Rattle.cif_records.specs.declared.header.Header.{Header}
@@ -46,34 +47,28 @@ use Rattle.cif_records.specs.declared.record.Record.{Record}
 use Rattle.cif_records.specs.declared.record.Record.TheVariants as of
 use Rattle.cif_extract.proofs.FirstRefusals.{at_fault, none_refused-more, none_refused-none}
 use Rattle.cif_extract.proofs.JourneySteps.{has_read_more}
+use Rattle.cif_extract.proofs.LayoutLaws.{AreLayouts, own_are}
 use Rattle.cif_extract.proofs.ReadCalls.{answers, of_any, refuses}
 use Rattle.cif_extract.proofs.Places.{place_more, place_past, refused_at}
-use Rattle.cif_records.proofs.Records.{kind_of as record_kind, kind_there as spelled_kind}
+use Rattle.cif_records.proofs.Records.{kind_of as record_kind}
 
 -- the lines so far came to this, and none of them is refused
 pub record HasCome (max : ℕ) (lines : List (List ℕ)) (p : Progress) : Type 0 where
-  pub taken : HasTaken lines p
+  pub taken : HasTaken own_layouts lines p
   pub fine : NoneRefused max lines
 
 -- before the first line
-pub taken_none : HasTaken [] no_progress
-taken_none = record {
+pub taken_none : (layouts : Layouts) → HasTaken layouts [] no_progress
+taken_none layouts = record {
   records = [];
   spelled = tt;
   read = record { none = refl; tiplocs = refl; associations = refl; schedules = refl };
   place = refl;
-  no_trailer = λ going. All-nil IsNoTrailer;
+  no_trailer = λ going. All-nil (IsNoTrailer layouts);
 }
 
 pub come_none : (max : ℕ) → HasCome max [] no_progress
-come_none max = record { taken = taken_none; fine = none_refused-none max }
-
-spell_more : (lines : List (List ℕ)) (records : List Record) (line : List ℕ) (r : Record) → SpellAll lines records → SpellsRecord line r →
-    SpellAll (lines ++ (line ∷ [])) (records ++ (r ∷ []))
-spell_more [] [] line r all one = (one, tt)
-spell_more [] (x ∷ records) line r all one = absurd all
-spell_more (l ∷ lines) [] line r all one = absurd all
-spell_more (l ∷ lines) (x ∷ records) line r all one = (all.0, spell_more lines records line r all.1 one)
+come_none max = record { taken = taken_none own_layouts; fine = none_refused-none max }
 
 -- the place after a BS
 place_begun : (p : Progress) (b : Basic) (d : Option Detail) (e : is_some d ≡ has_body b.letter) →
@@ -87,10 +82,11 @@ place_step p (of.Basic x) = place_begun p x x.detail x.bodied
 place_step p _ = refl
 
 -- what isn't refused for its place may stand there
-allowed : (place : Place) (kind : Kind) (line : List ℕ) → refusal_here place (Some kind) line ≡ None → may_stand place kind ≡ true
-allowed place kind line e = at (may_stand place kind) e
+allowed : (place : Place) (kind : Kind) (why : Option Refusal) →
+    first_of (order_refusal place (Some kind) ∷ why ∷ []) ≡ None → may_stand place kind ≡ true
+allowed place kind why e = at (may_stand place kind) e
   where
-    at : (b : Bool) → first_of (unless b refusal.OutOfOrder ∷ refusal_as (Some kind) line ∷ []) ≡ None → b ≡ true
+    at : (b : Bool) → first_of (unless b refusal.OutOfOrder ∷ why ∷ []) ≡ None → b ≡ true
     at true e = refl
     at false e = cc
 
@@ -102,84 +98,79 @@ ends_by_trailer : (p : Progress) (r : Record) → ((step p r).place ≡ at.Ended
 ends_by_trailer p of.Trailer h e = h refl
 ends_by_trailer p _ h e = cc
 
--- one line more
-module _ (lines : List (List ℕ)) (line : List ℕ) (before : Progress) (so_far : HasTaken lines before) where
-  -- why it is refused behind these
-  pub refused_behind : refusal_behind lines line ≡ refusal_here before.place (kind_in line) line
-  unfolding record_refusal
-  refused_behind = ap (λ place. refusal_here place (kind_in line) line) so_far.place
+module _ (layouts : Layouts) (laws : AreLayouts layouts) where
+  spell_more : (lines : List (List ℕ)) (records : List Record) (line : List ℕ) (r : Record) → SpellAllBy layouts.spells lines records →
+      layouts.spells line r → SpellAllBy layouts.spells (lines ++ (line ∷ [])) (records ++ (r ∷ []))
+  spell_more [] [] line r all one = (one, tt)
+  spell_more [] (x ∷ records) line r all one = absurd all
+  spell_more (l ∷ lines) [] line r all one = absurd all
+  spell_more (l ∷ lines) (x ∷ records) line r all one = (all.0, spell_more lines records line r all.1 one)
 
-  pub taken_more : (after : Progress) → IsTaken (refusal_here before.place (kind_in line) line) line before (Ok tt) after →
-      HasTaken (lines ++ (line ∷ [])) after
-  taken_more after taken =
-      let (none, one) = taken in
-      let (r, spells, keepable, is) = one in
-      let kind = spelled_kind line r spells in
-      let may = allowed before.place (record_kind r) line (ap (λ k. refusal_here before.place k line) (sym kind) ∙ none) in
-      subst (HasTaken (lines ++ (line ∷ []))) (sym is)
-      (record {
-        records = so_far.records ++ (r ∷ []);
-        spelled = spell_more lines so_far.records line r so_far.spelled spells;
-        read = has_read_more so_far.records before r keepable so_far.read may;
-        place = place_more lines line r before.place so_far.place spells ∙ place_step before r;
-        no_trailer = λ going.
-            let other = ends_by_trailer before r going in
-            All-append IsNoTrailer lines (line ∷ []) (so_far.no_trailer (not_ended before r other may))
-            (All-cons IsNoTrailer line [] (λ e. other (let same : Some (record_kind r) ≡ Some Zz = sym kind ∙ e in cc))
-            (All-nil IsNoTrailer));
-      })
+  -- one line more
+  module _ (lines : List (List ℕ)) (line : List ℕ) (before : Progress) (so_far : HasTaken layouts lines before) where
+    -- why it is refused behind these
+    pub refused_behind : refusal_behind layouts lines line ≡ refusal_at layouts before.place line
+    refused_behind = ap (λ place. refusal_at layouts place line) so_far.place
 
-  -- whatever comes of it
-  pub taken_behind : (result : Result Unit TakeFault) (after : Progress)
-      → IsTaken (refusal_here before.place (kind_in line) line) line before result after → IsTakenBehind lines line result after
-  taken_behind (Ok taken) after is = (refused_behind ∙ is.0, taken_more after is)
-  taken_behind (Err (untaken.Refused why)) after is = refused_behind ∙ is
-  taken_behind (Err untaken.Memory) after is = tt
+    pub taken_more : (after : Progress) →
+        IsTakenAs (refusal_at layouts before.place line) (layouts.spells line) before (Ok tt) after →
+        HasTaken layouts (lines ++ (line ∷ [])) after
+    taken_more after taken =
+        let (none, one) = taken in
+        let (r, spells, keepable, is) = one in
+        let kind = laws.kind line r spells in
+        let may = allowed before.place (record_kind r) (layouts.refusal line)
+        (ap (λ k. first_of (order_refusal before.place k ∷ layouts.refusal line ∷ [])) (sym kind) ∙ none) in
+        subst (HasTaken layouts (lines ++ (line ∷ []))) (sym is)
+        (record {
+          records = so_far.records ++ (r ∷ []);
+          spelled = spell_more lines so_far.records line r so_far.spelled spells;
+          read = has_read_more so_far.records before r keepable so_far.read may;
+          place = place_more layouts laws lines line r before.place so_far.place spells ∙ place_step before r;
+          no_trailer = λ going.
+              let other = ends_by_trailer before r going in
+              All-append (IsNoTrailer layouts) lines (line ∷ []) (so_far.no_trailer (not_ended before r other may))
+              (All-cons (IsNoTrailer layouts) line []
+              (λ e. other (let same : Some (record_kind r) ≡ Some Zz = sym kind ∙ e in cc)) (All-nil (IsNoTrailer layouts)));
+        })
 
-  -- and where it goes on plainly
-  pub plainly_taken : (after : Progress) → GoesOnPlainly before.place line
-      → IsTaken (refusal_here before.place (kind_in line) line) line before (Ok tt) after
-      → IsTakenPlainly lines line after
-  plainly_taken after plain is = record {
-    is_line = plain.is_line;
-    kind = spelled_kind line (of.Stop plain.stop) plain.spelled;
-    allowed = refused_behind ∙ is.0;
-    taken = taken_more after is;
-  }
+    -- whatever comes of it
+    pub taken_behind : (result : Result Unit TakeFault) (after : Progress)
+        → IsTakenAs (refusal_at layouts before.place line) (layouts.spells line) before result after
+        → IsTakenBehind layouts lines line result after
+    taken_behind (Ok taken) after is = (refused_behind ∙ is.0, taken_more after is)
+    taken_behind (Err (untaken.Refused why)) after is = refused_behind ∙ is
+    taken_behind (Err untaken.Memory) after is = tt
 
 module _ (max : ℕ) (lines : List (List ℕ)) (line : List ℕ) (is_line : IsLine line) (room : length lines < max) (before : Progress)
     (so_far : HasCome max lines before) where
   -- why a line is refused here
-  pub refused_here : refusal_of max lines line ≡ refusal_here before.place (kind_in line) line
+  pub refused_here : refusal_of max lines line ≡ refusal_at own_layouts before.place line
   refused_here = refused_at max lines line before.place is_line room so_far.taken.place
 
-  pub come_more : (after : Progress) → IsTaken (refusal_here before.place (kind_in line) line) line before (Ok tt) after →
+  pub come_more : (after : Progress) → IsTaken (refusal_at own_layouts before.place line) line before (Ok tt) after →
       HasCome max (lines ++ (line ∷ [])) after
   come_more after is = record {
-    taken = taken_more lines line before so_far.taken after is;
+    taken = taken_more own_layouts own_are lines line before so_far.taken after is;
     fine = none_refused-more max lines line so_far.fine (refused_here ∙ is.0);
   }
 
-module _ (lines : List (List ℕ)) (p : Progress) (so_far : HasTaken lines p) where
-  whole : p.place ≡ at.Ended → IsWhole so_far.records p
-  whole ended = subst (λ place. HasReadAt place so_far.records p) ended so_far.read
+module _ (records : List Record) (p : Progress) (read : HasRead records p) where
+  whole : p.place ≡ at.Ended → IsWhole records p
+  whole ended = subst (λ place. HasReadAt place records p) ended read
 
   -- a whole reading holds the extract
-  pub held_spells : (h : Header) → p.place ≡ at.Ended → p.header ≡ Some h → SpellExtract lines (parts_with_header p h p.schedules)
-  held_spells h ended is =
+  pub held_are : (h : Header) → p.place ≡ at.Ended → p.header ≡ Some h → AreExtract records (parts_with_header p h p.schedules)
+  held_are h ended is =
       let same : (whole ended).header ≡ h = (let there = (whole ended).is_header in cc) in
-      record {
-        records = so_far.records;
-        spelled = so_far.spelled;
-        are = subst (λ (x : Header). AreExtract so_far.records (parts_with_header p x p.schedules)) same (whole ended).are;
-      }
+      subst (λ (x : Header). AreExtract records (parts_with_header p x p.schedules)) same (whole ended).are
 
-  -- one that isn't has had no trailer: no extract ends without a header
-  pub unfinished_trailer : (p.place ≡ at.Ended → p.header ≡ None) → All IsNoTrailer lines
-  unfinished_trailer none = so_far.no_trailer (λ ended.
+  -- one without a header isn't whole
+  pub unfinished : (p.place ≡ at.Ended → p.header ≡ None) → p.place ≢ at.Ended
+  unfinished none ended =
       let there = (whole ended).is_header in
       let without = none ended in
-      cc)
+      cc
 
 -- lines that are all of an input, and spell an extract
 all_lines_spell : (max : ℕ) (bytes : List ℕ) (lines : List (List ℕ)) → AreAllLines max bytes lines → (x : ExtractParts) →
@@ -233,19 +224,21 @@ module _ {R : Type 0} (remaining : R → Option (List ℕ)) (errors : R → Opti
     -- there is none
     pub comes-end : IfSome (remaining (reader_of old)) (λ bytes. AreAllLines max bytes ls) → IsReadWhole remaining old new →
         source_failed old ≡ false → HasReadOn errors old new → (number : ℕ) → number ≡ length ls → number ≤ max →
-        (result : Result Extract Fault) → IfOk result (λ extract. SpellExtract ls (extract_parts extract)) →
-        IfErr result (λ f. f ≡ fault.Refused (number + 1) refusal.Truncated) → IfErr result (λ _. All IsNoTrailer ls) → Comes result
-    comes-end all read fresh read_on number is within (Ok extract) spelled truncated unfinished =
+        (p : Progress) (taken : HasTaken own_layouts ls p) (result : Result Extract Fault) →
+        IfOk result (λ extract. AreExtract taken.records (extract_parts extract)) →
+        IfErr result (λ f. f ≡ fault.Refused (number + 1) refusal.Truncated) → IfErr result (λ _. p.place ≢ at.Ended) → Comes result
+    comes-end all read fresh read_on number is within p taken (Ok extract) are truncated going =
         answers remaining errors old new (reading_extract max) extract
-        (known_so _ _ _ (λ bytes a. all_lines_spell max bytes ls a (extract_parts extract) spelled) all) fresh read_on read
-    comes-end all read fresh read_on number is within (Err f) spelled truncated unfinished =
+        (known_so _ _ _ (λ bytes a. all_lines_spell max bytes ls a (extract_parts extract)
+        (record { records = taken.records; spelled = taken.spelled; are = are })) all) fresh read_on read
+    comes-end all read fresh read_on number is within p taken (Err f) are truncated going =
         rw truncated
         (refuses remaining errors old new (reading_extract max) (fault.Refused (number + 1) refusal.Truncated)
         (known_so (remaining (reader_of old)) (λ bytes. AreAllLines max bytes ls)
         (λ bytes. IsReadFault max bytes (unread_of remaining new) (fault.Refused (number + 1) refusal.Truncated)) (λ bytes a. (
           inr (record {
             fine = rw a.contents fine;
-            no_trailer = rw a.contents unfinished;
+            no_trailer = rw a.contents (taken.no_trailer going);
             numbered = ap (λ n. n + 1) is ∙ ap (λ c. length c + 1) (sym a.contents);
             reason = refl;
           }),

@@ -1,14 +1,17 @@
 -- What a line that is taken comes to, by its kind.
-use Rattle.std.proofs.Common.{◌≡◌, ◌∙◌, ℕ, true, List, None, Option, Result, Err, Ok, Some, ap, refl, subst, sym}
+use Rattle.std.proofs.Common.{◌≡◌, ◌∙◌, ℕ, true, List, [], ◌∷◌, None, Option, Result, Err, Ok, Some, ap, refl, subst, sym}
 use Rattle.cif_columns.specs.Field.{AllStandIn, plain_line}
 use Rattle.cif_columns.specs.declared.refusal.Refusal.{Refusal}
+use Rattle.cif_extract.specs.FirstRefusal.{order_refusal}
+use Rattle.cif_extract.specs.Layouts.{own_layouts}
 use Rattle.cif_extract.specs.OrderOfRecords.{after_further, may_stand}
-use Rattle.cif_extract.specs.Steps.Reading.{GoesOnPlainly, IsFurther, IsKeepable, IsTaken, Progress, keeping, kept, refusal_here, step}
+use Rattle.cif_extract.specs.Steps.Reading.{GoesOnPlainly, IsFurther, IsKeepable, IsTaken, Progress, keeping, kept, step}
 use Rattle.cif_extract.specs.Steps.Reading.{IsKept, UnlessMemory, UnlessRefused, with_kept}
+use Rattle.cif_extract.specs.Taken.{refusal_at}
 use Rattle.cif_extract.specs.declared.place.Place.{Place}
 use Rattle.cif_extract.specs.declared.reading.TakeFault.{TakeFault}
 use Rattle.cif_extract.specs.declared.reading.TakeFault.TheVariants as untaken
-use Rattle.cif_records.specs.Checks.{IsJudged}
+use Rattle.cif_records.specs.Checks.{IsJudged, first_of}
 use Rattle.cif_records.specs.Kind.{kind_in}
 use Rattle.cif_records.specs.Record.{IsPlainOf, record_refusal, record_table, refusal_as, SpellsRecord}
 use Rattle.cif_records.specs.declared.record.Kind.{Kind}
@@ -16,18 +19,18 @@ use Rattle.cif_records.specs.declared.record.Kind.TheVariants.{Li, Lt}
 use Rattle.cif_records.specs.declared.record.Record.{Record}
 use Rattle.cif_records.specs.declared.record.Record.TheVariants as of
 use Rattle.cif_records.specs.declared.terminus.Terminus.{Terminus}
-use Rattle.cif_records.proofs.Records.{kind_of as record_kind, kind_there as spelled_kind, no_refusal}
+use Rattle.cif_records.proofs.Records.{kind_of as record_kind, kind_there as spelled_kind, no_refusal, refusal-kind}
 use Rattle.cif_extract.proofs.FirstRefusals.{or_none}
 
 -- where a kind may stand, a line of it is refused for its fields alone
-pub refusal_of_fields : (place : Place) (line : List ℕ) (kind : Kind) → kind_in line ≡ Some kind → may_stand place kind ≡ true →
-    refusal_here place (kind_in line) line ≡ refusal_as (Some kind) line
-refusal_of_fields place line kind is allowed = rw (is, allowed) (or_none (refusal_as (Some kind) line))
-
 pub refusal_of_record : (place : Place) (line : List ℕ) (kind : Kind) → kind_in line ≡ Some kind → may_stand place kind ≡ true →
-    refusal_here place (kind_in line) line ≡ record_refusal line
-unfolding record_refusal
-refusal_of_record place line kind is allowed = rw (is, allowed) (or_none (refusal_as (Some kind) line))
+    refusal_at own_layouts place line ≡ record_refusal line
+refusal_of_record place line kind is allowed =
+    ap (λ k. first_of (order_refusal place k ∷ record_refusal line ∷ [])) is ∙ rw allowed (or_none (record_refusal line))
+
+pub refusal_of_fields : (place : Place) (line : List ℕ) (kind : Kind) → kind_in line ≡ Some kind → may_stand place kind ≡ true →
+    refusal_at own_layouts place line ≡ refusal_as (Some kind) line
+refusal_of_fields place line kind is allowed = refusal_of_record place line kind is allowed ∙ refusal-kind line kind is
 
 -- what a step comes to says more
 module _ (refusal : Option Refusal) {P Q : Type 0} (so : P → Q) where
@@ -87,7 +90,7 @@ module _ (p : Progress) where
 
 -- a plain line of a location on the way, where one may stand
 pub plain_stop : (p after : Progress) (line : List ℕ) → GoesOnPlainly p.place line → after ≡ keeping p line →
-    IsTaken (refusal_here p.place (kind_in line) line) line p (Ok tt) after
+    IsTaken (refusal_at own_layouts p.place line) line p (Ok tt) after
 plain_stop p after line h is = (
   refusal_of_record p.place line Li (spelled_kind line r h.spelled) (ap (λ q. may_stand q Li) h.here) ∙ no_refusal line r h.spelled,
   (r, h.spelled, subst (λ l. AllStandIn l (record_table r)) (sym h.plain) h.spelled, is ∙ stepped),

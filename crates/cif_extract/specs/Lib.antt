@@ -7,6 +7,7 @@ pub mod Fault
 pub mod FirstRefusal
 pub mod Grammar
 pub mod Laws
+pub mod Layouts
 pub mod OrderOfRecords
 pub mod ReadCall
 pub mod ReadFault

@@ -1,9 +1,8 @@
 -- Which kind of record may stand where, as the table of docs/FORMAT.md, "Order of records", says it: one place for each row of that
 -- table. That this is the order of the grammar, no less and no more, are laws (proofs/OrderLaws and proofs/GoesOn).
-use Rattle.std.specs.Prelude.{◌≡◌, ℕ, Bool, true, List, [], ◌∷◌, ◌++◌, Option, Some, codes, if◌then◌else◌}
+use Rattle.std.specs.Prelude.{◌≡◌, ℕ, Bool, true, List, [], ◌∷◌, ◌++◌, Option, Some, if◌then◌else◌}
 use Rattle.std.specs.List.{fold, list_any}
-use Rattle.std.specs.Str.{bytes_eq}
-use Rattle.cif_columns.specs.Field.{columns}
+use Rattle.cif_extract.specs.Layouts.{Layouts, own_layouts}
 use Rattle.cif_extract.specs.declared.place.Place.{Place}
 use Rattle.cif_extract.specs.declared.place.Place.TheVariants.{Start, Tiplocs, Associations, Basic, Extra, Cancelled, CancelledExtra}
 use Rattle.cif_extract.specs.declared.place.Place.TheVariants.{Journey, Schedules, Ended}
@@ -28,10 +27,6 @@ kinds_at Ended = []
 abbrev pub may_stand : Place → Kind → Bool
 may_stand place kind = list_any (is_identity (identity kind)) (kinds_at place)
 
--- column 80 is the letter of a cancellation
-abbrev pub cancels : List ℕ → Bool
-cancels line = bytes_eq (columns 80 80 line) (codes "C")
-
 -- the place after a BX, by that of its BS
 abbrev pub after_extra : Place → Place
 after_extra Cancelled = CancelledExtra
@@ -42,24 +37,27 @@ abbrev pub after_further : Place → Kind → Place
 after_further place Bx = after_extra place
 after_further place _ = Journey
 
--- The place after a line of this kind that comes at this place. TA, TD and a line of no kind are refused wherever they stand, so
--- that no line is judged by what they leave.
-abbrev pub place_after : Place → Option Kind → List ℕ → Place
-place_after place (Some Hd) line = Tiplocs
-place_after place (Some Ti) line = Tiplocs
-place_after place (Some Aa) line = Associations
-place_after place (Some Bs) line = if cancels line then Cancelled else Basic
-place_after place (Some Bx) line = after_extra place
-place_after place (Some Lo) line = Journey
-place_after place (Some Li) line = Journey
-place_after place (Some Cr) line = Journey
-place_after place (Some Lt) line = Schedules
-place_after place (Some Zz) line = Ended
-place_after place _ line = place
+-- The place after a line of this kind that comes at this place, by whether it cancels. TA, TD and a line of no kind are refused wherever
+-- they stand, so that no line is judged by what they leave.
+abbrev pub place_after : Place → Option Kind → Bool → Place
+place_after place (Some Hd) cancels = Tiplocs
+place_after place (Some Ti) cancels = Tiplocs
+place_after place (Some Aa) cancels = Associations
+place_after place (Some Bs) cancels = if cancels then Cancelled else Basic
+place_after place (Some Bx) cancels = after_extra place
+place_after place (Some Lo) cancels = Journey
+place_after place (Some Li) cancels = Journey
+place_after place (Some Cr) cancels = Journey
+place_after place (Some Lt) cancels = Schedules
+place_after place (Some Zz) cancels = Ended
+place_after place _ cancels = place
 
--- the place after these lines
+-- the place after these lines, by these layouts, and by those of this profile
+abbrev pub place_behind_by : Layouts → List (List ℕ) → Place
+place_behind_by layouts lines = fold (λ place line. place_after place (layouts.kind line) (layouts.cancels line)) Start lines
+
 abbrev pub place_behind : List (List ℕ) → Place
-place_behind lines = fold (λ place line. place_after place (kind_in line) line) Start lines
+place_behind = place_behind_by own_layouts
 
 -- the line names a kind that may stand behind these lines
 abbrev pub MayComeAfter : List (List ℕ) → List ℕ → Type 0

@@ -7,18 +7,25 @@ use Rattle.cif_extract.specs.Grammar.{AreExtract}
 use Rattle.cif_records.specs.Record.{SpellsRecord}
 use Rattle.cif_records.specs.declared.record.Record.{Record}
 
--- each line spells its record
-abbrev pub SpellAll : List (List ℕ) → List Record → Type 0
-SpellAll [] [] = Unit {0}
-SpellAll [] (r ∷ records) = ⊥
-SpellAll (line ∷ lines) [] = ⊥
-SpellAll (line ∷ lines) (r ∷ records) = SpellsRecord line r × SpellAll lines records
+-- each line spells its record, by this relation of a line and a record
+abbrev pub SpellAllBy : (List ℕ → Record → Type 0) → List (List ℕ) → List Record → Type 0
+SpellAllBy Spells [] [] = Unit {0}
+SpellAllBy Spells [] (r ∷ records) = ⊥
+SpellAllBy Spells (line ∷ lines) [] = ⊥
+SpellAllBy Spells (line ∷ lines) (r ∷ records) = Spells line r × SpellAllBy Spells lines records
 
 -- the lines spell the records of an extract of these parts
-pub record SpellExtract (lines : List (List ℕ)) (x : ExtractParts) : Type 0 where
+pub record SpellExtractBy (Spells : List ℕ → Record → Type 0) (lines : List (List ℕ)) (x : ExtractParts) : Type 0 where
   pub records : List Record
-  pub spelled : SpellAll lines records
+  pub spelled : SpellAllBy Spells lines records
   pub are : AreExtract records x
+
+-- as lines of this profile
+abbrev pub SpellAll : List (List ℕ) → List Record → Type 0
+SpellAll = SpellAllBy SpellsRecord
+
+abbrev pub SpellExtract : List (List ℕ) → ExtractParts → Type 0
+SpellExtract = SpellExtractBy SpellsRecord
 
 -- the bytes spell an extract of these parts: their contents are lines, and these spell it
 pub record BytesSpell (bytes : List ℕ) (x : ExtractParts) : Type 0 where

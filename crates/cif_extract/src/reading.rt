@@ -1,6 +1,6 @@
 //! Reading a whole extract, line by line.
-ghost use Rattle.std.specs.Prelude.{◌≡◌, ◌≤◌, ◌+◌, ◌^◌, ◌<◌, ◌++◌, ◌∷◌, [], ℕ, List, Some, Ok, true, false};
-ghost use Rattle.std.specs.Prelude.{All, IfOk, IfErr, IfNone, IfSome, IsTrue};
+ghost use Rattle.std.specs.Prelude.{◌≡◌, ◌≢◌, ◌≤◌, ◌+◌, ◌^◌, ◌<◌, ◌++◌, ◌∷◌, [], List, Some, Ok, true, false};
+ghost use Rattle.std.specs.Prelude.{IfOk, IfErr, IfNone, IfSome, IsTrue};
 ghost use Rattle.cif_columns.specs.Line.{ArePrintable, IsLine};
 ghost use Rattle.cif_columns.specs.declared.line_reader.TheConstants.{MAX_LINES};
 ghost use Rattle.cif_extract.specs.ExtractParts.{extract_parts};
@@ -78,17 +78,21 @@ pub struct Reading {
 
 impl Reading {
     ghost use Rattle.cif_extract.specs.Body.{KeepSomeBody};
-    ghost use Rattle.cif_extract.specs.Steps.Reading.{HasRead, IsClosed, IsFurther, IsKept, IsTaken};
-    ghost use Rattle.cif_extract.specs.Steps.Reading.{GoesOnPlainly, keeping, no_progress, progress_of};
-    ghost use Rattle.cif_extract.specs.Steps.Reading.{UnlessMemory, refusal_here};
-    ghost use Rattle.cif_extract.specs.Taken.{HasTaken, IsNoTrailer, IsTakenBehind, IsTakenPlainly};
-    ghost use Rattle.cif_extract.specs.SpellsExtract.{SpellExtract};
+    ghost use Rattle.cif_extract.specs.Grammar.{AreExtract};
+    ghost use Rattle.cif_extract.specs.OrderOfRecords.{may_stand};
+    ghost use Rattle.cif_extract.specs.Steps.Reading.{HasRead, IsClosed, IsFurther, IsKeepable, IsKept, IsTaken};
+    ghost use Rattle.cif_extract.specs.Steps.Reading.{GoesOnPlainly, keeping, no_progress, progress_of, step};
+    ghost use Rattle.cif_extract.specs.Steps.Reading.{UnlessMemory};
+    ghost use Rattle.cif_extract.specs.Layouts.{own_layouts};
+    ghost use Rattle.cif_extract.specs.Taken.{refusal_at};
+    ghost use Rattle.cif_records.specs.Basic.{terms_of};
+    ghost use Rattle.cif_records.specs.Detail.{detail_in};
+    ghost use Rattle.cif_records.specs.declared.basic.Basic.{Basic};
     ghost use Rattle.cif_records.specs.declared.record.Record.{Record};
 
     /// The reading of no lines.
     pub fn new(alloc: Global) -> Reading
-        ensures none { progress_of result ≡ no_progress }
-        ensures taken { HasTaken [] (progress_of result) }
+        ensures { progress_of result ≡ no_progress }
     {
         Reading {
             place: Place::Start,
@@ -101,22 +105,12 @@ impl Reading {
         }
     }
 
-    /// Takes one line more, as `take` does. Its contract speaks of all lines taken so far.
-    #[inline(always)]
-    pub fn take_line(&mut self, alloc: Global, line: &Line) -> Result<(), TakeFault>
-        requires { (lines : List (List ℕ)) × HasTaken lines (progress_of self.old) }
-        ensures { (lines : List (List ℕ)) → HasTaken lines (progress_of self.old)
-            → IsTakenBehind lines line.now result (progress_of self.new) }
-    {
-        self.take(alloc, line)
-    }
-
-    /// The extract, where these are all lines; `None` where the trailer is missing.
+    /// The extract of the records that were read, where these are all; `None` where the trailer is missing.
     pub fn end(self) -> Option<Extract>
-        ensures spells { (lines : List (List ℕ)) → HasTaken lines (progress_of self)
-            → IfSome result (λ extract. SpellExtract lines (extract_parts extract)) }
-        ensures unfinished { (lines : List (List ℕ)) → HasTaken lines (progress_of self)
-            → IfNone result (All IsNoTrailer lines) }
+        ensures are { (records : List Record) → HasRead records (progress_of self)
+            → IfSome result (λ extract. AreExtract records (extract_parts extract)) }
+        ensures unfinished { (records : List Record) → HasRead records (progress_of self)
+            → IfNone result (self.place ≢ Place.Ended) }
     {
         let Reading {
             place,
@@ -143,16 +137,17 @@ impl Reading {
     /// asked for after them. After a fault nothing is said of the reading.
     // It is called for each line. What few lines need is kept out of the loop that it is inlined into.
     #[inline(always)]
-    pub(crate) fn take(&mut self, alloc: Global, line: &Line) -> Result<(), TakeFault>
+    #[tactic(auto, unfolding(cif_records::specs::Record::record_refusal))]
+    pub fn take(&mut self, alloc: Global, line: &Line) -> Result<(), TakeFault>
         requires { (records : List Record) × HasRead records (progress_of self.old) }
-        ensures taken { IsTaken (refusal_here self.old.place (kind_in line.now) line.now)
+        ensures taken { IsTaken (refusal_at own_layouts self.old.place line.now)
             line.now (progress_of self.old) result (progress_of self.new) }
         ensures line { IsLine line.now }
     {
         let Some(kind) = kind_of(line) else {
             return Err(TakeFault::Refused(Refusal::UnknownRecord));
         };
-        if !self.place.allows(kind) {
+        if !self.allows(kind) {
             return Err(TakeFault::Refused(Refusal::OutOfOrder));
         }
         match kind {
@@ -165,6 +160,14 @@ impl Reading {
             Kind::Hd => self.take_header(line),
             Kind::Zz => self.take_trailer(line),
         }
+    }
+
+    /// Whether a record of this kind may come now.
+    #[inline(always)]
+    pub fn allows(&self, kind: Kind) -> bool
+        ensures { result ≡ may_stand self.now.place kind }
+    {
+        self.place.allows(kind)
     }
 
     /// Whether these columns are a plain line of a location on the way, where one may stand.
@@ -180,10 +183,8 @@ impl Reading {
     #[inline(always)]
     pub fn take_plain_stop(&mut self, columns: &[u8; LINE_WIDTH]) -> Result<(), TakeFault>
         requires { GoesOnPlainly self.old.place columns.now }
-        ensures taken { UnlessMemory (IsTaken (refusal_here self.old.place (kind_in columns.now) columns.now)
+        ensures { UnlessMemory (IsTaken (refusal_at own_layouts self.old.place columns.now)
             columns.now (progress_of self.old) (Ok tt) (progress_of self.new)) result }
-        ensures line { (lines : List (List ℕ)) → HasTaken lines (progress_of self.old)
-            → UnlessMemory (IsTakenPlainly lines columns.now (progress_of self.new)) result }
     {
         self.keep_columns(columns)
     }
@@ -191,11 +192,11 @@ impl Reading {
     /// The extract, where these are all lines, so many.
     fn finish(self, count: u64) -> Result<Extract, Fault>
         requires { count < 2 ^ 32 }
-        ensures spells { (lines : List (List ℕ)) → HasTaken lines (progress_of self)
-            → IfOk result (λ extract. SpellExtract lines (extract_parts extract)) }
+        ensures are { (records : List Record) → HasRead records (progress_of self)
+            → IfOk result (λ extract. AreExtract records (extract_parts extract)) }
         ensures truncated { IfErr result (λ fault. fault ≡ Fault.Refused (count + 1) Refusal.Truncated) }
-        ensures unfinished { (lines : List (List ℕ)) → HasTaken lines (progress_of self)
-            → IfErr result (λ _. All IsNoTrailer lines) }
+        ensures unfinished { (records : List Record) → HasRead records (progress_of self)
+            → IfErr result (λ _. self.place ≢ Place.Ended) }
     {
         match self.end() {
             Some(extract) => Ok(extract),
@@ -212,9 +213,17 @@ impl Reading {
         ensures { IsTaken (header_refusal line.now) line.now (progress_of self.old) result
             (progress_of self.new) }
     {
-        self.header = Some(Header::read(line)?);
-        self.place = Place::Tiplocs;
+        self.put_header(Header::read(line)?);
         Ok(())
+    }
+
+    /// Puts a header that was read.
+    #[inline(always)]
+    pub fn put_header(&mut self, header: Header)
+        ensures { progress_of self.new ≡ step (progress_of self.old) (Record.Header header) }
+    {
+        self.header = Some(header);
+        self.place = Place::Tiplocs;
     }
 
     /// Takes a location.
@@ -223,7 +232,14 @@ impl Reading {
         ensures { IsTaken (tiploc_refusal line.now) line.now (progress_of self.old) result
             (progress_of self.new) }
     {
-        let tiploc = Tiploc::read(line)?;
+        self.put_tiploc(Tiploc::read(line)?)
+    }
+
+    /// Puts a location that was read.
+    #[inline(always)]
+    pub fn put_tiploc(&mut self, tiploc: Tiploc) -> Result<(), TakeFault>
+        ensures { UnlessMemory (progress_of self.new ≡ step (progress_of self.old) (Record.Tiploc tiploc)) result }
+    {
         self.place = Place::Tiplocs;
         Reading::push(&mut self.tiplocs, tiploc)
     }
@@ -234,7 +250,15 @@ impl Reading {
         ensures { IsTaken (association_refusal line.now) line.now (progress_of self.old) result
             (progress_of self.new) }
     {
-        let association = Association::read(line)?;
+        self.put_association(Association::read(line)?)
+    }
+
+    /// Puts an association that was read.
+    #[inline(always)]
+    pub fn put_association(&mut self, association: Association) -> Result<(), TakeFault>
+        ensures { UnlessMemory
+            (progress_of self.new ≡ step (progress_of self.old) (Record.Association association)) result }
+    {
         self.place = Place::Associations;
         Reading::push(&mut self.associations, association)
     }
@@ -245,7 +269,17 @@ impl Reading {
         ensures { IsTaken (basic_refusal line.now) line.now (progress_of self.old) result
             (progress_of self.new) }
     {
-        let terms = BasicTerms::read(line)?;
+        self.put_basic(BasicTerms::read(line)?, line)
+    }
+
+    /// Puts a BS whose terms were read of the line, which begins a schedule.
+    #[inline(always)]
+    pub fn put_basic(&mut self, terms: BasicTerms, line: &Line) -> Result<(), TakeFault>
+        ensures { (b : Basic) → terms ≡ terms_of b
+            → (has_body b.letter ≡ true → b.detail ≡ Some (detail_in line.now))
+            → UnlessMemory (IsKeepable (Record.Basic b)
+            × (progress_of self.new ≡ step (progress_of self.old) (Record.Basic b))) result }
+    {
         if terms.has_body() {
             self.lines.clear();
             self.opened = Some(terms);

@@ -1,7 +1,7 @@
 -- What the contents of a feed so far have come to, and how its reading ends.
 use Rattle.std.proofs.Common.{◌≡◌, ◌≢◌, ℕ, ◌+◌, ◌<◌, ◌≤◌, Bool, true, false, cond, nat_eq, nat_lt, List, [], ◌∷◌, ◌++◌, length, take}
 use Rattle.std.proofs.Common.{Option, Some, None, IfErr, IfOk, IfSome, IsSomeAnd, Result, Ok, Err, refl, sym, ap, ◌∙◌, arith, append_assoc}
-use Rattle.std.proofs.Common.{below_more, codes, filter, get_or, inl, inr, length-append, map, ne_eqb, true≢false}
+use Rattle.std.proofs.Common.{below_more, codes, filter, get_or, inl, inr, length-append, ne_eqb, true≢false}
 use Rattle.std.proofs.lemmas.Bool.Decides.{nat_tests}
 use Rattle.std.proofs.lemmas.List.{append_cancel_left, get_or_append_left, take-append-le}
 use Rattle.std.proofs.lemmas.Bool.{eqb-true}
@@ -44,7 +44,9 @@ use Rattle.cif_records.specs.Kind.{kind_in}
 use Rattle.cif_records.specs.declared.record.Kind.{Kind}
 use Rattle.cif_records.specs.declared.record.Kind.TheVariants.{Hd, Zz}
 use Rattle.cif_feed.specs.FeedFault.{IsFeedFault, IsOfFeed}
-use Rattle.cif_feed.specs.ProfileLine.{as_it_stands, is_note, notes_may_stand, profile_line, profile_line_by, is_record_line, profile_lines}
+use Rattle.cif_feed.specs.FeedLayouts.{feed_layouts}
+use Rattle.cif_feed.specs.LayoutRefusals.{kind_read_as}
+use Rattle.cif_feed.specs.RecordLines.{is_note, is_record_line, notes_may_stand, record_lines}
 use Rattle.cif_feed.specs.FeedRefusal.{IsFeedContent, IsFeedCut, IsFirstOfFeed, NoneOfFeedRefused, fault_for, feed_refusal, line_refusal}
 use Rattle.cif_feed.specs.FeedRefusal.{not_full, untaken_fault}
 use Rattle.cif_feed.specs.FeedFault.{is_feed_read, reading_feed}
@@ -52,8 +54,8 @@ use Rattle.cif_columns.specs.declared.line_reader.TheConstants.{MAX_LINES}
 use Rattle.cif_feed.specs.Counts.{counts_of}
 use Rattle.cif_feed.specs.Steps.Counts.{HaveRoom}
 use Rattle.cif_feed.specs.declared.counts.UpdateCounts.{UpdateCounts}
-use Rattle.cif_feed.specs.SpellsFeed.{BytesSpellFeed, SpellFeed, feed_parts}
-use Rattle.cif_feed.specs.Steps.FeedReading.{IsFeedHeld, IsFeedTaken}
+use Rattle.cif_feed.specs.SpellsFeed.{BytesSpellFeed, SayFeed, SpellFeed, feed_parts}
+use Rattle.cif_feed.specs.Steps.FeedReading.{IsFeedTaken}
 use Rattle.cif_feed.specs.declared.feed.Feed.{Feed}
 use Rattle.cif_feed.specs.declared.feed.Feed.TheVariants.{Full, Update}
 use Rattle.cif_feed.specs.declared.feed.FeedFault.{FeedFault}
@@ -108,7 +110,7 @@ module _ (feed : Feed) (allowed : HolidayCodes) (max : ℕ) where
   content_fault number c kind refusal.BadByte reason = refl
   content_fault number c kind _ reason = absurd reason
 
-  -- what is profile_line of any fault is profile_line of the one that has this name
+  -- what is said of any fault is said of the one that has this name
   named_fault : (P : FeedFault → Type 0) (number : ℕ) (kind : Option Kind) (why : Refusal)
       → ((w : Refusal) → P (Extract (fault.Refused number w))) → P (NotUpdate number) → P (BadTransaction number)
       → P (fault_for feed number kind why)
@@ -170,36 +172,34 @@ module _ (feed : Feed) (allowed : HolidayCodes) (max : ℕ) where
 
   -- ---- trailers
 
-  plain_trailer : (f : Feed) (c : List ℕ) → profile_line_by f allowed (Some Zz) c ≡ as_it_stands c
-  plain_trailer Full c = refl
-  plain_trailer Update c = refl
+  -- a line is a trailer where it is read as one
+  as_trailer : (f : Feed) → kind_read_as f (Some Zz) ≡ Some Zz
+  as_trailer Full = refl
+  as_trailer Update = refl
 
-  -- a line is a trailer where its profile line is
-  no_trailer_one : (c : List ℕ) → IsNoTrailer (profile_line feed allowed c).line → IsNoTrailer c
-  no_trailer_one c none is =
-      let same : profile_line feed allowed c ≡ as_it_stands c = ap (λ kind. profile_line_by feed allowed kind c) is
-      ∙ plain_trailer feed c in
-      none (rw same is)
-
-  silent_one : (c : List ℕ) → is_record_line c ≡ false → IsNoTrailer c
+  silent_one : (c : List ℕ) → is_record_line c ≡ false → kind_in c ≢ Some Zz
   silent_one c silent is =
       let other = named_line c Zz is in
       let says : is_record_line c ≡ true = rw (other.0, other.1) refl in
       true≢false (sym says ∙ silent)
 
-  pub no_trailers : (cs : List (List ℕ)) → All IsNoTrailer (profile_lines feed allowed cs) → All IsNoTrailer cs
-  no_trailers [] all = All-nil IsNoTrailer
+  pub no_trailers : (cs : List (List ℕ)) → All (IsNoTrailer (feed_layouts feed allowed)) (record_lines cs)
+      → All (λ c. kind_in c ≢ Some Zz) cs
+  no_trailers [] all = All-nil (λ c. kind_in c ≢ Some Zz)
   no_trailers (c ∷ cs) all = at (is_record_line c) refl all (no_trailers cs)
     where
-      at : (b : Bool) → b ≡ is_record_line c
-          → All IsNoTrailer (map (λ (content : List ℕ). (profile_line feed allowed content).line)
-          (cond b (c ∷ filter is_record_line cs) (filter is_record_line cs)))
-          → (All IsNoTrailer (profile_lines feed allowed cs) → All IsNoTrailer cs) → All IsNoTrailer (c ∷ cs)
+      Other : List ℕ → Type 0
+      Other = λ c. kind_in c ≢ Some Zz
+
+      None : List ℕ → Type 0
+      None = IsNoTrailer (feed_layouts feed allowed)
+
+      at : (b : Bool) → b ≡ is_record_line c → All None (cond b (c ∷ filter is_record_line cs) (filter is_record_line cs))
+          → (All None (record_lines cs) → All Other cs) → All Other (c ∷ cs)
       at true e all more =
-          All-cons IsNoTrailer c cs (no_trailer_one c (All-head IsNoTrailer (profile_line feed allowed c).line
-          (profile_lines feed allowed cs) all))
-          (more (All-tail IsNoTrailer (profile_line feed allowed c).line (profile_lines feed allowed cs) all))
-      at false e all more = All-cons IsNoTrailer c cs (silent_one c (sym e)) (more all)
+          All-cons Other c cs (λ is. All-head None c (record_lines cs) all (ap (kind_read_as feed) is ∙ as_trailer feed))
+          (more (All-tail None c (record_lines cs) all))
+      at false e all more = All-cons Other c cs (silent_one c (sym e)) (more all)
 
   -- ---- where a reading stops, and why
 
@@ -336,9 +336,9 @@ module _ (feed : Feed) (allowed : HolidayCodes) (max : ℕ) {R : Type 0} (remain
     -- there is none
     pub comes-end : IfSome (remaining (reader_of old)) (λ bytes. AreAllContents IsFeedContent max bytes cs)
         → IsReadWhole remaining old new → source_failed old ≡ false → HasReadOn errors old new → (number : ℕ) → number ≡ length cs
-        → number ≤ max → (result : Result FeedExtract FeedFault) → IfOk result (IsFeedHeld feed allowed cs)
+        → number ≤ max → (result : Result FeedExtract FeedFault) → IfOk result (λ x. SayFeed feed allowed cs (feed_parts x))
         → IfErr result (λ f. f ≡ Extract (fault.Refused (number + 1) refusal.Truncated))
-        → IfErr result (λ f. All IsNoTrailer (profile_lines feed allowed cs)) → Comes result
+        → IfErr result (λ f. All (IsNoTrailer (feed_layouts feed allowed)) (record_lines cs)) → Comes result
     comes-end all read fresh read_on number is within (Ok x) held truncated unfinished =
         answers remaining errors old new (reading_feed feed allowed max) x
         (known_so (remaining (reader_of old)) (λ bytes. AreAllContents IsFeedContent max bytes cs)
@@ -353,13 +353,7 @@ module _ (feed : Feed) (allowed : HolidayCodes) (max : ℕ) {R : Type 0} (remain
             are_contents = are;
             notes_stand = λ k below note.
                 note_stands feed allowed max (take k cs) (slice_index_or cs k []) (fine.fine k below) note;
-            extract = held.extract;
-            header_line = held.header_line;
-            tiploc_marks = held.tiploc_marks;
-            association_marks = held.association_marks;
-            schedule_marks = held.schedule_marks;
-            counts = held.counts;
-            passed = held.passed;
+            says = held;
           }),
           rw is within,
         )

@@ -1,10 +1,10 @@
 -- One content more of a feed: what the contents say then, and what the reading has come to.
-use Rattle.std.proofs.Common.{◌≡◌, ℕ, ◌+◌, ◌≤◌, ◌==◌, Bool, true, false, cond, not, ◌&&◌, ◌||◌, List, [], ◌∷◌, ◌++◌, length, map, filter}
+use Rattle.std.proofs.Common.{◌≡◌, ℕ, ◌+◌, ◌≤◌, ◌==◌, Bool, true, false, cond, not, ◌&&◌, ◌||◌, List, [], ◌∷◌, ◌++◌, length, filter}
 use Rattle.std.proofs.Common.{Option, Some, None, Result, Ok, Err, refl, sym, ap, ◌∙◌, subst, ne_eqb, take, codes, append-nil, arith}
 use Rattle.std.proofs.Common.{length-append}
 use Rattle.std.proofs.lemmas.Bool.{and_parts}
 use Rattle.std.proofs.lemmas.Grind.{flat_map-append}
-use Rattle.std.proofs.lemmas.List.{map-append, take-take}
+use Rattle.std.proofs.lemmas.List.{take-take}
 use Rattle.std.proofs.lemmas.List.Elements.{filter-append}
 use Rattle.std.proofs.lemmas.List.Folds.{list_any-append}
 use Rattle.std.proofs.lemmas.Slice.Eq.{bytes_eq-Decides}
@@ -14,38 +14,38 @@ use Rattle.cif_columns.specs.Comment.{is_comment}
 use Rattle.cif_columns.specs.Field.{columns}
 use Rattle.cif_columns.specs.declared.refusal.Refusal.TheVariants.{OutOfOrder}
 use Rattle.cif_extract.proofs.FirstRefusals.{not_true}
-use Rattle.cif_extract.specs.Steps.Reading.{progress_of}
+use Rattle.cif_extract.proofs.ReadingRuns.{refused_behind, taken_behind}
+use Rattle.cif_extract.specs.Steps.Reading.{GoesOnPlainly, UnlessMemory, progress_of}
 use Rattle.cif_extract.specs.Steps.Reading as read
-use Rattle.cif_extract.specs.Taken.{HasTaken, IsTakenBehind, IsTakenPlainly, refusal_behind}
+use Rattle.cif_extract.specs.Layouts.{own_layouts}
+use Rattle.cif_extract.specs.Taken.{HasTaken, refusal_at}
 use Rattle.cif_extract.specs.declared.reading.TakeFault.{TakeFault}
 use Rattle.cif_extract.specs.declared.reading.TakeFault.TheVariants.{Refused, Memory}
 use Rattle.cif_records.specs.Checks.{are, unless}
 use Rattle.cif_records.specs.Kind.{is_identity, kind_in, kinds}
 use Rattle.cif_records.specs.declared.record.Kind.{Kind}
 use Rattle.cif_records.specs.declared.record.Kind.TheVariants.{Li}
-use Rattle.cif_feed.specs.ProfileLine.{as_it_stands, association_mark, is_basic, is_header, is_note, is_record_line, is_trailer, marks}
-use Rattle.cif_feed.specs.ProfileLine.{notes_may_stand, profile_line, profile_line_by, profile_lines, schedule_mark, tiploc_mark}
+use Rattle.cif_feed.specs.FeedLayouts.{feed_layouts}
+use Rattle.cif_feed.specs.FeedLine.{mark_by, mark_in}
+use Rattle.cif_feed.specs.RecordLines.{association_mark, is_basic, is_header, is_note, is_record_line, is_trailer, marks, notes_may_stand}
+use Rattle.cif_feed.specs.RecordLines.{record_lines, schedule_mark, tiploc_mark}
 use Rattle.cif_feed.specs.SpellsFeed.{header_from, passed_of}
-use Rattle.cif_feed.specs.Steps.FeedReading.{HasTakenFeed, IsFeedTaken, IsMarked, IsNoteTaken, IsStopTaken, Marks, UnlessMemory, marks_in}
+use Rattle.cif_feed.specs.Steps.FeedReading.{HasTakenFeed, IsFeedTaken, IsMarked, IsNoteTaken, IsRecordTaken, IsStopTaken, Marks, marks_in}
 use Rattle.cif_feed.specs.Steps.FeedReading.{header_behind, marks_of, with_mark}
 use Rattle.cif_feed.specs.Counts.{counts_of, ends_open, is_deleted, is_new, is_revised, transaction_as}
 use Rattle.cif_feed.specs.Steps.Counts.{plus_if, with_line}
 use Rattle.cif_feed.specs.declared.counts.UpdateCounts.{UpdateCounts}
 use Rattle.cif_feed.specs.declared.feed.Feed.{Feed}
-use Rattle.cif_feed.specs.declared.feed.Feed.TheVariants.{Full, Update}
 use Rattle.cif_feed.specs.declared.feed_reading.FeedReading.{FeedReading}
 use Rattle.cif_feed.specs.declared.feed_reading.Passed.{Passed}
 use Rattle.cif_feed.specs.declared.holiday_code.HolidayCodes.{HolidayCodes}
 use Rattle.cif_feed.specs.declared.mark.LineMark.{LineMark}
 use Rattle.cif_feed.specs.declared.mark.LineMark.TheVariants.{Nothing}
-use Rattle.cif_feed.specs.declared.profile_line.ProfileLine.{ProfileLine}
+use Rattle.cif_records.specs.declared.record.Record.TheVariants as of
+use Rattle.cif_records.proofs.Records.{kind_there}
 use Rattle.cif_feed.proofs.Enumerated.{enumerate_more}
-
--- what a step comes to says more
-pub memory_so : {P Q : Type 0} → (P → Q) → (result : Result Unit TakeFault) → read.UnlessMemory P result → UnlessMemory Q result
-memory_so so (Ok done) h = so h
-memory_so so (Err (Refused why)) h = h
-memory_so so (Err Memory) h = tt
+use Rattle.cif_feed.proofs.FeedLines.{feed_are}
+use Rattle.cif_feed.proofs.RecordsTaken.{own_taken}
 
 -- ---- comments, notes and lines
 
@@ -81,11 +81,6 @@ named_line c kind is = (
   not_true (is_comment c) (λ e. let none = (comment_kind c e).1 in cc),
   not_true (is_note c) (λ e. let none = note_kind c e in cc),
 )
-
--- a location on the way stands as it is
-stop_stands : (feed : Feed) (allowed : HolidayCodes) (c : List ℕ) → profile_line_by feed allowed (Some Li) c ≡ as_it_stands c
-stop_stands Full allowed c = refl
-stop_stands Update allowed c = refl
 
 -- ---- the line of the header
 
@@ -193,38 +188,31 @@ module _ (feed : Feed) (allowed : HolidayCodes) (cs : List (List ℕ)) (c : List
   counts_same kind is none = counts_more ∙ silent_counts kind is none (counts_of cs)
 
   module _ (is : is_record_line c ≡ true) where
-    speaking : filter is_record_line (cs ++ c ∷ []) ≡ filter is_record_line cs ++ (c ∷ [])
-    speaking = one_more is_record_line ∙ ap (λ b. filter is_record_line cs ++ cond b (c ∷ []) []) is
-
-    pub lines_more : profile_lines feed allowed (cs ++ c ∷ []) ≡ profile_lines feed allowed cs ++ ((profile_line feed allowed c).line ∷ [])
-    lines_more =
-        ap (map (λ (content : List ℕ). (profile_line feed allowed content).line)) speaking
-        ∙ map-append _ (filter is_record_line cs) (c ∷ [])
+    pub lines_more : record_lines (cs ++ c ∷ []) ≡ record_lines cs ++ (c ∷ [])
+    lines_more = one_more is_record_line ∙ ap (λ b. filter is_record_line cs ++ cond b (c ∷ []) []) is
 
     marks_more : {A : Type 0} (of_mark : ℕ → LineMark → List A)
-        → marks of_mark feed allowed (cs ++ c ∷ []) ≡ marks of_mark feed allowed cs ++ of_mark here (profile_line feed allowed c).mark
+        → marks of_mark feed allowed (cs ++ c ∷ []) ≡ marks of_mark feed allowed cs ++ of_mark here (mark_in feed allowed c)
     marks_more of_mark =
-        let f : ℕ × List ℕ → List _ = λ (numbered : ℕ × List ℕ). of_mark numbered.0 (profile_line feed allowed numbered.1).mark in
+        let f : ℕ × List ℕ → List _ = λ (numbered : ℕ × List ℕ). of_mark numbered.0 (mark_in feed allowed numbered.1) in
         let old = filter is_numbered (enumerate_from 1 cs) in
         ap (flat_map f) (numbered_more ∙ ap (λ b. old ++ cond b ((here, c) ∷ []) []) is) ∙ flat_map-append f old ((here, c) ∷ [])
         ∙ ap (λ l. flat_map f old ++ l) (append-nil (f (here, c)))
 
-    marks_in-more : marks_in feed allowed (cs ++ c ∷ []) ≡ with_mark (marks_in feed allowed cs) here (profile_line feed allowed c).mark
+    marks_in-more : marks_in feed allowed (cs ++ c ∷ []) ≡ with_mark (marks_in feed allowed cs) here (mark_in feed allowed c)
     marks_in-more = rw (marks_more tiploc_mark, marks_more association_mark, marks_more schedule_mark) refl
 
   module _ (is : is_record_line c ≡ false) where
-    silent : filter is_record_line (cs ++ c ∷ []) ≡ filter is_record_line cs
-    silent = one_more is_record_line ∙ ap (λ b. filter is_record_line cs ++ cond b (c ∷ []) []) is ∙ append-nil (filter is_record_line cs)
-
-    pub lines_same : profile_lines feed allowed (cs ++ c ∷ []) ≡ profile_lines feed allowed cs
-    lines_same = ap (map (λ (content : List ℕ). (profile_line feed allowed content).line)) silent
+    pub lines_same : record_lines (cs ++ c ∷ []) ≡ record_lines cs
+    lines_same =
+        one_more is_record_line ∙ ap (λ b. filter is_record_line cs ++ cond b (c ∷ []) []) is ∙ append-nil (filter is_record_line cs)
 
     marks_in-same : marks_in feed allowed (cs ++ c ∷ []) ≡ marks_in feed allowed cs
     marks_in-same =
         ap (λ (l : List (ℕ × List ℕ)). let m : Marks = record {
-          tiplocs = flat_map (λ (numbered : ℕ × List ℕ). tiploc_mark numbered.0 (profile_line feed allowed numbered.1).mark) l;
-          associations = flat_map (λ (numbered : ℕ × List ℕ). association_mark numbered.0 (profile_line feed allowed numbered.1).mark) l;
-          schedules = flat_map (λ (numbered : ℕ × List ℕ). schedule_mark numbered.0 (profile_line feed allowed numbered.1).mark) l;
+          tiplocs = flat_map (λ (numbered : ℕ × List ℕ). tiploc_mark numbered.0 (mark_in feed allowed numbered.1)) l;
+          associations = flat_map (λ (numbered : ℕ × List ℕ). association_mark numbered.0 (mark_in feed allowed numbered.1)) l;
+          schedules = flat_map (λ (numbered : ℕ × List ℕ). schedule_mark numbered.0 (mark_in feed allowed numbered.1)) l;
         } in m)
         (numbered_more ∙ ap (λ b. filter is_numbered (enumerate_from 1 cs) ++ cond b ((here, c) ∷ []) []) is
         ∙ append-nil (filter is_numbered (enumerate_from 1 cs)))
@@ -234,31 +222,35 @@ module _ (feed : Feed) (allowed : HolidayCodes) (cs : List (List ℕ)) (c : List
   is_line : is_comment c ≡ false → is_note c ≡ false → is_record_line c ≡ true
   is_line no_comment no_note = ap (λ b. not b && not (is_note c)) no_comment ∙ ap not no_note
 
-  -- the reading of a line of this number, whose mark is kept
-  record IsLineStep (number : ℕ) (old new : FeedReading) : Type 0 where
-    taken : HasTaken (profile_lines feed allowed cs ++ ((profile_line feed allowed c).line ∷ [])) (progress_of new.reading)
-    header_line : new.header_line ≡ header_behind old.header_line (kind_in c) number
-    marked : marks_of new ≡ with_mark (marks_of old) number (profile_line feed allowed c).mark
-    counts : new.counts ≡ with_line old.counts (kind_in c) c
-    passed : new.passed ≡ old.passed
-    basic : new.has_basic ≡ (old.has_basic || is_basic (kind_in c))
-    trailer : new.has_trailer ≡ (old.has_trailer || is_trailer (kind_in c))
+  -- what is kept of a line of this number that was taken, but for its mark
+  pub record IsTaken (number : ℕ) (old mid : FeedReading) : Type 0 where
+    pub no_comment : is_comment c ≡ false
+    pub no_note : is_note c ≡ false
+    pub header_line : mid.header_line ≡ header_behind old.header_line (kind_in c) number
+    pub marks : marks_of mid ≡ marks_of old
+    pub counts : mid.counts ≡ with_line old.counts (kind_in c) c
+    pub passed : mid.passed ≡ old.passed
+    pub basic : mid.has_basic ≡ (old.has_basic || is_basic (kind_in c))
+    pub trailer : mid.has_trailer ≡ (old.has_trailer || is_trailer (kind_in c))
 
-  line_step : is_comment c ≡ false → is_note c ≡ false → (number : ℕ) → number ≡ length cs + 1 → (old new : FeedReading)
-      → HasTakenFeed feed allowed cs old → IsLineStep number old new → HasTakenFeed feed allowed (cs ++ c ∷ []) new
-  line_step no_comment no_note number at old new so_far step =
-      let is = is_line no_comment no_note in
+  line_step : (number : ℕ) → number ≡ length cs + 1 → (old mid new : FeedReading) → HasTakenFeed feed allowed cs old
+      → IsTaken number old mid → HasTaken (feed_layouts feed allowed) (record_lines cs ++ (c ∷ [])) (progress_of mid.reading)
+      → IsMarked mid number (mark_in feed allowed c) new → HasTakenFeed feed allowed (cs ++ c ∷ []) new
+  line_step number at old mid new so_far kept taken m =
+      let is = is_line kept.no_comment kept.no_note in
       let numbered : number ≡ here = omega (arith, at) in
       record {
-        taken = subst (λ ls. HasTaken ls (progress_of new.reading)) (sym (lines_more is)) step.taken;
-        header_line = step.header_line ∙ ap (λ (n : ℕ). header_behind n (kind_in c) number) so_far.header_line
+        taken = subst (λ ls. HasTaken (feed_layouts feed allowed) ls (progress_of new.reading)) (sym (lines_more is))
+            (subst (λ r. HasTaken (feed_layouts feed allowed) (record_lines cs ++ (c ∷ [])) (progress_of r)) (sym m.reading) taken);
+        header_line = m.header_line ∙ kept.header_line ∙ ap (λ (n : ℕ). header_behind n (kind_in c) number) so_far.header_line
             ∙ ap (header_behind (header_from 1 cs) (kind_in c)) numbered ∙ sym (header_more 1 (omega arith) cs c);
-        marked = step.marked ∙ ap (λ m. with_mark m number (profile_line feed allowed c).mark) so_far.marked
-            ∙ ap (λ (n : ℕ). with_mark (marks_in feed allowed cs) n (profile_line feed allowed c).mark) numbered ∙ sym (marks_in-more is);
-        counts = step.counts ∙ ap (λ (n : UpdateCounts). with_line n (kind_in c) c) so_far.counts ∙ sym counts_more;
-        passed = step.passed ∙ so_far.passed ∙ sym (passed_line no_comment no_note);
-        basic = step.basic ∙ ap (λ b. b || is_basic (kind_in c)) so_far.basic ∙ sym (any_more (λ content. is_basic (kind_in content)));
-        trailer = step.trailer ∙ ap (λ b. b || is_trailer (kind_in c)) so_far.trailer
+        marked = m.marked ∙ ap (λ v. with_mark v number (mark_in feed allowed c)) (kept.marks ∙ so_far.marked)
+            ∙ ap (λ (n : ℕ). with_mark (marks_in feed allowed cs) n (mark_in feed allowed c)) numbered ∙ sym (marks_in-more is);
+        counts = m.counts ∙ kept.counts ∙ ap (λ (n : UpdateCounts). with_line n (kind_in c) c) so_far.counts ∙ sym counts_more;
+        passed = m.passed ∙ kept.passed ∙ so_far.passed ∙ sym (passed_line kept.no_comment kept.no_note);
+        basic = m.basic ∙ kept.basic ∙ ap (λ b. b || is_basic (kind_in c)) so_far.basic
+            ∙ sym (any_more (λ content. is_basic (kind_in content)));
+        trailer = m.trailer ∙ kept.trailer ∙ ap (λ b. b || is_trailer (kind_in c)) so_far.trailer
             ∙ sym (any_more (λ content. is_trailer (kind_in content)));
       }
 
@@ -266,7 +258,7 @@ module _ (feed : Feed) (allowed : HolidayCodes) (cs : List (List ℕ)) (c : List
   silent_step : is_record_line c ≡ false → kind_in c ≡ None → (old : FeedReading) (p : Passed) → HasTakenFeed feed allowed cs old
       → p ≡ passed_of (cs ++ c ∷ []) → HasTakenFeed feed allowed (cs ++ c ∷ []) (record old { passed = p })
   silent_step nothing no_kind old p so_far counted = record {
-    taken = subst (λ ls. HasTaken ls (progress_of old.reading)) (sym (lines_same nothing)) so_far.taken;
+    taken = subst (λ ls. HasTaken (feed_layouts feed allowed) ls (progress_of old.reading)) (sym (lines_same nothing)) so_far.taken;
     header_line = so_far.header_line ∙ sym (header_same cs c (ap is_header no_kind));
     marked = so_far.marked ∙ sym (marks_in-same nothing);
     counts = so_far.counts ∙ sym (counts_same None no_kind (λ n. refl));
@@ -319,77 +311,54 @@ module _ (feed : Feed) (allowed : HolidayCodes) (cs : List (List ℕ)) (c : List
       rw note (ap (λ b. unless b OutOfOrder) (may_stand old so_far ∙ is.0) ∙ ap Some (sym is.1))
   note_taken no_comment note (Err Memory) old new so_far is = absurd is
 
-  -- what is kept of a line whose profile line was taken
-  pub record IsTaken (number : ℕ) (p : ProfileLine) (old mid : FeedReading) : Type 0 where
-    pub profile : p ≡ profile_line feed allowed c
-    pub no_comment : is_comment c ≡ false
-    pub no_note : is_note c ≡ false
-    pub header_line : mid.header_line ≡ header_behind old.header_line (kind_in c) number
-    pub marks : marks_of mid ≡ marks_of old
-    pub counts : mid.counts ≡ with_line old.counts (kind_in c) c
-    pub passed : mid.passed ≡ old.passed
-    pub basic : mid.has_basic ≡ (old.has_basic || is_basic (kind_in c))
-    pub trailer : mid.has_trailer ≡ (old.has_trailer || is_trailer (kind_in c))
+  pub line_marked : (number : ℕ) (m : LineMark) (result : Result Unit TakeFault) (old mid new : FeedReading) → number ≡ length cs + 1
+      → HasTakenFeed feed allowed cs old → IsTaken number old mid
+      → IsRecordTaken feed allowed c (progress_of old.reading) (Ok tt) (progress_of mid.reading) → m ≡ mark_in feed allowed c
+      → UnlessMemory (IsMarked mid number m new) result → IsFeedTaken feed allowed cs c result new
+  line_marked number m (Ok done) old mid new at so_far kept taken told is =
+      let (fine, more) = taken_behind (feed_layouts feed allowed) (feed_are feed allowed) (record_lines cs) c (progress_of old.reading)
+      so_far.taken (Ok tt) (progress_of mid.reading) taken in (
+        rw kept.no_note fine,
+        line_step number at old mid new so_far kept more (subst (λ (x : LineMark). IsMarked mid number x new) told is),
+      )
+  line_marked number m (Err (Refused why)) old mid new at so_far kept taken told is = absurd is
+  line_marked number m (Err Memory) old mid new at so_far kept taken told is = tt
 
-  line_marked : (number : ℕ) (result : Result Unit TakeFault) (old mid new : FeedReading) → number ≡ length cs + 1
-      → HasTakenFeed feed allowed cs old → IsTaken number (profile_line feed allowed c) old mid
-      → IsTakenBehind (profile_lines feed allowed cs) (profile_line feed allowed c).line (Ok tt) (progress_of mid.reading)
-      → UnlessMemory (IsMarked mid number (profile_line feed allowed c).mark new) result → IsFeedTaken feed allowed cs c result new
-  line_marked number (Ok done) old mid new at so_far kept taken is = (
-    rw kept.no_note taken.0,
-    line_step kept.no_comment kept.no_note number at old new so_far (record {
-      taken = subst (λ r. HasTaken (profile_lines feed allowed cs ++ ((profile_line feed allowed c).line ∷ [])) (progress_of r))
-          (sym is.reading) taken.1;
-      header_line = is.header_line ∙ kept.header_line;
-      marked = is.marked ∙ ap (λ m. with_mark m number (profile_line feed allowed c).mark) kept.marks;
-      counts = is.counts ∙ kept.counts;
-      passed = is.passed ∙ kept.passed;
-      basic = is.basic ∙ kept.basic;
-      trailer = is.trailer ∙ kept.trailer;
-    }),
-  )
-  line_marked number (Err (Refused why)) old mid new at so_far kept taken is = absurd is
-  line_marked number (Err Memory) old mid new at so_far kept taken is = tt
-
-  -- the same, where its profile line is this
-  pub profile_marked : (p : ProfileLine) (number : ℕ) (result : Result Unit TakeFault) (old mid new : FeedReading)
-      → number ≡ length cs + 1 → HasTakenFeed feed allowed cs old → IsTaken number p old mid
-      → IsTakenBehind (profile_lines feed allowed cs) p.line (Ok tt) (progress_of mid.reading)
-      → UnlessMemory (IsMarked mid number p.mark new) result → IsFeedTaken feed allowed cs c result new
-  profile_marked p number result old mid new at so_far kept taken is =
-      line_marked number result old mid new at so_far (subst (λ (x : ProfileLine). IsTaken number x old mid) kept.profile kept)
-      (subst (λ (x : ProfileLine). IsTakenBehind (profile_lines feed allowed cs) x.line (Ok tt)
-      (progress_of mid.reading)) kept.profile taken)
-      (subst (λ (x : ProfileLine). UnlessMemory (IsMarked mid number x.mark new) result) kept.profile is)
-
-  pub profile_untaken : (p : ProfileLine) → p ≡ profile_line feed allowed c → is_note c ≡ false
-      → (fault : TakeFault) (mid new : FeedReading)
-      → IsTakenBehind (profile_lines feed allowed cs) p.line (Err fault) (progress_of mid.reading)
+  pub line_untaken : is_note c ≡ false → (fault : TakeFault) (old mid new : FeedReading) → HasTakenFeed feed allowed cs old
+      → IsRecordTaken feed allowed c (progress_of old.reading) (Err fault) (progress_of mid.reading)
       → IsFeedTaken feed allowed cs c (Err fault) new
-  profile_untaken p e no_note (Refused why) mid new is =
-      rw no_note (subst (λ (x : ProfileLine). refusal_behind (profile_lines feed allowed cs) x.line ≡ Some why) e is)
-  profile_untaken p e no_note Memory mid new is = tt
+  line_untaken no_note (Refused why) old mid new so_far is =
+      rw no_note (refused_behind (feed_layouts feed allowed) (feed_are feed allowed) (record_lines cs) c (progress_of old.reading)
+      so_far.taken ∙ is)
+  line_untaken no_note Memory old mid new so_far is = tt
 
-  pub stop_taken : (old new : FeedReading) → HasTakenFeed feed allowed cs old
-      → IsTakenPlainly (profile_lines feed allowed cs) c (progress_of new.reading) → new ≡ record old { reading = new.reading }
-      → IsStopTaken feed allowed cs c new
-  stop_taken old new so_far plain is =
-      let (no_comment, no_note) = named_line c Li plain.kind in
-      let same : profile_line feed allowed c ≡ as_it_stands c =
-      ap (λ kind. profile_line_by feed allowed kind c) plain.kind ∙ stop_stands feed allowed c in
-      record {
-        is_line = plain.is_line;
+  -- a plain line of a location on the way
+  pub stop_taken : (old new : FeedReading) → HasTakenFeed feed allowed cs old → GoesOnPlainly (progress_of old.reading).place c
+      → read.IsTaken (refusal_at own_layouts (progress_of old.reading).place c) c (progress_of old.reading) (Ok tt)
+      (progress_of new.reading)
+      → new ≡ record old { reading = new.reading } → IsStopTaken feed allowed cs c new
+  stop_taken old new so_far plain taken is =
+      let kind : kind_in c ≡ Some Li = kind_there c (of.Stop plain.stop) plain.spelled in
+      let (no_comment, no_note) = named_line c Li kind in
+      let own = own_taken feed allowed c (progress_of old.reading) (rw kind tt) (Ok tt) (progress_of new.reading) taken in
+      let both = line_marked (length cs + 1) Nothing (Ok tt) old new new refl so_far (record {
         no_comment = no_comment;
-        stands = rw (no_note, same) plain.allowed;
-        taken = line_step no_comment no_note (length cs + 1) refl old new so_far (record {
-          taken = rw same plain.taken;
-          header_line = ap (λ (r : FeedReading). r.header_line) is
-              ∙ ap (λ b. cond (b && (old.header_line == 0)) (length cs + 1) old.header_line) (sym (ap is_header plain.kind));
-          marked = rw same (ap marks_of is ∙ sym (with_nothing (marks_of old) (length cs + 1)));
-          counts = ap (λ (r : FeedReading). r.counts) is ∙ sym (silent_counts (Some Li) plain.kind (λ n. refl) old.counts);
-          passed = ap (λ (r : FeedReading). r.passed) is;
-          basic = ap (λ (r : FeedReading). r.has_basic) is ∙ sym (or_false old.has_basic (is_basic (kind_in c)) (ap is_basic plain.kind));
-          trailer = ap (λ (r : FeedReading). r.has_trailer) is
-              ∙ sym (or_false old.has_trailer (is_trailer (kind_in c)) (ap is_trailer plain.kind));
-        });
-      }
+        no_note = no_note;
+        header_line = ap (λ (r : FeedReading). r.header_line) is
+            ∙ ap (λ b. cond (b && (old.header_line == 0)) (length cs + 1) old.header_line) (sym (ap is_header kind));
+        marks = ap marks_of is;
+        counts = ap (λ (r : FeedReading). r.counts) is ∙ sym (silent_counts (Some Li) kind (λ n. refl) old.counts);
+        passed = ap (λ (r : FeedReading). r.passed) is;
+        basic = ap (λ (r : FeedReading). r.has_basic) is ∙ sym (or_false old.has_basic (is_basic (kind_in c)) (ap is_basic kind));
+        trailer = ap (λ (r : FeedReading). r.has_trailer) is
+            ∙ sym (or_false old.has_trailer (is_trailer (kind_in c)) (ap is_trailer kind));
+      }) own (sym (ap (λ k. mark_by feed allowed k c) kind)) (record {
+        marked = sym (with_nothing (marks_of new) (length cs + 1));
+        reading = refl;
+        header_line = refl;
+        counts = refl;
+        passed = refl;
+        basic = refl;
+        trailer = refl;
+      }) in
+      record { is_line = plain.is_line; no_comment = no_comment; stands = both.0; taken = both.1 }

@@ -23,7 +23,7 @@ use Rattle.cif_extract.specs.ReadCall.{IsResultOf}
 use Rattle.cif_extract.proofs.ReadCalls.{answers, of_any, refuses}
 use Rattle.cif_feed.specs.HolidayText.{AreHolidayLines, AreHolidayLinesAndRest, AreHolidaysOf, AreRead, AreWhole, DecidesNoLine}
 use Rattle.cif_feed.specs.HolidayText.{IsBadLine, IsCutBeforeBadLine, IsFirstBadLine, IsHolidayFault, IsHolidayLine}
-use Rattle.cif_feed.specs.HolidayText.{IsLineDecided, IsLineDecidedBy, LineNames, LineSays, SomeLine, SpellHolidays}
+use Rattle.cif_feed.specs.HolidayText.{IsLineDecidedBy, LineNames, LineSays, SomeLine, SpellHolidays}
 use Rattle.cif_feed.specs.Holidays.{IsHoliday, Names}
 use Rattle.cif_feed.specs.HolidayText.{reading_holidays}
 use Rattle.cif_feed.specs.Steps.HolidayReading.{AreLinesAndRest, HasLineMore, IsLineFault, IsRefusal, IsRefusalBehind}

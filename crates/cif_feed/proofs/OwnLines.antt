@@ -1,40 +1,35 @@
--- A line of this profile is its own profile line, and its mark says nothing: so an extract of this profile is a published one.
-use Rattle.std.proofs.Common.{◌≡◌, ℕ, ◌+◌, false, cond, List, [], ◌∷◌, ◌++◌, map, drop, get_or, Option, Some, None, refl, sym, ap, ◌∙◌}
-use Rattle.std.proofs.Common.{subst, codes, arith, get_or-take, get_or-drop, slice_index}
+-- A line of this profile spells its record in a published extract too, and its mark says nothing: so an extract of this profile is a
+-- published one.
+use Rattle.std.proofs.Common.{◌≡◌, ℕ, ◌+◌, false, List, [], ◌∷◌, ◌++◌, map, Option, Some, None, refl, sym, subst}
 use Rattle.std.proofs.lemmas.List.Elements.{All-head, All-tail}
 use Rattle.std.specs.Prelude.{All}
 use Rattle.cif_columns.specs.Contents.{contents_of}
-use Rattle.cif_columns.specs.DayDigits.{yymmdd_of}
-use Rattle.cif_columns.specs.Field.{columns}
 use Rattle.cif_columns.specs.Line.{IsLine}
 use Rattle.cif_extract.specs.ExtractParts.{ExtractParts}
 use Rattle.cif_extract.specs.SpellsExtract.{BytesSpellWithin, SpellAll, SpellExtract}
 use Rattle.cif_extract.specs.declared.extract.Schedule.{Schedule}
+use Rattle.cif_records.specs.Kind.{kind_in}
 use Rattle.cif_records.specs.Record.{SpellsRecord}
 use Rattle.cif_records.specs.declared.association.Association.{Association}
 use Rattle.cif_records.specs.declared.record.Kind.{Kind}
 use Rattle.cif_records.specs.declared.record.Record.{Record}
 use Rattle.cif_records.specs.declared.record.Record.TheVariants as of
-use Rattle.cif_records.proofs.Judging.{no_open_end}
 use Rattle.cif_records.proofs.Records.{kind_of, kind_there}
+use Rattle.cif_feed.specs.FeedLine.{SpellsInFeed, mark_by, mark_in}
 use Rattle.cif_feed.specs.FromLines.{ArePairs, AreTriples}
-use Rattle.cif_feed.specs.LastDay.{last_day}
 use Rattle.cif_feed.specs.OfProfile.{as_published, association_as_published, schedule_as_published}
-use Rattle.cif_feed.specs.ProfileLine.{association_mark, closed, code_of, is_open, marks, profile_line, profile_line_by, schedule_mark}
-use Rattle.cif_feed.specs.ProfileLine.{with_columns, without_code, if_allowed}
-use Rattle.cif_feed.specs.HolidayCode.{code_in}
 use Rattle.cif_feed.specs.PublishedParts.{BytesSpellPublished, IsPublishedAssociation, IsPublishedSchedule, SayPublished}
+use Rattle.cif_feed.specs.RecordLines.{association_mark, marks, schedule_mark}
 use Rattle.cif_feed.specs.Steps.Marked.{IsClosed, last_of_association, last_of_schedule}
 use Rattle.cif_feed.specs.declared.feed.Feed.TheVariants.{Full}
-use Rattle.cif_feed.specs.declared.holiday_code.HolidayCode.{HolidayCode}
 use Rattle.cif_feed.specs.declared.holiday_code.HolidayCodes.{HolidayCodes}
 use Rattle.cif_feed.specs.declared.mark.LineMark.{LineMark}
 use Rattle.cif_feed.specs.declared.mark.LineMark.TheVariants as mark
 use Rattle.cif_feed.specs.declared.mark.Numbered.{Numbered}
 use Rattle.cif_feed.specs.declared.mark.RecordMark.{RecordMark}
-use Rattle.cif_feed.specs.declared.profile_line.ProfileLine.{ProfileLine}
 use Rattle.cif_feed.proofs.KnownLines.{AreReadAs, all_marks, marks_from, parts_read, spell_read}
-use Rattle.cif_feed.proofs.MarkedRecords.{marks_spelled}
+use Rattle.cif_feed.proofs.HeldMarks.{have_marks}
+use Rattle.cif_feed.proofs.PublishedLines.{association_spelled, basic_spelled}
 
 -- the mark says nothing of an end and of a code
 record IsBare (m : RecordMark) : Type 0 where
@@ -47,45 +42,33 @@ SaysNothing (mark.Schedule m) = IsBare m
 SaysNothing m = Unit {0}
 
 module _ (allowed : HolidayCodes) where
-  -- the line is its own profile line
-  record IsOwn (c : List ℕ) (p : ProfileLine) : Type 0 where
-    line : p.line ≡ c
-    says : SaysNothing p.mark
+  -- the line spells the record, and its mark, by this kind, says nothing
+  record IsOwn (c : List ℕ) (r : Record) (kind : Option Kind) : Type 0 where
+    spells : SpellsInFeed Full allowed c r
+    says : SaysNothing (mark_by Full allowed kind c)
 
-  -- column 29 is a space
-  no_code : (c : List ℕ) → columns 29 29 c ≡ codes " " → code_of allowed c ≡ None
-  no_code c space =
-      let there : slice_index c 28 ≡ 32 =
-      sym (get_or-drop 28 c 0 0) ∙ sym (get_or-take 1 (drop 28 c) 0 0 (omega arith)) ∙ ap (λ (l : List ℕ). get_or l 0 0) space in
-      ap (λ (n : ℕ). if_allowed allowed (code_in n)) there
-
-  own : (c : List ℕ) (r : Record) → SpellsRecord c r → IsOwn c (profile_line_by Full allowed (Some (kind_of r)) c)
+  own : (c : List ℕ) (r : Record) → SpellsRecord c r → IsOwn c r (Some (kind_of r))
   own c (of.Association a) s =
-      let ends : is_open 22 c ≡ false = no_open_end (columns 22 27 c) a.last s.1.1.1.1.1.0 in
-      record { line = ap (λ b. cond b (with_columns 22 (yymmdd_of last_day) c) c) ends; says = record { open_end = ends; code = refl } }
+      let (spells, told) = association_spelled allowed c a false s (λ e. cc) in
+      record { spells = spells; says = subst IsBare (sym told) (record { open_end = refl; code = refl }) }
   own c (of.Basic b) s =
-      let ends : is_open 16 c ≡ false = no_open_end (columns 16 21 c) b.last s.1.1.1.1.0 in
-      let none = no_code c s.1.1.1.1.1.1.0 in
-      record {
-        line = ap (λ (code : Option HolidayCode). without_code code (closed 16 c)) none
-            ∙ ap (λ b. cond b (with_columns 16 (yymmdd_of last_day) c) c) ends;
-        says = record { open_end = ends; code = none };
-      }
-  own c _ s = record { line = refl; says = tt }
+      let (spells, told) = basic_spelled allowed c b false None s (λ e. cc) (λ k e. cc) in
+      record { spells = spells; says = subst IsBare (sym told) (record { open_end = refl; code = refl }) }
+  own c r s = record { spells = s; says = tt }
 
-  own_line : (c : List ℕ) (r : Record) → SpellsRecord c r → IsOwn c (profile_line Full allowed c)
-  own_line c r s = subst (λ (k : Option Kind). IsOwn c (profile_line_by Full allowed k c)) (sym (kind_there c r s)) (own c r s)
+  own_line : (c : List ℕ) (r : Record) → SpellsRecord c r → IsOwn c r (kind_in c)
+  own_line c r s = subst (IsOwn c r) (sym (kind_there c r s)) (own c r s)
 
-  pub line_itself : (c : List ℕ) (r : Record) → SpellsRecord c r → (profile_line Full allowed c).line ≡ c
-  line_itself c r s = (own_line c r s).line
+  pub own_spells : (c : List ℕ) (r : Record) → SpellsRecord c r → SpellsInFeed Full allowed c r
+  own_spells c r s = (own_line c r s).spells
 
-  own_lines : (cs : List (List ℕ)) (rs : List Record) → All IsLine cs → SpellAll cs rs → AreReadAs allowed cs cs
-  own_lines [] rs are spell = tt
-  own_lines (c ∷ cs) [] are spell = absurd spell
+  own_lines : (cs : List (List ℕ)) (rs : List Record) → All IsLine cs → SpellAll cs rs → AreReadAs allowed cs rs
+  own_lines [] [] are spell = tt
   own_lines (c ∷ cs) (r ∷ rs) are spell = (
-    record { is_line = All-head IsLine c cs are; kind = kind_of r; named = kind_there c r spell.0; line = line_itself c r spell.0 },
+    record { is_line = All-head IsLine c cs are; spells = own_spells c r spell.0 },
     own_lines cs rs (All-tail IsLine c cs are) spell.1,
   )
+  own_lines _ _ are spell = absurd spell
 
   -- ---- the marks say nothing
 
@@ -110,7 +93,7 @@ module _ (allowed : HolidayCodes) where
   all_bare of_mark bare n [] rs spell = tt
   all_bare of_mark bare n (c ∷ cs) [] spell = absurd spell
   all_bare of_mark bare n (c ∷ cs) (r ∷ rs) spell =
-      bare n (profile_line Full allowed c).mark _ (own_line c r spell.0).says (all_bare of_mark bare (n + 1) cs rs spell.1)
+      bare n (mark_in Full allowed c) _ (own_line c r spell.0).says (all_bare of_mark bare (n + 1) cs rs spell.1)
 
   -- ---- what they say
 
@@ -132,15 +115,15 @@ module _ (allowed : HolidayCodes) where
       → SayPublished (parts_read allowed cs x) (as_published x)
   own_says cs x are s =
       let reads = own_lines cs s.records are s.spelled in
-      let marked = marks_spelled Full allowed cs (parts_read allowed cs x) (spell_read allowed cs cs x reads s) in
+      let marked = have_marks Full allowed cs (parts_read allowed cs x) (spell_read allowed cs s.records x reads s.are).says in
       record {
         header = refl;
         tiplocs = refl;
         associations = bare_associations x.associations (marks association_mark Full allowed cs) marked.associations
-            (subst AreBare (sym (all_marks allowed association_mark cs cs reads))
+            (subst AreBare (sym (all_marks allowed association_mark cs s.records reads))
             (all_bare association_mark association_bare 1 cs s.records s.spelled));
         schedules = bare_schedules x.schedules (marks schedule_mark Full allowed cs) marked.schedules
-            (subst AreBare (sym (all_marks allowed schedule_mark cs cs reads))
+            (subst AreBare (sym (all_marks allowed schedule_mark cs s.records reads))
             (all_bare schedule_mark schedule_bare 1 cs s.records s.spelled));
       }
 
@@ -148,12 +131,12 @@ module _ (allowed : HolidayCodes) where
       → BytesSpellPublished allowed max bytes (as_published x)
   own_published max bytes x s =
       let cs = contents_of bytes in
-      let reads = own_lines cs s.spell.spelled.records s.spell.are_lines s.spell.spelled.spelled in
+      let e = s.spell.spelled in
       record {
         spell = record {
           lines = parts_read allowed cs x;
-          spelled = spell_read allowed cs cs x reads s.spell.spelled;
-          says = own_says cs x s.spell.are_lines s.spell.spelled;
+          spelled = spell_read allowed cs e.records x (own_lines cs e.records s.spell.are_lines e.spelled) e.are;
+          says = own_says cs x s.spell.are_lines e;
         };
         within = s.within;
       }

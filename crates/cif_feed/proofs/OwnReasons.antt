@@ -13,6 +13,7 @@ use Rattle.cif_columns.specs.declared.refusal.Refusal.{Refusal}
 use Rattle.cif_columns.specs.declared.refusal.Refusal.TheVariants.{BadLength, BadByte, OutOfOrder, TooManyLines}
 use Rattle.cif_columns.proofs.PrintableBytes.{printable_fact, printable_true}
 use Rattle.cif_extract.specs.FirstRefusal.{IsRefusedLine, NoneRefused, order_refusal, refusal_of}
+use Rattle.cif_extract.specs.Layouts.{own_layouts}
 use Rattle.cif_extract.specs.OrderOfRecords.{may_stand, place_behind}
 use Rattle.cif_extract.specs.Taken.{refusal_behind}
 use Rattle.cif_extract.specs.declared.place.Place.{Place}
@@ -83,8 +84,8 @@ order_alone place (Some kind) why is = at (may_stand place kind) is
     at false is = cc
 
 -- a line that is refused behind others, and has no reason by itself, is out of order
-pub out_of_order : (cs : List (List ℕ)) (c : List ℕ) (why : Refusal) → refusal_behind cs c ≡ Some why → record_refusal c ≡ None
-    → refusal_behind cs c ≡ Some OutOfOrder
+pub out_of_order : (cs : List (List ℕ)) (c : List ℕ) (why : Refusal) → refusal_behind own_layouts cs c ≡ Some why → record_refusal c ≡ None
+    → refusal_behind own_layouts cs c ≡ Some OutOfOrder
 out_of_order cs c why is none = is ∙ ap Some (at (order_refusal (place_behind cs) (kind_in c)) (order_alone _ _) (rw none at is))
   where
     at : (o : Option Refusal) → ((w : Refusal) → o ≡ Some w → w ≡ OutOfOrder) → first_of (o ∷ None ∷ []) ≡ Some why → why ≡ OutOfOrder
@@ -141,12 +142,12 @@ module _ (max : ℕ) (cs : List (List ℕ)) (c : List ℕ) (own : own_reason c �
   no_record_refusal : record_refusal c ≡ None
   no_record_refusal = sym (own_of_line c (own_none c own)) ∙ own
 
-  pub none_refused_more : NoneRefused max cs → refusal_behind cs c ≡ None → NoneRefused max (cs ++ c ∷ [])
+  pub none_refused_more : NoneRefused max cs → refusal_behind own_layouts cs c ≡ None → NoneRefused max (cs ++ c ∷ [])
   none_refused_more fine none = none_refused-more max cs c fine (line_refusal max cs c (own_none c own) room ∙ none)
 
   -- the first that is refused
-  pub refused_here : NoneRefused max cs → (why : Refusal) → refusal_behind cs c ≡ Some why → (number : ℕ) → number ≡ length cs + 1
-      → IsRefusedLine max (cs ++ c ∷ []) number OutOfOrder
+  pub refused_here : NoneRefused max cs → (why : Refusal) → refusal_behind own_layouts cs c ≡ Some why → (number : ℕ)
+      → number ≡ length cs + 1 → IsRefusedLine max (cs ++ c ∷ []) number OutOfOrder
   refused_here fine why is number numbered = record {
     before = cs;
     content = c;

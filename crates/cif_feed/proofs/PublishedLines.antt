@@ -1,220 +1,208 @@
--- The lines that are written of an association and of a BS: their profile lines are the plain lines, and their marks say the rest.
-use Rattle.std.proofs.Common.{◌≡◌, ℕ, ◌+◌, ◌-◌, ◌≤◌, Bool, true, false, cond, List, [], ◌∷◌, ◌++◌, length, take, drop, Option, Some, None}
-use Rattle.std.proofs.Common.{refl, sym, ap, ◌∙◌, subst, codes, arith, IsTrue, lit<, lit≤}
-use Rattle.std.proofs.Common.{slice_index}
-use Rattle.std.proofs.lemmas.List.Elements.{All-append, All-drop, All-take}
-use Rattle.cif_columns.specs.Day.{StandsInYymmdd}
-use Rattle.cif_columns.specs.DayDigits.{yymmdd_of}
-use Rattle.cif_columns.specs.Field.{columns, date}
-use Rattle.cif_columns.specs.Line.{ArePrintable, IsLine, IsPrintable}
-use Rattle.cif_columns.proofs.Dates.{one_yymmdd}
-use Rattle.cif_columns.proofs.PlainLines.{printable-plain_columns}
+-- The lines that are written of an association and of a BS spell them, with their open ends and holiday codes.
+use Rattle.std.proofs.Common.{◌≡◌, ℕ, ◌+◌, ◌-◌, Bool, true, false, cond, List, [], ◌∷◌, ◌++◌, length, take, drop, Option, Some, None}
+use Rattle.std.proofs.Common.{refl, sym, ap, ◌∙◌, subst, codes, arith, IsTrue, slice_index, length-append}
+use Rattle.std.proofs.Math.Seq.{drop-append-add, take-append_seam}
+use Rattle.cif_columns.specs.Field.{AllFit, AllStandIn, FieldValue, Fits, Row, StandsIn, columns, date, exactly, is_whole_from}
+use Rattle.cif_columns.specs.Field.{plain_columns, plain_line, row, width_of}
+use Rattle.cif_columns.proofs.Parts.{length-plain_columns, length-plain_line, length_behind, plain_line-append, stands-plain_line}
+use Rattle.cif_columns.proofs.PlainLines.{line-plain_line}
 use Rattle.cif_columns.proofs.PrintableBytes.{printable_fact}
+use Rattle.cif_extract.specs.Texts.{rows_on}
+use Rattle.cif_extract.proofs.PlainRecords.{basic_of}
+use Rattle.cif_records.specs.Association.{association_table}
+use Rattle.cif_records.specs.Basic.{terms_of}
 use Rattle.cif_records.specs.Checks.{are}
-use Rattle.cif_records.specs.Kind.{kind_in}
-use Rattle.cif_records.specs.declared.record.Kind.TheVariants.{Aa, Bs}
+use Rattle.cif_records.specs.declared.association.Association.{Association}
+use Rattle.cif_records.specs.declared.basic.Basic.{Basic}
+use Rattle.cif_records.specs.declared.record.Record.{Record}
+use Rattle.cif_records.specs.declared.record.Record.TheVariants as of
 use Rattle.cif_records.proofs.Judging.{no_open_end}
+use Rattle.cif_feed.specs.FeedLine.{IsClosedAt, SpellsAssociationBy, SpellsBasicBy, SpellsInFeed, code_of, code_value, end_value}
+use Rattle.cif_feed.specs.FeedLine.{if_allowed, is_open, letter_of, put_association_rows, put_basic_rows, record_mark, transaction_at}
 use Rattle.cif_feed.specs.HolidayCode.{code_in, has_code, letter}
-use Rattle.cif_feed.specs.LastDay.{last_day}
-use Rattle.cif_feed.specs.ProfileLine.{closed, code_of, if_allowed, is_open, with_columns, without_code}
-use Rattle.cif_feed.specs.PublishedParts.{with_code, with_open_end}
+use Rattle.cif_feed.specs.PublishedParts.{published_association_line, published_basic_line, with_code, with_columns, with_open_end}
+use Rattle.cif_feed.specs.declared.feed.Feed.TheVariants.{Full}
 use Rattle.cif_feed.specs.declared.holiday_code.HolidayCode.{HolidayCode}
 use Rattle.cif_feed.specs.declared.holiday_code.HolidayCode.TheVariants.{X, E, G}
 use Rattle.cif_feed.specs.declared.holiday_code.HolidayCodes.{HolidayCodes}
-use Rattle.cif_feed.proofs.Cells.{decided, decided_date, wide_still}
-use Rattle.cif_feed.proofs.MarkedRecords.{last_stands, last_wide}
+use Rattle.cif_feed.specs.declared.mark.RecordMark.{RecordMark}
+use Rattle.cif_feed.specs.declared.mark.Transaction.TheVariants.{New}
+use Rattle.cif_feed.specs.declared.published.PublishedAssociation.{PublishedAssociation}
+use Rattle.cif_feed.specs.declared.published.PublishedSchedule.{PublishedSchedule}
+use Rattle.cif_feed.proofs.KnownLines.{IsReadAs}
 
--- ---- columns that are written over those of a line
+-- ---- columns that are written over those of a plain line
 
--- it stays a line
-pub line_still : (first : ℕ) (d l : List ℕ) → IsLine l → ArePrintable d → 1 ≤ first → first - 1 + length d ≤ 80
-    → IsLine (with_columns first d l)
+over : (first : ℕ) (a b c d : List ℕ) → first ≡ length a + 1 → length b ≡ length d → with_columns first d (a ++ (b ++ c)) ≡ a ++ (d ++ c)
 unfolding with_columns
-line_still first d l is_line new from within = record {
-  width = (let w = is_line.width in wide_still first d l from (omega (arith, w, within)) ∙ w);
-  printable = All-append IsPrintable (take (first - 1) l) (d ++ drop (first - 1 + length d) l)
-      (All-take IsPrintable (first - 1) l is_line.printable)
-      (All-append IsPrintable d (drop (first - 1 + length d) l) new (All-drop IsPrintable (first - 1 + length d) l is_line.printable));
-}
+over first a b c d at wide =
+    let behind : first - 1 + length d ≡ length a + (length b + 0) = omega (arith, at, wide) in
+    let before : first - 1 ≡ length a = omega (arith, at) in
+    ap (λ n. take n (a ++ (b ++ c)) ++ (d ++ drop (first - 1 + length d) (a ++ (b ++ c)))) before
+    ∙ ap (λ l. l ++ (d ++ drop (first - 1 + length d) (a ++ (b ++ c)))) (take-append_seam a (b ++ c))
+    ∙ ap (λ n. a ++ (d ++ drop n (a ++ (b ++ c)))) behind
+    ∙ ap (λ l. a ++ (d ++ l)) (drop-append-add a (b ++ c) (length b + 0) ∙ drop-append-add b c 0)
 
-pub last_printable : ArePrintable (yymmdd_of last_day)
-last_printable = printable-plain_columns 6 (date last_day) (refl, lit< tt)
+-- another value in a row of a whole table: its columns are written over the row's
+written : (front : List Row) (r : Row) (back : List Row) (value : FieldValue) → is_whole_from 1 (front ++ r ∷ back) ≡ true
+    → is_whole_from r.from (r ∷ back) ≡ true → AllFit (front ++ r ∷ back) → AllFit (r ∷ back) → Fits (width_of r) value
+    → with_columns r.from (plain_columns (width_of r) value) (plain_line (front ++ r ∷ back))
+    ≡ plain_line (front ++ (record r { value = value }) ∷ back)
+written front r back value whole rest fits fit new =
+    let all : length (plain_line (front ++ r ∷ back)) ≡ 80 = length-plain_line (front ++ r ∷ back) whole fits in
+    let behind : length (plain_line (r ∷ back)) + r.from ≡ 81 = length_behind r.from (r ∷ back) rest fit in
+    let parts = plain_line-append front (r ∷ back) in
+    let long : length (plain_line (front ++ r ∷ back)) ≡ length (plain_line front) + length (plain_line (r ∷ back)) =
+    ap length parts ∙ length-append (plain_line front) (plain_line (r ∷ back)) in
+    ap (with_columns r.from (plain_columns (width_of r) value)) parts
+    ∙ over r.from (plain_line front) (plain_columns (width_of r) r.value) (plain_line back) (plain_columns (width_of r) value)
+    (omega (arith, all, behind, long))
+    (length-plain_columns (width_of r) r.value fit.0 ∙ sym (length-plain_columns (width_of r) value new))
+    ∙ sym (plain_line-append front ((record r { value = value }) ∷ back))
 
-abbrev nines : List ℕ
-nines = codes "999999"
+nines_fit : Fits 6 (exactly (codes "999999"))
+nines_fit = (refl, printable_fact (codes "999999") refl)
 
-abbrev last_columns : List ℕ
-last_columns = yymmdd_of last_day
+-- ---- what stands in the columns of a published record, it spells
 
--- ---- the columns of an end, from this one to that
+-- whether an end is open that stands there
+opened : (columns : List ℕ) (open_end : Bool) (last : ℕ) → StandsIn columns (end_value open_end last)
+    → are columns (codes "999999") ≡ open_end
+opened columns true last stands = ap (λ (l : List ℕ). are l (codes "999999")) stands
+opened columns false last stands = no_open_end columns last stands
 
--- columns that are written over by an open end: it stands there, other ones can be written over it, and those that were there give back
--- the line
-record MayBeOpen (first to : ℕ) : Type 0 where
-  from : 1 ≤ first
-  within : first ≤ 75
-  put : (l : List ℕ) → length l ≡ 80 → is_open first (with_columns first nines l) ≡ true
-  again : (d l : List ℕ) → length d ≡ 6 → length l ≡ 80 → with_columns first d (with_columns first nines l) ≡ with_columns first d l
-  back : (l : List ℕ) → length l ≡ 80 → with_columns first (columns first to l) l ≡ l
-  read : (l : List ℕ) → is_open first l ≡ are (columns first to l) nines
-  kind : (l : List ℕ) → length l ≡ 80 → kind_in (with_columns first nines l) ≡ kind_in l
+-- the mark of a line that puts a record, with this end and this code
+abbrev pub new_mark : Bool → Option HolidayCode → List ℕ → RecordMark
+new_mark open_end code c = record { transaction = New; letter = letter_of c; open_end = open_end; code = code }
 
-end_of_association : MayBeOpen 22 27
-unfolding with_columns
-end_of_association = record {
-  from = lit≤ tt;
-  within = lit≤ tt;
-  put = λ l wide. decided (λ k. is_open 22 (with_columns 22 nines k)) (λ k. true) l wide refl;
-  again = λ d l six wide.
-      decided_date (λ e k. with_columns 22 e (with_columns 22 nines k)) (λ e k. with_columns 22 e k) d l six wide refl;
-  back = λ l wide. decided (λ k. with_columns 22 (columns 22 27 k) k) (λ k. k) l wide refl;
-  read = λ l. refl;
-  kind = λ l wide. decided (λ k. kind_in (with_columns 22 nines k)) kind_in l wide refl;
-}
+module _ (allowed : HolidayCodes) (c : List ℕ) where
+  new_there : columns 3 3 c ≡ codes "N" → transaction_at Full c ≡ Some New
+  new_there new = ap (λ (l : List ℕ). cond (are l (codes "N")) (Some New) None) new
 
-end_of_basic : MayBeOpen 16 21
-unfolding with_columns
-end_of_basic = record {
-  from = lit≤ tt;
-  within = lit≤ tt;
-  put = λ l wide. decided (λ k. is_open 16 (with_columns 16 nines k)) (λ k. true) l wide refl;
-  again = λ d l six wide.
-      decided_date (λ e k. with_columns 16 e (with_columns 16 nines k)) (λ e k. with_columns 16 e k) d l six wide refl;
-  back = λ l wide. decided (λ k. with_columns 16 (columns 16 21 k) k) (λ k. k) l wide refl;
-  read = λ l. refl;
-  kind = λ l wide. decided (λ k. kind_in (with_columns 16 nines k)) kind_in l wide refl;
-}
+  pub association_spelled : (a : Association) (open_end : Bool) → AllStandIn c (put_association_rows New open_end a)
+      → IsClosedAt open_end a.last
+      → SpellsInFeed Full allowed c (of.Association a) × (record_mark (transaction_at Full c) 22 None c ≡ new_mark open_end None c)
+  association_spelled a open_end s closed =
+      let is : is_open 22 c ≡ open_end = opened (columns 22 27 c) open_end a.last s.1.1.1.1.1.0 in (
+        subst (λ t. SpellsAssociationBy t c a) (sym (new_there s.1.0)) (
+          subst (λ b. AllStandIn c (put_association_rows New b a)) (sym is) s,
+          subst (λ b. IsClosedAt b a.last) (sym is) closed,
+        ),
+        ap (λ t. record_mark t 22 None c) (new_there s.1.0) ∙ ap (λ b. new_mark b None c) is,
+      )
 
--- a line with this end, by its plain line
-record IsEnded (first : ℕ) (l c : List ℕ) (no_end : Bool) : Type 0 where
-  is_line : IsLine c
-  kind : kind_in c ≡ kind_in l
-  line : closed first c ≡ l
-  open_end : is_open first c ≡ no_end
-
-ended : (first to : ℕ) → MayBeOpen first to → (l : List ℕ) (last : ℕ) (no_end : Bool) → IsLine l → StandsInYymmdd (columns first to l) last
-    → (no_end ≡ true → last ≡ last_day) → IsEnded first l (with_open_end no_end first l) no_end
-ended first to may l last true is_line stands closes =
-    let w = is_line.width in
-    let own : last_columns ≡ columns first to l =
-    one_yymmdd _ (columns first to l) last_day last_stands (subst (StandsInYymmdd (columns first to l)) (closes refl) stands) in
-    record {
-      is_line = line_still first nines l is_line (printable_fact nines refl) may.from (let a = may.within in omega (arith, a));
-      kind = may.kind l w;
-      line = ap (λ b. cond b (with_columns first last_columns (with_columns first nines l)) (with_columns first nines l)) (may.put l w)
-          ∙ may.again last_columns l last_wide w ∙ ap (λ d. with_columns first d l) own ∙ may.back l w;
-      open_end = may.put l w;
-    }
-ended first to may l last false is_line stands closes =
-    let shut : is_open first l ≡ false = may.read l ∙ no_open_end (columns first to l) last stands in
-    record {
-      is_line = is_line;
-      kind = refl;
-      line = ap (λ b. cond b (with_columns first last_columns l) l) shut;
-      open_end = shut;
-    }
-
--- ---- an AA
-
--- the line that is written, by its plain line
-pub record IsWrittenAssociation (l c : List ℕ) (no_end : Bool) : Type 0 where
-  pub is_line : IsLine c
-  pub named : kind_in c ≡ Some Aa
-  pub line : closed 22 c ≡ l
-  pub open_end : is_open 22 c ≡ no_end
-
-pub association_written : (l : List ℕ) (last : ℕ) (no_end : Bool) → IsLine l → kind_in l ≡ Some Aa → StandsInYymmdd (columns 22 27 l) last
-    → (no_end ≡ true → last ≡ last_day) → IsWrittenAssociation l (with_open_end no_end 22 l) no_end
-association_written l last no_end is_line named stands closes =
-    let e = ended 22 27 end_of_association l last no_end is_line stands closes in
-    record { is_line = e.is_line; named = e.kind ∙ named; line = e.line; open_end = e.open_end }
-
--- ---- a BS
-
-code_back : (allowed : HolidayCodes) (code : HolidayCode) → has_code allowed code ≡ true
-    → if_allowed allowed (code_in (letter code)) ≡ Some code
-code_back allowed X may = ap (λ b. cond b (Some X) None) may
-code_back allowed E may = ap (λ b. cond b (Some E) None) may
-code_back allowed G may = ap (λ b. cond b (Some G) None) may
-
-code_printable : (code : HolidayCode) → ArePrintable (letter code ∷ [])
-code_printable X = printable_fact (letter X ∷ []) refl
-code_printable E = printable_fact (letter E ∷ []) refl
-code_printable G = printable_fact (letter G ∷ []) refl
-
-pub record IsWrittenBasic (allowed : HolidayCodes) (l c : List ℕ) (no_end : Bool) (code : Option HolidayCode) : Type 0 where
-  pub is_line : IsLine c
-  pub named : kind_in c ≡ Some Bs
-  pub line : without_code (code_of allowed c) (closed 16 c) ≡ l
-  pub open_end : is_open 16 c ≡ no_end
-  pub told : code_of allowed c ≡ code
-
--- a code that is written into a line, whose end may be open
-module _ (allowed : HolidayCodes) (l m : List ℕ) (no_end : Bool) (e : IsEnded 16 l m no_end) (is_line : IsLine l)
-    (space : columns 29 29 l ≡ codes " ") where
-  wide : length m ≡ 80
-  wide = e.is_line.width
-
-  -- column 29 of the line with this end is that of the plain line
-  column : slice_index m 28 ≡ 32
-  unfolding with_columns
-  column =
-      at (is_open 16 m) ∙ ap (λ k. slice_index k 28) e.line ∙ decided (λ k. slice_index k 28) (λ k. slice_index (columns 29 29 k) 0) l
-      is_line.width refl ∙ ap (λ v. slice_index v 0) space
+  code_there : (code : Option HolidayCode) → ((k : HolidayCode) → code ≡ Some k → IsTrue (has_code allowed k)) → (l : List ℕ)
+      → StandsIn l (code_value code) → if_allowed allowed (code_in (slice_index l 0)) ≡ code
+  code_there None may l is = ap (λ (l : List ℕ). if_allowed allowed (code_in (slice_index l 0))) is
+  code_there (Some k) may l is =
+      ap (λ (l : List ℕ). if_allowed allowed (code_in (slice_index l 0))) is ∙ ap (if_allowed allowed) (named k)
+      ∙ ap (λ b. cond b (Some k) None) (may k refl)
     where
-      at : (b : Bool) → slice_index m 28 ≡ slice_index (cond b (with_columns 16 last_columns m) m) 28
-      at true = decided_date (λ d k. slice_index k 28) (λ d k. slice_index (with_columns 16 d k) 28) last_columns m last_wide wide refl
-      at false = refl
+      named : (k : HolidayCode) → code_in (letter k) ≡ Some k
+      named X = refl
+      named E = refl
+      named G = refl
 
-  -- and so where the code is written
-  code_written : (k : HolidayCode) → closed 16 (with_columns 29 (letter k ∷ []) m) ≡ with_columns 29 (letter k ∷ []) l
-  unfolding with_columns
-  code_written k =
-      ap (λ b. cond b (with_columns 16 last_columns (with_columns 29 (letter k ∷ []) m)) (with_columns 29 (letter k ∷ []) m))
-      (decided (λ x. is_open 16 (with_columns 29 (letter k ∷ []) x)) (is_open 16) m wide refl)
-      ∙ at (is_open 16 m) ∙ ap (with_columns 29 (letter k ∷ [])) e.line
-    where
-      at : (b : Bool) → cond b (with_columns 16 last_columns (with_columns 29 (letter k ∷ []) m)) (with_columns 29 (letter k ∷ []) m)
-          ≡ with_columns 29 (letter k ∷ []) (cond b (with_columns 16 last_columns m) m)
-      at true = decided_date (λ d x. with_columns 16 d (with_columns 29 (letter k ∷ []) x))
-          (λ d x. with_columns 29 (letter k ∷ []) (with_columns 16 d x)) last_columns m last_wide wide refl
-      at false = refl
+  pub basic_spelled : (b : Basic) (open_end : Bool) (code : Option HolidayCode)
+      → AllStandIn c (put_basic_rows New open_end code (terms_of b) b.detail) → IsClosedAt open_end b.last
+      → ((k : HolidayCode) → code ≡ Some k → IsTrue (has_code allowed k))
+      → SpellsInFeed Full allowed c (of.Basic b)
+      × (record_mark (transaction_at Full c) 16 (code_of allowed c) c ≡ new_mark open_end code c)
+  basic_spelled b open_end code s closed may =
+      let is : is_open 16 c ≡ open_end = opened (columns 16 21 c) open_end b.last s.1.1.1.1.0 in
+      let told : code_of allowed c ≡ code = code_there code may (columns 29 29 c) s.1.1.1.1.1.1.0 in (
+        subst (λ t. SpellsBasicBy allowed t c b) (sym (new_there s.1.0)) (
+          subst (λ k. AllStandIn c (put_basic_rows New (is_open 16 c) k (terms_of b) b.detail)) (sym told)
+              (subst (λ v. AllStandIn c (put_basic_rows New v code (terms_of b) b.detail)) (sym is) s),
+          subst (λ v. IsClosedAt v b.last) (sym is) closed,
+        ),
+        ap (λ t. record_mark t 16 (code_of allowed c) c) (new_there s.1.0) ∙ ap (λ v. new_mark v (code_of allowed c) c) is
+            ∙ ap (λ k. new_mark open_end k c) told,
+      )
 
-  code_out : (k : HolidayCode) → with_columns 29 (codes " ") (with_columns 29 (letter k ∷ []) l) ≡ l
-  unfolding with_columns
-  code_out k =
-      decided (λ x. with_columns 29 (codes " ") (with_columns 29 (letter k ∷ []) x)) (λ x. with_columns 29 (codes " ") x) l is_line.width
-      refl ∙ ap (λ v. with_columns 29 v l) (sym space) ∙ decided (λ x. with_columns 29 (columns 29 29 x) x) (λ x. x) l is_line.width refl
+-- ---- what is written
 
-  basic_with : (code : Option HolidayCode) → kind_in l ≡ Some Bs → ((k : HolidayCode) → code ≡ Some k → IsTrue (has_code allowed k))
-      → IsWrittenBasic allowed l (with_code code m) no_end code
-  unfolding with_columns
-  basic_with None named may =
-      let told : code_of allowed m ≡ None = ap (λ (n : ℕ). if_allowed allowed (code_in n)) column in
-      record {
-        is_line = e.is_line;
-        named = e.kind ∙ named;
-        line = ap (λ k. without_code k (closed 16 m)) told ∙ e.line;
-        open_end = e.open_end;
-        told = told;
-      }
-  basic_with (Some k) named may =
-      let c = with_columns 29 (letter k ∷ []) m in
-      let told : code_of allowed c ≡ Some k =
-      ap (λ (n : ℕ). if_allowed allowed (code_in n))
-      (decided (λ x. slice_index (with_columns 29 (letter k ∷ []) x) 28) (λ x. letter k) m wide refl) ∙ code_back allowed k (may k refl) in
-      record {
-        is_line = line_still 29 (letter k ∷ []) m e.is_line (code_printable k) (lit≤ tt) (lit≤ tt);
-        named = decided (λ x. kind_in (with_columns 29 (letter k ∷ []) x)) kind_in m wide refl ∙ e.kind ∙ named;
-        line = ap (λ o. without_code o (closed 16 c)) told ∙ ap (with_columns 29 (codes " ")) (code_written k) ∙ code_out k;
-        open_end = decided (λ x. is_open 16 (with_columns 29 (letter k ∷ []) x)) (is_open 16) m wide refl ∙ e.open_end;
-        told = told;
-      }
+module _ (allowed : HolidayCodes) where
+  -- the line spells the record, and its mark says this end and this code
+  pub record IsWritten (c : List ℕ) (r : Record) (m : RecordMark) (open_end : Bool) (code : Option HolidayCode) : Type 0 where
+    pub reads : IsReadAs allowed c r
+    pub mark : m ≡ new_mark open_end code c
 
-pub basic_written : (allowed : HolidayCodes) (l : List ℕ) (last : ℕ) (no_end : Bool) (code : Option HolidayCode) → IsLine l
-    → kind_in l ≡ Some Bs → StandsInYymmdd (columns 16 21 l) last → columns 29 29 l ≡ codes " " → (no_end ≡ true → last ≡ last_day)
-    → ((k : HolidayCode) → code ≡ Some k → IsTrue (has_code allowed k))
-    → IsWrittenBasic allowed l (with_code code (with_open_end no_end 16 l)) no_end code
-basic_written allowed l last no_end code is_line named stands space closes may =
-    basic_with allowed l (with_open_end no_end 16 l) no_end (ended 16 21 end_of_basic l last no_end is_line stands closes) is_line space
-    code named may
+  module _ (a : PublishedAssociation) (fits : AllFit (association_table a.association)) where
+    abbrev association : Association
+    association = a.association
+
+    abbrev association_rows : Bool → List Row
+    association_rows open_end = put_association_rows New open_end association
+
+    association_is : (open_end : Bool)
+        → with_open_end open_end 22 (plain_line (association_rows false)) ≡ plain_line (association_rows open_end)
+    association_is false = refl
+    association_is true = written (take 5 (association_rows false)) (row 22 27 (date association.last)) (drop 6 (association_rows false))
+        (exactly (codes "999999")) refl refl fits fits.1.1.1.1.1 nines_fit
+
+    association_fits : (open_end : Bool) → AllFit (association_rows open_end)
+    association_fits false = fits
+    association_fits true =
+        (fits.0, (fits.1.0, (fits.1.1.0, (fits.1.1.1.0, (fits.1.1.1.1.0, (nines_fit, fits.1.1.1.1.1.1))))))
+
+    pub association_written : IsWritten (published_association_line a) (of.Association association)
+        (record_mark (transaction_at Full (published_association_line a)) 22 None (published_association_line a)) a.open_end None
+    association_written =
+        let rows = association_rows a.open_end in
+        let fit = association_fits a.open_end in
+        let c = plain_line rows in
+        let (spells, told) = association_spelled allowed c association a.open_end (stands-plain_line rows refl fit) a.closed in
+        subst (λ l. IsWritten l (of.Association association) (record_mark (transaction_at Full l) 22 None l) a.open_end None)
+        (sym (association_is a.open_end))
+        (record { reads = record { is_line = line-plain_line rows refl fit; spells = spells }; mark = told })
+
+  module _ (s : PublishedSchedule) (fits : AllFit (rows_on s.schedule.first s.schedule.last s.schedule)) where
+    abbrev basic : Basic
+    basic = basic_of s.schedule
+
+    abbrev rows_with : Bool → Option HolidayCode → List Row
+    rows_with open_end code = put_basic_rows New open_end code (terms_of basic) basic.detail
+
+    end_is : (open_end : Bool) → with_open_end open_end 16 (plain_line (rows_with false None)) ≡ plain_line (rows_with open_end None)
+    end_is false = refl
+    end_is true = written (take 4 (rows_with false None)) (row 16 21 (date basic.last)) (drop 5 (rows_with false None))
+        (exactly (codes "999999")) refl refl fits fits.1.1.1.1 nines_fit
+
+    end_fits : (open_end : Bool) → AllFit (rows_with open_end None)
+    end_fits false = fits
+    end_fits true = (fits.0, (fits.1.0, (fits.1.1.0, (fits.1.1.1.0, (nines_fit, fits.1.1.1.1.1)))))
+
+    code_fit : (k : HolidayCode) → Fits 1 (code_value (Some k))
+    code_fit X = (refl, printable_fact (letter X ∷ []) refl)
+    code_fit E = (refl, printable_fact (letter E ∷ []) refl)
+    code_fit G = (refl, printable_fact (letter G ∷ []) refl)
+
+    basic_is : (open_end : Bool) (code : Option HolidayCode)
+        → with_code code (with_open_end open_end 16 (plain_line (rows_with false None))) ≡ plain_line (rows_with open_end code)
+    basic_is open_end None = end_is open_end
+    basic_is open_end (Some k) =
+        let fit = end_fits open_end in
+        ap (with_columns 29 (letter k ∷ [])) (end_is open_end)
+        ∙ written (take 6 (rows_with open_end None)) (row 29 29 (exactly (codes " "))) (drop 7 (rows_with open_end None))
+        (code_value (Some k)) refl refl fit fit.1.1.1.1.1.1 (code_fit k)
+
+    basic_fits : (open_end : Bool) (code : Option HolidayCode) → AllFit (rows_with open_end code)
+    basic_fits open_end None = end_fits open_end
+    basic_fits open_end (Some k) =
+        let fit = end_fits open_end in
+        (fit.0, (fit.1.0, (fit.1.1.0, (fit.1.1.1.0, (fit.1.1.1.1.0, (fit.1.1.1.1.1.0, (code_fit k, fit.1.1.1.1.1.1.1)))))))
+
+    pub basic_written : ((k : HolidayCode) → s.code ≡ Some k → IsTrue (has_code allowed k))
+        → IsWritten (published_basic_line s) (of.Basic basic)
+        (record_mark (transaction_at Full (published_basic_line s)) 16 (code_of allowed (published_basic_line s)) (published_basic_line s))
+        s.open_end s.code
+    basic_written may =
+        let rows = rows_with s.open_end s.code in
+        let fit = basic_fits s.open_end s.code in
+        let c = plain_line rows in
+        let (spells, told) =
+        basic_spelled allowed c basic s.open_end s.code (stands-plain_line rows refl fit) s.closed may in
+        subst (λ l. IsWritten l (of.Basic basic) (record_mark (transaction_at Full l) 16 (code_of allowed l) l) s.open_end s.code)
+        (sym (basic_is s.open_end s.code))
+        (record { reads = record { is_line = line-plain_line rows refl fit; spells = spells }; mark = told })

@@ -1,39 +1,26 @@
--- Lines of a kind with the records that their profile lines spell and their marks, and columns that stay the same in these.
-use Rattle.std.proofs.Common.{◌≡◌, ℕ, Bool, true, false, cond, not, ◌&&◌, List, [], ◌∷◌, ◌++◌, All, length, filter, map, Option, Some, None}
-use Rattle.std.proofs.Common.{◌==◌, refl, sym, ap, ◌∙◌, subst, codes, slice_index, unwrap_or, lit≤}
-use Rattle.std.proofs.lemmas.Bool.{eqb-true}
-use Rattle.std.proofs.lemmas.List.Elements.{All-head, All-tail}
-use Rattle.std.specs.Cmp.Lexicographic.{bytes_decides}
+-- The lines of a kind, with the records that they spell and their marks.
+use Rattle.std.proofs.Common.{◌≡◌, ℕ, Bool, true, false, cond, not, ◌&&◌, List, [], ◌∷◌, ◌++◌, filter, map, Option, Some, refl, sym, ap}
+use Rattle.std.proofs.Common.{None, ◌∙◌, length, subst, suc}
+use Rattle.std.proofs.Math.Bool.{and-false}
 use Rattle.std.specs.List.{enumerate_from, flat_map}
-use Rattle.cif_columns.specs.Field.{AllStandIn, Row, StandsIn, columns}
-use Rattle.cif_columns.specs.Line.{IsLine}
-use Rattle.cif_columns.specs.Stp.{letter, stp_in}
-use Rattle.cif_columns.specs.declared.stp.Stp.{Stp}
-use Rattle.cif_columns.specs.declared.stp.Stp.TheVariants.{P, N, O, C}
-use Rattle.cif_extract.specs.SpellsExtract.{SpellAll}
-use Rattle.cif_records.specs.Checks.{are}
+use Rattle.cif_extract.specs.ExtractParts.{ExtractParts}
+use Rattle.cif_extract.specs.SpellsExtract.{SpellAllBy, SpellExtractBy}
 use Rattle.cif_records.specs.Kind.{kind_in}
-use Rattle.cif_records.specs.Record.{SpellsRecord}
 use Rattle.cif_records.specs.declared.record.Kind.{Kind}
+use Rattle.cif_records.specs.declared.record.Kind.TheVariants.{Ti, Ta, Td}
 use Rattle.cif_records.specs.declared.record.Record.{Record}
+use Rattle.cif_feed.specs.FeedLine.{SpellsInFeed, mark_in}
 use Rattle.cif_feed.specs.FromLines.{ArePairs, AreTriples}
-use Rattle.cif_feed.specs.HolidayCode.{all_codes}
-use Rattle.cif_feed.specs.ProfileLine.{is_note, is_record_line, letter_of, marks, profile_line, with_columns}
-use Rattle.cif_feed.specs.SpellsFeed.{FeedParts, SpellFeed}
-use Rattle.cif_feed.specs.Transaction.{transaction_in}
+use Rattle.cif_feed.specs.LayoutRefusals.{kind_read_as}
+use Rattle.cif_feed.specs.RecordLines.{is_note, is_record_line, marks, record_lines}
 use Rattle.cif_feed.specs.UpdateLines.{lines_of}
-use Rattle.cif_feed.specs.declared.feed.Feed.TheVariants.{Update}
+use Rattle.cif_feed.specs.declared.feed.Feed.{Feed}
+use Rattle.cif_feed.specs.declared.feed.Feed.TheVariants.{Full, Update}
+use Rattle.cif_feed.specs.declared.holiday_code.HolidayCodes.{HolidayCodes}
 use Rattle.cif_feed.specs.declared.mark.LineMark.{LineMark}
-use Rattle.cif_feed.specs.declared.mark.Transaction.{Transaction}
-use Rattle.cif_feed.specs.declared.mark.Transaction.TheVariants.{New}
-use Rattle.cif_feed.proofs.Cells.{decided}
 use Rattle.cif_feed.proofs.ChangeLaws.{filter-alike, filter-filter}
 use Rattle.cif_feed.proofs.Enumerated.{enumerate_filter}
 use Rattle.cif_feed.proofs.FeedSteps.{named_line}
-use Rattle.cif_feed.proofs.MarkedRecords.{of_one, record_lines}
-use Rattle.cif_feed.proofs.PublishedLines.{line_still}
-use Rattle.cif_columns.proofs.PrintableBytes.{printable_fact}
-use Rattle.cif_columns.proofs.FieldLaws.{stp_in-letter}
 
 -- ---- three lists, element by element
 
@@ -53,117 +40,68 @@ said_pairs Q M S so (a ∷ xs) (b ∷ bs) (d ∷ ds) [] p q = absurd q
 said_pairs Q M S so [] [] [] (f ∷ fs) p q = absurd q
 said_pairs Q M S so _ _ _ fs p q = absurd p
 
--- ---- the lines of a kind, their records and their marks
+-- what follows of the second and the third
+pub triples-pairs : {A B D : Type 0} (Q : A → B → D → Type 0) (P : B → D → Type 0) → ((a : A) (b : B) (d : D) → Q a b d → P b d)
+    → (xs : List A) (bs : List B) (ds : List D) → AreTriples Q xs bs ds → ArePairs P bs ds
+triples-pairs Q P so [] [] [] p = tt
+triples-pairs Q P so (a ∷ xs) (b ∷ bs) (d ∷ ds) p = (so a b d p.0, triples-pairs Q P so xs bs ds p.1)
+triples-pairs Q P so _ _ _ p = absurd p
 
-module _ {A B : Type 0} (Q : ℕ × List ℕ → A → B → Type 0) where
-  pub no_line : (M : A → B → Type 0) (xs : List A) → ArePairs M xs [] → AreTriples Q [] xs []
-  no_line M [] p = tt
-  no_line M (x ∷ xs) p = absurd p
+pub triples-length : {A B D : Type 0} (Q : A → B → D → Type 0) (xs : List A) (bs : List B) (ds : List D) → AreTriples Q xs bs ds
+    → length ds ≡ length bs
+triples-length Q [] [] [] p = refl
+triples-length Q (a ∷ xs) (b ∷ bs) (d ∷ ds) p = ap suc (triples-length Q xs bs ds p.1)
+triples-length Q _ _ _ p = absurd p
 
-module _ {A B : Type 0} (is : Option Kind → Bool) (f : Record → List A) (of_mark : ℕ → LineMark → List B)
-    (Q : ℕ × List ℕ → A → B → Type 0)
-    (step : (n : ℕ) (c : List ℕ) → IsLine c → (r : Record) → SpellsRecord (profile_line Update all_codes c).line r
-    → AreTriples Q (cond (is (kind_in c)) ((n, c) ∷ []) []) (f r) (of_mark n (profile_line Update all_codes c).mark)) where
-  all_lines : (ns : List (ℕ × List ℕ)) → All IsLine (map (λ (n : ℕ × List ℕ). n.1) ns) → (rs : List Record)
-      → SpellAll (map (λ (content : List ℕ). (profile_line Update all_codes content).line) (map (λ (n : ℕ × List ℕ). n.1) ns)) rs
-      → AreTriples Q (filter (λ (line : ℕ × List ℕ). is (kind_in line.1)) ns) (flat_map f rs)
-      (flat_map (of_one Update all_codes of_mark) ns)
-  all_lines [] are [] spell = tt
-  all_lines (n ∷ ns) are (r ∷ rs) spell =
-      let others = map (λ (x : ℕ × List ℕ). x.1) ns in
-      let more = all_lines ns (All-tail IsLine n.1 others are) rs spell.1 in
-      at (is (kind_in n.1)) (triples-append Q (cond (is (kind_in n.1)) ((n.0, n.1) ∷ []) []) (f r) (of_one Update all_codes of_mark n)
-      (filter (λ (line : ℕ × List ℕ). is (kind_in line.1)) ns) (flat_map f rs) (flat_map (of_one Update all_codes of_mark) ns)
-      (step n.0 n.1 (All-head IsLine n.1 others are) r spell.0) more)
+-- ---- the lines of a kind
+
+-- a line is of a kind where it is read as one
+pub kept_kind : (is : Option Kind → Bool) → is (Some Ta) ≡ is (Some Ti) → is (Some Td) ≡ is (Some Ti) → (feed : Feed) (k : Option Kind)
+    → is k ≡ is (kind_read_as feed k)
+kept_kind is ta td Full k = refl
+kept_kind is ta td Update (Some Ta) = ta
+kept_kind is ta td Update (Some Td) = td
+kept_kind is ta td Update _ = refl
+
+module _ (feed : Feed) (allowed : HolidayCodes) {A B : Type 0} (is : Option Kind → Bool) (f : Record → List A)
+    (of_mark : ℕ → LineMark → List B) (Q : ℕ × List ℕ → A → B → Type 0)
+    (step : (n : ℕ) (c : List ℕ) (r : Record) → SpellsInFeed feed allowed c r
+    → AreTriples Q (cond (is (kind_in c)) ((n, c) ∷ []) []) (f r) (of_mark n (mark_in feed allowed c))) where
+  abbrev of_kind : ℕ × List ℕ → Bool
+  of_kind line = is (kind_in line.1)
+
+  abbrev marks_of : List (ℕ × List ℕ) → List B
+  marks_of ns = flat_map (λ (n : ℕ × List ℕ). of_mark n.0 (mark_in feed allowed n.1)) ns
+
+  all_lines : (ns : List (ℕ × List ℕ)) (rs : List Record) → SpellAllBy (SpellsInFeed feed allowed) (map (λ (n : ℕ × List ℕ). n.1) ns) rs
+      → AreTriples Q (filter of_kind ns) (flat_map f rs) (marks_of ns)
+  all_lines [] [] spell = tt
+  all_lines (n ∷ ns) (r ∷ rs) spell =
+      at (is (kind_in n.1)) (triples-append Q (cond (is (kind_in n.1)) ((n.0, n.1) ∷ []) []) (f r) (of_mark n.0 (mark_in feed allowed n.1))
+      (filter of_kind ns) (flat_map f rs) (marks_of ns) (step n.0 n.1 r spell.0) (all_lines ns rs spell.1))
     where
-      at : (b : Bool) → AreTriples Q (cond b (n ∷ []) [] ++ filter (λ (line : ℕ × List ℕ). is (kind_in line.1)) ns) (flat_map f (r ∷ rs))
-          (flat_map (of_one Update all_codes of_mark) (n ∷ ns))
-          → AreTriples Q (cond b (n ∷ filter (λ (line : ℕ × List ℕ). is (kind_in line.1)) ns)
-          (filter (λ (line : ℕ × List ℕ). is (kind_in line.1)) ns)) (flat_map f (r ∷ rs))
-          (flat_map (of_one Update all_codes of_mark) (n ∷ ns))
+      at : (b : Bool) → AreTriples Q (cond b (n ∷ []) [] ++ filter of_kind ns) (flat_map f (r ∷ rs)) (marks_of (n ∷ ns))
+          → AreTriples Q (cond b (n ∷ filter of_kind ns) (filter of_kind ns)) (flat_map f (r ∷ rs)) (marks_of (n ∷ ns))
       at true p = p
       at false p = p
-  all_lines _ are _ spell = absurd spell
+  all_lines _ _ spell = absurd spell
 
-  module _ (named : (kind : Option Kind) → is kind ≡ true → (k : Kind) × (kind ≡ Some k)) (cs : List (List ℕ)) (x : FeedParts)
-      (s : SpellFeed Update all_codes cs x) where
-    abbrev ns : List (ℕ × List ℕ)
-    ns = filter (λ (n : ℕ × List ℕ). is_record_line n.1) (enumerate_from 1 cs)
-
+  module _ (none : is None ≡ false) (cs : List (List ℕ)) (x : ExtractParts)
+      (s : SpellExtractBy (SpellsInFeed feed allowed) (record_lines cs) x) where
     -- a line of such a kind is no comment and no note
     kinds_speak : (n : ℕ × List ℕ) → (is_record_line n.1 && is (kind_in n.1)) ≡ is (kind_in n.1)
-    kinds_speak n = at (is (kind_in n.1)) refl
+    kinds_speak n = at (kind_in n.1) refl
       where
-        at : (b : Bool) → is (kind_in n.1) ≡ b → (is_record_line n.1 && b) ≡ b
-        at true e =
-            let (k, has) = named (kind_in n.1) e in
-            let (no_comment, no_note) = named_line n.1 k has in
-            ap (λ b. (not b && not (is_note n.1)) && true) no_comment ∙ ap (λ b. not b && true) no_note
-        at false e = at_false (is_record_line n.1)
-          where
-            at_false : (v : Bool) → (v && false) ≡ false
-            at_false true = refl
-            at_false false = refl
+        at : (k : Option Kind) → kind_in n.1 ≡ k → (is_record_line n.1 && is k) ≡ is k
+        at None e = ap (λ b. is_record_line n.1 && b) none ∙ and-false (is_record_line n.1) ∙ sym none
+        at (Some k) e =
+            let (no_comment, no_note) = named_line n.1 k e in
+            ap (λ b. (not b && not (is_note n.1)) && is (Some k)) no_comment ∙ ap (λ b. not b && is (Some k)) no_note
 
-    pub lines_spelled : AreTriples Q (lines_of is cs) (flat_map f s.extract.records) (marks of_mark Update all_codes cs)
+    pub lines_spelled : AreTriples Q (lines_of is cs) (flat_map f s.records) (marks of_mark feed allowed cs)
     lines_spelled =
-        let same = enumerate_filter is_record_line 1 cs in
-        subst (λ ls. AreTriples Q ls (flat_map f s.extract.records) (marks of_mark Update all_codes cs))
-        (filter-filter (λ (line : ℕ × List ℕ). is (kind_in line.1)) (λ (n : ℕ × List ℕ). is_record_line n.1) (enumerate_from 1 cs)
-        ∙ filter-alike _ (λ (line : ℕ × List ℕ). is (kind_in line.1)) kinds_speak (enumerate_from 1 cs))
-        (all_lines ns (subst (All IsLine) (sym same) (record_lines cs s.are_contents)) s.extract.records
-        (subst (λ l. SpellAll (map (λ (content : List ℕ). (profile_line Update all_codes content).line) l) s.extract.records) (sym same)
-        s.extract.spelled))
-
--- ---- columns that stay
-
--- the columns of rows
-abbrev pub cells_of : List Row → List ℕ → List (List ℕ)
-cells_of rows l = map (λ (r : Row). columns r.from r.to l) rows
-
--- where these are the same, the same stands there
-pub stand_same : (rows : List Row) (a b : List ℕ) → cells_of rows a ≡ cells_of rows b → AllStandIn a rows → AllStandIn b rows
-stand_same [] a b e s = tt
-stand_same (r ∷ rows) a b e s =
-    let head : columns r.from r.to a ≡ columns r.from r.to b = cc in
-    let tail : cells_of rows a ≡ cells_of rows b = cc in
-    (subst (λ cs. StandsIn cs r.value) head s.0, stand_same rows a b tail s.1)
-
-pub stp_back : (x : ℕ) (p : Stp) → stp_in x ≡ Some p → x ≡ letter p
-stp_back x p = at (x == 80) (x == 78) (x == 79) (x == 67) refl refl refl refl
-  where
-    at : (a b d f : Bool) → a ≡ (x == 80) → b ≡ (x == 78) → d ≡ (x == 79) → f ≡ (x == 67)
-        → cond a (Some P) (cond b (Some N) (cond d (Some O) (cond f (Some C) None))) ≡ Some p → x ≡ letter p
-    at true b d f ea eb ed ef e = let same : P ≡ p = cc in eqb-true x 80 (sym ea) ∙ ap letter same
-    at false true d f ea eb ed ef e = let same : N ≡ p = cc in eqb-true x 78 (sym eb) ∙ ap letter same
-    at false false true f ea eb ed ef e = let same : O ≡ p = cc in eqb-true x 79 (sym ed) ∙ ap letter same
-    at false false false true ea eb ed ef e = let same : C ≡ p = cc in eqb-true x 67 (sym ef) ∙ ap letter same
-    at false false false false ea eb ed ef e = absurd (cc)
-
-pub same_one : {A : Type 0} (x y : A) → x ∷ [] ≡ y ∷ [] → y ≡ x
-same_one x y e = let same : x ≡ y = cc in sym same
-
-module _ (c : List ℕ) (wide : length c ≡ 80) where
-  pub last_column : columns 80 80 c ≡ slice_index c 79 ∷ []
-  last_column = decided (columns 80 80) (λ k. slice_index k 79 ∷ []) c wide refl
-
-  pub letter_is : (stp : Stp) → columns 80 80 c ≡ letter stp ∷ [] → letter_of c ≡ stp
-  letter_is stp e =
-      let same = sym (same_one (slice_index c 79) (letter stp) (sym last_column ∙ e)) in
-      ap (λ (x : ℕ). unwrap_or (stp_in x) C) same ∙ ap (λ o. unwrap_or o C) (stp_in-letter stp)
-
-  third_column : columns 3 3 c ≡ slice_index c 2 ∷ []
-  third_column = decided (columns 3 3) (λ k. slice_index k 2 ∷ []) c wide refl
-
-  -- a line without a transaction has no `N`
-  pub no_new : transaction_in (slice_index c 2) ≡ None → columns 3 3 c ≡ codes "N" → ⊥
-  no_new e new =
-      let same = sym (same_one (slice_index c 2) 78 (sym third_column ∙ new)) in
-      let other : ◌≡◌ {A = Option Transaction} None (Some New) = sym e ∙ ap transaction_in same in cc
-
-pub new_wide : (c : List ℕ) → IsLine c → length (with_columns 3 (codes "N") c) ≡ 80
-new_wide c is_line = (line_still 3 (codes "N") c is_line (printable_fact (codes "N") refl) (lit≤ tt) (lit≤ tt)).width
-
--- an end that is open is `999999`
-pub open_columns : (columns : List ℕ) → are columns (codes "999999") ≡ true → columns ≡ codes "999999"
-open_columns columns e = (bytes_decides columns (codes "999999")).0 e
+        subst (λ ls. AreTriples Q ls (flat_map f s.records) (marks of_mark feed allowed cs))
+        (filter-filter of_kind (λ (n : ℕ × List ℕ). is_record_line n.1) (enumerate_from 1 cs)
+        ∙ filter-alike _ of_kind kinds_speak (enumerate_from 1 cs))
+        (all_lines (filter (λ (n : ℕ × List ℕ). is_record_line n.1) (enumerate_from 1 cs)) s.records
+        (subst (λ l. SpellAllBy (SpellsInFeed feed allowed) l s.records) (sym (enumerate_filter is_record_line 1 cs)) s.spelled))

@@ -80,7 +80,7 @@ pub one_published : (allowed : HolidayCodes) (cs : List (List ℕ)) (p q : Publi
     → SpellPublished allowed cs q
     → p ≡ q
 one_published allowed cs p q s t =
-    let same = one_feed Full allowed 0 cs s.lines t.lines s.spelled t.spelled in
+    let same = one_feed Full allowed 0 cs s.lines t.lines s.spelled.says t.spelled.says in
     one_said s.lines p q s.says (subst (λ l. SayPublished l q) (sym same) t.says)
 
 -- ---- what is read
@@ -97,7 +97,7 @@ module _ (allowed : HolidayCodes) (max : ℕ) where
         spell = record { lines = feed_parts lines; spelled = s.spell; says = says };
         within = s.within;
       };
-      passed = passed ∙ s.spell.passed;
+      passed = passed ∙ s.spell.says.passed;
     };
     whole = λ whole. tt;
   }

@@ -44,7 +44,7 @@ one_said lines p q s t =
 
 pub one_update : (cs : List (List ℕ)) (u v : UpdateParts) → SpellUpdate cs u → SpellUpdate cs v → u ≡ v
 one_update cs u v s t =
-    let same = one_feed feed.Update all_codes 0 cs s.lines t.lines s.spelled t.spelled in
+    let same = one_feed feed.Update all_codes 0 cs s.lines t.lines s.spelled.says t.spelled.says in
     one_said s.lines u v s.says (subst (λ l. SayUpdate l v) (sym same) t.says)
 
 -- ---- what is read
@@ -70,8 +70,8 @@ module _ (max : ℕ) (allowed : HolidayCodes) (each : allowed ≡ all_codes) whe
         };
         within = s.within;
       };
-      counts = counts ∙ s.spell.counts;
-      passed = passed ∙ s.spell.passed;
+      counts = counts ∙ s.spell.says.counts;
+      passed = passed ∙ s.spell.says.passed;
     };
     whole = λ whole. tt;
   }

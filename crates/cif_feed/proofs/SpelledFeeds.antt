@@ -1,8 +1,7 @@
 -- Bytes that spell a published extract, or an update, aren't refused, and spell no other.
-use Rattle.std.proofs.Common.{◌≡◌, ℕ, ◌<◌, ◌≤◌, Bool, true, false, cond, not, ◌&&◌, List, [], ◌∷◌, ◌++◌, length, filter, map, Some}
+use Rattle.std.proofs.Common.{◌≡◌, ◌≢◌, ℕ, ◌<◌, ◌≤◌, Bool, true, false, cond, not, ◌&&◌, List, [], ◌∷◌, ◌++◌, length, Some}
 use Rattle.std.proofs.Common.{None, refl, sym, ap, ◌∙◌, subst, arith, get_or, length-append, ⊎_elim}
-use Rattle.std.proofs.lemmas.List.{map-append}
-use Rattle.std.proofs.lemmas.List.Elements.{All-cons, All-head, All-nil, All-tail, filter-append}
+use Rattle.std.proofs.lemmas.List.Elements.{All-filter, All-weaker, filter-append}
 use Rattle.std.proofs.Math.Seq.{get_or-append_seam, take-append_seam}
 use Rattle.std.specs.Prelude.{All}
 use Rattle.cif_columns.specs.Comment.{is_comment}
@@ -11,17 +10,21 @@ use Rattle.cif_columns.specs.Line.{IsLine}
 use Rattle.cif_columns.specs.Source.{Unread}
 use Rattle.cif_columns.specs.declared.refusal.Refusal.TheVariants.{OutOfOrder}
 use Rattle.cif_extract.specs.ExtractParts.{ExtractParts}
-use Rattle.cif_extract.specs.SpellsExtract.{SpellExtract}
+use Rattle.cif_extract.specs.SpellsExtract.{SpellExtractBy}
 use Rattle.cif_extract.specs.Taken.{IsNoTrailer, refusal_behind}
 use Rattle.cif_extract.specs.declared.fault.Fault.TheVariants as fault
 use Rattle.cif_extract.proofs.OneExtract.{one_extract}
 use Rattle.cif_extract.proofs.SpelledLines.{spelled_behind, spelled_trailer}
 use Rattle.cif_records.specs.Checks.{unless}
+use Rattle.cif_records.specs.Kind.{kind_in}
+use Rattle.cif_records.specs.declared.record.Kind.TheVariants.{Zz}
 use Rattle.cif_records.proofs.Judging.{none-some}
 use Rattle.cif_feed.specs.FeedFault.{IsFailure, IsFeedFault}
-use Rattle.cif_feed.specs.ProfileLine.{is_note, notes_may_stand, profile_line, is_record_line, profile_lines}
+use Rattle.cif_feed.specs.FeedLayouts.{feed_layouts}
+use Rattle.cif_feed.specs.FeedLine.{SpellsInFeed}
+use Rattle.cif_feed.specs.RecordLines.{is_note, is_record_line, notes_may_stand, record_lines}
 use Rattle.cif_feed.specs.FeedRefusal.{IsFeedContent, IsFeedTruncated, IsFirstOfFeed, IsRefusedContent, line_refusal}
-use Rattle.cif_feed.specs.SpellsFeed.{BytesSpellFeed, FeedParts, SpellFeed}
+use Rattle.cif_feed.specs.SpellsFeed.{BytesSpellFeed, FeedParts, SayFeed, SpellFeed}
 use Rattle.cif_feed.specs.declared.feed.Feed.{Feed}
 use Rattle.cif_feed.specs.declared.feed.FeedFault.{FeedFault}
 use Rattle.cif_feed.specs.declared.feed.FeedFault.TheVariants.{Extract, NotUpdate, BadTransaction}
@@ -29,7 +32,8 @@ use Rattle.cif_feed.specs.declared.holiday_code.HolidayCodes.{HolidayCodes}
 use Rattle.cif_feed.specs.declared.counts.UpdateCounts.{UpdateCounts}
 use Rattle.cif_feed.specs.declared.feed_reading.Passed.{Passed}
 use Rattle.cif_feed.proofs.FeedRuns.{comment_fine, line_why}
-use Rattle.cif_feed.proofs.ProfileKinds.{profile_no_trailer}
+use Rattle.cif_feed.proofs.FeedLines.{feed_are}
+use Rattle.cif_feed.proofs.RecordsTaken.{read_back}
 
 -- parts that are the same, one by one
 same_parts : (a b : FeedParts) → a.extract ≡ b.extract → a.header_line ≡ b.header_line → a.tiploc_marks ≡ b.tiploc_marks
@@ -42,41 +46,28 @@ same_parts a b e h t aa s n c =
     ∙ ap (λ (v : UpdateCounts). record b { counts = v; passed = a.passed }) n ∙ ap (λ (v : Passed). record b { passed = v }) c
 
 module _ (feed : Feed) (allowed : HolidayCodes) (max : ℕ) where
-  -- contents spell one at most
-  pub one_feed : (cs : List (List ℕ)) (x y : FeedParts) → SpellFeed feed allowed cs x → SpellFeed feed allowed cs y → x ≡ y
+  -- contents say one at most
+  pub one_feed : (cs : List (List ℕ)) (x y : FeedParts) → SayFeed feed allowed cs x → SayFeed feed allowed cs y → x ≡ y
   one_feed cs x y p q =
-      same_parts x y (one_extract (profile_lines feed allowed cs) x.extract y.extract p.extract q.extract)
+      same_parts x y
+      (one_extract (feed_layouts feed allowed) (feed_are feed allowed) (record_lines cs) x.extract y.extract p.extract q.extract)
       (p.header_line ∙ sym q.header_line) (p.tiploc_marks ∙ sym q.tiploc_marks)
       (p.association_marks ∙ sym q.association_marks) (p.schedule_marks ∙ sym q.schedule_marks)
       (p.counts ∙ sym q.counts) (p.passed ∙ sym q.passed)
 
-  -- the profile lines before and after one that says something
-  profile_parts : (before : List (List ℕ)) (c : List ℕ) (after : List (List ℕ)) → is_record_line c ≡ true
-      → profile_lines feed allowed (before ++ c ∷ after) ≡ profile_lines feed allowed before ++ (profile_line feed allowed c).line
-      ∷ profile_lines feed allowed after
-  profile_parts before c after is =
-      ap (map (λ (content : List ℕ). (profile_line feed allowed content).line)) (filter-append is_record_line before (c ∷ after)
-      ∙ ap (λ b. filter is_record_line before ++ cond b (c ∷ filter is_record_line after) (filter is_record_line after)) is)
-      ∙ map-append _ (filter is_record_line before) (c ∷ filter is_record_line after)
+  -- the lines of records before and after one
+  parts : (before : List (List ℕ)) (c : List ℕ) (after : List (List ℕ)) → is_record_line c ≡ true
+      → record_lines (before ++ c ∷ after) ≡ record_lines before ++ c ∷ record_lines after
+  parts before c after is =
+      filter-append is_record_line before (c ∷ after)
+      ∙ ap (λ b. record_lines before ++ cond b (c ∷ record_lines after) (record_lines after)) is
 
-  -- none of the profile lines is a trailer, where none of the contents is
-  profile_no_trailers : (cs : List (List ℕ)) → All IsFeedContent cs → All IsNoTrailer cs → All IsNoTrailer (profile_lines feed allowed cs)
-  profile_no_trailers [] are all = All-nil IsNoTrailer
-  profile_no_trailers (c ∷ cs) are all =
-      at (is_comment c) (is_note c) refl (All-head IsFeedContent c cs are) (All-head IsNoTrailer c cs all)
-      (profile_no_trailers cs (All-tail IsFeedContent c cs are) (All-tail IsNoTrailer c cs all))
-    where
-      at : (b n : Bool) → b ≡ is_comment c → IsFeedContent c → IsNoTrailer c → All IsNoTrailer (profile_lines feed allowed cs)
-          → All IsNoTrailer (map (λ (content : List ℕ). (profile_line feed allowed content).line)
-          (cond (not b && not n) (c ∷ filter is_record_line cs) (filter is_record_line cs)))
-      at true n e is none more = more
-      at false true e is none more = more
-      at false false e is none more =
-          All-cons IsNoTrailer (profile_line feed allowed c).line (profile_lines feed allowed cs)
-          (profile_no_trailer feed allowed c (long is) none) more
-        where
-          long : IsFeedContent c → 2 ≤ length c
-          long = ⊎_elim (λ (l : IsLine c). let w = l.width in omega (arith, w)) (λ comment. absurd (cc))
+  -- none of them is read as a trailer, where none of the contents is one
+  no_trailers : (cs : List (List ℕ)) → All (λ c. kind_in c ≢ Some Zz) cs → All (IsNoTrailer (feed_layouts feed allowed)) (record_lines cs)
+  no_trailers cs all =
+      All-filter is_record_line (IsNoTrailer (feed_layouts feed allowed)) cs
+      (All-weaker (λ c. kind_in c ≢ Some Zz) (IsNoTrailer (feed_layouts feed allowed))
+      (λ c other is. other (read_back feed (kind_in c) Zz (λ e. cc) is)) cs all)
 
   module _ (cs : List (List ℕ)) (x : FeedParts) (within : length cs ≤ max) where
     -- none of the contents is refused
@@ -113,22 +104,23 @@ module _ (feed : Feed) (allowed : HolidayCodes) (max : ℕ) where
                 let why = refused (sym eb) in
                 let stands : line_refusal feed allowed r.before r.content ≡ None =
                 ap (λ b. cond b (unless (notes_may_stand r.before) OutOfOrder)
-                (refusal_behind (profile_lines feed allowed r.before) (profile_line feed allowed r.content).line)) (sym en)
+                (refusal_behind (feed_layouts feed allowed) (record_lines r.before) r.content)) (sym en)
                 ∙ ap (λ b. unless b OutOfOrder) may in
                 none-some _ r.why stands why
             by false false eb en =
                 let says : is_record_line r.content ≡ true = ap (λ b. not b && not (is_note r.content)) (sym eb) ∙ ap not (sym en) in
-                let fine = spelled_behind (profile_lines feed allowed r.before) (profile_line feed allowed r.content).line
-                (profile_lines feed allowed r.after) x.extract
-                (subst (λ ls. SpellExtract ls x.extract) (profile_parts r.before r.content r.after says) s.extract) in
+                let fine = spelled_behind (feed_layouts feed allowed) (feed_are feed allowed) (record_lines r.before) r.content
+                (record_lines r.after) x.extract (subst (λ ls. SpellExtractBy (SpellsInFeed feed allowed) ls x.extract)
+                (parts r.before r.content r.after says) s.says.extract) in
                 none-some _ r.why (ap (λ b. cond b (unless (notes_may_stand r.before) OutOfOrder)
-                (refusal_behind (profile_lines feed allowed r.before) (profile_line feed allowed r.content).line)) (sym en) ∙ fine)
+                (refusal_behind (feed_layouts feed allowed) (record_lines r.before) r.content)) (sym en) ∙ fine)
                 (refused (sym eb))
 
     -- and one is a trailer
     spelled_whole : (f : FeedFault) → SpellFeed feed allowed cs x → IsFeedTruncated feed allowed max cs f → ⊥
     spelled_whole f s t =
-        spelled_trailer (profile_lines feed allowed cs) x.extract s.extract (profile_no_trailers cs s.are_contents t.no_trailer)
+        spelled_trailer (feed_layouts feed allowed) (feed_are feed allowed) (record_lines cs) x.extract s.says.extract
+        (no_trailers cs t.no_trailer)
 
     pub spelled_first : (f : FeedFault) → SpellFeed feed allowed cs x → IsFirstOfFeed feed allowed max cs f → ⊥
     spelled_first f s = ⊎_elim (spelled_refused f s) (spelled_whole f s)

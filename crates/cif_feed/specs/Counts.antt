@@ -3,7 +3,7 @@ use Rattle.std.specs.Prelude.{ℕ, Bool, true, false, not, ◌&&◌, List, Optio
 use Rattle.cif_records.specs.Kind.{kind_in}
 use Rattle.cif_records.specs.declared.record.Kind.{Kind}
 use Rattle.cif_records.specs.declared.record.Kind.TheVariants.{Ti, Ta, Td, Aa, Bs}
-use Rattle.cif_feed.specs.ProfileLine.{is_open}
+use Rattle.cif_feed.specs.FeedLine.{is_open}
 use Rattle.cif_feed.specs.Transaction.{transaction_in}
 use Rattle.cif_feed.specs.declared.counts.UpdateCounts.{UpdateCounts}
 use Rattle.cif_feed.specs.declared.mark.Transaction.{Transaction}

@@ -16,7 +16,8 @@ use Rattle.cif_records.specs.Checks.{first_of, unless}
 use Rattle.cif_records.specs.Kind.{kind_in}
 use Rattle.cif_records.specs.declared.record.Kind.{Kind}
 use Rattle.cif_records.specs.declared.record.Kind.TheVariants.{Hd, Zz}
-use Rattle.cif_feed.specs.ProfileLine.{is_note, notes_may_stand, profile_line, profile_lines}
+use Rattle.cif_feed.specs.FeedLayouts.{feed_layouts}
+use Rattle.cif_feed.specs.RecordLines.{is_note, notes_may_stand, record_lines}
 use Rattle.cif_feed.specs.declared.feed.Feed.{Feed}
 use Rattle.cif_feed.specs.declared.feed.Feed.TheVariants.{Full, Update}
 use Rattle.cif_feed.specs.declared.feed.FeedFault.{FeedFault}
@@ -27,12 +28,11 @@ use Rattle.cif_feed.specs.declared.holiday_code.HolidayCodes.{HolidayCodes}
 abbrev pub IsFeedContent : List ℕ → Type 0
 IsFeedContent content = IsLine content ⊎ (is_comment content ≡ true)
 
--- The first reason to refuse a line that comes after these contents: a note where none may stand, or that of its profile line behind
--- theirs.
+-- The first reason to refuse a line that comes after these contents: a note where none may stand, or that of a record behind theirs.
 abbrev pub line_refusal : Feed → HolidayCodes → List (List ℕ) → List ℕ → Option Refusal
 line_refusal feed allowed before line =
     if is_note line then unless (notes_may_stand before) OutOfOrder
-    else refusal_behind (profile_lines feed allowed before) (profile_line feed allowed line).line
+    else refusal_behind (feed_layouts feed allowed) (record_lines before) line
 
 -- The first reason to refuse a content that comes after these, where max may come: it is one too many; or it is no comment, and isn't
 -- eighty bytes, or one of them may stand in no line, or it is refused as a line.

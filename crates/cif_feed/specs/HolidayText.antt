@@ -1,6 +1,6 @@
 -- The text of holidays, line by line, and the first line that is refused.
 use Rattle.std.specs.Prelude.{◌≡◌, ◌⊎◌, ◌↔◌, ℕ, ◌+◌, ◌<◌, ◌≤◌, ◌≢◌, ◌==◌, Bool, List, [], ◌∷◌, ◌++◌, length, All, Contains}
-use Rattle.std.specs.Prelude.{Option, Some, Result, Ok, Err, IsSomeAnd, slice_get, drop, true, false}
+use Rattle.std.specs.Prelude.{Some, Result, Ok, Err, IsSomeAnd, slice_get, drop, true, false}
 use Rattle.std.specs.List.{before_first}
 use Rattle.cif_columns.specs.Contents.{contents_of}
 use Rattle.cif_columns.specs.Day.{StandsInYymmdd}

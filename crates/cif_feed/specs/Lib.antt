@@ -3,6 +3,8 @@ pub mod Counts
 pub mod CutCount
 pub mod Dropped
 pub mod FeedFault
+pub mod FeedLayouts
+pub mod FeedLine
 pub mod FeedRefusal
 pub mod FeedTexts
 pub mod FromLines
@@ -23,10 +25,10 @@ pub mod PreparedRecord
 pub mod Published
 pub mod Reasons
 pub mod RecordKeys
+pub mod RecordLines
 pub mod Sequence
 pub mod SpellsFeed
 pub mod Steps
-pub mod ProfileLine
 pub mod Transaction
 pub mod UpdateLines
 pub mod UpdateParts

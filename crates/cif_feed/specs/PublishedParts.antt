@@ -1,5 +1,6 @@
 -- What a published extract holds, when bytes spell it, and its text.
-use Rattle.std.specs.Prelude.{◌≡◌, ℕ, ◌≤◌, List, [], ◌∷◌, ◌++◌, map, length, codes, Bool, if◌then◌else◌, Option, Some, None}
+use Rattle.std.specs.Prelude.{◌≡◌, ℕ, ◌+◌, ◌-◌, ◌≤◌, List, [], ◌∷◌, ◌++◌, map, length, take, drop, codes, Bool, if◌then◌else◌}
+use Rattle.std.specs.Prelude.{Option, Some, None}
 use Rattle.std.specs.List.{flat_map}
 use Rattle.cif_columns.specs.Contents.{contents_of, lines_text}
 use Rattle.cif_columns.specs.Field.{plain_line}
@@ -20,7 +21,6 @@ use Rattle.cif_records.specs.declared.tiploc.Tiploc.{Tiploc}
 use Rattle.cif_feed.specs.FeedFault.{IsFeedFault, IsOfFeed, is_feed_read}
 use Rattle.cif_feed.specs.FromLines.{AreTriples}
 use Rattle.cif_feed.specs.HolidayCode.{letter}
-use Rattle.cif_feed.specs.ProfileLine.{with_columns}
 use Rattle.cif_feed.specs.Published.{PublishedTerms}
 use Rattle.cif_feed.specs.SpellsFeed.{FeedParts, SpellFeed, passed_of}
 use Rattle.cif_feed.specs.declared.feed.Feed.TheVariants.{Full}
@@ -95,6 +95,10 @@ abbrev pub published_schedules : List PublishedSchedule → List (List ℕ × Pu
 published_schedules schedules = map (λ (s : PublishedSchedule). (s.schedule.uid, published_schedule_terms s)) schedules
 
 -- ---- its text
+
+-- the line with these columns, from the one of this number on, in place of its own
+unfoldable pub with_columns : ℕ → List ℕ → List ℕ → List ℕ
+with_columns first columns line = take (first - 1) line ++ (columns ++ drop (first - 1 + length columns) line)
 
 -- the line, with an open end in the six columns from the one of this number on
 abbrev pub with_open_end : Bool → ℕ → List ℕ → List ℕ

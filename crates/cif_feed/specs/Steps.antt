@@ -2,6 +2,7 @@
 pub mod Changes
 pub mod Counts
 pub mod Dropping
+pub mod FeedLine
 pub mod FeedReading
 pub mod HolidayReading
 pub mod Judging

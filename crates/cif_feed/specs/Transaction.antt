@@ -7,3 +7,9 @@ use Rattle.cif_feed.specs.declared.mark.Transaction.TheVariants.{New, Revised, D
 abbrev pub transaction_in : ℕ → Option Transaction
 transaction_in column =
     if column == 78 then Some New else (if column == 82 then Some Revised else (if column == 68 then Some Deleted else None))
+
+-- its letter
+abbrev pub transaction_letter : Transaction → ℕ
+transaction_letter New = 78
+transaction_letter Revised = 82
+transaction_letter Deleted = 68

@@ -5,7 +5,7 @@ ghost use Rattle.cif_feed.specs.Counts.{counts_of, ends_open, is_deleted, is_new
 ghost use Rattle.cif_feed.specs.Steps.Counts.{HaveRoom, plus_if, with_line};
 
 use crate::Transaction;
-use crate::profile_line::has_open_end;
+use crate::feed_line::has_open_end;
 use cif_columns::Line;
 use cif_records::Kind;
 

@@ -5,29 +5,31 @@ ghost use Rattle.cif_columns.specs.Comment.{is_comment};
 ghost use Rattle.cif_columns.specs.Line.{IsLine};
 ghost use Rattle.cif_columns.specs.declared.line_reader.TheConstants.{MAX_LINES};
 ghost use Rattle.cif_extract.specs.ReadCall.{IsResultOf};
-ghost use Rattle.cif_extract.specs.Steps.Reading.{GoesOnPlainly, progress_of};
+ghost use Rattle.cif_extract.specs.Steps.Reading.{GoesOnPlainly, UnlessMemory, progress_of};
 ghost use Rattle.cif_extract.specs.Taken.{IsNoTrailer};
 ghost use Rattle.cif_feed.specs.FeedRefusal.{not_full, untaken_fault};
-ghost use Rattle.cif_feed.specs.ProfileLine.{is_basic, is_trailer, profile_lines};
+ghost use Rattle.cif_feed.specs.FeedLayouts.{feed_layouts};
+ghost use Rattle.cif_feed.specs.RecordLines.{is_basic, is_note, is_trailer, record_lines};
 ghost use Rattle.cif_feed.specs.FeedFault.{reading_feed};
-ghost use Rattle.cif_feed.specs.SpellsFeed.{feed_parts};
-ghost use Rattle.cif_feed.specs.Steps.FeedReading.{HasTakenFeed, IsFeedHeld, IsFeedTaken, IsMarked, IsNoteTaken};
+ghost use Rattle.cif_feed.specs.SpellsFeed.{SayFeed, feed_parts};
+ghost use Rattle.cif_feed.specs.Steps.FeedReading.{HasTakenFeed, IsFeedTaken, IsMarked, IsNoteTaken};
 ghost use Rattle.cif_feed.specs.Steps.Counts.{HaveRoom};
-ghost use Rattle.cif_feed.specs.Steps.FeedReading.{IsStopTaken, UnlessMemory, header_behind};
+ghost use Rattle.cif_feed.specs.Steps.FeedReading.{IsStopTaken, header_behind};
 ghost use Rattle.cif_feed.specs.Steps.Marked.{HasMarks};
 ghost use Rattle.cif_feed.specs.declared.feed.Feed.{Feed};
 ghost use Rattle.cif_feed.specs.declared.holiday_code.HolidayCodes.{HolidayCodes};
 ghost use Rattle.cif_records.specs.Kind.{kind_in};
 
+use crate::feed_line::mark_of;
 use crate::mark::{LineMark, Numbered, RecordMark, TiplocMark};
-use crate::profile_line::{ProfileLine, is_note};
+use crate::record_taking::take_record;
 use crate::{Feed, FeedFault, HolidayCodes, UpdateCounts};
-use cif_columns::{Content, LINE_WIDTH, Line, LineReader, ReadDevice, Refusal, Source};
+use cif_columns::{Content, LINE_WIDTH, Line, LineReader, ReadDevice, Refusal, Source, columns_at};
 use cif_extract::{Extract, Fault, Reading, TakeFault};
 use cif_records::{Kind, kind_of};
 use std::alloc::Global;
 
-/// What the lines of a feed say: the extract of its profile lines, and what these leave out.
+/// What the lines of a feed say: the extract of its records, and what they say beyond these.
 #[derive(Drop)]
 pub(crate) struct FeedExtract {
     pub(crate) extract: Extract,
@@ -174,14 +176,13 @@ impl FeedReading {
             return self.take_note();
         }
         let kind = kind_of(line);
-        let profile = ProfileLine::of(feed, allowed, kind, line);
-        match self.reading.take_line(alloc, &profile.line) {
+        match take_record(alloc, &mut self.reading, feed, allowed, kind, line) {
             Ok(()) => {
                 self.header_line = header_behind(self.header_line, kind, number);
                 self.counts.add(kind, line);
                 self.has_basic |= is_basic(kind);
                 self.has_trailer |= is_trailer(kind);
-                self.push_mark(number, profile.mark)
+                self.push_mark(number, mark_of(feed, allowed, kind, line))
             }
             Err(fault) => Err(fault),
         }
@@ -199,7 +200,7 @@ impl FeedReading {
         Ok(())
     }
 
-    /// Appends what the line of this number leaves out.
+    /// Appends what the line of this number says beyond its record.
     fn push_mark(&mut self, number: u64, mark: LineMark) -> Result<(), TakeFault>
         ensures { UnlessMemory (IsMarked self.old number mark self.new) result }
     {
@@ -228,12 +229,13 @@ impl FeedReading {
     fn finish(self, lines: u64) -> Result<FeedExtract, FeedFault>
         requires { lines < 2 ^ 32 }
         ensures held { (feed : Feed) (allowed : HolidayCodes) (contents : List (List ℕ))
-            → HasTakenFeed feed allowed contents self → IfOk result (IsFeedHeld feed allowed contents) }
+            → HasTakenFeed feed allowed contents self
+            → IfOk result (λ x. SayFeed feed allowed contents (feed_parts x)) }
         ensures truncated { IfErr result (λ fault.
             fault ≡ FeedFault.Extract (Fault.Refused (lines + 1) Refusal.Truncated)) }
         ensures unfinished { (feed : Feed) (allowed : HolidayCodes) (contents : List (List ℕ))
             → HasTakenFeed feed allowed contents self
-            → IfErr result (λ _. All IsNoTrailer (profile_lines feed allowed contents)) }
+            → IfErr result (λ _. All (IsNoTrailer (feed_layouts feed allowed)) (record_lines contents)) }
     {
         let FeedReading {
             reading,
@@ -297,6 +299,14 @@ fn header_behind(so_far: u64, kind: Option<Kind>, number: u64) -> u64
         Some(Kind::Hd) if so_far == 0 => number,
         _ => so_far,
     }
+}
+
+/// Whether a line is a note, on a train or on a location (the CIF End User Specification).
+fn is_note(line: &Line) -> bool
+    ensures note { result ≡ is_note line.now }
+    ensures line { IsLine line.now }
+{
+    columns_at(line, 1) == *b"TN" || columns_at(line, 1) == *b"LN"
 }
 
 /// Whether the kind is that of a BS.

@@ -7,7 +7,7 @@ use std::alloc::{AllocError, Global};
 
 /// What is made of a record and the mark of its line.
 pub(crate) trait FromLine {
-    /// The record of the profile line.
+    /// The record of the line.
     type Record: Drop;
 
     ghost use Rattle.cif_feed.specs.declared.mark.Numbered.{Numbered};

@@ -192,7 +192,7 @@ impl Order {
         ensures memory { IfErr result (λ fault. fault ≡ Fault.Memory) }
     {
         match self {
-            Order::Reading(reading) => match reading.take_line(alloc, line) {
+            Order::Reading(reading) => match reading.take(alloc, line) {
                 Ok(()) => Ok(()),
                 Err(TakeFault::Refused(_)) => {
                     *self = Order::OutOfOrder { line: number };

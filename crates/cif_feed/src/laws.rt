@@ -11,6 +11,7 @@ ghost use Rattle.cif_feed.specs.UpdateParts.{IsUpdateOf};
 ghost use Rattle.cif_feed.specs.WrittenPrepared.{AreDroppedIf, IsDeviceOrMemory, IsPrepareFault, IsPreparedText};
 ghost use Rattle.cif_feed.specs.WrittenPrepared.{codes_named};
 ghost use Rattle.cif_feed.specs.declared.dropped.Dropped.{Dropped};
+ghost use Rattle.cif_feed.specs.declared.feed.Feed.{Feed};
 ghost use Rattle.cif_feed.specs.declared.feed.Feed.TheVariants.{Full};
 ghost use Rattle.cif_feed.specs.declared.feed.Feed.TheVariants as feed;
 ghost use Rattle.cif_feed.specs.declared.holiday_text.HolidayFault.{HolidayFault};
@@ -48,14 +49,11 @@ ghost use Rattle.cif_feed.specs.UpdateParts.{BytesSpellUpdate};
 ghost use Rattle.cif_feed.specs.Updated.{IsUpdateFault, IsUpdated, MayBeDone};
 ghost use Rattle.cif_feed.specs.Updated.{published_association_key, published_schedule_key};
 ghost use Rattle.cif_feed.specs.UpdatesInTurn.{IsRefused, IsWritten};
-ghost use Rattle.cif_columns.specs.Line.{IsLine};
-ghost use Rattle.cif_extract.specs.OrderOfRecords.{place_behind};
+ghost use Rattle.cif_feed.specs.FeedLine.{SpellsInFeed};
 ghost use Rattle.cif_records.specs.Kind.{kind_in};
-ghost use Rattle.cif_records.specs.Record.{record_refusal};
-ghost use Rattle.cif_feed.specs.FeedRefusal.{line_refusal};
-ghost use Rattle.cif_feed.specs.LayoutRefusals.{feed_refusal_as, refusal_at};
-ghost use Rattle.cif_feed.specs.ProfileLine.{is_basic, is_note, profile_line, profile_lines};
-ghost use Rattle.cif_feed.specs.declared.feed.Feed.{Feed};
+ghost use Rattle.cif_records.specs.declared.record.Record.{Record};
+ghost use Rattle.cif_feed.specs.LayoutRefusals.{feed_refusal_as};
+ghost use Rattle.cif_feed.specs.RecordLines.{is_basic};
 ghost use Rattle.cif_feed.specs.WrittenExtracts.{CodesMayStand};
 ghost use Rattle.cif_feed.specs.declared.changes.RefusedLine.{RefusedLine};
 ghost use Rattle.cif_feed.specs.declared.feed.FeedFault.{FeedFault};
@@ -154,15 +152,14 @@ pub fn updates_say_what_their_lines_say()
         → ArePairs SaysSchedule (lines_of is_basic (contents_of bytes)) u.schedules }
     // Two deletions of associations that agree in columns 3 to 21, 38 to 46 and 80 are the same,
     ensures same_association { (one other : ℕ × List ℕ) (c d : Change AssociationKey PublishedAssociation)
-        → IsLine one.1 → IsLine other.1 → SaysAssociation one c → SaysAssociation other d
-        → transaction_of c.action ≡ transaction.Deleted → columns 3 21 one.1 ≡ columns 3 21 other.1
-        → columns 38 46 one.1 ≡ columns 38 46 other.1 → columns 80 80 one.1 ≡ columns 80 80 other.1
-        → c.action ≡ d.action }
+        → SaysAssociation one c → SaysAssociation other d → transaction_of c.action ≡ transaction.Deleted
+        → columns 3 21 one.1 ≡ columns 3 21 other.1 → columns 38 46 one.1 ≡ columns 38 46 other.1
+        → columns 80 80 one.1 ≡ columns 80 80 other.1 → c.action ≡ d.action }
     // and two of schedules that agree in columns 3 to 15 and 80.
     ensures same_schedule { (one other : ℕ × List ℕ) (c d : Change ScheduleKey PublishedSchedule)
-        → IsLine one.1 → IsLine other.1 → SaysSchedule one c → SaysSchedule other d
-        → transaction_of c.action ≡ transaction.Deleted → columns 3 15 one.1 ≡ columns 3 15 other.1
-        → columns 80 80 one.1 ≡ columns 80 80 other.1 → c.action ≡ d.action }
+        → SaysSchedule one c → SaysSchedule other d → transaction_of c.action ≡ transaction.Deleted
+        → columns 3 15 one.1 ≡ columns 3 15 other.1 → columns 80 80 one.1 ≡ columns 80 80 other.1
+        → c.action ≡ d.action }
 {}
 
 /// What an update leaves of each key: what the last of its lines with this key puts, or what was there. A line
@@ -253,13 +250,10 @@ pub fn prepared_texts_spell_extracts()
         → FitsColumns (of_profile p) → IsPrepared h drops p x → BytesSpell (extract_text x) x }
 {}
 
-/// A line of a feed is refused for the first of its fields that may not stand in its columns, as the layouts
-/// have them: that its profile line is judged in its place changes nothing.
-pub fn lines_are_refused_by_their_layouts()
-    ensures record { (feed : Feed) (allowed : HolidayCodes) (line : List ℕ) → IsLine line
-        → record_refusal (profile_line feed allowed line).line ≡ feed_refusal_as feed allowed (kind_in line) line }
-    // Before that it is refused where its kind may not stand. A note is refused for its place alone.
-    ensures place { (feed : Feed) (allowed : HolidayCodes) (before : List (List ℕ)) (line : List ℕ) → IsLine line
-        → is_note line ≡ false → line_refusal feed allowed before line
-        ≡ refusal_at feed allowed (place_behind (profile_lines feed allowed before)) line }
+/// A line of a feed spells one record at most, and then there is no reason to refuse it.
+pub fn lines_of_feeds_spell_one_record()
+    ensures one { (feed : Feed) (allowed : HolidayCodes) (line : List ℕ) (r q : Record)
+        → SpellsInFeed feed allowed line r → SpellsInFeed feed allowed line q → r ≡ q }
+    ensures fine { (feed : Feed) (allowed : HolidayCodes) (line : List ℕ) (r : Record)
+        → SpellsInFeed feed allowed line r → feed_refusal_as feed allowed (kind_in line) line ≡ None }
 {}

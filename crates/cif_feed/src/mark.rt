@@ -1,4 +1,4 @@
-//! What a line of a feed says beyond its profile line.
+//! What a line of a feed says beyond its record.
 ghost use Rattle.std.specs.Prelude.{◌≡◌, IfSome, Some};
 ghost use Rattle.cif_feed.specs.Transaction.{transaction_in};
 
@@ -30,29 +30,29 @@ impl Transaction {
     }
 }
 
-/// What a TI, a TA or a TD says beyond its profile line.
+/// What a TI, a TA or a TD says beyond its record.
 #[derive(Clone, Copy, Debug, PartialEq, Eq)]
 pub(crate) struct TiplocMark {
     /// New for TI, Revised for TA, Deleted for TD.
     pub(crate) transaction: Transaction,
-    /// Columns 3 to 9: the TIPLOC. The profile line of a TA has its new TIPLOC there, if it has one.
+    /// Columns 3 to 9: the TIPLOC. The record of a TA has its new TIPLOC, if it has one.
     pub(crate) tiploc: [u8; 7],
 }
 
-/// What an AA or a BS says beyond its profile line.
+/// What an AA or a BS says beyond its record.
 #[derive(Clone, Copy, Debug, PartialEq, Eq)]
 pub(crate) struct RecordMark {
-    /// Column 3: the transaction. The profile line has `N`.
+    /// Column 3: the transaction.
     pub(crate) transaction: Transaction,
-    /// Column 80: the letter. The profile line of a deleted BS has `C`, so that no journey has to follow.
+    /// Column 80: the letter. The record of a deletion has `C`, so that no journey has to follow.
     pub(crate) letter: Stp,
-    /// Whether the last date is `999999`. The profile line has the last day there is.
+    /// Whether the last date is `999999`. The record has the last day there is.
     pub(crate) open_end: bool,
-    /// Column 29 of a BS: the holiday code, where one may stand. The profile line has a space.
+    /// Column 29 of a BS: the holiday code, where one may stand.
     pub(crate) code: Option<HolidayCode>,
 }
 
-/// What a line says beyond its profile line, by its kind.
+/// What a line says beyond its record, by its kind.
 #[derive(Clone, Copy, Debug, PartialEq, Eq)]
 pub(crate) enum LineMark {
     Nothing,
@@ -61,7 +61,7 @@ pub(crate) enum LineMark {
     Schedule(RecordMark),
 }
 
-/// What the line of this number says beyond its profile line.
+/// What the line of this number says beyond its record.
 #[derive(Clone, Copy, Debug, PartialEq, Eq)]
 pub(crate) struct Numbered<M> {
     pub(crate) number: u64,

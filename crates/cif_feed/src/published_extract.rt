@@ -1,15 +1,15 @@
 //! Published extracts: reading and writing them.
-ghost use Rattle.std.specs.Prelude.{◌≡◌, ◌≤◌, IfOk};
+ghost use Rattle.std.specs.Prelude.{◌≡◌, ◌≤◌, ◌+◌, IfOk};
+ghost use Rattle.cif_columns.specs.Line.{ArePrintable};
 ghost use Rattle.cif_columns.specs.declared.line_reader.TheConstants.{MAX_LINES};
 ghost use Rattle.cif_extract.specs.ReadCall.{IsResultOf};
-ghost use Rattle.cif_feed.specs.PublishedParts.{with_code, with_open_end};
+ghost use Rattle.cif_feed.specs.PublishedParts.{with_code, with_columns, with_open_end};
 ghost use Rattle.cif_feed.specs.SpellsFeed.{feed_parts};
 ghost use Rattle.cif_feed.specs.Steps.Marked.{HasMarks};
 
 use crate::feed_reading::{FeedExtract, read_feed};
 use crate::from_lines::{FromLine, from_lines};
 use crate::mark::{Numbered, RecordMark};
-use crate::profile_line::with_columns;
 use crate::written::{Written, write_records, write_schedule};
 use crate::{
     Feed, FeedFault, HolidayCode, HolidayCodes, Passed, PublishedAssociation, PublishedSchedule,
@@ -162,6 +162,18 @@ fn with_code(code: Option<HolidayCode>, line: &Line) -> Line
         Some(code) => with_columns(line, 29, &[code.write()]),
         None => *line,
     }
+}
+
+/// The line with these columns, from `first` on, in place of its own.
+fn with_columns<const N: usize>(line: &Line, first: usize, columns: &[u8; N]) -> Line
+    requires from_one { 1 ≤ first }
+    requires within { first + N ≤ 81 }
+    requires printable { ArePrintable columns.now }
+    ensures { result ≡ with_columns first columns.now line.now }
+{
+    let mut bytes = *line.bytes();
+    bytes[first - 1..first - 1 + N].copy_from_slice(columns);
+    Line::of_printable(&bytes)
 }
 
 impl Written for PublishedAssociation {

@@ -2,18 +2,18 @@
 use Rattle.std.proofs.Common.{◌≡◌, ◌≤◌, ℕ, Bool, List, Option, Some, None, is_some, refl, sym, ap, ◌∙◌, codes}
 use Rattle.std.proofs.Props.{props}
 use mathlib.Core.HLevel.{Σ_prop_path}
-use Rattle.cif_columns.specs.Field.{StandsIn, columns, date, indicator, text, weekdays}
+use Rattle.cif_columns.specs.Field.{AllStandIn, FieldValue, StandsIn, columns, date, indicator, weekdays}
 use Rattle.cif_columns.specs.declared.stp.Stp.{Stp}
 use Rattle.cif_columns.proofs.FieldLaws.{one_date_value, one_indicator, one_text_value, one_weekdays, stp_in-letter}
 use Rattle.cif_columns.proofs.Masks.{days_of-stands}
-use Rattle.cif_records.specs.Association.{association_refusal, SpellsAssociation, SpellsBody}
+use Rattle.cif_records.specs.Association.{SpellsAssociation, SpellsBody, SpellsKey, association_refusal, association_rows_by}
 use Rattle.cif_records.specs.Bodies.{has_body}
 use Rattle.cif_records.specs.declared.association.AssocBody.{AssocBody}
 use Rattle.cif_records.specs.declared.association.AssocKey.{AssocKey}
 use Rattle.cif_records.specs.declared.association.Association.{Association}
 use Rattle.cif_records.proofs.Judging.{dates_fine}
 
-same_body : (line : List ℕ) (a b : Option AssocBody) → is_some a ≡ is_some b → SpellsBody line a → SpellsBody line b → a ≡ b
+pub same_body : (line : List ℕ) (a b : Option AssocBody) → is_some a ≡ is_some b → SpellsBody line a → SpellsBody line b → a ≡ b
 same_body line None None e p q = refl
 same_body line None (Some y) e p q = cc
 same_body line (Some x) None e p q = cc
@@ -27,9 +27,14 @@ same_body line (Some x) (Some y) e p q =
     (y.category, y.date_indicator, y.diagram, y.kind) = cc in
     ap (λ v. Some (record { category = v.0; date_indicator = v.1; diagram = v.2; kind = v.3 })) parts
 
-same_key : (x y : AssocKey) → x.base ≡ y.base → x.associated ≡ y.associated → x.location ≡ y.location
-    → x.base_suffix ≡ y.base_suffix → x.associated_suffix ≡ y.associated_suffix → x ≡ y
-same_key x y a b c d e =
+-- one key stands in a line
+pub one_key : (line : List ℕ) (x y : AssocKey) → SpellsKey line x → SpellsKey line y → x ≡ y
+one_key line x y p q =
+    let a : x.base ≡ y.base = sym p.base ∙ q.base in
+    let b : x.associated ≡ y.associated = sym p.associated ∙ q.associated in
+    let c = one_text_value _ x.location y.location p.location q.location in
+    let d = one_text_value _ x.base_suffix y.base_suffix p.base_suffix q.base_suffix in
+    let e = one_text_value _ x.associated_suffix y.associated_suffix p.associated_suffix q.associated_suffix in
     let parts : ◌≡◌ {A = List ℕ × List ℕ × List ℕ × List ℕ × List ℕ}
     (x.base, x.associated, x.location, x.base_suffix, x.associated_suffix)
     (y.base, y.associated, y.location, y.base_suffix, y.associated_suffix) = cc in
@@ -57,32 +62,32 @@ same_association r q a b c d e f =
     }) parts
 
 -- what the table of an association says of a line, by the names of the fields
-pub record Parts (line : List ℕ) (r : Association) : Type 0 where
+pub record Parts (line t : List ℕ) (k : AssocKey) (f : ℕ) (l d : FieldValue) (stp : Stp) (b : Option AssocBody) : Type 0 where
   pub identity : columns 1 2 line ≡ codes "AA"
-  pub transaction : columns 3 3 line ≡ codes "N"
-  pub base : columns 4 9 line ≡ r.key.base
-  pub associated : columns 10 15 line ≡ r.key.associated
-  pub first : StandsIn (columns 16 21 line) (date r.first)
-  pub last : StandsIn (columns 22 27 line) (date r.last)
-  pub days : StandsIn (columns 28 34 line) (weekdays r.days)
-  pub location : StandsIn (columns 38 44 line) (text r.key.location)
-  pub base_suffix : StandsIn (columns 45 45 line) (text r.key.base_suffix)
-  pub associated_suffix : StandsIn (columns 46 46 line) (text r.key.associated_suffix)
-  pub letter : StandsIn (columns 80 80 line) (indicator r.letter)
-  pub body : SpellsBody line r.body
+  pub transaction : columns 3 3 line ≡ t
+  pub key : SpellsKey line k
+  pub first : StandsIn (columns 16 21 line) (date f)
+  pub last : StandsIn (columns 22 27 line) l
+  pub days : StandsIn (columns 28 34 line) d
+  pub letter : StandsIn (columns 80 80 line) (indicator stp)
+  pub body : SpellsBody line b
 
-pub parts_of : (line : List ℕ) (r : Association) → SpellsAssociation line r → Parts line r
-parts_of line r p = record {
+pub parts_by : (line transaction : List ℕ) (key : AssocKey) (first : ℕ) (last days : FieldValue) (letter : Stp) (body : Option AssocBody)
+    → AllStandIn line (association_rows_by transaction key first last days letter body)
+    → Parts line transaction key first last days letter body
+parts_by line transaction key first last days letter body p = record {
   identity = p.0;
   transaction = p.1.0;
-  base = p.1.1.0;
-  associated = p.1.1.1.0;
+  key = record {
+    base = p.1.1.0;
+    associated = p.1.1.1.0;
+    location = p.1.1.1.1.1.1.1.1.1.0;
+    base_suffix = p.1.1.1.1.1.1.1.1.1.1.0;
+    associated_suffix = p.1.1.1.1.1.1.1.1.1.1.1.0;
+  };
   first = p.1.1.1.1.0;
   last = p.1.1.1.1.1.0;
   days = p.1.1.1.1.1.1.0;
-  location = p.1.1.1.1.1.1.1.1.1.0;
-  base_suffix = p.1.1.1.1.1.1.1.1.1.1.0;
-  associated_suffix = p.1.1.1.1.1.1.1.1.1.1.1.0;
   letter = p.1.1.1.1.1.1.1.1.1.1.1.1.1.1.1.0;
   body = record {
     category = p.1.1.1.1.1.1.1.0;
@@ -92,18 +97,29 @@ parts_of line r p = record {
   };
 }
 
+abbrev OwnParts : List ℕ → Association → Type 0
+OwnParts line r = Parts line (codes "N") r.key r.first (date r.last) (weekdays r.days) r.letter r.body
+
+parts_of : (line : List ℕ) (r : Association) → SpellsAssociation line r → OwnParts line r
+parts_of line r p = parts_by line (codes "N") r.key r.first (date r.last) (weekdays r.days) r.letter r.body p
+
+-- two associations with these parts are one, if their last dates and their days are
+pub one_association_by : (line transaction : List ℕ) (r q : Association) (last other days mask : FieldValue)
+    → Parts line transaction r.key r.first last days r.letter r.body → Parts line transaction q.key q.first other mask q.letter q.body
+    → r.last ≡ q.last → r.days ≡ q.days → r ≡ q
+one_association_by line transaction r q last other days mask a b same_last same_days =
+    let same_letter = one_indicator _ r.letter q.letter a.letter b.letter in
+    let bodied : is_some r.body ≡ is_some q.body = r.bodied ∙ ap has_body same_letter ∙ sym q.bodied in
+    same_association r q (one_key line r.key q.key a.key b.key) (one_date_value _ _ _ a.first b.first) same_last same_days same_letter
+    (same_body line r.body q.body bodied a.body b.body)
+
 -- two associations that a line spells are one
 pub one_association : (line : List ℕ) (r q : Association) → SpellsAssociation line r → SpellsAssociation line q → r ≡ q
 one_association line r q m n =
     let a = parts_of line r m in
     let b = parts_of line q n in
-    let key = same_key r.key q.key (sym a.base ∙ b.base) (sym a.associated ∙ b.associated)
-    (one_text_value _ _ _ a.location b.location) (one_text_value _ _ _ a.base_suffix b.base_suffix)
-    (one_text_value _ _ _ a.associated_suffix b.associated_suffix) in
-    let same_letter = one_indicator _ r.letter q.letter a.letter b.letter in
-    let bodied : is_some r.body ≡ is_some q.body = r.bodied ∙ ap has_body same_letter ∙ sym q.bodied in
-    same_association r q key (one_date_value _ _ _ a.first b.first) (one_date_value _ _ _ a.last b.last)
-    (one_weekdays _ _ _ a.days b.days) same_letter (same_body line r.body q.body bodied a.body b.body)
+    one_association_by line (codes "N") r q (date r.last) (date q.last) (weekdays r.days) (weekdays q.days) a b
+    (one_date_value _ _ _ a.last b.last) (one_weekdays _ _ _ a.days b.days)
 
 -- there is no reason to refuse a line that spells an association
 pub no_refusal : (line : List ℕ) (r : Association) → SpellsAssociation line r → association_refusal line ≡ None

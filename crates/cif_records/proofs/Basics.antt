@@ -1,13 +1,13 @@
 -- A line spells at most one basic schedule, and there is no reason to refuse a line that spells one.
-use Rattle.std.proofs.Common.{◌≡◌, ◌≤◌, ℕ, Bool, List, Option, Some, None, is_some, true, false, ◌++◌, refl, sym, ap, ◌∙◌}
+use Rattle.std.proofs.Common.{◌≡◌, ◌≤◌, ℕ, Bool, List, Option, Some, None, is_some, true, false, ◌++◌, codes, refl, sym, ap, ◌∙◌}
 use Rattle.std.proofs.Props.{props}
 use mathlib.Core.HLevel.{Σ_prop_path}
-use Rattle.cif_columns.specs.Field.{AllStandIn}
+use Rattle.cif_columns.specs.Field.{AllStandIn, FieldValue, Row, date, exactly, weekdays}
 use Rattle.cif_columns.specs.declared.stp.Stp.{Stp}
 use Rattle.cif_columns.proofs.FieldLaws.{one_date_value, one_exactly, one_indicator, one_weekdays, stp_in-letter}
 use Rattle.cif_columns.proofs.Masks.{days_of-stands}
 use Rattle.cif_columns.proofs.Parts.{stands-back, stands-front}
-use Rattle.cif_records.specs.Basic.{basic_back, basic_front, basic_refusal, SpellsBasic}
+use Rattle.cif_records.specs.Basic.{SpellsBasic, basic_back, basic_front, basic_front_by, basic_refusal}
 use Rattle.cif_records.specs.Bodies.{has_body}
 use Rattle.cif_records.specs.Detail.{detail_in, detail_rows}
 use Rattle.cif_records.specs.declared.basic.Basic.{Basic}
@@ -26,7 +26,7 @@ same_detail line (Some x) (Some y) e p q = ap Some (one_detail line x y p q)
 abbrev Facts : List ℕ × ℕ × ℕ × List Bool × Stp × Option Detail → Type 0
 Facts v = (v.1 ≤ v.2) × (is_some v.5 ≡ has_body v.4)
 
-same_basic : (r q : Basic) → r.uid ≡ q.uid → r.first ≡ q.first → r.last ≡ q.last → r.days ≡ q.days → r.letter ≡ q.letter →
+pub same_basic : (r q : Basic) → r.uid ≡ q.uid → r.first ≡ q.first → r.last ≡ q.last → r.days ≡ q.days → r.letter ≡ q.letter →
     r.detail ≡ q.detail → r ≡ q
 same_basic r q a b c d e f =
     let parts : ◌≡◌ {A = (v : List ℕ × ℕ × ℕ × List Bool × Stp × Option Detail) × Facts v}
@@ -44,29 +44,41 @@ same_basic r q a b c d e f =
     }) parts
 
 -- the three parts of a line that spells a schedule
-pub record Parts (line : List ℕ) (r : Basic) : Type 0 where
-  pub front : AllStandIn line (basic_front r.uid r.first r.last r.days)
-  pub detail : AllStandIn line (detail_rows r.detail)
-  pub back : AllStandIn line (basic_back r.letter)
+pub record Parts (line : List ℕ) (rows : List Row) (d : Option Detail) (stp : Stp) : Type 0 where
+  pub front : AllStandIn line rows
+  pub detail : AllStandIn line (detail_rows d)
+  pub back : AllStandIn line (basic_back stp)
 
-pub parts_of : (line : List ℕ) (r : Basic) → SpellsBasic line r → Parts line r
-parts_of line r p =
-    let behind = stands-back line (basic_front r.uid r.first r.last r.days) (detail_rows r.detail ++ basic_back r.letter) p in
+pub parts_by : (line : List ℕ) (rows : List Row) (d : Option Detail) (stp : Stp)
+    → AllStandIn line (rows ++ (detail_rows d ++ basic_back stp)) → Parts line rows d stp
+parts_by line rows d stp p =
+    let behind = stands-back line rows (detail_rows d ++ basic_back stp) p in
     record {
-      front = stands-front line (basic_front r.uid r.first r.last r.days) (detail_rows r.detail ++ basic_back r.letter) p;
-      detail = stands-front line (detail_rows r.detail) (basic_back r.letter) behind;
-      back = stands-back line (detail_rows r.detail) (basic_back r.letter) behind;
+      front = stands-front line rows (detail_rows d ++ basic_back stp) p;
+      detail = stands-front line (detail_rows d) (basic_back stp) behind;
+      back = stands-back line (detail_rows d) (basic_back stp) behind;
     }
+
+pub parts_of : (line : List ℕ) (r : Basic) → SpellsBasic line r → Parts line (basic_front r.uid r.first r.last r.days) r.detail r.letter
+parts_of line r p = parts_by line (basic_front r.uid r.first r.last r.days) r.detail r.letter p
+
+-- two schedules with these parts are one, if their last dates and their days are
+pub one_basic_by : (line t : List ℕ) (r q : Basic) (last other days mask holiday : FieldValue)
+    → Parts line (basic_front_by t r.uid r.first last days holiday) r.detail r.letter
+    → Parts line (basic_front_by t q.uid q.first other mask holiday) q.detail q.letter
+    → r.last ≡ q.last → r.days ≡ q.days → r ≡ q
+one_basic_by line t r q last other days mask holiday a b same_last same_days =
+    let same_letter = one_indicator _ r.letter q.letter a.back.1.0 b.back.1.0 in
+    let bodied : is_some r.detail ≡ is_some q.detail = r.bodied ∙ ap has_body same_letter ∙ sym q.bodied in
+    same_basic r q (one_exactly _ _ _ a.front.1.1.0 b.front.1.1.0) (one_date_value _ _ _ a.front.1.1.1.0 b.front.1.1.1.0) same_last
+    same_days same_letter (same_detail line r.detail q.detail bodied a.detail b.detail)
 
 pub one_basic : (line : List ℕ) (r q : Basic) → SpellsBasic line r → SpellsBasic line q → r ≡ q
 one_basic line r q m n =
     let a = parts_of line r m in
     let b = parts_of line q n in
-    let same_letter = one_indicator _ r.letter q.letter a.back.1.0 b.back.1.0 in
-    let bodied : is_some r.detail ≡ is_some q.detail = r.bodied ∙ ap has_body same_letter ∙ sym q.bodied in
-    same_basic r q (one_exactly _ _ _ a.front.1.1.0 b.front.1.1.0) (one_date_value _ _ _ a.front.1.1.1.0 b.front.1.1.1.0)
+    one_basic_by line (codes "N") r q (date r.last) (date q.last) (weekdays r.days) (weekdays q.days) (exactly (codes " ")) a b
     (one_date_value _ _ _ a.front.1.1.1.1.0 b.front.1.1.1.1.0) (one_weekdays _ _ _ a.front.1.1.1.1.1.0 b.front.1.1.1.1.1.0)
-    same_letter (same_detail line r.detail q.detail bodied a.detail b.detail)
 
 pub no_refusal : (line : List ℕ) (r : Basic) → SpellsBasic line r → basic_refusal line ≡ None
 unfolding basic_refusal
@@ -83,9 +95,12 @@ no_refusal line r m =
     )
 
 -- the detail of a schedule with a body is the one that stands in its line, and another schedule has none
+pub detail_read : (line : List ℕ) (r : Basic) → AllStandIn line (detail_rows r.detail) → has_body r.letter ≡ true
+    → r.detail ≡ Some (detail_in line)
+detail_read line r stands has = same_detail line r.detail (Some (detail_in line)) (r.bodied ∙ has) stands (detail_stands line)
+
 pub detail_there : (line : List ℕ) (r : Basic) → SpellsBasic line r → has_body r.letter ≡ true → r.detail ≡ Some (detail_in line)
-detail_there line r m has =
-    same_detail line r.detail (Some (detail_in line)) (r.bodied ∙ has) (parts_of line r m).detail (detail_stands line)
+detail_there line r m has = detail_read line r (parts_of line r m).detail has
 
 pub no_detail_there : (r : Basic) → has_body r.letter ≡ false → r.detail ≡ None
 no_detail_there r lacks = none r.detail (r.bodied ∙ lacks)

@@ -20,6 +20,7 @@ use Rattle.cif_columns.proofs.Texts.{is_text_of}
 use Rattle.cif_records.specs.Basic.{basic_back, basic_front, SpellsTerms}
 use Rattle.cif_records.specs.Bodies.{has_body}
 use Rattle.cif_records.specs.Detail.{alone_in, detail_in, detail_rows, detail_table}
+use Rattle.cif_records.specs.declared.basic.Basic.{Basic}
 use Rattle.cif_records.specs.declared.basic.BasicTerms.{BasicTerms}
 use Rattle.cif_records.specs.declared.detail.Detail.{Detail}
 use Rattle.cif_records.proofs.Rows.{◌&◌}
@@ -146,32 +147,42 @@ abbrev pub detail_by : Stp → List ℕ → Option Detail
 detail_by C line = None
 detail_by _ line = Some (detail_in line)
 
-bodied_by : (letter : Stp) (line : List ℕ) → is_some (detail_by letter line) ≡ has_body letter
+pub bodied_by : (letter : Stp) (line : List ℕ) → is_some (detail_by letter line) ≡ has_body letter
 bodied_by C line = refl
 bodied_by _ line = refl
 
 pub no_detail : (line : List ℕ) → AllStandIn line (detail_rows None)
 no_detail line = (tt, (tt, (tt, (tt, (tt, (tt, (tt, (tt, (tt, (tt, (tt, (tt, (tt, (tt, (tt, (tt, (tt, tt)))))))))))))))))
 
-stands_by : (letter : Stp) (line : List ℕ) → AllStandIn line (detail_rows (detail_by letter line))
+pub stands_by : (letter : Stp) (line : List ℕ) → AllStandIn line (detail_rows (detail_by letter line))
 stands_by C line = no_detail line
 stands_by _ line = detail_stands line
+
+-- the basic schedule with these terms whose detail stands in a line
+abbrev pub basic_with : BasicTerms → List ℕ → Basic
+basic_with t line = record {
+  uid = t.uid;
+  first = t.first;
+  last = t.last;
+  days = t.days;
+  letter = t.letter;
+  detail = detail_by t.letter line;
+  in_order = t.in_order;
+  bodied = bodied_by t.letter line;
+}
+
+-- its rows stand in the line, if those before its detail and behind it do
+pub stands_with : (line : List ℕ) (t : BasicTerms) (front : List Row) → AllStandIn line front → AllStandIn line (basic_back t.letter)
+    → AllStandIn line (front ++ (detail_rows (detail_by t.letter line) ++ basic_back t.letter))
+stands_with line t rows front back =
+    stands-append line rows (detail_rows (detail_by t.letter line) ++ basic_back t.letter) front
+    (stands-append line (detail_rows (detail_by t.letter line)) (basic_back t.letter) (stands_by t.letter line) back)
 
 -- a line with these terms spells a basic schedule with them
 pub terms_spell : (line : List ℕ) (t : BasicTerms) → AllStandIn line (basic_front t.uid t.first t.last t.days)
     → AllStandIn line (basic_back t.letter) → SpellsTerms line t
 terms_spell line t front back = record {
-  basic = record {
-    uid = t.uid;
-    first = t.first;
-    last = t.last;
-    days = t.days;
-    letter = t.letter;
-    detail = detail_by t.letter line;
-    in_order = t.in_order;
-    bodied = bodied_by t.letter line;
-  };
-  spells = stands-append line (basic_front t.uid t.first t.last t.days) (detail_rows (detail_by t.letter line) ++ basic_back t.letter)
-      front (stands-append line (detail_rows (detail_by t.letter line)) (basic_back t.letter) (stands_by t.letter line) back);
+  basic = basic_with t line;
+  spells = stands_with line t (basic_front t.uid t.first t.last t.days) front back;
   terms = refl;
 }

@@ -1,20 +1,23 @@
 -- What stands in a header's columns; a line spells at most one header, and there is no reason to refuse a line that spells one.
-use Rattle.std.proofs.Common.{◌≡◌, ◌+◌, ◌≤◌, ℕ, nat_le, true, List, ◌++◌, length, Option, Some, None, refl, sym, ap, ◌∙◌, codes, arith}
-use Rattle.std.proofs.Common.{take, drop, subst, length-take, length-drop, append_assoc, take-append-drop}
+use Rattle.std.proofs.Common.{◌≡◌, ◌+◌, ◌<◌, ◌≤◌, ℕ, nat_le, true, List, ◌++◌, length, Option, Some, None, refl, sym, ap, ◌∙◌, codes, arith}
+use Rattle.std.proofs.Common.{take, drop, set, subst, lit≤, length-take, length-drop, append_assoc, take-append-drop}
+use Rattle.std.proofs.Math.ListN.{length-set}
 use Rattle.std.proofs.Props.{props}
+use Rattle.std.specs.Cmp.Lexicographic.{bytes_decides}
 use Rattle.std.proofs.lemmas.Bool.Decides.{nat_tests}
-use Rattle.std.proofs.lemmas.List.{drop-drop, drop-take, take-take, take_all}
+use Rattle.std.proofs.lemmas.List.{drop-drop, drop-set, drop-set-lt, drop-take, take-set-le, take-take, take_all}
 use Rattle.std.proofs.lemmas.List.Elements.{All-take, All-drop}
 use mathlib.Core.HLevel.{Σ_prop_path}
 use Rattle.cif_columns.specs.Day.{IsDay, ddmmyy_in}
 use Rattle.cif_columns.specs.DayDigits.{ddmmyy_of}
-use Rattle.cif_columns.specs.Field.{AllFit, columns}
+use Rattle.cif_columns.specs.Field.{AllFit, AllStandIn, columns}
 use Rattle.cif_columns.specs.Line.{IsPrintable, ArePrintable}
 use Rattle.cif_columns.proofs.DayColumns.{stands-ddmmyy_in}
 use Rattle.cif_columns.proofs.DayDigits.{ddmmyy_of-stands, is_day-ddmmyy}
 use Rattle.cif_columns.proofs.PrintableBytes.{printable_fact}
 use Rattle.cif_records.specs.HeaderColumns.{IsFull, kept, with_window}
-use Rattle.cif_records.specs.Header.{header_refusal, header_table, SpellsHeader}
+use Rattle.cif_records.specs.Checks.{are}
+use Rattle.cif_records.specs.Header.{header_refusal_by, header_rows_by, header_table}
 use Rattle.cif_records.specs.declared.header.Header.{Header}
 use Rattle.cif_records.proofs.Rows.{◌&◌}
 
@@ -26,21 +29,22 @@ part_of_kept a n m line e =
     ∙ ap (λ (xs : List ℕ). take n (take (n + m) xs)) (drop-drop a 2 line)
     ∙ take-take n (n + m) (drop (2 + a) line) (omega arith)
 
-module _ (line : List ℕ) where
-  pub kept-3 : kept 3 46 (columns 3 60 line) ≡ columns 3 46 line
-  kept-3 = part_of_kept 0 44 14 line refl
+-- and so are those with the update indicator of a full extract
+module _ (line : List ℕ) (wide : length (columns 3 60 line) ≡ 58) where
+  abbrev pub full_columns : List ℕ
+  full_columns = set (columns 3 60 line) 44 70
 
-  pub kept-47 : kept 47 47 (columns 3 60 line) ≡ columns 47 47 line
-  kept-47 = part_of_kept 44 1 13 line refl
+  pub full-wide : length full_columns ≡ 58
+  full-wide = length-set (columns 3 60 line) 44 70 ∙ wide
 
-  pub kept-48 : kept 48 48 (columns 3 60 line) ≡ columns 48 48 line
-  kept-48 = part_of_kept 45 1 12 line refl
+  pub full-before : kept 3 46 full_columns ≡ columns 3 46 line
+  full-before = take-set-le 44 (columns 3 60 line) 44 70 (lit≤ tt) ∙ part_of_kept 0 44 14 line refl
 
-  pub kept-49 : kept 49 54 (columns 3 60 line) ≡ columns 49 54 line
-  kept-49 = part_of_kept 46 6 6 line refl
+  pub full-there : kept 47 47 full_columns ≡ codes "F"
+  full-there = ap (take 1) (drop-set (columns 3 60 line) 44 70 (omega (arith, wide)))
 
-  pub kept-55 : kept 55 60 (columns 3 60 line) ≡ columns 55 60 line
-  kept-55 = part_of_kept 52 6 0 line refl
+  pub full-behind : (a n m : ℕ) → 44 < a → a + (n + m) ≡ 58 → take n (drop a full_columns) ≡ take n (drop (2 + a) line)
+  full-behind a n m later e = ap (take n) (drop-set-lt a (columns 3 60 line) 44 70 later) ∙ part_of_kept a n m line e
 
 -- fifty-eight columns are their parts
 cut : (a n : ℕ) (c : List ℕ) → drop a c ≡ take n (drop a c) ++ drop (a + n) c
@@ -154,23 +158,28 @@ same_header h k e =
       in_order = v.1.5;
     }) parts
 
--- two headers that a line spells are one
-pub one_header : (line : List ℕ) (h k : Header) → SpellsHeader line h → SpellsHeader line k → h ≡ k
-one_header line h k p q =
-    let front : kept 3 46 h.columns ≡ kept 3 46 k.columns = sym p.1.0 ∙ q.1.0 in
-    let back : kept 48 48 h.columns ≡ kept 48 48 k.columns = sym p.1.1.1.0 ∙ q.1.1.1.0 in
-    let first : ddmmyy_of h.first ≡ ddmmyy_of k.first = sym p.1.1.1.1.0 ∙ q.1.1.1.1.0 in
-    let last : ddmmyy_of h.last ≡ ddmmyy_of k.last = sym p.1.1.1.1.1.0 ∙ q.1.1.1.1.1.0 in
-    let whole : kept 3 46 h.columns ++ (codes "F" ++ (kept 48 48 h.columns ++ (ddmmyy_of h.first ++ ddmmyy_of h.last)))
-    ≡ kept 3 46 k.columns ++ (codes "F" ++ (kept 48 48 k.columns ++ (ddmmyy_of k.first ++ ddmmyy_of k.last))) = cc in
-    same_header h k (columns_are h ∙ whole ∙ sym (columns_are k))
+-- two headers that a line spells are one, whatever its update indicator is
+module _ (line indicator : List ℕ) where
+  abbrev SpellsBy : Header → Type 0
+  SpellsBy h = AllStandIn line (header_rows_by indicator h)
 
--- there is no reason to refuse a line that spells a header
-pub no_refusal : (line : List ℕ) (h : Header) → SpellsHeader line h → header_refusal line ≡ None
-unfolding header_refusal
-no_refusal line h p =
-    let in_order = h.in_order in
-    let test : nat_le h.first h.last ≡ true = grind (arith, nat_tests) in
-    let first : ddmmyy_in (columns 49 54 line) ≡ Some h.first = ap ddmmyy_in (p.1.1.1.1.0 ∙ sym (first_digits h)) ∙ h.first_stands in
-    let last : ddmmyy_in (columns 55 60 line) ≡ Some h.last = ap ddmmyy_in (p.1.1.1.1.1.0 ∙ sym (last_digits h)) ∙ h.last_stands in
-    rw (p.0, p.1.1.0, first, last, test)
+  pub one_header : (h k : Header) → SpellsBy h → SpellsBy k → h ≡ k
+  one_header h k p q =
+      let front : kept 3 46 h.columns ≡ kept 3 46 k.columns = sym p.1.0 ∙ q.1.0 in
+      let back : kept 48 48 h.columns ≡ kept 48 48 k.columns = sym p.1.1.1.0 ∙ q.1.1.1.0 in
+      let first : ddmmyy_of h.first ≡ ddmmyy_of k.first = sym p.1.1.1.1.0 ∙ q.1.1.1.1.0 in
+      let last : ddmmyy_of h.last ≡ ddmmyy_of k.last = sym p.1.1.1.1.1.0 ∙ q.1.1.1.1.1.0 in
+      let whole : kept 3 46 h.columns ++ (codes "F" ++ (kept 48 48 h.columns ++ (ddmmyy_of h.first ++ ddmmyy_of h.last)))
+      ≡ kept 3 46 k.columns ++ (codes "F" ++ (kept 48 48 k.columns ++ (ddmmyy_of k.first ++ ddmmyy_of k.last))) = cc in
+      same_header h k (columns_are h ∙ whole ∙ sym (columns_are k))
+
+  -- there is no reason to refuse a line that spells a header
+  pub no_refusal : (h : Header) → SpellsBy h → header_refusal_by indicator line ≡ None
+  unfolding header_refusal_by
+  no_refusal h p =
+      let in_order = h.in_order in
+      let test : nat_le h.first h.last ≡ true = grind (arith, nat_tests) in
+      let told : are (columns 47 47 line) indicator ≡ true = (bytes_decides (columns 47 47 line) indicator).1 p.1.1.0 in
+      let first : ddmmyy_in (columns 49 54 line) ≡ Some h.first = ap ddmmyy_in (p.1.1.1.1.0 ∙ sym (first_digits h)) ∙ h.first_stands in
+      let last : ddmmyy_in (columns 55 60 line) ≡ Some h.last = ap ddmmyy_in (p.1.1.1.1.1.0 ∙ sym (last_digits h)) ∙ h.last_stands in
+      rw (p.0, told, first, last, test)

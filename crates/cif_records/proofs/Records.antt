@@ -1,5 +1,5 @@
 -- A line spells one record at most, of the kind that it names, and there is no reason to refuse a line that spells one.
-use Rattle.std.proofs.Common.{◌≡◌, ℕ, Bool, true, List, Option, Some, None, Result, Ok, Err, refl, sym, ap, ◌∙◌, subst}
+use Rattle.std.proofs.Common.{◌≡◌, ℕ, Bool, true, List, Option, Some, None, Result, Ok, Err, codes, refl, sym, ap, ◌∙◌, subst}
 use Rattle.cif_columns.specs.Field.{AllFit, columns, is_whole_from, plain_line}
 use Rattle.cif_columns.specs.Line.{IsLine}
 use Rattle.cif_columns.specs.declared.refusal.Refusal.{Refusal}
@@ -108,7 +108,7 @@ kind_there line r s = only_kind (columns 1 2 line) (kind_of r) (identity_there l
 
 -- of each kind a line spells one record at most
 one_of_kind : (line : List ℕ) (k : Kind) (p q : Held k) → SpellsRecord line (record_with k p) → SpellsRecord line (record_with k q) → p ≡ q
-one_of_kind line Hd p q m n = headers.one_header line p q m n
+one_of_kind line Hd p q m n = headers.one_header line (codes "F") p q m n
 one_of_kind line Ti p q m n = tiplocs.one_tiploc line p q m n
 one_of_kind line Aa p q m n = associations.one_association line p q m n
 one_of_kind line Bs p q m n = basics.one_basic line p q m n
@@ -134,7 +134,7 @@ one_record line r q m n =
 
 -- and none by its kind
 pub no_refusal_as : (line : List ℕ) (r : Record) → SpellsRecord line r → refusal_as (Some (kind_of r)) line ≡ None
-no_refusal_as line (a.Header h) s = headers.no_refusal line h s
+no_refusal_as line (a.Header h) s = headers.no_refusal line (codes "F") h s
 no_refusal_as line (a.Tiploc h) s = tiplocs.no_refusal line h s
 no_refusal_as line (a.Association h) s = associations.no_refusal line h s
 no_refusal_as line (a.Basic h) s = basics.no_refusal line h s

@@ -1,6 +1,6 @@
 -- BS: a basic schedule, its columns, and the reasons to refuse one.
 use Rattle.std.specs.Prelude.{◌≡◌, ℕ, Bool, List, [], ◌∷◌, ◌++◌, Option, codes}
-use Rattle.cif_columns.specs.Field.{AllStandIn, Row, row, columns, exactly, date, weekdays, indicator, spare}
+use Rattle.cif_columns.specs.Field.{AllStandIn, FieldValue, Row, row, columns, exactly, date, weekdays, indicator, spare}
 use Rattle.cif_columns.specs.declared.refusal.Refusal.{Refusal}
 use Rattle.cif_columns.specs.declared.stp.Stp.{Stp}
 use Rattle.cif_records.specs.Checks.{first_of, identity_refusal, transaction_refusal, dates_refusal, days_refusal}
@@ -10,17 +10,21 @@ use Rattle.cif_records.specs.declared.basic.Basic.{Basic}
 use Rattle.cif_records.specs.declared.basic.BasicTerms.{BasicTerms}
 use Rattle.cif_records.specs.declared.detail.Detail.{Detail}
 
--- columns 1 to 29
-abbrev pub basic_front : List ℕ → ℕ → ℕ → List Bool → List Row
-basic_front uid first last days =
+-- columns 1 to 29, where its transaction, its last date, its days and column 29 stand as these values
+abbrev pub basic_front_by : List ℕ → List ℕ → ℕ → FieldValue → FieldValue → FieldValue → List Row
+basic_front_by transaction uid first last days holiday =
     row 1 2 (exactly (codes "BS"))
-    ∷ row 3 3 (exactly (codes "N"))
+    ∷ row 3 3 (exactly transaction)
     ∷ row 4 9 (exactly uid)
     ∷ row 10 15 (date first)
-    ∷ row 16 21 (date last)
-    ∷ row 22 28 (weekdays days)
-    ∷ row 29 29 (exactly (codes " "))
+    ∷ row 16 21 last
+    ∷ row 22 28 days
+    ∷ row 29 29 holiday
     ∷ []
+
+-- as an extract of this profile has them
+abbrev pub basic_front : List ℕ → ℕ → ℕ → List Bool → List Row
+basic_front uid first last days = basic_front_by (codes "N") uid first (date last) (weekdays days) (exactly (codes " "))
 
 -- columns 79 and 80
 abbrev pub basic_back : Stp → List Row

@@ -45,10 +45,6 @@ identity_refusal letters line = unless (are (columns 1 2 line) letters) UnknownR
 abbrev pub transaction_refusal : List ℕ → Option Refusal
 transaction_refusal line = unless (are (columns 3 3 line) (codes "N")) NotFull
 
--- column 47 is the update indicator of a full extract
-abbrev pub full_refusal : List ℕ → Option Refusal
-full_refusal line = unless (are (columns 47 47 line) (codes "F")) NotFull
-
 -- these columns are a mask of days
 abbrev pub days_refusal : List ℕ → Option Refusal
 days_refusal days = unless (is_some (days_of days)) BadDays

@@ -81,13 +81,7 @@ impl Association {
     {
         match Association::applicability_at(line) {
             Ok(checked) => Ok(Association {
-                key: AssocKey {
-                    base: uid_at(line, 4),
-                    associated: uid_at(line, 10),
-                    location: text_at(line, 38),
-                    base_suffix: text_at(line, 45),
-                    associated_suffix: text_at(line, 46),
-                },
+                key: AssocKey::read(line),
                 first: checked.dates.first,
                 last: checked.dates.last,
                 days: checked.days,
@@ -223,8 +217,8 @@ impl Association {
         letter.put_on(line);
     }
 
-    /// The body in columns 35 to 37 and 47 to 48, absent in cancellations.
-    fn body_at(line: &Line, letter: Stp) -> Option<AssocBody>
+    /// The body in columns 35 to 37 and 47 to 48 of a line with this letter, absent in cancellations.
+    pub fn body_at(line: &Line, letter: Stp) -> Option<AssocBody>
         ensures bodied { is_some result ≡ has_body letter }
         ensures spells { SpellsBody line.now result }
     {
@@ -261,6 +255,20 @@ pub struct AssocKey {
 impl AssocKey {
     ghost use Rattle.cif_records.specs.declared.association.AssocKey.{AssocKey};
     ghost use Rattle.cif_records.specs.AssocKey.{HasTexts, key_cmp, written_key_cmp};
+    ghost use Rattle.cif_records.specs.Association.{SpellsKey};
+
+    /// The key in columns 4 to 15 and 38 to 46, whatever the other columns are. There is always one.
+    pub fn read(line: &Line) -> AssocKey
+        ensures { SpellsKey line.now result }
+    {
+        AssocKey {
+            base: uid_at(line, 4),
+            associated: uid_at(line, 10),
+            location: text_at(line, 38),
+            base_suffix: text_at(line, 45),
+            associated_suffix: text_at(line, 46),
+        }
+    }
 
     /// The same key.
     pub fn copy(&self) -> AssocKey

@@ -2,7 +2,7 @@
 ghost use Rattle.std.specs.Prelude.{◌≡◌, ◌≤◌, ◌↔◌, Some, Ok, IsTrue, codes, length};
 ghost use Rattle.std.proofs.Props.{props};
 ghost use Rattle.cif_columns.specs.Day.{ddmmyy_in};
-ghost use Rattle.cif_columns.specs.Field.{columns, columns_from, plain_line};
+ghost use Rattle.cif_columns.specs.Field.{AllStandIn, columns, columns_from, plain_line};
 ghost use Rattle.cif_columns.specs.Line.{ArePrintable};
 ghost use Rattle.cif_records.specs.Checks.{IsJudged};
 ghost use Rattle.cif_records.specs.HeaderColumns.{IsFull, kept, with_window as columns_with_window};
@@ -11,7 +11,10 @@ use crate::layout::{self, Dates, Layout, check_letters, window_date_at};
 use cif_columns::{Day, Line, LineBuilder, Refusal, columns_at};
 use std::fmt;
 
-/// Where the first date begins, at column 49 of the line, in what a header keeps, from column 3 on.
+/// Where the update indicator is, column 47 of the line, in what a header keeps, from column 3 on.
+const INDICATOR: usize = 47 - 3;
+
+/// Where the first date begins, at column 49 of the line, in what a header keeps.
 const FIRST_DATE: usize = 49 - 3;
 
 /// Where the last date begins, at column 55 of the line, in what a header keeps.
@@ -59,7 +62,8 @@ impl fmt::Debug for Header {
 
 impl Header {
     ghost use Rattle.cif_records.specs.declared.header.Header.{Header};
-    ghost use Rattle.cif_records.specs.Header.{SpellsHeader, header_refusal, header_table};
+    ghost use Rattle.cif_records.specs.Header.{SpellsHeader, header_refusal, header_refusal_by};
+    ghost use Rattle.cif_records.specs.Header.{header_rows_by, header_table};
 
     /// The header that the line spells, or the first reason in column order why it spells none:
     /// UnknownRecord (columns 1 to 2), NotFull (column 47), BadDate and DatesReversed (columns 49
@@ -68,27 +72,41 @@ impl Header {
         ensures exact { IsJudged (header_refusal line.now) (SpellsHeader line.now) result }
         ensures only { (h : Header) → SpellsHeader line.now h → result ≡ Ok h }
     {
-        match Header::window_at(line) {
-            Ok(dates) => Ok(Header {
-                columns: columns_at(line, 3),
-                first: dates.first,
-                last: dates.last,
-            }),
+        Header::read_by(line, b"F")
+    }
+
+    /// The header that the line spells with this update indicator in place of its own, `F`, or the first reason
+    /// why it spells none, as `read` has it.
+    pub fn read_by(line: &Line, indicator: &[u8; 1]) -> Result<Header, Refusal>
+        ensures exact { IsJudged (header_refusal_by indicator.now line.now)
+            (λ h. AllStandIn line.now (header_rows_by indicator.now h)) result }
+        ensures only { (h : Header) → AllStandIn line.now (header_rows_by indicator.now h) → result ≡ Ok h }
+    {
+        match Header::window_at(line, indicator) {
+            Ok(dates) => {
+                let mut columns: [u8; 58] = columns_at(line, 3);
+                columns[INDICATOR] = b'F';
+                Ok(Header {
+                    columns,
+                    first: dates.first,
+                    last: dates.last,
+                })
+            }
             Err(why) => Err(why),
         }
     }
 
     /// The window of the header that the line spells, or the first reason in column order why it spells none.
-    #[tactic(auto, unfolding(crate::specs::Header::header_refusal))]
-    fn window_at(line: &Line) -> Result<Dates, Refusal>
-        ensures { IsJudged (header_refusal line.now)
+    #[tactic(auto, unfolding(crate::specs::Header::header_refusal_by))]
+    fn window_at(line: &Line, indicator: &[u8; 1]) -> Result<Dates, Refusal>
+        ensures { IsJudged (header_refusal_by indicator.now line.now)
             (λ dates. (columns 1 2 line.now ≡ codes "HD")
-            × (columns 47 47 line.now ≡ codes "F")
+            × (columns 47 47 line.now ≡ indicator.now)
             × (ddmmyy_in (columns 49 54 line.now) ≡ Some dates.first)
             × (ddmmyy_in (columns 55 60 line.now) ≡ Some dates.last)) result }
     {
         check_letters(line, 1, b"HD", Refusal::UnknownRecord)?;
-        check_letters(line, 47, b"F", Refusal::NotFull)?;
+        check_letters(line, 47, indicator, Refusal::NotFull)?;
         let first = window_date_at(line, 49)?;
         let last = window_date_at(line, 55)?;
         if first <= last {

@@ -74,7 +74,7 @@ pub(crate) fn check_letters<const N: usize>(
 }
 
 /// The value in the columns of a line from `at` on, counted from 1; `why` if there is none.
-pub(crate) fn field_or<F: Field>(line: &Line, at: usize, why: Refusal) -> Result<F, Refusal>
+pub fn field_or<F: Field>(line: &Line, at: usize, why: Refusal) -> Result<F, Refusal>
     requires from_one { 1 ≤ at }
     requires within { at + F.WIDTH ≤ 81 }
     ensures judged { IsJudged (unless (is_some (F.value_in (columns_from at F.WIDTH line.now))) why)
@@ -87,14 +87,14 @@ pub(crate) fn field_or<F: Field>(line: &Line, at: usize, why: Refusal) -> Result
 
 /// The first and the last date of a record.
 #[derive(Clone, Copy)]
-pub(crate) struct Dates {
-    pub(crate) first: Day,
-    pub(crate) last: Day,
+pub struct Dates {
+    pub first: Day,
+    pub last: Day,
     ghost in_order: { first ≤ last },
 }
 
 /// The dates in the twelve columns of a line from `at` on, counted from 1.
-pub(crate) fn dates_at(line: &Line, at: usize) -> Result<Dates, Refusal>
+pub fn dates_at(line: &Line, at: usize) -> Result<Dates, Refusal>
     requires from_one { 1 ≤ at }
     requires within { at ≤ 69 }
     ensures { IsJudged

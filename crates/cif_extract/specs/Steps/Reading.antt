@@ -8,7 +8,6 @@ use Rattle.cif_extract.specs.Body.{KeepAll, kept_tables, parts_in}
 use Rattle.cif_extract.specs.BodyParts.{BodyParts, extra_records}
 use Rattle.cif_extract.specs.Call.{call_record}
 use Rattle.cif_extract.specs.ExtractParts.{ExtractParts}
-use Rattle.cif_extract.specs.FirstRefusal.{order_refusal}
 use Rattle.cif_extract.specs.Grammar.{AreExtract, AreSchedules, HasTerms, records_before_trailer}
 use Rattle.cif_extract.specs.OrderOfRecords.{after_extra}
 use Rattle.cif_extract.specs.declared.call.Call.{Call}
@@ -22,9 +21,8 @@ use Rattle.cif_extract.specs.declared.reading.TakeFault.{TakeFault}
 use Rattle.cif_extract.specs.declared.reading.TakeFault.TheVariants as untaken
 use Rattle.cif_records.specs.Basic.{terms_of}
 use Rattle.cif_records.specs.Bodies.{has_body}
-use Rattle.cif_records.specs.Checks.{first_of}
 use Rattle.cif_records.specs.Detail.{detail_table}
-use Rattle.cif_records.specs.Record.{record_table, refusal_as, SpellsRecord}
+use Rattle.cif_records.specs.Record.{record_table, SpellsRecord}
 use Rattle.cif_records.specs.Stop.{SpellsStop, stop_table}
 use Rattle.cif_records.specs.declared.stop.Stop.{Stop}
 use Rattle.cif_records.specs.declared.association.Association.{Association}
@@ -128,10 +126,6 @@ step p (of.Terminus t) = record p {
 }
 step p of.Trailer = record p { place = at.Ended }
 
--- the first reason to refuse a line that stands here
-abbrev pub refusal_here : Place → Option Kind → List ℕ → Option Refusal
-refusal_here place kind line = first_of (order_refusal place kind ∷ refusal_as kind line ∷ [])
-
 -- the plain line that is kept of a record, or of its detail, spells it again
 abbrev pub IsKeepable : Record → Type 0
 IsKeepable (of.Basic b) = IfSome b.detail (λ d. AllStandIn (plain_line (detail_table d)) (detail_table d))
@@ -153,10 +147,13 @@ UnlessRefused refusal P (Ok done) = (refusal ≡ None) × P
 UnlessRefused refusal P (Err (untaken.Refused why)) = refusal ≡ Some why
 UnlessRefused refusal P (Err untaken.Memory) = Unit {0}
 
--- taking a line comes to one step more with the record that it spells
+-- taking a line comes to one step more with the record that it spells, by any layouts and by those of this profile
+abbrev pub IsTakenAs : Option Refusal → (Record → Type 0) → Progress → Result Unit TakeFault → Progress → Type 0
+IsTakenAs refusal spells before result after =
+    UnlessRefused refusal ((r : Record) × spells r × IsKeepable r × (after ≡ step before r)) result
+
 abbrev pub IsTaken : Option Refusal → List ℕ → Progress → Result Unit TakeFault → Progress → Type 0
-IsTaken refusal line before result after = UnlessRefused refusal ((r : Record) × SpellsRecord line r × IsKeepable r
-    × (after ≡ step before r)) result
+IsTaken refusal line = IsTakenAs refusal (SpellsRecord line)
 
 -- keeping a line comes to its record's plain line more, if it is kept
 abbrev pub IsKept : Option Refusal → List ℕ → Progress → Result Unit TakeFault → Progress → Type 0

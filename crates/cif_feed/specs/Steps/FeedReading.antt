@@ -6,20 +6,21 @@ use Rattle.cif_columns.specs.Comment.{is_comment}
 use Rattle.cif_columns.specs.Line.{IsLine}
 use Rattle.cif_records.specs.Kind.{kind_in}
 use Rattle.cif_columns.specs.declared.refusal.Refusal.TheVariants.{OutOfOrder}
-use Rattle.cif_extract.specs.Steps.Reading.{progress_of}
-use Rattle.cif_extract.specs.ExtractParts.{extract_parts}
-use Rattle.cif_extract.specs.SpellsExtract.{SpellExtract}
-use Rattle.cif_extract.specs.Taken.{HasTaken}
+use Rattle.cif_extract.specs.Steps.Reading.{IsTakenAs, Progress, progress_of}
+use Rattle.cif_extract.specs.Taken.{HasTaken, refusal_at}
 use Rattle.cif_extract.specs.declared.reading.TakeFault.{TakeFault}
 use Rattle.cif_extract.specs.declared.reading.TakeFault.TheVariants.{Refused, Memory}
 use Rattle.cif_records.specs.declared.record.Kind.{Kind}
-use Rattle.cif_feed.specs.ProfileLine.{association_mark, is_basic, is_header, is_trailer, marks, profile_lines, schedule_mark}
-use Rattle.cif_feed.specs.ProfileLine.{tiploc_mark}
+use Rattle.cif_records.specs.declared.record.Kind.TheVariants.{Hd, Ti, Ta, Td, Aa, Bs}
+use Rattle.cif_feed.specs.FeedLayouts.{feed_layouts}
+use Rattle.cif_feed.specs.FeedLine.{SpellsInFeed}
+use Rattle.cif_feed.specs.RecordLines.{association_mark, is_basic, is_header, is_trailer, marks, record_lines, schedule_mark}
+use Rattle.cif_feed.specs.RecordLines.{tiploc_mark}
 use Rattle.cif_feed.specs.Counts.{counts_of}
 use Rattle.cif_feed.specs.SpellsFeed.{header_line, passed_of}
 use Rattle.cif_feed.specs.FeedRefusal.{line_refusal}
 use Rattle.cif_feed.specs.declared.feed.Feed.{Feed}
-use Rattle.cif_feed.specs.declared.feed_reading.FeedExtract.{FeedExtract}
+use Rattle.cif_feed.specs.declared.feed.Feed.TheVariants.{Update}
 use Rattle.cif_feed.specs.declared.feed_reading.FeedReading.{FeedReading}
 use Rattle.cif_feed.specs.declared.holiday_code.HolidayCodes.{HolidayCodes}
 use Rattle.cif_feed.specs.declared.mark.LineMark.{LineMark}
@@ -62,7 +63,7 @@ header_behind so_far kind number = if is_header kind && (so_far == 0) then numbe
 
 -- the reading has taken these contents
 pub record HasTakenFeed (feed : Feed) (allowed : HolidayCodes) (contents : List (List ℕ)) (r : FeedReading) : Type 0 where
-  pub taken : HasTaken (profile_lines feed allowed contents) (progress_of r.reading)
+  pub taken : HasTaken (feed_layouts feed allowed) (record_lines contents) (progress_of r.reading)
   pub header_line : r.header_line ≡ header_line contents
   pub marked : marks_of r ≡ marks_in feed allowed contents
   pub counts : r.counts ≡ counts_of contents
@@ -70,11 +71,26 @@ pub record HasTakenFeed (feed : Feed) (allowed : HolidayCodes) (contents : List 
   pub basic : r.has_basic ≡ list_any (λ content. is_basic (kind_in content)) contents
   pub trailer : r.has_trailer ≡ list_any (λ content. is_trailer (kind_in content)) contents
 
--- what a step gives that is refused for nothing: this, unless memory runs out
-abbrev pub UnlessMemory : Type 0 → Result Unit TakeFault → Type 0
-UnlessMemory P (Ok done) = P
-UnlessMemory P (Err (Refused why)) = ⊥
-UnlessMemory P (Err Memory) = Unit {0}
+-- what the step of a line that says a record comes to
+abbrev pub IsRecordTaken : Feed → HolidayCodes → List ℕ → Progress → Result Unit TakeFault → Progress → Type 0
+IsRecordTaken feed allowed line before =
+    IsTakenAs (refusal_at (feed_layouts feed allowed) before.place line) (SpellsInFeed feed allowed line) before
+
+-- a line of this kind is read as one of an extract of this profile
+abbrev pub IsOwn : Option Kind → Feed → Type 0
+IsOwn (Some Hd) feed = ⊥
+IsOwn (Some Ti) feed = ⊥
+IsOwn (Some Ta) Update = ⊥
+IsOwn (Some Td) Update = ⊥
+IsOwn (Some Aa) feed = ⊥
+IsOwn (Some Bs) feed = ⊥
+IsOwn kind feed = Unit {0}
+
+-- the kind whose place a line of this kind has
+abbrev pub read_as : Feed → Kind → Kind
+read_as Update Ta = Ti
+read_as Update Td = Ti
+read_as feed kind = kind
 
 -- what comes of one line more: it is taken, or there is a reason to refuse it, or memory runs out
 abbrev pub IsFeedTaken : Feed → HolidayCodes → List (List ℕ) → List ℕ → Result Unit TakeFault → FeedReading → Type 0
@@ -106,13 +122,3 @@ pub record IsMarked (old : FeedReading) (number : ℕ) (mark : LineMark) (new : 
   pub passed : new.passed ≡ old.passed
   pub basic : new.has_basic ≡ old.has_basic
   pub trailer : new.has_trailer ≡ old.has_trailer
-
--- what was read holds what these contents say
-pub record IsFeedHeld (feed : Feed) (allowed : HolidayCodes) (contents : List (List ℕ)) (x : FeedExtract) : Type 0 where
-  pub extract : SpellExtract (profile_lines feed allowed contents) (extract_parts x.extract)
-  pub header_line : x.header_line ≡ header_line contents
-  pub tiploc_marks : x.tiploc_marks.items ≡ marks tiploc_mark feed allowed contents
-  pub association_marks : x.association_marks.items ≡ marks association_mark feed allowed contents
-  pub schedule_marks : x.schedule_marks.items ≡ marks schedule_mark feed allowed contents
-  pub counts : x.counts ≡ counts_of contents
-  pub passed : x.passed ≡ passed_of contents

@@ -4,6 +4,7 @@ use Rattle.cif_columns.specs.declared.refusal.Refusal.{Refusal}
 use Rattle.cif_columns.specs.declared.refusal.Refusal.TheVariants.{OutOfOrder, TooManyLines}
 use Rattle.cif_extract.specs.ExtractParts.{extract_parts}
 use Rattle.cif_extract.specs.FirstRefusal.{IsRefusedLine, IsTruncated, NoneRefused}
+use Rattle.cif_extract.specs.Layouts.{own_layouts}
 use Rattle.cif_extract.specs.SpellsExtract.{SpellExtract}
 use Rattle.cif_extract.specs.Steps.Reading.{progress_of}
 use Rattle.cif_extract.specs.Taken.{HasTaken}
@@ -24,7 +25,7 @@ SomeHasReason contents = (why : Refusal) × Contains (reasons_of contents) (Some
 -- what the order of these contents has come to
 abbrev pub IsInOrder : ℕ → List (List ℕ) → Order → Type 0
 IsInOrder max contents (order.Reading reading) =
-    NoneHasReason contents × NoneRefused max contents × HasTaken contents (progress_of reading)
+    NoneHasReason contents × NoneRefused max contents × HasTaken own_layouts contents (progress_of reading)
 IsInOrder max contents (order.OutOfOrder line) = NoneHasReason contents × IsRefusedLine max contents line OutOfOrder
 IsInOrder max contents order.Refused = SomeHasReason contents
 

@@ -1,11 +1,13 @@
 -- Laws of all extracts: by their kinds, records are parted in one way only (`OneExtract`); a greater limit counts no more.
 use Rattle.std.proofs.Common.{arith}
+use Rattle.cif_extract.specs.Layouts.{own_layouts}
+use Rattle.cif_extract.proofs.LayoutLaws.{own_are}
 use Rattle.cif_extract.proofs.OneExtract.{one_extract}
 use Rattle.cif_extract.proofs.SpelledBytes.{one_spelled}
 use Rattle.cif_extract.proofs.laws.bytes_spell_one_extract.Goals as goal
 
 pub returns-clause-lines : goal.returns-clause-lines
-returns-clause-lines c = one_extract
+returns-clause-lines c = one_extract own_layouts own_are
 
 pub returns-clause-bytes : goal.returns-clause-bytes
 returns-clause-bytes c = one_spelled

@@ -24,8 +24,7 @@ loop-columns-preserved-in-loop-columns g c =
       reading_line g.R.Read.remaining _ _ _ _ ls so_far c.pass_line.new.self c.loop-columns.source columns next.answer next.past_now
           next.limit_now more,
       come_more c.args.max_lines ls columns plain.is_line room (progress_of c.loop-columns.reading) come
-          (progress_of c.take_plain_stop.new.self)
-          c.in-Ok.ensures.taken,
+          (progress_of c.take_plain_stop.new.self) c.in-Ok.ensures,
       read_on,
     )
 
@@ -50,7 +49,7 @@ pub loop-columns-init : goal.loop-columns-init
 loop-columns-init g c = (
   [],
   search rules,
-  subst (HasCome c.args.max_lines []) (sym c.new-reading.ensures.none) (come_none c.args.max_lines),
+  subst (HasCome c.args.max_lines []) (sym c.new-reading.ensures) (come_none c.args.max_lines),
   search rules,
 )
 
@@ -121,5 +120,6 @@ returns-in-Ok-false g c =
       nothing_left g.R.Read.remaining _ _ _ _ ls so_far c.read_line.new.self c.read_line.new.source next.answer,
     )
     (sym read_on.going ∙ next.endless so_far.reads_on refl) (read_on_both _ _ _ _ read_on (next.device so_far.reads_on))
-    c.line_number-in-Ok-false.result number within c.finish.result (c.finish.ensures.spells ls come.taken) c.finish.ensures.truncated
-    (c.finish.ensures.unfinished ls come.taken)
+    c.line_number-in-Ok-false.result number within (progress_of c.loop-columns.reading) come.taken c.finish.result
+    (c.finish.ensures.are come.taken.records come.taken.read) c.finish.ensures.truncated
+    (c.finish.ensures.unfinished come.taken.records come.taken.read)

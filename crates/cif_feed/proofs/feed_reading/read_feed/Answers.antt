@@ -1,5 +1,5 @@
--- The invariant names the contents so far: one more (`feed_line`, `feed_comment`), one refused (`at_feed_line`) and the end are
--- profile_line of them all.
+-- The invariant names the contents so far: one more (`feed_line`, `feed_comment`), one refused (`at_feed_line`) and the end are said of
+-- them all.
 use Rattle.std.proofs.Common.{◌≡◌, ◌+◌, ◌<◌, ◌≤◌, length, [], ◌++◌, ◌∷◌, ◌∙◌, ap, arith, refl, sym}
 use Rattle.cif_columns.proofs.GivenLinesLaws.{known_both, nothing_left, reading_decides, reading_ends, reading_faults, reading_starts}
 use Rattle.cif_columns.proofs.PassedLines.{next_passed}
@@ -7,11 +7,11 @@ use Rattle.cif_columns.proofs.ReadSources.{read_nothing, read_on_both}
 use Rattle.cif_columns.specs.Comment.{is_comment}
 use Rattle.cif_columns.specs.LineReader.{given}
 use Rattle.cif_records.specs.Kind.{kind_in}
-use Rattle.cif_feed.specs.ProfileLine.{is_note}
+use Rattle.cif_feed.specs.RecordLines.{is_note}
 use Rattle.cif_feed.specs.declared.feed_reading.Passed.{Passed}
 use Rattle.cif_feed.proofs.FeedRuns.{at_feed_line, comes-end, comes-line_fault, comes-memory, comes-untaken, comment_fine, feed_comment}
 use Rattle.cif_feed.proofs.FeedRuns.{feed_line, feed_reason, fewer, line_why, none_more, none_none, room_more}
-use Rattle.cif_feed.proofs.MarkedRecords.{marked_result}
+use Rattle.cif_feed.proofs.HeldMarks.{marked_result}
 use Rattle.cif_feed.proofs.feed_reading.read_feed.Goals as goal
 
 pub loop-columns-init : goal.loop-columns-init
@@ -121,7 +121,7 @@ loop-columns-preserved g c =
 pub returns-in-Ok-End-clause-marked : goal.returns-in-Ok-End-clause-marked
 returns-in-Ok-End-clause-marked g c =
     let (cs, so_far, taken, fine, read_on) = c.loop-columns.invariant in
-    marked_result c.args.feed c.args.allowed c.args.max_lines cs fine c.finish.result
+    marked_result c.args.feed c.args.allowed cs c.finish.result
     (c.finish.ensures.held c.args.feed c.args.allowed cs taken)
 
 pub loop-columns-smaller-in-loop-columns : goal.loop-columns-smaller-in-loop-columns

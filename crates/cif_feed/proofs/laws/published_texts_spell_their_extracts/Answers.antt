@@ -1,4 +1,4 @@
--- Each written line has the plain line as its profile line, and its mark is what was written over it.
+-- Each written line spells its record, and its mark is what was written over it.
 use Rattle.cif_feed.specs.HolidayCode.{all_codes}
 use Rattle.cif_feed.proofs.FittingUpdates.{updated_fits}
 use Rattle.cif_feed.proofs.PublishedTexts.{published-lines, published-spells, said_fits, may_any}

@@ -16,7 +16,9 @@ pub returns-clause-schedules : goal.returns-clause-schedules
 returns-clause-schedules c = λ max bytes u s. schedules_said (contents_of bytes) u s.spell
 
 pub returns-clause-same_association : goal.returns-clause-same_association
-returns-clause-same_association c = λ one other c d is_one is_other. one_association_deletion one other is_one is_other c d
+returns-clause-same_association c one other x y s t deletes front middle back =
+    one_association_deletion one.1 other.1 front middle back x.action y.action s.stands t.stands deletes
 
 pub returns-clause-same_schedule : goal.returns-clause-same_schedule
-returns-clause-same_schedule c = λ one other c d is_one is_other. one_schedule_deletion one other is_one is_other c d
+returns-clause-same_schedule c one other x y s t deletes front back =
+    one_schedule_deletion one.1 other.1 front back x.action y.action s.stands t.stands deletes

@@ -1,6 +1,8 @@
 -- Where the place allows its kind a line is refused for its fields alone: `refusal_of_record`, for a journey's kinds and BX.
 use Rattle.std.proofs.Common.{◌≡◌, Some, ap, sym, subst, ◌∙◌}
-use Rattle.cif_extract.specs.Steps.Reading.{IsTaken, progress_of, refusal_here}
+use Rattle.cif_extract.specs.Layouts.{own_layouts}
+use Rattle.cif_extract.specs.Steps.Reading.{IsTaken, progress_of}
+use Rattle.cif_extract.specs.Taken.{refusal_at}
 use Rattle.cif_records.specs.Kind.{kind_in}
 use Rattle.cif_records.specs.Record.{refusal_as}
 use Rattle.cif_extract.proofs.TakenLines.{refusal_of_fields, refusal_of_record}
@@ -8,7 +10,7 @@ use Rattle.cif_extract.proofs.reading.Reading.take.Goals as goal
 use Rattle.cif_extract.proofs.reading.Reading.take.Goals.{Else-not-allows}
 
 -- it is refused for its fields alone
-fields : (c : Else-not-allows) → refusal_here c.args.self.now.place (kind_in c.args.line.now) c.args.line.now
+fields : (c : Else-not-allows) → refusal_at own_layouts c.args.self.now.place c.args.line.now
     ≡ refusal_as (Some c.in-Some.kind) c.args.line.now
 fields c = refusal_of_fields c.args.self.now.place c.args.line.now c.in-Some.kind (sym c.kind_of.ensures.kind ∙ c.in-Some.is)
     (sym c.allows.ensures ∙ c.if-not-allows.false)

@@ -1,40 +1,12 @@
--- Only terms were read: the BS that the line spells has the detail that stands there (`detail_there`), or none, by its letter.
-use Rattle.std.proofs.Common.{sym, ◌≡◌, ◌∙◌, ap, true, false}
-use Rattle.cif_extract.specs.Steps.Reading.{progress_of}
-use Rattle.cif_records.specs.Bodies.{has_body}
-use Rattle.cif_records.specs.Detail.{detail_in}
-use Rattle.cif_records.specs.declared.basic.BasicTerms.{BasicTerms}
+-- Only terms were read: the BS that the line spells has the detail that stands there (`detail_there`).
 use Rattle.cif_records.specs.declared.record.Record.TheVariants as of
-use Rattle.cif_records.proofs.Basics.{detail_there, no_detail_there}
-use Rattle.cif_extract.proofs.BasicSteps.{begun_none, begun_some, keepable_none, keepable_some}
+use Rattle.cif_records.proofs.Basics.{detail_there}
 use Rattle.cif_extract.proofs.TakenLines.{fine_so}
 use Rattle.cif_extract.proofs.reading.Reading.take_basic.Goals as goal
 
-pub returns-then-has_body : goal.returns-then-has_body
-returns-then-has_body c =
-    let (fine, there) = c.in_ok-terms.ensures in
+pub returns : goal.returns
+returns c =
+    let (fine, there) = c.in_ok-read.ensures in
     let b = there.basic in
-    let has : has_body b.letter ≡ true =
-    ap (λ (t : BasicTerms). has_body t.letter) (sym there.terms) ∙ sym c.has_body.ensures ∙ c.if-has_body.true in
-    let some = detail_there c.args.line.now b there.spells has in
-    fine_so _ (λ is. (
-      of.Basic b,
-      there.spells,
-      keepable_some b (detail_in c.args.line.now) c.line_of.result some c.line_of.ensures.plain c.line_of.ensures.again,
-      is ∙ rw (c.clear.ensures, c.line_of.ensures.plain)
-          (begun_some (progress_of c.args.self.now) b _ there.terms b.detail b.bodied (detail_in c.args.line.now) some),
-    )) c.keep_plain.result fine c.keep_plain.ensures
-
-pub returns-else-has_body : goal.returns-else-has_body
-returns-else-has_body c =
-    let (fine, there) = c.in_ok-terms.ensures in
-    let b = there.basic in
-    let lacks : has_body b.letter ≡ false =
-    ap (λ (t : BasicTerms). has_body t.letter) (sym there.terms) ∙ sym c.has_body.ensures ∙ c.if-has_body.false in
-    let none = no_detail_there b lacks in
-    fine_so _ (λ is. (
-      of.Basic b,
-      there.spells,
-      keepable_none b none,
-      rw is (begun_none (progress_of c.args.self.now) b _ there.terms b.detail b.bodied none c.of.result c.of.ensures),
-    )) c.push.result fine c.push.ensures
+    fine_so _ (λ is. (of.Basic b, there.spells, is.0, is.1)) c.put_basic.result fine
+    (c.put_basic.ensures b there.terms (detail_there c.args.line.now b there.spells))

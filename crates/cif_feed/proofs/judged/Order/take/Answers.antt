@@ -1,14 +1,26 @@
 -- A line that is taken leaves the order as it should be (`none_refused_more`); one that isn't is the first out of order (`refused_here`).
-use Rattle.std.proofs.Common.{◌<◌, arith, length}
+use Rattle.std.proofs.Common.{◌<◌, Err, Ok, arith, length}
+use Rattle.cif_extract.proofs.LayoutLaws.{own_are}
+use Rattle.cif_extract.proofs.ReadingRuns.{taken_behind}
+use Rattle.cif_extract.specs.Layouts.{own_layouts}
+use Rattle.cif_extract.specs.Steps.Reading.{progress_of}
+use Rattle.cif_extract.specs.declared.reading.TakeFault.TheVariants.{Refused}
 use Rattle.cif_feed.proofs.OwnReasons.{none_has_more, none_refused_more, refused_here, some_has_more}
 use Rattle.cif_feed.proofs.judged.Order.take.Goals as goal
+
+pub take-requires : goal.take-requires
+take-requires c =
+    let (max, contents, so_far) = c.requires in
+    let here = rw c.in-Reading.is at so_far in
+    (here.2.records, here.2.read)
 
 pub returns-in-Ok-clause-taken : goal.returns-in-Ok-clause-taken
 returns-in-Ok-clause-taken c = λ max contents so_far numbered within own.
     let line = c.args.line.now in
     let here = rw c.in-Reading.is at so_far in
     let room : length contents < max = omega (arith, numbered, within) in
-    let taken = c.in-Ok.ensures contents here.2 in (
+    let taken = taken_behind own_layouts own_are contents line (progress_of c.in-Reading.reading) here.2 (Ok tt)
+    (progress_of c.take.new.self) c.in-Ok.ensures.taken in (
       none_has_more contents line here.0 own,
       none_refused_more max contents line own room here.1 taken.0,
       taken.1,
@@ -19,10 +31,10 @@ returns-in-Err-Refused-clause-taken c = λ max contents so_far numbered within o
     let line = c.args.line.now in
     let here = rw c.in-Reading.is at so_far in
     let room : length contents < max = omega (arith, numbered, within) in
-    let behind = rw c.in-Err-Refused.field-0-is at c.in-Err-Refused.ensures in (
-      none_has_more contents line here.0 own,
-      refused_here max contents line own room here.1 _ (behind contents here.2) c.args.number numbered,
-    )
+    let behind = rw c.in-Err-Refused.field-0-is at c.in-Err-Refused.ensures in
+    let why = taken_behind own_layouts own_are contents line (progress_of c.in-Reading.reading) here.2 (Err (Refused _))
+    (progress_of c.take.new.self) behind.taken in
+    (none_has_more contents line here.0 own, refused_here max contents line own room here.1 _ why c.args.number numbered)
 
 pub returns-in-Refused-clause-taken : goal.returns-in-Refused-clause-taken
 returns-in-Refused-clause-taken c = λ max contents so_far numbered within own.

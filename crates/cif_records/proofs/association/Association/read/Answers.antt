@@ -1,5 +1,4 @@
 -- Each field was found where its row says. A line spells one association (`one_association`), and none if it is refused.
-use Rattle.std.proofs.Common.{sym}
 use Rattle.cif_records.proofs.Associations.{one_association, no_refusal}
 use Rattle.cif_records.proofs.Judging.{only}
 use Rattle.cif_records.proofs.Rows.{◌&◌}
@@ -8,10 +7,10 @@ use Rattle.cif_records.proofs.association.Association.read.Goals as goal
 pub returns-in-Ok-clause-exact : goal.returns-in-Ok-clause-exact
 returns-in-Ok-clause-exact c =
     let found = c.in-Ok.ensures.1 in
+    let key = c.read.ensures in
     let body = c.body_at.ensures.spells in
-    c.in-Ok.ensures.0 & found.0 & found.1 & sym c.uid_at.ensures & sym c.uid_at-in-Ok.ensures & found.2 & found.3 & found.4 & body.category
-    & body.date_indicator & c.text_at.ensures.found & c.text_at-in-Ok.ensures.found & c.text_at-in-Ok-2.ensures.found
-    & body.diagram & body.kind & tt & found.5 & tt
+    c.in-Ok.ensures.0 & found.0 & found.1 & key.base & key.associated & found.2 & found.3 & found.4 & body.category & body.date_indicator
+    & key.location & key.base_suffix & key.associated_suffix & body.diagram & body.kind & tt & found.5 & tt
 
 pub returns-in-Ok-clause-only : goal.returns-in-Ok-clause-only
 returns-in-Ok-clause-only c r h =

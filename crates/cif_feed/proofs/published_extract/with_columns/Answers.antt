@@ -1,9 +1,9 @@
 -- The columns are written over a part of the line's.
 use Rattle.std.proofs.Common.{◌∙◌, ap, sym, subst}
 use Rattle.cif_columns.specs.Line.{ArePrintable}
-use Rattle.cif_feed.specs.ProfileLine.{with_columns}
+use Rattle.cif_feed.specs.PublishedParts.{with_columns}
 use Rattle.cif_feed.proofs.WrittenColumns.{printable-written, written-is}
-use Rattle.cif_feed.proofs.profile_line.with_columns.Goals as goal
+use Rattle.cif_feed.proofs.published_extract.with_columns.Goals as goal
 
 pub of_printable-requires : goal.of_printable-requires
 of_printable-requires g c =

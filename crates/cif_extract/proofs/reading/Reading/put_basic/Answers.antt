@@ -1,0 +1,31 @@
+-- By its letter the BS has the detail that stands in the line, whose plain line is kept, or none.
+use Rattle.std.proofs.Common.{sym, ◌≡◌, ◌∙◌, ap, true, false, None}
+use Rattle.cif_extract.specs.Steps.Reading.{progress_of}
+use Rattle.cif_records.specs.Bodies.{has_body}
+use Rattle.cif_records.specs.Detail.{detail_in}
+use Rattle.cif_records.specs.declared.basic.BasicTerms.{BasicTerms}
+use Rattle.cif_records.proofs.Basics.{no_detail_there}
+use Rattle.cif_extract.proofs.BasicSteps.{begun_none, begun_some, keepable_none, keepable_some}
+use Rattle.cif_extract.proofs.TakenLines.{memory_so}
+use Rattle.cif_extract.proofs.reading.Reading.put_basic.Goals as goal
+
+pub returns-then-has_body : goal.returns-then-has_body
+returns-then-has_body c = λ b terms detail.
+    let has : has_body b.letter ≡ true =
+    ap (λ (t : BasicTerms). has_body t.letter) (sym terms) ∙ sym c.has_body.ensures ∙ c.if-has_body.true in
+    let some = detail has in
+    memory_so None (λ is. (
+      keepable_some b (detail_in c.args.line.now) c.line_of.result some c.line_of.ensures.plain c.line_of.ensures.again,
+      is ∙ rw (c.clear.ensures, c.line_of.ensures.plain)
+          (begun_some (progress_of c.args.self.now) b _ terms b.detail b.bodied (detail_in c.args.line.now) some),
+    )) c.keep_plain.result c.keep_plain.ensures
+
+pub returns-else-has_body : goal.returns-else-has_body
+returns-else-has_body c = λ b terms detail.
+    let lacks : has_body b.letter ≡ false =
+    ap (λ (t : BasicTerms). has_body t.letter) (sym terms) ∙ sym c.has_body.ensures ∙ c.if-has_body.false in
+    let none = no_detail_there b lacks in
+    memory_so None (λ is. (
+      keepable_none b none,
+      rw is (begun_none (progress_of c.args.self.now) b _ terms b.detail b.bodied none c.of.result c.of.ensures),
+    )) c.push.result c.push.ensures
