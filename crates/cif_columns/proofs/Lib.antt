@@ -12,6 +12,7 @@ pub mod DigitsLemmas
 pub mod EachOfFifths
 pub mod FeedPlaces
 pub mod FieldLaws
+pub mod FirstContents
 pub mod Flags
 pub mod FoundInHeld
 pub mod GivenLinesLaws

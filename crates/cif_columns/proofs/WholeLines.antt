@@ -11,7 +11,7 @@ use Rattle.cif_columns.proofs.DecidedLines.{parts_some}
 use mathlib.Core.Logic.{◌⊎◌, inl, inr, ⊎_elim}
 
 -- a line feed splits its bytes
-split_at_feed : (front more : List ℕ)
+pub split_at_feed : (front more : List ℕ)
     → slice_split is_line_feed (front ++ 10 ∷ more) ≡ slice_split is_line_feed front ++ slice_split is_line_feed more
 split_at_feed [] more = refl
 split_at_feed (x ∷ xs) more = at (is_line_feed x) (split_at_feed xs more) (parts_some is_line_feed xs)
@@ -26,7 +26,7 @@ split_at_feed (x ∷ xs) more = at (is_line_feed x) (split_at_feed xs more) (par
         ∙ ap (λ l. onto_first x l ++ slice_split is_line_feed more) (sym some.2)
 
 -- all parts but the last end at a line feed
-lines_of_parts-append : (parts : List (List ℕ)) (last : List ℕ) (others : List (List ℕ))
+pub lines_of_parts-append : (parts : List (List ℕ)) (last : List ℕ) (others : List (List ℕ))
     → lines_of_parts (parts ++ last ∷ others) ≡ map strip_carriage_return parts ++ lines_of_parts (last ∷ others)
 lines_of_parts-append [] last others = refl
 lines_of_parts-append (x ∷ []) last others = refl

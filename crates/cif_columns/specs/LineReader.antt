@@ -17,7 +17,7 @@ use Rattle.cif_columns.specs.declared.refusal.Refusal.{Refusal}
 use Rattle.cif_columns.specs.declared.source.Source.{Source}
 use Rattle.cif_columns.specs.Ahead.{held_bytes, known_left}
 use Rattle.cif_columns.specs.Comment.{is_comment}
-use Rattle.cif_columns.specs.Contents.{DecidesNothing, contents_of, IsFirstContent, StandsFirst, HasLineReason, IsLineReason}
+use Rattle.cif_columns.specs.Contents.{DecideNoContent, DecidesNothing, contents_of, IsFirstContent, StandsFirst, HasLineReason, IsLineReason}
 use Rattle.cif_columns.specs.FirstLine.{first_content}
 use Rattle.cif_columns.specs.Line.{IsLine}
 use Rattle.cif_columns.specs.Source.{HasFailedToRead, HasReadOn, reader_of, source_ended, source_failed}
@@ -87,12 +87,16 @@ abbrev pub IsNextFault : ℕ → LineFault → Type 0
 IsNextFault count (Refused number why) = (number ≡ count + 1) × IsLineReason why
 IsNextFault count Read = Unit {0}
 
--- Of the bytes that were left, where they are known, the reader has these left, and has given the others. They decide the first line,
--- after so many lines of at most max.
-pub record GivenDecide (max count : ℕ) (bytes unread : Option (List ℕ)) : Type 0 where
+-- Of the bytes that were left, where they are known, the reader has these left, and has given the others. They decide the first content,
+-- after so many of at most max.
+pub record GivenDecideContent (most max count : ℕ) (bytes unread : Option (List ℕ)) : Type 0 where
   pub given : List ℕ
   pub parts : Keeps bytes (prepend_known given unread)
-  pub decided : ¬ DecidesNothing max count given
+  pub decided : ¬ DecideNoContent most max count given
+
+-- the same of lines
+abbrev pub GivenDecide : ℕ → ℕ → Option (List ℕ) → Option (List ℕ) → Type 0
+GivenDecide max count bytes unread = GivenDecideContent 82 max count bytes unread
 
 -- What a call that gives the next line promises: its reader and its source before, the answer, and both after.
 pub record IsNext {R : Type 0} (remaining : R → Option (List ℕ)) (errors : R → Option ℕ) (old : LineReader) (from : Source R)

@@ -1,23 +1,23 @@
 //! The bytes that are read ahead of the lines, and the line that stands first in them.
 ghost use Rattle.std.specs.Prelude.{◌≡◌, ◌<◌, ◌≤◌, ◌↔◌, [], ◌≢◌, Some, Ok, OnErr};
-ghost use Rattle.std.specs.Prelude.{IfSome, IfNone, IsSome, IsTrue, length, take, drop, true};
+ghost use Rattle.std.specs.Prelude.{All, IfSome, IfNone, IsSome, IsTrue, MatchOption, length, take, drop, true};
 ghost use Rattle.std.specs.Prelude.{false, slice_index, min};
 ghost use Rattle.std.specs.Io.KnownBytes.{Keeps, IsAtEnd};
 ghost use Rattle.std.specs.List.{position_or_len};
 ghost use Rattle.std.specs.Str.Lines.{strip_carriage_return};
 ghost use Rattle.cif_columns.specs.Comment.{is_comment};
-ghost use Rattle.cif_columns.specs.FirstLine.{has_line_feed, is_decided, is_line_feed, line_of};
+ghost use Rattle.cif_columns.specs.Contents.{IsFirstFeed};
+ghost use Rattle.cif_columns.specs.FirstLine.{is_decided, is_line_feed, line_of};
 ghost use Rattle.cif_columns.specs.Source.{Reads, reader_of, source_ended, source_failed};
-ghost use Rattle.cif_columns.specs.declared.ahead.TheConstants.{AHEAD, MOST_OF_LINE};
+ghost use Rattle.cif_columns.specs.declared.ahead.TheConstants.{AHEAD};
 
-use crate::content_reader::NextContent;
 use crate::line::{LINE_TEXT_WIDTH, LINE_WIDTH, Line, are_printable};
 use crate::refusal::Refusal;
 use crate::source::{ReadDevice, ReadFault, Source};
 use memchr::memchr;
 
 // A read gives about two hundred lines. The buffer lies on the stack.
-const AHEAD: usize = 16_384;
+pub(crate) const AHEAD: usize = 16_384;
 
 /// What was found where a line should begin.
 pub(crate) enum Found {
@@ -42,7 +42,7 @@ impl Found {
 }
 
 /// The line that a content is, or why it is none.
-fn line_of(content: &[u8]) -> Result<Line, Refusal>
+pub fn line_of(content: &[u8]) -> Result<Line, Refusal>
     ensures { result ≡ line_of content.now }
 {
     let Some(columns) = content.as_array::<LINE_WIDTH>() else {
@@ -60,8 +60,13 @@ pub(crate) struct Ahead {
     buf: [u8; AHEAD],
     start: usize,
     end: usize,
+    // Where the content stands that was passed last: `buf[first..last]`.
+    first: usize,
+    last: usize,
     ghost ordered: { start ≤ end },
     ghost in_bounds: { end ≤ AHEAD },
+    ghost content_ordered: { first ≤ last },
+    ghost content_in_bounds: { last ≤ AHEAD },
 }
 
 impl Ahead {
@@ -74,6 +79,8 @@ impl Ahead {
             buf: [0; AHEAD],
             start: 0,
             end: 0,
+            first: 0,
+            last: 0,
         }
     }
 
@@ -311,56 +318,100 @@ impl Ahead {
     }
 }
 
-impl Ahead {
-    ghost use Rattle.cif_columns.specs.Ahead.{held_bytes};
-    ghost use Rattle.cif_columns.specs.NextContent.{IsLast, PassesFirst};
+/// What stands first in the bytes that are left.
+#[derive(Clone, Copy, Debug, PartialEq, Eq)]
+pub enum NextContent {
+    /// A content.
+    Content,
+    /// A content that is overlong: none of so many bytes from where it begins is a line feed. It isn't
+    /// passed, and so no other follows.
+    Overlong,
+    /// Nothing: the input is at its end.
+    End,
+}
 
-    /// Whether no bytes are held.
-    pub(crate) fn is_empty(&self) -> bool
-        ensures { IsTrue result ↔ (held_bytes self.now ≡ []) }
+impl Ahead {
+    ghost use Rattle.cif_columns.specs.Ahead.{CutsNext, IsLast, PassesFirst, content_bytes, held_bytes};
+    ghost use Rattle.cif_columns.specs.Contents.{AreUndecided};
+
+    /// Passes the content that stands first in the held bytes and those that the source gives after
+    /// them, and tells what stands there. `most` bytes without a line feed are overlong.
+    ///
+    /// The source is read only while the held bytes decide no content, each time once. A content is
+    /// decided by its line feed, by `most` bytes with none, and by the end of the input.
+    pub(crate) fn next_content<R: ReadDevice>(
+        &mut self,
+        most: usize,
+        source: &mut Source<R>,
+    ) -> Result<NextContent, ReadFault>
+        requires some { 0 < most }
+        requires room { most ≤ AHEAD }
+        ensures { CutsNext R.remaining R.read_errors most self.old source.old result self.new
+            source.new }
     {
-        self.start == self.end
+        loop {
+            if let Some(next) = self.decided_content(most) {
+                return Ok(next);
+            }
+            match self.fill(source) {
+                Ok(true) => {}
+                Ok(false) => return Ok(self.last_content()),
+                Err(fault) => return Err(fault),
+            }
+        }
+    }
+
+    /// The content that was passed last, until more is read.
+    pub(crate) fn content(&self) -> &[u8]
+        ensures { result.now ≡ content_bytes self.now }
+    {
+        &self.buf[self.first..self.last]
     }
 
     /// Passes the content that stands first in the held bytes, if they decide one: it, or that it is
     /// overlong, which passes nothing.
-    pub(crate) fn decided_content(&mut self) -> Option<NextContent>
-        ensures found { IfSome result (λ content.
-            PassesFirst (held_bytes self.old) content (held_bytes self.new)) }
-        ensures none { IfNone result ((has_line_feed (held_bytes self.old) ≡ false)
-            × (length (held_bytes self.old) < MOST_OF_LINE)) }
+    fn decided_content(&mut self, most: usize) -> Option<NextContent>
+        ensures found { IfSome result (λ next. PassesFirst most (held_bytes self.old) next
+            (content_bytes self.new) (held_bytes self.new)) }
+        ensures none { IfNone result (AreUndecided most (held_bytes self.old)) }
         ensures kept { IfNone result (held_bytes self.new ≡ held_bytes self.old) }
     {
         let held = self.as_slice();
-        if let Some(at) = line_feed::<MOST_OF_LINE>(held) {
-            let content = line_of(without_carriage_return(&held[..at]));
-            self.start += at + 1;
-            return Some(NextContent::Content(content));
+        if let Some(at) = first_feed(held, most) {
+            let len = without_carriage_return(&held[..at]).len();
+            self.pass(len, at + 1);
+            return Some(NextContent::Content);
         }
-        if held.len() < MOST_OF_LINE {
+        if held.len() < most {
             return None;
         }
         Some(NextContent::Overlong)
     }
 
     /// Passes the content that the held bytes are, where no others follow.
-    pub(crate) fn last_content(&mut self) -> NextContent
-        requires no_feed { has_line_feed (held_bytes self.old) ≡ false }
-        requires short { length (held_bytes self.old) < MOST_OF_LINE }
-        ensures { IsLast (held_bytes self.old) result (held_bytes self.new) }
+    fn last_content(&mut self) -> NextContent
+        ensures { IsLast (held_bytes self.old) result (content_bytes self.new) (held_bytes self.new) }
     {
-        let held = self.as_slice();
-        if held.is_empty() {
+        let len = self.end - self.start;
+        if len == 0 {
             return NextContent::End;
         }
-        let content = line_of(held);
-        self.start = self.end;
-        NextContent::Content(content)
+        self.pass(len, len);
+        NextContent::Content
+    }
+
+    /// Passes so many of the held bytes, whose first `len` are a content.
+    fn pass(&mut self, len: usize, whole: usize)
+        requires within { len ≤ whole }
+        requires whole { whole ≤ length (held_bytes self.old) }
+        ensures content { content_bytes self.new ≡ take len (held_bytes self.old) }
+        ensures held { held_bytes self.new ≡ drop whole (held_bytes self.old) }
+    {
+        self.first = self.start;
+        self.last = self.start + len;
+        self.start += whole;
     }
 }
-
-/// How many bytes of a line of any length are read, with its ending, at most.
-pub(crate) const MOST_OF_LINE: usize = 10_000;
 
 /// Whether the content is a comment, which says nothing: it begins with `/!!`, and has at most eighty
 /// bytes, each of which may stand in a line (files that others derive from CIF have them).
@@ -377,6 +428,13 @@ pub(crate) fn is_comment(content: &[u8]) -> bool
 /// How many bytes a line takes at most, with its ending: a carriage return and a line feed. With so
 /// many bytes and no line feed the first line is too long, whatever follows.
 pub(crate) const LONGEST_LINE: usize = LINE_WIDTH + 2;
+
+/// Where the first line feed is, if it is among the first `most` bytes.
+fn first_feed(bytes: &[u8], most: usize) -> Option<usize>
+    ensures { MatchOption result (All (λ b. b ≢ 10) (take most bytes.now)) (IsFirstFeed most bytes.now) }
+{
+    memchr(b'\n', &bytes[..bytes.len().min(most)])
+}
 
 /// Where the first line feed is, if it is among the first `MOST` bytes.
 fn line_feed<const MOST: usize>(bytes: &[u8]) -> Option<usize>

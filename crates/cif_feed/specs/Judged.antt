@@ -1,5 +1,5 @@
 -- What comes of an input whose lines are judged each by itself.
-use Rattle.std.specs.Prelude.{◌≡◌, ◌<◌, ◌≤◌, ◌+◌, ⊤, ℕ, true, false, List, All, Contains, length, Option, None, Some, IsSomeAnd, Result, Ok}
+use Rattle.std.specs.Prelude.{◌≡◌, ◌<◌, ◌≤◌, ◌+◌, ⊤, ℕ, true, false, List, All, Contains, length, None, Some, IsSomeAnd, Result, Ok}
 use Rattle.std.specs.Prelude.{Err}
 use Rattle.cif_columns.specs.JudgedContents.{IsGiven, MayGoOn, judged_contents}
 use Rattle.cif_columns.specs.Source.{Unread}

@@ -40,4 +40,9 @@ invariant_of-self c =
     let this = c.args.self.now in
     let within : this.start + (c.in-Some.at + 1) ≤ this.end =
     omega (arith, c.in-Some.ensures.within, ap length c.as_slice-held.ensures, range_length this.buf this.start this.end, this.ordered) in
-    record { ordered = within; in_bounds = this.in_bounds }
+    record {
+      ordered = within;
+      in_bounds = this.in_bounds;
+      content_ordered = this.content_ordered;
+      content_in_bounds = this.content_in_bounds;
+    }
