@@ -1,20 +1,22 @@
 -- The content that stands first in bytes, and bytes that decide none.
-use Rattle.std.proofs.Common.{◌≡◌, ◌≢◌, ◌⊎◌, inl, inr, ⊎_elim, ℕ, zero, suc, ◌+◌, ◌-◌, ◌<◌, ◌≤◌, ◌==◌, Bool, true, false, cond, nat_eq}
+use Rattle.std.proofs.Common.{◌≡◌, ◌≢◌, ◌⊎◌, inl, inr, ⊎_elim, ℕ, zero, suc, ◌+◌, ◌-◌, ◌<◌, ◌≤◌, ◌==◌, Bool, true, false, cond, nat_eq, nat_lt}
 use Rattle.std.proofs.Common.{List, [], ◌∷◌, ◌++◌, length, take, drop, get_or, map, Option, Some, None, IfSome, Ok, refl, sym, ap, ◌∙◌}
 use Rattle.std.proofs.Common.{subst, arith, All, append_assoc, append-nil, length-append, length-take, take-append-drop}
 use Rattle.std.proofs.Common.{drop-cons, drop_of_length-le}
 use Rattle.std.proofs.lemmas.Bool.{cond_both, eqb-true}
 use Rattle.std.proofs.lemmas.Bool.Decides.{nat_tests}
-use Rattle.std.proofs.lemmas.List.{take-append-le, take-take, take_all}
+use Rattle.std.proofs.Math.Seq.{get_or-append_seam}
+use Rattle.std.proofs.lemmas.List.{get_or_append_left, take-append-le, take-take, take_all, take_at}
+use Rattle.std.proofs.lemmas.List.Sums.{position_or_len_is}
 use Rattle.std.proofs.lemmas.List.Elements.{All-append, All-cons, All-contains, All-nil, Contains-append_right}
 use Rattle.std.proofs.lemmas.List.Splits.{slice_split_at, slice_split_none}
 use Rattle.std.specs.Io.KnownBytes.{IsAtEnd, Keeps, prepend_known}
-use Rattle.std.specs.List.{slice_index, slice_split}
+use Rattle.std.specs.List.{position_or_len, slice_index, slice_split}
 use Rattle.std.specs.Str.Lines.{lines, lines_of_parts, strip_carriage_return}
 use Rattle.cif_columns.specs.Ahead.{AnswersCut, IsLast, PassesFirst}
 use Rattle.cif_columns.specs.Contents.{AreUndecided, BeginOverlong, ComesFirst, EndsAtFeed, HaveNoFeed, IsFirstContent, IsFirstFeed}
 use Rattle.cif_columns.specs.Contents.{contents_of}
-use Rattle.cif_columns.specs.FirstLine.{is_line_feed}
+use Rattle.cif_columns.specs.FirstLine.{first_content, is_line_feed}
 use Rattle.cif_columns.specs.declared.ahead.NextContent.{NextContent}
 use Rattle.cif_columns.specs.declared.ahead.NextContent.TheVariants.{Content, Overlong, End}
 use Rattle.cif_columns.proofs.WholeLines.{lines_to_feed}
@@ -57,13 +59,6 @@ feed_or_none (x ∷ xs) = at (x == 10) refl (feed_or_none xs)
         (λ none. inl (All-cons (λ (b : ℕ). b ≢ 10) x xs other none))
         (λ fed. inr (x ∷ fed.0, fed.1, ap (λ (l : List ℕ). x ∷ l) fed.2, All-cons (λ (b : ℕ). b ≢ 10) x fed.0 other fed.3))
         rest
-
--- bytes that aren't none have a content
-pub some_content : (bytes : List ℕ) → 0 < length bytes → (content : List ℕ) × (others : List (List ℕ)) × (contents_of bytes ≡ content ∷ others)
-some_content bytes some = ⊎_elim
-    (λ none. (bytes, [], content_at_end bytes none some))
-    (λ fed. (strip_carriage_return fed.0, contents_of fed.1, ap contents_of fed.2 ∙ content_before fed.0 fed.1 fed.3))
-    (feed_or_none bytes)
 
 -- ---- a carriage return before a line feed
 
@@ -118,6 +113,81 @@ content_first most bytes content rest = ⊎_elim
       contents = content_at_end bytes ended.no_feed ended.some ∙ ap (λ l. l ∷ []) (sym ended.is)
           ∙ ap (λ l. content ∷ contents_of l) (sym ended.none);
     })
+
+-- bytes that aren't none have one
+pub comes_first : (bytes : List ℕ) → 0 < length bytes → (content rest : List ℕ) × ComesFirst (length bytes + 1) bytes content rest
+comes_first bytes some = ⊎_elim
+    (λ none. (bytes, [], inr (record { some = some; no_feed = none; short = omega arith; is = refl; none = refl })))
+    (λ fed. (
+      strip_carriage_return fed.0,
+      fed.1,
+      inl (record {
+        part = fed.0;
+        no_feed = fed.3;
+        short = omega (arith, ap length fed.2, length-append fed.0 (10 ∷ fed.1));
+        parts = fed.2;
+        is = refl;
+      }),
+    ))
+    (feed_or_none bytes)
+
+pub some_content : (bytes : List ℕ) → 0 < length bytes → (content : List ℕ) × (others : List (List ℕ)) × (contents_of bytes ≡ content ∷ others)
+some_content bytes some =
+    let (content, rest, first) = comes_first bytes some in
+    (content, contents_of rest, (content_first (length bytes + 1) bytes content rest first).contents)
+
+-- it is what computes as the first content
+module _ (part rest : List ℕ) (none : HaveNoFeed part) where
+  place_is : position_or_len is_line_feed (part ++ 10 ∷ rest) ≡ length part
+  place_is = position_or_len_is is_line_feed (part ++ 10 ∷ rest) (length part) 0 (omega (arith, length-append part (10 ∷ rest)))
+      (λ k below. ap is_line_feed (get_or_append_left part (10 ∷ rest) 0 k below) ∙ none_split part none k 0 below)
+      (λ within. ap is_line_feed (get_or-append_seam part 10 rest 0))
+
+  content_is : first_content (part ++ 10 ∷ rest) ≡ strip_carriage_return part
+  content_is =
+      let bytes = part ++ 10 ∷ rest in
+      let below : length part < length bytes = omega (arith, length-append part (10 ∷ rest)) in
+      let feed : nat_lt (length part) (length bytes) ≡ true = grind (arith, nat_tests) in
+      ap (λ n. cond (nat_lt n (length bytes)) (strip_carriage_return (take n bytes)) bytes) place_is
+      ∙ ap (λ b. cond b (strip_carriage_return (take (length part) bytes)) bytes) feed
+      ∙ ap strip_carriage_return (take_at part (10 ∷ rest) (length part) refl)
+
+all_content : (bytes : List ℕ) → HaveNoFeed bytes → first_content bytes ≡ bytes
+all_content bytes none =
+    let far : position_or_len is_line_feed bytes ≡ length bytes =
+    position_or_len_is is_line_feed bytes (length bytes) 0 (omega arith) (λ k below. none_split bytes none k 0 below)
+    (λ within. absurd (omega arith)) in
+    let feed : nat_lt (length bytes) (length bytes) ≡ false = grind (arith, nat_tests) in
+    ap (λ n. cond (nat_lt n (length bytes)) (strip_carriage_return (take n bytes)) bytes) far
+    ∙ ap (λ b. cond b (strip_carriage_return (take (length bytes) bytes)) bytes) feed
+
+pub first_is : (most : ℕ) (bytes content rest : List ℕ) → ComesFirst most bytes content rest → first_content bytes ≡ content
+first_is most bytes content rest = ⊎_elim
+    (λ fed. ap first_content fed.parts ∙ content_is fed.part rest fed.no_feed ∙ sym fed.is)
+    (λ ended. all_content bytes ended.no_feed ∙ sym ended.is)
+
+pub first_content_is : (bytes content : List ℕ) (others : List (List ℕ)) → contents_of bytes ≡ content ∷ others → first_content bytes ≡ content
+first_content_is [] content others is = absurd (cc)
+first_content_is (b ∷ bytes) content others is =
+    let (first, rest, comes) = comes_first (b ∷ bytes) (omega arith) in
+    let both = (content_first (length (b ∷ bytes) + 1) (b ∷ bytes) first rest comes).contents in
+    let same : first ≡ content = cc in
+    first_is (length (b ∷ bytes) + 1) (b ∷ bytes) first rest comes ∙ same
+
+-- it begins as the bytes do
+take_begins : (k : ℕ) (bytes : List ℕ) (b : ℕ) → 0 < b → get_or (take k bytes) 0 0 ≡ b → (0 < length bytes) × (get_or bytes 0 0 ≡ b)
+take_begins zero bytes b some e = absurd (omega arith)
+take_begins (suc k) [] b some e = absurd (omega arith)
+take_begins (suc k) (x ∷ bytes) b some e = (omega arith, e)
+
+pub begins_as : (most : ℕ) (bytes content rest : List ℕ) (b : ℕ) → 0 < b → ComesFirst most bytes content rest → get_or content 0 0 ≡ b
+    → get_or bytes 0 0 ≡ b
+begins_as most bytes content rest b some first begins = ⊎_elim
+    (λ fed.
+    let front = stripped_front fed.part ∙ sym fed.is in
+    let (some_there, here) = take_begins _ fed.part b some (ap (λ l. get_or l 0 0) front ∙ begins) in
+    ap (λ l. get_or l 0 0) fed.parts ∙ get_or_append_left fed.part (10 ∷ rest) 0 0 some_there ∙ here)
+    (λ ended. ap (λ l. get_or l 0 0) (sym ended.is) ∙ begins) first
 
 -- with more bytes behind a line feed
 fed_more : (most : ℕ) (held content rest more : List ℕ) → EndsAtFeed most held content rest

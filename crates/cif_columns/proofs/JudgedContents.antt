@@ -21,11 +21,10 @@ use Rattle.cif_columns.specs.declared.refusal.Refusal.{Refusal}
 use Rattle.cif_columns.specs.declared.refusal.Refusal.TheVariants.{TooManyLines}
 use Rattle.cif_columns.specs.declared.source.Source.{Source}
 use Rattle.cif_columns.proofs.ContentRuns.{HasGiven, at_limits, given_all, given_so, given_within}
-use Rattle.cif_columns.proofs.DecidedLines.{parts_some}
 use Rattle.cif_columns.proofs.FirstContents.{content_at_end, content_before, feed_or_none, kept_left, one_part, overlong_part}
 use Rattle.cif_columns.proofs.FirstContents.{part_before, some_content}
 use Rattle.cif_columns.proofs.GivenLinesLaws.{contents_given, given_front, held_front, known_so, none_given, whole_more}
-use Rattle.cif_columns.proofs.WholeLines.{ends_before, lines_of_parts-append, lines_to_feed, split_at_feed}
+use Rattle.cif_columns.proofs.WholeLines.{ends_before, lines_of_parts-append, lines_to_feed, parts_some, split_at_feed}
 
 -- ---- whole contents, none of which is overlong
 

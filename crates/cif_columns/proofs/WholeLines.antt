@@ -7,8 +7,17 @@ use Rattle.std.specs.Str.Lines.{lines, lines_of_parts, strip_carriage_return}
 use Rattle.cif_columns.specs.Contents.{StandsFirst}
 use Rattle.cif_columns.specs.FirstLine.{is_line_feed}
 use Rattle.cif_columns.specs.GivenLines.{EndsLine}
-use Rattle.cif_columns.proofs.DecidedLines.{parts_some}
 use mathlib.Core.Logic.{◌⊎◌, inl, inr, ⊎_elim}
+
+-- bytes have a part
+pub parts_some : (p : ℕ → Bool) (bytes : List ℕ) → (first : List ℕ) × (others : List (List ℕ)) × (slice_split p bytes ≡ first ∷ others)
+parts_some p [] = ([], [], refl)
+parts_some p (x ∷ xs) = at (p x) (parts_some p xs)
+  where
+    at : (b : Bool) → (first : List ℕ) × (others : List (List ℕ)) × (slice_split p xs ≡ first ∷ others)
+        → (first : List ℕ) × (others : List (List ℕ)) × (cond b ([] ∷ slice_split p xs) (onto_first x (slice_split p xs)) ≡ first ∷ others)
+    at true h = ([], slice_split p xs, refl)
+    at false h = (x ∷ h.0, h.1, ap (onto_first x) h.2)
 
 -- a line feed splits its bytes
 pub split_at_feed : (front more : List ℕ)

@@ -1,9 +1,9 @@
 -- What a clause reads of a `ContentReader`, and what a `next` answers.
 use Rattle.std.specs.Prelude.{◌≡◌, ◌≢◌, ℕ, ◌+◌, ◌<◌, true, false, List, [], length, Option, Some, IfSome, IfOk, Result, Ok, Err}
+use Rattle.std.specs.Io.KnownBytes.{Keeps, prepend_known}
 use Rattle.cif_columns.specs.Ahead.{content_bytes, held_bytes, known_left}
 use Rattle.cif_columns.specs.Contents.{BeginOverlong, ComesFirst, DecideNoContent}
-use Rattle.cif_columns.specs.LineReader.{GivenDecideContent, LineReads}
-use Rattle.cif_columns.specs.Source.{reader_of, source_ended, source_failed}
+use Rattle.cif_columns.specs.Source.{HasFailedToRead, HasReadOn, reader_of, source_ended, source_failed}
 use Rattle.cif_columns.specs.declared.ahead.NextContent.{NextContent}
 use Rattle.cif_columns.specs.declared.ahead.NextContent.TheVariants.{Content, Overlong, End}
 use Rattle.cif_columns.specs.declared.content_reader.ContentReader.{ContentReader}
@@ -35,6 +35,19 @@ most_of r = r.most
 -- the bytes that are left: those held, and then those that the reader has left, where these are known
 abbrev pub left : {R : Type 0} → (R → Option (List ℕ)) → ContentReader → Source R → Option (List ℕ)
 left remaining r s = known_left remaining r.ahead s
+
+-- what a call that may answer a fault of the lines owes its source: it fails to read exactly where it answers Read
+abbrev pub LineReads : {R A : Type 0} → (R → Option ℕ) → Source R → Source R → Result A LineFault → Type 0
+LineReads errors old new (Ok done) = HasReadOn errors old new
+LineReads errors old new (Err (Refused number why)) = HasReadOn errors old new
+LineReads errors old new (Err Read) = HasFailedToRead errors old new
+
+-- Of the bytes that were left, where they are known, the reader has these left, and has given the others. They decide the first content,
+-- after so many of at most max.
+pub record GivenDecideContent (most max count : ℕ) (bytes unread : Option (List ℕ)) : Type 0 where
+  pub given : List ℕ
+  pub parts : Keeps bytes (prepend_known given unread)
+  pub decided : ¬ DecideNoContent most max count given
 
 -- what a call answers, where these bytes are left, and what is left after it
 abbrev pub AnswersContent : ℕ → List ℕ → Result NextContent LineFault → List ℕ → Option (List ℕ) → Type 0

@@ -14,9 +14,9 @@ use crate::source::{ReadDevice, Source};
 /// its first `most` bytes are read. Nothing is allocated.
 #[derive(Drop)]
 pub struct ContentReader {
-    ahead: Ahead,
-    given: u64,
-    limit: u64,
+    pub(crate) ahead: Ahead,
+    pub(crate) given: u64,
+    pub(crate) limit: u64,
     most: usize,
     ghost counted: { given ≤ limit },
     ghost limited: { limit ≤ MAX_LINES },

@@ -26,7 +26,7 @@ use Rattle.cif_columns.specs.declared.refusal.LineFault.TheVariants as line_faul
 use Rattle.cif_columns.specs.declared.refusal.Refusal.{Refusal}
 use Rattle.cif_columns.specs.declared.refusal.Refusal.TheVariants as refusal
 use Rattle.cif_columns.specs.declared.source.Source.{Source}
-use Rattle.cif_columns.proofs.DecidedLines.{contents_first}
+use Rattle.cif_columns.proofs.FirstContents.{first_content_is}
 use Rattle.cif_columns.proofs.GivenLinesLaws.{IsReadingContents, KnownContents, contents_given, known_so, reading_content}
 use Rattle.cif_columns.proofs.PrintableBytes.{printable_fact, printable_true}
 use Rattle.cif_columns.proofs.ReadSources.{failed_after, read_on_both}
@@ -231,14 +231,9 @@ module _ (feed : Feed) (allowed : HolidayCodes) (max : ℕ) where
         (so_far : IsReadingContents IsFeedContent remaining start max reader source cs) (after : Unread) where
       no_comment_there : (bytes rest content : List ℕ) (others : List (List ℕ)) → AreWholeContentsAndRest IsFeedContent bytes cs rest
           → contents_of bytes ≡ cs ++ content ∷ others → is_comment (first_content rest) ≡ false → is_comment content ≡ false
-      no_comment_there bytes [] content others known is none =
-          let both : contents_of [] ≡ content ∷ others = append_cancel_left cs _ _ (sym (contents_given bytes cs [] known) ∙ is) in cc
-      no_comment_there bytes (b ∷ rest) content others known is none =
-          let both : contents_of (b ∷ rest) ≡ content ∷ others =
-          append_cancel_left cs _ _ (sym (contents_given bytes cs (b ∷ rest) known) ∙ is) in
-          let first = contents_first (b ∷ rest) (omega arith) in
-          let same : first_content (b ∷ rest) ≡ content = cc in
-          ap is_comment (sym same) ∙ none
+      no_comment_there bytes rest content others known is none =
+          let first = append_cancel_left cs _ _ (sym (contents_given bytes cs rest known) ∙ is) in
+          ap is_comment (sym (first_content_is rest content others first)) ∙ none
 
       pub at_feed_fault : (fault : LineFault) → IfSome start (λ bytes. AreContentsToFault IsFeedContent max bytes after cs fault)
           → (fault ≢ line_fault.Read → IsNoComment remaining reader source)
