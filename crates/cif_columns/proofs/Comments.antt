@@ -1,5 +1,5 @@
 -- Where no comment stands first.
-use Rattle.std.proofs.Common.{◌≡◌, ◌≢◌, ℕ, ◌<◌, ◌≤◌, true, false, nat_le, List, ◌++◌, length, take, Option, None, Some, IfSome, refl, sym, ap}
+use Rattle.std.proofs.Common.{◌≡◌, ◌≢◌, ℕ, ◌<◌, true, false, nat_le, List, ◌++◌, length, take, Option, None, Some, IfSome, sym, ap}
 use Rattle.std.proofs.Common.{◌∙◌, arith, get_or, codes, length-append}
 use Rattle.std.proofs.lemmas.Bool.{and_parts, false_from_ne_true}
 use Rattle.std.proofs.lemmas.Bool.Decides.{nat_tests}
@@ -7,8 +7,8 @@ use Rattle.std.proofs.lemmas.List.{get_or-take, get_or_append_left}
 use Rattle.std.proofs.lemmas.Slice.Eq.{bytes_eq-Decides}
 use Rattle.std.specs.Io.KnownBytes.{prepend_known}
 use Rattle.cif_columns.specs.Comment.{is_comment}
-use Rattle.cif_columns.specs.FirstLine.{first_content}
-use Rattle.cif_columns.proofs.FirstContents.{begins_as, comes_first, first_is}
+use Rattle.cif_columns.specs.LineReader.{BeginWithoutComment}
+use Rattle.cif_columns.proofs.FirstContents.{begins_as, comes_first, content_first}
 
 starts : (content : List ℕ) → is_comment content ≡ true → get_or content 0 0 ≡ 47
 unfolding is_comment
@@ -25,15 +25,17 @@ long_no_comment content long = false_from_ne_true _ (λ is. too_long (and_parts 
     too_long short = grind (arith, nat_tests)
 
 -- bytes that begin with another byte
-other_first : (bytes : List ℕ) → 0 < length bytes → get_or bytes 0 0 ≢ 47 → is_comment (first_content bytes) ≡ false
-other_first bytes some other =
+other_first : (bytes : List ℕ) → 0 < length bytes → get_or bytes 0 0 ≢ 47 → BeginWithoutComment bytes
+other_first bytes some other one others is =
     let (content, rest, first) = comes_first bytes some in
-    ap is_comment (first_is _ bytes content rest first)
-    ∙ false_from_ne_true _ (λ is. other (begins_as _ bytes content rest 47 (omega arith) first (starts content is)))
+    let all = (content_first _ bytes content rest first).contents in
+    let same : one ≡ content = cc in
+    false_from_ne_true _ (λ comment.
+    other (begins_as _ bytes content rest 47 (omega arith) first (ap (λ l. get_or l 0 0) (sym same) ∙ starts one comment)))
 
 -- what is left begins with what is held
 pub known_other : (held : List ℕ) (unread : Option (List ℕ)) → 0 < length held → get_or held 0 0 ≢ 47
-    → IfSome (prepend_known held unread) (λ bytes. is_comment (first_content bytes) ≡ false)
+    → IfSome (prepend_known held unread) BeginWithoutComment
 known_other held None some other = tt
 known_other held (Some more) some other = other_first (held ++ more) (omega (arith, some, length-append held more))
     (λ is. other (sym (get_or_append_left held more 0 0 some) ∙ is))

@@ -1,8 +1,8 @@
 -- What a `ContentReader` answers, by what its held bytes and its source gave.
 use Rattle.std.proofs.Common.{◌≡◌, ◌≢◌, ℕ, ◌+◌, ◌<◌, List, length, Option, Ok, Err, refl, ap, arith}
 use Rattle.std.proofs.lemmas.List.{nil_from_length}
-use Rattle.cif_columns.specs.Ahead.{AnswersCut, CutsNext, GivenDecided}
-use Rattle.cif_columns.specs.ContentReader.{IsNextOf, content, given, held, left, limit, most_of}
+use Rattle.cif_columns.specs.Ahead.{AnswersNext, CutsNext, GivenDecided}
+use Rattle.cif_columns.specs.ContentReader.{HoldsNext, IsNextOf, content, given, held, left, limit, most_of}
 use Rattle.cif_columns.specs.Contents.{AreUndecided, DecideNoContent}
 use Rattle.cif_columns.specs.LineReader.{GivenDecideContent}
 use Rattle.cif_columns.specs.declared.ahead.NextContent.{NextContent}
@@ -42,23 +42,22 @@ module _ (most max count : ℕ) where
 
 -- what isn't none begins with some byte
 pub begins_some : (most : ℕ) (bytes content : List ℕ) (after : Option (List ℕ)) (next : NextContent) → 0 < most → next ≢ End
-    → AnswersCut most bytes (Ok next) content after → 0 < length bytes
+    → AnswersNext most bytes next content after → 0 < length bytes
 begins_some most bytes content after Content some other answer = first_some most bytes content answer.0 answer.2
 begins_some most bytes content after Overlong some other answer = omega (arith, some, answer.1.long)
 begins_some most bytes content after End some other answer = absurd (other refl)
 
 module _ {R : Type 0} (remaining : R → Option (List ℕ)) (errors : R → Option ℕ) (old new : ContentReader) (from to : Source R)
     (limit_now : limit new ≡ limit old) (most_now : most_of new ≡ most_of old) where
-  -- the end
-  pub ends_next : (most : ℕ) → CutsNext remaining errors most old.ahead from (Ok End) new.ahead to → given new ≡ given old
-      → ((given_bytes : List ℕ) → DecideNoContent (most_of old) (limit old) (given old) given_bytes → AreUndecided most given_bytes)
+  -- the end, where none may
+  pub ends_next : CutsNext remaining errors 1 old.ahead from (Ok End) new.ahead to → given old ≡ limit old → given new ≡ given old
       → IsNextOf remaining errors old from (Ok End) new to
-  ends_next most cut same so = record {
+  ends_next cut full same = record {
     answer = cut.answer;
     holds = same;
     limit_now = limit_now;
     most_now = most_now;
-    decided = λ other not. given_decide so (cut.decided not);
+    decided = λ other not. given_decide (none_more (most_of old) (limit old) (given old) full) (cut.decided not);
     device = cut.device;
     ended = λ e. cut.ended refl;
     fresh = cut.fresh;
@@ -80,34 +79,19 @@ module _ {R : Type 0} (remaining : R → Option (List ℕ)) (errors : R → Opti
     fresh = λ none. tt;
   }
 
-  module _ (room : given old < limit old) where
-    -- a content
-    pub gives_next : CutsNext remaining errors (most_of old) old.ahead from (Ok Content) new.ahead to → given new ≡ given old + 1
-        → IsNextOf remaining errors old from (Ok Content) new to
-    gives_next cut more = record {
-      answer = cut.answer;
-      holds = (room, more);
-      limit_now = limit_now;
-      most_now = most_now;
-      decided = λ other not. given_decide (none_decided (most_of old) (limit old) (given old)) (cut.decided not);
-      device = cut.device;
-      ended = λ e. absurd (cc);
-      fresh = cut.fresh;
-    }
-
-    -- one that is overlong
-    pub overlong_next : CutsNext remaining errors (most_of old) old.ahead from (Ok Overlong) new.ahead to → given new ≡ given old
-        → IsNextOf remaining errors old from (Ok Overlong) new to
-    overlong_next cut same = record {
-      answer = cut.answer;
-      holds = (room, same, cut.overlong refl);
-      limit_now = limit_now;
-      most_now = most_now;
-      decided = λ other not. given_decide (none_decided (most_of old) (limit old) (given old)) (cut.decided not);
-      device = cut.device;
-      ended = λ e. absurd (cc);
-      fresh = cut.fresh;
-    }
+  -- what comes where a content may
+  pub gives_next : (next : NextContent) → CutsNext remaining errors (most_of old) old.ahead from (Ok next) new.ahead to
+      → HoldsNext old (Ok next) new → IsNextOf remaining errors old from (Ok next) new to
+  gives_next next cut holds = record {
+    answer = cut.answer;
+    holds = holds;
+    limit_now = limit_now;
+    most_now = most_now;
+    decided = λ other not. given_decide (none_decided (most_of old) (limit old) (given old)) (cut.decided not);
+    device = cut.device;
+    ended = λ e. let same : next ≡ End = cc in cut.ended (ap Ok same);
+    fresh = cut.fresh;
+  }
 
   -- a failure of the source
   pub fails_next : (most : ℕ) (fault : ReadFault) → CutsNext remaining errors most old.ahead from (Err fault) new.ahead to

@@ -1,22 +1,20 @@
 -- The content that stands first in bytes, and bytes that decide none.
-use Rattle.std.proofs.Common.{◌≡◌, ◌≢◌, ◌⊎◌, inl, inr, ⊎_elim, ℕ, zero, suc, ◌+◌, ◌-◌, ◌<◌, ◌≤◌, ◌==◌, Bool, true, false, cond, nat_eq, nat_lt}
-use Rattle.std.proofs.Common.{List, [], ◌∷◌, ◌++◌, length, take, drop, get_or, map, Option, Some, None, IfSome, Ok, refl, sym, ap, ◌∙◌}
+use Rattle.std.proofs.Common.{◌≡◌, ◌≢◌, ◌⊎◌, inl, inr, ⊎_elim, ℕ, zero, suc, ◌+◌, ◌-◌, ◌<◌, ◌≤◌, ◌==◌, Bool, true, false, cond, nat_eq}
+use Rattle.std.proofs.Common.{List, [], ◌∷◌, ◌++◌, length, take, drop, get_or, map, Option, Some, None, IfSome, refl, sym, ap, ◌∙◌}
 use Rattle.std.proofs.Common.{subst, arith, All, append_assoc, append-nil, length-append, length-take, take-append-drop}
 use Rattle.std.proofs.Common.{drop-cons, drop_of_length-le}
 use Rattle.std.proofs.lemmas.Bool.{cond_both, eqb-true}
 use Rattle.std.proofs.lemmas.Bool.Decides.{nat_tests}
-use Rattle.std.proofs.Math.Seq.{get_or-append_seam}
-use Rattle.std.proofs.lemmas.List.{get_or_append_left, take-append-le, take-take, take_all, take_at}
-use Rattle.std.proofs.lemmas.List.Sums.{position_or_len_is}
+use Rattle.std.proofs.lemmas.List.{get_or_append_left, take-append-le, take-take, take_all}
 use Rattle.std.proofs.lemmas.List.Elements.{All-append, All-cons, All-contains, All-nil, Contains-append_right}
 use Rattle.std.proofs.lemmas.List.Splits.{slice_split_at, slice_split_none}
 use Rattle.std.specs.Io.KnownBytes.{IsAtEnd, Keeps, prepend_known}
-use Rattle.std.specs.List.{position_or_len, slice_index, slice_split}
+use Rattle.std.specs.List.{slice_index, slice_split}
 use Rattle.std.specs.Str.Lines.{lines, lines_of_parts, strip_carriage_return}
-use Rattle.cif_columns.specs.Ahead.{AnswersCut, IsLast, PassesFirst}
+use Rattle.cif_columns.specs.Ahead.{AnswersNext, IsLast, PassesFirst}
 use Rattle.cif_columns.specs.Contents.{AreUndecided, BeginOverlong, ComesFirst, EndsAtFeed, HaveNoFeed, IsFirstContent, IsFirstFeed}
 use Rattle.cif_columns.specs.Contents.{contents_of}
-use Rattle.cif_columns.specs.FirstLine.{first_content, is_line_feed}
+use Rattle.cif_columns.specs.FirstLine.{is_line_feed}
 use Rattle.cif_columns.specs.declared.ahead.NextContent.{NextContent}
 use Rattle.cif_columns.specs.declared.ahead.NextContent.TheVariants.{Content, Overlong, End}
 use Rattle.cif_columns.proofs.WholeLines.{lines_to_feed}
@@ -135,44 +133,6 @@ pub some_content : (bytes : List ℕ) → 0 < length bytes → (content : List �
 some_content bytes some =
     let (content, rest, first) = comes_first bytes some in
     (content, contents_of rest, (content_first (length bytes + 1) bytes content rest first).contents)
-
--- it is what computes as the first content
-module _ (part rest : List ℕ) (none : HaveNoFeed part) where
-  place_is : position_or_len is_line_feed (part ++ 10 ∷ rest) ≡ length part
-  place_is = position_or_len_is is_line_feed (part ++ 10 ∷ rest) (length part) 0 (omega (arith, length-append part (10 ∷ rest)))
-      (λ k below. ap is_line_feed (get_or_append_left part (10 ∷ rest) 0 k below) ∙ none_split part none k 0 below)
-      (λ within. ap is_line_feed (get_or-append_seam part 10 rest 0))
-
-  content_is : first_content (part ++ 10 ∷ rest) ≡ strip_carriage_return part
-  content_is =
-      let bytes = part ++ 10 ∷ rest in
-      let below : length part < length bytes = omega (arith, length-append part (10 ∷ rest)) in
-      let feed : nat_lt (length part) (length bytes) ≡ true = grind (arith, nat_tests) in
-      ap (λ n. cond (nat_lt n (length bytes)) (strip_carriage_return (take n bytes)) bytes) place_is
-      ∙ ap (λ b. cond b (strip_carriage_return (take (length part) bytes)) bytes) feed
-      ∙ ap strip_carriage_return (take_at part (10 ∷ rest) (length part) refl)
-
-all_content : (bytes : List ℕ) → HaveNoFeed bytes → first_content bytes ≡ bytes
-all_content bytes none =
-    let far : position_or_len is_line_feed bytes ≡ length bytes =
-    position_or_len_is is_line_feed bytes (length bytes) 0 (omega arith) (λ k below. none_split bytes none k 0 below)
-    (λ within. absurd (omega arith)) in
-    let feed : nat_lt (length bytes) (length bytes) ≡ false = grind (arith, nat_tests) in
-    ap (λ n. cond (nat_lt n (length bytes)) (strip_carriage_return (take n bytes)) bytes) far
-    ∙ ap (λ b. cond b (strip_carriage_return (take (length bytes) bytes)) bytes) feed
-
-pub first_is : (most : ℕ) (bytes content rest : List ℕ) → ComesFirst most bytes content rest → first_content bytes ≡ content
-first_is most bytes content rest = ⊎_elim
-    (λ fed. ap first_content fed.parts ∙ content_is fed.part rest fed.no_feed ∙ sym fed.is)
-    (λ ended. all_content bytes ended.no_feed ∙ sym ended.is)
-
-pub first_content_is : (bytes content : List ℕ) (others : List (List ℕ)) → contents_of bytes ≡ content ∷ others → first_content bytes ≡ content
-first_content_is [] content others is = absurd (cc)
-first_content_is (b ∷ bytes) content others is =
-    let (first, rest, comes) = comes_first (b ∷ bytes) (omega arith) in
-    let both = (content_first (length (b ∷ bytes) + 1) (b ∷ bytes) first rest comes).contents in
-    let same : first ≡ content = cc in
-    first_is (length (b ∷ bytes) + 1) (b ∷ bytes) first rest comes ∙ same
 
 -- it begins as the bytes do
 take_begins : (k : ℕ) (bytes : List ℕ) (b : ℕ) → 0 < b → get_or (take k bytes) 0 0 ≡ b → (0 < length bytes) × (get_or bytes 0 0 ≡ b)
@@ -310,7 +270,7 @@ kept_left (Some all) (Some same) keeps = ap Some keeps
 -- what the held bytes decide is so of all that is left
 pub passed_left : (most : ℕ) (bytes remaining : Option (List ℕ)) (held content rest : List ℕ) (next : NextContent)
     → Keeps bytes (prepend_known held remaining) → PassesFirst most held next content rest
-    → IfSome bytes (λ all. AnswersCut most all (Ok next) content (prepend_known rest remaining))
+    → IfSome bytes (λ all. AnswersNext most all next content (prepend_known rest remaining))
 passed_left most None remaining held content rest next keeps passes = tt
 passed_left most (Some all) None held content rest next keeps passes = absurd keeps
 passed_left most (Some all) (Some more) held content rest Content keeps passes =
@@ -322,7 +282,7 @@ passed_left most (Some all) (Some more) held content rest End keeps passes = abs
 -- where the source has no more bytes, and those that are held decide none
 pub last_left : (most : ℕ) (bytes remaining : Option (List ℕ)) (held content rest : List ℕ) (next : NextContent)
     → Keeps bytes (prepend_known held remaining) → IsAtEnd remaining → AreUndecided most held → IsLast held next content rest
-    → IfSome bytes (λ all. AnswersCut most all (Ok next) content (prepend_known rest remaining))
+    → IfSome bytes (λ all. AnswersNext most all next content (prepend_known rest remaining))
 last_left most None remaining held content rest next keeps end undecided last = tt
 last_left most (Some all) None held content rest next keeps end undecided last = absurd keeps
 last_left most (Some all) (Some more) held content rest next keeps end undecided last = at next last
@@ -330,7 +290,7 @@ last_left most (Some all) (Some more) held content rest next keeps end undecided
     same : held ≡ all
     same = sym (append-nil held) ∙ ap (λ l. held ++ l) (sym end) ∙ keeps
 
-    at : (n : NextContent) → IsLast held n content rest → AnswersCut most all (Ok n) content (Some (rest ++ more))
+    at : (n : NextContent) → IsLast held n content rest → AnswersNext most all n content (Some (rest ++ more))
     at Content (some, is, none) = (
       rest ++ more,
       refl,

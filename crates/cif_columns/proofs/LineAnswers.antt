@@ -1,6 +1,6 @@
 -- What a content is as a line, and what a `LineReader` answers of it.
 use Rattle.std.proofs.Common.{◌≡◌, ◌≢◌, ℕ, ◌+◌, ◌<◌, ◌≤◌, Bool, true, false, cond, nat_eq, List, [], ◌∷◌, length, Option, Some, None, IfSome}
-use Rattle.std.proofs.Common.{Result, Ok, Err, refl, sym, ap, ◌∙◌, subst, arith}
+use Rattle.std.proofs.Common.{Ok, Err, refl, sym, ap, ◌∙◌, subst, arith}
 use Rattle.std.proofs.lemmas.Bool.Decides.{nat_tests}
 use Rattle.std.proofs.lemmas.Bool.{eqb-true}
 use Rattle.std.specs.List.{list_all}
@@ -9,7 +9,7 @@ use Rattle.cif_columns.specs.ContentReader.{IsNextOf, content}
 use Rattle.cif_columns.specs.Contents.{DecideNoContent, DecidesNothing, HasLineReason, IsFirstContent, IsLineReason, contents_of}
 use Rattle.cif_columns.specs.FirstLine.{is_printable, line_of}
 use Rattle.cif_columns.specs.Line.{IsLine}
-use Rattle.cif_columns.specs.LineReader.{Answers, GivenDecide, GivenDecideContent, HasPassedComment, IsNext, IsNoComment, PassesContent}
+use Rattle.cif_columns.specs.LineReader.{GivenDecide, GivenDecideContent, HasPassedComment, IsNext, IsNoComment, PassesContent}
 use Rattle.cif_columns.specs.LineReader.{given, held, left, limit, past}
 use Rattle.cif_columns.specs.Source.{HasFailedToRead, HasReadOn, reader_of, source_ended, source_failed}
 use Rattle.cif_columns.specs.declared.ahead.NextContent.TheVariants.{Content, Overlong, End}
@@ -20,10 +20,10 @@ use Rattle.cif_columns.specs.declared.line_reader.Past.TheVariants.{Reading, End
 use Rattle.cif_columns.specs.declared.refusal.LineFault.{LineFault}
 use Rattle.cif_columns.specs.declared.refusal.LineFault.TheVariants.{Refused, Read}
 use Rattle.cif_columns.specs.declared.refusal.Refusal.{Refusal}
-use Rattle.cif_columns.specs.declared.refusal.Refusal.TheVariants.{BadLength, BadByte, TooManyLines}
+use Rattle.cif_columns.specs.declared.refusal.Refusal.TheVariants.{BadLength, BadByte}
 use Rattle.cif_columns.specs.declared.source.Source.{Source}
 use Rattle.cif_columns.proofs.Comments.{long_no_comment}
-use Rattle.cif_columns.proofs.FirstContents.{content_first, first_is, first_content_is, overlong_content, some_content}
+use Rattle.cif_columns.proofs.FirstContents.{content_first, overlong_content, some_content}
 use Rattle.cif_columns.proofs.GivenLinesLaws.{known_so}
 use Rattle.cif_columns.proofs.PrintableBytes.{printable_fact, printable_true}
 
@@ -181,9 +181,10 @@ module _ {R : Type 0} {remaining : R → Option (List ℕ)} {errors : R → Opti
         let (one, others, contents, long) = overlong_content old.contents.most bytes old.contents.some answer.1 in
         (one, others, contents, (omega (arith, is, next.holds.0), omega (arith, long, old.longest)))) next.answer)
         next.device (λ not. decides old (next.decided (λ e. absurd (cc)) not)),
-    λ _ _ _. known_so (left remaining old from) _ _ (λ bytes answer.
+    λ _ _ _. known_so (left remaining old from) _ _ (λ bytes answer first more is.
         let (one, others, contents, long) = overlong_content old.contents.most bytes old.contents.some answer.1 in
-        ap is_comment (first_content_is bytes one others contents) ∙ long_no_comment one (omega (arith, long, old.longest))) next.answer,
+        let same : one ≡ first = cc in
+        ap is_comment (sym same) ∙ long_no_comment one (omega (arith, long, old.longest))) next.answer,
   )
     where
       is : number ≡ given old + 1
@@ -253,4 +254,7 @@ pub no_comment : {R : Type 0} {remaining : R → Option (List ℕ)} {errors : R 
     (between : ContentReader) → IsNextOf remaining errors old.contents from (Ok Content) between to → is_comment (content between) ≡ false
     → IsNoComment remaining old from
 no_comment {remaining = remaining} old {from = from} between next none = λ _ _. known_so (left remaining old from) _ _
-    (λ bytes answer. ap is_comment (first_is _ bytes _ answer.0 answer.2) ∙ none) next.answer
+    (λ bytes answer first more is.
+    let all = (content_first _ bytes _ answer.0 answer.2).contents in
+    let same : content between ≡ first = cc in
+    ap is_comment (sym same) ∙ none) next.answer

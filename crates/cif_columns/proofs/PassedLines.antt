@@ -1,10 +1,10 @@
 -- A line that is passed where it is ahead is the next line, as `read_line` gives it, from any source.
-use Rattle.std.proofs.Common.{◌≡◌, ◌≢◌, ℕ, suc, ◌+◌, ◌<◌, Bool, true, false, List, ◌∷◌, ◌++◌, length, take, drop, Ok, Some, Option, IfSome}
-use Rattle.std.proofs.Common.{refl, sym, ap, ◌∙◌, arith, drop-cons, get_or, length-take, subst, take-append-drop}
+use Rattle.std.proofs.Common.{◌≡◌, ℕ, ◌+◌, ◌<◌, List, ◌∷◌, ◌++◌, length, drop, Ok, Some, Option}
+use Rattle.std.proofs.Common.{sym, ap, ◌∙◌, arith, drop-cons, length-take, take-append-drop}
 use Rattle.std.proofs.KnownBytes.{Keeps-refl}
 use Rattle.std.specs.Io.KnownBytes.{prepend_known}
 use Rattle.cif_columns.specs.Ahead.{BeginWithLine}
-use Rattle.cif_columns.specs.Contents.{EndsAtFeed, HaveNoFeed, IsFirstContent}
+use Rattle.cif_columns.specs.Contents.{EndsAtFeed}
 use Rattle.cif_columns.specs.Line.{ArePrintable, IsLine}
 use Rattle.cif_columns.specs.LineReader.{AreAhead, HasPassed, IsNext, given, held, left, limit, past}
 use Rattle.cif_columns.specs.Source.{reader_of}

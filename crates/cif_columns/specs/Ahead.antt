@@ -1,5 +1,5 @@
 -- What is read ahead of the lines, and the content that stands first in it.
-use Rattle.std.specs.Prelude.{◌≡◌, ℕ, ◌<◌, true, false, List, [], length, slice_index, slice_range, take, Option, Some, IfSome, Result, Ok, Err}
+use Rattle.std.specs.Prelude.{◌≡◌, ℕ, ◌<◌, true, false, List, [], length, slice_index, slice_range, take, Option, Some, IfSome, Result, Ok}
 use Rattle.std.specs.Prelude.{IfOk, MatchResult, OnErr}
 use Rattle.std.specs.Io.KnownBytes.{Keeps, prepend_known}
 use Rattle.cif_columns.specs.Contents.{AreUndecided, BeginOverlong, ComesFirst, EndsAtFeed}
@@ -44,12 +44,11 @@ IsLast held next.Content content rest = (0 < length held) × (content ≡ held) 
 IsLast held next.Overlong content rest = ⊥
 IsLast held next.End content rest = (held ≡ []) × (rest ≡ [])
 
--- what a call answers, where these bytes are left, and what is left after it
-abbrev pub AnswersCut : ℕ → List ℕ → Result NextContent ReadFault → List ℕ → Option (List ℕ) → Type 0
-AnswersCut most bytes (Ok next.Content) content after = (rest : List ℕ) × (after ≡ Some rest) × ComesFirst most bytes content rest
-AnswersCut most bytes (Ok next.Overlong) content after = (after ≡ Some bytes) × BeginOverlong most bytes
-AnswersCut most bytes (Ok next.End) content after = (bytes ≡ []) × (after ≡ Some [])
-AnswersCut most bytes (Err fault) content after = after ≡ Some bytes
+-- what a call answers, where these bytes are left: the content, and what is left after it
+abbrev pub AnswersNext : ℕ → List ℕ → NextContent → List ℕ → Option (List ℕ) → Type 0
+AnswersNext most bytes next.Content content after = (rest : List ℕ) × (after ≡ Some rest) × ComesFirst most bytes content rest
+AnswersNext most bytes next.Overlong content after = (after ≡ Some bytes) × BeginOverlong most bytes
+AnswersNext most bytes next.End content after = (bytes ≡ []) × (after ≡ Some [])
 
 -- of the bytes that were left, where they are known, the reader has these left, and has given the others, which decide a content
 pub record GivenDecided (most : ℕ) (bytes unread : Option (List ℕ)) : Type 0 where
@@ -61,7 +60,8 @@ pub record GivenDecided (most : ℕ) (bytes unread : Option (List ℕ)) : Type 0
 pub record CutsNext {R : Type 0} (remaining : R → Option (List ℕ)) (errors : R → Option ℕ) (most : ℕ) (old : Ahead) (from : Source R)
     (result : Result NextContent ReadFault) (new : Ahead) (to : Source R) : Type 0 where
   pub answer : IfSome (known_left remaining old from)
-      (λ bytes. AnswersCut most bytes result (content_bytes new) (known_left remaining new to))
+      (λ bytes. MatchResult result (λ next. AnswersNext most bytes next (content_bytes new) (known_left remaining new to))
+      (λ fault. known_left remaining new to ≡ Some bytes))
   pub overlong : result ≡ Ok next.Overlong → BeginOverlong most (held_bytes new)
   -- what isn't a failure is decided by the bytes so far, or by the end that the source told
   pub decided : IfOk result (λ next. source_ended to ≡ false → GivenDecided most (known_left remaining old from) (remaining (reader_of to)))

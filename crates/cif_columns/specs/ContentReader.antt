@@ -1,8 +1,8 @@
 -- What a clause reads of a `ContentReader`, and what a `next` answers.
 use Rattle.std.specs.Prelude.{◌≡◌, ◌≢◌, ℕ, ◌+◌, ◌<◌, true, false, List, [], length, Option, Some, IfSome, IfOk, Result, Ok, Err}
 use Rattle.std.specs.Io.KnownBytes.{Keeps, prepend_known}
-use Rattle.cif_columns.specs.Ahead.{content_bytes, held_bytes, known_left}
-use Rattle.cif_columns.specs.Contents.{BeginOverlong, ComesFirst, DecideNoContent}
+use Rattle.cif_columns.specs.Ahead.{AnswersNext, content_bytes, held_bytes, known_left}
+use Rattle.cif_columns.specs.Contents.{BeginOverlong, DecideNoContent}
 use Rattle.cif_columns.specs.Source.{HasFailedToRead, HasReadOn, reader_of, source_ended, source_failed}
 use Rattle.cif_columns.specs.declared.ahead.NextContent.{NextContent}
 use Rattle.cif_columns.specs.declared.ahead.NextContent.TheVariants.{Content, Overlong, End}
@@ -51,9 +51,7 @@ pub record GivenDecideContent (most max count : ℕ) (bytes unread : Option (Lis
 
 -- what a call answers, where these bytes are left, and what is left after it
 abbrev pub AnswersContent : ℕ → List ℕ → Result NextContent LineFault → List ℕ → Option (List ℕ) → Type 0
-AnswersContent most bytes (Ok Content) content after = (rest : List ℕ) × (after ≡ Some rest) × ComesFirst most bytes content rest
-AnswersContent most bytes (Ok Overlong) content after = (after ≡ Some bytes) × BeginOverlong most bytes
-AnswersContent most bytes (Ok End) content after = (bytes ≡ []) × (after ≡ Some [])
+AnswersContent most bytes (Ok next) content after = AnswersNext most bytes next content after
 AnswersContent most bytes (Err (Refused number why)) content after = 0 < length bytes
 AnswersContent most bytes (Err Read) content after = after ≡ Some bytes
 

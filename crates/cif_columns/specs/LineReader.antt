@@ -18,7 +18,6 @@ use Rattle.cif_columns.specs.Comment.{is_comment}
 pub use Rattle.cif_columns.specs.ContentReader.{GivenDecideContent, LineReads}
 use Rattle.cif_columns.specs.ContentReader.{IsNextOf}
 use Rattle.cif_columns.specs.Contents.{DecidesNothing, contents_of, IsFirstContent, StandsFirst, HasLineReason, IsLineReason}
-use Rattle.cif_columns.specs.FirstLine.{first_content}
 use Rattle.cif_columns.specs.Line.{IsLine}
 use Rattle.cif_columns.specs.Source.{HasReadOn, reader_of, source_ended, source_failed}
 
@@ -133,10 +132,14 @@ pub record HasPassed (old new : LineReader) : Type 0 where
 abbrev pub content_of : List ℕ → Content
 content_of line = if is_comment line then content.Comment else content.Line
 
+-- the first content of the bytes is no comment
+abbrev pub BeginWithoutComment : List ℕ → Type 0
+BeginWithoutComment bytes = (one : List ℕ) (others : List (List ℕ)) → contents_of bytes ≡ one ∷ others → is_comment one ≡ false
+
 -- where a content may come, no comment stands first in the bytes that are left
 abbrev pub IsNoComment : {R : Type 0} → (R → Option (List ℕ)) → LineReader → Source R → Type 0
 IsNoComment remaining old from = past old ≡ Reading → given old < limit old →
-    IfSome (left remaining old from) (λ bytes. is_comment (first_content bytes) ≡ false)
+    IfSome (left remaining old from) BeginWithoutComment
 
 -- a comment stood first, and was passed
 pub record HasPassedComment {R : Type 0} (remaining : R → Option (List ℕ)) (errors : R → Option ℕ) (old : LineReader) (from : Source R)

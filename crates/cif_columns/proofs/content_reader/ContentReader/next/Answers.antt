@@ -2,14 +2,12 @@
 use Rattle.std.proofs.Common.{refl}
 use Rattle.std.proofs.Common.{◌<◌, arith}
 use Rattle.std.proofs.lemmas.Bool.Decides.{nat_tests}
-use Rattle.cif_columns.proofs.ContentAnswers.{ends_next, fails_next, gives_next, none_begun, none_decided, none_more, none_with_room}
-use Rattle.cif_columns.proofs.ContentAnswers.{overlong_next, refuses_next}
+use Rattle.cif_columns.proofs.ContentAnswers.{ends_next, fails_next, gives_next, none_begun, none_with_room}
+use Rattle.cif_columns.proofs.ContentAnswers.{refuses_next}
 use Rattle.cif_columns.proofs.content_reader.ContentReader.next.Goals as goal
 
 pub returns-in-End : goal.returns-in-End
-returns-in-End g c =
-    let this = c.args.self.now in
-    ends_next _ _ this _ _ _ refl refl 1 (rw c.in-End.is at c.in-Ok.ensures) refl (none_more this.most this.limit this.given c.if-self.true)
+returns-in-End g c = ends_next _ _ c.args.self.now _ _ _ refl refl (rw c.in-End.is at c.in-Ok.ensures) c.if-self.true refl
 
 pub returns-in_default-next : goal.returns-in_default-next
 returns-in_default-next g c =
@@ -24,21 +22,17 @@ pub returns-in-Ok-Content : goal.returns-in-Ok-Content
 returns-in-Ok-Content g c =
     let this = c.args.self.now in
     let room : this.given < this.limit = grind (arith, nat_tests) in
-    gives_next _ _ c.args.self.now _ _ _ refl refl room (rw c.in-Ok-Content.field-0-is at c.in-Ok-Content.ensures)
-    refl
+    gives_next _ _ this _ _ _ refl refl _ (rw c.in-Ok-Content.field-0-is at c.in-Ok-Content.ensures) (room, refl)
 
 pub returns-in-Ok-Overlong : goal.returns-in-Ok-Overlong
 returns-in-Ok-Overlong g c =
     let this = c.args.self.now in
     let room : this.given < this.limit = grind (arith, nat_tests) in
-    overlong_next _ _ c.args.self.now _ _ _ refl refl room
-    (rw c.in-Ok-Overlong.field-0-is at c.in-Ok-Overlong.ensures) refl
+    let cut = rw c.in-Ok-Overlong.field-0-is at c.in-Ok-Overlong.ensures in
+    gives_next _ _ this _ _ _ refl refl _ cut (room, refl, cut.overlong refl)
 
 pub returns-in-Ok-End : goal.returns-in-Ok-End
-returns-in-Ok-End g c =
-    let this = c.args.self.now in
-    ends_next _ _ this _ _ _ refl refl this.most (rw c.in-Ok-End.field-0-is at c.in-Ok-End.ensures) refl
-    (none_decided this.most this.limit this.given)
+returns-in-Ok-End g c = gives_next _ _ c.args.self.now _ _ _ refl refl _ (rw c.in-Ok-End.field-0-is at c.in-Ok-End.ensures) refl
 
 pub returns-in-Err : goal.returns-in-Err
 returns-in-Err g c =
