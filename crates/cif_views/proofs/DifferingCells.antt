@@ -1,21 +1,23 @@
 -- Where no field of a pair has a row, what stands in the columns of all its fields is the same.
-use Rattle.std.proofs.Common.{◌≡◌, ℕ, ◌-◌, ◌<◌, ◌≤◌, Bool, true, false, IsTrue, List, [], ◌∷◌, ◌++◌, codes, cond, drop, length, ◌∙◌}
-use Rattle.std.proofs.Common.{ap}
+use Rattle.std.proofs.Common.{◌≡◌, ℕ, ◌+◌, ◌-◌, ◌<◌, ◌≤◌, Bool, true, false, IsTrue, List, [], ◌∷◌, ◌++◌, codes, cond, drop, length, ◌∙◌}
+use Rattle.std.proofs.Common.{ap, if◌then◌else◌}
 use Rattle.std.proofs.Common.{ap₂, arith, get_or, length-append, map, nat_eq, refl, replicate, subst, sym, take, ⊎_elim}
-use Rattle.std.specs.Prelude.{◌&&◌, ◌||◌, nat_le}
+use Rattle.std.specs.Prelude.{◌&&◌, ◌||◌, nat_le, nat_lt}
+use Rattle.std.proofs.Math.Seq.{take-add}
 use Rattle.std.proofs.lemmas.Bool.{and_parts, eqb-true, false≢true, leb-true, or_cases}
-use Rattle.std.proofs.lemmas.List.{drop-take, length-take-le, take-take}
+use Rattle.std.proofs.lemmas.List.{drop-drop, drop-take, length-take-le, take-take}
 use Rattle.cif_columns.specs.Field.{FieldValue}
 use Rattle.cif_columns.specs.Lines.{used}
 use Rattle.cif_columns.proofs.KeptLines.{trimmed as widened, used_few}
 use Rattle.cif_columns.proofs.PlainLines.{length-columns}
+use Rattle.cif_canon.specs.Fields.{long_date}
 use Rattle.cif_views.specs.DifferenceTable.{text}
-use Rattle.cif_views.specs.Steps.Columns.{span_in}
-use Rattle.cif_views.specs.Steps.DifferenceRows.{is_text_place}
+use Rattle.cif_views.specs.Steps.Columns.{shown_at, span_in}
+use Rattle.cif_views.specs.declared.columns.Place.{Place}
+use Rattle.cif_views.specs.declared.columns.Place.TheVariants as place
 use Rattle.cif_views.proofs.Words.{AllStandIn, Column, Field, IsLine, JourneyKind, Row, StandsIn, TableFields, Trimmed, Tsv, after}
 use Rattle.cif_views.proofs.Words.{bytes_decides, columns, differing_row, differing_rows, field_in, field_row, fields_in, fields_text}
-use Rattle.cif_views.proofs.Words.{flat_map, line_of, pointwise, row_behind, row_fields, shown, spare, trimmed}
-use Rattle.cif_views.proofs.DifferingFields.{text-shown}
+use Rattle.cif_views.proofs.Words.{flat_map, line_of, pointwise, row_behind, row_fields, shown, spare, trimmed, yymmdd_from}
 
 -- ---- rows
 
@@ -75,23 +77,97 @@ same-columns a b long same =
     let rest : length a - used a ≡ length b - used b = omega (arith, long, one, other, shown) in
     sym (widened a) ∙ ap₂ (λ (c : List ℕ) n. c ++ replicate n 32) same rest ∙ widened b
 
+-- six digits, at these places
+abbrev digits_at : (a b c d e f : ℕ) → List ℕ → List ℕ
+digits_at a b c d e f l = get_or l a 0 ∷ get_or l b 0 ∷ get_or l c 0 ∷ get_or l d 0 ∷ get_or l e 0 ∷ get_or l f 0 ∷ []
+
+six-digits : (l : List ℕ) → length l ≡ 6 → digits_at 0 1 2 3 4 5 l ≡ l
+six-digits [] long = absurd (omega (arith, long))
+six-digits (a ∷ []) long = absurd (omega (arith, long))
+six-digits (a ∷ b ∷ []) long = absurd (omega (arith, long))
+six-digits (a ∷ b ∷ c ∷ []) long = absurd (omega (arith, long))
+six-digits (a ∷ b ∷ c ∷ d ∷ []) long = absurd (omega (arith, long))
+six-digits (a ∷ b ∷ c ∷ d ∷ e ∷ []) long = absurd (omega (arith, long))
+six-digits (a ∷ b ∷ c ∷ d ∷ e ∷ f ∷ []) long = refl
+six-digits (a ∷ b ∷ c ∷ d ∷ e ∷ f ∷ g ∷ l) long = absurd (omega (arith, long))
+
+behind-century : (earlier : Bool) (rest : List ℕ) → drop 2 ((if earlier then codes "20" else codes "19") ++ rest) ≡ rest
+behind-century true rest = refl
+behind-century false rest = refl
+
+-- a date has the digits of its columns
+long-digits : (l : List ℕ) → digits_at 0 1 3 4 6 7 (drop 2 (long_date l)) ≡ digits_at 0 1 2 3 4 5 l
+unfolding long_date
+long-digits l = ap (digits_at 0 1 3 4 6 7) (behind-century (nat_lt (get_or l 0 0) 54) _)
+
+same-date : (a b : List ℕ) → long_date a ≡ long_date b → digits_at 0 1 2 3 4 5 a ≡ digits_at 0 1 2 3 4 5 b
+same-date a b same = sym (long-digits a) ∙ ap (λ (l : List ℕ). digits_at 0 1 3 4 6 7 (drop 2 l)) same ∙ long-digits b
+
+-- a date has six columns
+abbrev pub is_six : Place → ℕ → ℕ → Bool
+is_six (place.Date _ _) from to = nat_eq to (from + 5)
+is_six (place.DayFirst _ _) from to = nat_eq to (from + 5)
+is_six _ from to = true
+
+-- as many columns of a field are the same where they are shown as the same
+same-shown : (at : Place) (from to : ℕ) (a b : List ℕ) → length a ≡ to + 1 - from → length b ≡ to + 1 - from →
+    IsTrue (is_six at from to) → shown Tsv (shown_at at a) ≡ shown Tsv (shown_at at b) → a ≡ b
+same-shown (place.Text _ _) from to a b p q six same = same-columns a b (p ∙ sym q) same
+same-shown (place.Call _ _ _) from to a b p q six same = same-columns a b (p ∙ sym q) same
+same-shown (place.Whole _ _) from to a b p q six same = same
+same-shown (place.Date _ _) from to a b p q six same =
+    let end = eqb-true to (from + 5) six in
+    sym (six-digits a (omega (arith, p, end))) ∙ same-date a b same ∙ six-digits b (omega (arith, q, end))
+same-shown (place.DayFirst _ _) from to a b p q six same =
+    let end = eqb-true to (from + 5) six in
+    sym (six-digits a (omega (arith, p, end)))
+    ∙ ap (digits_at 4 5 2 3 0 1) (same-date (yymmdd_from a) (yymmdd_from b) same)
+    ∙ six-digits b (omega (arith, q, end))
+
+-- columns, and those behind them
+two-parts : (from mid to : ℕ) (line : List ℕ) → 1 ≤ from → from ≤ mid → mid ≤ to →
+    columns from to line ≡ columns from mid line ++ columns (mid + 1) to line
+two-parts from mid to line one some more =
+    let n : to - mid ≡ to - (mid + 1 - 1) = omega arith in
+    let k : from - 1 + (mid - (from - 1)) ≡ mid + 1 - 1 = omega (arith, one, some) in
+    ap (λ n. take n (drop (from - 1) line)) (omega (arith, one, some, more))
+    ∙ take-add (mid - (from - 1)) (to - mid) (drop (from - 1) line)
+    ∙ ap (λ (l : List ℕ). columns from mid line ++ take (to - mid) l) (drop-drop (mid - (from - 1)) (from - 1) line)
+    ∙ (λ i. columns from mid line ++ take (n i) (drop (k i) line))
+
+-- ---- all columns of a record are the same if those of fields are
+
+-- fields that stand one behind another, from one column to another
+abbrev pub is_run : JourneyKind → ℕ → ℕ → List Column → Bool
+is_run kind from to [] = false
+is_run kind from to (c ∷ own) =
+    let span = span_in kind c.1 in
+    is_six c.1 span.0 span.1
+    && (nat_eq span.0 from && (nat_le from span.1 && (nat_le span.1 to && (nat_eq span.1 to || is_run kind (span.1 + 1) to own))))
+
+-- these columns are those of fields
+abbrev pub is_field : JourneyKind → ℕ → ℕ → List Column → Bool
+is_field kind from to [] = false
+is_field kind from to (c ∷ own) = is_run kind from to (c ∷ own) || is_field kind from to own
+
+-- they are among the first of the line, or those of a field
+abbrev pub is_among : ℕ → JourneyKind → List Column → ℕ → ℕ → Bool
+is_among front kind own from to =
+    (nat_le 1 from && (nat_le from to && nat_le to 80)) && (nat_le to front || is_field kind from to own)
+
+abbrev pub is_there : JourneyKind → List Column → ℕ → ℕ → Bool
+is_there kind own from to = is_among 0 kind own from to
+
+-- all are, but for spare ones
+abbrev pub if_used : FieldValue → Bool → Bool
+if_used spare test = true
+if_used _ test = test
+
+abbrev pub are_covered : ℕ → JourneyKind → List Column → List Row → Bool
+are_covered front kind own [] = true
+are_covered front kind own (r ∷ rows) = if_used r.value (is_among front kind own r.from r.to) && are_covered front kind own rows
+
 module _ (l m : List ℕ) where
-  -- columns of both are the same where they are without the spaces at their end
-  abbrev pub SameAt : Type 0
-  SameAt = (from to : ℕ) → (nat_le 1 from && (nat_le from to && nat_le to 80)) ≡ true →
-      trimmed (columns from to l) ≡ trimmed (columns from to m) → columns from to l ≡ columns from to m
-
-  module _ (left : IsLine l) (right : IsLine m) where
-    pub same-at : SameAt
-    same-at from to within same =
-        let (a, more) = and_parts _ _ within in
-        let (b, c) = and_parts _ _ more in
-        let start = leb-true 1 from a in
-        let some = leb-true from to b in
-        let end = leb-true to 80 c in
-        same-columns (columns from to l) (columns from to m)
-        (length-columns from to l left start some end ∙ sym (length-columns from to m right start some end)) same
-
   -- ---- what stands in one line stands in another with the same columns, but for spare ones
 
   abbrev pub AreSame : FieldValue → List ℕ → List ℕ → Type 0
@@ -102,32 +178,7 @@ module _ (l m : List ℕ) where
   AllSame [] = Unit {0}
   AllSame (r ∷ rows) = AreSame r.value (columns r.from r.to l) (columns r.from r.to m) × AllSame rows
 
-  -- ---- all columns of a record are the same if those of fields are
-
-  -- these columns are those of a field that is shown as text
-  abbrev pub is_field : JourneyKind → ℕ → ℕ → List Column → Bool
-  is_field kind from to [] = false
-  is_field kind from to (c ∷ own) =
-      (is_text_place c.1 && (nat_eq (span_in kind c.1).0 from && nat_eq (span_in kind c.1).1 to)) || is_field kind from to own
-
-  -- they are among the first of the line, or those of a field
-  abbrev pub is_among : ℕ → JourneyKind → List Column → ℕ → ℕ → Bool
-  is_among front kind own from to =
-      (nat_le 1 from && (nat_le from to && nat_le to 80)) && (nat_le to front || is_field kind from to own)
-
-  abbrev pub is_there : JourneyKind → List Column → ℕ → ℕ → Bool
-  is_there kind own from to = is_among 0 kind own from to
-
-  -- all are, but for spare ones
-  abbrev pub if_used : FieldValue → Bool → Bool
-  if_used spare test = true
-  if_used _ test = test
-
-  abbrev pub are_covered : ℕ → JourneyKind → List Column → List Row → Bool
-  are_covered front kind own [] = true
-  are_covered front kind own (r ∷ rows) = if_used r.value (is_among front kind own r.from r.to) && are_covered front kind own rows
-
-  module _ (front : ℕ) (kind : JourneyKind) (first_are : take front l ≡ take front m) (at : SameAt) where
+  module _ (front : ℕ) (kind : JourneyKind) (first_are : take front l ≡ take front m) (left : IsLine l) (right : IsLine m) where
     among-first : (from to : ℕ) → 1 ≤ from → from ≤ to → to ≤ front → columns from to l ≡ columns from to m
     among-first from to one some few =
         let inside : (line : List ℕ) → take (to - (from - 1)) (drop (from - 1) (take front line)) ≡ columns from to line =
@@ -136,20 +187,43 @@ module _ (l m : List ℕ) where
         ∙ take-take (to - (from - 1)) (front - (from - 1)) (drop (from - 1) line) (omega (arith, one, some, few)) in
         sym (inside l) ∙ ap (λ (line : List ℕ). take (to - (from - 1)) (drop (from - 1) line)) first_are ∙ inside m
 
-    of-field : (from to : ℕ) (own : List Column) → IsTrue (nat_le 1 from && (nat_le from to && nat_le to 80)) →
+    -- fields whose cells are the same have the same columns
+    of-run : (from to : ℕ) (own : List Column) → 1 ≤ from → to ≤ 80 →
+        map (shown Tsv) (fields_in kind own l) ≡ map (shown Tsv) (fields_in kind own m) → IsTrue (is_run kind from to own) →
+        columns from to l ≡ columns from to m
+    of-run from to [] one end same is = absurd (false≢true is)
+    of-run from to (c ∷ own) one end same is =
+        let span = span_in kind c.1 in
+        let (six, a) = and_parts (is_six c.1 span.0 span.1) _ is in
+        let (begins, b) = and_parts (nat_eq span.0 from) _ a in
+        let (filled, d) = and_parts (nat_le from span.1) _ b in
+        let (within, ends) = and_parts (nat_le span.1 to) _ d in
+        let begin = eqb-true span.0 from begins in
+        let some = leb-true from span.1 filled in
+        let upto = leb-true span.1 to within in
+        let wide : (line : List ℕ) → IsLine line → length (columns span.0 span.1 line) ≡ span.1 + 1 - span.0 =
+        λ line h. length-columns span.0 span.1 line h (omega (arith, one, begin)) (omega (arith, some, begin))
+        (omega (arith, upto, end)) in
+        let there = same-shown c.1 span.0 span.1 (columns span.0 span.1 l) (columns span.0 span.1 m) (wide l left) (wide m right) six
+        (ap (λ (cells : List (List ℕ)). get_or cells 0 []) same) in
+        let here : columns from span.1 l ≡ columns from span.1 m =
+        subst (λ n. columns n span.1 l ≡ columns n span.1 m) begin there in
+        ⊎_elim
+        (λ last. subst (λ n. columns from n l ≡ columns from n m) (eqb-true span.1 to last) here)
+        (λ more.
+        two-parts from span.1 to l one some upto
+        ∙ ap₂ (λ (c d : List ℕ). c ++ d) here (of-run (span.1 + 1) to own (omega arith) end (ap (drop 1) same) more)
+        ∙ sym (two-parts from span.1 to m one some upto))
+        (or_cases (nat_eq span.1 to) (is_run kind (span.1 + 1) to own) ends)
+
+    of-field : (from to : ℕ) (own : List Column) → 1 ≤ from → to ≤ 80 →
         map (shown Tsv) (fields_in kind own l) ≡ map (shown Tsv) (fields_in kind own m) → IsTrue (is_field kind from to own) →
         columns from to l ≡ columns from to m
-    of-field from to [] within same is = absurd (false≢true is)
-    of-field from to (c ∷ own) within same is = ⊎_elim
-        (λ here.
-        let (shows, there) = and_parts (is_text_place c.1) _ here in
-        let (a, b) = and_parts (nat_eq (span_in kind c.1).0 from) (nat_eq (span_in kind c.1).1 to) there in
-        let cell : (line : List ℕ) → shown Tsv (field_in kind line c.1) ≡ trimmed (columns from to line) =
-        λ line. text-shown c.1 shows (columns (span_in kind c.1).0 (span_in kind c.1).1 line)
-        ∙ (λ i. trimmed (columns (eqb-true (span_in kind c.1).0 from a i) (eqb-true (span_in kind c.1).1 to b i) line)) in
-        at from to within (sym (cell l) ∙ ap (λ (cells : List (List ℕ)). get_or cells 0 []) same ∙ cell m))
-        (λ later. of-field from to own within (ap (drop 1) same) later)
-        (or_cases _ (is_field kind from to own) is)
+    of-field from to [] one end same is = absurd (false≢true is)
+    of-field from to (c ∷ own) one end same is = ⊎_elim
+        (λ run. of-run from to (c ∷ own) one end same run)
+        (λ later. of-field from to own one end (ap (drop 1) same) later)
+        (or_cases (is_run kind from to (c ∷ own)) (is_field kind from to own) is)
 
     pub covered : (from to : ℕ) (own : List Column) → IsTrue (is_among front kind own from to) →
         map (shown Tsv) (fields_in kind own l) ≡ map (shown Tsv) (fields_in kind own m) → columns from to l ≡ columns from to m
@@ -159,7 +233,7 @@ module _ (l m : List ℕ) where
         let (b, c) = and_parts (nat_le from to) (nat_le to 80) more in
         ⊎_elim
         (λ early. among-first from to (leb-true 1 from a) (leb-true from to b) (leb-true to front early))
-        (λ field. of-field from to own within same field)
+        (λ field. of-field from to own (leb-true 1 from a) (leb-true to 80 c) same field)
         (or_cases (nat_le to front) (is_field kind from to own) there)
 
     used-same : (value : FieldValue) (c d : List ℕ) (test : Bool) → IsTrue (if_used value test) → (IsTrue test → c ≡ d) → AreSame value c d

@@ -12,7 +12,11 @@ mod PairedBodies
 mod PairedJourneys
 mod PublicMoments
 pub mod PublicRows
+mod RowLines
 mod RowsOfDifferences
+mod SameJourneys
+mod SameSchedules
+mod SameTables
 pub mod TableRows
 pub mod WeekLines
 pub mod Words

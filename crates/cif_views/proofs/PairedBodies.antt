@@ -39,7 +39,7 @@ use Rattle.cif_views.specs.declared.tables.JourneyKind.TheVariants as kinds_of
 use Rattle.cif_views.proofs.Words.{AllFit, AllStandIn, AssocBody, AssocKey, At, BodyParts, Call, Column, Detail, IsLine, Left, P, Permanent}
 use Rattle.cif_views.proofs.Words.{Row, StandsIn, Tsv, Turn, after, association_plain, columns, fields_in, journeys_behind, own_columns}
 use Rattle.cif_views.proofs.Words.{place_behind, places_behind, same_places, schedule_plain, shown, spare, text, trimmed}
-use Rattle.cif_views.proofs.DifferingCells.{AllSame, all-covered, all-moved, are_covered, both-none, covered, is_there, same-at, same-cells}
+use Rattle.cif_views.proofs.DifferingCells.{AllSame, all-covered, all-moved, are_covered, both-none, covered, is_there, same-cells}
 use Rattle.cif_views.proofs.DifferingCells.{same-cells_in, some-behind}
 use Rattle.cif_views.proofs.DifferingFields.{same-kind}
 use Rattle.cif_views.proofs.PairedJourneys.{journeys-by-lines}
@@ -62,9 +62,9 @@ module _ (begun : List ℕ) (call : ℕ) (l m : List ℕ) (left : IsLine l) (rig
     (place : columns 1 10 l ≡ columns 1 10 m) (none : place_behind begun call (kind_of_line l) l m ≡ []) where
   -- where the cells of all fields that a line of a kind has cover a record of the kind, what the other line spells this one does
   by-cells : (kind : JourneyKind) (r : Record) → kind_of_line m ≡ kind →
-      IsTrue (are_covered l m 10 kind (own_columns kind) (record_table r)) → AllSame l m (record_table r)
+      IsTrue (are_covered 10 kind (own_columns kind) (record_table r)) → AllSame l m (record_table r)
   by-cells kind r is covered =
-      all-covered l m 10 kind place (same-at l m left right) (own_columns kind) (record_table r) covered
+      all-covered l m 10 kind place left right (own_columns kind) (record_table r) covered
       (subst (λ k. map (shown Tsv) (fields_in k (own_columns k) l) ≡ map (shown Tsv) (fields_in k (own_columns k) m))
       (sym (same-kind l m place) ∙ is) (same-cells_in _ (kind_of_line l) l m (own_columns (kind_of_line l)) none))
 
@@ -78,7 +78,7 @@ module _ (begun : List ℕ) (call : ℕ) (l m : List ℕ) (left : IsLine l) (rig
 
 -- ---- two journeys
 
-abbrev lines_of : List Record → List (List ℕ)
+abbrev pub lines_of : List Record → List (List ℕ)
 lines_of rs = map plain_line (map record_table rs)
 
 module _ (begun : List ℕ) where
@@ -110,7 +110,7 @@ are-behind [] t = (tt, tt)
 are-behind (At s ∷ calls) t = (tt, are-behind calls t)
 are-behind (Turn r ∷ calls) t = (tt, are-behind calls t)
 
-are-places : (o : Origin) (calls : List Call) (t : Terminus) → ArePlaces (journey_records o calls t)
+pub are-places : (o : Origin) (calls : List Call) (t : Terminus) → ArePlaces (journey_records o calls t)
 are-places o calls t = (tt, are-behind calls t)
 
 -- ---- two bodies
@@ -166,7 +166,7 @@ told-places false rows row none some = absurd (let long = ap length none in omeg
 -- ---- the BX of a schedule
 
 -- the line of a BX, or one of spaces
-abbrev extra_line : Option Extra → List ℕ
+abbrev pub extra_line : Option Extra → List ℕ
 extra_line None = replicate 80 32
 extra_line (Some e) = plain_line (record_table (of.Extra e))
 
@@ -177,11 +177,11 @@ is-origin : (line : List ℕ) → kind_in line ≡ Some Lo → is_extra line ≡
 is-origin line is = rw is refl
 
 -- what the lines behind a BS are: a BX or none, and a journey
-record AreFurther (lines : List (List ℕ)) (extra : Option Extra) (journey : List (List ℕ)) : Type 0 where
-  extra_is : extra_in lines ≡ extra_line extra
-  journey_is : without_extra lines ≡ journey
+pub record AreFurther (lines : List (List ℕ)) (extra : Option Extra) (journey : List (List ℕ)) : Type 0 where
+  pub extra_is : extra_in lines ≡ extra_line extra
+  pub journey_is : without_extra lines ≡ journey
 
-are-further : (extra : Option Extra) (o : Origin) (rs : List Record) →
+pub are-further : (extra : Option Extra) (o : Origin) (rs : List Record) →
     AllTablesFit (map record_table (extra_records extra ++ (of.Origin o ∷ rs))) →
     AreFurther (lines_of (extra_records extra ++ (of.Origin o ∷ rs))) extra (lines_of (of.Origin o ∷ rs))
 are-further None o rs fits =
@@ -216,7 +216,8 @@ shown-extra e fits same =
     let long : 2 ≡ 0 = ap length (sym (ap trimmed (records.spells (of.Extra e) fits).0) ∙ same) in
     absurd (omega (arith, long))
 
-same-extra : (x y : Option Extra) → AllTablesFit (map record_table (extra_records x)) → AllTablesFit (map record_table (extra_records y)) →
+pub same-extra : (x y : Option Extra) → AllTablesFit (map record_table (extra_records x)) →
+    AllTablesFit (map record_table (extra_records y)) →
     identity_of_extra (extra_line x) ≡ identity_of_extra (extra_line y) → extra_cells (extra_line x) ≡ extra_cells (extra_line y) → x ≡ y
 same-extra None None one other identity same = refl
 same-extra None (Some f) one other identity same = absurd (shown-extra f other.0 (sym identity))
@@ -224,7 +225,7 @@ same-extra (Some e) None one other identity same = absurd (shown-extra e one.0 i
 same-extra (Some e) (Some f) one other identity same =
     let l = plain_line (record_table (of.Extra e)) in
     let m = plain_line (record_table (of.Extra f)) in
-    let all = all-covered l m 0 kinds_of.Other refl (same-at l m (records.line (of.Extra e) one.0) (records.line (of.Extra f) other.0))
+    let all = all-covered l m 0 kinds_of.Other refl (records.line (of.Extra e) one.0) (records.line (of.Extra f) other.0)
     extra_columns
     (record_table (of.Extra f)) refl (ap₂ (λ (c : List ℕ) (cells : List (List ℕ)). c ∷ cells) identity same) in
     let spelled = records.spells (of.Extra f) other.0 in
@@ -259,10 +260,10 @@ module _ (e : List ℕ × Permanent BodyParts) (fits : FitsLines e) where
   detail-fits : AllFit (detail_rows (Some e.1.body.detail))
   detail-fits = fits-front (detail_rows (Some e.1.body.detail)) (basic_back P) fits.basic.1.1.1.1.1.1.1
 
-  extra-fits : AllTablesFit (map record_table (extra_records e.1.body.extra))
+  pub extra-fits : AllTablesFit (map record_table (extra_records e.1.body.extra))
   extra-fits = first-fit e.1.body.extra _ fits.further
 
-  journey-fits : AllTablesFit (map record_table (journey_records e.1.body.origin e.1.body.calls e.1.body.terminus))
+  pub journey-fits : AllTablesFit (map record_table (journey_records e.1.body.origin e.1.body.calls e.1.body.terminus))
   journey-fits = last-fit e.1.body.extra _ fits.further
 
 module _ (e g : List ℕ × Permanent BodyParts) (one : FitsLines e) (other : FitsLines g) where
@@ -271,7 +272,7 @@ module _ (e g : List ℕ × Permanent BodyParts) (one : FitsLines e) (other : Fi
   same-detail same =
       let l = plain_line (basic_line e) in
       let m = plain_line (basic_line g) in
-      let all = all-covered l m 0 kinds_of.Other refl (same-at l m (is-line e one) (is-line g other)) (drop 4 basic_columns)
+      let all = all-covered l m 0 kinds_of.Other refl (is-line e one) (is-line g other) (drop 4 basic_columns)
       (detail_rows (Some g.1.body.detail)) refl same in
       one_detail l e.1.body.detail g.1.body.detail (detail-stands e one)
       (all-moved l m (detail_rows (Some g.1.body.detail)) all (detail-stands g other))
@@ -348,8 +349,8 @@ module _ (e g : AssocKey × Permanent AssocBody) (one : AllFit (association_line
       let a = (stands-plain_line (association_line e) refl one).1.1.1.1.1.1.1 in
       let b = (stands-plain_line (association_line g) refl other).1.1.1.1.1.1.1 in
       let same = same-cells (in_record (association_head changed l) (codes "AA")) l m (category_fields ++ type_fields) none in
-      let there : (from to : ℕ) → IsTrue (is_there l m kinds_of.Other compared from to) → columns from to l ≡ columns from to m =
-      λ from to is. covered l m 0 kinds_of.Other refl (same-at l m left right) from to compared is same in
+      let there : (from to : ℕ) → IsTrue (is_there kinds_of.Other compared from to) → columns from to l ≡ columns from to m =
+      λ from to is. covered l m 0 kinds_of.Other refl left right from to compared is same in
       let both : (from to : ℕ) (v w : List ℕ) → columns from to l ≡ columns from to m → StandsIn (columns from to l) (text v) →
       StandsIn (columns from to m) (text w) → v ≡ w =
       λ from to v w same h k. one_text_value (columns from to l) v w h (subst (λ c. StandsIn c (text w)) (sym same) k) in

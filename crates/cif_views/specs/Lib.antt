@@ -7,6 +7,7 @@ pub mod Listing
 pub mod Moments
 pub mod PublicCalls
 pub mod RowsOfDifferences
+pub mod SameTables
 pub mod Steps
 pub mod TableText
 pub mod Tables

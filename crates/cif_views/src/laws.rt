@@ -1,15 +1,18 @@
-//! Laws: what the marks of an explanation and the letters of a calendar say, and that rows have all fields.
-ghost use Rattle.std.specs.Prelude.{◌≡◌, ◌↔◌, ◌≤◌, ℕ, Contains, List};
+//! Laws: what the marks of an explanation and the letters of a calendar say, and what tables tell.
+ghost use Rattle.std.specs.Prelude.{◌≡◌, ◌↔◌, ◌<◌, ◌≤◌, ◌^◌, ℕ, Contains, List, length};
 ghost use Rattle.cif_calendar.specs.Clash.{IsClear};
 ghost use Rattle.cif_calendar.specs.Keys.{keyed, of_key};
 ghost use Rattle.cif_calendar.specs.Runs.{Runs};
 ghost use Rattle.cif_calendar.specs.Terms.{Terms};
 ghost use Rattle.cif_canon.specs.Accepted.{IsAccepted};
+ghost use Rattle.cif_canon.specs.Canon.{CanonParts, IsCanonOf};
 ghost use Rattle.cif_canon.specs.Differences.{AreDifferences, AreNone, DifferencesParts};
 ghost use Rattle.cif_canon.specs.declared.asked.Asked.{Asked};
 ghost use Rattle.cif_canon.specs.Fields.{Field};
 ghost use Rattle.cif_canon.specs.Lines.{ScheduleLines};
+ghost use Rattle.cif_canon.specs.Meaning.{SameMeaning};
 ghost use Rattle.cif_extract.specs.ExtractParts.{ExtractParts};
+ghost use Rattle.cif_weeks.specs.declared.form.Form.{Form};
 ghost use Rattle.cif_views.specs.AllFields.{CallsHaveAll, DayRowsHaveAll, DifferenceRowsHaveAll};
 ghost use Rattle.cif_views.specs.AllFields.{ExplainedRowsHaveAll, TablesHaveAll, TablesHaveColumns, TrainRowsHaveAll};
 ghost use Rattle.cif_views.specs.DifferenceTable.{difference_names, difference_table};
@@ -17,6 +20,7 @@ ghost use Rattle.cif_views.specs.Explanation.{AreExplained, Explained, HasWinnin
 ghost use Rattle.cif_views.specs.Explanation.{SomeApplies};
 ghost use Rattle.cif_views.specs.PublicCalls.{ArePublicCalls, public_calls};
 ghost use Rattle.cif_views.specs.RowsOfDifferences.{AreRowsOfFields, HaveRows};
+ghost use Rattle.cif_views.specs.SameTables.{HaveSameTables};
 ghost use Rattle.cif_views.specs.Tables.{TableFields, names_line};
 ghost use Rattle.cif_views.specs.WeekCalendar.{IsWeekCalendar, SaysWhatRuns};
 ghost use Rattle.cif_views.specs.declared.marks.Mark.TheVariants.{Wins};
@@ -49,6 +53,19 @@ pub fn rows_have_all_fields()
     ensures differences { DifferenceRowsHaveAll }
     // The fields of a record are its columns, in the layout's order.
     ensures columns { (line : List ℕ) → TablesHaveColumns line }
+{}
+
+/// The tables of a canonical extract, but for that of public calls, together say what it says: two extracts
+/// have the same tables exactly if they have the same text, each of fewer than 2^64 bytes. In longer ones
+/// the numbers of schedules and calls may not fit 64 bits.
+pub fn equal_tables_equal_extracts()
+    ensures text { (form other : Form) (x y : ExtractParts) (c d : CanonParts)
+        → IsCanonOf form x c → IsCanonOf other y d → length c.text < 2 ^ 64 → length d.text < 2 ^ 64
+        → HaveSameTables c.lines d.lines ↔ (c.text ≡ d.text) }
+    // In one form they have the same tables exactly if they were made of extracts that say the same.
+    ensures meaning { (form : Form) (x y : ExtractParts) (c d : CanonParts)
+        → IsCanonOf form x c → IsCanonOf form y d → length c.text < 2 ^ 64 → length d.text < 2 ^ 64
+        → HaveSameTables c.lines d.lines ↔ SameMeaning x y }
 {}
 
 /// The table of the differences of two accepted inputs has a row for each location, record and pair

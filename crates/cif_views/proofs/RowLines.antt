@@ -1,0 +1,254 @@
+-- The text of rows tells their cells, in which there is no tab and no line feed, and these tell the plain lines.
+use Rattle.std.proofs.Common.{◌≡◌, ℕ, zero, suc, ◌+◌, ◌-◌, ◌<◌, ◌^◌, All, Bool, true, false, IsTrue, List, [], ◌∷◌, ◌++◌, length, map, ◌∙◌}
+use Rattle.std.proofs.Common.{ap, ap₂, append_assoc, arith, codes, decimal, drop, length-append, refl, subst, sym, take, ⊎_elim}
+use Rattle.std.specs.List.{join_with_byte}
+use Rattle.std.specs.Prelude.{◌&&◌, ◌||◌, nat_eq, nat_le}
+use Rattle.std.specs.Str.Parse.{AllDigits}
+use Rattle.std.proofs.Math.Seq.{take-append_seam}
+use Rattle.std.proofs.lemmas.Bool.{and_parts, eqb-true, false≢true, leb-true, or_cases}
+use Rattle.std.proofs.lemmas.Fmt.{decimal_is_IsNumeral}
+use Rattle.std.proofs.lemmas.List.{drop_at, length-map}
+use Rattle.std.proofs.lemmas.List.Elements.{All-cons, All-drop, All-head, All-nil, All-tail, All-take}
+use Rattle.std.proofs.lemmas.Str.Parse.{digit_from_value}
+use Rattle.cif_columns.specs.Field.{is_whole_from, plain_columns, plain_line, width_of}
+use Rattle.cif_columns.specs.Line.{ArePrintable, IsPrintable}
+use Rattle.cif_columns.specs.Lines.{used}
+use Rattle.cif_columns.proofs.Parts.{length-plain_columns, whole-first}
+use Rattle.cif_columns.proofs.PlainLines.{length-columns, line-plain_line}
+use Rattle.cif_canon.proofs.ViewLines.{printable-date}
+use Rattle.cif_views.specs.Steps.Columns.{are_within, is_span, is_within, shown_at, span_in}
+use Rattle.cif_views.specs.declared.columns.Place.{Place}
+use Rattle.cif_views.specs.declared.columns.Place.TheVariants as place
+use Rattle.cif_views.proofs.Words.{AllFit, Column, IsLine, JourneyKind, Other, Row, TableFields, Tsv, bytes_decides, columns, fields_in}
+use Rattle.cif_views.proofs.Words.{flat_map, pointwise, row_fields, row_line, shown, yymmdd_from}
+use Rattle.cif_views.proofs.DifferingCells.{covered, is_among}
+
+-- ---- a text, cut at bytes that no cell has
+
+cut : (byte : ℕ) → byte < 32 → (a b s t : List ℕ) → ArePrintable a → ArePrintable b → a ++ (byte ∷ s) ≡ b ++ (byte ∷ t) →
+    (a ≡ b) × (s ≡ t)
+cut byte low [] [] s t one other same = (refl, ap (drop 1) same)
+cut byte low [] (y ∷ b) s t one other same =
+    let first = (All-head IsPrintable y b other).0 in
+    let is : byte ≡ y = cc in
+    absurd (omega (arith, low, first, is))
+cut byte low (x ∷ a) [] s t one other same =
+    let first = (All-head IsPrintable x a one).0 in
+    let is : x ≡ byte = cc in
+    absurd (omega (arith, low, first, is))
+cut byte low (x ∷ a) (y ∷ b) s t one other same =
+    let rest = cut byte low a b s t (All-tail IsPrintable x a one) (All-tail IsPrintable y b other) (ap (drop 1) same) in
+    let first : x ≡ y = cc in
+    ((λ i. first i ∷ rest.0 i), rest.1)
+
+-- a cell has printable bytes alone
+abbrev pub AreCells : List (List ℕ) → Type 0
+AreCells cells = All ArePrintable cells
+
+-- cells with a tab between them, and a line feed behind them
+cut-row : (cs ds : List (List ℕ)) (s t : List ℕ) → length cs ≡ length ds → 0 < length cs → AreCells cs → AreCells ds →
+    join_with_byte 9 cs ++ (10 ∷ s) ≡ join_with_byte 9 ds ++ (10 ∷ t) → (cs ≡ ds) × (s ≡ t)
+cut-row [] ds s t long some one other same = absurd (omega (arith, some))
+cut-row (c ∷ cs) [] s t long some one other same = absurd (omega (arith, long))
+cut-row (c ∷ []) (d ∷ []) s t long some one other same =
+    let here = cut 10 (omega arith) c d s t (All-head ArePrintable c [] one) (All-head ArePrintable d [] other) same in
+    ((λ i. here.0 i ∷ []), here.1)
+cut-row (c ∷ []) (d ∷ f ∷ ds) s t long some one other same = absurd (omega (arith, long))
+cut-row (c ∷ e ∷ cs) (d ∷ []) s t long some one other same = absurd (omega (arith, long))
+cut-row (c ∷ e ∷ cs) (d ∷ f ∷ ds) s t long some one other same =
+    let l = join_with_byte 9 (e ∷ cs) in
+    let m = join_with_byte 9 (f ∷ ds) in
+    let here = cut 9 (omega arith) c d (l ++ (10 ∷ s)) (m ++ (10 ∷ t)) (All-head ArePrintable c (e ∷ cs) one)
+    (All-head ArePrintable d (f ∷ ds) other)
+    (sym (append_assoc c (9 ∷ l) (10 ∷ s)) ∙ same ∙ append_assoc d (9 ∷ m) (10 ∷ t)) in
+    let rest = cut-row (e ∷ cs) (f ∷ ds) s t (omega (arith, long)) (omega arith) (All-tail ArePrintable c (e ∷ cs) one)
+    (All-tail ArePrintable d (f ∷ ds) other) here.1 in
+    ((λ i. here.0 i ∷ rest.0 i), rest.1)
+
+-- ---- rows
+
+-- the cells of a row
+abbrev pub cells_of : {Row : Type 0} → TableFields Row → Row → List (List ℕ)
+cells_of fields row = map (shown Tsv) (row_fields fields row)
+
+-- where rows are the same if their cells are, they are if their texts are
+module _ {Row : Type 0} (fields : TableFields Row) (Is : Row → Type 0) (some : 0 < length fields)
+    (are : (r : Row) → Is r → AreCells (cells_of fields r))
+    (same : (r q : Row) → Is r → Is q → cells_of fields r ≡ cells_of fields q → r ≡ q) where
+  cell-count : (r : Row) → length (cells_of fields r) ≡ length fields
+  cell-count r = length-map (row_fields fields r) (shown Tsv) ∙ length-map fields (λ f. f.1 r)
+
+  first-row : (r q : Row) (s t : List ℕ) → Is r → Is q → row_line fields r ++ s ≡ row_line fields q ++ t → (r ≡ q) × (s ≡ t)
+  first-row r q s t one other is =
+      let cs = cells_of fields r in
+      let ds = cells_of fields q in
+      let n = cell-count r in
+      let k = cell-count q in
+      let cut_here = cut-row cs ds s t (n ∙ sym k) (omega (arith, n, some)) (are r one) (are q other)
+      (sym (append_assoc (join_with_byte 9 cs) (10 ∷ []) s) ∙ is ∙ append_assoc (join_with_byte 9 ds) (10 ∷ []) t) in
+      (same r q one other cut_here.0, cut_here.1)
+
+  pub same-row : (r q : Row) → Is r → Is q → row_line fields r ≡ row_line fields q → r ≡ q
+  same-row r q one other is = (first-row r q [] [] one other (ap (λ (l : List ℕ). l ++ []) is)).0
+
+  filled : (r : Row) (s : List ℕ) → 0 < length (row_line fields r ++ s)
+  filled r s = omega (arith, length-append (row_line fields r) s, length-append (join_with_byte 9 (cells_of fields r)) (codes "\n"))
+
+  pub same-rows : (rs qs : List Row) → All Is rs → All Is qs → flat_map (row_line fields) rs ≡ flat_map (row_line fields) qs → rs ≡ qs
+  same-rows [] [] one other is = refl
+  same-rows [] (q ∷ qs) one other is =
+      let long = ap length is in absurd (omega (arith, long, filled q (flat_map (row_line fields) qs)))
+  same-rows (r ∷ rs) [] one other is =
+      let long = ap length is in absurd (omega (arith, long, filled r (flat_map (row_line fields) rs)))
+  same-rows (r ∷ rs) (q ∷ qs) one other is =
+      let here = first-row r q (flat_map (row_line fields) rs) (flat_map (row_line fields) qs) (All-head Is r rs one)
+      (All-head Is q qs other) is in
+      (λ i. here.0 i ∷ same-rows rs qs (All-tail Is r rs one) (All-tail Is q qs other) here.1 i)
+
+-- ---- what stands in a line makes cells
+
+columns-printable : (from to : ℕ) (line : List ℕ) → IsLine line → ArePrintable (columns from to line)
+columns-printable from to line is =
+    All-take IsPrintable (to - (from - 1)) (drop (from - 1) line) (All-drop IsPrintable (from - 1) line is.printable)
+
+-- six columns, the year first
+year-first : (there : List ℕ) → length there ≡ 6 → ArePrintable there → ArePrintable (yymmdd_from there)
+year-first there six all zero d below = all 4 0 (omega (arith, six))
+year-first there six all (suc zero) d below = all 5 0 (omega (arith, six))
+year-first there six all (suc (suc zero)) d below = all 2 0 (omega (arith, six))
+year-first there six all (suc (suc (suc zero))) d below = all 3 0 (omega (arith, six))
+year-first there six all (suc (suc (suc (suc zero)))) d below = all 0 0 (omega (arith, six))
+year-first there six all (suc (suc (suc (suc (suc zero))))) d below = all 1 0 (omega (arith, six))
+year-first there six all (suc (suc (suc (suc (suc (suc k)))))) d below = absurd (omega (arith, below))
+
+module _ (line : List ℕ) (is : IsLine line) where
+  -- a date has six columns
+  six-columns : (from to : ℕ) → IsTrue (is_span (from, to) && nat_eq to (from + 5)) → length (columns from to line) ≡ 6
+  six-columns from to within =
+      let (span, six) = and_parts (is_span (from, to)) _ within in
+      let (begin, more) = and_parts (nat_le 1 from) _ span in
+      let (_, end) = and_parts (nat_le from (to + 1)) (nat_le to 80) more in
+      let last = eqb-true to (from + 5) six in
+      length-columns from to line is (leb-true 1 from begin) (omega (arith, last)) (leb-true to 80 end) ∙ omega (arith, last)
+
+  cell : (kind : JourneyKind) (at : Place) → IsTrue (is_within at) → (there : List ℕ) →
+      there ≡ columns (span_in kind at).0 (span_in kind at).1 line → ArePrintable there → ArePrintable (shown Tsv (shown_at at there))
+  cell kind (place.Text _ _) within there e all = All-take IsPrintable (used there) there all
+  cell kind (place.Call _ _ _) within there e all = All-take IsPrintable (used there) there all
+  cell kind (place.Whole _ _) within there e all = all
+  cell kind (place.Date from to) within there e all = printable-date there (ap length e ∙ six-columns from to within) all
+  cell kind (place.DayFirst from to) within there e all =
+      printable-date (yymmdd_from there) refl (year-first there (ap length e ∙ six-columns from to within) all)
+
+  pub are-cells : (kind : JourneyKind) (own : List Column) → IsTrue (are_within own) → AreCells (map (shown Tsv) (fields_in kind own line))
+  are-cells kind [] within = All-nil ArePrintable
+  are-cells kind (c ∷ own) within =
+      let (first, rest) = and_parts (is_within c.1) (are_within own) within in
+      let span = span_in kind c.1 in
+      All-cons ArePrintable _ (map (shown Tsv) (fields_in kind own line))
+      (cell kind c.1 first (columns span.0 span.1 line) refl (columns-printable span.0 span.1 line is)) (are-cells kind own rest)
+
+-- so does a number
+digits-printable : (ds : List ℕ) → AllDigits 10 ds → ArePrintable ds
+digits-printable [] all = All-nil IsPrintable
+digits-printable (d ∷ ds) all =
+    let digit = digit_from_value d all.0 in
+    All-cons IsPrintable d ds (omega (arith, digit), omega (arith, digit)) (digits-printable ds all.1)
+
+pub number-printable : (n : ℕ) → n < 2 ^ 64 → ArePrintable (decimal n)
+number-printable n few = digits-printable (decimal n) (decimal_is_IsNumeral n few).0.1
+
+-- ---- cells tell plain lines
+
+-- the cells of a line's fields
+abbrev pub cells_in : List Column → List ℕ → List (List ℕ)
+cells_in own line = map (shown Tsv) (fields_in Other own line)
+
+-- in each row's columns of the line stand the plain columns of its value
+abbrev AllPlain : List ℕ → List Row → Type 0
+AllPlain line [] = Unit {0}
+AllPlain line (r ∷ rows) = (columns r.from r.to line ≡ plain_columns (width_of r) r.value) × AllPlain line rows
+
+plain-behind : (front : List ℕ) (rows : List Row) → is_whole_from (length front + 1) rows ≡ true → AllFit rows →
+    AllPlain (front ++ plain_line rows) rows
+plain-behind front [] whole fits = tt
+plain-behind front (r ∷ rows) whole fits =
+    let first = whole-first (length front + 1) r rows whole in
+    let part = plain_columns (width_of r) r.value in
+    let rest = plain_line rows in
+    let wide = length-plain_columns (width_of r) r.value fits.0 in
+    let start : length front ≡ r.from - 1 = omega (arith, first.0) in
+    let width : r.to - (r.from - 1) ≡ length part = omega (arith, first.0, first.1, wide) in
+    let next : length (front ++ part) + 1 ≡ r.to + 1 = omega (arith, first.0, first.1, wide, length-append front part) in (
+      ap (take (r.to - (r.from - 1))) (drop_at front (part ++ rest) (r.from - 1) start) ∙ ap (λ n. take n (part ++ rest)) width
+          ∙ take-append_seam part rest,
+      subst (λ line. AllPlain line rows) (append_assoc front part rest)
+          (plain-behind (front ++ part) rows (ap (λ c. is_whole_from c rows) next ∙ first.2) fits.1),
+    )
+
+-- two tables have rows in the same columns, and in each a field shows what stands there, or the same stands in both
+abbrev pub are_alike : List Column → List Row → List Row → Bool
+are_alike own [] [] = true
+are_alike own [] (q ∷ qs) = false
+are_alike own (r ∷ rows) [] = false
+are_alike own (r ∷ rows) (q ∷ qs) =
+    nat_eq r.from q.from
+    && (nat_eq r.to q.to
+    && ((is_among 0 Other own r.from r.to
+    || pointwise nat_eq (plain_columns (width_of r) r.value) (plain_columns (width_of q) q.value)) && are_alike own rows qs))
+
+module _ (l m : List ℕ) (left : IsLine l) (right : IsLine m) (own : List Column)
+    (same : cells_in own l ≡ cells_in own m) where
+  same-values : (rows qs : List Row) → IsTrue (are_alike own rows qs) → AllPlain l rows → AllPlain m qs → plain_line rows ≡ plain_line qs
+  same-values [] [] alike one other = refl
+  same-values [] (q ∷ qs) alike one other = absurd (false≢true alike)
+  same-values (r ∷ rows) [] alike one other = absurd (false≢true alike)
+  same-values (r ∷ rows) (q ∷ qs) alike one other =
+      let (from, a) = and_parts (nat_eq r.from q.from) _ alike in
+      let (to, b) = and_parts (nat_eq r.to q.to) _ a in
+      let (there, rest) = and_parts _ (are_alike own rows qs) b in
+      let begin = eqb-true r.from q.from from in
+      let end = eqb-true r.to q.to to in
+      let here : plain_columns (width_of r) r.value ≡ plain_columns (width_of q) q.value = ⊎_elim
+      (λ among. sym one.0 ∙ covered l m 0 Other refl left right r.from r.to own among same ∙ (λ i. columns (begin i) (end i) m) ∙ other.0)
+      (λ equal. (bytes_decides _ _).0 equal)
+      (or_cases (is_among 0 Other own r.from r.to) _ there) in
+      ap₂ (λ (c d : List ℕ). c ++ d) here (same-values rows qs rest one.1 other.1)
+
+-- a line is the plain line of a record of a kind, whose values fit
+pub record IsPlain {X : Type 0} (table : X → List Row) (line : List ℕ) : Type 0 where
+  pub it : X
+  pub fits : AllFit (table it)
+  pub is : line ≡ plain_line (table it)
+
+-- two lines of one kind are the same where the cells of their rows are
+module _ {X : Type 0} (table : X → List Row) (own : List Column) (whole : (x : X) → is_whole_from 1 (table x) ≡ true)
+    (alike : (x y : X) → IsTrue (are_alike own (table x) (table y))) where
+  pub is-line : (line : List ℕ) → IsPlain table line → IsLine line
+  is-line line p = subst IsLine (sym p.is) (line-plain_line (table p.it) (whole p.it) p.fits)
+
+  all-plain : (line : List ℕ) (p : IsPlain table line) → AllPlain line (table p.it)
+  all-plain line p =
+      subst (λ l. AllPlain l (table p.it)) (sym p.is) (plain-behind [] (table p.it) (whole p.it) p.fits)
+
+  pub one-line : (l m : List ℕ) → IsPlain table l → IsPlain table m → cells_in own l ≡ cells_in own m → l ≡ m
+  one-line l m p q same =
+      p.is
+      ∙ same-values l m (is-line l p) (is-line m q) own same (table p.it) (table q.it) (alike p.it q.it) (all-plain l p) (all-plain m q)
+      ∙ sym q.is
+
+  -- so they are where their rows are, in a table whose fields have these columns
+  module _ (fields : TableFields (List ℕ)) (cells : (line : List ℕ) → cells_of fields line ≡ cells_in own line)
+      (within : IsTrue (are_within own)) (some : 0 < length fields) where
+    plain-cells : (line : List ℕ) → IsPlain table line → AreCells (cells_of fields line)
+    plain-cells line p = subst AreCells (sym (cells line)) (are-cells line (is-line line p) Other own within)
+
+    one-plain : (l m : List ℕ) → IsPlain table l → IsPlain table m → cells_of fields l ≡ cells_of fields m → l ≡ m
+    one-plain l m p q same = one-line l m p q (sym (cells l) ∙ same ∙ cells m)
+
+    pub same-plain_row : (l m : List ℕ) → IsPlain table l → IsPlain table m → row_line fields l ≡ row_line fields m → l ≡ m
+    same-plain_row = same-row fields (IsPlain table) some plain-cells one-plain
+
+    pub same-plain_rows : (ls ms : List (List ℕ)) → All (IsPlain table) ls → All (IsPlain table) ms →
+        flat_map (row_line fields) ls ≡ flat_map (row_line fields) ms → ls ≡ ms
+    same-plain_rows = same-rows fields (IsPlain table) some plain-cells one-plain

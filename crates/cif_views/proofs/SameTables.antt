@@ -1,0 +1,303 @@
+-- Canonical extracts have the same tables exactly if they have the same text.
+use Rattle.std.proofs.Common.{◌≡◌, ◌≢◌, ℕ, ◌+◌, ◌<◌, ◌≤◌, ◌^◌, All, Bool, true, false, List, [], ◌∷◌, ◌++◌, Some, ap, ◌∙◌}
+use Rattle.std.proofs.Common.{arith, drop, get_or, length, length-append, map, refl, subst, sym}
+use Rattle.std.specs.List.{enumerate_from}
+use Rattle.std.specs.Prelude.{◌↔◌}
+use Rattle.std.proofs.lemmas.Grind.{flat_map-append}
+use Rattle.std.proofs.lemmas.List.{append_cancel_left, length-map, map-append}
+use Rattle.std.proofs.lemmas.List.Elements.{All-cons, All-nil}
+use Rattle.std.proofs.lemmas.List.Folds.{flat_map-map}
+use Rattle.std.proofs.lemmas.Simd.{map-map}
+use Rattle.cif_calendar.specs.Terms.{Terms}
+use Rattle.cif_columns.specs.Contents.{contents_of, lines_text}
+use Rattle.cif_columns.specs.Field.{plain_line}
+use Rattle.cif_extract.specs.SpellsExtract.{BytesSpell}
+use Rattle.cif_extract.specs.Texts.{AllTablesFit, body_tables, extract_tables, extract_text, schedule_tables, tables_of}
+use Rattle.cif_extract.proofs.PlainTexts.{fit-back, fit-front, spelled-fits}
+use Rattle.cif_extract.proofs.SpelledBytes.{one_spelled}
+use Rattle.cif_records.specs.Association as aa
+use Rattle.cif_records.specs.Header.{header_table}
+use Rattle.cif_records.specs.Tiploc.{tiploc_table}
+use Rattle.cif_records.specs.Trailer.{trailer_table}
+use Rattle.cif_weeks.specs.Permanent.{permanent_entries, terms_of}
+use Rattle.cif_weeks.specs.declared.form.Form.{Form}
+use Rattle.cif_canon.specs.Canon.{CanonParts, IsCanonOf}
+use Rattle.cif_canon.specs.Canonical.{IsCanonicalOf, IsCanonicalText}
+use Rattle.cif_canon.specs.Lines.{ExtractLines, line_of_association, lines_of, lines_of_schedule}
+use Rattle.cif_canon.specs.Meaning.{SameMeaning}
+use Rattle.cif_canon.proofs.SameExtracts.{same-sym, same-trans}
+use Rattle.cif_canon.proofs.Unique.{extracts-unique}
+use Rattle.cif_views.specs.SameTables.{HaveSameTables}
+use Rattle.cif_views.specs.Steps.Columns.{association_columns, over}
+use Rattle.cif_views.specs.declared.columns.TheConstants.{HEADER, TIPLOC}
+use Rattle.cif_views.specs.TableText.{table_heading, table_text}
+use Rattle.cif_views.specs.Tables.{association_fields, header_fields}
+use Rattle.cif_views.specs.declared.tables.Table.{Table}
+use Rattle.cif_views.specs.declared.tables.Table.TheVariants.{Associations, Calls, Changes, Header, Public, Schedules, Tiplocs}
+use Rattle.cif_views.proofs.Words.{AssocBody, AssocKey, Association, BodyParts, Column, ExtractParts, Permanent, Row, Schedule}
+use Rattle.cif_views.proofs.Words.{ScheduleLines, association_entries, association_entry, flat_map, numbered_schedule, row_line}
+use Rattle.cif_views.proofs.Words.{schedule_entries, schedule_entry, schedule_fields, schedule_plain, table_rows, tiploc_fields}
+use Rattle.cif_views.proofs.PairedBodies.{association_line, basic_line}
+use Rattle.cif_views.proofs.RowLines.{IsPlain, same-plain_row, same-plain_rows, same-rows}
+use Rattle.cif_views.proofs.SameJourneys.{IsRow, fields_of, most, one-row, row-cells}
+use Rattle.cif_views.proofs.SameSchedules.{IsNumberedPlain, IsSchedule, all-numbered, all-rows, listed, rows_from, same-row_of}
+use Rattle.cif_views.proofs.SameSchedules.{same-schedules, schedule-cells, schedules_from}
+
+abbrev header_columns : List Column
+header_columns = over HEADER (λ c. (c.0.now, c.1))
+
+abbrev tiploc_columns : List Column
+tiploc_columns = over TIPLOC (λ c. (c.0.now, c.1))
+
+-- ---- tables, and lines
+
+-- the lines of a canonical extract, of which there are few enough to be numbered
+record ArePlain (x : ExtractLines) : Type 0 where
+  header : IsPlain header_table x.header
+  tiplocs : All (IsPlain tiploc_table) x.tiplocs
+  associations : All (IsPlain association_line) x.associations
+  schedules : All IsSchedule x.schedules
+  few : length x.schedules < 2 ^ 64
+
+flat-twice : {A B C : Type 0} (f : B → List C) (g : A → List B) (xs : List A) →
+    flat_map f (flat_map g xs) ≡ flat_map (λ x. flat_map f (g x)) xs
+flat-twice f g [] = refl
+flat-twice f g (x ∷ xs) = flat_map-append f (g x) (flat_map g xs) ∙ ap (λ l. flat_map f (g x) ++ l) (flat-twice f g xs)
+
+module _ (x y : ExtractLines) (one : ArePlain x) (other : ArePlain y) (same : HaveSameTables x y) where
+  rows : (table : Table) → table ≢ Public → table_rows table x ≡ table_rows table y
+  unfolding table_text
+  rows table not = append_cancel_left (table_heading table) (table_rows table x) (table_rows table y) (same table not)
+
+  few-of : (z : ExtractLines) → ArePlain z → 1 + length z.schedules ≤ 2 ^ 64
+  few-of z p = let few = p.few in omega (arith, few)
+
+  headers : x.header ≡ y.header
+  headers =
+      same-plain_row header_table header_columns (λ h. refl) (λ h k. refl) header_fields (λ l. refl) refl (omega arith) x.header y.header
+      one.header other.header (rows Header (λ e. absurd (cc)))
+
+  tiplocs : x.tiplocs ≡ y.tiplocs
+  tiplocs =
+      same-plain_rows tiploc_table tiploc_columns (λ t. refl) (λ t u. refl) tiploc_fields (λ l. refl) refl (omega arith) x.tiplocs y.tiplocs
+      one.tiplocs other.tiplocs (rows Tiplocs (λ e. absurd (cc)))
+
+  associations : x.associations ≡ y.associations
+  associations =
+      same-plain_rows association_line association_columns (λ e. refl) (λ e g. refl) association_fields (λ l. refl) refl (omega arith)
+      x.associations y.associations one.associations other.associations (rows Associations (λ e. absurd (cc)))
+
+  numbered : schedules_from 1 x.schedules ≡ schedules_from 1 y.schedules
+  numbered =
+      let text : (z : ExtractLines) → flat_map (row_line schedule_fields) (schedules_from 1 z.schedules) ≡ table_rows Schedules z =
+      λ z. flat_map-map (row_line schedule_fields) numbered_schedule (enumerate_from 1 z.schedules) in
+      same-rows schedule_fields IsNumberedPlain (omega arith) schedule-cells same-row_of (schedules_from 1 x.schedules)
+      (schedules_from 1 y.schedules) (all-numbered 1 x.schedules (few-of x one) one.schedules)
+      (all-numbered 1 y.schedules (few-of y other) other.schedules)
+      (text x ∙ rows Schedules (λ e. absurd (cc)) ∙ sym (text y))
+
+  -- the rows of calls, or else of changes
+  abbrev text_of_rows : Bool → ExtractLines → List ℕ
+  text_of_rows calls z =
+      flat_map (λ (s : ℕ × ScheduleLines). flat_map (row_line (fields_of calls)) (listed calls s.0 s.1.further))
+      (enumerate_from 1 z.schedules)
+
+  texts-of_rows : (calls : Bool) → text_of_rows calls x ≡ text_of_rows calls y
+  texts-of_rows true = rows Calls (λ e. absurd (cc))
+  texts-of_rows false = rows Changes (λ e. absurd (cc))
+
+  some-field : (calls : Bool) → 0 < length (fields_of calls)
+  some-field true = omega arith
+  some-field false = omega arith
+
+  journeys : (calls : Bool) → rows_from calls 1 x.schedules ≡ rows_from calls 1 y.schedules
+  journeys calls =
+      let text : (z : ExtractLines) → flat_map (row_line (fields_of calls)) (rows_from calls 1 z.schedules) ≡ text_of_rows calls z =
+      λ z. flat-twice (row_line (fields_of calls)) _ (enumerate_from 1 z.schedules) in
+      same-rows (fields_of calls) (IsRow calls 1 most) (some-field calls) (row-cells calls) (one-row calls) (rows_from calls 1 x.schedules)
+      (rows_from calls 1 y.schedules) (all-rows calls 1 1 x.schedules (omega arith) (few-of x one) one.schedules)
+      (all-rows calls 1 1 y.schedules (omega arith) (few-of y other) other.schedules)
+      (text x ∙ texts-of_rows calls ∙ sym (text y))
+
+  schedules : x.schedules ≡ y.schedules
+  schedules =
+      same-schedules 1 x.schedules y.schedules one.schedules other.schedules (few-of x one) (few-of y other) numbered journeys
+
+  same-lines : x ≡ y
+  same-lines = λ i. record {
+    header = headers i;
+    tiplocs = tiplocs i;
+    associations = associations i;
+    schedules = schedules i;
+  }
+
+-- ---- the text of lines
+
+abbrev all_lines : ScheduleLines → List (List ℕ)
+all_lines s = s.basic ∷ s.further
+
+abbrev text_of : ExtractLines → List ℕ
+text_of x =
+    lines_text (x.header ∷ (x.tiplocs ++ (x.associations ++ (flat_map all_lines x.schedules ++ (plain_line trailer_table ∷ [])))))
+
+lines-of_schedules : (ss : List Schedule) → map plain_line (flat_map tables_of ss) ≡ flat_map all_lines (map lines_of_schedule ss)
+lines-of_schedules [] = refl
+lines-of_schedules (s ∷ ss) =
+    map-append plain_line (tables_of s) (flat_map tables_of ss)
+    ∙ ap (λ (l : List (List ℕ)). map plain_line (tables_of s) ++ l) (lines-of_schedules ss)
+
+text-is : (x : ExtractParts) → extract_text x ≡ text_of (lines_of x)
+text-is x = simp (map-append, map-map, lines-of_schedules)
+
+-- it has a byte at least for each line
+some-byte : (ls : List (List ℕ)) → length ls ≤ length (lines_text ls)
+some-byte [] = omega arith
+some-byte (l ∷ ls) =
+    omega (arith, some-byte ls, length-append (l ++ (10 ∷ [])) (lines_text ls), length-append l (10 ∷ []))
+
+-- ---- what a canonical extract has
+
+plain-all : {X : Type 0} (table : X → List Row) (xs : List X) → AllTablesFit (map table xs) →
+    All (IsPlain table) (map (λ x. plain_line (table x)) xs)
+plain-all table [] fits = All-nil (IsPlain table)
+plain-all table (x ∷ xs) fits =
+    All-cons (IsPlain table) (plain_line (table x)) (map (λ x. plain_line (table x)) xs) (record { it = x; fits = fits.0; is = refl })
+    (plain-all table xs fits.1)
+
+-- the tables of an association, and of a schedule, as entries and as permanent records
+abbrev association_of : AssocKey × Terms AssocBody → List Row
+association_of e = aa.association_rows e.0 e.1.first e.1.last e.1.days e.1.letter e.1.body
+
+abbrev schedule_of : List ℕ × Terms BodyParts → List (List Row)
+schedule_of e = schedule_tables e.0 e.1.first e.1.last e.1.days e.1.letter e.1.body
+
+abbrev permanent_tables : List ℕ × Permanent BodyParts → List (List Row)
+permanent_tables e = basic_line e ∷ body_tables (Some e.1.body)
+
+abbrev lines_in : List (List Row) → ScheduleLines
+lines_in tables = record { basic = plain_line (get_or tables 0 []); further = map plain_line (drop 1 tables) }
+
+-- what canonical entries have is what their records have
+module _ {A K B : Type 0} (entry : A → K × Terms B) (xs : List A) (es : List (K × Permanent B)) (are : map entry xs ≡ permanent_entries es)
+  where
+    by-records : {C : Type 0} (of : K × Terms B → C) → map (λ x. of (entry x)) xs ≡ map (λ (e : K × Permanent B). of (e.0, terms_of e.1)) es
+    by-records of =
+        sym (map-map of entry xs) ∙ ap (map of) are ∙ map-map of (λ (e : K × Permanent B). (e.0, terms_of e.1)) es
+
+plain-associations : (xs : List Association) (es : List (AssocKey × Permanent AssocBody)) → association_entries xs ≡ permanent_entries es →
+    AllTablesFit (map aa.association_table xs) → All (IsPlain association_line) (map line_of_association xs)
+plain-associations xs es are fits =
+    subst (All (IsPlain association_line)) (sym (by-records association_entry xs es are (λ p. plain_line (association_of p))))
+    (plain-all association_line es (subst AllTablesFit (by-records association_entry xs es are association_of) fits))
+
+plain-records : (es : List (List ℕ × Permanent BodyParts)) → AllTablesFit (flat_map permanent_tables es) →
+    length (flat_map permanent_tables es) < 2 ^ 64 →
+    All IsSchedule (map schedule_plain es) × (length (map schedule_plain es) ≤ length (flat_map permanent_tables es))
+plain-records [] fits few = (All-nil IsSchedule, omega arith)
+plain-records (e ∷ es) fits few =
+    let rest = flat_map permanent_tables es in
+    let own = fit-front (permanent_tables e) rest fits in
+    let long = length-append (permanent_tables e) rest in
+    let as-many = length-map (body_tables (Some e.1.body)) plain_line in
+    let (others, count) = plain-records es (fit-back (permanent_tables e) rest fits) (omega (arith, few, long)) in (
+      All-cons IsSchedule (schedule_plain e) (map schedule_plain es)
+          (record {
+            it = e;
+            fits = record { basic = own.0; further = own.1 };
+            is = refl;
+            few = omega (arith, few, long, as-many);
+          }) others,
+      omega (arith, long, count),
+    )
+
+plain-schedules : (xs : List Schedule) (es : List (List ℕ × Permanent BodyParts)) → schedule_entries xs ≡ permanent_entries es →
+    AllTablesFit (flat_map tables_of xs) → length (flat_map tables_of xs) < 2 ^ 64 →
+    All IsSchedule (map lines_of_schedule xs) × (length (map lines_of_schedule xs) < 2 ^ 64)
+plain-schedules xs es are fits few =
+    let tables : flat_map tables_of xs ≡ flat_map permanent_tables es =
+    sym (flat_map-map (λ (t : List (List Row)). t) tables_of xs)
+    ∙ ap (flat_map (λ (t : List (List Row)). t)) (by-records schedule_entry xs es are schedule_of)
+    ∙ flat_map-map (λ (t : List (List Row)). t) permanent_tables es in
+    let some = ap length tables in
+    let (all, count) = plain-records es (subst AllTablesFit tables fits) (omega (arith, few, some)) in
+    subst (λ (ls : List ScheduleLines). All IsSchedule ls × (length ls < 2 ^ 64))
+    (sym (by-records schedule_entry xs es are (λ p. lines_in (schedule_of p)))) (all, omega (arith, few, some, count))
+
+module _ (form : Form) (x : ExtractParts) (text : List ℕ) (is : IsCanonicalText form x text) (few : length text < 2 ^ 64) where
+  are-plain : ArePlain (lines_of x)
+  are-plain =
+      let locations = map tiploc_table x.tiplocs in
+      let own = map aa.association_table x.associations in
+      let trains = flat_map tables_of x.schedules in
+      let end : List (List Row) = trailer_table ∷ [] in
+      let fits = spelled-fits (contents_of text) x is.spelled.are_lines is.spelled.spelled in
+      let behind = fit-back locations (own ++ (trains ++ end)) fits.1 in
+      let back = fit-back own (trains ++ end) behind in
+      let bytes = ap length is.text in
+      let lines = some-byte (map plain_line (extract_tables x)) in
+      let all = length-map (extract_tables x) plain_line in
+      let more = length-append locations (own ++ (trains ++ end)) in
+      let others = length-append own (trains ++ end) in
+      let last = length-append trains end in
+      let some : length trains < 2 ^ 64 = omega (arith, few, bytes, lines, all, more, others, last) in
+      let (schedules, count) = plain-schedules x.schedules is.canonical.schedules.records is.canonical.schedules.are
+      (fit-front trains end back) some in
+      record {
+        header = record { it = x.header; fits = fits.0; is = refl };
+        tiplocs = plain-all tiploc_table x.tiplocs (fit-front locations (own ++ (trains ++ end)) fits.1);
+        associations = plain-associations x.associations is.canonical.associations.records is.canonical.associations.are
+            (fit-front own (trains ++ end) behind);
+        schedules = schedules;
+        few = count;
+      }
+
+-- ---- canonical extracts
+
+module _ (form other : Form) (x y : ExtractParts) (c d : CanonParts) (one : IsCanonOf form x c) (two : IsCanonOf other y d)
+    (few : length c.text < 2 ^ 64) (as-few : length d.text < 2 ^ 64) where
+  abbrev made : ExtractParts
+  made = one.canonical.made
+
+  abbrev other_made : ExtractParts
+  other_made = two.canonical.made
+
+  text-of_tables : HaveSameTables c.lines d.lines → c.text ≡ d.text
+  text-of_tables same =
+      let lines = same-lines (lines_of made) (lines_of other_made) (are-plain form made c.text one.canonical.canonical few)
+      (are-plain other other_made d.text two.canonical.canonical as-few)
+      (λ table not. ap (table_text table) (sym one.lines_are) ∙ same table not ∙ ap (table_text table) two.lines_are) in
+      one.canonical.canonical.text ∙ text-is made ∙ ap text_of lines ∙ sym (text-is other_made) ∙ sym two.canonical.canonical.text
+
+  one-made : c.text ≡ d.text → made ≡ other_made
+  one-made same =
+      one_spelled d.text made other_made (subst (λ t. BytesSpell t made) same one.canonical.canonical.spelled)
+      two.canonical.canonical.spelled
+
+  pub same-text : HaveSameTables c.lines d.lines ↔ (c.text ≡ d.text)
+  same-text = (
+    text-of_tables,
+    λ same table not. ap (table_text table) (one.lines_are ∙ ap lines_of (one-made same) ∙ sym two.lines_are),
+  )
+
+-- of one form they have the same tables exactly if they say the same
+module _ (form : Form) (x y : ExtractParts) (c d : CanonParts) (one : IsCanonOf form x c) (two : IsCanonOf form y d)
+    (few : length c.text < 2 ^ 64) (as-few : length d.text < 2 ^ 64) where
+  abbrev p : IsCanonicalOf form x c.text
+  p = one.canonical
+
+  abbrev q : IsCanonicalOf form y d.text
+  q = two.canonical
+
+  said : HaveSameTables c.lines d.lines → SameMeaning x y
+  said same =
+      let made = one-made form form x y c d one two few as-few (text-of_tables form form x y c d one two few as-few same) in
+      same-trans x p.made y p.same (subst (λ m. SameMeaning m y) (sym made) (same-sym y q.made q.same))
+
+  shown-same : SameMeaning x y → HaveSameTables c.lines d.lines
+  shown-same same =
+      let made = extracts-unique form p.made q.made p.canonical.canonical q.canonical.canonical
+      (same-trans p.made x q.made (same-sym x p.made p.same) (same-trans x y q.made same q.same)) in
+      (same-text form form x y c d one two few as-few).1 (p.canonical.text ∙ ap extract_text made ∙ sym q.canonical.text)
+
+  pub same-meaning : HaveSameTables c.lines d.lines ↔ SameMeaning x y
+  same-meaning = (said, shown-same)
