@@ -68,7 +68,8 @@ module _ {R : Type 0} (remaining : R → Option (List ℕ)) (errors : R → Opti
       → given old ≡ limit old → given new ≡ given old
       → IsNextOf remaining errors old from (Err (Refused (given old + 1) TooManyLines)) new to
   refuses_next next cut other full same = record {
-    answer = known_so (left remaining old from) _ _ (λ bytes. begins_some 1 bytes (content new) (left remaining new to) next (omega arith) other)
+    answer = known_so (left remaining old from) _ _
+        (λ bytes. begins_some 1 bytes (content new) (left remaining new to) next (omega arith) other)
         cut.answer;
     holds = (full, same, refl, refl);
     limit_now = limit_now;

@@ -37,7 +37,8 @@ module _ (K : List ℕ → List (List ℕ) → List ℕ → Type 0) {R : Type 0}
     -- of the reader's limits and count
     pub at_limits : (P : ℕ → ℕ → ℕ → Type 0) → P (most_of reader) (limit reader) (given reader) → P most max (length cs)
     at_limits P h = subst (λ k. P k max (length cs)) so_far.same_most
-        (subst (λ m. P (most_of reader) m (length cs)) so_far.same_limit (subst (λ n. P (most_of reader) (limit reader) n) so_far.counted h))
+        (subst (λ m. P (most_of reader) m (length cs)) so_far.same_limit
+        (subst (λ n. P (most_of reader) (limit reader) n) so_far.counted h))
 
     -- from what a call says of what is left
     pub given_so : (Next Q : List ℕ → Type 0) → IfSome (left remaining reader source) Next

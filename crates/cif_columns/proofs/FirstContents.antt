@@ -30,11 +30,13 @@ none_split bytes none = λ k d below. other (get_or bytes k d) (none k d below)
 pub one_part : (bytes : List ℕ) → HaveNoFeed bytes → slice_split is_line_feed bytes ≡ bytes ∷ []
 one_part bytes none = slice_split_none is_line_feed bytes (none_split bytes none)
 
-pub part_before : (part rest : List ℕ) → HaveNoFeed part → slice_split is_line_feed (part ++ 10 ∷ rest) ≡ part ∷ slice_split is_line_feed rest
+pub part_before : (part rest : List ℕ) → HaveNoFeed part
+    → slice_split is_line_feed (part ++ 10 ∷ rest) ≡ part ∷ slice_split is_line_feed rest
 part_before part rest none = slice_split_at is_line_feed part 10 rest (none_split part none) refl
 
 -- the content before a line feed
-pub content_before : (part rest : List ℕ) → HaveNoFeed part → contents_of (part ++ 10 ∷ rest) ≡ strip_carriage_return part ∷ contents_of rest
+pub content_before : (part rest : List ℕ) → HaveNoFeed part
+    → contents_of (part ++ 10 ∷ rest) ≡ strip_carriage_return part ∷ contents_of rest
 content_before part rest none = lines_to_feed part rest ∙ ap (λ l. map strip_carriage_return l ++ lines rest) (one_part part none)
 
 -- and the last one
@@ -129,7 +131,8 @@ comes_first bytes some = ⊎_elim
     ))
     (feed_or_none bytes)
 
-pub some_content : (bytes : List ℕ) → 0 < length bytes → (content : List ℕ) × (others : List (List ℕ)) × (contents_of bytes ≡ content ∷ others)
+pub some_content : (bytes : List ℕ) → 0 < length bytes
+    → (content : List ℕ) × (others : List (List ℕ)) × (contents_of bytes ≡ content ∷ others)
 some_content bytes some =
     let (content, rest, first) = comes_first bytes some in
     (content, contents_of rest, (content_first (length bytes + 1) bytes content rest first).contents)

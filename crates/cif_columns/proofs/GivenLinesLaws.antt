@@ -1,7 +1,6 @@
 -- A run of `next`: one step for each answer.
-use Rattle.std.proofs.Common.{◌≡◌, ℕ, ◌+◌, ◌≤◌, All, Bool, false, List, [], ◌∷◌, ◌++◌, length, Option, None, Some, IfSome, IsSomeAnd, Ok, Err, refl}
-use Rattle.std.proofs.Common.{sym, ap}
-use Rattle.std.proofs.Common.{◌∙◌, arith, subst, append_assoc, append-nil, length-append}
+use Rattle.std.proofs.Common.{◌≡◌, ℕ, ◌+◌, ◌≤◌, All, Bool, false, List, [], ◌∷◌, ◌++◌, length, Option, None, Some, IfSome, IsSomeAnd}
+use Rattle.std.proofs.Common.{Ok, Err, refl, sym, ap, ◌∙◌, arith, subst, append_assoc, append-nil, length-append}
 use Rattle.std.proofs.lemmas.List.Elements.{All-push}
 use Rattle.std.specs.Io.KnownBytes.{prepend_known}
 use Rattle.std.specs.Str.Lines.{lines}
@@ -81,8 +80,8 @@ held_front hold rest (Some unread) e =
     (unread, refl, sym same)
 
 -- the bytes that the source gave are the whole lines so far, and these behind them
-unfoldable pub given_front : {P : List ℕ → Type 0} (bytes : List ℕ) (ls : List (List ℕ)) (rest front unread : List ℕ) → rest ≡ front ++ unread
-    → (so_far : AreWholeContentsAndRest P bytes ls rest)
+unfoldable pub given_front : {P : List ℕ → Type 0} (bytes : List ℕ) (ls : List (List ℕ)) (rest front unread : List ℕ)
+    → rest ≡ front ++ unread → (so_far : AreWholeContentsAndRest P bytes ls rest)
     → (bytes ≡ (so_far.whole ++ front) ++ unread) × AreWholeContentsAndRest P (so_far.whole ++ front) ls front
 given_front bytes ls rest front unread parts so_far = (
   so_far.parts ∙ ap (λ l. so_far.whole ++ l) parts ∙ sym (append_assoc so_far.whole front unread),
@@ -189,7 +188,8 @@ module _ (P : List ℕ → Type 0) (start rest : Option (List ℕ)) (ls : List (
       → IfSome start (λ bytes. ended ≡ false → IsSomeAnd unread (λ others. IsContentDecidedWithin P most max bytes others number))
   known_decided most max number is unread ended decides =
       with_rest (λ bytes others. AreWholeContentsAndRest P bytes ls others) start rest _ known
-      (λ bytes others e known not. by bytes others unread known (subst (λ r. GivenDecideContent most max (length ls) r unread) e (decides not)))
+      (λ bytes others e known not. by bytes others unread known
+      (subst (λ r. GivenDecideContent most max (length ls) r unread) e (decides not)))
     where
       by : (bytes others : List ℕ) (left : Option (List ℕ)) → AreWholeContentsAndRest P bytes ls others
           → GivenDecideContent most max (length ls) (Some others) left
@@ -276,15 +276,16 @@ module _ {R : Type 0} (remaining : R → Option (List ℕ)) where
           → (past reader ≡ Reading → IfSome (left remaining reader source)
           (λ bytes. Answers (limit reader) (given reader) bytes (Err (Refused number why)) (left remaining reader' source')))
           → IfSome start (λ bytes. AreContentsToRefusal P max bytes ls number why)
-      reading_refuses number why answer = known_of P start rest ls so_far.known _ _ (answer so_far.reads_on) (λ bytes others known next. record {
-        content = next.content;
-        others = next.others;
-        contents = contents_given bytes ls others known ∙ ap (λ l. ls ++ l) next.contents;
-        are_lines = known.are_lines;
-        within = within;
-        next = next.next ∙ ap (λ n. n + 1) so_far.counted;
-        reason = subst (λ m. HasLineReason m number next.content why) so_far.same_limit next.reason;
-      })
+      reading_refuses number why answer = known_of P start rest ls so_far.known _ _ (answer so_far.reads_on)
+          (λ bytes others known next. record {
+            content = next.content;
+            others = next.others;
+            contents = contents_given bytes ls others known ∙ ap (λ l. ls ++ l) next.contents;
+            are_lines = known.are_lines;
+            within = within;
+            next = next.next ∙ ap (λ n. n + 1) so_far.counted;
+            reason = subst (λ m. HasLineReason m number next.content why) so_far.same_limit next.reason;
+          })
 
       -- a failure of the source
       pub reading_fails : (past reader ≡ Reading → IfSome (left remaining reader source)

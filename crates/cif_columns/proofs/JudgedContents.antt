@@ -1,6 +1,7 @@
 -- The contents of bytes that are judged, one after another.
 use Rattle.std.proofs.Common.{◌≡◌, ◌≢◌, ◌⊎◌, inl, inr, ⊎_elim, ℕ, ◌<◌, ◌≤◌, true, false, cond, List, [], ◌∷◌, ◌++◌, ◌||◌, length, map}
-use Rattle.std.proofs.Common.{◌+◌, Option, None, Some, IfSome, IsSomeAnd, Ok, Err, length-append, refl, sym, ap, ◌∙◌, arith, append_assoc, append-nil, ne_eqb, subst}
+use Rattle.std.proofs.Common.{◌+◌, Option, None, Some, IfSome, IsSomeAnd, Ok, Err, refl, sym, ap, ◌∙◌}
+use Rattle.std.proofs.Common.{arith, append_assoc, append-nil, length-append, ne_eqb, subst}
 use Rattle.std.proofs.lemmas.Bool.{cases_lt, or_parts}
 use Rattle.std.proofs.lemmas.Bool.Decides.{nat_tests}
 use Rattle.std.proofs.lemmas.List.Folds.{list_any-append}
@@ -90,7 +91,8 @@ whole_judged whole more ended none = ⊎_elim
     (⊎_elim
     (λ fed.
     let front = fed.0 in
-    let short = (or_parts (list_any is_overlong (parts_of front)) (has_overlong []) (sym (feed_overlong front []) ∙ ap has_overlong (sym fed.1)
+    let short = (or_parts (list_any is_overlong (parts_of front)) (has_overlong [])
+    (sym (feed_overlong front []) ∙ ap has_overlong (sym fed.1)
     ∙ none)).0 in
     let all : whole ++ more ≡ front ++ 10 ∷ more = ap (λ l. l ++ more) fed.1 ∙ append_assoc front (10 ∷ []) more in (
       ap judged_contents all ∙ feed_judged front more short
@@ -284,7 +286,8 @@ module _ {R : Type 0} (remaining : R → Option (List ℕ)) (errors : R → Opti
       next.holds.2 ∙ ap (λ n. n + 1) (next.holds.0 ∙ so_far.same_limit),
       next.holds.3,
       given_so AreJudgedAndRest remaining errors start 10000 max reader source cs so_far _ _ next.answer (λ bytes others known some.
-          omega (arith, ap length (judged_are bytes cs others known), length-append cs (judged_contents others), some_judged others some, full)),
+          let all = ap length (judged_are bytes cs others known) in
+          omega (arith, all, length-append cs (judged_contents others), some_judged others some, full)),
       if_known start _ _ (λ not.
           let gave = next.decided (λ e. absurd (cc)) not in
           let some = decides_some (most_of reader) (limit reader) (given reader) gave.given reader.some gave.decided in
@@ -292,7 +295,8 @@ module _ {R : Type 0} (remaining : R → Option (List ℕ)) (errors : R → Opti
           given_front_so (λ before. max < length (contents_of before)) gave.given (remaining (reader_of source'))
           (kept_left rest (prepend_known gave.given (remaining (reader_of source'))) gave.parts)
           (λ before known.
-          omega (arith, ap length (contents_are before cs gave.given known ∙ ap (λ l. cs ++ l) is), length-append cs (one ∷ others), full))),
+          let all = ap length (contents_are before cs gave.given known ∙ ap (λ l. cs ++ l) is) in
+          omega (arith, all, length-append cs (one ∷ others), full))),
     )
       where
         full : length cs ≡ max
@@ -304,10 +308,13 @@ module _ {R : Type 0} (remaining : R → Option (List ℕ)) (errors : R → Opti
     given_failed next = given_front_so (MayGoOn max) (held reader') (remaining (reader_of source')) next.answer (λ before known. record {
       none_overlong = overlong_is before cs (held reader') known ∙ few.1;
       within = ⊎_elim
-          (λ room. omega (arith, ap length (contents_are before cs (held reader') known), length-append cs (contents_of (held reader')), few.0))
+          (λ room.
+          let all = ap length (contents_are before cs (held reader') known) in
+          omega (arith, all, length-append cs (contents_of (held reader')), few.0))
           (λ from.
           let none : held reader' ≡ [] = undecided.none_too_many (omega (arith, from, within)) in
-          omega (arith, within, ap length (contents_are before cs (held reader') known ∙ ap (λ l. cs ++ contents_of l) none ∙ append-nil cs)))
+          let all = ap length (contents_are before cs (held reader') known ∙ ap (λ l. cs ++ contents_of l) none ∙ append-nil cs) in
+          omega (arith, within, all))
           (cases_lt (length cs) max);
     })
       where

@@ -1,6 +1,6 @@
 -- What a content is as a line, and what a `LineReader` answers of it.
-use Rattle.std.proofs.Common.{◌≡◌, ◌≢◌, ℕ, ◌+◌, ◌<◌, ◌≤◌, Bool, true, false, cond, nat_eq, List, [], ◌∷◌, length, Option, Some, None, IfSome}
-use Rattle.std.proofs.Common.{Ok, Err, refl, sym, ap, ◌∙◌, subst, arith}
+use Rattle.std.proofs.Common.{◌≡◌, ◌≢◌, ℕ, ◌+◌, ◌<◌, ◌≤◌, Bool, true, false, cond, nat_eq, List, [], ◌∷◌, length, Option, Some, None}
+use Rattle.std.proofs.Common.{IfSome, Ok, Err, refl, sym, ap, ◌∙◌, subst, arith}
 use Rattle.std.proofs.lemmas.Bool.Decides.{nat_tests}
 use Rattle.std.proofs.lemmas.Bool.{eqb-true}
 use Rattle.std.specs.List.{list_all}
@@ -200,7 +200,8 @@ module _ {R : Type 0} {remaining : R → Option (List ℕ)} {errors : R → Opti
     refuses_next reading next.limit_now number why next.holds.2 (subst IsLineReason (sym next.holds.3) tt) past_now next.holds.1
         (known_so (left remaining old from) _ _ (λ bytes some.
         let (one, others, contents) = some_content bytes some in
-        (one, others, contents, subst (HasLineReason (limit old) number one) (sym next.holds.3) (omega (arith, next.holds.0, next.holds.2))))
+        let over : limit old < number = omega (arith, next.holds.0, next.holds.2) in
+        (one, others, contents, subst (HasLineReason (limit old) number one) (sym next.holds.3) over))
         next.answer) next.device (λ not. decides old (next.decided (λ e. absurd (cc)) not)),
     λ _ _ room. absurd (omega (arith, room, next.holds.0)),
   )

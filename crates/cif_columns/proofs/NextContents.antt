@@ -19,8 +19,8 @@ module _ {R : Type 0} (remaining : R → Option (List ℕ)) (errors : R → Opti
         → PassesFirst most (held_bytes old) next (content_bytes new) (held_bytes new)
         → CutsNext remaining errors most first from (Ok next) new to
     decided_next some begun Content passes = record {
-      answer = passed_left most (known_left remaining first from) (remaining (reader_of to)) (held_bytes old) (content_bytes new) _ Content keeps
-          passes;
+      answer = passed_left most (known_left remaining first from) (remaining (reader_of to)) (held_bytes old) (content_bytes new) _
+          Content keeps passes;
       overlong = λ e. absurd (cc);
       decided = λ not. record { given = held_bytes old; parts = keeps; decided = fed_decides most most _ _ _ passes };
       undecided = tt;
@@ -30,8 +30,8 @@ module _ {R : Type 0} (remaining : R → Option (List ℕ)) (errors : R → Opti
           ⊎_elim (λ same. absurd (omega (arith, fed_some most _ _ _ passes, ap length (same ∙ none)))) (λ f. f) begun;
     }
     decided_next some begun Overlong passes = record {
-      answer = passed_left most (known_left remaining first from) (remaining (reader_of to)) (held_bytes old) (content_bytes new) (held_bytes new) Overlong keeps
-          passes;
+      answer = passed_left most (known_left remaining first from) (remaining (reader_of to)) (held_bytes old) (content_bytes new)
+          (held_bytes new) Overlong keeps passes;
       overlong = λ e. rw passes.1 passes.0;
       decided = λ not. record { given = held_bytes old; parts = keeps; decided = overlong_decides most (held_bytes old) passes.0 };
       undecided = tt;
@@ -46,7 +46,8 @@ module _ {R : Type 0} (remaining : R → Option (List ℕ)) (errors : R → Opti
         → IsAtEnd (remaining (reader_of to)) → (next : NextContent) → IsLast (held_bytes old) next (content_bytes new) (held_bytes new)
         → CutsNext remaining errors most first from (Ok next) new to
     last_next undecided going told end next last = record {
-      answer = last_left most (known_left remaining first from) (remaining (reader_of to)) (held_bytes old) _ _ next keeps end undecided last;
+      answer = last_left most (known_left remaining first from) (remaining (reader_of to)) (held_bytes old) _ _ next keeps end
+          undecided last;
       overlong = none_overlong next last;
       decided = λ not. absurd (cc);
       undecided = tt;

@@ -44,7 +44,7 @@ IsLineReason _ = ⊥
 abbrev pub HaveNoFeed : List ℕ → Type 0
 HaveNoFeed bytes = All (λ b. b ≢ 10) bytes
 
--- a line feed stands here, and none before it, which are fewer bytes
+-- a line feed stands at this place, and none before it, where fewer bytes stand
 pub record IsFirstFeed (most : ℕ) (bytes : List ℕ) (place : ℕ) : Type 0 where
   pub short : place < most
   pub within : place < length bytes
@@ -67,10 +67,11 @@ pub record EndsAtEnd (most : ℕ) (bytes content rest : List ℕ) : Type 0 where
   pub is : content ≡ bytes
   pub none : rest ≡ []
 
+-- it comes first in one of these ways
 abbrev pub ComesFirst : ℕ → List ℕ → List ℕ → List ℕ → Type 0
 ComesFirst most bytes content rest = EndsAtFeed most bytes content rest ⊎ EndsAtEnd most bytes content rest
 
--- the bytes begin with a content that has more
+-- the bytes begin with a content that has so many bytes or more
 pub record BeginOverlong (most : ℕ) (bytes : List ℕ) : Type 0 where
   pub long : most ≤ length bytes
   pub no_feed : HaveNoFeed (take most bytes)

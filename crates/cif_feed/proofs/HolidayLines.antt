@@ -151,7 +151,8 @@ module _ (line : List ℕ) (l : ℕ) (dates : List (List ℕ)) (words : words_of
 
   -- what adding the dates comes to
   pub line-ok : (code : HolidayCode) (old new : Holidays) (r : Result (Unit {0}) HolidayFault) → length line ≤ 1000 → l ≡ letter code
-      → IfOk r (λ done. All IsDate dates × HasMore old code (NamesDay dates) new) → IfOk r (λ done. IsHolidayLine line × HasLineMore old line new)
+      → IfOk r (λ done. All IsDate dates × HasMore old code (NamesDay dates) new)
+      → IfOk r (λ done. IsHolidayLine line × HasLineMore old line new)
   line-ok code old new (Ok done) within is (are, more) = says-dates code old new within is are more
   line-ok code old new (Err fault) within is h = tt
 

@@ -119,7 +119,8 @@ module _ {R : Type 0} (remaining : R → Option (List ℕ)) (errors : R → Opti
         numbered = is;
         bad = found.4;
       }) (known_next IsHolidayLine start rest ls so_far.known (IsBadLine number) bad))
-      (known_decided IsHolidayLine start rest ls so_far.known 1002 100000000 number is (remaining (reader_of new)) (source_ended new) decided))
+      (known_decided IsHolidayLine start rest ls so_far.known 1002 100000000 number is (remaining (reader_of new)) (source_ended new)
+      decided))
       (omega (arith, is), omega (arith, is, within)) (read_on_both errors old between new read_on on)
 
   -- of the reader's limits and count

@@ -256,7 +256,8 @@ too_many_fault max (Some bytes) after ended number is over gave = record { over 
 
 -- at a fault of the lines
 pub comes-line_fault : {R : Type 0} (remaining : R → Option (List ℕ)) (errors : R → Option ℕ) (max : ℕ) (reader : ContentReader)
-    (old between : Source R) (cs : List (List ℕ)) → HasGiven AreJudgedAndRest remaining (remaining (reader_of old)) 10000 max reader between cs
+    (old between : Source R) (cs : List (List ℕ))
+    → HasGiven AreJudgedAndRest remaining (remaining (reader_of old)) 10000 max reader between cs
     → HasReadOn errors old between → (reader' : ContentReader) (new : Source R) (l : LineFault)
     → IsNextOf remaining errors reader between (Err l) reader' new
     → IsResultOf remaining errors (judging max (unread_of remaining new)) old new (Err (of_line_fault l))

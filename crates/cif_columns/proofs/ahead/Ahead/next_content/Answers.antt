@@ -13,7 +13,8 @@ pub returns-in-Some : goal.returns-in-Some
 returns-in-Some g c =
     let so_far = c.loop-next.invariant in
     decided_next g.R.Read.remaining g.R.ReadDevice.read_errors c.args.most c.args.self.now c.loop-next.self c.decided_content.new.self
-    c.args.source.now c.loop-next.source so_far.same_bytes so_far.read_on c.requires.some so_far.begun c.in-Some.next c.in-Some.ensures.found
+    c.args.source.now c.loop-next.source so_far.same_bytes so_far.read_on c.requires.some so_far.begun c.in-Some.next
+    c.in-Some.ensures.found
 
 pub fill-requires : goal.fill-requires
 fill-requires g c =

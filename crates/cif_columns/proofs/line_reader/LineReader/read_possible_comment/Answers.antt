@@ -9,7 +9,8 @@ use Rattle.cif_columns.proofs.line_reader.LineReader.read_possible_comment.Goals
 pub returns-then-is_comment : goal.returns-then-is_comment
 returns-then-is_comment g c =
     let (next, past_now) = rw c.in-Ok-true.field-0-test at c.in-Ok-true.ensures in
-    passes_comment c.requires next past_now (ap is_comment (sym c.content-content.ensures) ∙ sym c.is_comment.ensures ∙ c.if-is_comment.true)
+    passes_comment c.requires next past_now
+    (ap is_comment (sym c.content-content.ensures) ∙ sym c.is_comment.ensures ∙ c.if-is_comment.true)
 
 pub returns-in-Ok : goal.returns-in-Ok
 returns-in-Ok g c =
@@ -26,7 +27,7 @@ returns-in-Err-line_of g c =
     let content = sym c.content-content.ensures in
     let refused = c.refuse.ensures in
     rw refused.fault (
-      refuses_content c.requires _ next c.in-Err-line_of.why (ap line_of content ∙ sym c.line_of.ensures ∙ c.in-Err-line_of.is) refused.limit
-          refused.given (refused.past ∙ ap Faulted refused.fault),
+      refuses_content c.requires _ next c.in-Err-line_of.why (ap line_of content ∙ sym c.line_of.ensures ∙ c.in-Err-line_of.is)
+          refused.limit refused.given (refused.past ∙ ap Faulted refused.fault),
       λ _. no_comment c.args.self.now _ next (ap is_comment content ∙ sym c.is_comment.ensures ∙ c.if-is_comment.false),
     )
