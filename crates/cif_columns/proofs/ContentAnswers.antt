@@ -1,112 +1,111 @@
--- What a `ContentReader` answers, by what was decided, by what came last, and where its source failed.
-use Rattle.std.proofs.Common.{◌≡◌, ◌⊎◌, ℕ, ◌+◌, ◌≤◌, false, true, List, length, Option, Result, Ok, Err, refl, sym, ap}
-use Rattle.std.proofs.Common.{◌∙◌, arith, subst, ⊎_elim}
-use Rattle.std.specs.Io.KnownBytes.{IsAtEnd, Keeps}
-use Rattle.cif_columns.specs.ContentReader.{IsDecidedNext, IsLastOf, IsNextOf, IsUndecided, given, held, left, limit}
-use Rattle.cif_columns.specs.FirstLine.{first_content}
-use Rattle.cif_columns.specs.NextContent.{before_feed}
-use Rattle.cif_columns.specs.Source.{HasFailedToRead, HasReadOn, reader_of, source_ended, source_failed}
+-- What a `ContentReader` answers, by what its held bytes and its source gave.
+use Rattle.std.proofs.Common.{◌≡◌, ◌≢◌, ℕ, ◌+◌, ◌<◌, List, length, Option, Ok, Err, refl, ap, arith}
+use Rattle.std.proofs.lemmas.List.{nil_from_length}
+use Rattle.cif_columns.specs.Ahead.{AnswersNext, CutsNext, GivenDecided}
+use Rattle.cif_columns.specs.ContentReader.{HoldsNext, IsNextOf, content, given, held, left, limit, most_of}
+use Rattle.cif_columns.specs.Contents.{AreUndecided, DecideNoContent}
+use Rattle.cif_columns.specs.LineReader.{GivenDecideContent}
+use Rattle.cif_columns.specs.declared.ahead.NextContent.{NextContent}
+use Rattle.cif_columns.specs.declared.ahead.NextContent.TheVariants.{Content, Overlong, End}
 use Rattle.cif_columns.specs.declared.content_reader.ContentReader.{ContentReader}
-use Rattle.cif_columns.specs.declared.content_reader.NextContent.{NextContent}
-use Rattle.cif_columns.specs.declared.content_reader.NextContent.TheVariants.{Content, Overlong, End}
-use Rattle.cif_columns.specs.declared.refusal.LineFault.{LineFault}
 use Rattle.cif_columns.specs.declared.refusal.LineFault.TheVariants.{Refused, Read}
+use Rattle.cif_columns.specs.declared.refusal.Refusal.TheVariants.{TooManyLines}
+use Rattle.cif_columns.specs.declared.source.ReadFault.{ReadFault}
 use Rattle.cif_columns.specs.declared.source.Source.{Source}
-use Rattle.cif_columns.proofs.NextContents.{content_left, kept_left, last_left}
+use Rattle.cif_columns.proofs.FirstContents.{first_some}
+use Rattle.cif_columns.proofs.GivenLinesLaws.{known_so}
 
--- bytes that are still held still decide nothing
-pub still_undecided : {max most count number : ℕ} (bytes held_now : List ℕ) → number ≡ count → most ≡ max → held_now ≡ bytes
-    → IsUndecided max count bytes → IsUndecided most number held_now
-still_undecided bytes held_now numbered same held_same undecided = rw (numbered, same, held_same) undecided
+-- what decides a content decides it where so many may come
+pub given_decide : {most m max count : ℕ} {bytes unread : Option (List ℕ)}
+    → ((given : List ℕ) → DecideNoContent most max count given → AreUndecided m given) → GivenDecided m bytes unread
+    → GivenDecideContent most max count bytes unread
+given_decide so gave = record { given = gave.given; parts = gave.parts; decided = λ none. gave.decided (so gave.given none) }
 
--- a reader as it was, and as it is while the source is read on
-module _ {R : Type 0} (remaining : R → Option (List ℕ)) (errors : R → Option ℕ) (first old new : ContentReader) (from to : Source R)
-    (keeps : Keeps (left remaining first from) (left remaining old to)) (same_given : given old ≡ given first)
-    (same_limit : limit old ≡ limit first) where
-  module _ (read_on : HasReadOn errors from to) where
-    pub decided_next : (held old ≡ held first) ⊎ (source_failed from ≡ false) → (answer : Result NextContent LineFault)
-        → IsDecidedNext old answer new → IsNextOf remaining errors first from answer new to
-    decided_next begun (Ok (Content content)) (passes, holds, limit_now) = record {
-      answer = content_left (left remaining first from) (remaining (reader_of to)) (held old) (held new) (Content content) keeps passes;
-      holds = (
-        omega (arith, holds.0, same_given, same_limit),
-        holds.1 ∙ ap (λ n. n + 1) same_given,
-        (first_content (held old), passes.0.is),
-      );
-      limit_now = limit_now ∙ same_limit;
-      device = read_on;
-      told = λ e. absurd (cc);
-      fresh = λ none. ⊎_elim (λ same. absurd (omega (arith, passes.0.some, ap length (same ∙ none)))) (λ f. f) begun;
-      endless = λ e. absurd (cc);
-    }
-    decided_next begun (Ok Overlong) (passes, holds, limit_now) = record {
-      answer = content_left (left remaining first from) (remaining (reader_of to)) (held old) (held new) Overlong keeps passes;
-      holds = (
-        omega (arith, holds.0, same_given, same_limit),
-        subst (λ l. 10000 ≤ before_feed l) (sym passes.1) passes.0,
-        holds.1 ∙ same_given,
-      );
-      limit_now = limit_now ∙ same_limit;
-      device = read_on;
-      told = λ e. absurd (cc);
-      fresh = λ none. ⊎_elim (λ same. absurd (omega (arith, passes.0, ap before_feed (same ∙ none)))) (λ f. f) begun;
-      endless = λ e. absurd (cc);
-    }
-    decided_next begun (Ok End) (passes, holds, limit_now) = absurd passes
-    decided_next begun (Err (Refused number why)) (same, other, holds) = record {
-      answer = kept_left (left remaining first from) (left remaining new to)
-          (subst (λ r. Keeps (left remaining first from) (left remaining r to)) (sym same) keeps);
-      holds = (
-        holds.0 ∙ ap (λ n. n + 1) same_given,
-        holds.1,
-        sym same_given ∙ holds.2 ∙ same_limit,
-        holds.3,
-        holds.4 ∙ same_given,
-      );
-      limit_now = ap limit same ∙ same_limit;
-      device = read_on;
-      told = λ e. absurd (cc);
-      fresh = λ none. tt;
-      endless = λ e. absurd (cc);
-    }
-    decided_next begun (Err Read) (same, other, holds) = absurd (other refl)
+module _ (most max count : ℕ) where
+  -- where no more may come one byte does
+  pub none_more : count ≡ max → (given : List ℕ) → DecideNoContent most max count given → AreUndecided 1 given
+  none_more full given none = record { no_feed = none.no_feed; short = omega (arith, ap length (none.none_too_many full)) }
 
-    -- where the source told its end, and nothing more is held
-    pub last_next : source_failed from ≡ false → source_ended to ≡ true → IsAtEnd (remaining (reader_of to)) → (next : NextContent)
-        → IsLastOf old next new → IsNextOf remaining errors first from (Ok next) new to
-    last_next going told end (Content content) (last, holds, limit_now) = record {
-      answer = last_left (left remaining first from) (remaining (reader_of to)) (held old) (held new) (Content content) keeps end last;
-      holds = (
-        omega (arith, holds.0, same_given, same_limit),
-        holds.1 ∙ ap (λ n. n + 1) same_given,
-        (first_content (held old), last.is),
-      );
-      limit_now = limit_now ∙ same_limit;
-      device = read_on;
-      told = λ e. told;
-      fresh = λ none. going;
-      endless = λ e. going;
-    }
-    last_next going told end Overlong (last, holds, limit_now) = absurd last
-    last_next going told end End (last, holds, limit_now) = record {
-      answer = last_left (left remaining first from) (remaining (reader_of to)) (held old) (held new) End keeps end last;
-      holds = holds ∙ same_given;
-      limit_now = limit_now ∙ same_limit;
-      device = read_on;
-      told = λ e. told;
-      fresh = λ none. going;
-      endless = λ e. going;
-    }
+  pub none_begun : 0 < most → (held : List ℕ) → AreUndecided 1 held → DecideNoContent most max count held
+  none_begun some held none = record {
+    no_feed = none.no_feed;
+    short = omega (arith, some, none.short);
+    none_too_many = λ full. nil_from_length held (omega (arith, none.short));
+  }
 
-  -- where the source failed
-  pub failed_next : HasFailedToRead errors from to → IsUndecided (limit first) (given first) (held old)
-      → IsNextOf remaining errors first from (Err Read) old to
-  failed_next failed undecided = record {
-    answer = kept_left (left remaining first from) (left remaining old to) keeps;
-    holds = (undecided, same_given);
-    limit_now = same_limit;
-    device = failed;
-    told = λ e. absurd (cc);
+  -- and else the content itself
+  pub none_decided : (given : List ℕ) → DecideNoContent most max count given → AreUndecided most given
+  none_decided given none = record { no_feed = none.no_feed; short = none.short }
+
+  pub none_with_room : count < max → (held : List ℕ) → AreUndecided most held → DecideNoContent most max count held
+  none_with_room room held none = record { no_feed = none.no_feed; short = none.short; none_too_many = λ full. absurd (omega arith) }
+
+-- what isn't none begins with some byte
+pub begins_some : (most : ℕ) (bytes content : List ℕ) (after : Option (List ℕ)) (next : NextContent) → 0 < most → next ≢ End
+    → AnswersNext most bytes next content after → 0 < length bytes
+begins_some most bytes content after Content some other answer = first_some most bytes content answer.0 answer.2
+begins_some most bytes content after Overlong some other answer = omega (arith, some, answer.1.long)
+begins_some most bytes content after End some other answer = absurd (other refl)
+
+module _ {R : Type 0} (remaining : R → Option (List ℕ)) (errors : R → Option ℕ) (old new : ContentReader) (from to : Source R)
+    (limit_now : limit new ≡ limit old) (most_now : most_of new ≡ most_of old) where
+  -- the end, where none may
+  pub ends_next : CutsNext remaining errors 1 old.ahead from (Ok End) new.ahead to → given old ≡ limit old → given new ≡ given old
+      → IsNextOf remaining errors old from (Ok End) new to
+  ends_next cut full same = record {
+    answer = cut.answer;
+    holds = same;
+    limit_now = limit_now;
+    most_now = most_now;
+    decided = λ other not. given_decide (none_more (most_of old) (limit old) (given old) full) (cut.decided not);
+    device = cut.device;
+    ended = λ e. cut.ended refl;
+    fresh = cut.fresh;
+  }
+
+  -- a content that is one too many
+  pub refuses_next : (next : NextContent) → CutsNext remaining errors 1 old.ahead from (Ok next) new.ahead to → next ≢ End
+      → given old ≡ limit old → given new ≡ given old
+      → IsNextOf remaining errors old from (Err (Refused (given old + 1) TooManyLines)) new to
+  refuses_next next cut other full same = record {
+    answer = known_so (left remaining old from) _ _
+        (λ bytes. begins_some 1 bytes (content new) (left remaining new to) next (omega arith) other)
+        cut.answer;
+    holds = (full, same, refl, refl);
+    limit_now = limit_now;
+    most_now = most_now;
+    decided = λ _ not. given_decide (none_more (most_of old) (limit old) (given old) full) (cut.decided not);
+    device = cut.device;
+    ended = λ e. absurd (cc);
     fresh = λ none. tt;
-    endless = λ e. absurd (cc);
+  }
+
+  -- what comes where a content may
+  pub gives_next : (next : NextContent) → CutsNext remaining errors (most_of old) old.ahead from (Ok next) new.ahead to
+      → HoldsNext old (Ok next) new → IsNextOf remaining errors old from (Ok next) new to
+  gives_next next cut holds = record {
+    answer = cut.answer;
+    holds = holds;
+    limit_now = limit_now;
+    most_now = most_now;
+    decided = λ other not. given_decide (none_decided (most_of old) (limit old) (given old)) (cut.decided not);
+    device = cut.device;
+    ended = λ e. let same : next ≡ End = cc in cut.ended (ap Ok same);
+    fresh = cut.fresh;
+  }
+
+  -- a failure of the source
+  pub fails_next : (most : ℕ) (fault : ReadFault) → CutsNext remaining errors most old.ahead from (Err fault) new.ahead to
+      → given new ≡ given old
+      → ((held_now : List ℕ) → AreUndecided most held_now → DecideNoContent (most_of old) (limit old) (given old) held_now)
+      → IsNextOf remaining errors old from (Err Read) new to
+  fails_next most fault cut same so = record {
+    answer = cut.answer;
+    holds = (same, so (held new) cut.undecided);
+    limit_now = limit_now;
+    most_now = most_now;
+    decided = λ other. absurd (other refl);
+    device = cut.device;
+    ended = λ e. absurd (cc);
+    fresh = λ none. tt;
   }

@@ -1,7 +1,6 @@
 -- A run of `next`: one step for each answer.
-use Rattle.std.proofs.Common.{◌≡◌, ℕ, ◌+◌, ◌≤◌, false, List, [], ◌∷◌, ◌++◌, length, Option, None, Some, IfSome, IsSomeAnd, Ok, Err, refl}
-use Rattle.std.proofs.Common.{sym, ap}
-use Rattle.std.proofs.Common.{◌∙◌, arith, subst, append_assoc, append-nil, length-append}
+use Rattle.std.proofs.Common.{◌≡◌, ℕ, ◌+◌, ◌≤◌, All, Bool, false, List, [], ◌∷◌, ◌++◌, length, Option, None, Some, IfSome, IsSomeAnd}
+use Rattle.std.proofs.Common.{Ok, Err, refl, sym, ap, ◌∙◌, arith, subst, append_assoc, append-nil, length-append}
 use Rattle.std.proofs.lemmas.List.Elements.{All-push}
 use Rattle.std.specs.Io.KnownBytes.{prepend_known}
 use Rattle.std.specs.Str.Lines.{lines}
@@ -11,11 +10,11 @@ use Rattle.cif_columns.specs.declared.line_reader.LineReader.{LineReader}
 use Rattle.cif_columns.specs.declared.line_reader.Past.TheVariants.{Reading}
 use Rattle.cif_columns.specs.declared.refusal.Refusal.{Refusal}
 use Rattle.cif_columns.specs.declared.source.Source.{Source}
-use Rattle.cif_columns.specs.Contents.{contents_of, HasLineReason, DecidesNothing, IsFirstContent}
+use Rattle.cif_columns.specs.Contents.{contents_of, HasLineReason, DecideNoContent, DecidesNothing, IsFirstContent}
 use Rattle.cif_columns.specs.Source.{source_ended, unread_of}
-use Rattle.cif_columns.specs.LineReader.{held, given, limit, past, left, GivenDecide, IsNext, Answers}
+use Rattle.cif_columns.specs.LineReader.{held, given, limit, past, left, GivenDecide, GivenDecideContent, IsNext, Answers}
 use Rattle.cif_columns.specs.GivenLines.{AreAllContents, AreContentsToFailure, AreContentsToFault, AreContentsToRefusal}
-use Rattle.cif_columns.specs.GivenLines.{AreWholeContentsAndRest, EndsLine, IsContentDecided}
+use Rattle.cif_columns.specs.GivenLines.{AreContentsToCut, AreWholeContentsAndRest, EndsLine, IsContentDecided, IsContentDecidedWithin}
 use Rattle.cif_columns.specs.Line.{IsLine}
 use Rattle.cif_columns.proofs.WholeLines.{lines_whole, piece_of, ends_after, ends_before, lines_piece}
 use mathlib.Core.Logic.{◌⊎◌, inl, inr}
@@ -39,7 +38,7 @@ IsReading remaining start max reader source lines = IsReadingContents IsLine rem
 
 -- ---- known bytes
 
-none_given : {P : List ℕ → Type 0} (bytes : List ℕ) → AreWholeContentsAndRest P bytes [] bytes
+unfoldable pub none_given : {P : List ℕ → Type 0} (bytes : List ℕ) → AreWholeContentsAndRest P bytes [] bytes
 none_given bytes = record { whole = []; parts = refl; ended = inl refl; contents = refl; are_lines = λ k d below. absurd (omega arith) }
 
 -- the contents of the bytes are the lines that were given and the contents of the rest
@@ -48,12 +47,11 @@ pub contents_given : {P : List ℕ → Type 0} (bytes : List ℕ) (ls : List (Li
 contents_given bytes ls rest so_far =
     ap lines so_far.parts ∙ lines_whole so_far.whole rest so_far.ended ∙ ap (λ l. l ++ lines rest) so_far.contents
 
-one_more : {P : List ℕ → Type 0} (bytes : List ℕ) (ls : List (List ℕ)) (rest content rest' : List ℕ)
-    → AreWholeContentsAndRest P bytes ls rest → P content → IsFirstContent rest content rest'
+-- a piece more, which is one content
+unfoldable pub whole_more : {P : List ℕ → Type 0} (bytes : List ℕ) (ls : List (List ℕ)) (rest piece content rest' : List ℕ)
+    → AreWholeContentsAndRest P bytes ls rest → rest ≡ piece ++ rest' → EndsLine piece rest' → lines piece ≡ content ∷ [] → P content
     → AreWholeContentsAndRest P bytes (ls ++ content ∷ []) rest'
-one_more {P} bytes ls rest content rest' so_far is next =
-    let (piece, parts, ended) = piece_of rest content rest' next.stands in
-    let one = lines_piece piece rest' content ended (ap lines (sym parts) ∙ next.contents) in
+whole_more {P} bytes ls rest piece content rest' so_far parts ended one is =
     let front : (so_far.whole ≡ []) ⊎ EndsLine so_far.whole (piece ++ rest') =
     subst (λ l. (so_far.whole ≡ []) ⊎ EndsLine so_far.whole l) parts so_far.ended in
     record {
@@ -65,6 +63,14 @@ one_more {P} bytes ls rest content rest' so_far is next =
       are_lines = All-push P ls content so_far.are_lines is;
     }
 
+pub one_more : {P : List ℕ → Type 0} (bytes : List ℕ) (ls : List (List ℕ)) (rest content rest' : List ℕ)
+    → AreWholeContentsAndRest P bytes ls rest → P content → IsFirstContent rest content rest'
+    → AreWholeContentsAndRest P bytes (ls ++ content ∷ []) rest'
+one_more bytes ls rest content rest' so_far is next =
+    let (piece, parts, ended) = piece_of rest content rest' next.stands in
+    whole_more bytes ls rest piece content rest' so_far parts ended
+    (lines_piece piece rest' content ended (ap lines (sym parts) ∙ next.contents)) is
+
 -- the bytes that are held are a prefix of those that are left, and the others are those that the reader has
 pub held_front : (hold rest : List ℕ) (remaining : Option (List ℕ)) → prepend_known hold remaining ≡ Some rest
     → (unread : List ℕ) × (remaining ≡ Some unread) × (rest ≡ hold ++ unread)
@@ -74,8 +80,8 @@ held_front hold rest (Some unread) e =
     (unread, refl, sym same)
 
 -- the bytes that the source gave are the whole lines so far, and these behind them
-given_front : {P : List ℕ → Type 0} (bytes : List ℕ) (ls : List (List ℕ)) (rest front unread : List ℕ) → rest ≡ front ++ unread
-    → (so_far : AreWholeContentsAndRest P bytes ls rest)
+unfoldable pub given_front : {P : List ℕ → Type 0} (bytes : List ℕ) (ls : List (List ℕ)) (rest front unread : List ℕ)
+    → rest ≡ front ++ unread → (so_far : AreWholeContentsAndRest P bytes ls rest)
     → (bytes ≡ (so_far.whole ++ front) ++ unread) × AreWholeContentsAndRest P (so_far.whole ++ front) ls front
 given_front bytes ls rest front unread parts so_far = (
   so_far.parts ∙ ap (λ l. so_far.whole ++ l) parts ∙ sym (append_assoc so_far.whole front unread),
@@ -116,13 +122,101 @@ pub known_both : (start : Option (List ℕ)) (P Q : List ℕ → Type 0) → IfS
 known_both None P Q p q = tt
 known_both (Some bytes) P Q p q = (p, q)
 
--- ---- a reader at a source
-
 -- where nothing is left after what is held, the reader has nothing left
-pub all_given : (held : List ℕ) (rest : Option (List ℕ)) → prepend_known held rest ≡ Some [] → rest ≡ Some []
-all_given held None e = cc
+pub all_given : (hold : List ℕ) (rest : Option (List ℕ)) → prepend_known hold rest ≡ Some [] → rest ≡ Some []
+all_given hold None e = cc
 all_given [] (Some bytes) e = e
-all_given (b ∷ held) (Some bytes) e = cc
+all_given (b ∷ hold) (Some bytes) e = cc
+
+-- ---- what comes behind the contents so far
+
+module _ (P : List ℕ → Type 0) (start rest : Option (List ℕ)) (ls : List (List ℕ)) (known : KnownContents P start ls rest) where
+  -- from what a call says of the rest
+  known_of : (Next Q : List ℕ → Type 0) → IfSome rest Next
+      → ((bytes others : List ℕ) → AreWholeContentsAndRest P bytes ls others → Next others → Q bytes) → IfSome start Q
+  known_of Next Q next f = with_answer (λ bytes others. AreWholeContentsAndRest P bytes ls others) start rest Next Q known next f
+
+  -- a content more
+  pub known_more : (content : List ℕ) (after : Option (List ℕ))
+      → IfSome rest (λ bytes. P content × ((others : List ℕ) × (after ≡ Some others) × IsFirstContent bytes content others))
+      → KnownContents P start (ls ++ content ∷ []) after
+  known_more content after next = known_of _ _ next (λ bytes others known next.
+      subst (λ r. IsSomeAnd r (λ o. AreWholeContentsAndRest P bytes (ls ++ content ∷ []) o)) (sym next.1.1)
+      (one_more bytes ls others content next.1.0 known next.0 next.1.2))
+
+  -- a content that isn't among them, and others behind it
+  pub known_next : (Q : List ℕ → Type 0)
+      → IfSome rest (λ bytes. (content : List ℕ) × (others : List (List ℕ)) × (contents_of bytes ≡ content ∷ others) × Q content)
+      → IfSome start (λ bytes. (content : List ℕ) × (others : List (List ℕ)) × (contents_of bytes ≡ ls ++ content ∷ others)
+      × All P ls × Q content)
+  known_next Q next = known_of _ _ next (λ bytes others known next. (
+    next.0,
+    next.1,
+    contents_given bytes ls others known ∙ ap (λ l. ls ++ l) next.2,
+    known.are_lines,
+    next.3,
+  ))
+
+  module _ (max : ℕ) (within : length ls ≤ max) where
+    -- the end of the input
+    pub known_all : IfSome rest (λ bytes. bytes ≡ []) → IfSome start (λ bytes. AreAllContents P max bytes ls)
+    known_all ended = known_of _ _ ended (λ bytes others known none. record {
+      contents = contents_given bytes ls others known ∙ ap (λ l. ls ++ lines l) none ∙ append-nil ls;
+      are_lines = known.are_lines;
+      within = within;
+    })
+
+    -- a failure of the source
+    pub known_cut : (most : ℕ) (hold : List ℕ) (unread : Option (List ℕ)) → IfSome rest (λ bytes. prepend_known hold unread ≡ Some bytes)
+        → DecideNoContent most max (length ls) hold
+        → IfSome start (λ bytes. IsSomeAnd unread (λ others. AreContentsToCut P most max bytes others ls))
+    known_cut most hold unread kept undecided = known_of _ _ kept (λ bytes others known kept.
+        let (more, is, parts) = held_front hold others unread kept in
+        let gave = given_front bytes ls others hold more parts known in
+        subst (λ r. IsSomeAnd r (λ o. AreContentsToCut P most max bytes o ls)) (sym is) (record {
+          before = known.whole ++ hold;
+          rest = hold;
+          parts = gave.0;
+          whole_lines_and_rest = gave.1;
+          within = within;
+          undecided = undecided;
+        }))
+
+  -- the next content is decided, unless the source told its end
+  pub known_decided : (most max number : ℕ) → number ≡ length ls + 1 → (unread : Option (List ℕ)) (ended : Bool)
+      → (ended ≡ false → GivenDecideContent most max (length ls) rest unread)
+      → IfSome start (λ bytes. ended ≡ false → IsSomeAnd unread (λ others. IsContentDecidedWithin P most max bytes others number))
+  known_decided most max number is unread ended decides =
+      with_rest (λ bytes others. AreWholeContentsAndRest P bytes ls others) start rest _ known
+      (λ bytes others e known not. by bytes others unread known
+      (subst (λ r. GivenDecideContent most max (length ls) r unread) e (decides not)))
+    where
+      by : (bytes others : List ℕ) (left : Option (List ℕ)) → AreWholeContentsAndRest P bytes ls others
+          → GivenDecideContent most max (length ls) (Some others) left
+          → IsSomeAnd left (λ o. IsContentDecidedWithin P most max bytes o number)
+      by bytes others None known gave = absurd gave.parts
+      by bytes others (Some more) known gave =
+          let front = given_front bytes ls others gave.given more (sym gave.parts) known in
+          record {
+            lines = ls;
+            before = known.whole ++ gave.given;
+            rest = gave.given;
+            parts = front.0;
+            whole_lines_and_rest = front.1;
+            numbered = is;
+            decided = gave.decided;
+          }
+
+-- the bytes at the start, before any content
+pub known_none : (K : List ℕ → List ℕ → Type 0) → ((bytes : List ℕ) → K bytes bytes) → (start : Option (List ℕ)) (hold : List ℕ) → hold ≡ []
+    → IfSome start (λ bytes. IsSomeAnd (prepend_known hold start) (K bytes))
+known_none K none start hold empty = at start (prepend_known hold start) (ap (λ l. prepend_known l start) empty)
+  where
+    at : (start rest : Option (List ℕ)) → rest ≡ prepend_known [] start → IfSome start (λ bytes. IsSomeAnd rest (K bytes))
+    at None rest e = tt
+    at (Some bytes) rest e = subst (λ r. IsSomeAnd r (K bytes)) (sym e) (none bytes)
+
+-- ---- a reader of lines at a source
 
 module _ {R : Type 0} (remaining : R → Option (List ℕ)) where
   -- a new reader
@@ -134,24 +228,20 @@ module _ {R : Type 0} (remaining : R → Option (List ℕ)) where
     reads_on = going;
     same_limit = same;
     counted = zero;
-    known = at (remaining source.reader) (left remaining reader source) (ap (λ l. prepend_known l (remaining source.reader)) empty);
+    known = known_none (λ bytes rest. AreWholeContentsAndRest P bytes [] rest) none_given (remaining source.reader) (held reader) empty;
   }
-    where
-      at : (start rest : Option (List ℕ)) → rest ≡ prepend_known [] start → KnownContents P start [] rest
-      at None rest e = tt
-      at (Some bytes) rest e = subst (λ r. IsSomeAnd r (λ others. AreWholeContentsAndRest P bytes [] others)) (sym e) (none_given bytes)
 
   module _ {P : List ℕ → Type 0} (start : Option (List ℕ)) (max : ℕ) (reader : LineReader) (source : Source R) (ls : List (List ℕ))
       (so_far : IsReadingContents P remaining start max reader source ls) where
+    abbrev rest : Option (List ℕ)
+    rest = left remaining reader source
+
     within : length ls ≤ max
     within = omega (arith, so_far.counted, so_far.same_limit, reader.counted)
 
-    -- what a call answers where the reader reads on, beside what is known of its bytes
-    answered : (Next Q : List ℕ → Type 0) → (past reader ≡ Reading → IfSome (left remaining reader source) Next)
-        → ((bytes rest : List ℕ) → AreWholeContentsAndRest P bytes ls rest → Next rest → Q bytes) → IfSome start Q
-    answered Next Q answer f =
-        with_answer (λ bytes rest. AreWholeContentsAndRest P bytes ls rest) start (left remaining reader source) Next Q so_far.known
-        (answer so_far.reads_on) f
+    -- of the reader's limit and count
+    at_max : (P : ℕ → ℕ → Type 0) → P (limit reader) (given reader) → P max (length ls)
+    at_max P h = subst (λ m. P m (length ls)) so_far.same_limit (subst (λ n. P (limit reader) n) so_far.counted h)
 
     module _ (reader' : LineReader) (source' : Source R) where
       -- a content more
@@ -164,59 +254,46 @@ module _ {R : Type 0} (remaining : R → Option (List ℕ)) where
         reads_on = going;
         same_limit = same ∙ so_far.same_limit;
         counted = omega (arith, more, so_far.counted, length-append ls (content ∷ []));
-        known = answered _ _ answer (λ bytes rest known next.
-            subst (λ r. IsSomeAnd r (λ others. AreWholeContentsAndRest P bytes (ls ++ content ∷ []) others)) (sym next.1.1)
-            (one_more bytes ls rest content next.1.0 known next.0 next.1.2));
+        known = known_more P start rest ls so_far.known content (left remaining reader' source') (answer so_far.reads_on);
       }
 
       -- at the end of the input nothing is left, where the bytes were known
       pub nothing_left : (past reader ≡ Reading → IfSome (left remaining reader source)
           (λ bytes. Answers (limit reader) (given reader) bytes (Ok None) (left remaining reader' source')))
           → IfSome start (λ bytes. remaining source'.reader ≡ Some [])
-      nothing_left answer = answered _ _ answer (λ bytes rest known next. all_given (held reader') (remaining source'.reader) next.1)
+      nothing_left answer = known_of P start rest ls so_far.known _ _ (answer so_far.reads_on)
+          (λ bytes others known next. all_given (held reader') (remaining source'.reader) next.1)
 
       -- the end of the input
       pub reading_ends : (past reader ≡ Reading → IfSome (left remaining reader source)
           (λ bytes. Answers (limit reader) (given reader) bytes (Ok None) (left remaining reader' source')))
           → IfSome start (λ bytes. AreAllContents P max bytes ls)
-      reading_ends answer = answered _ _ answer (λ bytes rest known next. record {
-        contents = contents_given bytes ls rest known ∙ ap (λ l. ls ++ lines l) next.0 ∙ append-nil ls;
-        are_lines = known.are_lines;
-        within = within;
-      })
+      reading_ends answer = known_all P start rest ls so_far.known max within
+          (known_so rest _ _ (λ bytes next. next.0) (answer so_far.reads_on))
 
       -- a refusal
       pub reading_refuses : (number : ℕ) (why : Refusal)
           → (past reader ≡ Reading → IfSome (left remaining reader source)
           (λ bytes. Answers (limit reader) (given reader) bytes (Err (Refused number why)) (left remaining reader' source')))
           → IfSome start (λ bytes. AreContentsToRefusal P max bytes ls number why)
-      reading_refuses number why answer = answered _ _ answer (λ bytes rest known next. record {
-        content = next.content;
-        others = next.others;
-        contents = contents_given bytes ls rest known ∙ ap (λ l. ls ++ l) next.contents;
-        are_lines = known.are_lines;
-        within = within;
-        next = next.next ∙ ap (λ n. n + 1) so_far.counted;
-        reason = subst (λ m. HasLineReason m number next.content why) so_far.same_limit next.reason;
-      })
+      reading_refuses number why answer = known_of P start rest ls so_far.known _ _ (answer so_far.reads_on)
+          (λ bytes others known next. record {
+            content = next.content;
+            others = next.others;
+            contents = contents_given bytes ls others known ∙ ap (λ l. ls ++ l) next.contents;
+            are_lines = known.are_lines;
+            within = within;
+            next = next.next ∙ ap (λ n. n + 1) so_far.counted;
+            reason = subst (λ m. HasLineReason m number next.content why) so_far.same_limit next.reason;
+          })
 
       -- a failure of the source
       pub reading_fails : (past reader ≡ Reading → IfSome (left remaining reader source)
           (λ bytes. Answers (limit reader) (given reader) bytes (Err Read) (left remaining reader' source')))
           → DecidesNothing (limit reader) (given reader) (held reader')
           → IfSome start (λ bytes. IsSomeAnd (remaining source'.reader) (λ unread. AreContentsToFailure P max bytes unread ls))
-      reading_fails answer undecided = answered _ _ answer (λ bytes rest known next.
-          let (unread, is, parts) = held_front (held reader') rest (remaining source'.reader) next in
-          let gave = given_front bytes ls rest (held reader') unread parts known in
-          subst (λ r. IsSomeAnd r (λ others. AreContentsToFailure P max bytes others ls)) (sym is) (record {
-            before = known.whole ++ held reader';
-            rest = held reader';
-            parts = gave.0;
-            whole_lines_and_rest = gave.1;
-            within = within;
-            undecided = subst (λ m. DecidesNothing m (length ls) (held reader')) so_far.same_limit
-                (subst (λ n. DecidesNothing (limit reader) n (held reader')) so_far.counted undecided);
-          }))
+      reading_fails answer undecided = known_cut P start rest ls so_far.known max within 82 (held reader') (remaining source'.reader)
+          (answer so_far.reads_on) (at_max (λ m n. DecidesNothing m n (held reader')) undecided)
 
       -- the next line is decided, unless the source told its end
       pub reading_decides : (number : ℕ) → number ≡ given reader + 1
@@ -224,27 +301,9 @@ module _ {R : Type 0} (remaining : R → Option (List ℕ)) where
           → GivenDecide (limit reader) (given reader) (left remaining reader source) (remaining source'.reader))
           → IfSome start (λ bytes. source_ended source' ≡ false
           → IsSomeAnd (remaining source'.reader) (λ unread. IsContentDecided P max bytes unread number))
-      reading_decides number is decides =
-          with_rest (λ bytes rest. AreWholeContentsAndRest P bytes ls rest) start (left remaining reader source) _ so_far.known
-          (λ bytes rest e known not. by bytes rest (remaining source'.reader) known
-          (subst (λ r. GivenDecide (limit reader) (given reader) r (remaining source'.reader)) e (decides not)))
-        where
-          by : (bytes rest : List ℕ) (unread : Option (List ℕ)) → AreWholeContentsAndRest P bytes ls rest
-              → GivenDecide (limit reader) (given reader) (Some rest) unread
-              → IsSomeAnd unread (λ others. IsContentDecided P max bytes others number)
-          by bytes rest None known gave = absurd gave.parts
-          by bytes rest (Some unread) known gave =
-              let front = given_front bytes ls rest gave.given unread (sym gave.parts) known in
-              record {
-                lines = ls;
-                before = known.whole ++ gave.given;
-                rest = gave.given;
-                parts = front.0;
-                whole_lines_and_rest = front.1;
-                numbered = is ∙ ap (λ n. n + 1) so_far.counted;
-                decided = subst (λ m. ¬ DecidesNothing m (length ls) gave.given) so_far.same_limit
-                    (subst (λ n. ¬ DecidesNothing (limit reader) n gave.given) so_far.counted gave.decided);
-              }
+      reading_decides number is decides = known_decided P start rest ls so_far.known 82 max number (is ∙ ap (λ n. n + 1) so_far.counted)
+          (remaining source'.reader) (source_ended source')
+          (λ not. at_max (λ m n. GivenDecide m n rest (remaining source'.reader)) (decides not))
 
       -- either fault
       pub reading_faults : (errors : R → Option ℕ) (fault : LineFault)

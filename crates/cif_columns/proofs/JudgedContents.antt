@@ -1,19 +1,33 @@
 -- The contents of bytes that are judged, one after another.
-use Rattle.std.proofs.Common.{◌≡◌, ℕ, ◌+◌, ◌<◌, ◌≤◌, Bool, true, false, cond, nat_le, List, [], ◌∷◌, ◌++◌, ◌||◌, length, refl, sym, ap, ◌∙◌}
-use Rattle.std.proofs.Common.{arith, append_assoc, append-nil, length-take, ltb-false, drop_of_length-le, ne_eqb, ◌≢◌, All}
+use Rattle.std.proofs.Common.{◌≡◌, ◌≢◌, ◌⊎◌, inl, inr, ⊎_elim, ℕ, ◌<◌, ◌≤◌, true, false, cond, List, [], ◌∷◌, ◌++◌, ◌||◌, length, map}
+use Rattle.std.proofs.Common.{◌+◌, Option, None, Some, IfSome, IsSomeAnd, Ok, Err, refl, sym, ap, ◌∙◌}
+use Rattle.std.proofs.Common.{arith, append_assoc, append-nil, length-append, ne_eqb, subst}
+use Rattle.std.proofs.lemmas.Bool.{cases_lt, or_parts}
 use Rattle.std.proofs.lemmas.Bool.Decides.{nat_tests}
-use Rattle.std.proofs.lemmas.List.{get_or-take}
-use Rattle.std.proofs.lemmas.List.Splits.{slice_split_at}
-use Rattle.std.proofs.lemmas.List.Sums.{fails_before_first}
-use Rattle.std.specs.List.{before_first, list_any}
+use Rattle.std.proofs.lemmas.List.Folds.{list_any-append}
+use Rattle.std.proofs.lemmas.List.Elements.{All-nil}
+use Rattle.std.specs.Io.KnownBytes.{prepend_known}
+use Rattle.std.specs.List.{list_any}
 use Rattle.std.specs.Str.Lines.{lines_of_parts, strip_carriage_return}
-use Rattle.cif_columns.specs.Contents.{contents_of}
-use Rattle.cif_columns.specs.FirstLine.{after_content, first_content, has_line_feed, is_line_feed}
-use Rattle.cif_columns.specs.JudgedContents.{has_overlong, is_overlong, judged_contents, parts_of, up_to_overlong}
-use Rattle.cif_columns.proofs.DecidedLines.{around_feed, one_part, parts_some}
-use Rattle.cif_columns.proofs.FeedPlaces.{place, place-le, place-more}
+use Rattle.cif_columns.specs.ContentReader.{AnswersContent, IsNextOf, content, given, held, left, limit, most_of}
+use Rattle.cif_columns.specs.Contents.{BeginOverlong, ComesFirst, DecideNoContent, HaveNoFeed, contents_of}
+use Rattle.cif_columns.specs.FirstLine.{is_line_feed}
+use Rattle.cif_columns.specs.GivenLines.{AreWholeContentsAndRest, EndsLine}
+use Rattle.cif_columns.specs.JudgedContents.{IsGiven, MayGoOn, has_overlong, is_overlong, judged_contents, parts_of, up_to_overlong}
+use Rattle.cif_columns.specs.Source.{reader_of, source_ended}
+use Rattle.cif_columns.specs.declared.ahead.NextContent.TheVariants.{Overlong, End}
+use Rattle.cif_columns.specs.declared.content_reader.ContentReader.{ContentReader}
+use Rattle.cif_columns.specs.declared.refusal.LineFault.TheVariants.{Refused, Read}
+use Rattle.cif_columns.specs.declared.refusal.Refusal.{Refusal}
+use Rattle.cif_columns.specs.declared.refusal.Refusal.TheVariants.{TooManyLines}
+use Rattle.cif_columns.specs.declared.source.Source.{Source}
+use Rattle.cif_columns.proofs.ContentRuns.{HasGiven, at_limits, given_all, given_so, given_within}
+use Rattle.cif_columns.proofs.FirstContents.{content_at_end, content_before, feed_or_none, kept_left, one_part, overlong_part}
+use Rattle.cif_columns.proofs.FirstContents.{part_before, some_content}
+use Rattle.cif_columns.proofs.GivenLinesLaws.{contents_given, given_front, held_front, known_so, none_given, whole_more}
+use Rattle.cif_columns.proofs.WholeLines.{ends_before, lines_of_parts-append, lines_to_feed, parts_some, split_at_feed}
 
--- ---- the parts of bytes
+-- ---- whole contents, none of which is overlong
 
 overlong_no : (part : List ℕ) → length part < 10000 → is_overlong part ≡ false
 overlong_no part short = grind (arith, nat_tests)
@@ -21,268 +35,295 @@ overlong_no part short = grind (arith, nat_tests)
 overlong_yes : (part : List ℕ) → 10000 ≤ length part → is_overlong part ≡ true
 overlong_yes part long = grind (arith, nat_tests)
 
--- what stands before the first line feed has none
-before_none : (bytes : List ℕ) → All (λ b. is_line_feed b ≡ false) (before_first is_line_feed bytes)
-before_none bytes = λ k d below.
-    let before : k < place bytes = omega (arith, below, length-take (place bytes) bytes) in
-    ap is_line_feed (get_or-take (place bytes) bytes k d before) ∙ fails_before_first is_line_feed bytes k d before
+one_short : (part : List ℕ) → HaveNoFeed part → is_overlong part ≡ false → list_any is_overlong (parts_of part) ≡ false
+one_short part none short = ap (list_any is_overlong) (one_part part none) ∙ ap (λ b. b || false) short
 
--- the parts of what stands before a line feed, and of more behind it
-parts_feed : (front more : List ℕ) → All (λ b. is_line_feed b ≡ false) front → parts_of (front ++ 10 ∷ more) ≡ front ∷ parts_of more
-parts_feed front more none = slice_split_at is_line_feed front 10 more none refl
+one_overlong : (part : List ℕ) → HaveNoFeed part → length part < 10000 → has_overlong part ≡ false
+unfolding has_overlong
+one_overlong part none short = one_short part none (overlong_no part short)
 
-all_of_none : (b : Bool) → ◌≡◌ {A = List (List ℕ)} (cond b [] []) []
-all_of_none true = refl
-all_of_none false = refl
-
--- ---- one content, and what stands behind it
-
--- these contents stand in the bytes before the others
-pub record IsBehind (whole : List ℕ) (contents : List (List ℕ)) (more : List ℕ) : Type 0 where
-  pub contents_are : contents_of (whole ++ more) ≡ contents ++ contents_of more
-  pub judged_are : judged_contents (whole ++ more) ≡ contents ++ judged_contents more
-  pub overlong_is : has_overlong (whole ++ more) ≡ has_overlong more
-
--- the bytes whose parts are one and others
-module _ (bytes part more : List ℕ) (parts : parts_of bytes ≡ part ∷ parts_of more) where
-  one_judged : length part < 10000 → judged_contents bytes ≡ strip_carriage_return part ∷ judged_contents more
-  unfolding judged_contents
-  one_judged short =
-      let (first, others, is) = parts_some is_line_feed more in
-      ap (λ l. lines_of_parts (up_to_overlong l)) parts
-      ∙ ap (λ b. lines_of_parts (part ∷ cond b [] (up_to_overlong (parts_of more)))) (overlong_no part short)
-      ∙ ap (λ l. lines_of_parts (part ∷ up_to_overlong l)) is
-      ∙ ap (λ l. strip_carriage_return part ∷ lines_of_parts (up_to_overlong l)) (sym is)
-
-  one_overlong : length part < 10000 → has_overlong bytes ≡ has_overlong more
-  unfolding has_overlong
-  one_overlong short = ap (list_any is_overlong) parts ∙ ap (λ b. b || list_any is_overlong (parts_of more)) (overlong_no part short)
-
-  one_content : contents_of bytes ≡ strip_carriage_return part ∷ contents_of more
-  one_content =
-      let (first, others, is) = parts_some is_line_feed more in
-      ap lines_of_parts parts ∙ ap (λ l. lines_of_parts (part ∷ l)) is
-      ∙ ap (λ l. strip_carriage_return part ∷ lines_of_parts l) (sym is)
-
--- bytes without a line feed
-module _ (bytes : List ℕ) (some : 0 < length bytes) (parts : parts_of bytes ≡ bytes ∷ []) where
-  not_none : length bytes ≢ 0
-  not_none = omega arith
-
-  last_judged : judged_contents bytes ≡ bytes ∷ []
-  unfolding judged_contents
-  last_judged =
-      ap (λ l. lines_of_parts (up_to_overlong l)) parts
-      ∙ ap (λ l. lines_of_parts (bytes ∷ l)) (all_of_none (is_overlong bytes))
-      ∙ ap (λ b. cond b [] (bytes ∷ [])) (ne_eqb (length bytes) 0 not_none)
-
-  last_content : contents_of bytes ≡ bytes ∷ []
-  last_content = ap lines_of_parts parts ∙ ap (λ b. cond b [] (bytes ∷ [])) (ne_eqb (length bytes) 0 not_none)
-
-  last_overlong : length bytes < 10000 → has_overlong bytes ≡ false
-  unfolding has_overlong
-  last_overlong short = ap (list_any is_overlong) parts ∙ ap (λ b. b || false) (overlong_no bytes short)
-
-pub none_judged : judged_contents [] ≡ []
-unfolding judged_contents
-none_judged = refl
+up_to_append : (parts others : List (List ℕ)) → list_any is_overlong parts ≡ false
+    → up_to_overlong (parts ++ others) ≡ parts ++ up_to_overlong others
+up_to_append [] others none = refl
+up_to_append (part ∷ parts) others none =
+    let both = or_parts (is_overlong part) (list_any is_overlong parts) none in
+    ap (λ b. part ∷ cond b [] (up_to_overlong (parts ++ others))) both.0 ∙ ap (λ l. part ∷ l) (up_to_append parts others both.1)
 
 pub none_overlong : has_overlong [] ≡ false
 unfolding has_overlong
 none_overlong = refl
 
-feed_behind : (part more : List ℕ) → All (λ b. is_line_feed b ≡ false) part → length part < 10000
-    → IsBehind (part ++ 10 ∷ []) (strip_carriage_return part ∷ []) more
-feed_behind part more none short =
-    let whole : (part ++ 10 ∷ []) ++ more ≡ part ++ 10 ∷ more = append_assoc part (10 ∷ []) more in
-    let parts = parts_feed part more none in
-    record {
-      contents_are = ap contents_of whole ∙ one_content (part ++ 10 ∷ more) part more parts;
-      judged_are = ap judged_contents whole ∙ one_judged (part ++ 10 ∷ more) part more parts short;
-      overlong_is = ap has_overlong whole ∙ one_overlong (part ++ 10 ∷ more) part more parts short;
-    }
-
-last_behind : (last more : List ℕ) → 0 < length last → length last ≤ place last → length last < 10000 → more ≡ []
-    → IsBehind last (last ∷ []) more
-last_behind last more some far short none =
-    let parts = one_part last far in
-    rw none (record {
-      contents_are = ap contents_of (append-nil last) ∙ last_content last some parts;
-      judged_are = ap judged_contents (append-nil last) ∙ last_judged last some parts ∙ ap (λ l. last ∷ l) (sym none_judged);
-      overlong_is = ap has_overlong (append-nil last) ∙ last_overlong last some parts short ∙ sym none_overlong;
-    })
-
--- ---- all contents so far
-
--- the bytes are these contents, none of them overlong, and then a rest
-pub record AreContentsAndRest (bytes : List ℕ) (contents : List (List ℕ)) (rest : List ℕ) : Type 0 where
-  pub whole : List ℕ
-  pub parts : bytes ≡ whole ++ rest
-  pub behind : (more others : List ℕ) → rest ≡ more ++ others → IsBehind whole contents more
-
-pub no_contents : (bytes : List ℕ) → AreContentsAndRest bytes [] bytes
-no_contents bytes = record {
-  whole = [];
-  parts = refl;
-  behind = λ more others is. record { contents_are = refl; judged_are = refl; overlong_is = refl };
-}
-
--- the first content of the rest, as the bytes of it, and what stands behind it
-record IsPiece (rest : List ℕ) : Type 0 where
-  whole : List ℕ
-  parts : rest ≡ whole ++ after_content rest
-  behind : (more others : List ℕ) → after_content rest ≡ more ++ others → IsBehind whole (first_content rest ∷ []) more
-
-prefix_none : (more others : List ℕ) → [] ≡ more ++ others → more ≡ []
-prefix_none [] others e = refl
-prefix_none (x ∷ more) others e = absurd (cc)
-
-piece : (rest : List ℕ) → 0 < length rest → place rest < 10000 → IsPiece rest
-piece rest some short = at (has_line_feed rest) refl
-  where
-    at : (b : Bool) → b ≡ has_line_feed rest → IsPiece rest
-    at true e =
-        let part = before_first is_line_feed rest in
-        let around = around_feed rest (sym e) in
-        let content : first_content rest ≡ strip_carriage_return part = ap (λ b. cond b (strip_carriage_return part) rest) (sym e) in
-        let few : length part < 10000 = omega (arith, length-take (place rest) rest) in
-        record {
-          whole = part ++ 10 ∷ [];
-          parts = around ∙ sym (append_assoc part (10 ∷ []) (after_content rest));
-          behind = λ more others is. rw content (feed_behind part more (before_none rest) few);
-        }
-    at false e =
-        let content : first_content rest ≡ rest = ap (λ b. cond b (strip_carriage_return (before_first is_line_feed rest)) rest) (sym e) in
-        let far : length rest ≤ place rest = ltb-false (place rest) (length rest) (sym e) in
-        let none : after_content rest ≡ [] = drop_of_length-le rest {i = place rest + 1} (omega arith) in
-        record {
-          whole = rest;
-          parts = sym (append-nil rest) ∙ ap (λ l. rest ++ l) (sym none);
-          behind = λ more others is.
-              rw content (last_behind rest more some far (omega (arith, far, short)) (prefix_none more others (sym none ∙ is)));
-        }
-
--- one content more
-pub content_more : (bytes : List ℕ) (contents : List (List ℕ)) (rest : List ℕ) → AreContentsAndRest bytes contents rest → 0 < length rest
-    → place rest < 10000 → AreContentsAndRest bytes (contents ++ first_content rest ∷ []) (after_content rest)
-content_more bytes contents rest so_far some short =
-    let next = piece rest some short in
-    record {
-      whole = so_far.whole ++ next.whole;
-      parts = so_far.parts ∙ ap (λ l. so_far.whole ++ l) next.parts ∙ sym (append_assoc so_far.whole next.whole (after_content rest));
-      behind = λ more others is.
-          let step = next.behind more others is in
-          let front = so_far.behind (next.whole ++ more) others
-          (next.parts ∙ ap (λ l. next.whole ++ l) is ∙ sym (append_assoc next.whole more others)) in
-          let whole = append_assoc so_far.whole next.whole more in
-          let first = first_content rest ∷ [] in
-          record {
-            contents_are = ap contents_of whole ∙ front.contents_are ∙ ap (λ l. contents ++ l) step.contents_are
-                ∙ sym (append_assoc contents first (contents_of more));
-            judged_are = ap judged_contents whole ∙ front.judged_are ∙ ap (λ l. contents ++ l) step.judged_are
-                ∙ sym (append_assoc contents first (judged_contents more));
-            overlong_is = ap has_overlong whole ∙ front.overlong_is ∙ step.overlong_is;
-          };
-    }
-
--- ---- a content that is overlong
-
--- the first part of bytes that have no line feed among their first
-far_part : (bytes : List ℕ) → 10000 ≤ place bytes
-    → (part : List ℕ) × (others : List (List ℕ)) × (10000 ≤ length part) × (parts_of bytes ≡ part ∷ others)
-far_part bytes far = at (has_line_feed bytes) refl
-  where
-    at : (b : Bool) → b ≡ has_line_feed bytes
-        → (part : List ℕ) × (others : List (List ℕ)) × (10000 ≤ length part) × (parts_of bytes ≡ part ∷ others)
-    at true e =
-        let part = before_first is_line_feed bytes in
-        let long : 10000 ≤ length part = omega (arith, far, place-le bytes, length-take (place bytes) bytes) in
-        let is = ap parts_of (around_feed bytes (sym e)) ∙ parts_feed part (after_content bytes) (before_none bytes) in
-        (part, parts_of (after_content bytes), long, is)
-    at false e =
-        let none : length bytes ≤ place bytes = ltb-false (place bytes) (length bytes) (sym e) in
-        let long : 10000 ≤ length bytes = omega (arith, far, place-le bytes) in
-        (bytes, [], long, one_part bytes none)
-
-pub overlong_last : (bytes : List ℕ) → 10000 ≤ place bytes
-    → (long : List ℕ) × (10000 ≤ length long) × (judged_contents bytes ≡ long ∷ [])
+pub none_judged : judged_contents [] ≡ []
 unfolding judged_contents
-overlong_last bytes far =
-    let (part, others, long, is) = far_part bytes far in
-    let ne : length part ≢ 0 = omega (arith, long) in (
-      part,
-      long,
-      ap (λ l. lines_of_parts (up_to_overlong l)) is
-          ∙ ap (λ b. lines_of_parts (part ∷ cond b [] (up_to_overlong others))) (overlong_yes part long)
-          ∙ ap (λ b. cond b [] (part ∷ [])) (ne_eqb (length part) 0 ne),
-    )
-
-pub overlong_there : (bytes : List ℕ) → 10000 ≤ place bytes → has_overlong bytes ≡ true
-unfolding has_overlong
-overlong_there bytes far =
-    let (part, others, long, is) = far_part bytes far in
-    ap (list_any is_overlong) is ∙ ap (λ b. b || list_any is_overlong others) (overlong_yes part long)
-
--- more bytes behind those that have no line feed among their first
-pub far_more : (held more : List ℕ) → 10000 ≤ place held → 10000 ≤ place (held ++ more)
-far_more held more far = omega (arith, far, place-more held more)
-
--- ---- bytes that decide no content
-
--- they are one content at most
-pub undecided_contents : (held : List ℕ) → has_line_feed held ≡ false → length held < 10000
-    → (length (contents_of held) ≤ 1) × (has_overlong held ≡ false)
-undecided_contents [] feed short = (omega arith, none_overlong)
-undecided_contents (x ∷ held) feed short =
-    let far : length (x ∷ held) ≤ place (x ∷ held) = ltb-false (place (x ∷ held)) (length (x ∷ held)) feed in
-    let parts = one_part (x ∷ held) far in
-    let some : 0 < length (x ∷ held) = omega arith in
-    (omega (arith, ap length (last_content (x ∷ held) some parts)), last_overlong (x ∷ held) some parts short)
-
--- bytes that aren't none have a content
-module _ (bytes : List ℕ) (some : 0 < length bytes) where
-  feed_contents : has_line_feed bytes ≡ true → (0 < length (contents_of bytes)) × (0 < length (judged_contents bytes))
-  feed_contents feed = (
-    omega (arith, ap length (one_content bytes (before_first is_line_feed bytes) (after_content bytes) parts)),
-    at (nat_le 10000 (place bytes)) refl,
-  )
-    where
-      parts : parts_of bytes ≡ before_first is_line_feed bytes ∷ parts_of (after_content bytes)
-      parts = ap parts_of (around_feed bytes feed) ∙ parts_feed (before_first is_line_feed bytes) (after_content bytes) (before_none bytes)
-
-      at : (b : Bool) → b ≡ nat_le 10000 (place bytes) → 0 < length (judged_contents bytes)
-      at true e =
-          let far : 10000 ≤ place bytes = grind (arith, nat_tests) in
-          let (long, wide, is) = overlong_last bytes far in omega (arith, ap length is)
-      at false e =
-          let near : place bytes < 10000 = grind (arith, nat_tests) in
-          let few : length (before_first is_line_feed bytes) < 10000 = omega (arith, near, length-take (place bytes) bytes) in
-          omega (arith, ap length (one_judged bytes (before_first is_line_feed bytes) (after_content bytes) parts few))
-
-  some_contents : (0 < length (contents_of bytes)) × (0 < length (judged_contents bytes))
-  some_contents = at (has_line_feed bytes) refl
-    where
-      at : (b : Bool) → b ≡ has_line_feed bytes → (0 < length (contents_of bytes)) × (0 < length (judged_contents bytes))
-      at true e = feed_contents (sym e)
-      at false e =
-          let far : length bytes ≤ place bytes = ltb-false (place bytes) (length bytes) (sym e) in
-          let parts = one_part bytes far in
-          (omega (arith, ap length (last_content bytes some parts)), omega (arith, ap length (last_judged bytes some parts)))
-
-pub not_none_contents : (bytes : List ℕ) → bytes ≢ [] → (0 < length (contents_of bytes)) × (0 < length (judged_contents bytes))
-not_none_contents [] none = absurd (none refl)
-not_none_contents (x ∷ bytes) some = some_contents (x ∷ bytes) (omega arith)
+none_judged = refl
 
 -- where none is overlong, all contents are judged
-up_to_all : (parts : List (List ℕ)) → list_any is_overlong parts ≡ false → up_to_overlong parts ≡ parts
-up_to_all [] none = refl
-up_to_all (part ∷ parts) none = at (is_overlong part) (up_to_all parts) none
-  where
-    at : (b : Bool) → (list_any is_overlong parts ≡ false → up_to_overlong parts ≡ parts) → (b || list_any is_overlong parts) ≡ false
-        → part ∷ cond b [] (up_to_overlong parts) ≡ part ∷ parts
-    at true more none = absurd (cc)
-    at false more none = ap (λ l. part ∷ l) (more none)
-
 pub judged_all : (bytes : List ℕ) → has_overlong bytes ≡ false → judged_contents bytes ≡ contents_of bytes
 unfolding judged_contents has_overlong
-judged_all bytes none = ap lines_of_parts (up_to_all (parts_of bytes) none)
+judged_all bytes none = ap lines_of_parts (ap up_to_overlong (sym (append-nil (parts_of bytes))) ∙ up_to_append (parts_of bytes) [] none
+    ∙ append-nil (parts_of bytes))
+
+module _ (front more : List ℕ) where
+  feed_overlong : has_overlong (front ++ 10 ∷ more) ≡ (list_any is_overlong (parts_of front) || has_overlong more)
+  unfolding has_overlong
+  feed_overlong = ap (list_any is_overlong) (split_at_feed front more) ∙ list_any-append is_overlong (parts_of front) (parts_of more)
+
+  feed_judged : list_any is_overlong (parts_of front) ≡ false
+      → judged_contents (front ++ 10 ∷ more) ≡ map strip_carriage_return (parts_of front) ++ judged_contents more
+  unfolding judged_contents
+  feed_judged none =
+      let (first, others, is) = parts_some is_line_feed more in
+      ap (λ l. lines_of_parts (up_to_overlong l)) (split_at_feed front more)
+      ∙ ap lines_of_parts (up_to_append (parts_of front) (parts_of more) none)
+      ∙ ap (λ l. lines_of_parts (parts_of front ++ up_to_overlong l)) is
+      ∙ lines_of_parts-append (parts_of front) first (cond (is_overlong first) [] (up_to_overlong others))
+      ∙ ap (λ l. map strip_carriage_return (parts_of front) ++ lines_of_parts (up_to_overlong l)) (sym is)
+
+fed_overlong : (part : List ℕ) → HaveNoFeed part → length part < 10000 → has_overlong (part ++ 10 ∷ []) ≡ false
+fed_overlong part none short =
+    feed_overlong part [] ∙ ap (λ b. b || has_overlong []) (one_short part none (overlong_no part short)) ∙ none_overlong
+
+-- their contents come first, and whether one is overlong depends on what follows
+whole_judged : (whole more : List ℕ) → (whole ≡ []) ⊎ EndsLine whole more → has_overlong whole ≡ false
+    → (judged_contents (whole ++ more) ≡ contents_of whole ++ judged_contents more) × (has_overlong (whole ++ more) ≡ has_overlong more)
+whole_judged whole more ended none = ⊎_elim
+    (λ empty. rw empty (refl, refl))
+    (⊎_elim
+    (λ fed.
+    let front = fed.0 in
+    let short = (or_parts (list_any is_overlong (parts_of front)) (has_overlong [])
+    (sym (feed_overlong front []) ∙ ap has_overlong (sym fed.1)
+    ∙ none)).0 in
+    let all : whole ++ more ≡ front ++ 10 ∷ more = ap (λ l. l ++ more) fed.1 ∙ append_assoc front (10 ∷ []) more in (
+      ap judged_contents all ∙ feed_judged front more short
+          ∙ ap (λ l. l ++ judged_contents more) (sym (ap contents_of fed.1 ∙ lines_to_feed front [] ∙ append-nil _)),
+      ap has_overlong all ∙ feed_overlong front more ∙ ap (λ b. b || has_overlong more) short,
+    ))
+    (λ empty. rw empty (
+      ap judged_contents (append-nil whole) ∙ judged_all whole none ∙ sym (append-nil (contents_of whole))
+          ∙ ap (λ l. contents_of whole ++ l) (sym none_judged),
+      ap has_overlong (append-nil whole) ∙ none ∙ sym none_overlong,
+    ))) ended
+
+-- ---- the contents so far
+
+-- any content
+abbrev IsAny : List ℕ → Type 0
+IsAny content = Unit {0}
+
+-- the bytes are these whole contents, none of them overlong, and then a rest
+pub record AreJudgedAndRest (bytes : List ℕ) (contents : List (List ℕ)) (rest : List ℕ) : Type 0 where
+  pub so_far : AreWholeContentsAndRest IsAny bytes contents rest
+  pub short : has_overlong so_far.whole ≡ false
+
+pub no_contents : (bytes : List ℕ) → AreJudgedAndRest bytes [] bytes
+unfolding none_given
+no_contents bytes = record { so_far = none_given bytes; short = none_overlong }
+
+-- one content more
+pub content_more : (bytes : List ℕ) (contents : List (List ℕ)) (rest one after : List ℕ) → AreJudgedAndRest bytes contents rest
+    → ComesFirst 10000 rest one after → AreJudgedAndRest bytes (contents ++ one ∷ []) after
+unfolding whole_more
+content_more bytes contents rest one after judged = ⊎_elim
+    (λ fed. more (fed.part ++ 10 ∷ []) (fed.parts ∙ sym (append_assoc fed.part (10 ∷ []) after)) (inl (fed.part, refl))
+    (content_before fed.part [] fed.no_feed ∙ ap (λ l. l ∷ []) (sym fed.is)) (fed_overlong fed.part fed.no_feed fed.short))
+    (λ ended. more rest (sym (append-nil rest) ∙ ap (λ l. rest ++ l) (sym ended.none)) (inr ended.none)
+    (content_at_end rest ended.no_feed ended.some ∙ ap (λ l. l ∷ []) (sym ended.is)) (one_overlong rest ended.no_feed ended.short))
+  where
+    more : (piece : List ℕ) → rest ≡ piece ++ after → EndsLine piece after → contents_of piece ≡ one ∷ [] → has_overlong piece ≡ false
+        → AreJudgedAndRest bytes (contents ++ one ∷ []) after
+    more piece parts ended is short =
+        let so_far = judged.so_far in
+        record {
+          so_far = whole_more bytes contents rest piece one after so_far parts ended is tt;
+          short = (whole_judged so_far.whole piece (ends_before so_far.whole piece after
+              (subst (λ l. (so_far.whole ≡ []) ⊎ EndsLine so_far.whole l) parts so_far.ended)) judged.short).1 ∙ short;
+        }
+
+module _ (bytes : List ℕ) (contents : List (List ℕ)) (rest : List ℕ) (judged : AreJudgedAndRest bytes contents rest) where
+  -- all contents are these and those of the rest
+  pub contents_are : contents_of bytes ≡ contents ++ contents_of rest
+  contents_are = contents_given bytes contents rest judged.so_far
+
+  pub judged_are : judged_contents bytes ≡ contents ++ judged_contents rest
+  judged_are = ap judged_contents judged.so_far.parts ∙ (whole_judged judged.so_far.whole rest judged.so_far.ended judged.short).0
+      ∙ ap (λ l. l ++ judged_contents rest) judged.so_far.contents
+
+  pub overlong_is : has_overlong bytes ≡ has_overlong rest
+  overlong_is = ap has_overlong judged.so_far.parts ∙ (whole_judged judged.so_far.whole rest judged.so_far.ended judged.short).1
+
+  -- what the source gave of them are these and a front of the rest
+  pub judged_front : (front unread : List ℕ) → rest ≡ front ++ unread
+      → (bytes ≡ (judged.so_far.whole ++ front) ++ unread) × AreJudgedAndRest (judged.so_far.whole ++ front) contents front
+  unfolding given_front
+  judged_front front unread parts =
+      let gave = given_front bytes contents rest front unread parts judged.so_far in
+      (gave.0, record { so_far = gave.1; short = judged.short })
+
+-- ---- what comes behind them
+
+-- a part that is overlong is the last
+long_judged : (bytes part : List ℕ) (others : List (List ℕ)) → parts_of bytes ≡ part ∷ others → 10000 ≤ length part
+    → judged_contents bytes ≡ part ∷ []
+unfolding judged_contents
+long_judged bytes part others is long =
+    let ne : length part ≢ 0 = omega (arith, long) in
+    ap (λ l. lines_of_parts (up_to_overlong l)) is
+    ∙ ap (λ b. lines_of_parts (part ∷ cond b [] (up_to_overlong others))) (overlong_yes part long)
+    ∙ ap (λ b. cond b [] (part ∷ [])) (ne_eqb (length part) 0 ne)
+
+module _ (bytes : List ℕ) (begins : BeginOverlong 10000 bytes) where
+  pub overlong_last : (long : List ℕ) × (10000 ≤ length long) × (judged_contents bytes ≡ long ∷ [])
+  overlong_last = let (part, others, is, long) = overlong_part 10000 bytes begins in (part, long, long_judged bytes part others is long)
+
+  pub overlong_there : has_overlong bytes ≡ true
+  unfolding has_overlong
+  overlong_there =
+      let (part, others, is, long) = overlong_part 10000 bytes begins in
+      ap (list_any is_overlong) is ∙ ap (λ b. b || list_any is_overlong others) (overlong_yes part long)
+
+-- bytes that decide no content are one at most
+pub undecided_contents : (held : List ℕ) → HaveNoFeed held → length held < 10000
+    → (length (contents_of held) ≤ 1) × (has_overlong held ≡ false)
+undecided_contents [] none short = (omega arith, none_overlong)
+undecided_contents (x ∷ held) none short =
+    (omega (arith, ap length (content_at_end (x ∷ held) none (omega arith))), one_overlong (x ∷ held) none short)
+
+-- bytes that aren't none have one
+pub some_judged : (bytes : List ℕ) → 0 < length bytes → 0 < length (judged_contents bytes)
+some_judged bytes some = ⊎_elim
+    (λ none. by_length bytes [] (one_part bytes none) (λ short.
+    omega (arith, ap length (judged_all bytes (one_overlong bytes none short) ∙ content_at_end bytes none some))))
+    (λ fed. by_length fed.0 (parts_of fed.1) (ap parts_of fed.2 ∙ part_before fed.0 fed.1 fed.3) (λ short.
+    omega (
+      arith,
+      ap length (ap judged_contents fed.2
+          ∙ feed_judged fed.0 fed.1 (one_short fed.0 fed.3 (overlong_no fed.0 short))
+          ∙ ap (λ l. map strip_carriage_return l ++ judged_contents fed.1) (one_part fed.0 fed.3)),
+    )))
+    (feed_or_none bytes)
+  where
+    by_length : (part : List ℕ) (others : List (List ℕ)) → parts_of bytes ≡ part ∷ others
+        → (length part < 10000 → 0 < length (judged_contents bytes)) → 0 < length (judged_contents bytes)
+    by_length part others parts fine = ⊎_elim
+        (λ short. fine short)
+        (λ long. omega (arith, ap length (long_judged bytes part others parts long)))
+        (cases_lt (length part) 10000)
+
+-- ---- a reader of them
+
+-- these are all contents of the bytes, and none is overlong
+pub record AreAll (bytes : List ℕ) (contents : List (List ℕ)) : Type 0 where
+  pub contents_are : contents_of bytes ≡ contents
+  pub judged_are : judged_contents bytes ≡ contents
+
+-- a byte decides that it is one too many
+decides_some : (most max count : ℕ) (given : List ℕ) → 0 < most → ¬ DecideNoContent most max count given → 0 < length given
+decides_some most max count [] some decides =
+    absurd (decides (record { no_feed = All-nil (λ (b : ℕ). b ≢ 10); short = some; none_too_many = λ full. refl }))
+decides_some most max count (b ∷ given) some decides = omega arith
+
+if_known : (start : Option (List ℕ)) (A : Type 0) (P : List ℕ → Type 0) → (A → IfSome start P) → IfSome start (λ bytes. A → P bytes)
+if_known None A P f = tt
+if_known (Some bytes) A P f = f
+
+module _ {R : Type 0} (remaining : R → Option (List ℕ)) (errors : R → Option ℕ) (start : Option (List ℕ)) (max : ℕ) (reader : ContentReader)
+    (source : Source R) (cs : List (List ℕ)) (so_far : HasGiven AreJudgedAndRest remaining start 10000 max reader source cs) where
+  abbrev rest : Option (List ℕ)
+  rest = left remaining reader source
+
+  -- what is so of the bytes that the source gave
+  given_front_so : (P : List ℕ → Type 0) (given : List ℕ) (unread : Option (List ℕ))
+      → IfSome rest (λ bytes. prepend_known given unread ≡ Some bytes)
+      → ((before : List ℕ) → AreJudgedAndRest before cs given → P before) → IfSome start (λ bytes. IsSomeAnd unread (IsGiven P bytes))
+  given_front_so P given unread kept so = given_so AreJudgedAndRest remaining errors start 10000 max reader source cs so_far _ _ kept
+      (λ bytes others known kept.
+      let (more, is, parts) = held_front given others unread kept in
+      let gave = judged_front bytes cs others known given more parts in
+      subst (λ r. IsSomeAnd r (IsGiven P bytes)) (sym is)
+      (record { before = known.so_far.whole ++ given; parts = gave.0; fact = so _ gave.1 }))
+
+  module _ (reader' : ContentReader) (source' : Source R) where
+    -- the end of the input
+    pub judged_all_given : IsNextOf remaining errors reader source (Ok End) reader' source'
+        → IfSome start (λ bytes. AreAll bytes cs) × IfSome start (λ bytes. remaining (reader_of source') ≡ Some [])
+    judged_all_given next =
+        let all = given_all AreJudgedAndRest remaining errors start 10000 max reader source cs so_far reader' source' next in (
+          known_so start _ _ (λ bytes known. record {
+            contents_are = contents_are bytes cs [] known ∙ append-nil cs;
+            judged_are = judged_are bytes cs [] known ∙ ap (λ l. cs ++ l) none_judged ∙ append-nil cs;
+          }) all.0,
+          all.1,
+        )
+
+    -- a content that is overlong
+    pub given_overlong : IsNextOf remaining errors reader source (Ok Overlong) reader' source'
+        → ((long : List ℕ) × (length long ≢ 80) × IfSome start (λ bytes. judged_contents bytes ≡ cs ++ long ∷ []))
+        × IfSome start (λ bytes. IsSomeAnd (remaining (reader_of source')) (IsGiven (λ before. has_overlong before ≡ true) bytes))
+    given_overlong next = (
+      at start rest so_far.known next.answer,
+      given_front_so (λ before. has_overlong before ≡ true) (held reader') (remaining (reader_of source'))
+          (known_so rest _ _ (λ bytes answer. answer.0) next.answer)
+          (λ before known. overlong_is before cs (held reader') known
+          ∙ overlong_there (held reader') (subst (λ n. BeginOverlong n (held reader')) so_far.same_most next.holds.2)),
+    )
+      where
+        at : (s r : Option (List ℕ)) → IfSome s (λ bytes. IsSomeAnd r (AreJudgedAndRest bytes cs))
+            → IfSome r (λ bytes. AnswersContent (most_of reader) bytes (Ok Overlong) (content reader') (left remaining reader' source'))
+            → (long : List ℕ) × (length long ≢ 80) × IfSome s (λ bytes. judged_contents bytes ≡ cs ++ long ∷ [])
+        at None r known answer = ([], omega arith, tt)
+        at (Some bytes) None known answer = absurd known
+        at (Some bytes) (Some others) known answer =
+            let (long, wide, last) = overlong_last others (subst (λ n. BeginOverlong n others) so_far.same_most answer.1) in
+            (long, omega (arith, wide), judged_are bytes cs others known ∙ ap (λ l. cs ++ l) last)
+
+    -- a content that is one too many
+    pub given_too_many : (number : ℕ) (why : Refusal) → IsNextOf remaining errors reader source (Err (Refused number why)) reader' source'
+        → (number ≡ max + 1) × (why ≡ TooManyLines) × IfSome start (λ bytes. max < length (judged_contents bytes))
+        × IfSome start (λ bytes. source_ended source' ≡ false
+        → IsSomeAnd (remaining (reader_of source')) (IsGiven (λ before. max < length (contents_of before)) bytes))
+    given_too_many number why next = (
+      next.holds.2 ∙ ap (λ n. n + 1) (next.holds.0 ∙ so_far.same_limit),
+      next.holds.3,
+      given_so AreJudgedAndRest remaining errors start 10000 max reader source cs so_far _ _ next.answer (λ bytes others known some.
+          let all = ap length (judged_are bytes cs others known) in
+          omega (arith, all, length-append cs (judged_contents others), some_judged others some, full)),
+      if_known start _ _ (λ not.
+          let gave = next.decided (λ e. absurd (cc)) not in
+          let some = decides_some (most_of reader) (limit reader) (given reader) gave.given reader.some gave.decided in
+          let (one, others, is) = some_content gave.given some in
+          given_front_so (λ before. max < length (contents_of before)) gave.given (remaining (reader_of source'))
+          (kept_left rest (prepend_known gave.given (remaining (reader_of source'))) gave.parts)
+          (λ before known.
+          let all = ap length (contents_are before cs gave.given known ∙ ap (λ l. cs ++ l) is) in
+          omega (arith, all, length-append cs (one ∷ others), full))),
+    )
+      where
+        full : length cs ≡ max
+        full = sym so_far.counted ∙ next.holds.0 ∙ so_far.same_limit
+
+    -- a failure of the source
+    pub given_failed : IsNextOf remaining errors reader source (Err Read) reader' source'
+        → IfSome start (λ bytes. IsSomeAnd (remaining (reader_of source')) (IsGiven (MayGoOn max) bytes))
+    given_failed next = given_front_so (MayGoOn max) (held reader') (remaining (reader_of source')) next.answer (λ before known. record {
+      none_overlong = overlong_is before cs (held reader') known ∙ few.1;
+      within = ⊎_elim
+          (λ room.
+          let all = ap length (contents_are before cs (held reader') known) in
+          omega (arith, all, length-append cs (contents_of (held reader')), few.0))
+          (λ from.
+          let none : held reader' ≡ [] = undecided.none_too_many (omega (arith, from, within)) in
+          let all = ap length (contents_are before cs (held reader') known ∙ ap (λ l. cs ++ contents_of l) none ∙ append-nil cs) in
+          omega (arith, within, all))
+          (cases_lt (length cs) max);
+    })
+      where
+        within : length cs ≤ max
+        within = given_within AreJudgedAndRest remaining errors start 10000 max reader source cs so_far
+
+        undecided : DecideNoContent 10000 max (length cs) (held reader')
+        undecided = at_limits AreJudgedAndRest remaining errors start 10000 max reader source cs so_far
+            (λ k m n. DecideNoContent k m n (held reader')) next.holds.1
+
+        few : (length (contents_of (held reader')) ≤ 1) × (has_overlong (held reader') ≡ false)
+        few = undecided_contents (held reader') undecided.no_feed undecided.short

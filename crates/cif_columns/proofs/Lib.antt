@@ -2,18 +2,15 @@ pub mod Codes
 pub mod ColumnReads
 pub mod Comments
 pub mod ContentAnswers
-pub mod ContentReads
 pub mod ContentRuns
 pub mod Dates
 pub mod DayColumns
 pub mod DayDigits
-pub mod DecidedLines
 pub mod DigitsLemmas
 pub mod EachOfFifths
-pub mod FeedPlaces
 pub mod FieldLaws
+pub mod FirstContents
 pub mod Flags
-pub mod FoundInHeld
 pub mod GivenLinesLaws
 pub mod HeldBytes
 pub mod Letters
@@ -21,7 +18,6 @@ pub mod JudgedContents
 pub mod KeptLines
 pub mod LineAnswers
 pub mod LineFifths
-pub mod LineReasons
 pub mod Masks
 pub mod NextContents
 pub mod PackedCodes

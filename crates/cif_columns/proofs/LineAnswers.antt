@@ -1,187 +1,261 @@
--- What stands first in bytes, in the words of the subject.
-use Rattle.std.proofs.Common.{◌≡◌, ℕ, suc, ◌+◌, ◌-◌, ◌<◌, ◌≤◌, Bool, true, false, cond, nat_eq, nat_lt, List, [], ◌∷◌, ◌++◌, length, take}
-use Rattle.std.proofs.Common.{drop, get_or, Option, None, Some, IfSome, Ok, Err, refl, sym, ap, ◌∙◌, subst, arith, append_assoc}
-use Rattle.std.proofs.Common.{take-append-drop, ltb-false, drop_of_length-le, drop-cons}
+-- What a content is as a line, and what a `LineReader` answers of it.
+use Rattle.std.proofs.Common.{◌≡◌, ◌≢◌, ℕ, ◌+◌, ◌<◌, ◌≤◌, Bool, true, false, cond, nat_eq, List, [], ◌∷◌, length, Option, Some, None}
+use Rattle.std.proofs.Common.{IfSome, Ok, Err, refl, sym, ap, ◌∙◌, subst, arith}
 use Rattle.std.proofs.lemmas.Bool.Decides.{nat_tests}
-use Rattle.std.proofs.lemmas.Bool.{eqb-true, ltb-true}
-use Rattle.std.proofs.lemmas.List.{nil_from_length}
-use Rattle.std.proofs.lemmas.List.Sums.{fails_before_first, passes_at_first}
-use Rattle.std.specs.List.{slice_index, list_all, before_first, after_first}
-use Rattle.std.specs.Str.Lines.{strip_carriage_return, lines}
-use Rattle.cif_columns.specs.declared.ahead.Found.TheVariants.{Next, Refused}
-use Rattle.cif_columns.specs.declared.refusal.LineFault.TheVariants as fault
-use Rattle.cif_columns.specs.declared.refusal.Refusal.{Refusal}
-use Rattle.cif_columns.specs.declared.refusal.Refusal.TheVariants.{BadLength, BadByte, TooManyLines}
-use Rattle.cif_columns.specs.Ahead.{Finds, FindsGiven}
+use Rattle.std.proofs.lemmas.Bool.{eqb-true}
+use Rattle.std.specs.List.{list_all}
+use Rattle.cif_columns.specs.Comment.{is_comment}
+use Rattle.cif_columns.specs.ContentReader.{IsNextOf, content}
+use Rattle.cif_columns.specs.Contents.{DecideNoContent, DecidesNothing, HasLineReason, IsFirstContent, IsLineReason, contents_of}
+use Rattle.cif_columns.specs.FirstLine.{is_printable, line_of}
 use Rattle.cif_columns.specs.Line.{IsLine}
-use Rattle.cif_columns.specs.Contents.{StandsFirst, HasLineReason, DecidesNothing}
-use Rattle.cif_columns.specs.FirstLine.{is_line_feed, is_printable, has_line_feed, first_content, after_content, line_of, first_line}
-use Rattle.cif_columns.specs.FirstLine.{is_decided}
-use Rattle.cif_columns.specs.LineReader.{IsNextLine, IsNextRefusal, Answers, GivenDecide}
-use Rattle.cif_columns.proofs.FeedPlaces.{place}
+use Rattle.cif_columns.specs.LineReader.{GivenDecide, GivenDecideContent, HasPassedComment, IsNext, IsNoComment, PassesContent}
+use Rattle.cif_columns.specs.LineReader.{given, held, left, limit, past}
+use Rattle.cif_columns.specs.Source.{HasFailedToRead, HasReadOn, reader_of, source_ended, source_failed}
+use Rattle.cif_columns.specs.declared.ahead.NextContent.TheVariants.{Content, Overlong, End}
+use Rattle.cif_columns.specs.declared.content_reader.ContentReader.{ContentReader}
+use Rattle.cif_columns.specs.declared.line.Line.{Line}
+use Rattle.cif_columns.specs.declared.line_reader.LineReader.{LineReader}
+use Rattle.cif_columns.specs.declared.line_reader.Past.TheVariants.{Reading, Ended, Faulted}
+use Rattle.cif_columns.specs.declared.refusal.LineFault.{LineFault}
+use Rattle.cif_columns.specs.declared.refusal.LineFault.TheVariants.{Refused, Read}
+use Rattle.cif_columns.specs.declared.refusal.Refusal.{Refusal}
+use Rattle.cif_columns.specs.declared.refusal.Refusal.TheVariants.{BadLength, BadByte}
+use Rattle.cif_columns.specs.declared.source.Source.{Source}
+use Rattle.cif_columns.proofs.Comments.{long_no_comment}
+use Rattle.cif_columns.proofs.FirstContents.{content_first, overlong_content, some_content}
+use Rattle.cif_columns.proofs.GivenLinesLaws.{known_so}
 use Rattle.cif_columns.proofs.PrintableBytes.{printable_fact, printable_true}
-use Rattle.cif_columns.proofs.DecidedLines.{around_feed, contents_first, undecided_no_feed, undecided_short, undecided_not_full, with_room}
-use Rattle.cif_columns.proofs.FoundInHeld.{line_not_full}
-use mathlib.Core.Logic.{◌⊎◌, inl, inr, ⊎_elim}
-
--- ---- the first content is the line, however it ends
-
-ends_some : (l : List ℕ) → slice_index l (length l - 1) ≡ 13 → 0 < length l
-ends_some [] e = absurd (omega arith)
-ends_some (x ∷ l) e = omega arith
-
--- a list whose last element is a carriage return
-last_return : (l : List ℕ) → slice_index l (length l - 1) ≡ 13 → l ≡ take (length l - 1) l ++ 13 ∷ []
-last_return l e =
-    let some = ends_some l e in
-    let last = length l - 1 in
-    let below : last < length l = omega arith in
-    let none : drop (suc last) l ≡ [] = drop_of_length-le l {i = suc last} (omega arith) in
-    let here : drop last l ≡ 13 ∷ [] = drop-cons l last 0 below ∙ ap (λ x. x ∷ drop (suc last) l) e ∙ ap (λ t. 13 ∷ t) none in
-    sym (take-append-drop last l) ∙ ap (λ t. take last l ++ t) here
-
--- what loses a carriage return at its end had it there
-stripped : (part line : List ℕ) → strip_carriage_return part ≡ line → (part ≡ line) ⊎ (part ≡ line ++ 13 ∷ [])
-stripped part line is = at (nat_eq (slice_index part (length part - 1)) 13) refl is
-  where
-    at : (r : Bool) → r ≡ nat_eq (slice_index part (length part - 1)) 13 → cond r (take (length part - 1) part) part ≡ line
-        → (part ≡ line) ⊎ (part ≡ line ++ 13 ∷ [])
-    at true w is = inr (last_return part (eqb-true _ 13 (sym w)) ∙ ap (λ l. l ++ 13 ∷ []) is)
-    at false w is = inl is
-
-pub stands : (bytes line : List ℕ) → first_content bytes ≡ line → StandsFirst bytes line (after_content bytes)
-stands bytes line is = at (has_line_feed bytes) refl is
-  where
-    at : (b : Bool) → b ≡ has_line_feed bytes → cond b (strip_carriage_return (before_first is_line_feed bytes)) bytes ≡ line
-        → StandsFirst bytes line (after_first is_line_feed bytes)
-    at true e is =
-        let before = before_first is_line_feed bytes in
-        let after = after_first is_line_feed bytes in
-        let parts : bytes ≡ before ++ 10 ∷ after = around_feed bytes (sym e) in
-        ⊎_elim
-        (λ alone. inl (parts ∙ ap (λ l. l ++ 10 ∷ after) alone))
-        (λ returned. inr (inl (parts ∙ ap (λ l. l ++ 10 ∷ after) returned ∙ append_assoc line (13 ∷ []) (10 ∷ after))))
-        (stripped before line is)
-    at false e is =
-        let far : length bytes ≤ place bytes = ltb-false (place bytes) (length bytes) (sym e) in
-        inr (inr (is, drop_of_length-le bytes {i = place bytes + 1} (omega arith)))
 
 -- ---- what a content is
 
-line_ok : (content line : List ℕ) → line_of content ≡ Ok line → (content ≡ line) × IsLine line
-line_ok content line is = at (nat_eq (length content) 80) (list_all is_printable content) refl refl is
+pub line_ok : (one line : List ℕ) → line_of one ≡ Ok line → (one ≡ line) × IsLine line
+line_ok one line is = at (nat_eq (length one) 80) (list_all is_printable one) refl refl is
   where
-    at : (w p : Bool) → w ≡ nat_eq (length content) 80 → p ≡ list_all is_printable content
-        → cond w (cond p (Ok content) (Err BadByte)) (Err BadLength) ≡ Ok line → (content ≡ line) × IsLine line
+    at : (w p : Bool) → w ≡ nat_eq (length one) 80 → p ≡ list_all is_printable one
+        → cond w (cond p (Ok one) (Err BadByte)) (Err BadLength) ≡ Ok line → (one ≡ line) × IsLine line
     at true true ew ep is =
-        let same : content ≡ line = cc in
-        (same, subst IsLine same (record { width = eqb-true _ 80 (sym ew); printable = printable_fact content (sym ep) }))
+        let same : one ≡ line = cc in
+        (same, subst IsLine same (record { width = eqb-true _ 80 (sym ew); printable = printable_fact one (sym ep) }))
     at true false ew ep is = absurd (cc)
     at false p ew ep is = absurd (cc)
 
-line_err : (max number : ℕ) → number ≤ max → (content : List ℕ) (why : Refusal) → line_of content ≡ Err why
-    → HasLineReason max number content why
-line_err max number within content why is = at (nat_eq (length content) 80) (list_all is_printable content) refl refl is
+line_err : (max number : ℕ) → number ≤ max → (one : List ℕ) (why : Refusal) → line_of one ≡ Err why
+    → HasLineReason max number one why × IsLineReason why
+line_err max number within one why is = at (nat_eq (length one) 80) (list_all is_printable one) refl refl is
   where
-    at : (w p : Bool) → w ≡ nat_eq (length content) 80 → p ≡ list_all is_printable content
-        → cond w (cond p (Ok content) (Err BadByte)) (Err BadLength) ≡ Err why → HasLineReason max number content why
+    at : (w p : Bool) → w ≡ nat_eq (length one) 80 → p ≡ list_all is_printable one
+        → cond w (cond p (Ok one) (Err BadByte)) (Err BadLength) ≡ Err why → HasLineReason max number one why × IsLineReason why
     at true true ew ep is = absurd (cc)
     at true false ew ep is =
         let same : BadByte ≡ why = cc in
-        let bad : ¬ _ = λ good. false_true (ep ∙ printable_true content good) in
-        subst (HasLineReason max number content) same (within, eqb-true _ 80 (sym ew), bad)
+        let bad : ¬ _ = λ good. false_true (ep ∙ printable_true one good) in
+        subst (λ w. HasLineReason max number one w × IsLineReason w) same ((within, eqb-true _ 80 (sym ew), bad), tt)
       where
         false_true : false ≡ true → ⊥
         false_true h = absurd (cc)
     at false p ew ep is =
         let same : BadLength ≡ why = cc in
-        subst (HasLineReason max number content) same (within, grind (arith, nat_tests))
+        let other : length one ≢ 80 = grind (arith, nat_tests) in
+        subst (λ w. HasLineReason max number one w × IsLineReason w) same ((within, other), tt)
 
--- ---- the answers
+-- ---- what a call answers where nothing was answered before
 
-one_too_many : (f : Bool) (bytes : List ℕ) (why : Refusal) → f ≡ true → first_line f bytes ≡ Err why → TooManyLines ≡ why
-unfolding first_line
-one_too_many true bytes why e is = cc
-one_too_many false bytes why e is = absurd (cc)
-
-module _ (max count : ℕ) (within : count ≤ max) where
-  next_line : (bytes line : List ℕ) → 0 < length bytes → first_line (nat_eq count max) bytes ≡ Ok line
-      → IsNextLine max count bytes line (after_content bytes)
-  next_line bytes line some is =
-      let room = line_not_full (nat_eq count max) bytes line is in
-      let found = line_ok (first_content bytes) line (sym (with_room (nat_eq count max) bytes room) ∙ is) in
-      record {
-        room = grind (arith, nat_tests);
-        is_line = found.1;
-        stands = stands bytes line found.0;
-        contents = contents_first bytes some ∙ ap (λ l. l ∷ lines (after_content bytes)) found.0;
-      }
-
-  next_refusal : (bytes : List ℕ) (why : Refusal) → 0 < length bytes → first_line (nat_eq count max) bytes ≡ Err why
-      → IsNextRefusal max count bytes (count + 1) why
-  next_refusal bytes why some is = record {
-    next = refl;
-    content = first_content bytes;
-    others = lines (after_content bytes);
-    contents = contents_first bytes some;
-    reason = at (nat_eq count max) refl;
+module _ {R : Type 0} {remaining : R → Option (List ℕ)} {errors : R → Option ℕ} {old new : LineReader} {from to : Source R}
+    (reading : past old ≡ Reading) (limit_now : limit new ≡ limit old) where
+  pub gives_line : (line : Line) → IsLine line → past new ≡ Reading → given old < limit old → given new ≡ given old + 1
+      → IfSome (left remaining old from)
+      (λ bytes. (rest : List ℕ) × (left remaining new to ≡ Some rest) × IsFirstContent bytes line rest)
+      → HasReadOn errors from to
+      → (source_ended to ≡ false → GivenDecide (limit old) (given old) (left remaining old from) (remaining (reader_of to)))
+      → IsNext remaining errors old from (Ok (Some line)) new to
+  gives_line line is_line past_now room counted found device decided = record {
+    answer = λ _. known_so (left remaining old from) _ _ (λ bytes first. (
+      first.0,
+      first.1,
+      record { room = room; is_line = is_line; stands = first.2.stands; contents = first.2.contents },
+    )) found;
+    device = λ _. device;
+    decided = λ _ _. decided;
+    undecided = λ _ e. absurd (cc);
+    endless = λ _ e. absurd (cc);
+    told = λ _ e. absurd (cc);
+    fault = λ _. tt;
+    past_now = past_now;
+    again = λ e. absurd (e reading);
+    still = λ e. absurd (e reading);
+    unread = λ e. absurd (e reading);
+    limit_now = limit_now;
+    counted = counted;
+    ended = λ e. absurd (cc);
+    refused = tt;
   }
+
+  gives_end : past new ≡ Ended → given new ≡ given old
+      → IfSome (left remaining old from) (λ bytes. (bytes ≡ []) × (left remaining new to ≡ Some []))
+      → HasReadOn errors from to → (source_failed from ≡ false) × (source_ended to ≡ true)
+      → IsNext remaining errors old from (Ok None) new to
+  gives_end past_now same found device ended = record {
+    answer = λ _. found;
+    device = λ _. device;
+    decided = λ _ _ not. absurd (cc);
+    undecided = λ _ e. absurd (cc);
+    endless = λ _ e. ended.0;
+    told = λ _ e. ended.1;
+    fault = λ _. tt;
+    past_now = past_now;
+    again = λ e. absurd (e reading);
+    still = λ e. absurd (e reading);
+    unread = λ e. absurd (e reading);
+    limit_now = limit_now;
+    counted = tt;
+    ended = λ e. same;
+    refused = tt;
+  }
+
+  refuses_next : (number : ℕ) (why : Refusal) → number ≡ given old + 1 → IsLineReason why → past new ≡ Faulted (Refused number why)
+      → given new ≡ given old
+      → IfSome (left remaining old from)
+      (λ bytes. (one : List ℕ) × (others : List (List ℕ)) × (contents_of bytes ≡ one ∷ others) × HasLineReason (limit old) number one why)
+      → HasReadOn errors from to
+      → (source_ended to ≡ false → GivenDecide (limit old) (given old) (left remaining old from) (remaining (reader_of to)))
+      → IsNext remaining errors old from (Err (Refused number why)) new to
+  refuses_next number why next is_reason past_now same found device decided = record {
+    answer = λ _. known_so (left remaining old from) _ _ (λ bytes first.
+        record { next = next; content = first.0; others = first.1; contents = first.2; reason = first.3 }) found;
+    device = λ _. device;
+    decided = λ _ _. decided;
+    undecided = λ _ e. absurd (cc);
+    endless = λ _ e. absurd (cc);
+    told = λ _ e. absurd (cc);
+    fault = λ _. (next, is_reason);
+    past_now = past_now;
+    again = λ e. absurd (e reading);
+    still = λ e. absurd (e reading);
+    unread = λ e. absurd (e reading);
+    limit_now = limit_now;
+    counted = tt;
+    ended = λ e. absurd (cc);
+    refused = same;
+  }
+
+  fails_next : past new ≡ Faulted Read → given new ≡ given old
+      → IfSome (left remaining old from) (λ bytes. left remaining new to ≡ Some bytes) → HasFailedToRead errors from to
+      → DecidesNothing (limit old) (given old) (held new) → IsNext remaining errors old from (Err Read) new to
+  fails_next past_now same found device undecided = record {
+    answer = λ _. found;
+    device = λ _. device;
+    decided = λ _ other. absurd (other refl);
+    undecided = λ _ e. undecided;
+    endless = λ _ e. absurd (cc);
+    told = λ _ e. absurd (cc);
+    fault = λ _. tt;
+    past_now = past_now;
+    again = λ e. absurd (e reading);
+    still = λ e. absurd (e reading);
+    unread = λ e. absurd (e reading);
+    limit_now = limit_now;
+    counted = tt;
+    ended = λ e. absurd (cc);
+    refused = same;
+  }
+
+-- ---- by what its contents gave
+
+-- what decides a content decides a line
+decides : (reader : LineReader) {rest unread : Option (List ℕ)}
+    → GivenDecideContent reader.contents.most (limit reader) (given reader) rest unread
+    → GivenDecide (limit reader) (given reader) rest unread
+decides reader {rest} {unread} gave =
+    subst (λ k. GivenDecideContent k (limit reader) (given reader) rest unread) reader.longest gave
+
+module _ {R : Type 0} {remaining : R → Option (List ℕ)} {errors : R → Option ℕ} {old new : LineReader} {from to : Source R}
+    (reading : past old ≡ Reading) where
+  -- none that is overlong is a comment, or a line
+  pub passes_overlong : IsNextOf remaining errors old.contents from (Ok Overlong) new.contents to → (number : ℕ)
+      → number ≡ given new + 1 → past new ≡ Faulted (Refused number BadLength)
+      → PassesContent remaining errors old from (Err (Refused number BadLength)) new to
+  passes_overlong next number numbered past_now = (
+    refuses_next reading next.limit_now number BadLength is tt past_now next.holds.1
+        (known_so (left remaining old from) _ _ (λ bytes answer.
+        let (one, others, contents, long) = overlong_content old.contents.most bytes old.contents.some answer.1 in
+        (one, others, contents, (omega (arith, is, next.holds.0), omega (arith, long, old.longest)))) next.answer)
+        next.device (λ not. decides old (next.decided (λ e. absurd (cc)) not)),
+    λ _ _ _. known_so (left remaining old from) _ _ (λ bytes answer first more is.
+        let (one, others, contents, long) = overlong_content old.contents.most bytes old.contents.some answer.1 in
+        let same : one ≡ first = cc in
+        ap is_comment (sym same) ∙ long_no_comment one (omega (arith, long, old.longest))) next.answer,
+  )
     where
-      at : (f : Bool) → f ≡ nat_eq count max → HasLineReason max (count + 1) (first_content bytes) why
-      at true e =
-          let over : max < count + 1 = grind (arith, nat_tests) in
-          subst (HasLineReason max (count + 1) (first_content bytes)) (one_too_many (nat_eq count max) bytes why (sym e) is) over
-      at false e =
-          let room : count + 1 ≤ max = grind (arith, nat_tests) in
-          line_err max (count + 1) room (first_content bytes) why (sym (with_room (nat_eq count max) bytes (sym e)) ∙ is)
+      is : number ≡ given old + 1
+      is = numbered ∙ ap (λ n. n + 1) next.holds.1
 
-  pub line_answered : (bytes after : Option (List ℕ)) (line : List ℕ) → IfSome bytes (λ b. Finds (nat_eq count max) b (Next line) after)
-      → IfSome bytes (λ b. Answers max count b (Ok (Some line)) after)
-  line_answered None after line found = tt
-  line_answered (Some b) after line found = (after_content b, found.2, next_line b line found.0 found.1)
+  pub passes_end : IsNextOf remaining errors old.contents from (Ok End) new.contents to → past new ≡ Ended
+      → PassesContent remaining errors old from (Ok false) new to
+  passes_end next past_now = gives_end reading next.limit_now past_now next.holds next.answer next.device (next.ended refl)
 
-  pub refusal_answered : (bytes after : Option (List ℕ)) (why : Refusal)
-      → IfSome bytes (λ b. Finds (nat_eq count max) b (Refused why) after)
-      → IfSome bytes (λ b. Answers max count b (Err (fault.Refused (count + 1) why)) after)
-  refusal_answered None after why found = tt
-  refusal_answered (Some b) after why found = next_refusal b why found.0 found.1
+  pub passes_fault : (fault : LineFault) → IsNextOf remaining errors old.contents from (Err fault) new.contents to
+      → past new ≡ Faulted fault → PassesContent remaining errors old from (Err fault) new to
+  passes_fault (Refused number why) next past_now = (
+    refuses_next reading next.limit_now number why next.holds.2 (subst IsLineReason (sym next.holds.3) tt) past_now next.holds.1
+        (known_so (left remaining old from) _ _ (λ bytes some.
+        let (one, others, contents) = some_content bytes some in
+        let over : limit old < number = omega (arith, next.holds.0, next.holds.2) in
+        (one, others, contents, subst (HasLineReason (limit old) number one) (sym next.holds.3) over))
+        next.answer) next.device (λ not. decides old (next.decided (λ e. absurd (cc)) not)),
+    λ _ _ room. absurd (omega (arith, room, next.holds.0)),
+  )
+  passes_fault Read next past_now = (
+    fails_next reading next.limit_now past_now next.holds.0 next.answer next.device
+        (subst (λ k. DecideNoContent k (limit old) (given old) (held new)) old.longest next.holds.1),
+    λ other. absurd (other refl),
+  )
 
-  pub decides_something : (p : List ℕ) → is_decided (nat_eq count max) p ≡ true → ¬ DecidesNothing max count p
-  unfolding is_decided
-  decides_something p d none =
-      let feed = no_feed (has_line_feed p) refl in
-      let short = none.short in
-      let empty : count ≡ max → length p ≡ 0 = λ e. ap length (none.none_too_many e) in
-      grind (arith, nat_tests, empty)
-    where
-      no_feed : (b : Bool) → b ≡ has_line_feed p → has_line_feed p ≡ false
-      no_feed false is = sym is
-      no_feed true is =
-          let below : place p < length p = ltb-true (place p) (length p) (sym is) in
-          absurd (none.no_feed (place p) 0 below (eqb-true _ 10 (passes_at_first is_line_feed p 0 below)))
+  -- a content is a line
+  pub makes_line : IsNextOf remaining errors old.contents from (Ok Content) new.contents to → past new ≡ Reading → (line : Line)
+      → line_of (content new.contents) ≡ Ok line → IsNext remaining errors old from (Ok (Some line)) new to
+  makes_line next past_now line is =
+      let found = line_ok (content new.contents) line is in
+      gives_line reading next.limit_now line found.1 past_now next.holds.0 next.holds.1
+      (known_so (left remaining old from) _ _ (λ bytes answer. (
+        answer.0,
+        answer.1,
+        subst (λ l. IsFirstContent bytes l answer.0) found.0 (content_first _ bytes _ answer.0 answer.2),
+      )) next.answer)
+      next.device (λ not. decides old (next.decided (λ e. absurd (cc)) not))
 
-  pub given_decide : (bytes unread : Option (List ℕ)) → FindsGiven (nat_eq count max) bytes unread → GivenDecide max count bytes unread
-  given_decide bytes unread found =
-      record { given = found.given; parts = found.parts; decided = decides_something found.given found.decided }
+  -- or a comment
+  pub passes_comment : IsNextOf remaining errors old.contents from (Ok Content) new.contents to → past new ≡ Reading
+      → is_comment (content new.contents) ≡ true → HasPassedComment remaining errors old from new to
+  passes_comment next past_now is = record {
+    reading = reading;
+    comment = known_so (left remaining old from) _ _
+        (λ bytes answer. (content new.contents, answer.0, is, answer.1, content_first _ bytes _ answer.0 answer.2)) next.answer;
+    read_on = next.device;
+    counted = next.holds.1;
+    limit_now = next.limit_now;
+    past_now = past_now ∙ sym reading;
+  }
 
-  pub decides_nothing : (held : List ℕ) → is_decided (nat_eq count max) held ≡ false → DecidesNothing max count held
-  decides_nothing held d =
-      let far : length held ≤ place held = ltb-false (place held) (length held) (undecided_no_feed (nat_eq count max) held d) in
-      record {
-        no_feed = λ k x below. λ e. no_feed_at k x below (fails_before_first is_line_feed held k x (omega arith)) e;
-        short = undecided_short (nat_eq count max) held d;
-        none_too_many = λ e. nil_from_length held (none e);
-      }
-    where
-      no_feed_at : (k x : ℕ) → k < length held → is_line_feed (get_or held k x) ≡ false → get_or held k x ≡ 10 → ⊥
-      no_feed_at k x below f e = grind (arith, nat_tests)
+  -- or neither, and isn't counted
+  pub refuses_content : (between : ContentReader) → IsNextOf remaining errors old.contents from (Ok Content) between to → (why : Refusal)
+      → line_of (content between) ≡ Err why → limit new ≡ between.limit → given new + 1 ≡ between.given
+      → past new ≡ Faulted (Refused between.given why) → IsNext remaining errors old from (Err (Refused between.given why)) new to
+  refuses_content between next why is limit_now counted past_now =
+      let room : between.given ≤ limit old = omega (arith, next.holds.0, next.holds.1) in
+      let reason = line_err (limit old) between.given room (content between) why is in
+      refuses_next reading (limit_now ∙ next.limit_now) between.given why next.holds.1 reason.1 past_now
+      (omega (arith, counted, next.holds.1))
+      (known_so (left remaining old from) _ _ (λ bytes answer.
+      (content between, contents_of answer.0, (content_first _ bytes _ answer.0 answer.2).contents, reason.0)) next.answer)
+      next.device (λ not. decides old (next.decided (λ e. absurd (cc)) not))
 
-      none : count ≡ max → length held ≡ 0
-      none e = at (nat_lt 0 (length held)) refl
-        where
-          at : (b : Bool) → b ≡ nat_lt 0 (length held) → length held ≡ 0
-          at false is = omega (arith, ltb-false 0 (length held) (sym is))
-          at true is =
-              let some : 0 < length held = ltb-true 0 (length held) (sym is) in
-              let room = undecided_not_full (nat_eq count max) held d some in
-              absurd (grind (arith, nat_tests))
+-- a content that was given is the first: if it is no comment, none stands there
+pub no_comment : {R : Type 0} {remaining : R → Option (List ℕ)} {errors : R → Option ℕ} (old : LineReader) {from to : Source R}
+    (between : ContentReader) → IsNextOf remaining errors old.contents from (Ok Content) between to → is_comment (content between) ≡ false
+    → IsNoComment remaining old from
+no_comment {remaining = remaining} old {from = from} between next none = λ _ _. known_so (left remaining old from) _ _
+    (λ bytes answer first more is.
+    let all = (content_first _ bytes _ answer.0 answer.2).contents in
+    let same : content between ≡ first = cc in
+    ap is_comment (sym same) ∙ none) next.answer

@@ -7,11 +7,20 @@ use Rattle.std.specs.Str.Lines.{lines, lines_of_parts, strip_carriage_return}
 use Rattle.cif_columns.specs.Contents.{StandsFirst}
 use Rattle.cif_columns.specs.FirstLine.{is_line_feed}
 use Rattle.cif_columns.specs.GivenLines.{EndsLine}
-use Rattle.cif_columns.proofs.DecidedLines.{parts_some}
 use mathlib.Core.Logic.{◌⊎◌, inl, inr, ⊎_elim}
 
+-- bytes have a part
+pub parts_some : (p : ℕ → Bool) (bytes : List ℕ) → (first : List ℕ) × (others : List (List ℕ)) × (slice_split p bytes ≡ first ∷ others)
+parts_some p [] = ([], [], refl)
+parts_some p (x ∷ xs) = at (p x) (parts_some p xs)
+  where
+    at : (b : Bool) → (first : List ℕ) × (others : List (List ℕ)) × (slice_split p xs ≡ first ∷ others)
+        → (first : List ℕ) × (others : List (List ℕ)) × (cond b ([] ∷ slice_split p xs) (onto_first x (slice_split p xs)) ≡ first ∷ others)
+    at true h = ([], slice_split p xs, refl)
+    at false h = (x ∷ h.0, h.1, ap (onto_first x) h.2)
+
 -- a line feed splits its bytes
-split_at_feed : (front more : List ℕ)
+pub split_at_feed : (front more : List ℕ)
     → slice_split is_line_feed (front ++ 10 ∷ more) ≡ slice_split is_line_feed front ++ slice_split is_line_feed more
 split_at_feed [] more = refl
 split_at_feed (x ∷ xs) more = at (is_line_feed x) (split_at_feed xs more) (parts_some is_line_feed xs)
@@ -26,7 +35,7 @@ split_at_feed (x ∷ xs) more = at (is_line_feed x) (split_at_feed xs more) (par
         ∙ ap (λ l. onto_first x l ++ slice_split is_line_feed more) (sym some.2)
 
 -- all parts but the last end at a line feed
-lines_of_parts-append : (parts : List (List ℕ)) (last : List ℕ) (others : List (List ℕ))
+pub lines_of_parts-append : (parts : List (List ℕ)) (last : List ℕ) (others : List (List ℕ))
     → lines_of_parts (parts ++ last ∷ others) ≡ map strip_carriage_return parts ++ lines_of_parts (last ∷ others)
 lines_of_parts-append [] last others = refl
 lines_of_parts-append (x ∷ []) last others = refl

@@ -1,13 +1,12 @@
 -- What a clause reads of a `ContentReader`, and what a `next` answers.
-use Rattle.std.specs.Prelude.{◌≡◌, ◌≢◌, ℕ, ◌+◌, ◌<◌, ◌≤◌, true, false, List, [], length, Option, Some, IfSome, IfOk, Result, Ok, Err}
-use Rattle.cif_columns.specs.Ahead.{held_bytes, known_left}
-use Rattle.cif_columns.specs.FirstLine.{has_line_feed, line_of}
-use Rattle.cif_columns.specs.LineReader.{LineReads}
-use Rattle.cif_columns.specs.NextContent.{IsFirst, IsLast, PassesFirst, before_feed}
-use Rattle.cif_columns.specs.Source.{source_ended, source_failed}
+use Rattle.std.specs.Prelude.{◌≡◌, ◌≢◌, ℕ, ◌+◌, ◌<◌, true, false, List, [], length, Option, Some, IfSome, IfOk, Result, Ok, Err}
+use Rattle.std.specs.Io.KnownBytes.{Keeps, prepend_known}
+use Rattle.cif_columns.specs.Ahead.{AnswersNext, content_bytes, held_bytes, known_left}
+use Rattle.cif_columns.specs.Contents.{BeginOverlong, DecideNoContent}
+use Rattle.cif_columns.specs.Source.{HasFailedToRead, HasReadOn, reader_of, source_ended, source_failed}
+use Rattle.cif_columns.specs.declared.ahead.NextContent.{NextContent}
+use Rattle.cif_columns.specs.declared.ahead.NextContent.TheVariants.{Content, Overlong, End}
 use Rattle.cif_columns.specs.declared.content_reader.ContentReader.{ContentReader}
-use Rattle.cif_columns.specs.declared.content_reader.NextContent.{NextContent}
-use Rattle.cif_columns.specs.declared.content_reader.NextContent.TheVariants.{Content, Overlong, End}
 use Rattle.cif_columns.specs.declared.refusal.LineFault.{LineFault}
 use Rattle.cif_columns.specs.declared.refusal.LineFault.TheVariants.{Refused, Read}
 use Rattle.cif_columns.specs.declared.refusal.Refusal.TheVariants.{TooManyLines}
@@ -17,6 +16,10 @@ use Rattle.cif_columns.specs.declared.source.Source.{Source}
 abbrev pub held : ContentReader → List ℕ
 held r = held_bytes r.ahead
 
+-- the content that was given last
+abbrev pub content : ContentReader → List ℕ
+content r = content_bytes r.ahead
+
 -- how many contents were given
 abbrev pub given : ContentReader → ℕ
 given r = r.given
@@ -25,65 +28,55 @@ given r = r.given
 abbrev pub limit : ContentReader → ℕ
 limit r = r.limit
 
+-- with how many bytes without a line feed a content is overlong
+abbrev pub most_of : ContentReader → ℕ
+most_of r = r.most
+
 -- the bytes that are left: those held, and then those that the reader has left, where these are known
 abbrev pub left : {R : Type 0} → (R → Option (List ℕ)) → ContentReader → Source R → Option (List ℕ)
 left remaining r s = known_left remaining r.ahead s
 
--- After so many contents of at most max these bytes decide no content, whatever follows them.
-pub record IsUndecided (max count : ℕ) (bytes : List ℕ) : Type 0 where
-  pub no_feed : has_line_feed bytes ≡ false
-  pub short : length bytes < 10000
-  pub none_too_many : count ≡ max → bytes ≡ []
+-- what a call that may answer a fault of the lines owes its source: it fails to read exactly where it answers Read
+abbrev pub LineReads : {R A : Type 0} → (R → Option ℕ) → Source R → Source R → Result A LineFault → Type 0
+LineReads errors old new (Ok done) = HasReadOn errors old new
+LineReads errors old new (Err (Refused number why)) = HasReadOn errors old new
+LineReads errors old new (Err Read) = HasFailedToRead errors old new
+
+-- Of the bytes that were left, where they are known, the reader has these left, and has given the others. They decide the first content,
+-- after so many of at most max.
+pub record GivenDecideContent (most max count : ℕ) (bytes unread : Option (List ℕ)) : Type 0 where
+  pub given : List ℕ
+  pub parts : Keeps bytes (prepend_known given unread)
+  pub decided : ¬ DecideNoContent most max count given
 
 -- what a call answers, where these bytes are left, and what is left after it
-abbrev pub AnswersContent : List ℕ → Result NextContent LineFault → Option (List ℕ) → Type 0
-AnswersContent bytes (Ok (Content content)) after = (rest : List ℕ) × (after ≡ Some rest) × IsFirst bytes content rest
-AnswersContent bytes (Ok Overlong) after = after ≡ Some bytes
-AnswersContent bytes (Ok End) after = (bytes ≡ []) × (after ≡ Some [])
-AnswersContent bytes (Err fault) after = after ≡ Some bytes
+abbrev pub AnswersContent : ℕ → List ℕ → Result NextContent LineFault → List ℕ → Option (List ℕ) → Type 0
+AnswersContent most bytes (Ok next) content after = AnswersNext most bytes next content after
+AnswersContent most bytes (Err (Refused number why)) content after = 0 < length bytes
+AnswersContent most bytes (Err Read) content after = after ≡ Some bytes
 
 -- what a call answers by what is held then, and how many contents it has given
 abbrev pub HoldsNext : ContentReader → Result NextContent LineFault → ContentReader → Type 0
-HoldsNext old (Ok (Content content)) new = (given old < limit old) × (given new ≡ given old + 1)
-    × ((first : List ℕ) × (content ≡ line_of first))
-HoldsNext old (Ok Overlong) new = (given old < limit old) × (10000 ≤ before_feed (held new)) × (given new ≡ given old)
+HoldsNext old (Ok Content) new = (given old < limit old) × (given new ≡ given old + 1)
+HoldsNext old (Ok Overlong) new = (given old < limit old) × (given new ≡ given old) × BeginOverlong (most_of old) (held new)
 HoldsNext old (Ok End) new = given new ≡ given old
-HoldsNext old (Err (Refused number why)) new = (number ≡ given old + 1) × (why ≡ TooManyLines) × (given old ≡ limit old)
-    × (held new ≢ []) × (given new ≡ given old)
-HoldsNext old (Err Read) new = IsUndecided (limit old) (given old) (held new) × (given new ≡ given old)
+HoldsNext old (Err (Refused number why)) new =
+    (given old ≡ limit old) × (given new ≡ given old) × (number ≡ given old + 1) × (why ≡ TooManyLines)
+HoldsNext old (Err Read) new = (given new ≡ given old) × DecideNoContent (most_of old) (limit old) (given old) (held new)
 
 -- What a call that gives the next content promises: its reader and its source before, the answer, and both after.
 pub record IsNextOf {R : Type 0} (remaining : R → Option (List ℕ)) (errors : R → Option ℕ) (old : ContentReader) (from : Source R)
     (result : Result NextContent LineFault) (new : ContentReader) (to : Source R) : Type 0 where
   -- the answer is the first content of the bytes that are left, and the bytes after it are left then
-  pub answer : IfSome (left remaining old from) (λ bytes. AnswersContent bytes result (left remaining new to))
-  -- it is decided by what is held
+  pub answer : IfSome (left remaining old from)
+      (λ bytes. AnswersContent (most_of old) bytes result (content new) (left remaining new to))
   pub holds : HoldsNext old result new
   pub limit_now : limit new ≡ limit old
+  pub most_now : most_of new ≡ most_of old
+  -- what isn't a failure is decided by the bytes so far, or by the end that the source told
+  pub decided : result ≢ Err Read → source_ended to ≡ false →
+      GivenDecideContent (most_of old) (limit old) (given old) (left remaining old from) (remaining (reader_of to))
   -- a source that fails is reported; one that has failed has no end, and gives no bytes where none are held
   pub device : LineReads errors from to result
-  pub told : result ≡ Ok End → source_ended to ≡ true
+  pub ended : result ≡ Ok End → (source_failed from ≡ false) × (source_ended to ≡ true)
   pub fresh : held old ≡ [] → IfOk result (λ next. source_failed from ≡ false)
-  pub endless : result ≡ Ok End → source_failed from ≡ false
-
--- the same is held, and the same number of contents is given
-pub record IsStill (old new : ContentReader) : Type 0 where
-  pub held_now : held new ≡ held old
-  pub given_now : given new ≡ given old
-  pub limit_now : limit new ≡ limit old
-
--- how many contents are given then
-abbrev pub CountsNext : ContentReader → NextContent → ContentReader → Type 0
-CountsNext old (Content content) new = (given old < limit old) × (given new ≡ given old + 1)
-CountsNext old Overlong new = (given old < limit old) × (given new ≡ given old)
-CountsNext old End new = given new ≡ given old
-
--- what the held bytes decide
-abbrev pub IsDecidedNext : ContentReader → Result NextContent LineFault → ContentReader → Type 0
-IsDecidedNext old (Ok next) new =
-    PassesFirst (held old) next (held new) × CountsNext old next new × (limit new ≡ limit old)
-IsDecidedNext old (Err fault) new = (new ≡ old) × (fault ≢ Read) × HoldsNext old (Err fault) new
-
--- what the held bytes are, where no others follow
-abbrev pub IsLastOf : ContentReader → NextContent → ContentReader → Type 0
-IsLastOf old next new = IsLast (held old) next (held new) × CountsNext old next new × (limit new ≡ limit old)

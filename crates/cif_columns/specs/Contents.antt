@@ -1,7 +1,7 @@
 -- The contents of bytes, the lines among them, and why a content is no line.
-use Rattle.std.specs.Prelude.{◌≡◌, ◌≢◌, ◌⊎◌, ℕ, ◌<◌, ◌≤◌, List, [], ◌∷◌, ◌++◌, length, All}
+use Rattle.std.specs.Prelude.{◌≡◌, ◌≢◌, ◌⊎◌, ℕ, ◌<◌, ◌≤◌, List, [], ◌∷◌, ◌++◌, length, take, slice_index, All}
 use Rattle.std.specs.List.{flat_map}
-use Rattle.std.specs.Str.Lines.{lines}
+use Rattle.std.specs.Str.Lines.{lines, strip_carriage_return}
 use Rattle.cif_columns.specs.declared.refusal.Refusal.{Refusal}
 use Rattle.cif_columns.specs.declared.refusal.Refusal.TheVariants.{BadLength, BadByte, TooManyLines}
 use Rattle.cif_columns.specs.Line.{ArePrintable}
@@ -38,9 +38,55 @@ IsLineReason BadLength = Unit {0}
 IsLineReason BadByte = Unit {0}
 IsLineReason _ = ⊥
 
--- These bytes, after so many lines, decide no line whatever follows them: no line feed ends one, none is too long
--- already, and none begins that is one too many.
-pub record DecidesNothing (max given : ℕ) (bytes : List ℕ) : Type 0 where
-  pub no_feed : All (λ b. b ≢ 10) bytes
-  pub short : length bytes < 82
+-- ---- contents that have fewer than so many bytes up to their line feeds
+
+-- none of the bytes is a line feed
+abbrev pub HaveNoFeed : List ℕ → Type 0
+HaveNoFeed bytes = All (λ b. b ≢ 10) bytes
+
+-- a line feed stands at this place, and none before it, where fewer bytes stand
+pub record IsFirstFeed (most : ℕ) (bytes : List ℕ) (place : ℕ) : Type 0 where
+  pub short : place < most
+  pub within : place < length bytes
+  pub no_feed : HaveNoFeed (take place bytes)
+  pub feed : slice_index bytes place ≡ 10
+
+-- The content stands first in the bytes, and rest after it: a line feed ends it, without the carriage return before that.
+pub record EndsAtFeed (most : ℕ) (bytes content rest : List ℕ) : Type 0 where
+  pub part : List ℕ
+  pub no_feed : HaveNoFeed part
+  pub short : length part < most
+  pub parts : bytes ≡ part ++ 10 ∷ rest
+  pub is : content ≡ strip_carriage_return part
+
+-- or the end of the bytes does
+pub record EndsAtEnd (most : ℕ) (bytes content rest : List ℕ) : Type 0 where
+  pub some : 0 < length bytes
+  pub no_feed : HaveNoFeed bytes
+  pub short : length bytes < most
+  pub is : content ≡ bytes
+  pub none : rest ≡ []
+
+-- it comes first in one of these ways
+abbrev pub ComesFirst : ℕ → List ℕ → List ℕ → List ℕ → Type 0
+ComesFirst most bytes content rest = EndsAtFeed most bytes content rest ⊎ EndsAtEnd most bytes content rest
+
+-- the bytes begin with a content that has so many bytes or more
+pub record BeginOverlong (most : ℕ) (bytes : List ℕ) : Type 0 where
+  pub long : most ≤ length bytes
+  pub no_feed : HaveNoFeed (take most bytes)
+
+-- the bytes decide no content, whatever follows them: no line feed ends one, and none is too long already
+pub record AreUndecided (most : ℕ) (bytes : List ℕ) : Type 0 where
+  pub no_feed : HaveNoFeed bytes
+  pub short : length bytes < most
+
+-- after so many contents of at most max: nor does one begin that is one too many
+pub record DecideNoContent (most max given : ℕ) (bytes : List ℕ) : Type 0 where
+  pub no_feed : HaveNoFeed bytes
+  pub short : length bytes < most
   pub none_too_many : given ≡ max → bytes ≡ []
+
+-- the same of lines
+abbrev pub DecidesNothing : ℕ → ℕ → List ℕ → Type 0
+DecidesNothing max given bytes = DecideNoContent 82 max given bytes

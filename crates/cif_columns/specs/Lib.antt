@@ -20,7 +20,6 @@ pub mod LineBuilder
 pub mod LineFault
 pub mod LineReader
 pub mod Lines
-pub mod NextContent
 pub mod PlainTest
 pub mod PublicTime
 pub mod Refusal

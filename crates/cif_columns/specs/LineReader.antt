@@ -2,9 +2,7 @@
 use Rattle.std.specs.Prelude.{◌≡◌, ℕ, ◌+◌, ◌<◌, Bool, true, false, List, [], ◌∷◌, Option, None, Some, Result, Ok, Err}
 use Rattle.std.specs.Prelude.{if◌then◌else◌}
 use Rattle.std.specs.Prelude.{◌≢◌, IfErr, IfOk, IfSome, OnErr, OnSome, drop, length, slice_index, take}
-use Rattle.std.specs.Io.KnownBytes.{Keeps, prepend_known}
-use Rattle.cif_columns.specs.declared.ahead.First.{First}
-use Rattle.cif_columns.specs.declared.ahead.First.TheVariants as first
+use Rattle.cif_columns.specs.declared.ahead.NextContent.TheVariants as next
 use Rattle.cif_columns.specs.declared.line.Line.{Line}
 use Rattle.cif_columns.specs.declared.line_reader.Content.{Content}
 use Rattle.cif_columns.specs.declared.line_reader.Content.TheVariants as content
@@ -17,22 +15,23 @@ use Rattle.cif_columns.specs.declared.refusal.Refusal.{Refusal}
 use Rattle.cif_columns.specs.declared.source.Source.{Source}
 use Rattle.cif_columns.specs.Ahead.{held_bytes, known_left}
 use Rattle.cif_columns.specs.Comment.{is_comment}
+pub use Rattle.cif_columns.specs.ContentReader.{GivenDecideContent, LineReads}
+use Rattle.cif_columns.specs.ContentReader.{IsNextOf}
 use Rattle.cif_columns.specs.Contents.{DecidesNothing, contents_of, IsFirstContent, StandsFirst, HasLineReason, IsLineReason}
-use Rattle.cif_columns.specs.FirstLine.{first_content}
 use Rattle.cif_columns.specs.Line.{IsLine}
-use Rattle.cif_columns.specs.Source.{HasFailedToRead, HasReadOn, reader_of, source_ended, source_failed}
+use Rattle.cif_columns.specs.Source.{HasReadOn, reader_of, source_ended, source_failed}
 
 -- the bytes that are held: read, and not yet given
 abbrev pub held : LineReader → List ℕ
-held r = held_bytes r.ahead
+held r = held_bytes r.contents.ahead
 
 -- how many lines were given
 abbrev pub given : LineReader → ℕ
-given r = r.given
+given r = r.contents.given
 
 -- how many lines there may be
 abbrev pub limit : LineReader → ℕ
-limit r = r.limit
+limit r = r.contents.limit
 
 -- what the calls so far came to
 abbrev pub past : LineReader → Past
@@ -52,7 +51,7 @@ line_read (Err fault) line = Err fault
 
 -- the bytes that are left: those held, and then those that the reader has left, where these are known
 abbrev pub left : {R : Type 0} → (R → Option (List ℕ)) → LineReader → Source R → Option (List ℕ)
-left remaining r s = known_left remaining r.ahead s
+left remaining r s = known_left remaining r.contents.ahead s
 
 -- after so many lines of at most max the line stands first in the bytes, and rest after it
 pub record IsNextLine (max count : ℕ) (bytes line rest : List ℕ) : Type 0 where
@@ -76,23 +75,14 @@ Answers max count bytes (Ok None) after = (bytes ≡ []) × (after ≡ Some [])
 Answers max count bytes (Err (Refused number why)) after = IsNextRefusal max count bytes number why
 Answers max count bytes (Err Read) after = after ≡ Some bytes
 
--- what a call that may answer a fault of the lines owes its source: it fails to read exactly where it answers Read
-abbrev pub LineReads : {R A : Type 0} → (R → Option ℕ) → Source R → Source R → Result A LineFault → Type 0
-LineReads errors old new (Ok done) = HasReadOn errors old new
-LineReads errors old new (Err (Refused number why)) = HasReadOn errors old new
-LineReads errors old new (Err Read) = HasFailedToRead errors old new
-
 -- the faults of a call after so many lines, for any source: a refusal names the next line, and one of the reasons of lines
 abbrev pub IsNextFault : ℕ → LineFault → Type 0
 IsNextFault count (Refused number why) = (number ≡ count + 1) × IsLineReason why
 IsNextFault count Read = Unit {0}
 
--- Of the bytes that were left, where they are known, the reader has these left, and has given the others. They decide the first line,
--- after so many lines of at most max.
-pub record GivenDecide (max count : ℕ) (bytes unread : Option (List ℕ)) : Type 0 where
-  pub given : List ℕ
-  pub parts : Keeps bytes (prepend_known given unread)
-  pub decided : ¬ DecidesNothing max count given
+-- the same of lines
+abbrev pub GivenDecide : ℕ → ℕ → Option (List ℕ) → Option (List ℕ) → Type 0
+GivenDecide max count bytes unread = GivenDecideContent 82 max count bytes unread
 
 -- What a call that gives the next line promises: its reader and its source before, the answer, and both after.
 pub record IsNext {R : Type 0} (remaining : R → Option (List ℕ)) (errors : R → Option ℕ) (old : LineReader) (from : Source R)
@@ -142,20 +132,14 @@ pub record HasPassed (old new : LineReader) : Type 0 where
 abbrev pub content_of : List ℕ → Content
 content_of line = if is_comment line then content.Comment else content.Line
 
--- the reader was read on, where it reads: the bytes that are left are the same
-pub record HasLooked {R : Type 0} (remaining : R → Option (List ℕ)) (errors : R → Option ℕ) (old : LineReader) (from : Source R)
-    (new : LineReader) (to : Source R) : Type 0 where
-  pub same_bytes : Keeps (left remaining old from) (left remaining new to)
-  pub read_on : HasReadOn errors from to
-  pub given_now : given new ≡ given old
-  pub limit_now : limit new ≡ limit old
-  pub past_now : past new ≡ past old
-  pub still : past old ≢ Reading → (new ≡ old) × (to ≡ from)
+-- the first content of the bytes is no comment
+abbrev pub BeginWithoutComment : List ℕ → Type 0
+BeginWithoutComment bytes = (one : List ℕ) (others : List (List ℕ)) → contents_of bytes ≡ one ∷ others → is_comment one ≡ false
 
 -- where a content may come, no comment stands first in the bytes that are left
 abbrev pub IsNoComment : {R : Type 0} → (R → Option (List ℕ)) → LineReader → Source R → Type 0
 IsNoComment remaining old from = past old ≡ Reading → given old < limit old →
-    IfSome (left remaining old from) (λ bytes. is_comment (first_content bytes) ≡ false)
+    IfSome (left remaining old from) BeginWithoutComment
 
 -- a comment stood first, and was passed
 pub record HasPassedComment {R : Type 0} (remaining : R → Option (List ℕ)) (errors : R → Option ℕ) (old : LineReader) (from : Source R)
@@ -168,14 +152,9 @@ pub record HasPassedComment {R : Type 0} (remaining : R → Option (List ℕ)) (
   pub limit_now : limit new ≡ limit old
   pub past_now : past new ≡ past old
 
--- what looking for a comment answers
-abbrev pub LooksFor : {R : Type 0} → (R → Option (List ℕ)) → (R → Option ℕ) → LineReader → Source R → Result First LineFault
-    → LineReader → Source R → Type 0
-LooksFor remaining errors old from (Ok first.Comment) new to = HasPassedComment remaining errors old from new to
-LooksFor remaining errors old from (Ok first.End) new to = IsNext remaining errors old from (Ok None) new to
-LooksFor remaining errors old from (Ok first.Other) new to =
-    HasLooked remaining errors old from new to × IsNoComment remaining old from
-LooksFor remaining errors old from (Err fault) new to = (fault ≡ Read) × IsNext remaining errors old from (Err fault) new to
+-- the same of what is held, whatever follows
+abbrev pub HoldsNoComment : LineReader → Type 0
+HoldsNoComment r = past r ≡ Reading → given r < limit r → (0 < length (held r)) × (slice_index (held r) 0 ≢ 47)
 
 -- What a call that gives the next content promises, which is a line, put into `line`, or a comment: of all but a comment what a call
 -- that gives the next line does.
@@ -186,4 +165,14 @@ IsNextContent remaining errors old from (Ok content.Line) line new to =
     IsNext remaining errors old from (Ok (Some line)) new to × (is_comment line ≡ false)
 IsNextContent remaining errors old from (Ok content.End) line new to = IsNext remaining errors old from (Ok None) new to
 IsNextContent remaining errors old from (Err fault) line new to =
+    IsNext remaining errors old from (Err fault) new to × (fault ≢ Read → IsNoComment remaining old from)
+
+-- What a call that passes the next content comes to: a content was given, which the others make a line or a comment; else it answers as
+-- they do.
+abbrev pub PassesContent : {R : Type 0} → (R → Option (List ℕ)) → (R → Option ℕ) → LineReader → Source R → Result Bool LineFault
+    → LineReader → Source R → Type 0
+PassesContent remaining errors old from (Ok true) new to =
+    IsNextOf remaining errors old.contents from (Ok next.Content) new.contents to × (past new ≡ Reading)
+PassesContent remaining errors old from (Ok false) new to = IsNext remaining errors old from (Ok None) new to
+PassesContent remaining errors old from (Err fault) new to =
     IsNext remaining errors old from (Err fault) new to × (fault ≢ Read → IsNoComment remaining old from)

@@ -1,53 +1,48 @@
 //! Contents of any length, one by one, from a source that gives its bytes in any pieces.
-ghost use Rattle.std.specs.Prelude.{◌≡◌, ◌<◌, ◌≤◌, [], IfNone, IfSome};
+ghost use Rattle.std.specs.Prelude.{◌≡◌, ◌<◌, ◌≤◌, []};
+ghost use Rattle.cif_columns.specs.declared.ahead.TheConstants.{AHEAD};
 ghost use Rattle.cif_columns.specs.declared.line_reader.TheConstants.{MAX_LINES};
 
-use crate::ahead::Ahead;
-use crate::line::Line;
+use crate::ahead::{Ahead, NextContent};
 use crate::refusal::{LineFault, Refusal};
 use crate::source::{ReadDevice, Source};
-
-/// What stood next, where a content may have any length.
-#[derive(Clone, Copy)]
-pub enum NextContent {
-    /// A content: the line that it is, or why it is none.
-    Content(Result<Line, Refusal>),
-    /// A content that is no line: none of the first 10,000 bytes from where it begins is a line feed.
-    /// It isn't passed, and so no other follows.
-    Overlong,
-    /// Nothing: the input is at its end.
-    End,
-}
 
 /// Gives the contents of one source one by one, whether they are lines or not, and keeps what it has
 /// read ahead of them.
 ///
 /// A content ends where a line does, and may have any length, but of one that is overlong no more than
-/// its first 10,000 bytes are read. Nothing is allocated.
+/// its first `most` bytes are read. Nothing is allocated.
 #[derive(Drop)]
 pub struct ContentReader {
-    ahead: Ahead,
-    given: u64,
-    limit: u64,
+    pub(crate) ahead: Ahead,
+    pub(crate) given: u64,
+    pub(crate) limit: u64,
+    most: usize,
     ghost counted: { given ≤ limit },
     ghost limited: { limit ≤ MAX_LINES },
+    ghost some: { 0 < most },
+    ghost room: { most ≤ AHEAD },
 }
 
 impl ContentReader {
-    ghost use Rattle.cif_columns.specs.ContentReader.{IsDecidedNext, IsLastOf, IsNextOf, IsStill, IsUndecided};
-    ghost use Rattle.cif_columns.specs.ContentReader.{given, held, limit};
+    ghost use Rattle.cif_columns.specs.ContentReader.{IsNextOf, content, given, held, limit, most_of};
 
-    /// A reader that will give at most `max_lines` contents.
-    pub fn new(max_lines: u64) -> Self
-        requires { max_lines ≤ MAX_LINES }
+    /// A reader that will give at most `max_contents` contents, of fewer than `most` bytes up to their
+    /// line feeds.
+    pub fn new(max_contents: u64, most: usize) -> Self
+        requires max { max_contents ≤ MAX_LINES }
+        requires some { 0 < most }
+        requires room { most ≤ AHEAD }
         ensures held { held result ≡ [] }
         ensures given { given result ≡ 0 }
-        ensures limit { limit result ≡ max_lines }
+        ensures limit { limit result ≡ max_contents }
+        ensures most { most_of result ≡ most }
     {
         ContentReader {
             ahead: Ahead::new(),
             given: 0,
-            limit: max_lines,
+            limit: max_contents,
+            most,
         }
     }
 
@@ -58,62 +53,41 @@ impl ContentReader {
         self.given
     }
 
-    /// The next content of what is held and of what the source still gives.
+    /// The content that was given last, without its ending.
+    pub fn content(&self) -> &[u8]
+        ensures { result.now ≡ content self.now }
+    {
+        self.ahead.content()
+    }
+
+    /// Gives the next content of what is held and of what the source still gives.
     ///
     /// The source is read only while the held bytes decide no content, each time once. A content is
-    /// decided by its line feed, by 10,000 bytes with none, by its first byte if it is one too many,
+    /// decided by its line feed, by `most` bytes with none, by its first byte if it is one too many,
     /// and by the end of the input.
     pub fn next<R: ReadDevice>(&mut self, source: &mut Source<R>) -> Result<NextContent, LineFault>
         ensures { IsNextOf R.remaining R.read_errors self.old source.old result self.new source.new }
     {
-        loop {
-            if let Some(answer) = self.decided() {
-                return answer;
-            }
-            match self.ahead.fill(source) {
-                Ok(true) => {}
-                Ok(false) => return Ok(self.last()),
-                Err(_) => return Err(LineFault::Read),
-            }
-        }
-    }
-
-    /// What the held bytes decide, whatever follows them.
-    fn decided(&mut self) -> Option<Result<NextContent, LineFault>>
-        ensures found { IfSome result (λ answer. IsDecidedNext self.old answer self.new) }
-        ensures none { IfNone result (IsUndecided (limit self.old) (given self.old) (held self.old)) }
-        ensures kept { IfNone result (IsStill self.old self.new) }
-    {
         if self.given == self.limit {
-            if self.ahead.is_empty() {
-                return None;
-            }
-            return Some(Err(LineFault::Refused {
-                line: self.given + 1,
-                why: Refusal::TooManyLines,
-            }));
+            let Ok(next) = self.ahead.next_content(1, source) else {
+                return Err(LineFault::Read);
+            };
+            return match next {
+                NextContent::End => Ok(NextContent::End),
+                _ => Err(LineFault::Refused {
+                    line: self.given + 1,
+                    why: Refusal::TooManyLines,
+                }),
+            };
         }
-        match self.ahead.decided_content() {
-            Some(NextContent::Content(content)) => {
+        match self.ahead.next_content(self.most, source) {
+            Ok(NextContent::Content) => {
                 self.given += 1;
-                Some(Ok(NextContent::Content(content)))
+                Ok(NextContent::Content)
             }
-            Some(next) => Some(Ok(next)),
-            None => None,
-        }
-    }
-
-    /// What the held bytes are, where no others follow.
-    fn last(&mut self) -> NextContent
-        requires { IsUndecided (limit self.old) (given self.old) (held self.old) }
-        ensures { IsLastOf self.old result self.new }
-    {
-        match self.ahead.last_content() {
-            NextContent::Content(content) => {
-                self.given += 1;
-                NextContent::Content(content)
-            }
-            next => next,
+            Ok(NextContent::Overlong) => Ok(NextContent::Overlong),
+            Ok(NextContent::End) => Ok(NextContent::End),
+            Err(_) => Err(LineFault::Read),
         }
     }
 }

@@ -23,9 +23,9 @@ mod trials;
 mod uid;
 
 pub use activities::Activities;
-pub use ahead::without_carriage_return;
+pub use ahead::{NextContent, line_of, without_carriage_return};
 pub use clock::{PublicTime, WorkTime};
-pub use content_reader::{ContentReader, NextContent};
+pub use content_reader::ContentReader;
 pub use day::{DAYS_IN_WEEK, Day};
 pub use days_run::DaysRun;
 pub use field::{Field, activities_at, columns_at, field_at, text_at, uid_at};

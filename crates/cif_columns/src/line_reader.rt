@@ -1,14 +1,19 @@
 //! Lines, one by one, from a source that gives its bytes in any pieces.
-ghost use Rattle.std.specs.Prelude.{◌≡◌, ◌<◌, ◌≤◌, [], ℕ, List, IfSome};
-ghost use Rattle.cif_columns.specs.declared.line_reader.TheConstants.{MAX_LINES};
+ghost use Rattle.std.specs.Prelude.{◌≡◌, ◌<◌, ◌≤◌, ◌+◌, [], ℕ, List, IfSome, IsTrue, false};
+ghost use Rattle.cif_columns.specs.declared.line_reader.TheConstants.{LONGEST_LINE, MAX_LINES};
 
-use crate::ahead::{Ahead, First, Found, is_comment};
+use crate::ahead::{NextContent, is_comment, line_of};
+use crate::content_reader::ContentReader;
 use crate::line::{LINE_WIDTH, Line};
-use crate::refusal::LineFault;
+use crate::refusal::{LineFault, Refusal};
 use crate::source::{ReadDevice, Source};
 
 /// The most lines that a reader may be asked to give.
 pub const MAX_LINES: u64 = 100_000_000;
+
+/// How many bytes a line takes at most, with its ending: a carriage return and a line feed. With so
+/// many bytes and no line feed the first line is too long, whatever follows.
+const LONGEST_LINE: usize = LINE_WIDTH + 2;
 
 /// What the calls so far came to.
 #[derive(Clone, Copy)]
@@ -51,18 +56,18 @@ impl Content {
 /// and a line feed, or at the end of the input. Nothing is allocated.
 #[derive(Drop)]
 pub struct LineReader {
-    ahead: Ahead,
-    given: u64,
-    limit: u64,
+    contents: ContentReader,
     past: Past,
-    ghost counted: { given ≤ limit },
-    ghost limited: { limit ≤ MAX_LINES },
+    ghost counted: { contents.given ≤ contents.limit },
+    ghost limited: { contents.limit ≤ MAX_LINES },
+    ghost longest: { contents.most ≡ LONGEST_LINE },
 }
 
 impl LineReader {
     ghost use Rattle.cif_columns.specs.LineReader.{held, given, limit, line_read, past, IsNext};
-    ghost use Rattle.cif_columns.specs.LineReader.{AreAhead, HasPassed, IsNextContent, LooksFor};
-    ghost use Rattle.cif_columns.specs.declared.line_reader.Past.TheVariants.{Reading};
+    ghost use Rattle.cif_columns.specs.LineReader.{AreAhead, HasPassed, HoldsNoComment, IsNextContent, PassesContent};
+    ghost use Rattle.cif_columns.specs.declared.line_reader.Past.TheVariants.{Faulted, Reading};
+    ghost use Rattle.cif_columns.specs.declared.refusal.LineFault.{LineFault};
 
     /// A reader that will give at most `max_lines` lines.
     pub fn new(max_lines: u64) -> Self
@@ -73,9 +78,7 @@ impl LineReader {
         ensures past { past result ≡ Reading }
     {
         LineReader {
-            ahead: Ahead::new(),
-            given: 0,
-            limit: max_lines,
+            contents: ContentReader::new(max_lines, LONGEST_LINE),
             past: Past::Reading,
         }
     }
@@ -84,7 +87,7 @@ impl LineReader {
     pub fn line_number(&self) -> u64
         ensures { result ≡ given self.now }
     {
-        self.given
+        self.contents.given
     }
 
     /// The next line of what is held and of what the source still gives.
@@ -117,10 +120,10 @@ impl LineReader {
             Past::Ended => return Ok(false),
             Past::Faulted(fault) => return Err(fault),
         }
-        let is_full = self.given == self.limit;
-        if self.ahead.line_with_feed(is_full, line) {
-            self.ahead.pass_line_with_feed();
-            self.given += 1;
+        let is_full = self.contents.given == self.contents.limit;
+        if self.contents.ahead.line_with_feed(is_full, line) {
+            self.contents.ahead.pass_line_with_feed();
+            self.contents.given += 1;
             return Ok(true);
         }
         self.read_other_line(source, line)
@@ -137,62 +140,56 @@ impl LineReader {
         ensures { IsNextContent R.remaining R.read_errors self.old source.old result line.new
             self.new source.new }
     {
-        match self.pass_comment(source)? {
-            First::Comment => Ok(Content::Comment),
-            First::End => Ok(Content::End),
-            First::Other => match self.read_line(source, line) {
-                Ok(true) => Ok(Content::of_line(line)),
-                Ok(false) => Ok(Content::End),
-                Err(fault) => Err(fault),
-            },
+        if self.may_begin_comment() {
+            return self.read_possible_comment(source, line);
+        }
+        match self.read_line(source, line) {
+            Ok(true) => Ok(Content::of_line(line)),
+            Ok(false) => Ok(Content::End),
+            Err(fault) => Err(fault),
         }
     }
 
-    /// Passes the comment that stands first, if one does, and tells what stands there. Where no comment
-    /// stands that takes a look at one byte.
+    /// Whether a comment may stand first. Where none does that takes a look at one byte.
     #[inline(always)]
-    fn pass_comment<R: ReadDevice>(&mut self, source: &mut Source<R>) -> Result<First, LineFault>
-        ensures { LooksFor R.remaining R.read_errors self.old source.old result self.new
-            source.new }
+    fn may_begin_comment(&self) -> bool
+        ensures reading { IsTrue result → past self.now ≡ Reading }
+        ensures none { result ≡ false → HoldsNoComment self.now }
     {
         let Past::Reading = self.past else {
-            return Ok(First::Other);
+            return false;
         };
-        if self.given == self.limit {
-            return Ok(First::Other);
-        }
-        if !self.ahead.may_begin_comment() {
-            return Ok(First::Other);
-        }
-        self.pass_possible_comment(source)
+        self.contents.given < self.contents.limit && self.contents.ahead.may_begin_comment()
     }
 
-    /// What `pass_comment` does where one may stand.
+    /// What `read_content` does where a comment may stand first.
     #[cold]
     #[inline(never)]
-    fn pass_possible_comment<R: ReadDevice>(
+    fn read_possible_comment<R: ReadDevice>(
         &mut self,
         source: &mut Source<R>,
-    ) -> Result<First, LineFault>
-        requires reading { past self.old ≡ Reading }
-        requires room { given self.old < limit self.old }
-        ensures { LooksFor R.remaining R.read_errors self.old source.old result self.new
-            source.new }
+        line: &mut Line,
+    ) -> Result<Content, LineFault>
+        requires { past self.old ≡ Reading }
+        ensures { IsNextContent R.remaining R.read_errors self.old source.old result line.new
+            self.new source.new }
     {
-        match self.ahead.pass_comment(source) {
-            Ok(First::Comment) => {
-                self.given += 1;
-                Ok(First::Comment)
+        match self.pass_content(source) {
+            Ok(true) => {
+                let content = self.contents.content();
+                if is_comment(content) {
+                    return Ok(Content::Comment);
+                }
+                match line_of(content) {
+                    Ok(next) => {
+                        *line = next;
+                        Ok(Content::Line)
+                    }
+                    Err(why) => Err(self.refuse(why)),
+                }
             }
-            Ok(First::End) => {
-                self.past = Past::Ended;
-                Ok(First::End)
-            }
-            Ok(First::Other) => Ok(First::Other),
-            Err(_) => {
-                self.past = Past::Faulted(LineFault::Read);
-                Err(LineFault::Read)
-            }
+            Ok(false) => Ok(Content::End),
+            Err(fault) => Err(fault),
         }
     }
 
@@ -204,7 +201,9 @@ impl LineReader {
         ensures { IfSome result (λ columns. AreAhead self.now columns.now) }
     {
         match self.past {
-            Past::Reading if self.given < self.limit => self.ahead.columns_with_feed(),
+            Past::Reading if self.contents.given < self.contents.limit => {
+                self.contents.ahead.columns_with_feed()
+            }
             _ => None,
         }
     }
@@ -215,8 +214,8 @@ impl LineReader {
         requires { (line : List ℕ) × AreAhead self.old line }
         ensures { HasPassed self.old self.new }
     {
-        self.ahead.pass_line_with_feed();
-        self.given += 1;
+        self.contents.ahead.pass_line_with_feed();
+        self.contents.given += 1;
     }
 
     /// What `read_line` does where the held bytes don't begin with 80 bytes and a line feed, or the
@@ -233,27 +232,58 @@ impl LineReader {
         ensures { IsNext R.remaining R.read_errors self.old source.old (line_read result line.new)
             self.new source.new }
     {
-        let is_full = self.given == self.limit;
-        match self.ahead.next_line(is_full, source) {
-            Found::Next(next) => {
-                *line = next;
-                self.given += 1;
-                Ok(true)
-            }
-            Found::End => {
+        match self.pass_content(source) {
+            Ok(true) => match line_of(self.contents.content()) {
+                Ok(next) => {
+                    *line = next;
+                    Ok(true)
+                }
+                Err(why) => Err(self.refuse(why)),
+            },
+            other => other,
+        }
+    }
+
+    /// Passes the next content, and tells whether there is one. An end or a fault is answered from now on.
+    fn pass_content<R: ReadDevice>(&mut self, source: &mut Source<R>) -> Result<bool, LineFault>
+        requires { past self.old ≡ Reading }
+        ensures { PassesContent R.remaining R.read_errors self.old source.old result self.new
+            source.new }
+    {
+        match self.contents.next(source) {
+            Ok(NextContent::Content) => Ok(true),
+            Ok(NextContent::Overlong) => Err(self.stop(LineFault::Refused {
+                line: self.contents.given + 1,
+                why: Refusal::BadLength,
+            })),
+            Ok(NextContent::End) => {
                 self.past = Past::Ended;
                 Ok(false)
             }
-            Found::Refused(why) => {
-                let line = self.given + 1;
-                let fault = LineFault::Refused { line, why };
-                self.past = Past::Faulted(fault);
-                Err(fault)
-            }
-            Found::Failed => {
-                self.past = Past::Faulted(LineFault::Read);
-                Err(LineFault::Read)
-            }
+            Err(fault) => Err(self.stop(fault)),
         }
+    }
+
+    /// Refuses the content that was given last: it is no line, and isn't counted.
+    fn refuse(&mut self, why: Refusal) -> LineFault
+        requires { 0 < given self.old }
+        ensures fault { result ≡ LineFault.Refused (given self.old) why }
+        ensures given { given self.new + 1 ≡ given self.old }
+        ensures limit { limit self.new ≡ limit self.old }
+        ensures past { past self.new ≡ Faulted result }
+    {
+        let line = self.contents.given;
+        self.contents.given -= 1;
+        self.stop(LineFault::Refused { line, why })
+    }
+
+    /// Answers the fault from now on.
+    fn stop(&mut self, fault: LineFault) -> LineFault
+        ensures fault { result ≡ fault }
+        ensures contents { self.new.contents ≡ self.old.contents }
+        ensures past { past self.new ≡ Faulted fault }
+    {
+        self.past = Past::Faulted(fault);
+        fault
     }
 }

@@ -13,11 +13,11 @@ use Rattle.std.specs.Option.{option_or}
 use Rattle.std.specs.Prelude.{All, slice_index_or}
 use Rattle.cif_columns.specs.Comment.{is_comment}
 use Rattle.cif_columns.specs.Contents.{HasLineReason, IsFirstContent, contents_of}
-use Rattle.cif_columns.specs.FirstLine.{first_content, is_printable}
+use Rattle.cif_columns.specs.FirstLine.{is_printable}
 use Rattle.cif_columns.specs.GivenLines.{AreAllContents, AreContentsToFailure, AreContentsToFault, AreContentsToRefusal}
 use Rattle.cif_columns.specs.GivenLines.{AreWholeContentsAndRest, IsContentDecidedOrLast}
 use Rattle.cif_columns.specs.Line.{IsLine}
-use Rattle.cif_columns.specs.LineReader.{HasPassedComment, IsNext, IsNextFault, IsNoComment, LineReads, left}
+use Rattle.cif_columns.specs.LineReader.{BeginWithoutComment, HasPassedComment, IsNext, IsNextFault, IsNoComment, LineReads, left}
 use Rattle.cif_columns.specs.Source.{HasReadOn, Unread, reader_of, source_failed, unread_of}
 use Rattle.cif_columns.specs.declared.line.Line.{Line}
 use Rattle.cif_columns.specs.declared.line_reader.LineReader.{LineReader}
@@ -26,7 +26,6 @@ use Rattle.cif_columns.specs.declared.refusal.LineFault.TheVariants as line_faul
 use Rattle.cif_columns.specs.declared.refusal.Refusal.{Refusal}
 use Rattle.cif_columns.specs.declared.refusal.Refusal.TheVariants as refusal
 use Rattle.cif_columns.specs.declared.source.Source.{Source}
-use Rattle.cif_columns.proofs.DecidedLines.{contents_first}
 use Rattle.cif_columns.proofs.GivenLinesLaws.{IsReadingContents, KnownContents, contents_given, known_so, reading_content}
 use Rattle.cif_columns.proofs.PrintableBytes.{printable_fact, printable_true}
 use Rattle.cif_columns.proofs.ReadSources.{failed_after, read_on_both}
@@ -230,15 +229,9 @@ module _ (feed : Feed) (allowed : HolidayCodes) (max : ℕ) where
     module _ {R : Type 0} (remaining : R → Option (List ℕ)) (reader : LineReader) (source : Source R)
         (so_far : IsReadingContents IsFeedContent remaining start max reader source cs) (after : Unread) where
       no_comment_there : (bytes rest content : List ℕ) (others : List (List ℕ)) → AreWholeContentsAndRest IsFeedContent bytes cs rest
-          → contents_of bytes ≡ cs ++ content ∷ others → is_comment (first_content rest) ≡ false → is_comment content ≡ false
-      no_comment_there bytes [] content others known is none =
-          let both : contents_of [] ≡ content ∷ others = append_cancel_left cs _ _ (sym (contents_given bytes cs [] known) ∙ is) in cc
-      no_comment_there bytes (b ∷ rest) content others known is none =
-          let both : contents_of (b ∷ rest) ≡ content ∷ others =
-          append_cancel_left cs _ _ (sym (contents_given bytes cs (b ∷ rest) known) ∙ is) in
-          let first = contents_first (b ∷ rest) (omega arith) in
-          let same : first_content (b ∷ rest) ≡ content = cc in
-          ap is_comment (sym same) ∙ none
+          → contents_of bytes ≡ cs ++ content ∷ others → BeginWithoutComment rest → is_comment content ≡ false
+      no_comment_there bytes rest content others known is none =
+          none content others (append_cancel_left cs _ _ (sym (contents_given bytes cs rest known) ∙ is))
 
       pub at_feed_fault : (fault : LineFault) → IfSome start (λ bytes. AreContentsToFault IsFeedContent max bytes after cs fault)
           → (fault ≢ line_fault.Read → IsNoComment remaining reader source)
@@ -248,7 +241,7 @@ module _ (feed : Feed) (allowed : HolidayCodes) (max : ℕ) where
           (omega (arith, room, so_far.counted, so_far.same_limit))) faults
         where
           at : (s rest : Option (List ℕ)) → KnownContents IsFeedContent s cs rest
-              → (length cs < max → IfSome rest (λ bytes. is_comment (first_content bytes) ≡ false))
+              → (length cs < max → IfSome rest BeginWithoutComment)
               → IfSome s (λ bytes. AreContentsToRefusal IsFeedContent max bytes cs number why
               × IsContentDecidedOrLast IsFeedContent max bytes after number)
               → IfSome s (λ bytes. IsFeedFault feed allowed max bytes after (Extract (fault.Refused number why)))

@@ -145,17 +145,16 @@ module _ (line : List ℕ) (l : ℕ) (dates : List (List ℕ)) (words : words_of
           bad code (ap (λ ws. get_or (get_or ws 0 []) 0 0) same) (subst (λ ws. All IsDate ws) (sym (ap (drop 1) same)) are.are_dates)
 
   dates-fault : (number : ℕ) (fault : HolidayFault) → IsDateFault number dates fault → IsLineFault number line fault
-  dates-fault number (BadHoliday at) (is, bad) = (is, inr (bad-words (λ code letter_is are. bad are)))
+  dates-fault number (BadHoliday at) (is, bad) = (is, bad-words (λ code letter_is are. bad are))
   dates-fault number Read h = absurd h
   dates-fault number Memory h = tt
 
   -- what adding the dates comes to
-  pub line-ok : (code : HolidayCode) (old new : Holidays) (number : ℕ) (r : Result (Unit {0}) HolidayFault) → number ≤ 100000000
-      → length line ≤ 1000 → l ≡ letter code → IfOk r (λ done. All IsDate dates × HasMore old code (NamesDay dates) new)
-      → IfOk r (λ done. (number ≤ 100000000) × IsHolidayLine line × HasLineMore old line new)
-  line-ok code old new number (Ok done) few within is (are, more) =
-      let (fine, said) = says-dates code old new within is are more in (few, fine, said)
-  line-ok code old new number (Err fault) few within is h = tt
+  pub line-ok : (code : HolidayCode) (old new : Holidays) (r : Result (Unit {0}) HolidayFault) → length line ≤ 1000 → l ≡ letter code
+      → IfOk r (λ done. All IsDate dates × HasMore old code (NamesDay dates) new)
+      → IfOk r (λ done. IsHolidayLine line × HasLineMore old line new)
+  line-ok code old new (Ok done) within is (are, more) = says-dates code old new within is are more
+  line-ok code old new (Err fault) within is h = tt
 
   pub line-err : (number : ℕ) (r : Result (Unit {0}) HolidayFault) → IfErr r (IsDateFault number dates) → IfErr r (IsLineFault number line)
   line-err number (Ok done) h = tt

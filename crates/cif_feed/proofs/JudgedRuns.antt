@@ -20,9 +20,10 @@ use Rattle.cif_columns.specs.declared.refusal.LineFault.TheVariants as line_faul
 use Rattle.cif_columns.specs.declared.refusal.Refusal.{Refusal}
 use Rattle.cif_columns.specs.declared.refusal.Refusal.TheVariants as refusal
 use Rattle.cif_columns.specs.declared.source.Source.{Source}
-use Rattle.cif_columns.proofs.ContentRuns.{AreAll, HasGiven, given_failed, given_too_many}
+use Rattle.cif_columns.proofs.ContentRuns.{HasGiven}
+use Rattle.cif_columns.proofs.FirstContents.{stripped_long}
 use Rattle.cif_columns.proofs.GivenLinesLaws.{known_so}
-use Rattle.cif_columns.proofs.JudgedContents.{judged_all}
+use Rattle.cif_columns.proofs.JudgedContents.{AreAll, AreJudgedAndRest, given_failed, given_too_many, judged_all}
 use Rattle.cif_columns.proofs.ReadSources.{failed_after, read_on_both}
 use Rattle.cif_extract.specs.ExtractParts.{ExtractParts, extract_parts}
 use Rattle.cif_extract.specs.Fault.{of_line_fault}
@@ -49,7 +50,6 @@ use Rattle.cif_feed.specs.declared.judged.Order.{Order}
 use Rattle.cif_feed.specs.declared.judged.Judged.{Judged}
 use Rattle.cif_feed.specs.declared.judged.Judged.TheVariants as judged
 use Rattle.cif_feed.specs.declared.reasons.Reasons.{Reasons}
-use Rattle.cif_feed.proofs.HolidayReadings.{stripped_long}
 use Rattle.cif_feed.proofs.OwnReasons.{judged_line, own_none, own_of_line, reasons_of_more, refused_number}
 use Rattle.cif_feed.proofs.ToldReasons.{tell_nothing}
 
@@ -244,10 +244,10 @@ overlong_ok max cs long room (Some bytes) after ended is gave told some tell = r
 -- where a line is one too many
 pub too_many_fault : (max : ℕ) (start after : Option (List ℕ)) (ended : Bool) (number : ℕ) → number ≡ max + 1
     → IfSome start (λ bytes. max < length (judged_contents bytes))
-    → IfSome start (λ bytes. IsSomeAnd after (IsGiven (λ before. max < length (contents_of before)) bytes))
+    → IfSome start (λ bytes. ended ≡ false → IsSomeAnd after (IsGiven (λ before. max < length (contents_of before)) bytes))
     → IfSome start (λ bytes. IsJudgedFault max bytes (record { bytes = after; ended = ended }) (fault.Refused number refusal.TooManyLines))
 too_many_fault max None after ended number is over gave = tt
-too_many_fault max (Some bytes) after ended number is over gave = record { over = over; numbered = is; whole = λ not. at after gave }
+too_many_fault max (Some bytes) after ended number is over gave = record { over = over; numbered = is; whole = λ not. at after (gave not) }
   where
     at : (a : Option (List ℕ)) → IsSomeAnd a (IsGiven (λ before. max < length (contents_of before)) bytes)
         → IsSomeAnd a (IsGiven (λ before. ¬ MayGoOn max before) bytes)
@@ -256,7 +256,8 @@ too_many_fault max (Some bytes) after ended number is over gave = record { over 
 
 -- at a fault of the lines
 pub comes-line_fault : {R : Type 0} (remaining : R → Option (List ℕ)) (errors : R → Option ℕ) (max : ℕ) (reader : ContentReader)
-    (old between : Source R) (cs : List (List ℕ)) → HasGiven remaining (remaining (reader_of old)) max reader between cs
+    (old between : Source R) (cs : List (List ℕ))
+    → HasGiven AreJudgedAndRest remaining (remaining (reader_of old)) 10000 max reader between cs
     → HasReadOn errors old between → (reader' : ContentReader) (new : Source R) (l : LineFault)
     → IsNextOf remaining errors reader between (Err l) reader' new
     → IsResultOf remaining errors (judging max (unread_of remaining new)) old new (Err (of_line_fault l))

@@ -1,11 +1,14 @@
 -- The text of holidays, line by line, and the first line that is refused.
-use Rattle.std.specs.Prelude.{◌≡◌, ◌⊎◌, ◌↔◌, ℕ, ◌+◌, ◌<◌, ◌≤◌, ◌≢◌, ◌==◌, Bool, List, [], ◌∷◌, ◌++◌, length, All, Contains}
+use Rattle.std.specs.Prelude.{◌≡◌, ◌⊎◌, ◌↔◌, ℕ, ◌+◌, ◌<◌, ◌≤◌, ◌==◌, Bool, List, [], ◌∷◌, ◌++◌, length, All, Contains}
 use Rattle.std.specs.Prelude.{Some, Result, Ok, Err, IsSomeAnd, slice_get, drop, true, false}
 use Rattle.std.specs.List.{before_first}
 use Rattle.cif_columns.specs.Contents.{contents_of}
 use Rattle.cif_columns.specs.Day.{StandsInYymmdd}
+use Rattle.cif_columns.specs.GivenLines.{AreContentsToCut, IsDecidedWithinOrLast}
 use Rattle.cif_columns.specs.Source.{Unread}
 use Rattle.cif_columns.specs.declared.line_reader.TheConstants.{MAX_LINES}
+use Rattle.cif_columns.specs.declared.refusal.LineFault.{LineFault}
+use Rattle.cif_columns.specs.declared.refusal.LineFault.TheVariants as line_fault
 use Rattle.cif_extract.specs.ReadCall.{ReadCall, reading}
 use Rattle.cif_extract.specs.ReadFault.{IsLineNumber}
 use Rattle.cif_feed.specs.HolidayCode.{letter}
@@ -87,58 +90,19 @@ pub record IsFirstBadLine (lines : List (List ℕ)) (number : ℕ) : Type 0 wher
   pub numbered : number ≡ length before + 1
   pub bad : IsBadLine number line
 
--- the bytes are whole lines, each with its line feed
-abbrev pub AreWhole : List ℕ → Type 0
-AreWhole bytes = (bytes ≡ []) ⊎ ((prefix : List ℕ) × (bytes ≡ prefix ++ 10 ∷ []))
-
--- the bytes are these whole lines, each with its ending, none of which is bad, and then a rest
-pub record AreHolidayLinesAndRest (bytes : List ℕ) (lines : List (List ℕ)) (rest : List ℕ) : Type 0 where
-  pub whole : List ℕ
-  pub parts : bytes ≡ whole ++ rest
-  pub ended : AreWhole whole
-  pub contents : contents_of whole ≡ lines
-  pub are_lines : AreHolidayLines lines
-
--- These bytes, after whole lines, decide no line whatever follows them: no line feed ends one, and none is too long already. A carriage
--- return may end the longest line, before its line feed.
-pub record DecidesNoLine (bytes : List ℕ) : Type 0 where
-  pub no_feed : All (λ b. b ≢ 10) bytes
-  pub short : length bytes < 1002
-
--- Before it failed the source gave all of the bytes but those unread. What it gave are whole lines, none of which is bad, and a rest, which
--- decides no line.
-pub record IsCutBeforeBadLine (bytes unread : List ℕ) : Type 0 where
-  pub lines : List (List ℕ)
-  pub before : List ℕ
-  pub rest : List ℕ
-  pub parts : bytes ≡ before ++ unread
-  pub whole_lines_and_rest : AreHolidayLinesAndRest before lines rest
-  pub undecided : DecidesNoLine rest
-
--- the line of this number is decided by these bytes: they are the lines before it, none of which is bad, and a rest, which decides it
-pub record IsLineDecidedBy (bytes : List ℕ) (number : ℕ) : Type 0 where
-  pub lines : List (List ℕ)
-  pub rest : List ℕ
-  pub whole_lines_and_rest : AreHolidayLinesAndRest bytes lines rest
-  pub numbered : number ≡ length lines + 1
-  pub decided : ¬ DecidesNoLine rest
-
--- the line of this number is decided by what the source gave: all of the bytes but those unread
-pub record IsLineDecided (bytes unread : List ℕ) (number : ℕ) : Type 0 where
-  pub before : List ℕ
-  pub parts : bytes ≡ before ++ unread
-  pub decided : IsLineDecidedBy before number
-
--- The line of this number is decided, whatever follows: by what the source gave of the bytes, or else by the end that it told.
-abbrev pub IsLineDecidedOrLast : List ℕ → Unread → ℕ → Type 0
-IsLineDecidedOrLast bytes after number = after.ended ≡ false → IsSomeAnd after.bytes (λ unread. IsLineDecided bytes unread number)
-
 -- Why these bytes are no text of holidays, or can't be read, where `after` is left then: their first bad line, which is decided, or a
 -- failure of the source before one was. No contract foretells that memory runs out.
 abbrev pub IsHolidayFault : List ℕ → Unread → HolidayFault → Type 0
-IsHolidayFault bytes after (BadHoliday line) = IsFirstBadLine (contents_of bytes) line × IsLineDecidedOrLast bytes after line
-IsHolidayFault bytes after Read = IsSomeAnd after.bytes (IsCutBeforeBadLine bytes)
+IsHolidayFault bytes after (BadHoliday line) = IsFirstBadLine (contents_of bytes) line ×
+    IsDecidedWithinOrLast IsHolidayLine 1002 MAX_LINES bytes after line
+IsHolidayFault bytes after Read = (lines : List (List ℕ)) ×
+    IsSomeAnd after.bytes (λ unread. AreContentsToCut IsHolidayLine 1002 MAX_LINES bytes unread lines)
 IsHolidayFault bytes after Memory = Unit {0}
+
+-- a fault of the lines as one of the holidays
+abbrev pub of_line_fault : LineFault → HolidayFault
+of_line_fault (line_fault.Refused line why) = BadHoliday line
+of_line_fault line_fault.Read = Read
 
 -- the faults of holidays, for any source: a bad line is one of at most `MAX_LINES`, or the line behind them
 abbrev pub IsOfHolidays : HolidayFault → Type 0

@@ -1,5 +1,5 @@
 //! The text of holidays.
-ghost use Rattle.std.specs.Prelude.{◌≡◌, ◌<◌, ◌≤◌, ◌+◌, ◌*◌, ◌++◌, ◌∷◌, [], ◌==◌, ℕ, List, All, false};
+ghost use Rattle.std.specs.Prelude.{◌≡◌, ◌<◌, ◌≤◌, ◌+◌, ◌∷◌, [], ◌==◌, ℕ, All};
 ghost use Rattle.std.specs.Prelude.{IfErr, IfOk, IfSome, Some, length};
 ghost use Rattle.cif_columns.specs.Day.{StandsInYymmdd};
 ghost use Rattle.cif_columns.specs.declared.line_reader.TheConstants.{MAX_LINES};
@@ -8,18 +8,14 @@ ghost use Rattle.cif_feed.specs.Words.{words_in};
 
 use crate::words::{before_byte, first_word};
 use crate::{HolidayCode, Holidays};
-use arrayvec::ArrayVec;
-use cif_columns::{Day, MAX_LINES, ReadDevice, Source, without_carriage_return};
+use cif_columns::{ContentReader, Day, LineFault, MAX_LINES, NextContent, ReadDevice, Source};
 use std::alloc::Global;
 
 /// How many bytes a line of holidays may have, its remark included and its ending not.
 const LONGEST_LINE: usize = 1_000;
 
-/// How many bytes of a line are held: as many as it may have, and a carriage return.
-const LINE_AHEAD: usize = LONGEST_LINE + 1;
-
-/// How many bytes are read at once.
-const PIECE: usize = 4_096;
+/// How many bytes of a line are read at most: as many as it may have, a carriage return and a line feed.
+const MOST_OF_LINE: usize = LONGEST_LINE + 2;
 
 /// Why there are no holidays. Its number, its name and its text are those of the `FeedFault` that it is.
 #[derive(Clone, Copy, Debug, PartialEq, Eq)]
@@ -32,6 +28,19 @@ pub enum HolidayFault {
     Memory,
 }
 
+impl From<LineFault> for HolidayFault {
+    ghost use Rattle.cif_feed.specs.HolidayText.{of_line_fault};
+
+    ghost from_gives = { λ line_fault fault. fault ≡ of_line_fault line_fault };
+
+    fn from(fault: LineFault) -> HolidayFault {
+        match fault {
+            LineFault::Refused { line, why: _ } => HolidayFault::BadHoliday { line },
+            LineFault::Read => HolidayFault::Read,
+        }
+    }
+}
+
 impl Holidays {
     ghost use Rattle.cif_feed.specs.HolidayText.{reading_holidays};
 
@@ -40,7 +49,10 @@ impl Holidays {
     /// between and around them. The first other line is refused, and so is one after `MAX_LINES`.
     ///
     /// BadHoliday names that line; Read comes where the source failed before it was decided, by its
-    /// line feed, its 1,002nd byte or the end. Where there are holidays, nothing is left in the source.
+    /// line feed, its 1,002nd byte, its first if it is one too many, or the end. Where there are
+    /// holidays, nothing is left in the source.
+    // Inlined, it would keep what is read ahead on the stack of its caller.
+    #[inline(never)]
     pub fn read<R: ReadDevice>(
         alloc: Global,
         source: &mut Source<R>,
@@ -48,108 +60,24 @@ impl Holidays {
         ensures { IsResultOf R.remaining R.read_errors reading_holidays
             source.old source.new result }
     {
-        let mut reading = HolidayReading::new(alloc);
-        let mut piece = [0; PIECE];
+        let mut lines = ContentReader::new(MAX_LINES, MOST_OF_LINE);
+        let mut holidays = Holidays::new(alloc);
         loop {
-            match source.read(&mut piece) {
-                Ok(0) => return reading.finish(),
-                Ok(count) => match reading.take(&piece[..count]) {
-                    Ok(()) => {}
-                    Err(fault) => return Err(fault),
-                },
-                Err(_) => return Err(HolidayFault::Read),
+            match lines.next(source) {
+                Ok(NextContent::Content) => {
+                    let number = lines.line_number();
+                    match holidays.add_line(number, lines.content()) {
+                        Ok(()) => {}
+                        Err(fault) => return Err(fault),
+                    }
+                }
+                Ok(NextContent::Overlong) => {
+                    let line = lines.line_number() + 1;
+                    return Err(HolidayFault::BadHoliday { line });
+                }
+                Ok(NextContent::End) => return Ok(holidays),
+                Err(fault) => return Err(HolidayFault::from(fault)),
             }
-        }
-    }
-}
-
-/// What the bytes so far have come to.
-#[derive(Drop)]
-pub(crate) struct HolidayReading {
-    holidays: Holidays,
-    // How many lines there were.
-    lines: u64,
-    // The bytes after them.
-    rest: ArrayVec<u8, LINE_AHEAD>,
-    ghost within: { lines ≤ MAX_LINES },
-}
-
-impl HolidayReading {
-    ghost use Rattle.cif_feed.specs.HolidayText.{SpellHolidays};
-    ghost use Rattle.cif_feed.specs.Steps.HolidayReading.{HasTaken, IsRefusal, IsRefusalBehind};
-    ghost use Rattle.cif_feed.specs.Steps.HolidayReading.{progress};
-
-    /// The reading of no bytes.
-    fn new(alloc: Global) -> HolidayReading
-        ensures { HasTaken [] result }
-    {
-        HolidayReading {
-            holidays: Holidays::new(alloc),
-            lines: 0,
-            rest: ArrayVec::new(),
-        }
-    }
-
-    /// Takes these bytes more.
-    fn take(&mut self, bytes: &[u8]) -> Result<(), HolidayFault>
-        ensures ok { (taken : List ℕ) → HasTaken taken self.old →
-            IfOk result (λ _. HasTaken (taken ++ bytes.now) self.new) }
-        ensures err { (taken : List ℕ) → HasTaken taken self.old →
-            IfErr result (IsRefusalBehind (taken ++ bytes.now)) }
-        ensures further { IfOk result (λ _.
-            progress self.old + length bytes.now ≤ progress self.new) }
-    {
-        for byte in bytes {
-            match self.take_byte(*byte) {
-                Ok(()) => {}
-                Err(fault) => return Err(fault),
-            }
-        }
-        Ok(())
-    }
-
-    /// Takes a byte more.
-    fn take_byte(&mut self, byte: u8) -> Result<(), HolidayFault>
-        ensures ok { (taken : List ℕ) → HasTaken taken self.old →
-            IfOk result (λ _. HasTaken (taken ++ byte ∷ []) self.new) }
-        ensures err { (taken : List ℕ) → HasTaken taken self.old →
-            IfErr result (IsRefusalBehind (taken ++ byte ∷ [])) }
-        ensures further { IfOk result (λ _. progress self.old + 1 ≤ progress self.new) }
-    {
-        let line = self.lines + 1;
-        if byte != b'\n' {
-            return match self.rest.try_push(byte) {
-                Ok(()) => Ok(()),
-                Err(_) => Err(HolidayFault::BadHoliday { line }),
-            };
-        }
-        let content = without_carriage_return(self.rest.as_slice());
-        match self.holidays.add_line(line, content) {
-            Ok(()) => {
-                self.lines = line;
-                self.rest.clear();
-                Ok(())
-            }
-            Err(fault) => Err(fault),
-        }
-    }
-
-    /// The holidays, where these are all bytes.
-    fn finish(self) -> Result<Holidays, HolidayFault>
-        ensures ok { (taken : List ℕ) → HasTaken taken self → IfOk result (SpellHolidays taken) }
-        ensures err { (taken : List ℕ) → HasTaken taken self → IfErr result (IsRefusal taken) }
-    {
-        let HolidayReading {
-            mut holidays,
-            lines,
-            rest,
-        } = self;
-        if rest.is_empty() {
-            return Ok(holidays);
-        }
-        match holidays.add_line(lines + 1, rest.as_slice()) {
-            Ok(()) => Ok(holidays),
-            Err(fault) => Err(fault),
         }
     }
 }
@@ -161,14 +89,11 @@ impl Holidays {
 
     /// Adds what the line of this number says. After a fault nothing is said of the holidays.
     fn add_line(&mut self, number: u64, line: &[u8]) -> Result<(), HolidayFault>
-        ensures ok { IfOk result (λ _. (number ≤ MAX_LINES) × IsHolidayLine line.now
+        ensures ok { IfOk result (λ _. IsHolidayLine line.now
             × HasLineMore self.old line.now self.new) }
         ensures err { IfErr result (IsLineFault number line.now) }
     {
         let bad = HolidayFault::BadHoliday { line: number };
-        if number > MAX_LINES {
-            return Err(bad);
-        }
         if line.len() > LONGEST_LINE {
             return Err(bad);
         }

@@ -10,10 +10,13 @@ ghost use Rattle.cif_records.specs.Record.{record_refusal};
 ghost use Rattle.cif_feed.specs.Steps.Judging.{HasJudged, IsFinished, IsInOrder};
 
 use crate::reasons::Reasons;
-use cif_columns::{ContentReader, Line, NextContent, ReadDevice, Refusal, Source};
+use cif_columns::{ContentReader, Line, NextContent, ReadDevice, Refusal, Source, line_of};
 use cif_extract::{Extract, Fault, Reading, TakeFault};
 use cif_records::{is_plain_line, kind_of, read_record};
 use std::alloc::Global;
+
+/// How many bytes of a line are read, with its ending, at most.
+const MOST_OF_LINE: usize = 10_000;
 
 /// What comes of an input whose lines are judged each by itself.
 #[derive(Drop)]
@@ -45,13 +48,13 @@ impl Judged {
         ensures { IsResultOf R.remaining R.read_errors
             (judging max_lines (unread_of R.remaining source.new)) source.old source.new result }
     {
-        let mut contents = ContentReader::new(max_lines);
+        let mut contents = ContentReader::new(max_lines, MOST_OF_LINE);
         let mut judging = Judging::new(alloc);
         loop {
             match contents.next(source) {
-                Ok(NextContent::Content(content)) => {
+                Ok(NextContent::Content) => {
                     let number = contents.line_number();
-                    match judging.take(alloc, content, number) {
+                    match judging.take(alloc, line_of(contents.content()), number) {
                         Ok(()) => {}
                         Err(fault) => return Err(fault),
                     }

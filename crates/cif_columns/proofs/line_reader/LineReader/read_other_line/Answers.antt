@@ -1,25 +1,19 @@
--- What was found is told in the words of the subject by these lemmas.
-use Rattle.std.proofs.Common.{refl}
-use Rattle.cif_columns.specs.Ahead.{known_left}
-use Rattle.cif_columns.proofs.LineAnswers.{refusal_answered, decides_nothing}
-use Rattle.cif_columns.proofs.PassedLines.{gives_fault, gives_line, refused_not_read}
+-- The content is a line, or refused.
+use Rattle.std.proofs.Common.{ap, sym, ◌∙◌}
+use Rattle.cif_columns.specs.FirstLine.{line_of}
+use Rattle.cif_columns.specs.declared.line_reader.Past.TheVariants.{Faulted}
+use Rattle.cif_columns.proofs.LineAnswers.{makes_line, refuses_content}
 use Rattle.cif_columns.proofs.line_reader.LineReader.read_other_line.Goals as goal
 
-pub returns-in-Next : goal.returns-in-Next
-returns-in-Next g c = gives_line c.requires c.requires refl refl c.in-Next.ensures.found c.in-Next.ensures.device
-    (c.in-Next.ensures.decided (λ e. cc))
+pub returns-in-Ok : goal.returns-in-Ok
+returns-in-Ok g c =
+    let (next, past_now) = rw c.in-Ok-true.field-0-test at c.in-Ok-true.ensures in
+    makes_line c.requires next past_now c.in-Ok.next (ap line_of (sym c.content.ensures) ∙ sym c.line_of.ensures ∙ c.in-Ok.is)
 
-pub returns-in-Refused : goal.returns-in-Refused
-returns-in-Refused g c =
-    let this = c.args.self.now in
-    let found = c.in-Refused.ensures in
-    let after = known_left g.R.Read.remaining c.next_line.new.self c.next_line.new.source in
-    gives_fault c.requires refl refl refl (refusal_answered this.limit this.given this.counted _ after c.in-Refused.why found.found)
-    found.device refused_not_read (refl, found.reason) (λ _. found.decided (λ e. cc))
-
-pub returns-in-Failed : goal.returns-in-Failed
-returns-in-Failed g c =
-    let this = c.args.self.now in
-    let found = c.in-Failed.ensures in
-    gives_fault c.requires refl refl refl found.found found.device
-    (λ _. decides_nothing this.limit this.given this.counted _ (found.undecided refl)) tt (λ other. absurd (other refl))
+pub returns-in-Err : goal.returns-in-Err
+returns-in-Err g c =
+    let (next, past_now) = rw c.in-Ok-true.field-0-test at c.in-Ok-true.ensures in
+    let refused = c.refuse.ensures in
+    rw refused.fault
+    (refuses_content c.requires _ next c.in-Err.why (ap line_of (sym c.content.ensures) ∙ sym c.line_of.ensures ∙ c.in-Err.is) refused.limit
+    refused.given (refused.past ∙ ap Faulted refused.fault))

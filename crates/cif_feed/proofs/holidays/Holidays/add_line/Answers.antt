@@ -17,8 +17,7 @@ pub returns-in-Some-clause-ok : goal.returns-in-Some-clause-ok
 returns-in-Some-clause-ok c =
     line-ok c.args.line.now (get_or c.first_word.result.0.now 0 0) (words_in c.first_word.result.1.now)
     (words c) c.in-Some.code c.args.self.now
-    c.add_dates.new.self c.args.number c.add_dates.result c.if-number-gt-MAX_LINES.false c.if-line-gt-LONGEST_LINE.false
-    c.in-Some.ensures.found
+    c.add_dates.new.self c.add_dates.result c.if-line-gt-LONGEST_LINE.false c.in-Some.ensures.found
     c.add_dates.ensures.ok
 
 pub returns-in-Some-clause-err : goal.returns-in-Some-clause-err

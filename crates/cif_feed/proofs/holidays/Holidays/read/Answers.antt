@@ -1,58 +1,63 @@
--- Piece by piece: each is taken (`loop-reading-preserved`), until all is, or a line is refused, or the source fails.
-use Rattle.std.proofs.Common.{◌∙◌, ◌++◌, ℕ, List, [], take, refl, ap, arith, subst, sym, append-nil}
-use Rattle.std.proofs.KnownBytes.{Consumes-kept, Consumes-nil, Consumes-trans}
-use Rattle.std.specs.Io.KnownBytes.{Consumes}
-use Rattle.cif_columns.proofs.ReadSources.{failed_after, read_nothing, read_on_both}
-use Rattle.cif_columns.specs.Source.{unread_of}
-use Rattle.cif_extract.proofs.ReadCalls.{refuses}
-use Rattle.cif_feed.specs.HolidayText.{reading_holidays}
-use Rattle.cif_feed.specs.declared.holiday_text.HolidayFault.TheVariants.{Read}
-use Rattle.cif_feed.proofs.HolidayReadings.{comes-finished, comes-refused, cut}
+-- The invariant names the lines so far: one more (`line-more`), one that is bad, and the end are said of them all.
+use Rattle.std.proofs.Common.{[], ◌++◌, ◌∷◌, ◌+◌, ap, arith, subst}
+use Rattle.cif_columns.proofs.ContentRuns.{given_none}
+use Rattle.cif_columns.proofs.GivenLinesLaws.{none_given}
+use Rattle.cif_columns.proofs.ReadSources.{read_nothing, read_on_both}
+use Rattle.cif_columns.specs.ContentReader.{content}
+use Rattle.cif_feed.specs.HolidayText.{IsHolidayLine}
+use Rattle.cif_feed.specs.Steps.HolidayReading.{HasLineMore, IsLineFault}
+use Rattle.cif_feed.proofs.HolidayReadings.{AreLinesAndRest, are-none, are-push, comes-bad, comes-end, comes-line_fault}
+use Rattle.cif_feed.proofs.HolidayReadings.{comes-overlong, line-more}
 use Rattle.cif_feed.proofs.holidays.Holidays.read.Goals as goal
 
-pub loop-reading-init : goal.loop-reading-init
-loop-reading-init g c = ([], Consumes-nil _, c.new-reading.ensures, read_nothing _ _, refl)
+pub loop-lines-init : goal.loop-lines-init
+loop-lines-init g c = (
+  [],
+  given_none AreLinesAndRest g.R.Read.remaining none_given 1002 100000000 c.new-lines.result c.args.source.now c.new-lines.ensures.most
+      c.new-lines.ensures.limit c.new-lines.ensures.given c.new-lines.ensures.held,
+  are-none c.new-holidays.result c.new-holidays.ensures.names c.new-holidays.ensures.days,
+  read_nothing _ _,
+)
 
-pub loop-reading-smaller : goal.loop-reading-smaller
-loop-reading-smaller g c =
-    let (taken, consumed, has, on, long) = c.loop-reading.invariant in
-    let now = c.in-Ok-take.ensures.ok taken has in
-    let some = c.in-Ok.count-test.1 in
-    omega (arith, now.undecided.short, c.take.new.self.within, c.in-Ok-take.ensures.further, c.in-Ok.ensures.bound.1, some)
-
-pub loop-reading-preserved : goal.loop-reading-preserved
-loop-reading-preserved g c =
-    let (taken, consumed, has, on, long) = c.loop-reading.invariant in
-    let now = c.in-Ok-take.ensures.ok taken has in (
-      taken ++ take c.in-Ok.count c.read.new.buf,
-      Consumes-trans _ _ _ taken (take c.in-Ok.count c.read.new.buf) consumed c.in-Ok.ensures.bytes.0,
-      now,
-      read_on_both _ _ _ _ on c.in-Ok.ensures.device.1,
-      c.read.auto.buf ∙ long,
+pub loop-lines-preserved : goal.loop-lines-preserved
+loop-lines-preserved g c =
+    let (ls, so_far, are, read_on) = c.loop-lines.invariant in
+    let next = rw c.in-Ok-Content.field-0-is at c.in-Ok-Content.ensures in
+    let line = content c.next.new.self in
+    let added = c.in-Ok.ensures.ok in (
+      ls ++ line ∷ [],
+      line-more _ _ _ _ _ ls so_far read_on c.next.new.self c.next.new.source next (subst IsHolidayLine c.content.ensures added.0),
+      are-push ls line c.loop-lines.holidays c.add_line.new.self are
+          (subst (λ l. HasLineMore c.loop-lines.holidays l c.add_line.new.self) c.content.ensures added.1),
+      read_on_both _ _ _ _ read_on next.device,
     )
 
-pub returns-in-Ok-eq0 : goal.returns-in-Ok-eq0
-returns-in-Ok-eq0 g c =
-    let (taken, consumed, has, on, long) = c.loop-reading.invariant in
-    comes-finished _ _ _ _ (read_on_both _ _ _ _ on c.in-Ok-eq0.ensures.device.1) taken
-    (subst (λ (l : List ℕ). Consumes (g.R.Read.remaining c.args.source.now.reader) (g.R.Read.remaining c.read.new.self.reader) l)
-    (ap (λ (n : ℕ). taken ++ take n c.read.new.buf) c.in-Ok-eq0.field-0-test ∙ append-nil taken)
-    (Consumes-trans _ _ _ taken (take c.in-Ok-eq0.field-0 c.read.new.buf) consumed c.in-Ok-eq0.ensures.bytes.0))
-    (c.in-Ok-eq0.ensures.bytes.1 c.in-Ok-eq0.field-0-test (omega (arith, c.read.auto.buf, long)))
-    (c.in-Ok-eq0.ensures.ended.1 (c.in-Ok-eq0.field-0-test, omega (arith, c.read.auto.buf, long)))
-    (sym on.going ∙ c.in-Ok-eq0.ensures.device.0) c.finish.result (c.finish.ensures.ok taken has) (c.finish.ensures.err taken has)
+pub loop-lines-smaller : goal.loop-lines-smaller
+loop-lines-smaller g c =
+    let next = rw c.in-Ok-Content.field-0-is at c.in-Ok-Content.ensures in
+    omega (arith, next.holds.0, next.holds.1, next.limit_now, c.next.new.self.counted)
 
-pub returns-in-Err-take : goal.returns-in-Err-take
-returns-in-Err-take g c =
-    let (taken, consumed, has, on, long) = c.loop-reading.invariant in
-    comes-refused _ _ _ _ (read_on_both _ _ _ _ on c.in-Ok.ensures.device.1) (taken ++ take c.in-Ok.count c.read.new.buf)
-    (Consumes-trans _ _ _ taken (take c.in-Ok.count c.read.new.buf) consumed c.in-Ok.ensures.bytes.0) c.in-Err-take.fault
-    (c.in-Err-take.ensures.err taken has)
+pub returns-in-Err-add_line : goal.returns-in-Err-add_line
+returns-in-Err-add_line g c =
+    let (ls, so_far, are, read_on) = c.loop-lines.invariant in
+    comes-bad _ _ _ _ _ ls so_far read_on c.next.new.self c.next.new.source
+    (rw c.in-Ok-Content.field-0-is at c.in-Ok-Content.ensures) c.line_number-number.result c.line_number-number.ensures
+    c.in-Err-add_line.fault
+    (subst (λ l. IsLineFault c.line_number-number.result l c.in-Err-add_line.fault) c.content.ensures c.in-Err-add_line.ensures.err)
+
+pub returns-in-Ok-Overlong : goal.returns-in-Ok-Overlong
+returns-in-Ok-Overlong g c =
+    let (ls, so_far, are, read_on) = c.loop-lines.invariant in
+    comes-overlong _ _ _ _ _ ls so_far read_on c.next.new.self c.next.new.source
+    (rw c.in-Ok-Overlong.field-0-is at c.in-Ok-Overlong.ensures) _ (ap (λ n. n + 1) c.line_number-line.ensures)
+
+pub returns-in-Ok-End : goal.returns-in-Ok-End
+returns-in-Ok-End g c =
+    let (ls, so_far, are, read_on) = c.loop-lines.invariant in
+    comes-end _ _ _ _ _ ls so_far read_on c.next.new.self c.next.new.source (rw c.in-Ok-End.field-0-is at c.in-Ok-End.ensures)
+    c.loop-lines.holidays are
 
 pub returns-in-Err : goal.returns-in-Err
 returns-in-Err g c =
-    let (taken, consumed, has, on, long) = c.loop-reading.invariant in
-    let this = c.loop-reading.reading in
-    refuses _ _ _ _ reading_holidays Read
-    (cut taken this.lines this.rest.items this.holidays has _ (unread_of g.R.Read.remaining c.read.new.self)
-    (Consumes-kept _ _ _ taken consumed c.in-Err.ensures.bytes)) tt (failed_after _ _ _ _ on c.in-Err.ensures.device)
+    let (ls, so_far, are, read_on) = c.loop-lines.invariant in
+    rw c.from.ensures (comes-line_fault _ _ _ _ _ ls so_far read_on c.next.new.self c.next.new.source c.in-Err.fault c.in-Err.ensures)

@@ -1,13 +1,16 @@
--- What the source gave so far is taken, and it was read on.
-use Rattle.std.proofs.Common.{◌≡◌, ◌-◌, ◌*◌, ℕ, List, length}
-use Rattle.std.specs.Io.KnownBytes.{Consumes}
+-- The lines so far are lines of these holidays, and the source was read on.
+use Rattle.std.proofs.Common.{◌-◌, List, ℕ}
+use Rattle.cif_columns.specs.ContentReader.{given, limit}
 use Rattle.cif_columns.specs.Source.{HasReadOn}
-use Rattle.cif_feed.specs.Steps.HolidayReading.{HasTaken, progress}
+use Rattle.cif_columns.proofs.ContentRuns.{HasGiven}
+use Rattle.cif_feed.specs.HolidayText.{AreHolidaysOf}
+use Rattle.cif_feed.proofs.HolidayReadings.{AreLinesAndRest}
 use Rattle.cif_feed.proofs.holidays.Holidays.read.Given as goal
 
-abbrev pub invariant-loop-reading : goal.invariant-loop-reading
-invariant-loop-reading g l = (taken : List ℕ) × Consumes (g.R.Read.remaining l.fn.source.reader) (g.R.Read.remaining l.source.reader) taken
-    × HasTaken taken l.reading × HasReadOn g.R.ReadDevice.read_errors l.fn.source l.source × (length l.piece ≡ 4096)
+abbrev pub invariant-loop-lines : goal.invariant-loop-lines
+invariant-loop-lines g l = (ls : List (List ℕ))
+    × HasGiven AreLinesAndRest g.R.Read.remaining (g.R.Read.remaining l.fn.source.reader) 1002 100000000 l.lines l.source ls
+    × AreHolidaysOf ls l.holidays × HasReadOn g.R.ReadDevice.read_errors l.fn.source l.source
 
-abbrev pub decreases-loop-reading : goal.decreases-loop-reading
-decreases-loop-reading g l = 100000001 * 1003 - progress l.reading
+abbrev pub decreases-loop-lines : goal.decreases-loop-lines
+decreases-loop-lines g l = limit l.lines - given l.lines

@@ -1,0 +1,59 @@
+-- What the held bytes decide is so of all that is left; the loop ends, as undecided bytes are fewer than `most`.
+use Rattle.std.proofs.Common.{Ok, ap, arith, inl, inr, length, refl, subst, sym, ◌∙◌}
+use Rattle.std.proofs.KnownBytes.{Keeps-refl, Keeps-trans}
+use Rattle.cif_columns.specs.Contents.{AreUndecided}
+use Rattle.cif_columns.proofs.NextContents.{decided_next, failed_next, last_next}
+use Rattle.cif_columns.proofs.ReadSources.{failed_after, read_nothing, read_on_both}
+use Rattle.cif_columns.proofs.ahead.Ahead.next_content.Goals as goal
+
+pub loop-next-init : goal.loop-next-init
+loop-next-init g c = record { same_bytes = Keeps-refl _; read_on = read_nothing _ _; begun = inl refl }
+
+pub returns-in-Some : goal.returns-in-Some
+returns-in-Some g c =
+    let so_far = c.loop-next.invariant in
+    decided_next g.R.Read.remaining g.R.ReadDevice.read_errors c.args.most c.args.self.now c.loop-next.self c.decided_content.new.self
+    c.args.source.now c.loop-next.source so_far.same_bytes so_far.read_on c.requires.some so_far.begun c.in-Some.next
+    c.in-Some.ensures.found
+
+pub fill-requires : goal.fill-requires
+fill-requires g c =
+    omega (arith, c.in_default.ensures.none.short, c.requires.room, ap length c.in_default.ensures.kept)
+
+pub loop-next-smaller : goal.loop-next-smaller
+loop-next-smaller g c =
+    omega (
+      arith,
+      c.in-Ok-true.ensures.more (ap Ok c.in-Ok-true.field-0-test),
+      ap length c.in_default.ensures.kept,
+      c.in_default.ensures.none.short,
+    )
+
+pub loop-next-preserved : goal.loop-next-preserved
+loop-next-preserved g c =
+    let so_far = c.loop-next.invariant in
+    record {
+      same_bytes = Keeps-trans _ _ _ so_far.same_bytes (rw (← c.in_default.ensures.kept) c.in-Ok-true.ensures.bytes);
+      read_on = read_on_both _ _ _ _ so_far.read_on c.in-Ok-true.ensures.device.1;
+      begun = inr (sym so_far.read_on.going ∙ c.in-Ok-true.ensures.device.0);
+    }
+
+pub returns-in-Ok-false : goal.returns-in-Ok-false
+returns-in-Ok-false g c =
+    let so_far = c.loop-next.invariant in
+    let end = c.in-Ok-false.ensures.end (ap Ok c.in-Ok-false.field-0-test) in
+    last_next g.R.Read.remaining g.R.ReadDevice.read_errors c.args.most c.args.self.now c.fill.new.self c.last_content.new.self
+    c.args.source.now c.fill.new.source
+    (Keeps-trans _ _ _ so_far.same_bytes (rw (← c.in_default.ensures.kept) c.in-Ok-false.ensures.bytes))
+    (read_on_both _ _ _ _ so_far.read_on c.in-Ok-false.ensures.device.1)
+    (subst (AreUndecided c.args.most) (sym (end.0 ∙ c.in_default.ensures.kept)) c.in_default.ensures.none)
+    (sym so_far.read_on.going ∙ c.in-Ok-false.ensures.device.0) end.2 end.1 c.last_content.result c.last_content.ensures
+
+pub returns-in-Err : goal.returns-in-Err
+returns-in-Err g c =
+    let so_far = c.loop-next.invariant in
+    failed_next g.R.Read.remaining g.R.ReadDevice.read_errors c.args.most c.args.self.now c.fill.new.self c.fill.new.self
+    c.args.source.now c.fill.new.source
+    (Keeps-trans _ _ _ so_far.same_bytes (rw (← c.in_default.ensures.kept) c.in-Err.ensures.bytes))
+    (failed_after _ _ _ _ so_far.read_on c.in-Err.ensures.device)
+    (subst (AreUndecided c.args.most) (sym (c.in-Err.ensures.err ∙ c.in_default.ensures.kept)) c.in_default.ensures.none) c.in-Err.fault
