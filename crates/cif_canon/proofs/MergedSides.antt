@@ -21,6 +21,14 @@ abbrev pub other : Side → Side
 other Left = Right
 other Right = Left
 
+-- what holds of both holds of each
+pub by-side : (P : Side → Type 0) → P Left → P Right → (side : Side) → P side
+by-side P one two Left = one
+by-side P one two Right = two
+
+pub at_other : {A : Type 0} (a b : A) (side : Side) → at_side a b (other side) ≡ at_side b a side
+at_other a b = by-side (λ side. at_side a b (other side) ≡ at_side b a side) refl refl
+
 module _ {A : Type 0} where
   cond-append : (b : Bool) (x : A) (u v w : List A) → u ≡ v ++ w → (if b then x ∷ u else u) ≡ (if b then x ∷ v else v) ++ w
   cond-append true x u v w h = ap (λ (l : List A). x ∷ l) h

@@ -8,7 +8,7 @@ use Rattle.cif_weeks.proofs.CalendarSources.{calendar_sources}
 use Rattle.cif_canon.proofs.Words.{All, AreAllByKey, ArePositionsOf, Run, Sided, keyed, window_from}
 use Rattle.cif_canon.proofs.ComparedKeys.{AreTurns, turns}
 use Rattle.cif_canon.proofs.FoundRecords.{AreFound, AreTold, found-all, found-enough, found-first, found-key}
-use Rattle.cif_canon.proofs.KeyDifferences.{key-clears, key-only, key-told}
+use Rattle.cif_canon.proofs.KeyDifferences.{key-of}
 use Rattle.cif_calendar.proofs.KeyPositions.{all-within}
 use Rattle.cif_canon.proofs.differing.different_records.Given.{Over}
 use Rattle.cif_canon.proofs.differing.different_records.Goals as goal
@@ -114,23 +114,15 @@ more g c left right =
     let last = c.args.window.now.last in
     let k = key c.in-Some.first.entry.now in
     let same = same_key-cmp g.E.Key.PartialEq.eq g.E.Key.Ord.cmp g.met.E.Key.Ord.matches_eq g.met.E.Entry.same_key in
-    let one = c.in_ok-one.ensures.calendar in
-    let other = c.in_ok-other.ensures.calendar in
     let d = c.in_ok-push_differences.ensures in
     let f = c.in-Some.ensures in
     rw (f.left_split.later_is, f.right_split.later_is)
     (found-key g.E.Key.Ord.cmp g.met.E.Key.Ord.total (window_from first last) (keyed key terms es) (keyed key terms fs)
-    c.loop-first.left_rest.now c.loop-first.right_rest.now c.loop-first.found.items c.loop-first.invariant.found k f.first.has d.lefts
-    d.rights
-    (key-only key terms cancelled es fs k c.in-Some.first.left.now c.in-Some.first.right.now left right first last
-    c.in_ok-one.one c.in_ok-other.other one other d.lefts d.left)
-    (key-only key terms cancelled fs es k c.in-Some.first.right.now c.in-Some.first.left.now right left first last
-    c.in_ok-other.other c.in_ok-one.one other one d.rights d.right)
-    d.appended.merged d.appended.are
-    (key-clears key terms cancelled es fs k c.in-Some.first.left.now c.in-Some.first.right.now left right first last
-    c.in_ok-one.one c.in_ok-other.other one other)
-    (key-told key terms cancelled es fs k c.in-Some.first.left.now c.in-Some.first.right.now left right first last
-    c.in_ok-one.one c.in_ok-other.other one other g.E.Body.PartialEq.eq g.met.E.Entry.same_body)
+    c.loop-first.left_rest.now c.loop-first.right_rest.now c.loop-first.found.items c.loop-first.invariant.found k f.first.has
+    d.appended.merged
+    (key-of key terms cancelled es fs k c.in-Some.first.left.now c.in-Some.first.right.now left right first last
+    c.in_ok-one.one c.in_ok-other.other c.in_ok-one.ensures.calendar c.in_ok-other.ensures.calendar
+    g.E.Body.PartialEq.eq g.met.E.Entry.same_body c.loop-first.found.items c.push_differences.new.found.items d)
     same f.first _ _ f.left_split.is_count f.right_split.is_count c.push_differences.new.found.items d.appended.appended)
 
 pub returns-then-is_enough : goal.returns-then-is_enough
