@@ -1,6 +1,6 @@
 -- The differences of two lists are found key by key.
 use Rattle.std.proofs.Common.{◌≡◌, ◌≢◌, ◌⊎◌, inl, inr, ℕ, ◌<◌, ◌≤◌, List, [], ◌∷◌, ◌++◌, Option, None, Some, drop, length, refl, sym, ap}
-use Rattle.std.proofs.Common.{◌∙◌, subst, arith, ⊎_elim, get_or}
+use Rattle.std.proofs.Common.{◌∙◌, subst, arith, ⊎_elim, get_or, take}
 use Rattle.std.proofs.lemmas.List.Elements.{Contains-append_cases, Contains-get_or}
 use Rattle.std.proofs.lemmas.Option.{none-some}
 use Rattle.cif_calendar.proofs.NoEntries.{none-clear}
@@ -14,12 +14,12 @@ use Rattle.cif_calendar.proofs.RisingLists.{Contains-none, less_one_way, not_les
 use Rattle.cif_canon.specs.Differences.{AreOnlyRecords, RunsApplied, SaysNothing, SaysSomething}
 use Rattle.cif_canon.specs.declared.differing.Extent.{Extent}
 use Rattle.cif_canon.specs.declared.differing.Extent.TheVariants.{FirstKey}
-use Rattle.cif_canon.proofs.Words.{AllKeys, AllPairs, AllZip, AreAllByKey, AreCanonical, AreClear, AreDifferentRuns, AreRunsOf, AreSame}
-use Rattle.cif_canon.proofs.Words.{ComesBefore, Contains, EntriesSayTheSame, Equal, HasBody, IsClearFrom, IsFirstDifference, IsFirstFound}
-use Rattle.cif_canon.proofs.Words.{IsCountOfKey, IsFirstOfBoth, IsRunOf, IsSidedRunOf, IsTotalOrder, IsWithin, Left, Less, OnlySays}
-use Rattle.cif_canon.proofs.Words.{Ordering, Permanent, Right, Run, RunComesBefore, Side, Sided, Terms, TurnInto, Two, Window, at_side}
-use Rattle.cif_canon.proofs.Words.{if◌then◌else◌, is_side, of_key, of_side, with_key, ◌↔◌}
-use Rattle.cif_canon.proofs.ComparedKeys.{ArePassed, IsLeft, nobody, pass, passed-nothing, turns}
+use Rattle.cif_canon.proofs.Words.{AllKeys, ArePositionsOf, AllPairs, AllZip, AreAllByKey, AreCanonical, AreClear, AreDifferentRuns}
+use Rattle.cif_canon.proofs.Words.{AreRunsOf, AreSame, ComesBefore, Contains, EntriesSayTheSame, Equal, HasBody, IsClearFrom}
+use Rattle.cif_canon.proofs.Words.{IsFirstDifference, IsFirstFound, IsCountOfKey, IsFirstOfBoth, IsRunOf, IsSidedRunOf, IsTotalOrder}
+use Rattle.cif_canon.proofs.Words.{IsWithin, Left, Less, OnlySays, Ordering, Permanent, Right, Run, RunComesBefore, Side, Sided, Terms}
+use Rattle.cif_canon.proofs.Words.{TurnInto, Two, Window, at_side, if◌then◌else◌, is_side, of_key, of_side, with_key, ◌↔◌}
+use Rattle.cif_canon.proofs.ComparedKeys.{ArePassed, AreTurns, IsLeft, nobody, pass, passed-nothing, turns}
 use Rattle.cif_canon.proofs.KeyRecords.{bodies-other, bodies-own, zip-keyed}
 use Rattle.cif_canon.proofs.MergedSides.{at_other, by-side, from-side, of_side-append, other, pairs-head, side-member}
 use Rattle.cif_canon.proofs.OnlyRuns.{pairs-zip}
@@ -100,16 +100,6 @@ module _ {K B : Type 0} (cmp : K → K → Ordering) (window : Window) (xs ys : 
     pub before : (s : Sided (K × Permanent B)) (k : K) → Contains found s → IsLeft cmp xs l ys r k → cmp s.it.0 k ≡ Less
     pub passed : ArePassed cmp xs ys l r (AreTold window xs ys found)
 
-  pub found-nothing : (l r : List ℕ) → ArePassed cmp xs ys l r (AreTold window xs ys []) → AreFound l r []
-  found-nothing l r passed = record {
-    found = [];
-    runs_of = tt;
-    canonical = λ side. canonical-none cmp Two window;
-    in_order = λ i j d less within. absurd (omega arith);
-    before = λ s k in'. absurd (Contains-none s in');
-    passed = passed;
-  }
-
 -- one record comes before another by first date, and where that is the same the left one before the right one
 abbrev DatesBefore : {K B : Type 0} → Sided (K × Permanent B) → Sided (K × Permanent B) → Type 0
 DatesBefore s t = (s.it.1.first < t.it.1.first) ⊎ ((s.it.1.first ≡ t.it.1.first) × (s.side ≡ Left) × (t.side ≡ Right))
@@ -120,109 +110,114 @@ with-key : {K B : Type 0} (k : K) (own : List (Permanent B)) (e : K × Permanent
 with-key {K} {B} k own e in' =
     let (r, listed, is) = Contains-from_map (λ (r : Permanent B). (k, r)) own e in' in sym (ap (λ (e : K × Permanent B). e.0) is)
 
-module _ {K B : Type 0} (cmp : K → K → Ordering) (total : IsTotalOrder cmp) (window : Window) (xs ys : List (K × Terms B)) (l r : List ℕ)
-    (runs : List (Sided Run)) (a : AreFound cmp window xs ys l r runs) (k : K) (here : IsLeft cmp xs l ys r k) (merged : List (Sided Run))
-    (o : AreOfKey window xs ys k merged) where
-  -- the key's records of one side
-  abbrev own : Side → List (Permanent B)
-  own side = (o.only side).records
+module _ {K B : Type 0} (cmp : K → K → Ordering) (total : IsTotalOrder cmp) (same : (j k : K) → cmp j k ≡ Equal → j ≡ k)
+    (window : Window) (xs ys : List (K × Terms B)) (l r : List ℕ) (runs : List (Sided Run)) (a : AreFound cmp window xs ys l r runs) (k : K)
+    (f : IsFirstOfBoth cmp xs l ys r k) (n m : ℕ) (left_front : IsCountOfKey cmp xs l k n) (right_front : IsCountOfKey cmp ys r k m) where
+  pub found-turns : AreTurns cmp xs ys l r k (take n l) (drop n l) (take m r) (drop m r)
+  found-turns = turns cmp total same xs ys l r (AreTold window xs ys a.found) a.passed k f n m left_front right_front
 
-  zipped : AreZipped xs ys merged (with_key k (own Left)) (with_key k (own Right))
-  zipped = zip-sides xs ys merged (with_key k (own Left)) (with_key k (own Right))
-      (zip-keyed xs k (of_side Left merged) (own Left) (o.only Left).runs_of)
-      (zip-keyed ys k (of_side Right merged) (own Right) (o.only Right).runs_of)
+  module _ (merged : List (Sided Run))
+      (given : ArePositionsOf xs k (take n l) → ArePositionsOf ys k (take m r) → AreOfKey window xs ys k merged) where
+    o : AreOfKey window xs ys k merged
+    o = given found-turns.left found-turns.right
 
-  new : (side : Side) → of_side side zipped.found ≡ with_key k (own side)
-  new Left = zipped.left
-  new Right = zipped.right
+    -- the key's records of one side
+    abbrev own : Side → List (Permanent B)
+    own side = (o.only side).records
 
-  all : (side : Side) → of_side side (a.found ++ zipped.found) ≡ of_side side a.found ++ with_key k (own side)
-  all side = of_side-append side a.found zipped.found ∙ ap (λ (z : List (K × Permanent B)). of_side side a.found ++ z) (new side)
+    zipped : AreZipped xs ys merged (with_key k (own Left)) (with_key k (own Right))
+    zipped = zip-sides xs ys merged (with_key k (own Left)) (with_key k (own Right))
+        (zip-keyed xs k (of_side Left merged) (own Left) (o.only Left).runs_of)
+        (zip-keyed ys k (of_side Right merged) (own Right) (o.only Right).runs_of)
 
-  -- the key of those that are new
-  own-key : (s : Sided (K × Permanent B)) → Contains zipped.found s → s.it.0 ≡ k
-  own-key s in' = with-key k (own s.side) s.it
-      (subst (λ (z : List (K × Permanent B)). Contains z s.it) (new s.side) (side-member zipped.found s in'))
+    new : (side : Side) → of_side side zipped.found ≡ with_key k (own side)
+    new Left = zipped.left
+    new Right = zipped.right
 
-  -- the key of one that is old is before it
-  old : (side : Side) (j : K) (p : Permanent B) → of_key (of_side side a.found) j p → cmp j k ≡ Less
-  old side j p in' = a.before (record { side = side; it = (j, p) }) k (from-side side a.found (j, p) in') here
+    all : (side : Side) → of_side side (a.found ++ zipped.found) ≡ of_side side a.found ++ with_key k (own side)
+    all side = of_side-append side a.found zipped.found ∙ ap (λ (z : List (K × Permanent B)). of_side side a.found ++ z) (new side)
 
-  side-canonical : (side : Side) → AreCanonical cmp Two window (of_side side (a.found ++ zipped.found))
-  side-canonical side = subst (AreCanonical cmp Two window) (sym (all side))
-      (canonical-more (of_side side a.found) k (own side) cmp total Two window (a.canonical side) (old side) (o.only side).rising
-      (o.only side).have_form)
+    -- the key of those that are new
+    own-key : (s : Sided (K × Permanent B)) → Contains zipped.found s → s.it.0 ≡ k
+    own-key s in' = with-key k (own s.side) s.it
+        (subst (λ (z : List (K × Permanent B)). Contains z s.it) (new s.side) (side-member zipped.found s in'))
 
-  -- the dates of runs are those of their records
-  dates-of : (s : Sided Run) (e : Sided (K × Permanent B)) → IsSidedRunOf xs ys s e → e.it.1.first ≡ s.it.first
-  dates-of s e h = ap (λ (p : Permanent B). p.first) h.run_of.dates
+    -- the key of one that is old is before it
+    old : (side : Side) (j : K) (p : Permanent B) → of_key (of_side side a.found) j p → cmp j k ≡ Less
+    old side j p in' = a.before (record { side = side; it = (j, p) }) k (from-side side a.found (j, p) in') f.has
 
-  by-dates : AllPairs DatesBefore zipped.found
-  by-dates = pairs-zip (λ (e : Sided (K × Permanent B)) (s : Sided Run). IsSidedRunOf xs ys s e) DatesBefore RunComesBefore
-      (λ d e s t h i before. ⊎_elim
-      (λ less.
-      let one = dates-of s d h in
-      let other = dates-of t e i in
-      inl (omega (arith, one, other, less)))
-      (λ same. inr (dates-of s d h ∙ same.0 ∙ sym (dates-of t e i), sym h.side ∙ same.1, sym i.side ∙ same.2))
-      before)
-      zipped.found merged (zip-back (IsSidedRunOf xs ys) merged zipped.found zipped.runs_of) o.in_order
+    side-canonical : (side : Side) → AreCanonical cmp Two window (of_side side (a.found ++ zipped.found))
+    side-canonical side = subst (AreCanonical cmp Two window) (sym (all side))
+        (canonical-more (of_side side a.found) k (own side) cmp total Two window (a.canonical side) (old side) (o.only side).rising
+        (o.only side).have_form)
 
-  own-order : AllPairs (ComesBefore cmp) zipped.found
-  own-order = λ i j d less within.
-      let s = get_or zipped.found i d in
-      let t = get_or zipped.found j d in
-      let one : s.it.0 ≡ k = own-key s (Contains-get_or zipped.found i d (omega arith)) in
-      let other : t.it.0 ≡ k = own-key t (Contains-get_or zipped.found j d within) in
-      ⊎_elim
-      (λ before. inl (inr (one ∙ sym other, before)))
-      (λ same. inr (one ∙ sym other, same.0, same.1, same.2))
-      (by-dates i j d less within)
+    -- the dates of runs are those of their records
+    dates-of : (s : Sided Run) (e : Sided (K × Permanent B)) → IsSidedRunOf xs ys s e → e.it.1.first ≡ s.it.first
+    dates-of s e h = ap (λ (p : Permanent B). p.first) h.run_of.dates
 
-  -- for the key itself
-  told-here : AreTold window xs ys (a.found ++ zipped.found) k
-  told-here = record {
-    clear = o.clear;
-    says = λ side d b within.
-        let bodies = bodies-own (of_side side a.found) k (own side)
-        (λ p is. absurd (not_less cmp total k k refl (old side k p is))) d b in
-        let say = (o.only side).say d b within in
-        subst (λ (z : List (K × Permanent B)). HasBody (of_key z k) d b ↔ OnlySays (at_side xs ys side) (at_side xs ys (other side)) k d b)
-        (sym (all side)) (λ h. say.1 (bodies.0 h), λ h. bodies.1 (say.0 h));
-    runs = o.runs;
-  }
+    by-dates : AllPairs DatesBefore zipped.found
+    by-dates = pairs-zip (λ (e : Sided (K × Permanent B)) (s : Sided Run). IsSidedRunOf xs ys s e) DatesBefore RunComesBefore
+        (λ d e s t h i before. ⊎_elim
+        (λ less.
+        let one = dates-of s d h in
+        let other = dates-of t e i in
+        inl (omega (arith, one, other, less)))
+        (λ same. inr (dates-of s d h ∙ same.0 ∙ sym (dates-of t e i), sym h.side ∙ same.1, sym i.side ∙ same.2))
+        before)
+        zipped.found merged (zip-back (IsSidedRunOf xs ys) merged zipped.found zipped.runs_of) o.in_order
 
-  -- and for another
-  told-there : (j : K) → (j ≡ k → ⊥) → AreTold window xs ys a.found j → AreTold window xs ys (a.found ++ zipped.found) j
-  told-there j apart t = record {
-    clear = t.clear;
-    says = λ side d b within.
-        let bodies = bodies-other (of_side side a.found) k (own side) j apart d b in
-        let say = t.says side d b within in
-        subst (λ (z : List (K × Permanent B)). HasBody (of_key z j) d b ↔ OnlySays (at_side xs ys side) (at_side xs ys (other side)) j d b)
-        (sym (all side)) (λ h. say.0 (bodies.0 h), λ h. bodies.1 (say.1 h));
-    runs = t.runs;
-  }
+    own-order : AllPairs (ComesBefore cmp) zipped.found
+    own-order = λ i j d less within.
+        let s = get_or zipped.found i d in
+        let t = get_or zipped.found j d in
+        let one : s.it.0 ≡ k = own-key s (Contains-get_or zipped.found i d (omega arith)) in
+        let other : t.it.0 ≡ k = own-key t (Contains-get_or zipped.found j d within) in
+        ⊎_elim
+        (λ before. inl (inr (one ∙ sym other, before)))
+        (λ same. inr (one ∙ sym other, same.0, same.1, same.2))
+        (by-dates i j d less within)
 
-  -- with the key's differences behind the others the key has passed
-  pub found-key : (same : (j k : K) → cmp j k ≡ Equal → j ≡ k) (f : IsFirstOfBoth cmp xs l ys r k) (n m : ℕ) →
-      IsCountOfKey cmp xs l k n → IsCountOfKey cmp ys r k m → (next : List (Sided Run)) → next ≡ runs ++ merged →
-      AreFound cmp window xs ys (drop n l) (drop m r) next
-  found-key same f n m left_front right_front next is =
-      let t = turns cmp total same xs ys l r (AreTold window xs ys a.found) a.passed k f n m left_front right_front in record {
-        found = a.found ++ zipped.found;
-        runs_of = subst (λ (z : List (Sided Run)). AllZip (IsSidedRunOf xs ys) z (a.found ++ zipped.found)) (sym is)
-            (AllZip-append (IsSidedRunOf xs ys) runs merged a.found zipped.found a.runs_of zipped.runs_of);
-        canonical = side-canonical;
-        in_order = AllPairs-append (ComesBefore cmp) a.found zipped.found a.in_order own-order
-            (λ s u in_s in_u. inl (inl (subst (λ j. cmp s.it.0 j ≡ Less) (sym (own-key u in_u)) (a.before s k in_s here))));
-        before = λ s j in_s left. ⊎_elim
-            (λ old. a.before s j old (t.still j left))
-            (λ new. subst (λ i. cmp i j ≡ Less) (sym (own-key s new)) (t.later j left))
-            (Contains-append_cases a.found zipped.found s in_s);
-        passed = pass cmp total same xs ys l r (AreTold window xs ys a.found) a.passed k f n m left_front right_front
-            (AreTold window xs ys (a.found ++ zipped.found)) told-here told-there;
-      }
+    -- for the key itself
+    told-here : AreTold window xs ys (a.found ++ zipped.found) k
+    told-here = record {
+      clear = o.clear;
+      says = λ side d b within.
+          let bodies = bodies-own (of_side side a.found) k (own side)
+          (λ p is. absurd (not_less cmp total k k refl (old side k p is))) d b in
+          let say = (o.only side).say d b within in
+          subst (λ zs. HasBody (of_key zs k) d b ↔ OnlySays (at_side xs ys side) (at_side xs ys (other side)) k d b) (sym (all side))
+          (λ h. say.1 (bodies.0 h), λ h. bodies.1 (say.0 h));
+      runs = o.runs;
+    }
+
+    -- and for another
+    told-there : (j : K) → (j ≡ k → ⊥) → AreTold window xs ys a.found j → AreTold window xs ys (a.found ++ zipped.found) j
+    told-there j apart t = record {
+      clear = t.clear;
+      says = λ side d b within.
+          let bodies = bodies-other (of_side side a.found) k (own side) j apart d b in
+          let say = t.says side d b within in
+          subst (λ zs. HasBody (of_key zs j) d b ↔ OnlySays (at_side xs ys side) (at_side xs ys (other side)) j d b) (sym (all side))
+          (λ h. say.0 (bodies.0 h), λ h. bodies.1 (say.1 h));
+      runs = t.runs;
+    }
+
+    -- with the key's differences behind the others the key has passed
+    pub found-key : (next : List (Sided Run)) → next ≡ runs ++ merged → AreFound cmp window xs ys (drop n l) (drop m r) next
+    found-key next is = record {
+      found = a.found ++ zipped.found;
+      runs_of = subst (λ (z : List (Sided Run)). AllZip (IsSidedRunOf xs ys) z (a.found ++ zipped.found)) (sym is)
+          (AllZip-append (IsSidedRunOf xs ys) runs merged a.found zipped.found a.runs_of zipped.runs_of);
+      canonical = side-canonical;
+      in_order = AllPairs-append (ComesBefore cmp) a.found zipped.found a.in_order own-order
+          (λ s u in_s in_u. inl (inl (subst (λ j. cmp s.it.0 j ≡ Less) (sym (own-key u in_u)) (a.before s k in_s f.has))));
+      before = λ s j in_s left. ⊎_elim
+          (λ old. a.before s j old (found-turns.still j left))
+          (λ new. subst (λ i. cmp i j ≡ Less) (sym (own-key s new)) (found-turns.later j left))
+          (Contains-append_cases a.found zipped.found s in_s);
+      passed = pass cmp total same xs ys l r (AreTold window xs ys a.found) a.passed k f n m left_front right_front
+          (AreTold window xs ys (a.found ++ zipped.found)) told-here told-there;
+    }
 
 -- ---- of a key without entries
 
@@ -247,11 +242,15 @@ told-idle {K} {B} window xs ys k nothing = record {
 pub found-first : {K B : Type 0} (cmp : K → K → Ordering) (total : IsTotalOrder cmp) (same : (j k : K) → cmp j k ≡ Equal → j ≡ k)
     (window : Window) (xs ys : List (K × Terms B)) (l r : List ℕ) → AreAllByKey cmp xs l → AreAllByKey cmp ys r →
     AreFound cmp window xs ys l r []
-found-first {K} {B} cmp total same window xs ys l r left right =
-    found-nothing cmp window xs ys l r
-    (passed-nothing cmp total same xs ys l r left right (AreTold window xs ys [])
-    (λ k no_x no_y. told-idle window xs ys k
-    (by-side (λ side. (t : Terms B) → of_key (at_side xs ys side) k t → ⊥) no_x no_y)))
+found-first {K} {B} cmp total same window xs ys l r left right = record {
+  found = [];
+  runs_of = tt;
+  canonical = λ side. canonical-none cmp Two window;
+  in_order = λ i j d less within. absurd (omega arith);
+  before = λ s k in'. absurd (Contains-none s in');
+  passed = passed-nothing cmp total same xs ys l r left right (AreTold window xs ys []) (λ k no_x no_y. told-idle window xs ys k
+      (by-side (λ side. (t : Terms B) → of_key (at_side xs ys side) k t → ⊥) no_x no_y));
+}
 
 -- ---- what is told of all keys
 
