@@ -1,17 +1,18 @@
 -- The function takes the pairs of records that are in order: nothing stands between the two of a pair.
-use Rattle.std.proofs.Common.{◌≡◌, inl, inr, Bool, true, false, List, [], ◌∷◌, None, Some, ap, arith, refl, subst, sym, true≢false, ⊎_elim}
-use Rattle.std.proofs.Common.{◌∙◌, ap₂, rules}
+use Rattle.std.proofs.Common.{◌≡◌, ◌⊎◌, inl, inr, Bool, false, List, [], ◌∷◌, None, Some, ap, arith, refl, subst, sym, true≢false}
+use Rattle.std.proofs.Common.{⊎_elim, ◌∙◌, ap₂, rules}
 use Rattle.std.specs.Ordering.{ordering_then}
-use Rattle.std.proofs.lemmas.Bool.{false≢true}
+use Rattle.std.specs.Prelude.{Option, ⊤}
+use Rattle.std.proofs.lemmas.Bool.{cond_both, false≢true}
 use Rattle.std.proofs.lemmas.Grind.{common_steps}
 use Rattle.std.proofs.lemmas.Option.{same_Some}
 use Rattle.cif_calendar.proofs.Elements.{Contains-first, Contains-rest, Contains-cases}
 use Rattle.cif_calendar.proofs.FirstClash.{same_key-cmp}
 use Rattle.cif_calendar.proofs.RisingLists.{Contains-none, not_less}
-use Rattle.cif_canon.specs.Pairs.{AreByPairs, parts_of}
+use Rattle.cif_canon.specs.Pairs.{AreByPairs}
 use Rattle.cif_canon.proofs.Words.{AllPairs, AreDifferences, ArePair, AssocKey, ComesBefore, Contains, Decides, DifferencesParts, Equal}
 use Rattle.cif_canon.proofs.Words.{ExtractParts, Greater, IsTotalOrder, IsTrue, Left, Less, Listed, Ordering, Permanent, Precedes, Right}
-use Rattle.cif_canon.proofs.Words.{Side, Sided, are_pair, by_pairs, bytes_decides, flat_map, if◌then◌else◌, is_eq, is_side, key_cmp}
+use Rattle.cif_canon.proofs.Words.{Side, Sided, are_pair, by_pairs, bytes_decides, is_eq, is_side, key_cmp}
 use Rattle.cif_canon.proofs.Words.{nat_cmp, nat_eq, nat_list_cmp_total, pointwise, pointwise_decides, slice_cmp, texts_ties, ℕ, ◌&&◌, ◌↔◌}
 use Rattle.cif_canon.proofs.MergedSides.{pairs-head, pairs-tail}
 use Rattle.cif_canon.proofs.PairedRecords.{keys-decided, pair-decided}
@@ -50,145 +51,113 @@ module _ {K B : Type 0} (cmp : K → K → Ordering) (total : IsTotalOrder cmp) 
   turned s t pair (inr (key, first, left, right)) = left≢right (sym left ∙ pair.right)
 
   module _ (decides : (j k : K) → Decides (is_eq (cmp j k)) (j ≡ k)) where
-    abbrev by : Bool → Sided (K × Permanent B) → Sided (K × Permanent B) → List (Sided (K × Permanent B)) →
-        List (Listed (K × Permanent B))
-    by b s t found = if b then (s, Some t.it) ∷ by_pairs cmp found else (s, None) ∷ by_pairs cmp (t ∷ found)
+    -- ---- what is listed, step by step
 
-    -- ---- the parts of what is listed are the records
+    -- a record is no pair with the next one
+    abbrev IsNoPair : Sided (K × Permanent B) → List (Sided (K × Permanent B)) → Type 0
+    IsNoPair s [] = ⊤
+    IsNoPair s (t ∷ found) = are_pair cmp s t ≡ false
 
-    parts-by : (b : Bool) (s t : Sided (K × Permanent B)) (found : List (Sided (K × Permanent B))) → are_pair cmp s t ≡ b →
-        flat_map parts_of (by_pairs cmp found) ≡ found → flat_map parts_of (by_pairs cmp (t ∷ found)) ≡ t ∷ found →
-        flat_map parts_of (by b s t found) ≡ s ∷ t ∷ found
-    parts-by true s t found is without with =
-        ap (λ (l : List (Sided (K × Permanent B))). s ∷ record { side = Right; it = t.it } ∷ l) without
-        ∙ ap (λ (side : Side). s ∷ record { side = side; it = t.it } ∷ found) (sym ((pair-decided cmp decides s t).0 is).right)
-    parts-by false s t found is without with = ap (λ (l : List (Sided (K × Permanent B))). s ∷ l) with
+    module _ (P : List (Sided (K × Permanent B)) → List (Listed (K × Permanent B)) → Type 0) (none : P [] [])
+        (one : (s : Sided (K × Permanent B)) (found : List (Sided (K × Permanent B))) (listed : List (Listed (K × Permanent B))) →
+        IsNoPair s found → P found listed → P (s ∷ found) ((s, None) ∷ listed))
+        (two : (s t : Sided (K × Permanent B)) (found : List (Sided (K × Permanent B))) (listed : List (Listed (K × Permanent B))) →
+        ArePair s t → P found listed → P (s ∷ t ∷ found) ((s, Some t.it) ∷ listed)) where
+      by-steps : (found : List (Sided (K × Permanent B))) → P found (by_pairs cmp found)
+      by-steps [] = none
+      by-steps (s ∷ []) = one s [] [] tt none
+      by-steps (s ∷ t ∷ found) =
+          cond_both (are_pair cmp s t) ((s, Some t.it) ∷ by_pairs cmp found) ((s, None) ∷ by_pairs cmp (t ∷ found)) (P (s ∷ t ∷ found))
+          (λ yes. two s t found (by_pairs cmp found) ((pair-decided cmp decides s t).0 yes) (by-steps found))
+          (λ no. one s (t ∷ found) (by_pairs cmp (t ∷ found)) no (by-steps (t ∷ found)))
 
-    parts : (found : List (Sided (K × Permanent B))) → flat_map parts_of (by_pairs cmp found) ≡ found
-    parts [] = refl
-    parts (s ∷ []) = refl
-    parts (s ∷ t ∷ found) = parts-by (are_pair cmp s t) s t found refl (parts found) (parts (t ∷ found))
+    listed-cases : (s u : Sided (K × Permanent B)) (o x : Option (K × Permanent B)) (listed : List (Listed (K × Permanent B))) →
+        Contains ((s, o) ∷ listed) (u, x) → ((s ≡ u) × (o ≡ x)) ⊎ Contains listed (u, x)
+    listed-cases s u o x listed h = ⊎_elim
+        (λ is. inl (ap (λ (l : Listed (K × Permanent B)). l.0) is, ap (λ (l : Listed (K × Permanent B)). l.1) is))
+        (λ later. inr later)
+        (Contains-cases (s, o) listed (u, x) h)
 
-    -- ---- what is listed as a pair is one
+    -- records in order are listed by pairs, and those that are listed alone are among them
+    record AreListed (found : List (Sided (K × Permanent B))) (listed : List (Listed (K × Permanent B))) : Type 0 where
+      pub are : AreByPairs found listed
+      pub there : (u : Sided (K × Permanent B)) → Contains listed (u, None) → Contains found u
 
-    same-pair : (s t u : Sided (K × Permanent B)) (r : K × Permanent B) → ArePair s t → s ≡ u → Some t.it ≡ Some r →
-        ArePair u (record { side = Right; it = r })
-    same-pair s t u r pair one other =
-        let here : ArePair s (record { side = Right; it = t.it }) = record {
-          left = pair.left;
-          right = refl;
-          key = pair.key;
-          first = pair.first;
-          last = pair.last;
-          days = pair.days;
-        } in
-        subst (λ (v : Sided (K × Permanent B)). ArePair v (record { side = Right; it = r })) one
-        (subst (λ (e : K × Permanent B). ArePair s (record { side = Right; it = e })) (same_Some _ _ other) here)
-
-    abbrev IsListedPair : List (Sided (K × Permanent B)) → Type 0
-    IsListedPair found = (u : Sided (K × Permanent B)) (r : K × Permanent B) → Contains (by_pairs cmp found) (u, Some r) →
-        ArePair u (record { side = Right; it = r })
-
-    pairs-by : (b : Bool) (s t : Sided (K × Permanent B)) (found : List (Sided (K × Permanent B))) → are_pair cmp s t ≡ b →
-        IsListedPair found → IsListedPair (t ∷ found) → (u : Sided (K × Permanent B)) (r : K × Permanent B) →
-        Contains (by b s t found) (u, Some r) → ArePair u (record { side = Right; it = r })
-    pairs-by true s t found is without with u r h = ⊎_elim
-        (λ e. same-pair s t u r ((pair-decided cmp decides s t).0 is) (ap (λ (l : Listed (K × Permanent B)). l.0) e)
-        (ap (λ (l : Listed (K × Permanent B)). l.1) e))
-        (λ later. without u r later)
-        (Contains-cases (s, Some t.it) (by_pairs cmp found) (u, Some r) h)
-    pairs-by false s t found is without with u r h = ⊎_elim
-        (λ e. absurd (none≢some r (ap (λ (l : Listed (K × Permanent B)). l.1) e)))
-        (λ later. with u r later)
-        (Contains-cases (s, None) (by_pairs cmp (t ∷ found)) (u, Some r) h)
-
-    pairs : (found : List (Sided (K × Permanent B))) → IsListedPair found
-    pairs [] u r h = absurd (Contains-none (u, Some r) h)
-    pairs (s ∷ []) u r h = ⊎_elim
-        (λ e. absurd (none≢some r (ap (λ (l : Listed (K × Permanent B)). l.1) e)))
-        (λ later. absurd (Contains-none (u, Some r) later))
-        (Contains-cases (s, None) [] (u, Some r) h)
-    pairs (s ∷ t ∷ found) u r h = pairs-by (are_pair cmp s t) s t found refl (pairs found) (pairs (t ∷ found)) u r h
-
-    -- ---- no two that are listed alone are a pair
-
-    abbrev IsThere : List (Sided (K × Permanent B)) → Type 0
-    IsThere found = (u : Sided (K × Permanent B)) → Contains (by_pairs cmp found) (u, None) → Contains found u
-
-    there-by : (b : Bool) (s t : Sided (K × Permanent B)) (found : List (Sided (K × Permanent B))) → IsThere found →
-        IsThere (t ∷ found) → (u : Sided (K × Permanent B)) → Contains (by b s t found) (u, None) → Contains (s ∷ t ∷ found) u
-    there-by true s t found without with u h = ⊎_elim
-        (λ e. absurd (none≢some t.it (sym (ap (λ (l : Listed (K × Permanent B)). l.1) e))))
-        (λ later. Contains-rest s (t ∷ found) u (Contains-rest t found u (without u later)))
-        (Contains-cases (s, Some t.it) (by_pairs cmp found) (u, None) h)
-    there-by false s t found without with u h = ⊎_elim
-        (λ e. subst (λ v. Contains (s ∷ t ∷ found) v) (ap (λ (l : Listed (K × Permanent B)). l.0) e) (Contains-first s (t ∷ found)))
-        (λ later. Contains-rest s (t ∷ found) u (with u later))
-        (Contains-cases (s, None) (by_pairs cmp (t ∷ found)) (u, None) h)
-
-    there : (found : List (Sided (K × Permanent B))) → IsThere found
-    there [] u h = absurd (Contains-none (u, None) h)
-    there (s ∷ []) u h = ⊎_elim
-        (λ e. subst (λ v. Contains (s ∷ []) v) (ap (λ (l : Listed (K × Permanent B)). l.0) e) (Contains-first s []))
-        (λ later. absurd (Contains-none (u, None) later))
-        (Contains-cases (s, None) [] (u, None) h)
-    there (s ∷ t ∷ found) u h = there-by (are_pair cmp s t) s t found (there found) (there (t ∷ found)) u h
-
-    abbrev AreAlone : List (Listed (K × Permanent B)) → Type 0
-    AreAlone listed = (u v : Sided (K × Permanent B)) → Contains listed (u, None) → Contains listed (v, None) → ArePair u v → ⊥
-
-    -- the first record and a later one
-    first-later : (s t : Sided (K × Permanent B)) (found : List (Sided (K × Permanent B))) →
-        AllPairs (ComesBefore cmp) (s ∷ t ∷ found) → are_pair cmp s t ≡ false → (v : Sided (K × Permanent B)) →
-        Contains (t ∷ found) v → ArePair s v → ⊥
-    first-later s t found order differ v h pair = ⊎_elim
+    -- a record and a later one
+    no-later : (s : Sided (K × Permanent B)) (found : List (Sided (K × Permanent B))) → AllPairs (ComesBefore cmp) (s ∷ found) →
+        IsNoPair s found → (v : Sided (K × Permanent B)) → Contains found v → ArePair s v → ⊥
+    no-later s [] order differ v h pair = Contains-none v h
+    no-later s (t ∷ found) order differ v h pair = ⊎_elim
         (λ e. false≢true (sym differ ∙ (pair-decided cmp decides s t).1 (subst (λ w. ArePair s w) (sym e) pair)))
         (λ later. nothing-between s t v pair
         (pairs-head (ComesBefore cmp) s t (t ∷ found) order (Contains-first t found))
         (pairs-head (ComesBefore cmp) t v found (pairs-tail (ComesBefore cmp) s (t ∷ found) order) later))
         (Contains-cases t found v h)
 
-    alone-by : (b : Bool) (s t : Sided (K × Permanent B)) (found : List (Sided (K × Permanent B))) → are_pair cmp s t ≡ b →
-        AllPairs (ComesBefore cmp) (s ∷ t ∷ found) → AreAlone (by_pairs cmp found) → AreAlone (by_pairs cmp (t ∷ found)) →
-        AreAlone (by b s t found)
-    alone-by true s t found is order without with u v in_u in_v pair =
-        let not_first : (w : Sided (K × Permanent B)) → Contains (by true s t found) (w, None) → Contains (by_pairs cmp found) (w, None) =
-        λ w h. ⊎_elim
-        (λ e. absurd (none≢some t.it (sym (ap (λ (l : Listed (K × Permanent B)). l.1) e))))
-        (λ later. later)
-        (Contains-cases (s, Some t.it) (by_pairs cmp found) (w, None) h) in
-        without u v (not_first u in_u) (not_first v in_v) pair
-    alone-by false s t found is order without with u v in_u in_v pair = ⊎_elim
-        (λ e. ⊎_elim
-        (λ f. left≢right (sym (subst (λ w. w.side ≡ Left) (sym (ap (λ (l : Listed (K × Permanent B)). l.0) e)) pair.left)
-        ∙ subst (λ w. w.side ≡ Right) (sym (ap (λ (l : Listed (K × Permanent B)). l.0) f)) pair.right))
-        (λ later. first-later s t found order is v (there (t ∷ found) v later)
-        (subst (λ w. ArePair w v) (sym (ap (λ (l : Listed (K × Permanent B)). l.0) e)) pair))
-        (Contains-cases (s, None) (by_pairs cmp (t ∷ found)) (v, None) in_v))
-        (λ later. ⊎_elim
-        (λ f. turned s u (subst (λ w. ArePair u w) (sym (ap (λ (l : Listed (K × Permanent B)). l.0) f)) pair)
-        (pairs-head (ComesBefore cmp) s u (t ∷ found) order (there (t ∷ found) u later)))
-        (λ last. with u v later last pair)
-        (Contains-cases (s, None) (by_pairs cmp (t ∷ found)) (v, None) in_v))
-        (Contains-cases (s, None) (by_pairs cmp (t ∷ found)) (u, None) in_u)
+    one-more : (s : Sided (K × Permanent B)) (found : List (Sided (K × Permanent B))) (listed : List (Listed (K × Permanent B))) →
+        AllPairs (ComesBefore cmp) (s ∷ found) → IsNoPair s found → AreListed found listed → AreListed (s ∷ found) ((s, None) ∷ listed)
+    one-more s found listed order differ l = record {
+      are = record {
+        parts = ap (λ (l : List (Sided (K × Permanent B))). s ∷ l) l.are.parts;
+        pairs = λ u r h. ⊎_elim
+            (λ e. absurd (none≢some r e.1))
+            (λ later. l.are.pairs u r later)
+            (listed-cases s u None (Some r) listed h);
+        others = λ u v in_u in_v pair. ⊎_elim
+            (λ e. ⊎_elim
+            (λ f. left≢right (sym pair.left ∙ ap (λ (w : Sided (K × Permanent B)). w.side) (sym e.0 ∙ f.0) ∙ pair.right))
+            (λ later. no-later s found order differ v (l.there v later) (subst (λ w. ArePair w v) (sym e.0) pair))
+            (listed-cases s v None None listed in_v))
+            (λ later. ⊎_elim
+            (λ f. turned s u (subst (λ w. ArePair u w) (sym f.0) pair)
+            (pairs-head (ComesBefore cmp) s u found order (l.there u later)))
+            (λ last. l.are.others u v later last pair)
+            (listed-cases s v None None listed in_v))
+            (listed-cases s u None None listed in_u);
+      };
+      there = λ u h. ⊎_elim
+          (λ e. subst (λ v. Contains (s ∷ found) v) e.0 (Contains-first s found))
+          (λ later. Contains-rest s found u (l.there u later))
+          (listed-cases s u None None listed h);
+    }
 
-    alone : (found : List (Sided (K × Permanent B))) → AllPairs (ComesBefore cmp) found → AreAlone (by_pairs cmp found)
-    alone [] order u v in_u in_v pair = Contains-none (u, None) in_u
-    alone (s ∷ []) order u v in_u in_v pair =
-        let same : (w : Sided (K × Permanent B)) → Contains ((s, None) ∷ []) (w, None) → s ≡ w = λ w h. ⊎_elim
-        (λ e. ap (λ (l : Listed (K × Permanent B)). l.0) e)
-        (λ later. absurd (Contains-none (w, None) later))
-        (Contains-cases (s, None) [] (w, None) h) in
-        left≢right (sym (subst (λ w. w.side ≡ Left) (sym (same u in_u)) pair.left)
-        ∙ subst (λ w. w.side ≡ Right) (sym (same v in_v)) pair.right)
-    alone (s ∷ t ∷ found) order u v in_u in_v pair =
-        let rest = pairs-tail (ComesBefore cmp) s (t ∷ found) order in
-        alone-by (are_pair cmp s t) s t found refl order (alone found (pairs-tail (ComesBefore cmp) t found rest))
-        (alone (t ∷ found) rest) u v in_u in_v pair
+    two-more : (s t : Sided (K × Permanent B)) (found : List (Sided (K × Permanent B))) (listed : List (Listed (K × Permanent B))) →
+        ArePair s t → AreListed found listed → AreListed (s ∷ t ∷ found) ((s, Some t.it) ∷ listed)
+    two-more s t found listed pair l = record {
+      are = record {
+        parts = ap (λ (l : List (Sided (K × Permanent B))). s ∷ record { side = Right; it = t.it } ∷ l) l.are.parts
+            ∙ ap (λ (side : Side). s ∷ record { side = side; it = t.it } ∷ found) (sym pair.right);
+        pairs = λ u r h. ⊎_elim
+            (λ e. subst (λ (v : Sided (K × Permanent B)). ArePair v (record { side = Right; it = r })) e.0
+            (subst (λ (p : K × Permanent B). ArePair s (record { side = Right; it = p })) (same_Some t.it r e.1)
+            (subst (λ (side : Side). ArePair s (record { side = side; it = t.it })) pair.right pair)))
+            (λ later. l.are.pairs u r later)
+            (listed-cases s u (Some t.it) (Some r) listed h);
+        others = λ u v in_u in_v. l.are.others u v (behind u in_u) (behind v in_v);
+      };
+      there = λ u h. Contains-rest s (t ∷ found) u (Contains-rest t found u (l.there u (behind u h)));
+    } where
+      behind : (u : Sided (K × Permanent B)) → Contains ((s, Some t.it) ∷ listed) (u, None) → Contains listed (u, None)
+      behind u h = ⊎_elim
+          (λ e. absurd (none≢some t.it (sym e.1)))
+          (λ later. later)
+          (listed-cases s u (Some t.it) None listed h)
 
     pub are-by_pairs : (found : List (Sided (K × Permanent B))) → AllPairs (ComesBefore cmp) found →
         AreByPairs found (by_pairs cmp found)
-    are-by_pairs found order = record { parts = parts found; pairs = pairs found; others = alone found order }
+    are-by_pairs found order = (by-steps (λ found listed. AllPairs (ComesBefore cmp) found → AreListed found listed)
+        (λ order. record {
+          are = record {
+            parts = refl;
+            pairs = λ u r h. absurd (Contains-none (u, Some r) h);
+            others = λ u v h. absurd (Contains-none (u, None) h);
+          };
+          there = λ u h. absurd (Contains-none (u, None) h);
+        })
+        (λ s found listed differ l order. one-more s found listed order differ (l (pairs-tail (ComesBefore cmp) s found order)))
+        (λ s t found listed pair l order. two-more s t found listed pair
+        (l (pairs-tail (ComesBefore cmp) t found (pairs-tail (ComesBefore cmp) s (t ∷ found) order))))
+        found order).are
 
 -- ---- the keys of associations and of schedules are equal where they compare equal
 

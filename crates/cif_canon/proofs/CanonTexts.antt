@@ -1,5 +1,5 @@
 -- The text that is written of an extract's runs is that of the canonical extract.
-use Rattle.std.proofs.Common.{◌≡◌, ℕ, suc, List, [], ◌∷◌, ◌++◌, map, length, Some, refl, sym, ap, ◌∙◌}
+use Rattle.std.proofs.Common.{◌≡◌, ℕ, suc, List, [], ◌∷◌, ◌++◌, map, length, refl, sym, ap, ◌∙◌}
 use Rattle.std.proofs.lemmas.Grind.{flat_map-append}
 use Rattle.std.proofs.lemmas.List.{map-append}
 use Rattle.std.proofs.lemmas.List.Elements.{All-nil, All-cons, All-head, All-tail}
@@ -11,23 +11,18 @@ use Rattle.cif_canon.proofs.Words.{association_table, canon_text, extract_text, 
 use Rattle.cif_canon.proofs.Words.{plain_line, record_at, schedule_entries, schedule_lines, schedule_run_text, schedule_text, slice_cmp}
 use Rattle.cif_canon.proofs.Words.{tables_of, text_if, tiploc_table, tiploc_text, trailer_table}
 use Rattle.cif_canon.proofs.MadeExtract.{IsDated, associations_of, schedule_of, schedules_of}
-use Rattle.cif_canon.proofs.RunTexts.{record-of_entry}
+use Rattle.cif_canon.proofs.RunTexts.{record-of_run}
 use Rattle.cif_canon.proofs.KeptExtract.{canonical_of, dated-associations, dated-schedules}
 
 -- ---- the runs of records
 
 module _ {K B : Type 0} (entries : List (K × Terms B)) where
-  record-of_run : (run : Run) (e : K × Permanent B) → IsRunOf entries run e → record_at entries run ≡ Some e
-  record-of_run run e h =
-      record-of_entry entries run (e.0, h.terms) e.1.body h.at h.body
-      ∙ ap (λ (r : Permanent B). Some (e.0, r)) (sym h.dates)
-
   pub have-records : (runs : List Run) (records : List (K × Permanent B)) → AllZip (IsRunOf entries) runs records → All IsDated records →
       All (HasRecord entries) runs
   have-records [] [] zip dated = All-nil (HasRecord entries)
   have-records (run ∷ runs) (e ∷ records) zip dated =
       All-cons (HasRecord entries) run runs
-      (record { it = e; is = record-of_run run e zip.0; in_order = All-head IsDated e records dated })
+      (record { it = e; is = record-of_run entries run e zip.0; in_order = All-head IsDated e records dated })
       (have-records runs records zip.1 (All-tail IsDated e records dated))
   have-records _ _ zip _ = absurd zip
 
@@ -35,7 +30,7 @@ module _ {K B : Type 0} (entries : List (K × Terms B)) where
       AllZip (IsRunOf entries) runs records → flat_map (λ run. text_if text (record_at entries run)) runs ≡ flat_map text records
   texts-of_runs text [] [] zip = refl
   texts-of_runs {C} text (run ∷ runs) (e ∷ records) zip =
-      ap (λ (l : List C). l ++ flat_map (λ run. text_if text (record_at entries run)) runs) (ap (text_if text) (record-of_run run e zip.0))
+      ap (λ o. text_if text o ++ flat_map (λ run. text_if text (record_at entries run)) runs) (record-of_run entries run e zip.0)
       ∙ ap (λ (l : List C). text e ++ l) (texts-of_runs text runs records zip.1)
   texts-of_runs _ _ _ zip = absurd zip
 

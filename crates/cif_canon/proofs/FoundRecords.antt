@@ -1,40 +1,45 @@
 -- The differences of two lists are found key by key.
 use Rattle.std.proofs.Common.{◌≡◌, ◌≢◌, ◌⊎◌, inl, inr, ℕ, ◌<◌, ◌≤◌, List, [], ◌∷◌, ◌++◌, Option, None, Some, drop, length, refl, sym, ap}
-use Rattle.std.proofs.Common.{◌∙◌, subst, arith, ⊎_elim, get_or}
+use Rattle.std.proofs.Common.{◌∙◌, subst, arith, ⊎_elim, get_or, take}
 use Rattle.std.proofs.lemmas.List.Elements.{Contains-append_cases, Contains-get_or}
-use Rattle.std.proofs.lemmas.Option.{same_Some}
+use Rattle.std.proofs.lemmas.Option.{none-some}
 use Rattle.cif_calendar.proofs.NoEntries.{none-clear}
-use Rattle.cif_calendar.specs.Runs.{Runs}
+use Rattle.cif_calendar.specs.Runs.{NothingRuns, Runs}
+use Rattle.cif_calendar.specs.Terms.{Records}
 use Rattle.cif_calendar.proofs.Elements.{Contains-first, Contains-cases}
 use Rattle.cif_weeks.proofs.AlignedDays.{tight}
 use Rattle.cif_weeks.proofs.JoinedLists.{AllPairs-append, AllZip-append, Contains-from_map, zip-back}
 use Rattle.cif_weeks.proofs.KeyByKey.{canonical-more, canonical-none}
 use Rattle.cif_calendar.proofs.RisingLists.{Contains-none, less_one_way, not_less}
-use Rattle.cif_canon.specs.Differences.{RunsApplied, SaysNothing}
-use Rattle.cif_canon.specs.Steps.OnlySides.{AreMergedRuns}
+use Rattle.cif_canon.specs.Differences.{AreOnlyRecords, RunsApplied, SaysNothing, SaysSomething}
 use Rattle.cif_canon.specs.declared.differing.Extent.{Extent}
 use Rattle.cif_canon.specs.declared.differing.Extent.TheVariants.{FirstKey}
-use Rattle.cif_canon.proofs.Words.{AllKeys, AllPairs, AllZip, AreAllByKey, AreCanonical, AreClear, AreDifferentRuns, AreRunsOf, AreSame}
-use Rattle.cif_canon.proofs.Words.{ComesBefore, Contains, EntriesSayTheSame, Equal, HasBody, IsClearFrom, IsFirstDifference, IsFirstFound}
-use Rattle.cif_canon.proofs.Words.{IsCountOfKey, IsFirstOfBoth, IsRunOf, IsSidedRunOf, IsTotalOrder, IsWithin, Left, Less, OnlySays}
-use Rattle.cif_canon.proofs.Words.{Ordering, Permanent, Right, Run, RunComesBefore, Side, Sided, Terms, TurnInto, Two, Window, at_side}
-use Rattle.cif_canon.proofs.Words.{if◌then◌else◌, is_side, of_key, of_side, with_key, ◌↔◌}
-use Rattle.cif_canon.proofs.ComparedKeys.{ArePassed, IsLeft, nobody, pass, passed-nothing, turns}
+use Rattle.cif_canon.proofs.Words.{AllKeys, ArePositionsOf, AllPairs, AllZip, AreAllByKey, AreCanonical, AreClear, AreDifferentRuns}
+use Rattle.cif_canon.proofs.Words.{AreRunsOf, AreSame, ComesBefore, Contains, EntriesSayTheSame, Equal, HasBody, IsClearFrom}
+use Rattle.cif_canon.proofs.Words.{IsFirstDifference, IsFirstFound, IsCountOfKey, IsFirstOfBoth, IsRunOf, IsSidedRunOf, IsTotalOrder}
+use Rattle.cif_canon.proofs.Words.{IsWithin, Left, Less, OnlySays, Ordering, Permanent, Right, Run, RunComesBefore, Side, Sided, Terms}
+use Rattle.cif_canon.proofs.Words.{TurnInto, Two, Window, at_side, if◌then◌else◌, is_side, of_key, of_side, with_key, ◌↔◌}
+use Rattle.cif_canon.proofs.ComparedKeys.{ArePassed, AreTurns, IsLeft, nobody, pass, passed-nothing, turns}
 use Rattle.cif_canon.proofs.KeyRecords.{bodies-other, bodies-own, zip-keyed}
-use Rattle.cif_canon.proofs.MergedSides.{from-side, of_side-append, pairs-head, side-member}
+use Rattle.cif_canon.proofs.MergedSides.{at_other, by-side, from-side, of_side-append, other, pairs-head, side-member}
 use Rattle.cif_canon.proofs.OnlyRuns.{pairs-zip}
 
 -- the runs are those of the canonical records of what only the first list says of key k
 abbrev pub AreOnlyOfKey : {K B : Type 0} → Window → List (K × Terms B) → List (K × Terms B) → K → List Run → Type 0
 AreOnlyOfKey window xs ys k runs = AreRunsOf Two window (λ run r. IsRunOf xs run (k, r)) (OnlySays xs ys k) runs
 
--- on day d one body runs for key k by both lists, or two, or none
+-- on day d one body runs for key k by the list of each side, or none
 pub record AreRuns {K B : Type 0} (xs ys : List (K × Terms B)) (k : K) (d : ℕ) : Type 0 where
-  pub one : Option B
-  pub other : Option B
-  pub one_runs : (o : Option B) → (one ≡ o) ↔ Runs (of_key xs k) d o
-  pub other_runs : (o : Option B) → (other ≡ o) ↔ Runs (of_key ys k) d o
-  pub decided : (one ≡ other) ⊎ (one ≢ other)
+  pub body : Side → Option B
+  pub runs : (side : Side) (o : Option B) → (body side ≡ o) ↔ Runs (of_key (at_side xs ys side) k) d o
+  pub decided : (body Left ≡ body Right) ⊎ (body Left ≢ body Right)
+
+-- of key k each list is clear, and it is known what runs by it; and these are, in order, the runs of what each says alone
+pub record AreOfKey {K B : Type 0} (window : Window) (xs ys : List (K × Terms B)) (k : K) (merged : List (Sided Run)) : Type 0 where
+  pub only : (side : Side) → AreOnlyOfKey window (at_side xs ys side) (at_side xs ys (other side)) k (of_side side merged)
+  pub in_order : AllPairs RunComesBefore merged
+  pub clear : (side : Side) → IsClearFrom (of_key (at_side xs ys side) k) window.first window.last
+  pub runs : (d : ℕ) → IsWithin window d → AreRuns xs ys k d
 
 -- ---- records with their sides
 
@@ -82,7 +87,7 @@ pub record AreTold {K B : Type 0} (window : Window) (xs ys : List (K × Terms B)
   where
     pub clear : (side : Side) → IsClearFrom (of_key (at_side xs ys side) k) window.first window.last
     pub says : (side : Side) (d : ℕ) (b : B) → IsWithin window d →
-        HasBody (of_key (of_side side found) k) d b ↔ OnlySays (at_side xs ys side) (at_side ys xs side) k d b
+        HasBody (of_key (of_side side found) k) d b ↔ OnlySays (at_side xs ys side) (at_side xs ys (other side)) k d b
     pub runs : (d : ℕ) → IsWithin window d → AreRuns xs ys k d
 
 module _ {K B : Type 0} (cmp : K → K → Ordering) (window : Window) (xs ys : List (K × Terms B)) where
@@ -95,16 +100,6 @@ module _ {K B : Type 0} (cmp : K → K → Ordering) (window : Window) (xs ys : 
     pub before : (s : Sided (K × Permanent B)) (k : K) → Contains found s → IsLeft cmp xs l ys r k → cmp s.it.0 k ≡ Less
     pub passed : ArePassed cmp xs ys l r (AreTold window xs ys found)
 
-  pub found-nothing : (l r : List ℕ) → ArePassed cmp xs ys l r (AreTold window xs ys []) → AreFound l r []
-  found-nothing l r passed = record {
-    found = [];
-    runs_of = tt;
-    canonical = λ side. canonical-none cmp Two window;
-    in_order = λ i j d less within. absurd (omega arith);
-    before = λ s k in'. absurd (Contains-none s in');
-    passed = passed;
-  }
-
 -- one record comes before another by first date, and where that is the same the left one before the right one
 abbrev DatesBefore : {K B : Type 0} → Sided (K × Permanent B) → Sided (K × Permanent B) → Type 0
 DatesBefore s t = (s.it.1.first < t.it.1.first) ⊎ ((s.it.1.first ≡ t.it.1.first) × (s.side ≡ Left) × (t.side ≡ Right))
@@ -115,150 +110,147 @@ with-key : {K B : Type 0} (k : K) (own : List (Permanent B)) (e : K × Permanent
 with-key {K} {B} k own e in' =
     let (r, listed, is) = Contains-from_map (λ (r : Permanent B). (k, r)) own e in' in sym (ap (λ (e : K × Permanent B). e.0) is)
 
-module _ {K B : Type 0} (cmp : K → K → Ordering) (total : IsTotalOrder cmp) (window : Window) (xs ys : List (K × Terms B)) (l r : List ℕ)
-    (runs : List (Sided Run)) (a : AreFound cmp window xs ys l r runs) (k : K) (here : IsLeft cmp xs l ys r k) (lefts rights : List Run)
-    (left : AreOnlyOfKey window xs ys k lefts) (right : AreOnlyOfKey window ys xs k rights) (merged : List (Sided Run))
-    (are : AreMergedRuns lefts rights merged)
-    (clears : (side : Side) → IsClearFrom (of_key (at_side xs ys side) k) window.first window.last)
-    (says : (d : ℕ) → IsWithin window d → AreRuns xs ys k d) where
-  zipped : AreZipped xs ys merged (with_key k left.records) (with_key k right.records)
-  zipped = zip-sides xs ys merged (with_key k left.records) (with_key k right.records)
-      (subst (λ (z : List Run). AllZip (IsRunOf xs) z (with_key k left.records)) (sym (are.sides Left))
-      (zip-keyed xs k lefts left.records left.runs_of))
-      (subst (λ (z : List Run). AllZip (IsRunOf ys) z (with_key k right.records)) (sym (are.sides Right))
-      (zip-keyed ys k rights right.records right.runs_of))
+module _ {K B : Type 0} (cmp : K → K → Ordering) (total : IsTotalOrder cmp) (same : (j k : K) → cmp j k ≡ Equal → j ≡ k)
+    (window : Window) (xs ys : List (K × Terms B)) (l r : List ℕ) (runs : List (Sided Run)) (a : AreFound cmp window xs ys l r runs) (k : K)
+    (f : IsFirstOfBoth cmp xs l ys r k) (n m : ℕ) (left_front : IsCountOfKey cmp xs l k n) (right_front : IsCountOfKey cmp ys r k m) where
+  pub found-turns : AreTurns cmp xs ys l r k (take n l) (drop n l) (take m r) (drop m r)
+  found-turns = turns cmp total same xs ys l r (AreTold window xs ys a.found) a.passed k f n m left_front right_front
 
-  -- the records of one side
-  own : (side : Side) → AreOnlyOfKey window (at_side xs ys side) (at_side ys xs side) k (at_side lefts rights side)
-  own Left = left
-  own Right = right
+  module _ (merged : List (Sided Run))
+      (given : ArePositionsOf xs k (take n l) → ArePositionsOf ys k (take m r) → AreOfKey window xs ys k merged) where
+    o : AreOfKey window xs ys k merged
+    o = given found-turns.left found-turns.right
 
-  new : (side : Side) → of_side side zipped.found ≡ with_key k (own side).records
-  unfolding own
-  new Left = zipped.left
-  new Right = zipped.right
+    -- the key's records of one side
+    abbrev own : Side → List (Permanent B)
+    own side = (o.only side).records
 
-  all : (side : Side) → of_side side (a.found ++ zipped.found) ≡ of_side side a.found ++ with_key k (own side).records
-  all side = of_side-append side a.found zipped.found ∙ ap (λ (z : List (K × Permanent B)). of_side side a.found ++ z) (new side)
+    zipped : AreZipped xs ys merged (with_key k (own Left)) (with_key k (own Right))
+    zipped = zip-sides xs ys merged (with_key k (own Left)) (with_key k (own Right))
+        (zip-keyed xs k (of_side Left merged) (own Left) (o.only Left).runs_of)
+        (zip-keyed ys k (of_side Right merged) (own Right) (o.only Right).runs_of)
 
-  -- the key of those that are new
-  own-key : (s : Sided (K × Permanent B)) → Contains zipped.found s → s.it.0 ≡ k
-  own-key s in' = with-key k (own s.side).records s.it
-      (subst (λ (z : List (K × Permanent B)). Contains z s.it) (new s.side) (side-member zipped.found s in'))
+    new : (side : Side) → of_side side zipped.found ≡ with_key k (own side)
+    new Left = zipped.left
+    new Right = zipped.right
 
-  -- the key of one that is old is before it
-  old : (side : Side) (j : K) (p : Permanent B) → of_key (of_side side a.found) j p → cmp j k ≡ Less
-  old side j p in' = a.before (record { side = side; it = (j, p) }) k (from-side side a.found (j, p) in') here
+    all : (side : Side) → of_side side (a.found ++ zipped.found) ≡ of_side side a.found ++ with_key k (own side)
+    all side = of_side-append side a.found zipped.found ∙ ap (λ (z : List (K × Permanent B)). of_side side a.found ++ z) (new side)
 
-  side-canonical : (side : Side) → AreCanonical cmp Two window (of_side side (a.found ++ zipped.found))
-  side-canonical side = subst (AreCanonical cmp Two window) (sym (all side))
-      (canonical-more (of_side side a.found) k (own side).records cmp total Two window (a.canonical side) (old side) (own side).rising
-      (own side).have_form)
+    -- the key of those that are new
+    own-key : (s : Sided (K × Permanent B)) → Contains zipped.found s → s.it.0 ≡ k
+    own-key s in' = with-key k (own s.side) s.it
+        (subst (λ (z : List (K × Permanent B)). Contains z s.it) (new s.side) (side-member zipped.found s in'))
 
-  -- the dates of runs are those of their records
-  dates-of : (s : Sided Run) (e : Sided (K × Permanent B)) → IsSidedRunOf xs ys s e → e.it.1.first ≡ s.it.first
-  dates-of s e h = ap (λ (p : Permanent B). p.first) h.run_of.dates
+    -- the key of one that is old is before it
+    old : (side : Side) (j : K) (p : Permanent B) → of_key (of_side side a.found) j p → cmp j k ≡ Less
+    old side j p in' = a.before (record { side = side; it = (j, p) }) k (from-side side a.found (j, p) in') f.has
 
-  by-dates : AllPairs DatesBefore zipped.found
-  by-dates = pairs-zip (λ (e : Sided (K × Permanent B)) (s : Sided Run). IsSidedRunOf xs ys s e) DatesBefore RunComesBefore
-      (λ d e s t h i before. ⊎_elim
-      (λ less.
-      let one = dates-of s d h in
-      let other = dates-of t e i in
-      inl (omega (arith, one, other, less)))
-      (λ same. inr (dates-of s d h ∙ same.0 ∙ sym (dates-of t e i), sym h.side ∙ same.1, sym i.side ∙ same.2))
-      before)
-      zipped.found merged (zip-back (IsSidedRunOf xs ys) merged zipped.found zipped.runs_of) are.in_order
+    side-canonical : (side : Side) → AreCanonical cmp Two window (of_side side (a.found ++ zipped.found))
+    side-canonical side = subst (AreCanonical cmp Two window) (sym (all side))
+        (canonical-more (of_side side a.found) k (own side) cmp total Two window (a.canonical side) (old side) (o.only side).rising
+        (o.only side).have_form)
 
-  own-order : AllPairs (ComesBefore cmp) zipped.found
-  own-order = λ i j d less within.
-      let s = get_or zipped.found i d in
-      let t = get_or zipped.found j d in
-      let one : s.it.0 ≡ k = own-key s (Contains-get_or zipped.found i d (omega arith)) in
-      let other : t.it.0 ≡ k = own-key t (Contains-get_or zipped.found j d within) in
-      ⊎_elim
-      (λ before. inl (inr (one ∙ sym other, before)))
-      (λ same. inr (one ∙ sym other, same.0, same.1, same.2))
-      (by-dates i j d less within)
+    -- the dates of runs are those of their records
+    dates-of : (s : Sided Run) (e : Sided (K × Permanent B)) → IsSidedRunOf xs ys s e → e.it.1.first ≡ s.it.first
+    dates-of s e h = ap (λ (p : Permanent B). p.first) h.run_of.dates
 
-  -- for the key itself
-  told-here : AreTold window xs ys (a.found ++ zipped.found) k
-  told-here = record {
-    clear = clears;
-    says = λ side d b within.
-        let bodies = bodies-own (of_side side a.found) k (own side).records
-        (λ p is. absurd (not_less cmp total k k refl (old side k p is))) d b in
-        let say = (own side).say d b within in
-        subst (λ (z : List (K × Permanent B)). HasBody (of_key z k) d b ↔ OnlySays (at_side xs ys side) (at_side ys xs side) k d b)
-        (sym (all side)) (λ h. say.1 (bodies.0 h), λ h. bodies.1 (say.0 h));
-    runs = says;
-  }
+    by-dates : AllPairs DatesBefore zipped.found
+    by-dates = pairs-zip (λ (e : Sided (K × Permanent B)) (s : Sided Run). IsSidedRunOf xs ys s e) DatesBefore RunComesBefore
+        (λ d e s t h i before. ⊎_elim
+        (λ less.
+        let one = dates-of s d h in
+        let other = dates-of t e i in
+        inl (omega (arith, one, other, less)))
+        (λ same. inr (dates-of s d h ∙ same.0 ∙ sym (dates-of t e i), sym h.side ∙ same.1, sym i.side ∙ same.2))
+        before)
+        zipped.found merged (zip-back (IsSidedRunOf xs ys) merged zipped.found zipped.runs_of) o.in_order
 
-  -- and for another
-  told-there : (j : K) → (j ≡ k → ⊥) → AreTold window xs ys a.found j → AreTold window xs ys (a.found ++ zipped.found) j
-  told-there j apart t = record {
-    clear = t.clear;
-    says = λ side d b within.
-        let bodies = bodies-other (of_side side a.found) k (own side).records j apart d b in
-        let say = t.says side d b within in
-        subst (λ (z : List (K × Permanent B)). HasBody (of_key z j) d b ↔ OnlySays (at_side xs ys side) (at_side ys xs side) j d b)
-        (sym (all side)) (λ h. say.0 (bodies.0 h), λ h. bodies.1 (say.1 h));
-    runs = t.runs;
-  }
+    own-order : AllPairs (ComesBefore cmp) zipped.found
+    own-order = λ i j d less within.
+        let s = get_or zipped.found i d in
+        let t = get_or zipped.found j d in
+        let one : s.it.0 ≡ k = own-key s (Contains-get_or zipped.found i d (omega arith)) in
+        let other : t.it.0 ≡ k = own-key t (Contains-get_or zipped.found j d within) in
+        ⊎_elim
+        (λ before. inl (inr (one ∙ sym other, before)))
+        (λ same. inr (one ∙ sym other, same.0, same.1, same.2))
+        (by-dates i j d less within)
 
-  -- with the key's differences behind the others the key has passed
-  pub found-key : (same : (j k : K) → cmp j k ≡ Equal → j ≡ k) (f : IsFirstOfBoth cmp xs l ys r k) (n m : ℕ) →
-      IsCountOfKey cmp xs l k n → IsCountOfKey cmp ys r k m → (next : List (Sided Run)) → next ≡ runs ++ merged →
-      AreFound cmp window xs ys (drop n l) (drop m r) next
-  found-key same f n m left_front right_front next is =
-      let t = turns cmp total same xs ys l r (AreTold window xs ys a.found) a.passed k f n m left_front right_front in record {
-        found = a.found ++ zipped.found;
-        runs_of = subst (λ (z : List (Sided Run)). AllZip (IsSidedRunOf xs ys) z (a.found ++ zipped.found)) (sym is)
-            (AllZip-append (IsSidedRunOf xs ys) runs merged a.found zipped.found a.runs_of zipped.runs_of);
-        canonical = side-canonical;
-        in_order = AllPairs-append (ComesBefore cmp) a.found zipped.found a.in_order own-order
-            (λ s u in_s in_u. inl (inl (subst (λ j. cmp s.it.0 j ≡ Less) (sym (own-key u in_u)) (a.before s k in_s here))));
-        before = λ s j in_s left. ⊎_elim
-            (λ old. a.before s j old (t.still j left))
-            (λ new. subst (λ i. cmp i j ≡ Less) (sym (own-key s new)) (t.later j left))
-            (Contains-append_cases a.found zipped.found s in_s);
-        passed = pass cmp total same xs ys l r (AreTold window xs ys a.found) a.passed k f n m left_front right_front
-            (AreTold window xs ys (a.found ++ zipped.found)) told-here told-there;
-      }
+    -- for the key itself
+    told-here : AreTold window xs ys (a.found ++ zipped.found) k
+    told-here = record {
+      clear = o.clear;
+      says = λ side d b within.
+          let bodies = bodies-own (of_side side a.found) k (own side)
+          (λ p is. absurd (not_less cmp total k k refl (old side k p is))) d b in
+          let say = (o.only side).say d b within in
+          subst (λ zs. HasBody (of_key zs k) d b ↔ OnlySays (at_side xs ys side) (at_side xs ys (other side)) k d b) (sym (all side))
+          (λ h. say.1 (bodies.0 h), λ h. bodies.1 (say.0 h));
+      runs = o.runs;
+    }
+
+    -- and for another
+    told-there : (j : K) → (j ≡ k → ⊥) → AreTold window xs ys a.found j → AreTold window xs ys (a.found ++ zipped.found) j
+    told-there j apart t = record {
+      clear = t.clear;
+      says = λ side d b within.
+          let bodies = bodies-other (of_side side a.found) k (own side) j apart d b in
+          let say = t.says side d b within in
+          subst (λ zs. HasBody (of_key zs j) d b ↔ OnlySays (at_side xs ys side) (at_side xs ys (other side)) j d b) (sym (all side))
+          (λ h. say.0 (bodies.0 h), λ h. bodies.1 (say.1 h));
+      runs = t.runs;
+    }
+
+    -- with the key's differences behind the others the key has passed
+    pub found-key : (next : List (Sided Run)) → next ≡ runs ++ merged → AreFound cmp window xs ys (drop n l) (drop m r) next
+    found-key next is = record {
+      found = a.found ++ zipped.found;
+      runs_of = subst (λ (z : List (Sided Run)). AllZip (IsSidedRunOf xs ys) z (a.found ++ zipped.found)) (sym is)
+          (AllZip-append (IsSidedRunOf xs ys) runs merged a.found zipped.found a.runs_of zipped.runs_of);
+      canonical = side-canonical;
+      in_order = AllPairs-append (ComesBefore cmp) a.found zipped.found a.in_order own-order
+          (λ s u in_s in_u. inl (inl (subst (λ j. cmp s.it.0 j ≡ Less) (sym (own-key u in_u)) (a.before s k in_s f.has))));
+      before = λ s j in_s left. ⊎_elim
+          (λ old. a.before s j old (found-turns.still j left))
+          (λ new. subst (λ i. cmp i j ≡ Less) (sym (own-key s new)) (found-turns.later j left))
+          (Contains-append_cases a.found zipped.found s in_s);
+      passed = pass cmp total same xs ys l r (AreTold window xs ys a.found) a.passed k f n m left_front right_front
+          (AreTold window xs ys (a.found ++ zipped.found)) told-here told-there;
+    }
 
 -- ---- of a key without entries
 
-told-idle : {K B : Type 0} (window : Window) (xs ys : List (K × Terms B)) (k : K) → ((t : Terms B) → of_key xs k t → ⊥) →
-    ((t : Terms B) → of_key ys k t → ⊥) → AreTold window xs ys [] k
-told-idle {K} {B} window xs ys k no_x no_y = record {
+told-idle : {K B : Type 0} (window : Window) (xs ys : List (K × Terms B)) (k : K) →
+    ((side : Side) (t : Terms B) → of_key (at_side xs ys side) k t → ⊥) → AreTold window xs ys [] k
+told-idle {K} {B} window xs ys k nothing = record {
   clear = λ side. none-clear (of_key (at_side xs ys side) k) (nothing side) window.first window.last;
   says = λ side d b within. (
     λ h. absurd (Contains-none (k, h.it) h.listed),
     λ h. absurd (nothing side h.runs.winner h.runs.wins.listed),
   );
   runs = λ d within. record {
-    one = None;
-    other = None;
-    one_runs = idle xs no_x d;
-    other_runs = idle ys no_y d;
+    body = λ side. None;
+    runs = λ side. idle (of_key (at_side xs ys side) k) (nothing side) d;
     decided = inl refl;
   };
 } where
-  nothing : (side : Side) (t : Terms B) → of_key (at_side xs ys side) k t → ⊥
-  nothing Left = no_x
-  nothing Right = no_y
-
-  idle : (es : List (K × Terms B)) → ((t : Terms B) → of_key es k t → ⊥) → (d : ℕ) (o : Option B) → (None ≡ o) ↔ Runs (of_key es k) d o
-  idle es none d None = (λ e. record { cancelled = λ t w. absurd (none t w.listed) }, λ h. refl)
-  idle es none d (Some b) = (λ e. absurd (cc), λ h. absurd (none h.winner h.wins.listed))
+  idle : (records : Records B) → ((t : Terms B) → records t → ⊥) → (d : ℕ) (o : Option B) → (None ≡ o) ↔ Runs records d o
+  idle records none d None = (λ e. record { cancelled = λ t w. absurd (none t w.listed) }, λ h. refl)
+  idle records none d (Some b) = (λ e. absurd (cc), λ h. absurd (none h.winner h.wins.listed))
 
 pub found-first : {K B : Type 0} (cmp : K → K → Ordering) (total : IsTotalOrder cmp) (same : (j k : K) → cmp j k ≡ Equal → j ≡ k)
     (window : Window) (xs ys : List (K × Terms B)) (l r : List ℕ) → AreAllByKey cmp xs l → AreAllByKey cmp ys r →
     AreFound cmp window xs ys l r []
-found-first cmp total same window xs ys l r left right =
-    found-nothing cmp window xs ys l r
-    (passed-nothing cmp total same xs ys l r left right (AreTold window xs ys [])
-    (λ k no_x no_y. told-idle window xs ys k no_x no_y))
+found-first {K} {B} cmp total same window xs ys l r left right = record {
+  found = [];
+  runs_of = tt;
+  canonical = λ side. canonical-none cmp Two window;
+  in_order = λ i j d less within. absurd (omega arith);
+  before = λ s k in'. absurd (Contains-none s in');
+  passed = passed-nothing cmp total same xs ys l r left right (AreTold window xs ys []) (λ k no_x no_y. told-idle window xs ys k
+      (by-side (λ side. (t : Terms B) → of_key (at_side xs ys side) k t → ⊥) no_x no_y));
+}
 
 -- ---- what is told of all keys
 
@@ -267,100 +259,80 @@ pub no-member : {A : Type 0} (zs : List A) → ((s : A) → Contains zs s → �
 no-member [] none = refl
 no-member (s ∷ zs) none = absurd (none s (Contains-first s zs))
 
+-- two options are the same, if neither has something that the other hasn't
+same-options : {B : Type 0} (u v : Option B) → ((b : B) → u ≡ Some b → v ≢ Some b → ⊥) → ((b : B) → v ≡ Some b → u ≢ Some b → ⊥) →
+    (u ≡ v) ⊎ (u ≢ v) → u ≡ v
+same-options u v no_u no_v (inl same) = same
+same-options None None no_u no_v (inr apart) = refl
+same-options None (Some b) no_u no_v (inr apart) = absurd (no_v b refl apart)
+same-options (Some a) v no_u no_v (inr apart) = absurd (no_u a refl (λ e. apart (sym e)))
+
 module _ {K B : Type 0} (window : Window) (xs ys : List (K × Terms B)) (found : List (Sided (K × Permanent B))) where
   module _ (k : K) (t : AreTold window xs ys found k) (d : ℕ) (within : IsWithin window d) where
-    says : AreRuns xs ys k d
-    says = t.runs d within
+    abbrev on : AreRuns xs ys k d
+    on = t.runs d within
 
-    -- the left one alone says what runs by it and not by the right one
-    left-says : (b : B) → HasBody (of_key (of_side Left found) k) d b ↔ ((says.one ≡ Some b) × (says.other ≢ Some b))
-    left-says b = let only = t.says Left d b within in (
-      λ h. let o = only.0 h in ((says.one_runs (Some b)).1 o.runs, λ e. o.differs ((says.other_runs (Some b)).0 e)),
-      λ h. only.1 (record { runs = (says.one_runs (Some b)).0 h.0; differs = λ o. h.1 ((says.other_runs (Some b)).1 o) }),
-    )
-
-    right-says : (b : B) → HasBody (of_key (of_side Right found) k) d b ↔ ((says.other ≡ Some b) × (says.one ≢ Some b))
-    right-says b = let only = t.says Right d b within in (
-      λ h. let o = only.0 h in ((says.other_runs (Some b)).1 o.runs, λ e. o.differs ((says.one_runs (Some b)).0 e)),
-      λ h. only.1 (record { runs = (says.other_runs (Some b)).0 h.0; differs = λ o. h.1 ((says.one_runs (Some b)).1 o) }),
-    )
+    -- a side says what runs by it and not by the other one
+    says : (side : Side) (b : B) →
+        HasBody (of_key (of_side side found) k) d b ↔ ((on.body side ≡ Some b) × (on.body (other side) ≢ Some b))
+    says side b =
+        let only = t.says side d b within in
+        let own = on.runs side (Some b) in
+        let theirs = on.runs (other side) (Some b) in (
+          λ h. let o = only.0 h in (own.1 o.runs, λ e. o.differs (theirs.0 e)),
+          λ h. only.1 (record { runs = own.0 h.0; differs = λ o. h.1 (theirs.1 o) }),
+        )
 
     -- where both have the same, neither says anything
-    module _ (same : says.one ≡ says.other) where
-      left-silent : SaysNothing Left found k d
-      left-silent b h = let e = (left-says b).0 h in e.1 (sym same ∙ e.0)
+    silent : on.body Left ≡ on.body Right → (side : Side) → SaysNothing side found k d
+    silent same Left b h = let e = (says Left b).0 h in e.1 (sym same ∙ e.0)
+    silent same Right b h = let e = (says Right b).0 h in e.1 (same ∙ e.0)
 
-      right-silent : SaysNothing Right found k d
-      right-silent b h = let e = (right-says b).0 h in e.1 (same ∙ e.0)
+    -- and where neither says anything, both have the same
+    both-silent : ((side : Side) → SaysNothing side found k d) → on.body Left ≡ on.body Right
+    both-silent nothing =
+        same-options (on.body Left) (on.body Right) (λ b e no. nothing Left b ((says Left b).1 (e, no)))
+        (λ b e no. nothing Right b ((says Right b).1 (e, no))) on.decided
 
-      turn-same : (o : Option B) → (says.other ≡ o) ↔ RunsApplied xs found k d o
-      turn-same None = (
-        λ e. (right-silent, inr ((says.one_runs None).0 (same ∙ e))),
-        λ h. ⊎_elim (λ some. absurd (left-silent some.0 some.1)) (λ none. sym same ∙ (says.one_runs None).1 none) h.1,
-      )
-      turn-same (Some b) = (
-        λ e. inr (right-silent, left-silent, (says.one_runs (Some b)).0 (same ∙ e)),
-        λ h. ⊎_elim
-            (λ right. absurd (right-silent b right))
-            (λ kept. sym same ∙ (says.one_runs (Some b)).1 kept.2)
-            h,
-      )
+    -- where the right one has none, the left one says what it has, if it has something
+    left-out : (o : Option B) → on.body Left ≡ o → on.body Right ≡ None → SaysSomething Left found k d ⊎ NothingRuns (of_key xs k) d
+    left-out None is none = inr ((on.runs Left None).0 is)
+    left-out (Some b) is none = inl (b, (says Left b).1 (is, λ e. none-some b (sym none ∙ e)))
 
-    -- where they have not, the right one says what it has, or the left one what it has
-    turn-other : (one other : Option B) → says.one ≡ one → says.other ≡ other → (one ≢ other) → (o : Option B) →
-        (says.other ≡ o) ↔ RunsApplied xs found k d o
-    turn-other one (Some c) e f apart None =
-        let right : HasBody (of_key (of_side Right found) k) d c = (right-says c).1 (f, λ g. apart (sym e ∙ g)) in (
-          λ g. absurd (let no : Some c ≡ None = sym f ∙ g in cc),
-          λ h. absurd (h.0 c right),
-        )
-    turn-other one (Some c) e f apart (Some b) =
-        let right : HasBody (of_key (of_side Right found) k) d c = (right-says c).1 (f, λ g. apart (sym e ∙ g)) in (
-          λ g. let is : c ≡ b = same_Some c b (sym f ∙ g) in
-              inl (subst (λ v. HasBody (of_key (of_side Right found) k) d v) is right),
-          λ h. ⊎_elim (λ new. ((right-says b).0 new).0) (λ kept. absurd (kept.0 c right)) h,
-        )
-    turn-other (Some a) None e f apart o =
-        let left : HasBody (of_key (of_side Left found) k) d a =
-        (left-says a).1 (e, λ g. let no : None ≡ Some a = sym f ∙ g in absurd (cc)) in
-        let silent : SaysNothing Right found k d = λ b h. let no : None ≡ Some b = sym f ∙ ((right-says b).0 h).0 in absurd (cc) in
-        left-only o left silent
-      where
-        left-only : (o : Option B) → HasBody (of_key (of_side Left found) k) d a → SaysNothing Right found k d →
-            (says.other ≡ o) ↔ RunsApplied xs found k d o
-        left-only None left silent = (λ g. (silent, inl (a, left)), λ h. f)
-        left-only (Some b) left silent = (
-          λ g. absurd (let no : None ≡ Some b = sym f ∙ g in cc),
-          λ h. ⊎_elim (λ new. absurd (silent b new)) (λ kept. absurd (kept.1 a left)) h,
-        )
-    turn-other None None e f apart o = absurd (apart refl)
+    has-none : (o : Option B) → on.body Right ≡ o → RunsApplied xs found k d None → on.body Right ≡ None
+    has-none None is h = is
+    has-none (Some b) is h = absurd (h.0 b ((says Right b).1 (
+      is,
+      λ e. ⊎_elim
+          (λ some. let left = (says Left some.0).0 some.1 in left.1 (is ∙ sym e ∙ left.0))
+          (λ none. none-some b (sym ((on.runs Left None).1 none) ∙ e))
+          h.1,
+    )))
+
+    turn : (o : Option B) → (on.body Right ≡ o) ↔ RunsApplied xs found k d o
+    turn None = (
+      λ e. (λ b h. none-some b (sym e ∙ ((says Right b).0 h).0), left-out (on.body Left) refl e),
+      λ h. has-none (on.body Right) refl h,
+    )
+    turn (Some b) = (
+      λ e. ⊎_elim
+          (λ same. inr (silent same Right, silent same Left, (on.runs Left (Some b)).0 (same ∙ e)))
+          (λ apart. inl ((says Right b).1 (e, λ g. apart (g ∙ sym e))))
+          on.decided,
+      λ h. ⊎_elim
+          (λ new. ((says Right b).0 new).0)
+          (λ kept. sym (both-silent (by-side (λ side. SaysNothing side found k d) kept.1 kept.0)) ∙ (on.runs Left (Some b)).1 kept.2)
+          h,
+    )
 
     pub turn-on : (o : Option B) → Runs (of_key ys k) d o ↔ RunsApplied xs found k d o
-    turn-on o =
-        let by : (says.other ≡ o) ↔ RunsApplied xs found k d o = ⊎_elim
-        (λ same. turn-same same o)
-        (λ apart. turn-other says.one says.other refl refl apart o)
-        says.decided in
-        let runs = says.other_runs o in
-        (λ h. by.0 (runs.1 h), λ h. runs.0 (by.1 h))
+    turn-on o = (λ h. (turn o).0 ((on.runs Right o).1 h), λ h. (on.runs Right o).0 ((turn o).1 h))
 
-    -- where neither says anything, both have the same
-    one-side : (one other : Option B) → says.one ≡ one → says.other ≡ other → SaysNothing Left found k d → SaysNothing Right found k d →
-        one ≢ other → ⊥
-    one-side one (Some c) e f left right apart = right c ((right-says c).1 (f, λ g. apart (sym e ∙ g)))
-    one-side (Some a) None e f left right apart = left a ((left-says a).1 (e, λ g. let no : None ≡ Some a = sym f ∙ g in absurd (cc)))
-    one-side None None e f left right apart = apart refl
-
-    pub silent-same : SaysNothing Left found k d → SaysNothing Right found k d → (o : Option B) →
-        Runs (of_key xs k) d o ↔ Runs (of_key ys k) d o
-    silent-same left right o =
-        let same : says.one ≡ says.other = ⊎_elim
-        (λ same. same)
-        (λ apart. absurd (one-side says.one says.other refl refl left right apart))
-        says.decided in (
-          λ h. (says.other_runs o).0 (sym same ∙ (says.one_runs o).1 h),
-          λ h. (says.one_runs o).0 (same ∙ (says.other_runs o).1 h),
-        )
+    pub silent-same : ((side : Side) → SaysNothing side found k d) → (o : Option B) → Runs (of_key xs k) d o ↔ Runs (of_key ys k) d o
+    silent-same nothing o = let same = both-silent nothing in (
+      λ h. (on.runs Right o).0 (sym same ∙ (on.runs Left o).1 h),
+      λ h. (on.runs Left o).0 (same ∙ (on.runs Right o).1 h),
+    )
 
   module _ (told : (k : K) → AreTold window xs ys found k) where
     pub turn-all : TurnInto window xs ys found
@@ -374,7 +346,7 @@ module _ {K B : Type 0} (window : Window) (xs ys : List (K × Terms B)) (found :
       clear = clear-all;
       same = record {
         same = λ k d o from upto.
-            silent-same k (told k) d (record { from = from; upto = upto }) (none-says Left k d) (none-says Right k d) o;
+            silent-same k (told k) d (record { from = from; upto = upto }) (λ side. none-says side k d) o;
       };
     } where
       none-says : (side : Side) (k : K) (d : ℕ) → SaysNothing side found k d
@@ -422,52 +394,45 @@ module _ {K B : Type 0} (cmp : K → K → Ordering) (total : IsTotalOrder cmp) 
   here = told s.it.0 (not_less cmp total s.it.0 s.it.0 refl)
 
   -- on its first day it applies
-  first-day : (side : Side) → s.side ≡ side →
-      IsWithin window s.it.1.first × HasBody (of_key (of_side side (s ∷ others)) s.it.0) s.it.1.first s.it.1.body
-  first-day side is =
-      let listed : Contains (of_side side (s ∷ others)) s.it =
-      subst (λ t. Contains (of_side t (s ∷ others)) s.it) is (side-member (s ∷ others) s (Contains-first s others)) in
-      let t = tight s.it.1 window Two (((canonical side).have_form s.it.0).aligned s.it.1 listed) in
+  first-day : IsWithin window s.it.1.first × HasBody (of_key (of_side s.side (s ∷ others)) s.it.0) s.it.1.first s.it.1.body
+  first-day =
+      let listed = side-member (s ∷ others) s (Contains-first s others) in
+      let t = tight s.it.1 window Two (((canonical s.side).have_form s.it.0).aligned s.it.1 listed) in
       (t.first_within, record { it = s.it.1; listed = listed; applies = t.on_first; body = refl })
 
   within : IsWithin window s.it.1.first
-  within = (first-day s.side refl).0
+  within = first-day.0
 
   abbrev both : AreRuns xs ys s.it.0 s.it.1.first
-  both = says window xs ys (s ∷ others) s.it.0 here s.it.1.first within
+  both = here.runs s.it.1.first within
 
   -- so the lists have different bodies there
-  apart : (side : Side) → s.side ≡ side → both.one ≢ both.other
-  apart Left is e =
-      let only = (left-says window xs ys (s ∷ others) s.it.0 here s.it.1.first within s.it.1.body).0 (first-day Left is).1 in
-      only.1 (sym e ∙ only.0)
-  apart Right is e =
-      let only = (right-says window xs ys (s ∷ others) s.it.0 here s.it.1.first within s.it.1.body).0 (first-day Right is).1 in
-      only.1 (e ∙ only.0)
+  apart : both.body Left ≢ both.body Right
+  apart same = silent window xs ys (s ∷ others) s.it.0 here s.it.1.first within same s.side s.it.1.body first-day.1
 
   first-found : IsFirstDifference cmp xs ys window.first window.last s.it.0 s.it.1.first
   first-found = record {
     from = within.from;
     upto = within.upto;
     differ = record {
-      one = both.one;
-      other = both.other;
-      one_runs = (both.one_runs both.one).0 refl;
-      other_runs = (both.other_runs both.other).0 refl;
-      differ = apart s.side refl;
+      one = both.body Left;
+      other = both.body Right;
+      one_runs = (both.runs Left (both.body Left)).0 refl;
+      other_runs = (both.runs Right (both.body Right)).0 refl;
+      differ = apart;
     };
     alike_before = λ e from less. let upto = within.upto in
         silent-same window xs ys (s ∷ others) s.it.0 here e (record { from = from; upto = omega (arith, upto, less) })
-        (silent-day Left e less) (silent-day Right e less);
+        (λ side. silent-day side e less);
     keys_before = λ j e less from upto.
         silent-same window xs ys (s ∷ others) j (told j (less_one_way cmp total j s.it.0 less)) e (record { from = from; upto = upto })
-        (silent-key Left j e less) (silent-key Right j e less);
+        (λ side. silent-key side j e less);
   }
 
   not-same : EntriesSayTheSame xs ys window.first window.last → ⊥
   not-same same =
-      apart s.side refl (sym ((both.other_runs both.one).1
-      ((same.same s.it.0 s.it.1.first both.one within.from within.upto).0 ((both.one_runs both.one).0 refl))))
+      let left = both.body Left in
+      apart (sym ((both.runs Right left).1 ((same.same s.it.0 s.it.1.first left within.from within.upto).0 ((both.runs Left left).0 refl))))
 
 -- ---- of all keys, or enough
 
@@ -496,7 +461,8 @@ module _ {K B : Type 0} (cmp : K → K → Ordering) (total : IsTotalOrder cmp) 
           none = first.1;
           clear = λ all. clear-all window xs ys a.found (told all);
           different = λ all. record {
-            only = λ side. record { canonical = a.canonical side; exact = λ k d b within. (told all k).says side d b within };
+            only = λ side. subst (λ zs. AreOnlyRecords cmp window (at_side xs ys side) zs (of_side side a.found)) (at_other xs ys side)
+                (record { canonical = a.canonical side; exact = λ k d b within. (told all k).says side d b within });
             in_order = a.in_order;
           };
           turn = λ all. turn-all window xs ys a.found (told all);

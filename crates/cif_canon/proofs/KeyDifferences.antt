@@ -5,9 +5,12 @@ use Rattle.std.proofs.lemmas.Bool.{false≢true}
 use Rattle.std.proofs.lemmas.Option.{same_Some}
 use Rattle.cif_calendar.proofs.KeyCalendar.{key-clear, key-runs}
 use Rattle.cif_weeks.specs.Runs.{IsRunOf as IsCalendarRun, window_of}
+use Rattle.cif_calendar.specs.Runs.{Runs}
+use Rattle.cif_canon.specs.Steps.OnlySides.{AreKeyDifferences}
 use Rattle.cif_canon.proofs.Words.{AreOnlyRuns, ArePositionsOf, C, CalendarParts, IsCalendar, IsClearFrom, IsRunOf, IsWithin, Left}
-use Rattle.cif_canon.proofs.Words.{OnlySays, Right, Run, Side, Terms, Two, at_side, body_on, keyed, of_key, window_from}
-use Rattle.cif_canon.proofs.FoundRecords.{AreOnlyOfKey, AreRuns}
+use Rattle.cif_canon.proofs.Words.{OnlySays, Right, Run, Side, Sided, Terms, Two, at_side, body_on, keyed, of_key, window_from}
+use Rattle.cif_canon.proofs.FoundRecords.{AreOfKey, AreOnlyOfKey}
+use Rattle.cif_canon.proofs.MergedSides.{by-side, other}
 use Rattle.cif_canon.proofs.KeyRecords.{key-run, runs-as, window-is}
 
 -- two bodies, or none, are the same or they aren't
@@ -26,11 +29,7 @@ module _ {E K B : Type 0} (key : E → K) (terms : E → Terms B) (cancelled : (
     (es fs : List E) (k : K) (l r : List ℕ) (p : ArePositionsOf (keyed key terms es) k l) (q : ArePositionsOf (keyed key terms fs) k r)
     (first last : ℕ) (one other : CalendarParts) (cal : IsCalendar (map terms es) l first last one)
     (dar : IsCalendar (map terms fs) r first last other) where
-  pub key-clears : (side : Side) → IsClearFrom (of_key (at_side (keyed key terms es) (keyed key terms fs) side) k) first last
-  key-clears Left = key-clear key terms es k l p first last one cal
-  key-clears Right = key-clear key terms fs k r q first last other dar
-
-  pub key-only : (runs : List Run) → AreOnlyRuns (map terms es) one (map terms fs) other runs →
+  key-only : (runs : List Run) → AreOnlyRuns (map terms es) one (map terms fs) other runs →
       AreOnlyOfKey (window_from first last) (keyed key terms es) (keyed key terms fs) k runs
   key-only runs a =
       runs-as Two (window_of one) (window_from first last) (window-is key terms es k l p first last one cal)
@@ -45,12 +44,29 @@ module _ {E K B : Type 0} (key : E → K) (terms : E → Terms B) (cancelled : (
         λ h. (own.1 h.runs, λ e. h.differs (theirs.0 e)),
       )) runs a
 
-  pub key-told : (eq : B → B → Bool) → ((a b : B) → IsTrue (eq a b) ↔ (a ≡ b)) → (d : ℕ) → IsWithin (window_from first last) d →
-      AreRuns (keyed key terms es) (keyed key terms fs) k d
-  key-told eq law d within = record {
-    one = body_on (map terms es) one d;
-    other = body_on (map terms fs) other d;
-    one_runs = λ o. key-runs key terms es k l p first last one cal cancelled d o within.from within.upto;
-    other_runs = λ o. key-runs key terms fs k r q first last other dar cancelled d o within.from within.upto;
-    decided = decide-bodies eq law (body_on (map terms es) one d) (body_on (map terms fs) other d);
-  }
+module _ {E K B : Type 0} (key : E → K) (terms : E → Terms B) (cancelled : (e : E) → IsNone (terms e).body ↔ ((terms e).letter ≡ C))
+    (es fs : List E) (k : K) (l r : List ℕ) (p : ArePositionsOf (keyed key terms es) k l) (q : ArePositionsOf (keyed key terms fs) k r)
+    (first last : ℕ) (one two : CalendarParts) (cal : IsCalendar (map terms es) l first last one)
+    (dar : IsCalendar (map terms fs) r first last two) (eq : B → B → Bool) (law : (a b : B) → IsTrue (eq a b) ↔ (a ≡ b))
+    (old new : List (Sided Run)) (d : AreKeyDifferences (map terms es) one (map terms fs) two old new) where
+  pub key-of : AreOfKey (window_from first last) (keyed key terms es) (keyed key terms fs) k d.appended.merged
+  key-of = record {
+    only = λ side. subst
+        (AreOnlyOfKey (window_from first last) (at_side (keyed key terms es) (keyed key terms fs) side)
+        (at_side (keyed key terms es) (keyed key terms fs) (other side)) k) (sym (d.appended.are.sides side)) (only side);
+    in_order = d.appended.are.in_order;
+    clear = by-side (λ side. IsClearFrom (of_key (at_side (keyed key terms es) (keyed key terms fs) side) k) first last)
+        (key-clear key terms es k l p first last one cal) (key-clear key terms fs k r q first last two dar);
+    runs = λ n within. record {
+      body = at_side (body_on (map terms es) one n) (body_on (map terms fs) two n);
+      runs = by-side (λ side. (o : Option B) → (at_side (body_on (map terms es) one n) (body_on (map terms fs) two n) side ≡ o) ↔
+          Runs (of_key (at_side (keyed key terms es) (keyed key terms fs) side) k) n o)
+          (λ o. key-runs key terms es k l p first last one cal cancelled n o within.from within.upto)
+          (λ o. key-runs key terms fs k r q first last two dar cancelled n o within.from within.upto);
+      decided = decide-bodies eq law (body_on (map terms es) one n) (body_on (map terms fs) two n);
+    };
+  } where
+    only : (side : Side) → AreOnlyOfKey (window_from first last) (at_side (keyed key terms es) (keyed key terms fs) side)
+        (at_side (keyed key terms es) (keyed key terms fs) (other side)) k (at_side d.lefts d.rights side)
+    only Left = key-only key terms cancelled es fs k l r p q first last one two cal dar d.lefts d.left
+    only Right = key-only key terms cancelled fs es k r l q p first last two one dar cal d.rights d.right

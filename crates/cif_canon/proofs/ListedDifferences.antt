@@ -14,7 +14,7 @@ use Rattle.cif_canon.proofs.Words.{header_window, key_cmp, keyed, nat_cmp, of_si
 use Rattle.cif_canon.proofs.Words.{◌↔◌}
 use Rattle.cif_canon.proofs.DifferentTiplocs.{has-or-not, no-tiploc, with_side}
 use Rattle.cif_canon.proofs.FoundRecords.{no-member}
-use Rattle.cif_canon.proofs.MergedSides.{from-side, side-member}
+use Rattle.cif_canon.proofs.MergedSides.{at_side-made, from-side, side-member}
 use Rattle.cif_canon.proofs.SidedTexts.{have-sided_records, records-of_runs}
 
 -- ---- one kind of record
@@ -64,16 +64,15 @@ module _ {K B : Type 0} (cmp : K → K → Ordering) (window : Window) (xs ys : 
 pub first-within : {E K B : Type 0} (key : E → K) (terms : E → Terms B) (es fs : List E) (runs : List (Sided Run))
     (found : List (Sided (K × Permanent B))) → AllZip (IsSidedRunOf (keyed key terms es) (keyed key terms fs)) runs found →
     (s : Sided Run) → slice_get runs 0 ≡ Some s → s.it.source < length (at_side es fs s.side)
-first-within key terms es fs [] [] z s is = absurd (cc)
-first-within key terms es fs [] (e ∷ found) z s is = absurd z
+first-within key terms es fs [] found z s is = absurd (cc)
 first-within key terms es fs (t ∷ runs) [] z s is = absurd z
-first-within {K = K} {B = B} key terms es fs (t ∷ runs) (e ∷ found) z s is =
-    subst (λ (s : Sided Run). s.it.source < length (at_side es fs s.side)) (same_Some t s is) (by e.side z.0.side z.0.run_of.at)
-  where
-    by : (side : Side) → t.side ≡ side → slice_get (at_side (keyed key terms es) (keyed key terms fs) side) t.it.source
-        ≡ Some (e.it.0, z.0.run_of.terms) → t.it.source < length (at_side es fs t.side)
-    by Left is at = rw is (within-entries key terms es t.it.source (slice_get_within (keyed key terms es) t.it.source _ at))
-    by Right is at = rw is (within-entries key terms fs t.it.source (slice_get_within (keyed key terms fs) t.it.source _ at))
+first-within {E = E} {K = K} {B = B} key terms es fs (t ∷ runs) (e ∷ found) z s is =
+    let at = subst (λ (zs : List (K × Terms B)). slice_get zs t.it.source ≡ Some (e.it.0, z.0.run_of.terms))
+    (at_side-made (λ (gs : List E). keyed key terms gs) es fs e.side) z.0.run_of.at in
+    subst (λ (s : Sided Run). s.it.source < length (at_side es fs s.side)) (same_Some t s is)
+    (subst (λ side. t.it.source < length (at_side es fs side)) (sym z.0.side)
+    (within-entries key terms (at_side es fs e.side) t.it.source
+    (slice_get_within (keyed key terms (at_side es fs e.side)) t.it.source _ at)))
 
 -- ---- locations
 

@@ -1,25 +1,40 @@
 -- Runs of both sides in one list.
-use Rattle.std.proofs.Common.{◌≡◌, ◌⊎◌, inl, inr, zero, suc, ◌+◌, ◌<◌, ◌≤◌, Bool, true, false, List, [], ◌∷◌, ◌++◌, Some, None, refl, sym}
+use Rattle.std.proofs.Common.{◌≡◌, inl, inr, zero, suc, ◌+◌, ◌<◌, ◌≤◌, Bool, true, false, List, [], ◌∷◌, ◌++◌, Some, None, refl, sym}
 use Rattle.std.proofs.Common.{ap, ◌∙◌, subst, arith, get_or, length, ⊎_elim, append_assoc, append-nil, true≢false}
 use Rattle.std.proofs.Math.Nat.{eq-or-lt_of_le}
+use Rattle.std.proofs.lemmas.Bool.{cond_both}
 use Rattle.std.proofs.lemmas.List.Elements.{Contains-get_or, Contains-push_cases}
 use Rattle.std.proofs.lemmas.List.Quantifiers.{all_pairs_push}
 use Rattle.cif_calendar.proofs.Elements.{Contains-first, Contains-rest, Contains-cases}
 use Rattle.cif_calendar.proofs.RisingLists.{Contains-none}
 use Rattle.cif_canon.specs.Steps.OnlySides.{IsFirstSide}
-use Rattle.cif_canon.proofs.Words.{AllPairs, AreAppendedRuns, AreMerging, AreRisingRuns, Contains, HasMovedOf, Left, Right, Run}
+use Rattle.cif_canon.proofs.Words.{AllPairs, AreAppendedRuns, AreMerging, AreRisingRuns, Contains, Decides, HasMovedOf, Left, Right, Run}
 use Rattle.cif_canon.proofs.Words.{RunComesBefore, Side, Sided, at_side, if◌then◌else◌, is_side, of_side}
 
 -- ---- lists with sides
-
-side-itself : (side : Side) → is_side side side ≡ true
-side-itself Left = refl
-side-itself Right = refl
 
 -- the other side
 abbrev pub other : Side → Side
 other Left = Right
 other Right = Left
+
+pub side-decided : (side t : Side) → Decides (is_side side t) (t ≡ side)
+side-decided Left Left = (λ e. refl, λ e. refl)
+side-decided Left Right = (λ e. absurd (true≢false (sym e)), λ e. ap (is_side Left) e)
+side-decided Right Left = (λ e. absurd (true≢false (sym e)), λ e. ap (is_side Right) e)
+side-decided Right Right = (λ e. refl, λ e. refl)
+
+-- what holds of both holds of each
+pub by-side : (P : Side → Type 0) → P Left → P Right → (side : Side) → P side
+by-side P one two Left = one
+by-side P one two Right = two
+
+-- what is made of each side's is that of this side
+pub at_side-made : {A C : Type 0} (f : A → C) (a b : A) (side : Side) → at_side (f a) (f b) side ≡ f (at_side a b side)
+at_side-made f a b = by-side (λ side. at_side (f a) (f b) side ≡ f (at_side a b side)) refl refl
+
+pub at_other : {A : Type 0} (a b : A) (side : Side) → at_side a b (other side) ≡ at_side b a side
+at_other a b = by-side (λ side. at_side a b (other side) ≡ at_side b a side) refl refl
 
 module _ {A : Type 0} where
   cond-append : (b : Bool) (x : A) (u v w : List A) → u ≡ v ++ w → (if b then x ∷ u else u) ≡ (if b then x ∷ v else v) ++ w
@@ -32,20 +47,15 @@ module _ {A : Type 0} where
       cond-append (is_side side s.side) s.it (of_side side (xs ++ ys)) (of_side side xs) (of_side side ys) (of_side-append side xs ys)
 
   -- an element is one of its side
-  cond-first : (b : Bool) (x : A) (u : List A) → b ≡ true → Contains (if b then x ∷ u else u) x
-  cond-first true x u e = Contains-first x u
-  cond-first false x u e = absurd (true≢false (sym e))
-
-  cond-rest : (b : Bool) (x y : A) (u : List A) → Contains u y → Contains (if b then x ∷ u else u) y
-  cond-rest true x y u h = Contains-rest x u y h
-  cond-rest false x y u h = h
-
   pub side-member : (xs : List (Sided A)) (s : Sided A) → Contains xs s → Contains (of_side s.side xs) s.it
   side-member [] s h = absurd (Contains-none s h)
   side-member (t ∷ xs) s h = ⊎_elim
       (λ is. subst (λ (u : Sided A). Contains (of_side u.side (t ∷ xs)) u.it) is
-      (cond-first (is_side t.side t.side) t.it (of_side t.side xs) (side-itself t.side)))
-      (λ later. cond-rest (is_side s.side t.side) t.it s.it (of_side s.side xs) (side-member xs s later))
+      (subst (λ b. Contains (if b then t.it ∷ of_side t.side xs else of_side t.side xs) t.it)
+      (sym ((side-decided t.side t.side).1 refl)) (Contains-first t.it (of_side t.side xs))))
+      (λ later. let there = side-member xs s later in
+      cond_both (is_side s.side t.side) (t.it ∷ of_side s.side xs) (of_side s.side xs) (λ (u : List A). Contains u s.it)
+      (λ yes. Contains-rest t.it (of_side s.side xs) s.it there) (λ no. there))
       (Contains-cases t xs s h)
 
   pub pairs-head : (R : A → A → Type 0) (x y : A) (xs : List A) → AllPairs R (x ∷ xs) → Contains xs y → R x y
@@ -55,21 +65,20 @@ module _ {A : Type 0} where
   pairs-tail R x xs all i j d less below = all (suc i) (suc j) d (omega arith) (omega arith)
 
 -- an element of a side is one of the list
-from-one : {A : Type 0} (side t : Side) (x e : A) (u : List A) → Contains (if is_side side t then x ∷ u else u) e →
-    ((t ≡ side) × (x ≡ e)) ⊎ Contains u e
-from-one Left Left x e u h = ⊎_elim (λ is. inl (refl, is)) (λ later. inr later) (Contains-cases x u e h)
-from-one Left Right x e u h = inr h
-from-one Right Left x e u h = inr h
-from-one Right Right x e u h = ⊎_elim (λ is. inl (refl, is)) (λ later. inr later) (Contains-cases x u e h)
-
 pub from-side : {A : Type 0} (side : Side) (found : List (Sided A)) (e : A) → Contains (of_side side found) e →
     Contains found (record { side = side; it = e })
 from-side side [] e h = absurd (Contains-none e h)
-from-side side (s ∷ found) e h = ⊎_elim
-    (λ is. subst (λ v. Contains (s ∷ found) (record { side = side; it = v })) is.1
-    (subst (λ t. Contains (s ∷ found) (record { side = t; it = s.it })) is.0 (Contains-first s found)))
-    (λ later. Contains-rest s found (record { side = side; it = e }) (from-side side found e later))
-    (from-one side s.side s.it e (of_side side found) h)
+from-side {A} side (s ∷ found) e h =
+    let rest = λ (later : Contains (of_side side found) e).
+    Contains-rest s found (record { side = side; it = e }) (from-side side found e later) in
+    cond_both (is_side side s.side) (s.it ∷ of_side side found) (of_side side found)
+    (λ (u : List A). Contains u e → Contains (s ∷ found) (record { side = side; it = e }))
+    (λ yes in'. ⊎_elim
+    (λ is. subst (λ v. Contains (s ∷ found) (record { side = side; it = v })) is
+    (subst (λ t. Contains (s ∷ found) (record { side = t; it = s.it })) ((side-decided side s.side).0 yes) (Contains-first s found)))
+    rest
+    (Contains-cases s.it (of_side side found) e in'))
+    (λ no. rest) h
 
 -- what is last is of its side
 pub of_side-own : {A : Type 0} (side : Side) (xs : List (Sided A)) (x : A) →

@@ -75,39 +75,35 @@ module _ (ps : List Piece) (from to : ℕ) (tiles : Tiles ps from to) (r : Piece
   source-there d a b =
       source_at-piece (ps ++ r ∷ []) from (r.last + 1) r d more (Contains-append_right ps (r ∷ []) r (Contains-first r [])) a b
 
-module _ {B : Type 0} (xs : List (Terms B)) (c : CalendarParts) (p : Piece) (tiles_c : Tiles c.pieces c.first (c.last + 1))
-    (listed_p : Contains c.pieces p) (ys : List (Terms B)) (e : CalendarParts) (q : Piece) (tiles_e : Tiles e.pieces e.first (e.last + 1))
-    (listed_q : Contains e.pieces q) where
-  -- what is left of the days of the window before `next`
-  abbrev pub OnlyBefore : ℕ → List Piece → Type 0
-  OnlyBefore next ps = (d : ℕ) → c.first ≤ d → d < next →
-      IsOnlySource xs ys (source_at c.pieces d) (source_at e.pieces d) (source_at ps d)
+module _ {B : Type 0} (xs : List (Terms B)) (c : CalendarParts) (ys : List (Terms B)) (e : CalendarParts) where
+  -- the pieces cover the days of the window before `next`, and have what is left of them
+  pub record AreOnlyPieces (next : ℕ) (ps : List Piece) : Type 0 where
+    pub tiles : Tiles ps c.first next
+    pub only : (d : ℕ) → c.first ≤ d → d < next → IsOnlySource xs ys (source_at c.pieces d) (source_at e.pieces d) (source_at ps d)
 
   -- with a piece more, whose winners are left of those of both calendars' pieces
-  pub only-more : (ps qs : List Piece) (first last next : ℕ) (winners : List (Option ℕ)) → Tiles ps c.first first → first ≤ last →
+  pub only-more : (p q : Piece) → Tiles c.pieces c.first (c.last + 1) → Contains c.pieces p → Tiles e.pieces e.first (e.last + 1) →
+      Contains e.pieces q → (ps qs : List Piece) (first last next : ℕ) (winners : List (Option ℕ)) → first ≤ last →
       qs ≡ ps ++ (record { first = first; last = last; winners = winners }) ∷ [] → next ≡ last + 1 → p.first ≤ first → last ≤ p.last →
-      q.first ≤ first → last ≤ q.last → AreOnlyWinners xs ys p q first last winners → OnlyBefore first ps → OnlyBefore next qs
-  only-more ps qs first last next winners tiles up are is p_from p_upto q_from q_upto only before d from below =
+      q.first ≤ first → last ≤ q.last → AreOnlyWinners xs ys p q first last winners → AreOnlyPieces first ps → AreOnlyPieces next qs
+  only-more p q tiles_c listed_p tiles_e listed_q ps qs first last next winners up are is p_from p_upto q_from q_upto only a =
       let r : Piece = record { first = first; last = last; winners = winners } in
-      subst (λ (zs : List Piece). IsOnlySource xs ys (source_at c.pieces d) (source_at e.pieces d) (source_at zs d)) (sym are) (⊎_elim
-      (λ early. subst (λ v. IsOnlySource xs ys (source_at c.pieces d) (source_at e.pieces d) v)
-      (sym (source-before ps c.first first tiles r refl_at up d from early)) (before d from early))
-      (λ late.
-      let upto : d ≤ last = omega (arith, below, is) in
-      subst (λ v. IsOnlySource xs ys (source_at c.pieces d) (source_at e.pieces d) v)
-      (sym (source-there ps c.first first tiles r refl_at up d late upto))
-      (subst (λ v. IsOnlySource xs ys v (source_at e.pieces d) (winner_of r d))
-      (sym (source_at-piece c.pieces c.first (c.last + 1) p d tiles_c listed_p (omega arith) (omega arith)))
-      (subst (λ v. IsOnlySource xs ys (winner_of p d) v (winner_of r d))
-      (sym (source_at-piece e.pieces e.first (e.last + 1) q d tiles_e listed_q (omega arith) (omega arith)))
-      (only.each d late upto))))
-      (cases_lt d first))
+      rw (are, is) (record {
+        tiles = more ps c.first first a.tiles r refl_at up;
+        only = λ d from below. ⊎_elim
+            (λ early. subst (λ v. IsOnlySource xs ys (source_at c.pieces d) (source_at e.pieces d) v)
+            (sym (source-before ps c.first first a.tiles r refl_at up d from early)) (a.only d from early))
+            (λ late.
+            let upto : d ≤ last = omega (arith, below) in
+            subst (λ v. IsOnlySource xs ys (source_at c.pieces d) (source_at e.pieces d) v)
+            (sym (source-there ps c.first first a.tiles r refl_at up d late upto))
+            (subst (λ v. IsOnlySource xs ys v (source_at e.pieces d) (winner_of r d))
+            (sym (source_at-piece c.pieces c.first (c.last + 1) p d tiles_c listed_p (omega arith) (omega arith)))
+            (subst (λ v. IsOnlySource xs ys (winner_of p d) v (winner_of r d))
+            (sym (source_at-piece e.pieces e.first (e.last + 1) q d tiles_e listed_q (omega arith) (omega arith)))
+            (only.each d late upto))))
+            (cases_lt d first);
+      })
     where
       refl_at : first ≡ first
       refl_at = omega arith
-
-  pub tiles-more : (ps qs : List Piece) (from first last next : ℕ) (winners : List (Option ℕ)) → Tiles ps from first → first ≤ last →
-      qs ≡ ps ++ (record { first = first; last = last; winners = winners }) ∷ [] → next ≡ last + 1 → Tiles qs from next
-  tiles-more ps qs from first last next winners tiles up are is =
-      let r : Piece = record { first = first; last = last; winners = winners } in
-      rw (are, is) (more ps from first tiles r (let z : first ≡ first = omega arith in z) up)

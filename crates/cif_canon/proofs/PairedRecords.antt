@@ -1,32 +1,21 @@
 -- Records by pairs: the first one is listed by itself, or with the next one if they are a pair.
-use Rattle.std.proofs.Common.{◌≡◌, ℕ, ◌-◌, ◌<◌, Bool, true, false, List, [], ◌∷◌, ◌++◌, Option, None, Some, ap, arith, drop, get_or, length}
-use Rattle.std.proofs.Common.{refl, subst, sym, take, true≢false, ◌∙◌}
+use Rattle.std.proofs.Common.{◌≡◌, ℕ, ◌-◌, ◌<◌, Bool, true, false, List, [], ◌∷◌, Option, None, Some, ap, arith, drop, get_or, length}
+use Rattle.std.proofs.Common.{refl, sym, take, ◌∙◌}
 use Rattle.std.specs.Cmp.{booleans_Decides}
-use Rattle.std.proofs.lemmas.Bool.Decides.{Decides-and, Decides-eqb}
-use Rattle.std.proofs.lemmas.List.{take_all}
+use Rattle.std.proofs.lemmas.Bool.Decides.{Decides-and, Decides-eqb, same_from_decides}
+use Rattle.std.proofs.lemmas.List.{length-drop, take_all}
 use Rattle.cif_canon.specs.Steps.ByPairs.{HasWrittenFirst, IsListedFirst}
-use Rattle.cif_canon.proofs.Words.{ArePair, Decides, IsAppended, IsTrue, Left, Listed, Ordering, Permanent, Right, Run, Side, Sided, Sink}
-use Rattle.cif_canon.proofs.Words.{Terms, are_pair, at_side, by_pairs, if◌then◌else◌, is_eq, is_side, pointwise_decides, record_at}
+use Rattle.cif_canon.proofs.MergedSides.{side-decided}
+use Rattle.cif_canon.proofs.Words.{ArePair, Decides, IsAppended, IsTrue, Left, Listed, Ordering, Permanent, Right, Run, Sided, Sink}
+use Rattle.cif_canon.proofs.Words.{Terms, are_pair, at_side, by_pairs, if◌then◌else◌, is_eq, pointwise_decides, record_at}
 use Rattle.cif_canon.proofs.Words.{sided_records, with_record, ◌↔◌}
 
 -- ---- the test of a pair
-
-side-decided : (side t : Side) → Decides (is_side side t) (t ≡ side)
-side-decided Left Left = (λ e. refl, λ e. refl)
-side-decided Left Right = (λ e. absurd (true≢false (sym e)), λ e. ap (is_side Left) e)
-side-decided Right Left = (λ e. absurd (true≢false (sym e)), λ e. ap (is_side Right) e)
-side-decided Right Right = (λ e. refl, λ e. refl)
 
 -- keys are equal exactly where they compare equal, by the laws of an entry's key
 pub keys-decided : {K : Type 0} (eq : K → K → Bool) (cmp : K → K → Ordering) → ((j k : K) → eq j k ≡ is_eq (cmp j k)) →
     ((j k : K) → IsTrue (eq j k) ↔ (j ≡ k)) → (j k : K) → Decides (is_eq (cmp j k)) (j ≡ k)
 keys-decided eq cmp matches same j k = (λ e. (same j k).0 (matches j k ∙ e), λ e. sym (matches j k) ∙ (same j k).1 e)
-
-same-answer : {P : Type 0} (a b : Bool) → Decides a P → Decides b P → a ≡ b
-same-answer true true h k = refl
-same-answer true false h k = sym (k.1 (h.0 refl))
-same-answer false true h k = h.1 (k.0 refl)
-same-answer false false h k = refl
 
 pub pair-decided : {K B : Type 0} (cmp : K → K → Ordering) → ((j k : K) → Decides (is_eq (cmp j k)) (j ≡ k)) →
     (s t : Sided (K × Permanent B)) → Decides (are_pair cmp s t) (ArePair s t)
@@ -58,12 +47,11 @@ module _ {A : Type 0} where
   two-on (x ∷ []) = refl
   two-on (x ∷ y ∷ xs) = refl
 
-  drop-fewer : (xs : List A) → 0 < length xs → length (drop 1 xs) < length xs
-  drop-fewer [] some = absurd (omega (arith, some))
-  drop-fewer (x ∷ xs) some = let less : length xs < length (x ∷ xs) = omega arith in less
-
   fewer : (xs : List A) → 0 < length xs → length (take (length xs - 1) (drop 1 xs)) < length xs
-  fewer xs some = subst (λ (l : List A). length l < length xs) (sym (tail-is xs)) (drop-fewer xs some)
+  fewer xs some =
+      let tail = ap (λ (l : List A). length l) (tail-is xs) in
+      let shorter = length-drop 1 xs in
+      omega (arith, tail, shorter, some)
 
 module _ {K B : Type 0} (xs ys : List (K × Terms B)) (runs : List (Sided Run)) (run : Sided Run) (it : K × Permanent B)
     (some : 0 < length runs) (is : run ≡ get_or runs 0 run) (there : record_at (at_side xs ys run.side) run.it ≡ Some it) where
@@ -95,7 +83,7 @@ module _ {K B : Type 0} (xs ys : List (K × Terms B)) (runs : List (Sided Run)) 
     by-answer : by_pairs cmp (s ∷ sided_records xs ys runs) ≡ by answer
     by-answer =
         ap (λ (l : List (Sided (K × Permanent B))). by_pairs cmp (s ∷ l)) first-record
-        ∙ ap by (same-answer {P = ArePair s own} (are_pair cmp s own) answer (pair-decided cmp decides s own) told)
+        ∙ ap by (same_from_decides {P = ArePair s own} (are_pair cmp s own) answer (pair-decided cmp decides s own) told)
 
     pub listed-pair : answer ≡ true → IsListedFirst cmp xs ys s (Some it) runs
     listed-pair is_so = by-answer ∙ ap by is_so

@@ -8,7 +8,7 @@ use Rattle.cif_extract.specs.declared.extract.Extract.{Extract}
 use Rattle.cif_extract.proofs.ReadCalls.{at-fault}
 use Rattle.cif_canon.specs.Fault.{IsOfReadNarrowed}
 use Rattle.cif_canon.proofs.Normalising.{narrows-not, reads-narrowed}
-use Rattle.cif_canon.specs.Pair.{AreNarrowed, IsNarrowedPair, IsPairRefusal, asked_of_both}
+use Rattle.cif_canon.specs.Pair.{IsNarrowedPair, IsPairRefusal, asked_of_both}
 use Rattle.cif_canon.proofs.Words.{Asked, ExtractParts, Fault, IsErrAnd, IsNarrowed, IsNarrowingFault, extract_parts}
 
 module _ (asked : Asked) (common : Bool) (left right : Extract) (wanted : Asked)

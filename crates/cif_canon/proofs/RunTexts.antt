@@ -3,10 +3,10 @@ use Rattle.std.proofs.Common.{◌≡◌, ℕ, ◌<◌, ◌≤◌, List, Option, 
 use Rattle.std.specs.Prelude.{All, slice_get}
 use Rattle.std.specs.Option.{option_and_then, option_map}
 use Rattle.std.proofs.lemmas.List.{length-map}
-use Rattle.std.proofs.lemmas.Option.{same_Some, slice_get_read, slice_get_within}
+use Rattle.std.proofs.lemmas.Option.{option_and_then_some, same_Some, slice_get_read, slice_get_within}
 use Rattle.cif_calendar.proofs.Winning.{terms_at}
 use Rattle.cif_canon.specs.Steps.Texts.{HasRecord, body_at, record_at, run_text, text_if}
-use Rattle.cif_canon.proofs.Words.{BodyParts, Permanent, Run, Schedule, Terms, record_of, schedule_entries, schedule_entry}
+use Rattle.cif_canon.proofs.Words.{BodyParts, IsRunOf, Permanent, Run, Schedule, Terms, record_of, schedule_entries, schedule_entry}
 
 -- the record of a run whose source is an entry with a body
 pub record-of_entry : {K B : Type 0} (entries : List (K × Terms B)) (run : Run) (e : K × Terms B) (b : B) →
@@ -15,19 +15,28 @@ record-of_entry {K} {B} entries run e b at body =
     ap (option_and_then (λ (e : K × Terms B). option_map (λ b. (e.0, record_of run b)) e.1.body)) at
     ∙ ap (option_map (λ b. (e.0, record_of run b))) body
 
+pub record-of_run : {K B : Type 0} (entries : List (K × Terms B)) (run : Run) (e : K × Permanent B) → IsRunOf entries run e →
+    record_at entries run ≡ Some e
+record-of_run {K} {B} entries run e h =
+    record-of_entry entries run (e.0, h.terms) e.1.body h.at h.body
+    ∙ ap (λ (r : Permanent B). Some (e.0, r)) (sym h.dates)
+
 -- the source of a run with a record is a position
 pub record-within : {X K B : Type 0} (entry : X → K × Terms B) (xs : List X) (run : Run) → HasRecord (map entry xs) run →
     run.source < length xs
-record-within {X} {K} {B} entry xs run h = found (slice_get (map entry xs) run.source) refl h.is
-  where
-    found : (o : Option (K × Terms B)) → o ≡ slice_get (map entry xs) run.source →
-        option_and_then (λ (e : K × Terms B). option_map (λ b. (e.0, record_of run b)) e.1.body) o ≡ Some h.it → run.source < length xs
-    found None is e = absurd (cc)
-    found (Some e) is f = omega (arith, slice_get_within (map entry xs) run.source e (sym is), length-map xs entry)
+record-within {X} {K} {B} entry xs run h =
+    option_and_then_some (λ (e : K × Terms B). option_map (λ b. (e.0, record_of run b)) e.1.body) (slice_get (map entry xs) run.source) h.it
+    h.is (λ e at is. let below = slice_get_within (map entry xs) run.source e at in let same = length-map xs entry in
+    (omega (arith, below, same)))
 
 pub sources-within : {X K B : Type 0} (entry : X → K × Terms B) (xs : List X) (runs : List Run) → All (HasRecord (map entry xs)) runs →
     All (λ (run : Run). run.source < length xs) runs
 sources-within entry xs runs h n run below = record-within entry xs (get_or runs n run) (h n run below)
+
+-- runs that are given as slices
+pub sources-slices : {X K B : Type 0} (entry : X → K × Terms B) (xs us : List X) (runs more : List Run) → us ≡ xs → more ≡ runs →
+    All (HasRecord (map entry xs)) runs → All (λ (run : Run). run.source < length us) more × All (HasRecord (map entry us)) more
+sources-slices entry xs us runs more e f h = rw (e, f) (sources-within entry xs runs h, h)
 
 -- the text of a run, by the value that stands at its source
 pub run-text : {X K B : Type 0} (entry : X → K × Terms B) (xs : List X) (run : Run) (x : X) (b : B)
@@ -50,16 +59,13 @@ has-body {X} {K} {B} entry xs run x h is none =
 
 -- a run with a record doesn't end before it begins
 pub dates-in_order : {K B : Type 0} (entries : List (K × Terms B)) (run : Run) → HasRecord entries run → run.first ≤ run.last
-dates-in_order {K} {B} entries run h = of-entry (slice_get entries run.source) h.is
+dates-in_order {K} {B} entries run h =
+    option_and_then_some (λ (e : K × Terms B). option_map (λ b. (e.0, record_of run b)) e.1.body) (slice_get entries run.source) h.it h.is
+    (λ e at is. of-body e.0 e.1.body is)
   where
     of-body : (k : K) (o : Option B) → option_map (λ b. (k, record_of run b)) o ≡ Some h.it → run.first ≤ run.last
     of-body k None e = absurd (cc)
     of-body k (Some b) e = subst (λ (it : K × Permanent B). it.1.first ≤ it.1.last) (sym (same_Some _ _ e)) h.in_order
-
-    of-entry : (o : Option (K × Terms B)) →
-        option_and_then (λ (e : K × Terms B). option_map (λ b. (e.0, record_of run b)) e.1.body) o ≡ Some h.it → run.first ≤ run.last
-    of-entry None e = absurd (cc)
-    of-entry (Some entry) e = of-body entry.0 entry.1.body e
 
 -- the body of the schedule that stands at a position
 pub body-of : (schedules : List Schedule) (n : ℕ) (s : Schedule) → n < length schedules → s ≡ get_or schedules n s →

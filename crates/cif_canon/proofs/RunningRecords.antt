@@ -2,8 +2,8 @@
 use Rattle.std.proofs.Common.{◌≡◌, ◌<◌, ℕ, zero, suc, Bool, true, false, List, [], ◌∷◌, map, get_or, refl, sym, ap, ◌∙◌, subst, ⊎_elim}
 use Rattle.std.proofs.Common.{arith}
 use Rattle.std.specs.Prelude.{Some, nat_le, slice_index_or}
-use Rattle.std.proofs.lemmas.Bool.{false_from_ne_true, false≢true, le-leb, leb-true}
-use Rattle.std.proofs.lemmas.Bool.Decides.{Decides-and, Decides-like}
+use Rattle.std.proofs.lemmas.Bool.{false≢true, le-leb, leb-true}
+use Rattle.std.proofs.lemmas.Bool.Decides.{Decides-and, Decides-like, same_from_decides}
 use Rattle.std.proofs.lemmas.Option.{same_Some}
 use Rattle.cif_columns.specs.DaysRun.{RunsOn}
 use Rattle.std.proofs.lemmas.List.Elements.{Contains-get_or}
@@ -43,9 +43,8 @@ applies-decided r d = Decides-like (applies_on r d)
 -- an answer whether a run applies is that of the test
 pub tested : {B : Type 0} (run : Run) (b : B) (d : ℕ) (answer : Bool) → IsTrue answer ↔ IsAmongDates run.first run.last run.days d →
     answer ≡ applies_on (record_of run b) d
-tested run b d true h = sym ((applies-decided (record_of run b) d).1 (h.0 refl))
-tested run b d false h =
-    sym (false_from_ne_true (applies_on (record_of run b) d) (λ e. false≢true (h.1 ((applies-decided (record_of run b) d).0 e))))
+tested run b d answer h =
+    same_from_decides answer (applies_on (record_of run b) d) h (applies-decided (record_of run b) d)
 
 -- ---- the records that apply, and those of one train
 
@@ -53,6 +52,11 @@ module _ {K B : Type 0} where
   -- the records that apply on day d, with their keys
   abbrev pub applying : ℕ → List (K × Permanent B) → List (K × Permanent B)
   applying d records = filter (λ (e : K × Permanent B). applies_on e.1 d) records
+
+  applying-from : (d : ℕ) (records : List (K × Permanent B)) (e : K × Permanent B) → Contains (applying d records) e →
+      of_key records e.0 e.1 × Applies e.1 d
+  applying-from d records e h =
+      let (listed, on) = chosen-from (λ (e : K × Permanent B). applies_on e.1 d) records e h in (listed, (applies-decided e.1 d).0 on)
 
   -- the body of a record, with its key
   abbrev pub bodied : K × Permanent B → K × B
@@ -65,16 +69,13 @@ module _ {K B : Type 0} where
     rising i j z less below =
         let e = get_or (applying d a.records) i z in
         let f = get_or (applying d a.records) j z in
-        let (in_e, on_e) = chosen-from (λ (e : K × Permanent B). applies_on e.1 d) a.records e
-        (Contains-get_or (applying d a.records) i z (omega arith)) in
-        let (in_f, on_f) = chosen-from (λ (e : K × Permanent B). applies_on e.1 d) a.records f
-        (Contains-get_or (applying d a.records) j z below) in
+        let (in_e, on_e) = applying-from d a.records e (Contains-get_or (applying d a.records) i z (omega arith)) in
+        let (in_f, on_f) = applying-from d a.records f (Contains-get_or (applying d a.records) j z below) in
         ⊎_elim
         (λ before. before)
         (λ (one : (e.0 ≡ f.0) × (e.1.first < f.1.first)).
         let same : e.1 ≡ f.1 = (a.canonical.have_form f.0).single d e.1 f.1
-        (subst (λ k. of_key a.records k e.1) one.0 in_e) in_f
-        ((applies-decided e.1 d).0 on_e) ((applies-decided f.1 d).0 on_f) in
+        (subst (λ k. of_key a.records k e.1) one.0 in_e) in_f on_e on_f in
         let first : e.1.first ≡ f.1.first = ap (λ (r : Permanent B). r.first) same in
         let before = one.1 in
         absurd (omega (arith, first, before)))
@@ -88,11 +89,11 @@ module _ {K B : Type 0} where
           let has = runs-applies a.records k d b in (
             λ h.
                 let (e, in', is) = Contains-from_map bodied (applying d a.records) (k, b) h in
-                let (listed, on) = chosen-from (λ (e : K × Permanent B). applies_on e.1 d) a.records e in' in
+                let (listed, on) = applying-from d a.records e in' in
                 same.1 (has.1 (record {
                   it = e.1;
                   listed = subst (λ i. of_key a.records i e.1) (ap (λ (x : K × B). x.0) is) listed;
-                  applies = (applies-decided e.1 d).0 on;
+                  applies = on;
                   body = ap (λ (x : K × B). x.1) is;
                 })),
             λ h.
@@ -106,39 +107,38 @@ module _ {K B : Type 0} where
 
 module _ {B : Type 0} (cmp : List ℕ → List ℕ → Ordering) (total : IsTotalOrder cmp) (records : List (List ℕ × Permanent B))
     (precede : AllPairs (Precedes cmp) records) (uid : List ℕ) where
+  abbrev mine : List (List ℕ × Permanent B)
+  mine = filter (λ (e : List ℕ × Permanent B). pointwise nat_eq e.0 uid) records
+
   -- the records of one train
   abbrev pub own : List (Permanent B)
-  own = map (λ (e : List ℕ × Permanent B). e.1) (filter (λ (e : List ℕ × Permanent B). pointwise nat_eq e.0 uid) records)
+  own = map (λ (e : List ℕ × Permanent B). e.1) mine
+
+  from-mine : (e : List ℕ × Permanent B) → Contains mine e → Contains records e × (e.0 ≡ uid)
+  from-mine e h =
+      let (listed, passes) = chosen-from (λ (e : List ℕ × Permanent B). pointwise nat_eq e.0 uid) records e h in
+      (listed, (bytes_decides e.0 uid).0 passes)
 
   -- they rise by first day
   pub own-rising : AllPairs (λ (r : Permanent B) (s : Permanent B). r.first < s.first) own
   own-rising = AllPairs-map (λ (e : List ℕ × Permanent B). e.1) (λ (r : Permanent B) (s : Permanent B). r.first < s.first) mine (λ i
       j z less below.
-      let (in_e, is_e) = chosen-from test records (get_or mine i z) (Contains-get_or mine i z (omega arith)) in
-      let (in_f, is_f) = chosen-from test records (get_or mine j z) (Contains-get_or mine j z below) in
+      let e = get_or mine i z in
+      let f = get_or mine j z in
+      let is_e = (from-mine e (Contains-get_or mine i z (omega arith))).1 in
+      let is_f = (from-mine f (Contains-get_or mine j z below)).1 in
       ⊎_elim
-      (λ (before : cmp (get_or mine i z).0 (get_or mine j z).0 ≡ Less).
-      absurd (not_less cmp total (get_or mine i z).0 (get_or mine j z).0
-      ((bytes_decides (get_or mine i z).0 uid).0 is_e ∙ sym ((bytes_decides (get_or mine j z).0 uid).0 is_f)) before))
-      (λ (one : ((get_or mine i z).0 ≡ (get_or mine j z).0) × ((get_or mine i z).1.first < (get_or mine j z).1.first)). one.1)
-      (AllPairs-filter (Precedes cmp) test records precede i j z less below))
-    where
-      test : List ℕ × Permanent B → Bool
-      test e = pointwise nat_eq e.0 uid
-
-      mine : List (List ℕ × Permanent B)
-      mine = filter test records
+      (λ (before : cmp e.0 f.0 ≡ Less). absurd (not_less cmp total e.0 f.0 (is_e ∙ sym is_f) before))
+      (λ (one : (e.0 ≡ f.0) × (e.1.first < f.1.first)). one.1)
+      (AllPairs-filter (Precedes cmp) (λ (e : List ℕ × Permanent B). pointwise nat_eq e.0 uid) records precede i j z less below))
 
   pub own-are : (r : Permanent B) → Contains own r ↔ Contains records (uid, r)
   own-are r = (
     λ h.
-        let (e, in', is) = Contains-from_map (λ (e : List ℕ × Permanent B). e.1)
-        (filter (λ (e : List ℕ × Permanent B). pointwise nat_eq e.0 uid) records) r h in
-        let (listed, passes) = chosen-from (λ (e : List ℕ × Permanent B). pointwise nat_eq e.0 uid) records e in' in
-        subst (λ s. Contains records (uid, s)) is
-        (subst (λ k. Contains records (k, e.1)) ((bytes_decides e.0 uid).0 passes) listed),
+        let (e, in', is) = Contains-from_map (λ (e : List ℕ × Permanent B). e.1) mine r h in
+        let (listed, key) = from-mine e in' in
+        subst (λ s. Contains records (uid, s)) is (subst (λ k. Contains records (k, e.1)) key listed),
     λ h.
-        Contains-map (λ (e : List ℕ × Permanent B). e.1)
-        (filter (λ (e : List ℕ × Permanent B). pointwise nat_eq e.0 uid) records) (uid, r)
+        Contains-map (λ (e : List ℕ × Permanent B). e.1) mine (uid, r)
         (chosen (λ (e : List ℕ × Permanent B). pointwise nat_eq e.0 uid) records (uid, r) h ((bytes_decides uid uid).1 refl)),
   )

@@ -1,11 +1,13 @@
 -- The records of runs with their sides, and their text.
 use Rattle.std.proofs.Common.{◌≡◌, ℕ, ◌<◌, ◌≤◌, Bool, get_or, length, map, List, [], ◌∷◌, ◌++◌, Option, None, Some, refl, sym, ap, ◌∙◌}
+use Rattle.std.proofs.Common.{subst}
 use Rattle.std.proofs.lemmas.List.Elements.{All-nil, All-cons, All-head, All-tail}
 use Rattle.std.proofs.lemmas.List.{nil_from_length}
 use Rattle.cif_canon.proofs.Words.{All, AllZip, AreNone, AssocBody, AssocKey, BodyParts, HasRecord, HasSidedRecord, IsSidedRunOf, IsTrue}
-use Rattle.cif_canon.proofs.Words.{Left, Permanent, Right, Run, Side, Sided, Terms, Tiploc, at_side, flat_map, record_at, sided_records}
+use Rattle.cif_canon.proofs.Words.{Permanent, Run, Side, Sided, Terms, Tiploc, at_side, flat_map, record_at, sided_records}
 use Rattle.cif_canon.proofs.Words.{sided_run_text, text_if, with_record, ◌↔◌}
-use Rattle.cif_canon.proofs.RunTexts.{record-of_entry, record-within}
+use Rattle.cif_canon.proofs.MergedSides.{at_side-made}
+use Rattle.cif_canon.proofs.RunTexts.{record-of_run, record-within}
 
 module _ {K B : Type 0} (xs ys : List (K × Terms B)) where
   -- the text of a list of runs is that of their records
@@ -21,20 +23,13 @@ module _ {K B : Type 0} (xs ys : List (K × Terms B)) where
         ap (λ (l : List ℕ). sided_run_text text xs ys s ++ l) (sided-text runs)
         ∙ sym (one-text s.side (record_at (at_side xs ys s.side) s.it) (sided_records xs ys runs))
 
-  -- the record of a run with its side
-  record-there : (s : Sided Run) (e : Sided (K × Permanent B)) → IsSidedRunOf xs ys s e →
-      record_at (at_side xs ys e.side) s.it ≡ Some e.it
-  record-there s e h =
-      record-of_entry (at_side xs ys e.side) s.it (e.it.0, h.run_of.terms) e.it.1.body h.run_of.at h.run_of.body
-      ∙ ap (λ (r : Permanent B). Some (e.it.0, r)) (sym h.run_of.dates)
-
   -- the records of runs are those that they are the runs of
   pub records-of_runs : (runs : List (Sided Run)) (found : List (Sided (K × Permanent B))) → AllZip (IsSidedRunOf xs ys) runs found →
       sided_records xs ys runs ≡ found
   records-of_runs [] [] z = refl
   records-of_runs (s ∷ runs) (e ∷ found) z =
       ap (λ side. with_record side (record_at (at_side xs ys side) s.it) (sided_records xs ys runs)) z.0.side
-      ∙ ap (λ o. with_record e.side o (sided_records xs ys runs)) (record-there s e z.0)
+      ∙ ap (λ o. with_record e.side o (sided_records xs ys runs)) (record-of_run (at_side xs ys e.side) s.it e.it z.0.run_of)
       ∙ ap (λ (l : List (Sided (K × Permanent B))). e ∷ l) (records-of_runs runs found z.1)
   records-of_runs _ _ z = absurd z
 
@@ -45,7 +40,7 @@ module _ {K B : Type 0} (xs ys : List (K × Terms B)) where
       All-cons (HasSidedRecord xs ys) s runs
       (record {
         it = e.it;
-        is = ap (λ side. record_at (at_side xs ys side) s.it) z.0.side ∙ record-there s e z.0;
+        is = ap (λ side. record_at (at_side xs ys side) s.it) z.0.side ∙ record-of_run (at_side xs ys e.side) s.it e.it z.0.run_of;
         in_order = All-head (λ (e : Sided (K × Permanent B)). e.it.1.first ≤ e.it.1.last) e found dated;
       })
       (have-sided_records runs found z.1 (All-tail (λ (e : Sided (K × Permanent B)). e.it.1.first ≤ e.it.1.last) e found dated))
@@ -61,14 +56,19 @@ module _ {K B : Type 0} (xs ys : List (K × Terms B)) where
 
 -- the source of a run with a record is a position of its side
 module _ {X K B : Type 0} (entry : X → K × Terms B) (xs ys : List X) where
-  side-within : (side : Side) (run : Run) → HasRecord (at_side (map entry xs) (map entry ys) side) run →
-      run.source < length (at_side xs ys side)
-  side-within Left run h = record-within entry xs run h
-  side-within Right run h = record-within entry ys run h
-
   pub sided-within : (runs : List (Sided Run)) → All (HasSidedRecord (map entry xs) (map entry ys)) runs →
       All (λ (run : Sided Run). run.it.source < length (at_side xs ys run.side)) runs
-  sided-within runs h n run below = let s = get_or runs n run in side-within s.side s.it (h n run below)
+  sided-within runs h n run below =
+      let s = get_or runs n run in
+      record-within entry (at_side xs ys s.side) s.it
+      (subst (λ es. HasRecord es s.it) (at_side-made (λ (es : List X). map entry es) xs ys s.side) (h n run below))
+
+  -- runs that are given as slices
+  pub sided-slices : (us vs : List X) (runs more : List (Sided Run)) → us ≡ xs → vs ≡ ys → more ≡ runs →
+      All (HasSidedRecord (map entry xs) (map entry ys)) runs →
+      All (λ (run : Sided Run). run.it.source < length (at_side us vs run.side)) more
+      × All (HasSidedRecord (map entry us) (map entry vs)) more
+  sided-slices us vs runs more e f g h = rw (e, f, g) (sided-within runs h, h)
 
 -- no location and no run are no difference
 pub none-listed : (tiplocs : List (Sided Tiploc)) (xa ya : List (AssocKey × Terms AssocBody)) (ra : List (Sided Run)) →

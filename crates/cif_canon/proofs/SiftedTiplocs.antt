@@ -1,7 +1,6 @@
 -- The locations that only one of two rising lists has are found one by one.
 use Rattle.std.proofs.Common.{◌≡◌, ◌⊎◌, inl, inr, ◌+◌, ◌<◌, List, [], ◌∷◌, ◌++◌, Some, None, length, drop, refl, sym, ap, subst, arith}
-use Rattle.std.proofs.Common.{⊎_elim, get_or, take, ◌-◌}
-use Rattle.std.proofs.lemmas.List.{length-drop, take_all}
+use Rattle.std.proofs.Common.{⊎_elim, get_or}
 use Rattle.std.proofs.lemmas.List.Elements.{Contains-append_left, Contains-get_or, Contains-push, Contains-push_cases}
 use Rattle.std.proofs.lemmas.List.Quantifiers.{all_pairs_push}
 use Rattle.cif_calendar.proofs.Elements.{Contains-first, Contains-rest, Contains-cases}
@@ -17,25 +16,6 @@ onward s t u h k = nat_list_cmp_total.trans s.columns t.columns u.columns h k
 -- it is in the one list and not in the other
 abbrev IsOnly : List Tiploc → List Tiploc → Tiploc → Type 0
 IsOnly l r t = Contains l t × ¬ Contains r t
-
--- with an element that the other list hasn't
-more-left : (x : Tiploc) (l r : List Tiploc) → (Contains r x → ⊥) → (t : Tiploc) → IsOnly (x ∷ l) r t ↔ ((x ≡ t) ⊎ IsOnly l r t)
-more-left x l r none t = (
-  λ h. ⊎_elim (λ is. inl is) (λ later. inr (later, h.1)) (Contains-cases x l t h.0),
-  λ h. ⊎_elim
-      (λ is. (
-        subst (λ u. Contains (x ∷ l) u) is (Contains-first x l),
-        λ in'. none (subst (λ u. Contains r u) (sym is) in'),
-      ))
-      (λ later. (Contains-rest x l t later.0, later.1))
-      h,
-)
-
-more-right : (x : Tiploc) (l r : List Tiploc) → (Contains r x → ⊥) → (t : Tiploc) → IsOnly r (x ∷ l) t ↔ IsOnly r l t
-more-right x l r none t = (
-  λ h. (h.0, λ in'. h.1 (Contains-rest x l t in')),
-  λ h. (h.0, λ in'. ⊎_elim (λ is. none (subst (λ u. Contains r u) (sym is) h.0)) (λ later. h.1 later) (Contains-cases x l t in')),
-)
 
 -- with an element that both have
 more-both : (x : Tiploc) (l r : List Tiploc) → (Contains l x → ⊥) → (t : Tiploc) → IsOnly (x ∷ l) (x ∷ r) t ↔ IsOnly l r t
@@ -80,16 +60,26 @@ nothing-first (x ∷ l) (y ∷ r) h = absurd h
 
 module _ (x : Tiploc) (own theirs : List Tiploc) (none : Contains theirs x → ⊥) where
   only-own : (side : Side) (t : Tiploc) → IsOnly (x ∷ own) theirs t ↔ ((with_side side x ≡ with_side side t) ⊎ IsOnly own theirs t)
-  only-own side t = let more = more-left x own theirs none t in (
-    λ h. ⊎_elim (λ is. inl (ap (with_side side) is)) (λ later. inr later) (more.0 h),
-    λ h. more.1 (⊎_elim (λ is. inl (ap (λ (s : Sided Tiploc). s.it) is)) (λ later. inr later) h),
+  only-own side t = (
+    λ h. ⊎_elim (λ is. inl (ap (with_side side) is)) (λ later. inr (later, h.1)) (Contains-cases x own t h.0),
+    λ h. ⊎_elim
+        (λ is. subst (λ (s : Sided Tiploc). IsOnly (x ∷ own) theirs s.it) is (Contains-first x own, none))
+        (λ later. (Contains-rest x own t later.0, later.1))
+        h,
   )
 
   only-theirs : (side e : Side) → (side ≡ e → ⊥) → (t : Tiploc) →
       IsOnly theirs (x ∷ own) t ↔ ((with_side side x ≡ with_side e t) ⊎ IsOnly theirs own t)
-  only-theirs side e apart t = let more = more-right x own theirs none t in (
-    λ h. inr (more.0 h),
-    λ h. ⊎_elim (λ is. absurd (apart (ap (λ (s : Sided Tiploc). s.side) is))) (λ later. more.1 later) h,
+  only-theirs side e apart t = (
+    λ h. inr (h.0, λ in'. h.1 (Contains-rest x own t in')),
+    λ h. ⊎_elim
+        (λ is. absurd (apart (ap (λ (s : Sided Tiploc). s.side) is)))
+        (λ later. (
+          later.0,
+          λ in'. ⊎_elim (λ is. none (subst (λ u. Contains theirs u) (sym is) later.0)) later.1
+              (Contains-cases x own t in'),
+        ))
+        h,
   )
 
   -- a location that is left is that one, or it is left on
@@ -224,8 +214,3 @@ module _ (lefts rights : List Tiploc) where
     sifting-end l r ls rs p q h a =
         let (no_left, no_right) = nothing-first l r h in
         sifting-all ls rs p q (rw (no_left, no_right) at a)
-
--- the slice behind the first
-pub behind-first : (l : List Tiploc) → take (length l - 1) (drop 1 l) ≡ drop 1 l
-behind-first l =
-    let len : length (drop 1 l) ≡ length l - 1 = length-drop 1 l in take_all (length l - 1) (drop 1 l) (omega (arith, len))

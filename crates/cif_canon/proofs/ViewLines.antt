@@ -4,11 +4,10 @@ use Rattle.std.proofs.Common.{◌∙◌, append-nil, append_assoc, arith, subst,
 use Rattle.std.specs.Prelude.{replicate}
 use Rattle.std.proofs.lemmas.Grind.{flat_map-append}
 use Rattle.std.proofs.lemmas.List.{at_drop_all, at_drop_more}
-use Rattle.std.proofs.lemmas.List.Elements.{All-cons, All-nil, All-replicate}
+use Rattle.std.proofs.lemmas.List.Elements.{All-cons, All-from_recursion, All-replicate}
 use Rattle.cif_columns.specs.Line.{ArePrintable, IsPrintable}
 use Rattle.cif_canon.specs.Fields.{AreFields, Field, after, century, fields_text, line_of, long_date, nothing, row_start, separator, shown}
-use Rattle.cif_canon.specs.Fields.{with_first}
-use Rattle.cif_canon.specs.Fields.{width, width_of}
+use Rattle.cif_canon.specs.Fields.{with_first, width, width_of}
 use Rattle.cif_canon.specs.declared.rows.Format.{Format}
 use Rattle.cif_canon.specs.declared.rows.Format.TheVariants.{Text, Tsv}
 use Rattle.cif_canon.specs.declared.rows.Shape.{Shape}
@@ -176,11 +175,7 @@ dashed-printable : (a b c d e f : ℕ) → IsPrintable a → IsPrintable b → I
     ArePrintable (dashed a b c d e f)
 dashed-printable a b c d e f p q r s t u =
     let dash : IsPrintable 45 = (omega arith, omega arith) in
-    let of-day : ArePrintable (45 ∷ e ∷ f ∷ []) = All-cons IsPrintable 45 (e ∷ f ∷ []) dash
-    (All-cons IsPrintable e (f ∷ []) t (All-cons IsPrintable f [] u (All-nil IsPrintable))) in
-    let of-month : ArePrintable (45 ∷ c ∷ d ∷ 45 ∷ e ∷ f ∷ []) = All-cons IsPrintable 45 (c ∷ d ∷ 45 ∷ e ∷ f ∷ []) dash
-    (All-cons IsPrintable c (d ∷ 45 ∷ e ∷ f ∷ []) r (All-cons IsPrintable d (45 ∷ e ∷ f ∷ []) s of-day)) in
-    All-cons IsPrintable a (b ∷ 45 ∷ c ∷ d ∷ 45 ∷ e ∷ f ∷ []) p (All-cons IsPrintable b (45 ∷ c ∷ d ∷ 45 ∷ e ∷ f ∷ []) q of-month)
+    All-from_recursion IsPrintable (dashed a b c d e f) (p, (q, (dash, (r, (s, (dash, (t, (u, tt))))))))
 
 behind-century : (earlier : Bool) (rest : List ℕ) → ArePrintable rest →
     ArePrintable ((if earlier then codes "20" else codes "19") ++ rest)

@@ -1,5 +1,5 @@
 -- What is listed of records is the text of a view.
-use Rattle.std.proofs.Common.{◌≡◌, ℕ, List, ◌++◌, map, Result, Ok, Err, sym, ap, ◌∙◌, subst}
+use Rattle.std.proofs.Common.{◌≡◌, ℕ, List, ◌++◌, map, Result, Ok, Err, ap, ◌∙◌, length, ◌<◌}
 use Rattle.cif_weeks.proofs.PermanentEntries.{canonical-dated}
 use Rattle.cif_canon.specs.Normalised.{IfWritten}
 use Rattle.cif_canon.specs.Views.{IsDayListed, IsTrainListed}
@@ -9,6 +9,7 @@ use Rattle.cif_canon.proofs.Words.{flat_map, header_window, key_cmp, listed_of, 
 use Rattle.cif_canon.proofs.Words.{run_text, schedule_entries, slice_cmp}
 use Rattle.cif_canon.proofs.CanonTexts.{have-records, texts-of_runs}
 use Rattle.cif_canon.proofs.ChosenRecords.{chosen-text}
+use Rattle.cif_canon.proofs.RunTexts.{sources-slices}
 use Rattle.cif_canon.proofs.RunningRecords.{applying, bodied, own, own-are, own-rising, running}
 
 -- an answer that a text was written, or a prefix of it
@@ -23,14 +24,13 @@ pub sliced : {X K B : Type 0} (text : K × Permanent B → List ℕ) (entry : X 
 sliced text entry xs ys runs rs same is =
     ap (λ zs. flat_map (run_text text (map entry zs)) runs) same ∙ ap (flat_map (run_text text (map entry ys))) is
 
--- the runs of a slice's canonical records have their records
+-- the runs of a slice's canonical records have their sources and their records
 pub have-lines : {X K B : Type 0} (cmp : K → K → Ordering) (form : Form) (window : Window) (entry : X → K × Terms B) (xs ys : List X)
     (runs own : List Run) → xs ≡ ys → runs ≡ own → AreCanonicalRecords cmp form window (map entry ys) own →
-    All (HasRecord (map entry xs)) runs
+    All (λ (run : Run). run.source < length xs) runs × All (HasRecord (map entry xs)) runs
 have-lines cmp form window entry xs ys runs own same is a =
-    subst (λ zs. All (HasRecord (map entry zs)) runs) (sym same)
-    (subst (λ rs. All (HasRecord (map entry ys)) rs) (sym is)
-    (have-records (map entry ys) own a.records a.runs_of (canonical-dated cmp form window a.records a.canonical)))
+    sources-slices entry ys xs own runs same is
+    (have-records (map entry ys) own a.records a.runs_of (canonical-dated cmp form window a.records a.canonical))
 
 -- what is listed of the associations' runs on a day, and of the trains'
 abbrev pub associations-text : (AssocKey × AssocBody → List ℕ) → ExtractParts → ℕ → List Run → List ℕ

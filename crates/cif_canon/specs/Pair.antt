@@ -1,5 +1,5 @@
 -- Two extracts, in a window that is asked for of both: what `compare` and `diff` read.
-use Rattle.std.specs.Prelude.{◌≡◌, ◌⊎◌, ℕ, Bool, true, false, List, Some, Result, Ok, Err, max, min, unwrap_or}
+use Rattle.std.specs.Prelude.{◌⊎◌, ℕ, Bool, true, false, List, Some, Result, Ok, Err, max, min, unwrap_or}
 use Rattle.cif_columns.specs.declared.line_reader.TheConstants.{MAX_LINES}
 use Rattle.cif_extract.specs.ExtractParts.{ExtractParts, extract_parts}
 use Rattle.cif_extract.specs.SpellsExtract.{BytesSpellWithin}

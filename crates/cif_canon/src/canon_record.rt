@@ -120,8 +120,5 @@ pub(crate) fn sided_record<'a, E: Entry>(
     ensures { record_at (at_side (keyed E.key E.terms left.now) (keyed E.key E.terms right.now) run.now.side) run.now.it
         ≡ Some result }
 {
-    match run.side {
-        Side::Left => record_of(left, &run.it),
-        Side::Right => record_of(right, &run.it),
-    }
+    record_of(run.side.of(left, right), &run.it)
 }

@@ -180,8 +180,5 @@ fn entry_of<'a, E: Entry>(left: &'a [E], right: &'a [E], run: &Sided<Run>) -> &'
     ensures { HasKey (at_side (keyed E.key E.terms left.now) (keyed E.key E.terms right.now) run.now.side)
         run.now.it.source (E.key result.now) }
 {
-    match run.side {
-        Side::Left => &left[run.it.source],
-        Side::Right => &right[run.it.source],
-    }
+    &run.side.of(left, right)[run.it.source]
 }

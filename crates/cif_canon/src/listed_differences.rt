@@ -28,6 +28,18 @@ pub enum Side {
     Right,
 }
 
+impl Side {
+    /// The one that is of this side.
+    pub(crate) fn of<'a, T>(self, left: &'a [T], right: &'a [T]) -> &'a [T]
+        ensures { result.now ≡ at_side left.now right.now self }
+    {
+        match self {
+            Side::Left => left,
+            Side::Right => right,
+        }
+    }
+}
+
 /// Something that only one side has.
 #[derive(Clone, Copy, Debug, Drop)]
 pub struct Sided<T> {
@@ -48,18 +60,11 @@ pub(crate) fn push_next<'x, T: Copy + Drop>(
     ensures { IfOk result (λ rest. HasMovedOf side lefts.now rights.now rest.0.now rest.1.now
         found.old.items found.new.items) }
 {
+    let own = side.of(lefts, rights);
+    found.push(Sided { side, it: own[0] })?;
     match side {
-        Side::Left => {
-            found.push(Sided { side, it: lefts[0] })?;
-            Ok((&lefts[1..], rights))
-        }
-        Side::Right => {
-            found.push(Sided {
-                side,
-                it: rights[0],
-            })?;
-            Ok((lefts, &rights[1..]))
-        }
+        Side::Left => Ok((&own[1..], rights)),
+        Side::Right => Ok((lefts, &own[1..])),
     }
 }
 

@@ -1,13 +1,11 @@
 -- An entry at a position of its side has its key (`has-key`).
 use Rattle.cif_calendar.proofs.KeyPositions.{has-key}
+use Rattle.cif_canon.proofs.Words.{keyed}
+use Rattle.cif_canon.proofs.MergedSides.{at_side-made}
 use Rattle.cif_canon.proofs.comparison.entry_of.Goals as goal
 
-pub returns-in-Left : goal.returns-in-Left
-returns-in-Left g c =
-    rw c.in-Left.is (has-key g.E.Entry.key g.E.Entry.terms c.args.left.now c.args.run.now.it.source c.index-left-run.result
-    (rw c.in-Left.is at c.requires) c.index-left-run.is)
-
-pub returns-in-Right : goal.returns-in-Right
-returns-in-Right g c =
-    rw c.in-Right.is (has-key g.E.Entry.key g.E.Entry.terms c.args.right.now c.args.run.now.it.source c.index-right-run.result
-    (rw c.in-Right.is at c.requires) c.index-right-run.is)
+pub returns : goal.returns
+returns g c =
+    rw (at_side-made (λ es. keyed g.E.Entry.key g.E.Entry.terms es) c.args.left.now c.args.right.now c.args.run.now.side, ← c.of.ensures)
+    (has-key g.E.Entry.key g.E.Entry.terms c.of.result.now c.args.run.now.it.source c.index-of-run.result
+    (rw c.of.ensures c.requires) c.index-of-run.is)

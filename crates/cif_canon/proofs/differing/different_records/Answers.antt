@@ -5,14 +5,13 @@ use Rattle.std.proofs.lemmas.Result.{IfOk-from_err}
 use Rattle.std.proofs.lemmas.List.Elements.{All-drop, All-take}
 use Rattle.cif_calendar.proofs.FirstClash.{same_key-cmp}
 use Rattle.cif_weeks.proofs.CalendarSources.{calendar_sources}
-use Rattle.cif_canon.proofs.Words.{All, AreAllByKey, ArePositionsOf, Run, Sided, keyed, window_from}
-use Rattle.cif_canon.proofs.ComparedKeys.{AreTurns, turns}
-use Rattle.cif_canon.proofs.FoundRecords.{AreFound, AreTold, found-all, found-enough, found-first, found-key}
-use Rattle.cif_canon.proofs.KeyDifferences.{key-clears, key-only, key-told}
+use Rattle.cif_canon.proofs.Words.{All, AreAllByKey, Run, Sided, keyed, window_from}
+use Rattle.cif_canon.proofs.FoundRecords.{AreFound, found-all, found-enough, found-first, found-key, found-turns}
+use Rattle.cif_canon.proofs.KeyDifferences.{key-of}
 use Rattle.cif_calendar.proofs.KeyPositions.{all-within}
 use Rattle.cif_canon.proofs.differing.different_records.Given.{Over}
 use Rattle.cif_canon.proofs.differing.different_records.Goals as goal
-use Rattle.cif_canon.proofs.differing.different_records.Goals.{In-Some, In_ok-push_differences}
+use Rattle.cif_canon.proofs.differing.different_records.Goals.{In_ok-push_differences}
 
 pub loop-first-init : goal.loop-first-init
 loop-first-init g c =
@@ -46,28 +45,6 @@ first_key-requires-clause-left_rising g c = c.loop-first.invariant.found.passed.
 pub first_key-requires-clause-right_rising : goal.first_key-requires-clause-right_rising
 first_key-requires-clause-right_rising g c = c.loop-first.invariant.found.passed.right_rising
 
--- the fronts of both rests, as they were split off
-fronts : (g : Over) (c : In-Some g) →
-    AreTurns g.E.Key.Ord.cmp (keyed g.E.Entry.key g.E.Entry.terms c.args.left.now)
-    (keyed g.E.Entry.key g.E.Entry.terms c.args.right.now) c.loop-first.left_rest.now
-    c.loop-first.right_rest.now (g.E.Entry.key c.in-Some.first.entry.now) c.in-Some.first.left.now c.in-Some.first.left_later.now
-    c.in-Some.first.right.now c.in-Some.first.right_later.now
-fronts g c =
-    let cmp = g.E.Key.Ord.cmp in
-    let xs = keyed g.E.Entry.key g.E.Entry.terms c.args.left.now in
-    let ys = keyed g.E.Entry.key g.E.Entry.terms c.args.right.now in
-    let window = window_from c.args.window.now.first c.args.window.now.last in
-    let l = c.loop-first.left_rest.now in
-    let r = c.loop-first.right_rest.now in
-    let found = c.loop-first.invariant.found in
-    let s = c.in-Some.ensures in
-    rw (s.left_split.prefix_is, s.left_split.later_is, s.right_split.prefix_is, s.right_split.later_is)
-    (turns cmp g.met.E.Key.Ord.total
-    (same_key-cmp g.E.Key.PartialEq.eq cmp g.met.E.Key.Ord.matches_eq g.met.E.Entry.same_key) xs ys l r
-    (AreTold window xs ys found.found) found.passed (g.E.Entry.key c.in-Some.first.entry.now)
-    s.first _ _
-    s.left_split.is_count s.right_split.is_count)
-
 pub calendar-requires : goal.calendar-requires
 calendar-requires g c = record {
   positions = subst (λ (is : List ℕ). All (λ i. i < length c.args.left.now) is) (sym c.in-Some.ensures.left_split.prefix_is)
@@ -93,66 +70,58 @@ pub push_differences-requires-clause-right : goal.push_differences-requires-clau
 push_differences-requires-clause-right g c = calendar_sources _ _ _ _ _ c.in_ok-other.ensures.calendar
 
 pub loop-first-smaller : goal.loop-first-smaller
-loop-first-smaller g c = (fronts g (goal.at.loop-first-smaller g c).In-Some).smaller
+loop-first-smaller g c =
+    let f = c.in-Some.ensures in
+    let same = same_key-cmp g.E.Key.PartialEq.eq g.E.Key.Ord.cmp g.met.E.Key.Ord.matches_eq g.met.E.Entry.same_key in
+    rw (f.left_split.later_is, f.right_split.later_is)
+    (found-turns g.E.Key.Ord.cmp g.met.E.Key.Ord.total same (window_from c.args.window.now.first c.args.window.now.last)
+    (keyed g.E.Entry.key g.E.Entry.terms c.args.left.now) (keyed g.E.Entry.key g.E.Entry.terms c.args.right.now) c.loop-first.left_rest.now
+    c.loop-first.right_rest.now c.loop-first.found.items c.loop-first.invariant.found (g.E.Entry.key c.in-Some.first.entry.now) f.first _ _
+    f.left_split.is_count f.right_split.is_count).smaller
 
 -- with the key's differences behind the others
 more : (g : Over) (c : In_ok-push_differences g) →
-    ArePositionsOf (keyed g.E.Entry.key g.E.Entry.terms c.args.left.now) (g.E.Entry.key c.in-Some.first.entry.now)
-    c.in-Some.first.left.now →
-    ArePositionsOf (keyed g.E.Entry.key g.E.Entry.terms c.args.right.now) (g.E.Entry.key c.in-Some.first.entry.now)
-    c.in-Some.first.right.now →
     AreFound g.E.Key.Ord.cmp (window_from c.args.window.now.first c.args.window.now.last)
     (keyed g.E.Entry.key g.E.Entry.terms c.args.left.now) (keyed g.E.Entry.key g.E.Entry.terms c.args.right.now)
     c.in-Some.first.left_later.now c.in-Some.first.right_later.now c.push_differences.new.found.items
-more g c left right =
+more g c =
     let key = g.E.Entry.key in
     let terms = g.E.Entry.terms in
-    let cancelled = g.met.E.Entry.cancelled in
     let es = c.args.left.now in
     let fs = c.args.right.now in
     let first = c.args.window.now.first in
     let last = c.args.window.now.last in
     let k = key c.in-Some.first.entry.now in
     let same = same_key-cmp g.E.Key.PartialEq.eq g.E.Key.Ord.cmp g.met.E.Key.Ord.matches_eq g.met.E.Entry.same_key in
-    let one = c.in_ok-one.ensures.calendar in
-    let other = c.in_ok-other.ensures.calendar in
     let d = c.in_ok-push_differences.ensures in
     let f = c.in-Some.ensures in
     rw (f.left_split.later_is, f.right_split.later_is)
-    (found-key g.E.Key.Ord.cmp g.met.E.Key.Ord.total (window_from first last) (keyed key terms es) (keyed key terms fs)
-    c.loop-first.left_rest.now c.loop-first.right_rest.now c.loop-first.found.items c.loop-first.invariant.found k f.first.has d.lefts
-    d.rights
-    (key-only key terms cancelled es fs k c.in-Some.first.left.now c.in-Some.first.right.now left right first last
-    c.in_ok-one.one c.in_ok-other.other one other d.lefts d.left)
-    (key-only key terms cancelled fs es k c.in-Some.first.right.now c.in-Some.first.left.now right left first last
-    c.in_ok-other.other c.in_ok-one.one other one d.rights d.right)
-    d.appended.merged d.appended.are
-    (key-clears key terms cancelled es fs k c.in-Some.first.left.now c.in-Some.first.right.now left right first last
-    c.in_ok-one.one c.in_ok-other.other one other)
-    (key-told key terms cancelled es fs k c.in-Some.first.left.now c.in-Some.first.right.now left right first last
-    c.in_ok-one.one c.in_ok-other.other one other g.E.Body.PartialEq.eq g.met.E.Entry.same_body)
-    same f.first _ _ f.left_split.is_count f.right_split.is_count c.push_differences.new.found.items d.appended.appended)
+    (found-key g.E.Key.Ord.cmp g.met.E.Key.Ord.total same (window_from first last) (keyed key terms es) (keyed key terms fs)
+    c.loop-first.left_rest.now c.loop-first.right_rest.now c.loop-first.found.items c.loop-first.invariant.found k f.first _ _
+    f.left_split.is_count f.right_split.is_count d.appended.merged
+    (λ p q. key-of key terms g.met.E.Entry.cancelled es fs k c.in-Some.first.left.now c.in-Some.first.right.now
+    (rw f.left_split.prefix_is p) (rw f.right_split.prefix_is q) first last c.in_ok-one.one c.in_ok-other.other
+    c.in_ok-one.ensures.calendar c.in_ok-other.ensures.calendar g.E.Body.PartialEq.eq g.met.E.Entry.same_body c.loop-first.found.items
+    c.push_differences.new.found.items d) c.push_differences.new.found.items d.appended.appended)
 
 pub returns-then-is_enough : goal.returns-then-is_enough
 returns-then-is_enough g c =
     let enough = c.if-is_enough.ensures.0 refl in
     let at = goal.at.returns-then-is_enough g c in
-    let both = fronts g at.In-Some in
     found-enough g.E.Key.Ord.cmp g.met.E.Key.Ord.total (window_from c.args.window.now.first c.args.window.now.last) _ _ _ _
-    c.push_differences.new.found.items (more g at.In_ok-push_differences both.left both.right) c.args.extent enough.0
+    c.push_differences.new.found.items (more g at.In_ok-push_differences) c.args.extent enough.0
     (rw c.as_slice.ensures.value at enough.1)
 
 pub loop-first-preserved : goal.loop-first-preserved
 loop-first-preserved g c =
     let left = c.args.left.now in
     let right = c.args.right.now in
-    let at = goal.at.loop-first-preserved g c in
-    let both = fronts g at.In-Some in record {
+    record {
       left_within = subst (λ (rest : List ℕ). All (λ i. i < length left) rest) (sym c.in-Some.ensures.left_split.later_is)
           (All-drop (λ i. i < length left) _ _ c.loop-first.invariant.left_within);
       right_within = subst (λ (rest : List ℕ). All (λ i. i < length right) rest) (sym c.in-Some.ensures.right_split.later_is)
           (All-drop (λ i. i < length right) _ _ c.loop-first.invariant.right_within);
-      found = more g at.In_ok-push_differences both.left both.right;
+      found = more g (goal.at.loop-first-preserved g c).In_ok-push_differences;
     }
 
 pub returns : goal.returns

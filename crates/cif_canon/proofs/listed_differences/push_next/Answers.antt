@@ -1,5 +1,5 @@
 -- The first item is before the others.
-use Rattle.std.proofs.Common.{◌≡◌, ◌-◌, ◌<◌, List, [], ◌∷◌, ap₂, arith, drop, get_or, length, refl, sym, take}
+use Rattle.std.proofs.Common.{◌≡◌, ◌∙◌, ◌-◌, ◌<◌, List, [], ◌∷◌, ap₂, arith, drop, get_or, length, refl, sym, take}
 use Rattle.std.proofs.lemmas.List.{take_all}
 use Rattle.std.proofs.lemmas.Result.{IfOk-from_err}
 use Rattle.cif_canon.proofs.listed_differences.push_next.Goals as goal
@@ -9,29 +9,27 @@ first-before : {T : Type 0} (items : List T) (item : T) → 0 < length items →
 first-before [] item some is = absurd (omega (arith, some))
 first-before (x ∷ xs) item some is = ap₂ (λ y ys. y ∷ ys) (sym is) (sym (take_all (length (x ∷ xs) - 1) xs (omega arith)))
 
-pub returns-in_err-push-in-Left : goal.returns-in_err-push-in-Left
-returns-in_err-push-in-Left g c = IfOk-from_err c.from_residual.result _ c.from_residual.ensures.0
+pub returns-in_err-push : goal.returns-in_err-push
+returns-in_err-push g c = IfOk-from_err c.from_residual.result _ c.from_residual.ensures.0
 
-pub returns-in_err-push-in-Right : goal.returns-in_err-push-in-Right
-returns-in_err-push-in-Right g c =
-    IfOk-from_err c.from_residual-in_err-push-in-Right.result _ c.from_residual-in_err-push-in-Right.ensures.0
-
-pub returns-in_ok-push-in-Left : goal.returns-in_ok-push-in-Left
-returns-in_ok-push-in-Left g c = rw c.in-Left.is (
+pub returns-in-Left : goal.returns-in-Left
+returns-in-Left g c = rw c.in-Left.is (
   record {
-    item = c.index-lefts-0.result;
-    items_are = first-before c.args.lefts.now c.index-lefts-0.result (rw c.in-Left.is at c.requires) c.index-lefts-0.is;
-    new_is = rw c.in-Left.is at c.in_ok-push-in-Left.ensures.items;
+    item = c.index-own-0.result;
+    items_are = rw c.in-Left.is at (sym c.of-own.ensures
+        ∙ first-before c.of-own.result.now c.index-own-0.result (rw c.of-own.ensures c.requires) c.index-own-0.is);
+    new_is = rw c.in-Left.is at c.in_ok-push.ensures.items;
   },
   refl,
 )
 
-pub returns-in_ok-push-in-Right : goal.returns-in_ok-push-in-Right
-returns-in_ok-push-in-Right g c = rw c.in-Right.is (
+pub returns-in-Right : goal.returns-in-Right
+returns-in-Right g c = rw c.in-Right.is (
   record {
-    item = c.index-rights-0.result;
-    items_are = first-before c.args.rights.now c.index-rights-0.result (rw c.in-Right.is at c.requires) c.index-rights-0.is;
-    new_is = rw c.in-Right.is at c.in_ok-push-in-Right.ensures.items;
+    item = c.index-own-0.result;
+    items_are = rw c.in-Right.is at (sym c.of-own.ensures
+        ∙ first-before c.of-own.result.now c.index-own-0.result (rw c.of-own.ensures c.requires) c.index-own-0.is);
+    new_is = rw c.in-Right.is at c.in_ok-push.ensures.items;
   },
   refl,
 )

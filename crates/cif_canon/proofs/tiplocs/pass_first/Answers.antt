@@ -3,7 +3,8 @@ use Rattle.std.proofs.Common.{Some, subst}
 use Rattle.std.proofs.lemmas.Result.{IfOk-weaker}
 use Rattle.cif_canon.proofs.Words.{IsFirstOrder, Left, Right}
 use Rattle.cif_canon.proofs.MergedSides.{moved-smaller}
-use Rattle.cif_canon.proofs.SiftedTiplocs.{behind-first, moved, passed-both}
+use Rattle.cif_canon.proofs.PairedRecords.{tail-is}
+use Rattle.cif_canon.proofs.SiftedTiplocs.{moved, passed-both}
 use Rattle.cif_canon.proofs.tiplocs.pass_first.Goals as goal
 
 pub returns-in-Less-clause-sifting : goal.returns-in-Less-clause-sifting
@@ -30,5 +31,5 @@ returns-in-Greater-clause-smaller c =
 pub returns-in-Equal-clause-sifting : goal.returns-in-Equal-clause-sifting
 returns-in-Equal-clause-sifting c left right a =
     (passed-both left right c.args.found.now.items c.args.lefts.now c.args.rights.now
-    (subst (λ o. IsFirstOrder c.args.lefts.now c.args.rights.now (Some o)) c.in-Equal.is c.requires) a _ _ (behind-first c.args.lefts.now)
-    (behind-first c.args.rights.now)).0
+    (subst (λ o. IsFirstOrder c.args.lefts.now c.args.rights.now (Some o)) c.in-Equal.is c.requires) a _ _ (tail-is c.args.lefts.now)
+    (tail-is c.args.rights.now)).0

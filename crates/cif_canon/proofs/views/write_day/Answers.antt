@@ -3,21 +3,22 @@ use Rattle.std.proofs.Common.{◌++◌, refl}
 use Rattle.cif_canon.proofs.Words.{DayTexts, Two, association_entry, extract_parts, header_window, key_cmp, listed_on, nat_cmp}
 use Rattle.cif_canon.proofs.Words.{schedule_entry, slice_cmp}
 use Rattle.cif_canon.proofs.AppendedTexts.{both, fault-answered, text-is}
-use Rattle.cif_canon.proofs.RunTexts.{sources-within}
 use Rattle.cif_canon.proofs.ViewTexts.{associations-text, day-listed, have-lines, sliced, trains-text, written-so}
 use Rattle.cif_canon.proofs.views.write_day.Goals as goal
 
 pub write_runs-requires : goal.write_runs-requires
-write_runs-requires g c κs =
-    let records = have-lines key_cmp Two (header_window c.args.extract.now.header) association_entry c.as_slice.result.now _
-    c.as_slice-2.result.now _ c.as_slice.ensures.value c.as_slice-2.ensures.value c.in_ok-runs.ensures.associations in
-    ((refl, tt), (sources-within association_entry c.as_slice.result.now c.as_slice-2.result.now records, records))
+write_runs-requires g c κs = (
+  (refl, tt),
+  have-lines key_cmp Two (header_window c.args.extract.now.header) association_entry c.as_slice.result.now _
+      c.as_slice-2.result.now _ c.as_slice.ensures.value c.as_slice-2.ensures.value c.in_ok-runs.ensures.associations,
+)
 
 pub write_runs-requires-2 : goal.write_runs-requires-2
-write_runs-requires-2 g c κs =
-    let records = have-lines (slice_cmp nat_cmp) Two (header_window c.args.extract.now.header) schedule_entry c.as_slice-3.result.now _
-    c.as_slice-4.result.now _ c.as_slice-3.ensures.value c.as_slice-4.ensures.value c.in_ok-runs.ensures.schedules in
-    ((refl, tt), (sources-within schedule_entry c.as_slice-3.result.now c.as_slice-4.result.now records, records))
+write_runs-requires-2 g c κs = (
+  (refl, tt),
+  have-lines (slice_cmp nat_cmp) Two (header_window c.args.extract.now.header) schedule_entry c.as_slice-3.result.now _
+      c.as_slice-4.result.now _ c.as_slice-3.ensures.value c.as_slice-4.ensures.value c.in_ok-runs.ensures.schedules,
+)
 
 pub returns-clause-view : goal.returns-clause-view
 returns-clause-view g c =

@@ -3,16 +3,16 @@ use Rattle.std.proofs.Common.{◌++◌, List, ℕ, refl}
 use Rattle.cif_canon.proofs.Words.{TrainTexts, extract_parts, flat_map, header_window, listed_of, nat_cmp, run_text, schedule_entries}
 use Rattle.cif_canon.proofs.Words.{schedule_entry, slice_cmp}
 use Rattle.cif_canon.proofs.AppendedTexts.{both, fault-answered, text-is}
-use Rattle.cif_canon.proofs.RunTexts.{sources-within}
 use Rattle.cif_canon.proofs.ViewTexts.{have-lines, sliced, train-listed, written-so}
 use Rattle.cif_canon.proofs.views.write_train.Goals as goal
 
 pub write_runs-requires : goal.write_runs-requires
-write_runs-requires g c κs =
-    let records = have-lines (slice_cmp nat_cmp) c.args.form (header_window c.args.extract.now.header) schedule_entry
-    c.as_slice.result.now _
-    c.as_slice-2.result.now _ c.as_slice.ensures.value c.as_slice-2.ensures.value c.in_ok-runs.ensures.schedules in
-    ((refl, tt), (sources-within schedule_entry c.as_slice.result.now c.as_slice-2.result.now records, records))
+write_runs-requires g c κs = (
+  (refl, tt),
+  have-lines (slice_cmp nat_cmp) c.args.form (header_window c.args.extract.now.header) schedule_entry
+      c.as_slice.result.now _ c.as_slice-2.result.now _ c.as_slice.ensures.value c.as_slice-2.ensures.value
+      c.in_ok-runs.ensures.schedules,
+)
 
 pub returns-clause-view : goal.returns-clause-view
 returns-clause-view g c =

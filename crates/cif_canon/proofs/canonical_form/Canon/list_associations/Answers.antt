@@ -3,7 +3,7 @@ use Rattle.std.proofs.Common.{ap, ◌∙◌, refl}
 use Rattle.cif_canon.proofs.Words.{CanonParts, association_entries, association_entry, association_plain, canon_lines, flat_map}
 use Rattle.cif_canon.proofs.AppendedTexts.{text-is}
 use Rattle.cif_canon.proofs.CanonLines.{parts-text}
-use Rattle.cif_canon.proofs.RunTexts.{sources-within}
+use Rattle.cif_canon.proofs.RunTexts.{sources-slices}
 use Rattle.cif_canon.proofs.canonical_form.Canon.list_associations.Goals as goal
 
 pub returns : goal.returns
@@ -17,11 +17,5 @@ returns g c =
     (rw (c.as_slice.ensures.value, c.as_slice-2.ensures.value) at c.write_runs.ensures)
 
 pub write_runs-requires : goal.write_runs-requires
-write_runs-requires g c κs = (
-  (refl, tt),
-  (
-    sources-within association_entry c.as_slice.result.now c.as_slice-2.result.now
-        (rw (c.as_slice.ensures.value, c.as_slice-2.ensures.value) c.self.invariant.0),
-    rw (c.as_slice.ensures.value, c.as_slice-2.ensures.value) c.self.invariant.0,
-  ),
-)
+write_runs-requires g c κs =
+    ((refl, tt), sources-slices association_entry _ _ _ _ c.as_slice.ensures.value c.as_slice-2.ensures.value c.self.invariant.0)

@@ -3,7 +3,7 @@ use Rattle.std.proofs.Common.{ap, ◌∙◌, ℕ}
 use Rattle.cif_canon.proofs.Words.{CanonParts, ScheduleLines, canon_lines, enumerate_from, flat_map, schedule_entries, schedule_entry}
 use Rattle.cif_canon.proofs.AppendedTexts.{text-is}
 use Rattle.cif_canon.proofs.CanonLines.{numbered-texts}
-use Rattle.cif_canon.proofs.RunTexts.{sources-within}
+use Rattle.cif_canon.proofs.RunTexts.{sources-slices}
 use Rattle.cif_canon.proofs.canonical_form.Canon.list_schedules.Goals as goal
 
 pub returns : goal.returns
@@ -18,8 +18,7 @@ returns g c =
 
 pub list_runs-requires-clause-within : goal.list_runs-requires-clause-within
 list_runs-requires-clause-within g c =
-    sources-within schedule_entry c.as_slice.result.now c.as_slice-2.result.now
-    (rw (c.as_slice.ensures.value, c.as_slice-2.ensures.value) c.self.invariant.1)
+    (sources-slices schedule_entry _ _ _ _ c.as_slice.ensures.value c.as_slice-2.ensures.value c.self.invariant.1).0
 
 pub list_runs-requires-clause-records : goal.list_runs-requires-clause-records
 list_runs-requires-clause-records g c = rw (c.as_slice.ensures.value, c.as_slice-2.ensures.value) c.self.invariant.1

@@ -2,7 +2,7 @@
 use Rattle.std.proofs.Common.{ap, refl}
 use Rattle.cif_canon.proofs.Words.{CanonParts, association_entry, extract_parts, schedule_entry}
 use Rattle.cif_canon.proofs.AppendedTexts.{answered, appended, text-is}
-use Rattle.cif_canon.proofs.RunTexts.{sources-within}
+use Rattle.cif_canon.proofs.RunTexts.{sources-slices}
 use Rattle.cif_canon.proofs.WrittenCanon.{canon-appended}
 use Rattle.cif_canon.proofs.canonical_form.Canon.write.Goals as goal
 
@@ -19,19 +19,12 @@ returns-clause-writes g c =
     (appended _ _ _ _ _ c.write_trailer.result c.write_trailer.ensures)))
 
 pub write_runs-requires : goal.write_runs-requires
-write_runs-requires g c κs = (
-  (refl, tt),
-  (
-    sources-within association_entry c.as_slice-2.result.now c.as_slice-3.result.now
-        (rw (c.as_slice-2.ensures.value, c.as_slice-3.ensures.value) c.self.invariant.0),
-    rw (c.as_slice-2.ensures.value, c.as_slice-3.ensures.value) c.self.invariant.0,
-  ),
-)
+write_runs-requires g c κs =
+    ((refl, tt), sources-slices association_entry _ _ _ _ c.as_slice-2.ensures.value c.as_slice-3.ensures.value c.self.invariant.0)
 
 pub write_schedules-requires-clause-within : goal.write_schedules-requires-clause-within
 write_schedules-requires-clause-within g c =
-    sources-within schedule_entry c.as_slice-4.result.now c.as_slice-5.result.now
-    (rw (c.as_slice-4.ensures.value, c.as_slice-5.ensures.value) c.self.invariant.1)
+    (sources-slices schedule_entry _ _ _ _ c.as_slice-4.ensures.value c.as_slice-5.ensures.value c.self.invariant.1).0
 
 pub write_schedules-requires-clause-records : goal.write_schedules-requires-clause-records
 write_schedules-requires-clause-records g c = rw (c.as_slice-4.ensures.value, c.as_slice-5.ensures.value) c.self.invariant.1

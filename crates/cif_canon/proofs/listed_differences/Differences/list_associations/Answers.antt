@@ -4,7 +4,7 @@ use Rattle.std.specs.List.{flat_map}
 use Rattle.cif_calendar.specs.Entries.{association_entry}
 use Rattle.cif_canon.proofs.Words.{DifferencesParts, by_pairs, key_cmp}
 use Rattle.cif_canon.proofs.AppendedTexts.{text-is}
-use Rattle.cif_canon.proofs.SidedTexts.{sided-within}
+use Rattle.cif_canon.proofs.SidedTexts.{sided-slices}
 use Rattle.cif_canon.proofs.listed_differences.Differences.list_associations.Goals as goal
 
 pub returns : goal.returns
@@ -16,9 +16,6 @@ returns g c =
 pub write_pairs-requires : goal.write_pairs-requires
 write_pairs-requires g c κs = (
   (refl, tt),
-  (
-    sided-within association_entry c.as_slice.result.now c.as_slice-2.result.now c.as_slice-3.result.now
-        (rw (c.as_slice.ensures.value, c.as_slice-2.ensures.value, c.as_slice-3.ensures.value) c.self.invariant.0),
-    rw (c.as_slice.ensures.value, c.as_slice-2.ensures.value, c.as_slice-3.ensures.value) c.self.invariant.0,
-  ),
+  sided-slices association_entry _ _ _ _ _ _ c.as_slice.ensures.value c.as_slice-2.ensures.value c.as_slice-3.ensures.value
+      c.self.invariant.0,
 )

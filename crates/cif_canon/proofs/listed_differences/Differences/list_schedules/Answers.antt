@@ -4,7 +4,7 @@ use Rattle.std.specs.List.{flat_map}
 use Rattle.cif_calendar.specs.Entries.{schedule_entry}
 use Rattle.cif_canon.proofs.Words.{DifferencesParts, by_pairs, nat_cmp, slice_cmp}
 use Rattle.cif_canon.proofs.AppendedTexts.{text-is}
-use Rattle.cif_canon.proofs.SidedTexts.{sided-within}
+use Rattle.cif_canon.proofs.SidedTexts.{sided-slices}
 use Rattle.cif_canon.proofs.listed_differences.Differences.list_schedules.Goals as goal
 
 pub returns : goal.returns
@@ -16,9 +16,6 @@ returns g c =
 pub write_pairs-requires : goal.write_pairs-requires
 write_pairs-requires g c κs = (
   (refl, tt),
-  (
-    sided-within schedule_entry c.as_slice.result.now c.as_slice-2.result.now c.as_slice-3.result.now
-        (rw (c.as_slice.ensures.value, c.as_slice-2.ensures.value, c.as_slice-3.ensures.value) c.self.invariant.1),
-    rw (c.as_slice.ensures.value, c.as_slice-2.ensures.value, c.as_slice-3.ensures.value) c.self.invariant.1,
-  ),
+  sided-slices schedule_entry _ _ _ _ _ _ c.as_slice.ensures.value c.as_slice-2.ensures.value c.as_slice-3.ensures.value
+      c.self.invariant.1,
 )

@@ -3,7 +3,7 @@ use Rattle.std.proofs.Common.{ap, refl}
 use Rattle.cif_calendar.specs.Entries.{association_entry, schedule_entry}
 use Rattle.cif_canon.specs.Differences.{differences_text}
 use Rattle.cif_canon.proofs.AppendedTexts.{answered, text-is}
-use Rattle.cif_canon.proofs.SidedTexts.{sided-within}
+use Rattle.cif_canon.proofs.SidedTexts.{sided-slices}
 use Rattle.cif_canon.proofs.WrittenDifferences.{differences-appended}
 use Rattle.cif_canon.proofs.listed_differences.Differences.write.Goals as goal
 
@@ -22,19 +22,13 @@ returns-clause-writes g c =
 pub write_sided_runs-requires : goal.write_sided_runs-requires
 write_sided_runs-requires g c κs = (
   (refl, tt),
-  (
-    sided-within association_entry c.as_slice-2.result.now c.as_slice-3.result.now c.as_slice-4.result.now
-        (rw (c.as_slice-2.ensures.value, c.as_slice-3.ensures.value, c.as_slice-4.ensures.value) c.self.invariant.0),
-    rw (c.as_slice-2.ensures.value, c.as_slice-3.ensures.value, c.as_slice-4.ensures.value) c.self.invariant.0,
-  ),
+  sided-slices association_entry _ _ _ _ _ _ c.as_slice-2.ensures.value c.as_slice-3.ensures.value
+      c.as_slice-4.ensures.value c.self.invariant.0,
 )
 
 pub write_sided_runs-requires-2 : goal.write_sided_runs-requires-2
 write_sided_runs-requires-2 g c κs = (
   (refl, tt),
-  (
-    sided-within schedule_entry c.as_slice-5.result.now c.as_slice-6.result.now c.as_slice-7.result.now
-        (rw (c.as_slice-5.ensures.value, c.as_slice-6.ensures.value, c.as_slice-7.ensures.value) c.self.invariant.1),
-    rw (c.as_slice-5.ensures.value, c.as_slice-6.ensures.value, c.as_slice-7.ensures.value) c.self.invariant.1,
-  ),
+  sided-slices schedule_entry _ _ _ _ _ _ c.as_slice-5.ensures.value c.as_slice-6.ensures.value
+      c.as_slice-7.ensures.value c.self.invariant.1,
 )
