@@ -1,5 +1,5 @@
 //! What stands on each date of a window.
-ghost use Rattle.std.specs.Prelude.{◌≡◌, ◌+◌, ◌<◌, ℕ, All, IfOk, length, map};
+ghost use Rattle.std.specs.Prelude.{◌+◌, ◌<◌, ℕ, All, IfOk, length, map};
 ghost use Rattle.cif_calendar.specs.DayState.{AreDayStates, IsDayState};
 ghost use Rattle.cif_calendar.specs.Source.{IsChosen};
 ghost use Rattle.cif_calendar.specs.Steps.Standing.{IsBelow, Stands};

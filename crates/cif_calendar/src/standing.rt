@@ -5,13 +5,13 @@
 //! which fall.
 
 ghost use Rattle.std.specs.Prelude.{◌≡◌, ◌<◌, ◌↔◌, ◌⊎◌, ℕ, Some, None, length, map};
-ghost use Rattle.std.specs.Prelude.{All, IsTrue, MatchResult, slice_index_or};
+ghost use Rattle.std.specs.Prelude.{IsTrue, MatchResult, slice_index_or};
 ghost use Rattle.cif_columns.specs.Stp.{letter};
 ghost use Rattle.cif_calendar.specs.Clash.{IsClash, IsClear};
 ghost use Rattle.cif_calendar.specs.Source.{IsChosen, IsSource};
 ghost use Rattle.cif_calendar.specs.Steps.Standing.{AreAlike, AreBelow, Combines};
 ghost use Rattle.cif_calendar.specs.Steps.Standing.{HaveOneBody, IsBelow, IsRank, LooksAt};
-ghost use Rattle.cif_calendar.specs.Steps.Standing.{Stands, StandsAt};
+ghost use Rattle.cif_calendar.specs.Steps.Standing.{Stands};
 ghost use Rattle.cif_calendar.specs.declared.key_calendar.CalendarFault.TheVariants.{Ambiguous};
 ghost use Rattle.cif_calendar.specs.declared.standing.Standing.TheVariants.{Nobody};
 

@@ -1,5 +1,5 @@
 //! What only one of two extracts says.
-ghost use Rattle.std.specs.Prelude.{◌≡◌, ◌↔◌, ◌+◌, ◌<◌, ◌≤◌, IfErr, IfOk, IsTrue, List, OnOk, length, map};
+ghost use Rattle.std.specs.Prelude.{◌≡◌, ◌↔◌, ◌<◌, IfErr, IfOk, IsTrue, OnOk, length, map};
 ghost use Rattle.cif_calendar.specs.Keys.{keyed};
 ghost use Rattle.cif_extract.specs.ExtractParts.{extract_parts};
 ghost use Rattle.cif_weeks.specs.Runs.{AreSources};
@@ -10,7 +10,7 @@ ghost use Rattle.cif_canon.specs.Differences.{AreDifferences, AreNone, TurnLeftI
 ghost use Rattle.cif_canon.specs.Meaning.{Agree};
 ghost use Rattle.cif_canon.specs.Steps.Differences.{AreComparable};
 ghost use Rattle.cif_canon.specs.Steps.OnlySides.{AreAppendedRuns, AreDifferentRuns};
-ghost use Rattle.cif_canon.specs.Steps.OnlySides.{AreKeyDifferences, AreMerging, AreRisingRuns};
+ghost use Rattle.cif_canon.specs.Steps.OnlySides.{AreKeyDifferences, AreRisingRuns};
 ghost use Rattle.cif_canon.specs.Steps.OnlySides.{IsFirstSide};
 ghost use Rattle.cif_weeks.specs.Window.{window_from};
 ghost use Rattle.cif_canon.specs.declared.differing.Extent.TheVariants.{FirstKey};

@@ -1,5 +1,5 @@
 //! What only one of a key's two calendars says, day by day.
-ghost use Rattle.std.specs.Prelude.{◌≡◌, ◌↔◌, ◌≤◌, IfOk, IsTrue, ℕ, map};
+ghost use Rattle.std.specs.Prelude.{◌≡◌, ◌↔◌, ◌≤◌, IfOk, IsTrue, map};
 ghost use Rattle.cif_calendar.specs.Calendar.{body_on};
 ghost use Rattle.cif_calendar.specs.Source.{body_at};
 ghost use Rattle.cif_weeks.specs.Runs.{AreSources};

@@ -11,7 +11,6 @@ ghost use Rattle.cif_canon.specs.Fault.{IsCanonFault};
 ghost use Rattle.cif_canon.specs.Steps.Records.{AreCanonicalRecords, IsRecordsFault};
 ghost use Rattle.cif_canon.specs.Steps.Records.{AreRunsOfKey, IsKeyFault, extract_fault};
 ghost use Rattle.cif_weeks.specs.Window.{window_from};
-ghost use Rattle.cif_weeks.specs.declared.form.Form.{Form as AForm};
 
 use cif_calendar::{
     CalendarFault, Entry, NamedEntry, Window, calendar, count_of_first_key, positions_by_key,

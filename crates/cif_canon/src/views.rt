@@ -1,5 +1,5 @@
 //! What runs on a day, and when a train runs.
-ghost use Rattle.std.specs.Prelude.{◌≡◌, ◌↔◌, ◌+◌, ◌++◌, ◌≤◌, ℕ, List, IfErr, IsTrue, codes};
+ghost use Rattle.std.specs.Prelude.{◌↔◌, ◌+◌, ◌++◌, ◌≤◌, ℕ, List, IfErr, IsTrue, codes};
 ghost use Rattle.arrayvec.specs.ArrayString.{array_string_len};
 ghost use Rattle.cif_extract.specs.ExtractParts.{extract_parts};
 ghost use Rattle.cif_calendar.specs.Applies.{IsAmongDates};

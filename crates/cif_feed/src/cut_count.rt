@@ -1,11 +1,10 @@
 //! How many records holidays cut, and how many apply on a date on which their key clashes.
-ghost use Rattle.std.specs.Prelude.{◌↔◌, ◌≤◌, ◌⊎◌, ℕ, Contains, IsTrue, List, length};
+ghost use Rattle.std.specs.Prelude.{◌↔◌, ◌≤◌, ℕ, Contains, IsTrue, List, length};
 ghost use Rattle.std.specs.BTreeMap.{get};
 ghost use Rattle.std.specs.Ordering.{nat_cmp};
 ghost use Rattle.cif_feed.specs.CutCount.{AppliesOnAny, HasCut, IsCountOf};
 ghost use Rattle.cif_feed.specs.PublishedParts.{published_association_terms, published_schedule_terms};
 ghost use Rattle.cif_feed.specs.Steps.Dropping.{ReadsAssociations, ReadsTrains};
-ghost use Rattle.cif_feed.specs.Prepared.{published_terms};
 ghost use Rattle.cif_feed.specs.Published.{AppliesAsPublished};
 ghost use Rattle.cif_feed.specs.Parts.{ended};
 ghost use Rattle.cif_feed.specs.declared.published.PublishedAssociation.{PublishedAssociation};

@@ -1,9 +1,7 @@
 //! The dates of the holiday codes.
 ghost use Rattle.std.specs.Prelude.{◌≡◌, ◌<◌, ◌≤◌, ◌⊎◌, ◌↔◌, ℕ, [], length, slice_index, Contains};
-ghost use Rattle.std.specs.Prelude.{IfNone, IfOk, IfSome, IsTrue, false, true};
+ghost use Rattle.std.specs.Prelude.{IfOk, IsTrue, false, true};
 ghost use Rattle.std.specs.List.Sorted.{IsNonDecreasing};
-ghost use Rattle.cif_columns.specs.Day.{weekday_of};
-ghost use Rattle.cif_columns.specs.DaysRun.{RunsOn};
 
 use crate::{HolidayCode, HolidayCodes};
 use cif_columns::{Day, DaysRun};

@@ -1,5 +1,5 @@
 //! What a line of a feed says beyond its record.
-ghost use Rattle.std.specs.Prelude.{◌≡◌, IfSome, Some};
+ghost use Rattle.std.specs.Prelude.{◌≡◌, Some};
 ghost use Rattle.cif_feed.specs.Transaction.{transaction_in};
 
 use crate::HolidayCode;

@@ -1,5 +1,5 @@
 //! The parts of a record: its dates between its cuts.
-ghost use Rattle.std.specs.Prelude.{◌≡◌, ◌≤◌, ◌<◌, ◌++◌, ◌⊎◌, ◌↔◌, ℕ, List, IfOk, Contains, drop, length, slice_index};
+ghost use Rattle.std.specs.Prelude.{◌≡◌, ◌≤◌, ◌<◌, ◌++◌, ◌⊎◌, ◌↔◌, ℕ, IfOk, Contains};
 ghost use Rattle.std.specs.List.Sorted.{IsNonDecreasing};
 ghost use Rattle.cif_feed.specs.Parts.{ended};
 ghost use Rattle.cif_feed.specs.Steps.PartsSoFar.{AreAdded, IsLeftFrom, IsPushed, added_before, records_on};

@@ -1,5 +1,5 @@
 //! A record of a prepared extract: a record of the published one, with dates of its own.
-ghost use Rattle.std.specs.Prelude.{◌≡◌, max};
+ghost use Rattle.std.specs.Prelude.{max};
 ghost use Rattle.cif_feed.specs.PreparedRecord.{terms_on};
 
 use crate::written::{Written, write_schedule};

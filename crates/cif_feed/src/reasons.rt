@@ -2,7 +2,6 @@
 ghost use Rattle.std.specs.Prelude.{◌≡◌, ◌≢◌, ◌<◌, ◌≤◌, ◌+◌, ◌++◌, ◌∷◌, [], ℕ, List, Option, Some, length};
 ghost use Rattle.std.specs.List.{flat_map};
 ghost use Rattle.cif_columns.specs.Line.{IsLine};
-ghost use Rattle.cif_columns.specs.Refusal.{number_of};
 ghost use Rattle.cif_columns.specs.Sink.{Writes};
 ghost use Rattle.cif_columns.specs.declared.line_reader.TheConstants.{MAX_LINES};
 ghost use Rattle.cif_columns.specs.declared.refusal.Refusal.{Refusal};

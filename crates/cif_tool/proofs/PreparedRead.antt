@@ -1,8 +1,7 @@
 -- What comes of the sources of `prepare`, where the bytes that their readers give are known.
-use Rattle.std.proofs.Common.{◌≡◌, ◌∙◌, ◌⊎◌, ⊎_elim, ℕ, List, [], Option, None, Some, Result, Ok, Err, Bool, IfErr, IfOk, IfSome}
+use Rattle.std.proofs.Common.{◌≡◌, ◌∙◌, ◌⊎◌, ⊎_elim, ℕ, List, [], Option, None, Some, Result, Ok, Err, Bool, IfErr, IfSome}
 use Rattle.std.proofs.Common.{ap, inl, inr, refl}
 use Rattle.std.proofs.Common.{subst, sym}
-use Rattle.std.specs.Prelude.{MatchResult}
 use Rattle.std.specs.Bool.{MatchBool}
 use Rattle.cif_columns.proofs.GivenLinesLaws.{known_so}
 use Rattle.cif_columns.specs.Sink.{HasFailed, HasWritten}

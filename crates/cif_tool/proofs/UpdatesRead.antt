@@ -13,11 +13,10 @@ use Rattle.cif_columns.specs.declared.source.Source.{Source}
 use Rattle.cif_extract.proofs.ReadCalls.{Makes, Refuses, goes-on}
 use Rattle.cif_extract.specs.ReadCall.{IsResultOf, ReadCall}
 use Rattle.cif_extract.specs.declared.fault.Fault.TheVariants.{Memory, Read, Refused, Write}
-use Rattle.cif_feed.specs.FeedFault.{IsFeedFault, IsOfFeed}
 use Rattle.cif_feed.specs.HolidayCode.{all_codes}
 use Rattle.cif_feed.specs.PublishedParts.{BytesSpellPublished, IsPublishedOf, PublishedParts, published_parts, published_text}
 use Rattle.cif_feed.specs.PublishedParts.{reading_published}
-use Rattle.cif_feed.specs.Updated.{IsOfUpdate, IsOutcomeOf, IsUpdateFault as IsOneUpdateFault, IsUpdatedBy}
+use Rattle.cif_feed.specs.Updated.{IsOfUpdate, IsOutcomeOf, IsUpdateFault as IsOneUpdateFault}
 use Rattle.cif_feed.specs.Updated.{updating}
 use Rattle.cif_feed.specs.UpdatesInTurn.{AreUpdatesDone, IsOneRefused, IsRefusedFor, IsWritten}
 use Rattle.cif_feed.specs.WrittenPrepared.{IsDeviceOrMemory}

@@ -16,7 +16,7 @@ use Rattle.cif_feed.specs.HolidayText.{IsFirstBadLine, IsHolidayFault, IsOfHolid
 use Rattle.cif_feed.specs.Holidays.{Names}
 use Rattle.cif_feed.specs.PublishedParts.{PublishedParts, published_parts, reading_published}
 use Rattle.cif_feed.specs.Updated.{IsOfUpdate, IsUpdateFault as IsOneUpdateFault, IsUpdatedBy}
-use Rattle.cif_feed.specs.UpdatesInTurn.{IsRefused, IsWritten}
+use Rattle.cif_feed.specs.UpdatesInTurn.{IsRefused}
 use Rattle.cif_feed.specs.WrittenPrepared.{FeedWrites, IsDeviceOrMemory, IsPreparedText, codes_named, preparing}
 use Rattle.cif_feed.specs.declared.changes.RefusedLine.{RefusedLine}
 use Rattle.cif_feed.specs.declared.dropped.Dropped.{Dropped}

@@ -1,5 +1,5 @@
 //! The command line of `cif`.
-ghost use Rattle.std.specs.Prelude.{◌≡◌, IfOk, codes, false, map, string_bytes};
+ghost use Rattle.std.specs.Prelude.{◌≡◌, IfOk, false, map, string_bytes};
 ghost use Rattle.clap.specs.Words.{FailsBy, app_of, new_app, rule_of, subcommand_rows_of};
 ghost use Rattle.clap.specs.Words.{with_subcommand};
 ghost use Rattle.clap.specs.declared.Command.TheViews.{out-Command};

@@ -1,7 +1,6 @@
 -- A fault after both are read is told by `compared-as`, and the text by `diff-answer`.
 -- `read`: what was read, of the extracts that are kept.
 use Rattle.std.proofs.Common.{inl, inr, refl, subst}
-use Rattle.cif_columns.specs.declared.line_reader.TheConstants.{MAX_LINES}
 use Rattle.cif_extract.specs.ExtractParts.{extract_parts}
 use Rattle.cif_extract.proofs.ReadCalls.{at-fault, hands}
 use Rattle.cif_canon.specs.Comparison.{IsCompareFault}
