@@ -17,7 +17,8 @@ use Rattle.cif_views.proofs.Words.{JourneyKind, Numbered, Tsv, Whole, after, is_
 use Rattle.cif_views.proofs.Words.{number, numbered_from, row_line, text_at}
 
 -- what is said of riders, by what is read of the line
-module _ (line answer : List ℕ) (riders : Riders) (times : CallTimes) (are_riders : riders ≡ riders_of line) (are_times : times ≡ times_of line) where
+module _ (line answer : List ℕ) (riders : Riders) (times : CallTimes) (are_riders : riders ≡ riders_of line)
+    (are_times : times ≡ times_of line) where
   pub own-set-down : answer ≡ set_down riders times → answer ≡ set_down (riders_of line) (times_of line)
   own-set-down is = rw (← are_riders, ← are_times) is
 
