@@ -257,7 +257,7 @@ fn first_feed(bytes: &[u8], most: usize) -> Option<usize>
 }
 
 /// The bytes without the one carriage return at their end.
-pub fn without_carriage_return(bytes: &[u8]) -> &[u8]
+fn without_carriage_return(bytes: &[u8]) -> &[u8]
     ensures { result.now ≡ strip_carriage_return bytes.now }
 {
     match bytes {

@@ -23,7 +23,7 @@ mod trials;
 mod uid;
 
 pub use activities::Activities;
-pub use ahead::{NextContent, line_of, without_carriage_return};
+pub use ahead::{NextContent, line_of};
 pub use clock::{PublicTime, WorkTime};
 pub use content_reader::ContentReader;
 pub use day::{DAYS_IN_WEEK, Day};
