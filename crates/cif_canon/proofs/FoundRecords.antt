@@ -3,6 +3,7 @@ use Rattle.std.proofs.Common.{◌≡◌, ◌≢◌, ◌⊎◌, inl, inr, ℕ, �
 use Rattle.std.proofs.Common.{◌∙◌, subst, arith, ⊎_elim, get_or, take}
 use Rattle.std.proofs.lemmas.List.Elements.{Contains-append_cases, Contains-get_or}
 use Rattle.std.proofs.lemmas.Option.{none-some}
+use Rattle.std.proofs.lemmas.Slice.Zip.{AllZip-long}
 use Rattle.cif_calendar.proofs.NoEntries.{none-clear}
 use Rattle.cif_calendar.specs.Runs.{NothingRuns, Runs}
 use Rattle.cif_calendar.specs.Terms.{Records}
@@ -471,14 +472,9 @@ module _ {K B : Type 0} (cmp : K → K → Ordering) (total : IsTotalOrder cmp) 
     -- where something is found, that is enough for the first difference
     pub found-enough : extent ≡ FirstKey → 0 < length runs → AreDifferentRuns cmp window xs ys extent runs
     found-enough is some = different-runs
-        (λ none. absurd (let n : length runs ≡ 0 = zip-none runs a.found a.runs_of none in omega (arith, n, some)))
+        (λ none. absurd (let n : length runs ≡ 0 = sym (AllZip-long (IsSidedRunOf xs ys) runs a.found a.runs_of)
+        ∙ ap (λ (z : List (Sided (K × Permanent B))). length z) none in omega (arith, n, some)))
         (λ all. absurd (let no : FirstKey ≡ AllKeys = sym is ∙ all in cc))
-      where
-        zip-none : (runs : List (Sided Run)) (found : List (Sided (K × Permanent B))) → AllZip (IsSidedRunOf xs ys) runs found →
-            found ≡ [] → length runs ≡ 0
-        zip-none [] found z is = refl
-        zip-none (run ∷ runs) [] z is = absurd z
-        zip-none (run ∷ runs) (s ∷ found) z is = absurd (cc)
 
   pub found-all : (same : (j k : K) → cmp j k ≡ Equal → j ≡ k) (runs : List (Sided Run)) → AreFound cmp window xs ys [] [] runs →
       (extent : Extent) → AreDifferentRuns cmp window xs ys extent runs
