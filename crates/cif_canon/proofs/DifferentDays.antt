@@ -1,15 +1,12 @@
 -- The days on which two calendars have the same bodies.
 use Rattle.std.proofs.Common.{◌≡◌, ℕ, ◌+◌, ◌-◌, ◌%◌, ◌<◌, ◌≤◌, List, Option, Some, None, map, sym, ap, ◌∙◌, subst, arith, ⊎_elim}
 use Rattle.std.proofs.Common.{get_or, length}
-use Rattle.std.specs.Prelude.{Bool, IsSome}
-use Rattle.std.proofs.lemmas.Bool.{cases_lt, false≢true}
-use Rattle.std.proofs.lemmas.List.{length-map}
-use Rattle.std.proofs.lemmas.Option.{slice_get_past}
 use Rattle.cif_calendar.proofs.Winning.{terms_at}
 use Rattle.cif_calendar.proofs.PieceLists.{source_at-piece, tiles-ends}
 use Rattle.cif_canon.specs.Steps.Differences.{HasBodies}
-use Rattle.cif_canon.proofs.Words.{AreAlikeBy, AreSources, CalendarParts, Contains, HoldsFrom, IsTrue, Piece, Terms, Tiles, body_at}
-use Rattle.cif_canon.proofs.Words.{body_on, option_and_then, weekday_of, winner_of, ◌↔◌}
+use Rattle.cif_canon.proofs.Words.{AreAlikeBy, AreSources, Bool, CalendarParts, Contains, HoldsFrom, IsSome, IsTrue, Piece, Terms, Tiles}
+use Rattle.cif_canon.proofs.Words.{body_at, body_on, cases_lt, false≢true, length-map, option_and_then, slice_get_past, weekday_of}
+use Rattle.cif_canon.proofs.Words.{winner_of, ◌↔◌}
 
 -- a day and the one of its weekday in the seven days from another
 pub in-week : (first d : ℕ) → first ≤ d → (e : ℕ) × (first ≤ e) × (e < first + 7) × (e ≤ d) × (weekday_of e ≡ weekday_of d)

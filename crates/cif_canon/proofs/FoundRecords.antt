@@ -1,25 +1,22 @@
 -- The differences of two lists are found key by key.
 use Rattle.std.proofs.Common.{◌≡◌, ◌≢◌, ◌⊎◌, inl, inr, ℕ, ◌<◌, ◌≤◌, List, [], ◌∷◌, ◌++◌, Option, None, Some, drop, length, refl, sym, ap}
 use Rattle.std.proofs.Common.{◌∙◌, subst, arith, ⊎_elim, get_or, take}
-use Rattle.std.proofs.lemmas.List.Elements.{Contains-append_cases, Contains-get_or}
-use Rattle.std.proofs.lemmas.Option.{none-some}
 use Rattle.std.proofs.lemmas.Slice.Zip.{AllZip-long}
 use Rattle.cif_calendar.proofs.NoEntries.{none-clear}
 use Rattle.cif_calendar.specs.Runs.{NothingRuns, Runs}
 use Rattle.cif_calendar.specs.Terms.{Records}
-use Rattle.cif_calendar.proofs.Elements.{Contains-first, Contains-cases}
 use Rattle.cif_weeks.proofs.AlignedDays.{tight}
-use Rattle.cif_weeks.proofs.JoinedLists.{AllPairs-append, AllZip-append, Contains-from_map, zip-back}
 use Rattle.cif_weeks.proofs.KeyByKey.{canonical-more, canonical-none}
-use Rattle.cif_calendar.proofs.RisingLists.{Contains-none, less_one_way, not_less}
 use Rattle.cif_canon.specs.Differences.{AreOnlyRecords, RunsApplied, SaysNothing, SaysSomething}
 use Rattle.cif_canon.specs.declared.differing.Extent.{Extent}
 use Rattle.cif_canon.specs.declared.differing.Extent.TheVariants.{FirstKey}
-use Rattle.cif_canon.proofs.Words.{AllKeys, ArePositionsOf, AllPairs, AllZip, AreAllByKey, AreCanonical, AreClear, AreDifferentRuns}
-use Rattle.cif_canon.proofs.Words.{AreRunsOf, AreSame, ComesBefore, Contains, EntriesSayTheSame, Equal, HasBody, IsClearFrom}
-use Rattle.cif_canon.proofs.Words.{IsFirstDifference, IsFirstFound, IsCountOfKey, IsFirstOfBoth, IsRunOf, IsSidedRunOf, IsTotalOrder}
-use Rattle.cif_canon.proofs.Words.{IsWithin, Left, Less, OnlySays, Ordering, Permanent, Right, Run, RunComesBefore, Side, Sided, Terms}
-use Rattle.cif_canon.proofs.Words.{TurnInto, Two, Window, at_side, if◌then◌else◌, is_side, of_key, of_side, with_key, ◌↔◌}
+use Rattle.cif_canon.proofs.Words.{AllKeys, AllPairs, AllPairs-append, AllZip, AllZip-append, AreAllByKey, AreCanonical, AreClear}
+use Rattle.cif_canon.proofs.Words.{AreDifferentRuns, ArePositionsOf, AreRunsOf, AreSame, ComesBefore, Contains, Contains-append_cases}
+use Rattle.cif_canon.proofs.Words.{Contains-cases, Contains-first, Contains-from_map, Contains-get_or, Contains-none, EntriesSayTheSame}
+use Rattle.cif_canon.proofs.Words.{Equal, HasBody, IsClearFrom, IsCountOfKey, IsFirstDifference, IsFirstFound, IsFirstOfBoth, IsRunOf}
+use Rattle.cif_canon.proofs.Words.{IsSidedRunOf, IsTotalOrder, IsWithin, Left, Less, OnlySays, Ordering, Permanent, Right, Run}
+use Rattle.cif_canon.proofs.Words.{RunComesBefore, Side, Sided, Terms, TurnInto, Two, Window, at_side, if◌then◌else◌, is_side, less_one_way}
+use Rattle.cif_canon.proofs.Words.{none-some, not_less, of_key, of_side, with_key, zip-back, ◌↔◌}
 use Rattle.cif_canon.proofs.ComparedKeys.{ArePassed, AreTurns, IsLeft, nobody, pass, passed-nothing, turns}
 use Rattle.cif_canon.proofs.KeyRecords.{bodies-other, bodies-own, zip-keyed}
 use Rattle.cif_canon.proofs.MergedSides.{at_other, by-side, from-side, of_side-append, other, pairs-head, side-member}

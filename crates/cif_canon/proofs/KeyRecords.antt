@@ -13,14 +13,12 @@ use Rattle.cif_weeks.specs.MemberRuns.{AreRunsOfMembers, IsMembersRun}
 use Rattle.cif_weeks.specs.Permanent.{Permanents}
 use Rattle.cif_weeks.specs.Runs.{IsRunOf as IsCalendarRun}
 use Rattle.cif_weeks.proofs.AlignedDays.{tight}
-use Rattle.cif_weeks.proofs.JoinedLists.{zip-back, zip-map, zip-with}
 use Rattle.cif_weeks.proofs.KeyByKey.{HasBody-more, of_key-more}
 use Rattle.cif_canon.specs.Steps.Records.{extract_fault}
-use Rattle.cif_calendar.proofs.KeyPositions.{has-key}
-use Rattle.cif_calendar.proofs.KeyTurns.{one-key}
 use Rattle.cif_canon.proofs.Words.{AllZip, AreCanonicalRuns, ArePositionsOf, AreRunsOf, AreRunsOfKey, C, CalendarParts, Clash, Contains}
 use Rattle.cif_canon.proofs.Words.{Form, HasBody, IsCalendar, IsKeyFault, IsNone, IsRunOf, IsWithin, Permanent, Run, Terms, Window, body_on}
-use Rattle.cif_canon.proofs.Words.{keyed, of_key, option_and_then, window_from, window_of, with_key, ◌↔◌}
+use Rattle.cif_canon.proofs.Words.{has-key, keyed, of_key, one-key, option_and_then, window_from, window_of, with_key, zip-back, zip-map}
+use Rattle.cif_canon.proofs.Words.{zip-with, ◌↔◌}
 
 -- sets with the same records say the same
 same-bodies : {B : Type 0} (us vs : Permanents B) → ((r : Permanent B) → us r ↔ vs r) → (d : ℕ) (b : B) → HasBody us d b ↔ HasBody vs d b
