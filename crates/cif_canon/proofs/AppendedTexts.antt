@@ -1,15 +1,11 @@
 -- Texts that are appended one after another to a sink, which keeps its failure.
 use Rattle.std.proofs.Common.{◌≡◌, ℕ, ◌+◌, ◌<◌, ◌≤◌, Bool, true, false, List, [], ◌++◌, Option, Result, Ok, Err, IfErr, inl, inr, ◌∷◌}
 use Rattle.std.proofs.Common.{append-nil, get_or, length, take, refl, sym, ap, ◌∙◌, subst}
-use Rattle.std.specs.Prelude.{OnOk}
 use Rattle.std.proofs.KnownBytes.{Appends-nil}
-use Rattle.std.proofs.lemmas.Bool.{false≢true}
-use Rattle.std.proofs.lemmas.Grind.{flat_map-append}
-use Rattle.std.proofs.lemmas.List.{take_all, take_more}
 use Rattle.cif_columns.specs.Sink.{HasFailed, Writes, sink_failed, writer_of}
 use Rattle.cif_columns.proofs.WrittenTexts.{failed_first, failed_second, written_both, written_nothing}
 use Rattle.cif_canon.specs.Normalised.{FaultWrites}
-use Rattle.cif_canon.proofs.Words.{Fault, IsAppended, Sink, Write, flat_map}
+use Rattle.cif_canon.proofs.Words.{Fault, IsAppended, OnOk, Sink, Write, false≢true, flat_map, flat_map-append, take_all, take_more}
 
 module _ {W : Type 0} (contents : W → Option (List ℕ)) (errors : W → Option ℕ) where
   -- by a call that answers whether it was

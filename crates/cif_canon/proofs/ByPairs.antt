@@ -2,18 +2,13 @@
 use Rattle.std.proofs.Common.{◌≡◌, ◌⊎◌, inl, inr, Bool, false, List, [], ◌∷◌, None, Some, ap, arith, refl, subst, sym, true≢false}
 use Rattle.std.proofs.Common.{⊎_elim, ◌∙◌, ap₂, rules}
 use Rattle.std.specs.Ordering.{ordering_then}
-use Rattle.std.specs.Prelude.{Option, ⊤}
-use Rattle.std.proofs.lemmas.Bool.{cond_both, false≢true}
-use Rattle.std.proofs.lemmas.Grind.{common_steps}
-use Rattle.std.proofs.lemmas.Option.{same_Some}
-use Rattle.cif_calendar.proofs.Elements.{Contains-first, Contains-rest, Contains-cases}
-use Rattle.cif_calendar.proofs.FirstClash.{same_key-cmp}
-use Rattle.cif_calendar.proofs.RisingLists.{Contains-none, not_less}
 use Rattle.cif_canon.specs.Pairs.{AreByPairs}
-use Rattle.cif_canon.proofs.Words.{AllPairs, AreDifferences, ArePair, AssocKey, ComesBefore, Contains, Decides, DifferencesParts, Equal}
-use Rattle.cif_canon.proofs.Words.{ExtractParts, Greater, IsTotalOrder, IsTrue, Left, Less, Listed, Ordering, Permanent, Precedes, Right}
-use Rattle.cif_canon.proofs.Words.{Side, Sided, are_pair, by_pairs, bytes_decides, is_eq, is_side, key_cmp}
-use Rattle.cif_canon.proofs.Words.{nat_cmp, nat_eq, nat_list_cmp_total, pointwise, pointwise_decides, slice_cmp, texts_ties, ℕ, ◌&&◌, ◌↔◌}
+use Rattle.cif_canon.proofs.Words.{AllPairs, AreDifferences, ArePair, AssocKey, ComesBefore, Contains, Contains-cases, Contains-first}
+use Rattle.cif_canon.proofs.Words.{Contains-none, Contains-rest, Decides, DifferencesParts, Equal, ExtractParts, Greater, IsTotalOrder}
+use Rattle.cif_canon.proofs.Words.{IsTrue, Left, Less, Listed, Option, Ordering, Permanent, Precedes, Right, Side, Sided, ℕ, are_pair}
+use Rattle.cif_canon.proofs.Words.{by_pairs, bytes_decides, common_steps, cond_both, false≢true, is_eq, is_side, key_cmp, nat_cmp, nat_eq}
+use Rattle.cif_canon.proofs.Words.{nat_list_cmp_total, not_less, pointwise, pointwise_decides, same_Some, same_key-cmp, slice_cmp}
+use Rattle.cif_canon.proofs.Words.{texts_ties, ⊤, ◌&&◌, ◌↔◌}
 use Rattle.cif_canon.proofs.MergedSides.{pairs-head, pairs-tail}
 use Rattle.cif_canon.proofs.PairedRecords.{keys-decided, pair-decided}
 use Rattle.cif_canon.proofs.Unique.{keys-total}

@@ -1,16 +1,15 @@
 -- The lines of a canonical form's runs are those of the canonical extract, and what is listed of them.
 use Rattle.std.proofs.Common.{◌≡◌, ℕ, ◌+◌, ◌<◌, List, [], ◌∷◌, ◌++◌, Option, None, Some, map, refl, sym, ap, ap₂, ◌∙◌, append-nil, arith}
 use Rattle.std.proofs.Common.{get_or, length}
-use Rattle.std.proofs.lemmas.Grind.{flat_map-append}
 use Rattle.std.proofs.lemmas.List.Concat.{flat_map_single}
-use Rattle.std.proofs.lemmas.List.Elements.{All-head, All-tail}
 use Rattle.std.proofs.lemmas.List.FromFn.{get_or-enumerate_from}
 use Rattle.cif_canon.specs.Lines.{line_of_association, lines_of_schedule}
 use Rattle.cif_canon.specs.Steps.Texts.{of_run}
-use Rattle.cif_canon.proofs.Words.{All, AreCanonicalRecords, AreDistinct, AssocBody, AssocKey, BodyParts, ExtractParts, Form, HasRecord}
-use Rattle.cif_canon.proofs.Words.{Permanent, Run, ScheduleLines, Terms, Tiploc, association_entries, association_plain, canon_lines}
-use Rattle.cif_canon.proofs.Words.{enumerate_from, flat_map, header_table, header_window, key_cmp, line_of_tiploc, lines_of, nat_cmp}
-use Rattle.cif_canon.proofs.Words.{numbered_text, plain_line, record_at, run_text, schedule_entries, schedule_plain, slice_cmp, text_if}
+use Rattle.cif_canon.proofs.Words.{All, All-head, All-tail, AreCanonicalRecords, AreDistinct, AssocBody, AssocKey, BodyParts, ExtractParts}
+use Rattle.cif_canon.proofs.Words.{Form, HasRecord, Permanent, Run, ScheduleLines, Terms, Tiploc, association_entries, association_plain}
+use Rattle.cif_canon.proofs.Words.{canon_lines, enumerate_from, flat_map, flat_map-append, header_table, header_window, key_cmp}
+use Rattle.cif_canon.proofs.Words.{line_of_tiploc, lines_of, nat_cmp, numbered_text, plain_line, record_at, run_text, schedule_entries}
+use Rattle.cif_canon.proofs.Words.{schedule_plain, slice_cmp, text_if}
 use Rattle.cif_canon.proofs.CanonTexts.{texts-of_runs}
 use Rattle.cif_canon.proofs.MadeExtract.{IsDated, associations_of, schedules_of}
 use Rattle.cif_canon.proofs.KeptExtract.{canonical_of, dated-associations, dated-schedules}

@@ -1,15 +1,13 @@
 -- The text that is written of an extract's runs is that of the canonical extract.
 use Rattle.std.proofs.Common.{◌≡◌, ℕ, suc, List, [], ◌∷◌, ◌++◌, map, length, refl, sym, ap, ◌∙◌}
-use Rattle.std.proofs.lemmas.Grind.{flat_map-append}
-use Rattle.std.proofs.lemmas.List.{map-append}
-use Rattle.std.proofs.lemmas.List.Elements.{All-nil, All-cons, All-head, All-tail}
 use Rattle.cif_columns.specs.Contents.{lines_text}
 use Rattle.cif_canon.specs.Steps.Texts.{association_text}
-use Rattle.cif_canon.proofs.Words.{All, AllZip, AreCanonicalRecords, AreDistinct, AssocBody, AssocKey, BodyParts, ExtractParts, Form}
-use Rattle.cif_canon.proofs.Words.{HasRecord, IsRunOf, Permanent, Row, Run, Terms, Tiploc, association_entries, association_run_text}
-use Rattle.cif_canon.proofs.Words.{association_table, canon_text, extract_text, flat_map, header_table, header_window, key_cmp, nat_cmp}
-use Rattle.cif_canon.proofs.Words.{plain_line, record_at, schedule_entries, schedule_lines, schedule_run_text, schedule_text, slice_cmp}
-use Rattle.cif_canon.proofs.Words.{tables_of, text_if, tiploc_table, tiploc_text, trailer_table}
+use Rattle.cif_canon.proofs.Words.{All, All-cons, All-head, All-nil, All-tail, AllZip, AreCanonicalRecords, AreDistinct, AssocBody}
+use Rattle.cif_canon.proofs.Words.{AssocKey, BodyParts, ExtractParts, Form, HasRecord, IsRunOf, Permanent, Row, Run, Terms, Tiploc}
+use Rattle.cif_canon.proofs.Words.{association_entries, association_run_text, association_table, canon_text, extract_text, flat_map}
+use Rattle.cif_canon.proofs.Words.{flat_map-append, header_table, header_window, key_cmp, map-append, nat_cmp, plain_line, record_at}
+use Rattle.cif_canon.proofs.Words.{schedule_entries, schedule_lines, schedule_run_text, schedule_text, slice_cmp, tables_of, text_if}
+use Rattle.cif_canon.proofs.Words.{tiploc_table, tiploc_text, trailer_table}
 use Rattle.cif_canon.proofs.MadeExtract.{IsDated, associations_of, schedule_of, schedules_of}
 use Rattle.cif_canon.proofs.RunTexts.{record-of_run}
 use Rattle.cif_canon.proofs.KeptExtract.{canonical_of, dated-associations, dated-schedules}

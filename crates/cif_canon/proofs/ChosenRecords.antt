@@ -1,10 +1,7 @@
 -- The elements that a test chooses, and their lines.
 use Rattle.std.proofs.Common.{◌≡◌, Bool, true, false, cond, List, [], ◌∷◌, ◌++◌, map, refl, sym, ap, ◌∙◌, subst, ⊎_elim}
-use Rattle.std.proofs.lemmas.Bool.{cond_both, false≢true}
-use Rattle.std.proofs.lemmas.List.Elements.{All-contains, All-contains_itself, All-filter, filter_passes}
-use Rattle.cif_calendar.proofs.Elements.{Contains-first, Contains-rest, Contains-cases}
-use Rattle.cif_calendar.proofs.RisingLists.{Contains-none}
-use Rattle.cif_canon.proofs.Words.{Contains, filter, flat_map, if◌then◌else◌, ℕ}
+use Rattle.cif_canon.proofs.Words.{All-contains, All-contains_itself, All-filter, Contains, Contains-cases, Contains-first, Contains-none}
+use Rattle.cif_canon.proofs.Words.{Contains-rest, ℕ, cond_both, false≢true, filter, filter_passes, flat_map, if◌then◌else◌}
 
 module _ {X : Type 0} (test : X → Bool) where
   -- the chosen elements are those that pass the test

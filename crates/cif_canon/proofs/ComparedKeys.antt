@@ -1,14 +1,10 @@
 -- Two lists are compared key by key, over their positions in the order of their keys.
 use Rattle.std.proofs.Common.{◌≡◌, ◌⊎◌, inl, inr, ℕ, zero, suc, ◌+◌, ◌-◌, ◌<◌, List, [], take, drop, length, refl, sym, ⊎_elim, arith}
 use Rattle.std.proofs.Common.{subst}
-use Rattle.std.proofs.lemmas.Option.{slice_get_within}
-use Rattle.std.proofs.lemmas.List.{length-drop}
-use Rattle.std.proofs.lemmas.List.Elements.{All-contains}
 use Rattle.cif_calendar.proofs.PassedKeys.{HasPassed, key-or-later, later-less, left-before, passed-more, turn}
-use Rattle.cif_calendar.proofs.RisingLists.{Contains-none, not_less}
-use Rattle.cif_calendar.proofs.KeyTurns.{decided, no-entry, rising-after}
-use Rattle.cif_canon.proofs.Words.{AnyHasKey, AreAllByKey, ArePositionsOf, Equal, HasKey, IsCountOfKey, IsFirstOfBoth, IsRising}
-use Rattle.cif_canon.proofs.Words.{IsTotalOrder, Less, Ordering, Terms, of_key}
+use Rattle.cif_canon.proofs.Words.{All-contains, AnyHasKey, AreAllByKey, ArePositionsOf, Contains-none, Equal, HasKey, IsCountOfKey}
+use Rattle.cif_canon.proofs.Words.{IsFirstOfBoth, IsRising, IsTotalOrder, Less, Ordering, Terms, decided, length-drop, no-entry, not_less}
+use Rattle.cif_canon.proofs.Words.{of_key, rising-after, slice_get_within}
 
 module _ {K B : Type 0} (cmp : K → K → Ordering) where
   -- one of the keys at these positions of a list, or of those of another

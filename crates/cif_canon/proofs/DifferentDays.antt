@@ -1,15 +1,12 @@
 -- The days on which two calendars have the same bodies.
-use Rattle.std.proofs.Common.{◌≡◌, ℕ, ◌+◌, ◌-◌, ◌%◌, ◌<◌, ◌≤◌, List, Option, Some, None, map, refl, sym, ap, ◌∙◌, subst, arith, ⊎_elim}
+use Rattle.std.proofs.Common.{◌≡◌, ℕ, ◌+◌, ◌-◌, ◌%◌, ◌<◌, ◌≤◌, List, Option, Some, None, map, sym, ap, ◌∙◌, subst, arith, ⊎_elim}
 use Rattle.std.proofs.Common.{get_or, length}
-use Rattle.std.specs.Prelude.{Bool, IsSome}
-use Rattle.std.proofs.lemmas.Bool.{cases_lt, false≢true}
-use Rattle.std.proofs.lemmas.List.{length-map}
-use Rattle.std.proofs.lemmas.Option.{slice_get_within}
 use Rattle.cif_calendar.proofs.Winning.{terms_at}
 use Rattle.cif_calendar.proofs.PieceLists.{source_at-piece, tiles-ends}
 use Rattle.cif_canon.specs.Steps.Differences.{HasBodies}
-use Rattle.cif_canon.proofs.Words.{AreAlikeBy, AreSources, CalendarParts, Contains, HoldsFrom, IsTrue, Piece, Terms, Tiles, body_at}
-use Rattle.cif_canon.proofs.Words.{body_on, option_and_then, slice_get, weekday_of, winner_of, ◌↔◌}
+use Rattle.cif_canon.proofs.Words.{AreAlikeBy, AreSources, Bool, CalendarParts, Contains, HoldsFrom, IsSome, IsTrue, Piece, Terms, Tiles}
+use Rattle.cif_canon.proofs.Words.{body_at, body_on, cases_lt, false≢true, length-map, option_and_then, slice_get_past, weekday_of}
+use Rattle.cif_canon.proofs.Words.{winner_of, ◌↔◌}
 
 -- a day and the one of its weekday in the seven days from another
 pub in-week : (first d : ℕ) → first ≤ d → (e : ℕ) × (first ≤ e) × (e < first + 7) × (e ≤ d) × (weekday_of e ≡ weekday_of d)
@@ -75,22 +72,15 @@ module _ {B : Type 0} (xs : List (Terms B)) (c : CalendarParts) (p : Piece) (til
 
 -- ---- bodies at sources
 
-bodied-found : {B : Type 0} (o : Option (Terms B)) → IsSome (option_and_then (λ r. r.body) o) → IsSome o
-bodied-found None h = h
-bodied-found (Some r) h = refl
-
 -- a source with a body is a position
 pub bodied-within : {E B : Type 0} (terms : E → Terms B) (es : List E) (i : ℕ) → IsSome (body_at (map terms es) (Some i)) → i < length es
-bodied-within {B = B} terms es i h =
-    let n = slice_get_within_some (map terms es) i (bodied-found (slice_get (map terms es) i) h) in
-    let same : length (map terms es) ≡ length es = length-map es terms in omega (arith, n, same)
-  where
-    slice_get_within_some : (xs : List (Terms B)) (i : ℕ) → IsSome (slice_get xs i) → i < length xs
-    slice_get_within_some xs i h = found (slice_get xs i) refl h
-      where
-        found : (o : Option (Terms B)) → o ≡ slice_get xs i → IsSome o → i < length xs
-        found None is h = absurd (false≢true h)
-        found (Some r) is h = slice_get_within xs i r (sym is)
+bodied-within {B = B} terms es i h = ⊎_elim
+    (λ below. below)
+    (λ past.
+    let same = length-map es terms in
+    let none = slice_get_past (map terms es) i (omega (arith, same, past)) in
+    absurd (false≢true (subst (λ o. IsSome (option_and_then (λ (r : Terms B). r.body) o)) none h)))
+    (cases_lt i (length es))
 
 -- and its body is that of the entry there
 pub body-there : {E B : Type 0} (terms : E → Terms B) (es : List E) (i : ℕ) (e : E) → i < length es → e ≡ get_or es i e →

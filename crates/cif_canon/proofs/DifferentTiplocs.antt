@@ -1,15 +1,12 @@
 -- Locations by their columns, and the first that only one of two lists has.
 use Rattle.std.proofs.Common.{◌≡◌, ◌⊎◌, inl, inr, List, [], ◌∷◌, Some, None, refl, ap, subst, ◌∙◌, ⊎_elim}
 use Rattle.std.specs.Ordering.{ordering_reverse}
-use Rattle.std.proofs.lemmas.Option.{same_Some}
 use Rattle.std.proofs.lemmas.Cmp.{on_total}
-use Rattle.cif_calendar.proofs.KeyTurns.{decided}
-use Rattle.cif_calendar.proofs.Elements.{Contains-first, Contains-rest, Contains-cases}
 use Rattle.cif_records.proofs.Tiplocs.{same_tiploc}
-use Rattle.cif_calendar.proofs.RisingLists.{Contains-none, less_one_way, not_less}
 use Rattle.cif_canon.specs.Comparison.{IsFirstTiploc}
-use Rattle.cif_canon.proofs.Words.{AreDifferentTiplocs, Contains, Equal, Greater, IsOnlyIn, Left, Less, Right, Side, Sided, Tiploc}
-use Rattle.cif_canon.proofs.Words.{bytes_decides, is_eq, nat_cmp, nat_list_cmp_total, slice_cmp, slice_get, texts_ties, ◌↔◌}
+use Rattle.cif_canon.proofs.Words.{AreDifferentTiplocs, Contains, Contains-cases, Contains-first, Contains-none, Contains-rest, Equal}
+use Rattle.cif_canon.proofs.Words.{Greater, IsOnlyIn, Left, Less, Right, Side, Sided, Tiploc, bytes_decides, decided, is_eq, less_one_way}
+use Rattle.cif_canon.proofs.Words.{nat_cmp, nat_list_cmp_total, not_less, same_Some, slice_cmp, slice_get, texts_ties, ◌↔◌}
 use Rattle.cif_canon.proofs.MergedSides.{pairs-head}
 
 -- one location comes before another

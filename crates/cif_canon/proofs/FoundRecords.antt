@@ -1,24 +1,22 @@
 -- The differences of two lists are found key by key.
 use Rattle.std.proofs.Common.{◌≡◌, ◌≢◌, ◌⊎◌, inl, inr, ℕ, ◌<◌, ◌≤◌, List, [], ◌∷◌, ◌++◌, Option, None, Some, drop, length, refl, sym, ap}
 use Rattle.std.proofs.Common.{◌∙◌, subst, arith, ⊎_elim, get_or, take}
-use Rattle.std.proofs.lemmas.List.Elements.{Contains-append_cases, Contains-get_or}
-use Rattle.std.proofs.lemmas.Option.{none-some}
+use Rattle.std.proofs.lemmas.Slice.Zip.{AllZip-long}
 use Rattle.cif_calendar.proofs.NoEntries.{none-clear}
 use Rattle.cif_calendar.specs.Runs.{NothingRuns, Runs}
 use Rattle.cif_calendar.specs.Terms.{Records}
-use Rattle.cif_calendar.proofs.Elements.{Contains-first, Contains-cases}
 use Rattle.cif_weeks.proofs.AlignedDays.{tight}
-use Rattle.cif_weeks.proofs.JoinedLists.{AllPairs-append, AllZip-append, Contains-from_map, zip-back}
 use Rattle.cif_weeks.proofs.KeyByKey.{canonical-more, canonical-none}
-use Rattle.cif_calendar.proofs.RisingLists.{Contains-none, less_one_way, not_less}
 use Rattle.cif_canon.specs.Differences.{AreOnlyRecords, RunsApplied, SaysNothing, SaysSomething}
 use Rattle.cif_canon.specs.declared.differing.Extent.{Extent}
 use Rattle.cif_canon.specs.declared.differing.Extent.TheVariants.{FirstKey}
-use Rattle.cif_canon.proofs.Words.{AllKeys, ArePositionsOf, AllPairs, AllZip, AreAllByKey, AreCanonical, AreClear, AreDifferentRuns}
-use Rattle.cif_canon.proofs.Words.{AreRunsOf, AreSame, ComesBefore, Contains, EntriesSayTheSame, Equal, HasBody, IsClearFrom}
-use Rattle.cif_canon.proofs.Words.{IsFirstDifference, IsFirstFound, IsCountOfKey, IsFirstOfBoth, IsRunOf, IsSidedRunOf, IsTotalOrder}
-use Rattle.cif_canon.proofs.Words.{IsWithin, Left, Less, OnlySays, Ordering, Permanent, Right, Run, RunComesBefore, Side, Sided, Terms}
-use Rattle.cif_canon.proofs.Words.{TurnInto, Two, Window, at_side, if◌then◌else◌, is_side, of_key, of_side, with_key, ◌↔◌}
+use Rattle.cif_canon.proofs.Words.{AllKeys, AllPairs, AllPairs-append, AllZip, AllZip-append, AreAllByKey, AreCanonical, AreClear}
+use Rattle.cif_canon.proofs.Words.{AreDifferentRuns, ArePositionsOf, AreRunsOf, AreSame, ComesBefore, Contains, Contains-append_cases}
+use Rattle.cif_canon.proofs.Words.{Contains-cases, Contains-first, Contains-from_map, Contains-get_or, Contains-none, EntriesSayTheSame}
+use Rattle.cif_canon.proofs.Words.{Equal, HasBody, IsClearFrom, IsCountOfKey, IsFirstDifference, IsFirstFound, IsFirstOfBoth, IsRunOf}
+use Rattle.cif_canon.proofs.Words.{IsSidedRunOf, IsTotalOrder, IsWithin, Left, Less, OnlySays, Ordering, Permanent, Right, Run}
+use Rattle.cif_canon.proofs.Words.{RunComesBefore, Side, Sided, Terms, TurnInto, Two, Window, at_side, if◌then◌else◌, is_side, less_one_way}
+use Rattle.cif_canon.proofs.Words.{none-some, not_less, of_key, of_side, with_key, zip-back, ◌↔◌}
 use Rattle.cif_canon.proofs.ComparedKeys.{ArePassed, AreTurns, IsLeft, nobody, pass, passed-nothing, turns}
 use Rattle.cif_canon.proofs.KeyRecords.{bodies-other, bodies-own, zip-keyed}
 use Rattle.cif_canon.proofs.MergedSides.{at_other, by-side, from-side, of_side-append, other, pairs-head, side-member}
@@ -471,14 +469,9 @@ module _ {K B : Type 0} (cmp : K → K → Ordering) (total : IsTotalOrder cmp) 
     -- where something is found, that is enough for the first difference
     pub found-enough : extent ≡ FirstKey → 0 < length runs → AreDifferentRuns cmp window xs ys extent runs
     found-enough is some = different-runs
-        (λ none. absurd (let n : length runs ≡ 0 = zip-none runs a.found a.runs_of none in omega (arith, n, some)))
+        (λ none. absurd (let n : length runs ≡ 0 = sym (AllZip-long (IsSidedRunOf xs ys) runs a.found a.runs_of)
+        ∙ ap (λ (z : List (Sided (K × Permanent B))). length z) none in omega (arith, n, some)))
         (λ all. absurd (let no : FirstKey ≡ AllKeys = sym is ∙ all in cc))
-      where
-        zip-none : (runs : List (Sided Run)) (found : List (Sided (K × Permanent B))) → AllZip (IsSidedRunOf xs ys) runs found →
-            found ≡ [] → length runs ≡ 0
-        zip-none [] found z is = refl
-        zip-none (run ∷ runs) [] z is = absurd z
-        zip-none (run ∷ runs) (s ∷ found) z is = absurd (cc)
 
   pub found-all : (same : (j k : K) → cmp j k ≡ Equal → j ≡ k) (runs : List (Sided Run)) → AreFound cmp window xs ys [] [] runs →
       (extent : Extent) → AreDifferentRuns cmp window xs ys extent runs

@@ -1,8 +1,8 @@
 -- Canonical records make a canonical extract that says what the extract says.
 use Rattle.std.proofs.Common.{List, refl, sym, subst}
-use Rattle.cif_weeks.proofs.PermanentEntries.{canonical-dated}
 use Rattle.cif_canon.proofs.Words.{All, AreCanonicalRecords, AreDistinct, EntriesSayTheSame, ExtractParts, Form, IsCanonicalExtract, Run}
-use Rattle.cif_canon.proofs.Words.{SameMeaning, Tiploc, association_entries, header_window, key_cmp, nat_cmp, schedule_entries, slice_cmp}
+use Rattle.cif_canon.proofs.Words.{SameMeaning, Tiploc, association_entries, canonical-dated, header_window, key_cmp, nat_cmp}
+use Rattle.cif_canon.proofs.Words.{schedule_entries, slice_cmp}
 use Rattle.cif_canon.proofs.MadeExtract.{IsDated, associations_of, schedules_of, entries-of_associations, entries-of_schedules}
 
 -- the records don't end before they begin

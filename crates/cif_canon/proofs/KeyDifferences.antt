@@ -1,14 +1,12 @@
 -- What only one of a key's two calendars says is what only one list says of the key.
 use Rattle.std.proofs.Common.{◌≡◌, ◌≢◌, ◌⊎◌, inl, inr, ℕ, Bool, true, false, List, Option, None, Some, map, refl, sym, ap, ◌∙◌, subst}
-use Rattle.std.specs.Prelude.{IsNone, IsTrue, ◌↔◌}
-use Rattle.std.proofs.lemmas.Bool.{false≢true}
-use Rattle.std.proofs.lemmas.Option.{same_Some}
 use Rattle.cif_calendar.proofs.KeyCalendar.{key-clear, key-runs}
 use Rattle.cif_weeks.specs.Runs.{IsRunOf as IsCalendarRun, window_of}
 use Rattle.cif_calendar.specs.Runs.{Runs}
 use Rattle.cif_canon.specs.Steps.OnlySides.{AreKeyDifferences}
-use Rattle.cif_canon.proofs.Words.{AreOnlyRuns, ArePositionsOf, C, CalendarParts, IsCalendar, IsClearFrom, IsRunOf, IsWithin, Left}
-use Rattle.cif_canon.proofs.Words.{OnlySays, Right, Run, Side, Sided, Terms, Two, at_side, body_on, keyed, of_key, window_from}
+use Rattle.cif_canon.proofs.Words.{AreOnlyRuns, ArePositionsOf, C, CalendarParts, IsCalendar, IsClearFrom, IsNone, IsRunOf, IsTrue}
+use Rattle.cif_canon.proofs.Words.{IsWithin, Left, OnlySays, Right, Run, Side, Sided, Terms, Two, at_side, body_on, false≢true, keyed}
+use Rattle.cif_canon.proofs.Words.{of_key, same_Some, window_from, ◌↔◌}
 use Rattle.cif_canon.proofs.FoundRecords.{AreOfKey, AreOnlyOfKey}
 use Rattle.cif_canon.proofs.MergedSides.{by-side, other}
 use Rattle.cif_canon.proofs.KeyRecords.{key-run, runs-as, window-is}

@@ -1,12 +1,11 @@
 -- The runs of a key's calendar are those of the key's canonical records.
-use Rattle.std.proofs.Common.{◌≡◌, inl, inr, ℕ, ◌<◌, List, [], ◌∷◌, ◌++◌, Some, map, length, get_or, refl, sym, ◌∙◌, ap, subst, ⊎_elim}
+use Rattle.std.proofs.Common.{◌≡◌, inl, inr, ℕ, ◌<◌, List, ◌++◌, Some, map, length, get_or, refl, sym, ◌∙◌, ap, subst, ⊎_elim}
 use Rattle.cif_calendar.specs.Terms.{SameRecords}
 use Rattle.cif_calendar.specs.Calendar.{IsFault}
 use Rattle.cif_calendar.specs.declared.key_calendar.CalendarFault.{CalendarFault}
 use Rattle.cif_calendar.specs.declared.key_calendar.CalendarFault.TheVariants.{Ambiguous, Memory}
 use Rattle.cif_calendar.specs.Runs.{BodyRuns}
 use Rattle.cif_calendar.specs.Source.{IsChosen}
-use Rattle.cif_calendar.proofs.Elements.{Contains-first, Contains-rest}
 use Rattle.cif_calendar.proofs.KeyCalendar.{key-clear, key-runs, key-source, key-fault}
 use Rattle.cif_calendar.proofs.Positions.{positions-records, terms_at-keyed}
 use Rattle.cif_calendar.proofs.Sets.{IsClearFrom-same, Runs-same}
@@ -14,14 +13,12 @@ use Rattle.cif_weeks.specs.MemberRuns.{AreRunsOfMembers, IsMembersRun}
 use Rattle.cif_weeks.specs.Permanent.{Permanents}
 use Rattle.cif_weeks.specs.Runs.{IsRunOf as IsCalendarRun}
 use Rattle.cif_weeks.proofs.AlignedDays.{tight}
-use Rattle.cif_weeks.proofs.JoinedLists.{zip-back, zip-map}
 use Rattle.cif_weeks.proofs.KeyByKey.{HasBody-more, of_key-more}
 use Rattle.cif_canon.specs.Steps.Records.{extract_fault}
-use Rattle.cif_calendar.proofs.KeyPositions.{has-key}
-use Rattle.cif_calendar.proofs.KeyTurns.{one-key}
 use Rattle.cif_canon.proofs.Words.{AllZip, AreCanonicalRuns, ArePositionsOf, AreRunsOf, AreRunsOfKey, C, CalendarParts, Clash, Contains}
 use Rattle.cif_canon.proofs.Words.{Form, HasBody, IsCalendar, IsKeyFault, IsNone, IsRunOf, IsWithin, Permanent, Run, Terms, Window, body_on}
-use Rattle.cif_canon.proofs.Words.{keyed, of_key, option_and_then, window_from, window_of, with_key, ◌↔◌}
+use Rattle.cif_canon.proofs.Words.{has-key, keyed, of_key, one-key, option_and_then, window_from, window_of, with_key, zip-back, zip-map}
+use Rattle.cif_canon.proofs.Words.{zip-with, ◌↔◌}
 
 -- sets with the same records say the same
 same-bodies : {B : Type 0} (us vs : Permanents B) → ((r : Permanent B) → us r ↔ vs r) → (d : ℕ) (b : B) → HasBody us d b ↔ HasBody vs d b
@@ -56,22 +53,16 @@ pub runs-as : {B : Type 0} (form : Form) (window after : Window) → window ≡ 
     AreRunsOf form window IsOf IsSaid runs → AreRunsOf form after IsAs IsTold runs
 runs-as {B} form window after is IsOf IsAs ties IsSaid IsTold same runs a = subst (λ w. AreRunsOf form w IsAs IsTold runs) is (record {
   records = a.records;
-  runs_of = each runs a.records (λ r in'. (tight r window form (a.have_form.aligned r in')).first_within) a.runs_of;
+  runs_of = zip-back (λ r run. IsAs run r) a.records runs (zip-with (λ r run. IsOf run r) (λ r run. IsAs run r) a.records runs
+      (λ r run in' h. ties run r (tight r window form (a.have_form.aligned r in')).first_within h)
+      (zip-back IsOf runs a.records a.runs_of));
   rising = a.rising;
   have_form = a.have_form;
   say = λ n b within.
       let say = a.say n b within in
       let words = same n b within in
       (λ told. say.0 (words.1 told), λ has. words.0 (say.1 has));
-}) where
-  each : (runs : List Run) (records : List (Permanent B)) → ((r : Permanent B) → Contains records r → IsWithin window r.first) →
-      AllZip IsOf runs records → AllZip IsAs runs records
-  each [] [] within z = tt
-  each (run ∷ runs) (r ∷ records) within z = (
-    ties run r (within r (Contains-first r records)) z.0,
-    each runs records (λ s in'. within s (Contains-rest r records s in')) z.1,
-  )
-  each _ _ _ z = absurd z
+})
 
 -- each record with the key
 pub zip-keyed : {K B : Type 0} (es : List (K × Terms B)) (k : K) (runs : List Run) (records : List (Permanent B)) →

@@ -1,17 +1,13 @@
 -- The differences of two extracts, from those of their locations, their associations and their schedules.
 use Rattle.std.proofs.Common.{◌≡◌, ◌⊎◌, inl, inr, ◌≤◌, ◌<◌, List, [], ◌∷◌, Option, None, Some, length, refl, sym, ap, ◌∙◌, subst, ⊎_elim}
-use Rattle.std.proofs.lemmas.List.Elements.{Contains-get_or}
-use Rattle.std.proofs.lemmas.Option.{same_Some, slice_get_within}
-use Rattle.cif_calendar.proofs.KeyPositions.{within-entries}
-use Rattle.cif_calendar.proofs.KeyTurns.{one-key}
 use Rattle.cif_weeks.proofs.AlignedDays.{tight}
 use Rattle.cif_canon.specs.Differences.{AreDifferentRecords, TurnLeftIntoRight}
 use Rattle.cif_canon.proofs.Words.{Agree, All, AllKeys, AllZip, AreClear, AreDifferences, AreDifferentRuns, AreDifferentTiplocs, AreNone}
-use Rattle.cif_canon.proofs.Words.{AreSame, Contains, DifferencesParts, EntriesSayTheSame, ExtractParts, HasKey, HasSidedRecord}
-use Rattle.cif_canon.proofs.Words.{IsClearExtract, IsFirstDifference, IsFirstFound, IsOnlyIn, IsSidedRunOf, Left, Ordering, Permanent}
-use Rattle.cif_canon.proofs.Words.{Right, Run, Side, Sided, Terms, Tiploc, TurnInto, Two, Window, association_entries, at_side}
-use Rattle.cif_canon.proofs.Words.{header_window, key_cmp, keyed, nat_cmp, of_side, schedule_entries, sided_records, slice_cmp, slice_get}
-use Rattle.cif_canon.proofs.Words.{◌↔◌}
+use Rattle.cif_canon.proofs.Words.{AreSame, Contains, Contains-get_or, DifferencesParts, EntriesSayTheSame, ExtractParts, HasKey}
+use Rattle.cif_canon.proofs.Words.{HasSidedRecord, IsClearExtract, IsFirstDifference, IsFirstFound, IsOnlyIn, IsSidedRunOf, Left, Ordering}
+use Rattle.cif_canon.proofs.Words.{Permanent, Right, Run, Side, Sided, Terms, Tiploc, TurnInto, Two, Window, association_entries, at_side}
+use Rattle.cif_canon.proofs.Words.{header_window, key_cmp, keyed, nat_cmp, of_side, one-key, same_Some, schedule_entries, sided_records}
+use Rattle.cif_canon.proofs.Words.{slice_cmp, slice_get, slice_get_within, within-entries, ◌↔◌}
 use Rattle.cif_canon.proofs.DifferentTiplocs.{has-or-not, no-tiploc, with_side}
 use Rattle.cif_canon.proofs.FoundRecords.{no-member}
 use Rattle.cif_canon.proofs.MergedSides.{at_side-made, from-side, side-member}

@@ -1,9 +1,8 @@
 -- The extract of canonical records.
 use Rattle.std.proofs.Common.{◌≡◌, ℕ, ◌≤◌, List, [], ◌∷◌, Some, refl, ap}
-use Rattle.std.proofs.lemmas.List.Elements.{All-head, All-tail}
 use Rattle.cif_weeks.specs.Permanent.{terms_of}
-use Rattle.cif_canon.proofs.Words.{All, AssocBody, AssocKey, Association, BodyParts, P, Permanent, Schedule, association_entries}
-use Rattle.cif_canon.proofs.Words.{permanent_entries, schedule_entries}
+use Rattle.cif_canon.proofs.Words.{All, All-head, All-tail, AssocBody, AssocKey, Association, BodyParts, P, Permanent, Schedule}
+use Rattle.cif_canon.proofs.Words.{association_entries, permanent_entries, schedule_entries}
 
 -- a record that doesn't end before it begins
 abbrev pub IsDated : {K B : Type 0} → K × Permanent B → Type 0

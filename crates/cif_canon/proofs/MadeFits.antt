@@ -1,6 +1,5 @@
 -- What a canonical extract says fits the columns of lines, where what it is made of does.
 use Rattle.std.proofs.Common.{◌≡◌, ℕ, zero, suc, Bool, List, [], ◌∷◌, ◌++◌, map, length, get_or, Some, refl, ap, ◌∙◌, subst, arith}
-use Rattle.std.proofs.lemmas.List.Elements.{All-head, All-tail, Contains-get_or}
 use Rattle.cif_columns.specs.Day.{IsDay}
 use Rattle.cif_columns.specs.Field.{AllFit}
 use Rattle.cif_columns.specs.declared.stp.Stp.{Stp}
@@ -11,11 +10,11 @@ use Rattle.cif_records.specs.declared.detail.Detail.{Detail}
 use Rattle.cif_records.proofs.Headers as headers
 use Rattle.cif_weeks.specs.Aligned.{IsAligned}
 use Rattle.cif_weeks.specs.declared.form.Form.TheVariants.{One}
-use Rattle.cif_canon.proofs.Words.{All, AllZip, AreCanonical, AreCanonicalRecords, AreDistinct, AssocBody, AssocKey, Association, BodyParts}
-use Rattle.cif_canon.proofs.Words.{Contains, ExtractParts, FitsColumns, Form, IsRunOf, IsWithin, Ordering, P, Permanent, Row, Run, Schedule}
-use Rattle.cif_canon.proofs.Words.{Terms, Tiploc, Two, Window, association_entries, association_entry, association_table, basic_rows}
-use Rattle.cif_canon.proofs.Words.{flat_map, header_window, key_cmp, nat_cmp, schedule_entries, schedule_entry, slice_cmp, slice_get}
-use Rattle.cif_canon.proofs.Words.{tables_of, tiploc_table, trailer_table}
+use Rattle.cif_canon.proofs.Words.{All, All-head, All-tail, AllZip, AreCanonical, AreCanonicalRecords, AreDistinct, AssocBody, AssocKey}
+use Rattle.cif_canon.proofs.Words.{Association, BodyParts, Contains, Contains-get_or, ExtractParts, FitsColumns, Form, IsRunOf, IsWithin}
+use Rattle.cif_canon.proofs.Words.{Ordering, P, Permanent, Row, Run, Schedule, Terms, Tiploc, Two, Window, association_entries}
+use Rattle.cif_canon.proofs.Words.{association_entry, association_table, basic_rows, flat_map, header_window, key_cmp, nat_cmp}
+use Rattle.cif_canon.proofs.Words.{schedule_entries, schedule_entry, slice_cmp, slice_get, tables_of, tiploc_table, trailer_table}
 use Rattle.cif_canon.proofs.MadeExtract.{IsDated, associations_of, schedules_of}
 use Rattle.cif_canon.proofs.KeptExtract.{canonical_of, dated-associations, dated-schedules}
 

@@ -2,14 +2,11 @@
 use Rattle.std.proofs.Common.{◌≡◌, inl, inr, zero, suc, ◌+◌, ◌<◌, ◌≤◌, Bool, true, false, List, [], ◌∷◌, ◌++◌, Some, None, refl, sym}
 use Rattle.std.proofs.Common.{ap, ◌∙◌, subst, arith, get_or, length, ⊎_elim, append_assoc, append-nil, true≢false}
 use Rattle.std.proofs.Math.Nat.{eq-or-lt_of_le}
-use Rattle.std.proofs.lemmas.Bool.{cond_both}
-use Rattle.std.proofs.lemmas.List.Elements.{Contains-get_or, Contains-push_cases}
 use Rattle.std.proofs.lemmas.List.Quantifiers.{all_pairs_push}
-use Rattle.cif_calendar.proofs.Elements.{Contains-first, Contains-rest, Contains-cases}
-use Rattle.cif_calendar.proofs.RisingLists.{Contains-none}
 use Rattle.cif_canon.specs.Steps.OnlySides.{IsFirstSide}
-use Rattle.cif_canon.proofs.Words.{AllPairs, AreAppendedRuns, AreMerging, AreRisingRuns, Contains, Decides, HasMovedOf, Left, Right, Run}
-use Rattle.cif_canon.proofs.Words.{RunComesBefore, Side, Sided, at_side, if◌then◌else◌, is_side, of_side}
+use Rattle.cif_canon.proofs.Words.{AllPairs, AreAppendedRuns, AreMerging, AreRisingRuns, Contains, Contains-cases, Contains-first}
+use Rattle.cif_canon.proofs.Words.{Contains-get_or, Contains-none, Contains-push_cases, Contains-rest, Decides, HasMovedOf, Left, Right}
+use Rattle.cif_canon.proofs.Words.{Run, RunComesBefore, Side, Sided, at_side, cond_both, if◌then◌else◌, is_side, of_side}
 
 -- ---- lists with sides
 

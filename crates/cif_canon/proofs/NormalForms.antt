@@ -1,23 +1,21 @@
 -- Canonical bytes are the only ones that say what they say, their own canonical form, and reached from each form.
 use Rattle.std.proofs.Common.{◌≡◌, ℕ, ◌≤◌, List, [], ◌∷◌, ◌++◌, map, length, Option, None, Some, IfSome, refl, sym, ap, ◌∙◌, subst, arith}
 use Rattle.std.proofs.Common.{length-append}
-use Rattle.std.specs.Prelude.{unwrap_or}
-use Rattle.std.proofs.lemmas.List.{drop_at}
 use Rattle.cif_columns.specs.Contents.{contents_of, lines_text}
 use Rattle.cif_columns.proofs.Parts.{length-plain_line}
 use Rattle.cif_extract.proofs.PlainTexts.{text-spells, spelled-fits}
 use Rattle.cif_extract.proofs.SpelledBytes.{one_spelled}
 use Rattle.cif_records.specs.HeaderColumns.{with_window}
 use Rattle.cif_records.proofs.Headers as headers
-use Rattle.cif_weeks.proofs.PermanentEntries.{canonical-clear}
 use Rattle.cif_canon.specs.Accepted.{IsAccepted}
 use Rattle.cif_canon.specs.Asked.{nothing_asked}
 use Rattle.cif_canon.specs.NormalForm.{IsNormalFormAgain, IsNormalFormOf, IsReachedFromForms, IsUnique, after_first_line}
 use Rattle.cif_extract.proofs.OneExtract.{same_extract_parts}
 use Rattle.cif_canon.proofs.Words.{Agree, AreClear, Asked, AskedDatesAreWithin, Association, BytesSpell, ExtractParts, FitsColumns, Form}
 use Rattle.cif_canon.proofs.Words.{Header, IsCanonicalExtract, IsCanonicalOf, IsClearExtract, IsNarrowed, IsWithin, SameMeaning, Schedule}
-use Rattle.cif_canon.proofs.Words.{Tiploc, Window, association_table, extract_text, flat_map, header_table, header_window, key_cmp, nat_cmp}
-use Rattle.cif_canon.proofs.Words.{plain_line, slice_cmp, tables_of, tiploc_table, trailer_table, window_asked}
+use Rattle.cif_canon.proofs.Words.{Tiploc, Window, association_table, canonical-clear, drop_at, extract_text, flat_map, header_table}
+use Rattle.cif_canon.proofs.Words.{header_window, key_cmp, nat_cmp, plain_line, slice_cmp, tables_of, tiploc_table, trailer_table}
+use Rattle.cif_canon.proofs.Words.{unwrap_or, window_asked}
 use Rattle.cif_canon.proofs.SameExtracts.{agree-sym, agree-trans, agree-with_header, one-window, same-sym, same-trans}
 use Rattle.cif_canon.proofs.Unique.{extracts-unique, one-associations, one-schedules, one-tiplocs}
 

@@ -1,22 +1,20 @@
 -- What an input that is read and narrowed comes to.
 use Rattle.std.proofs.Common.{◌≡◌, ◌≢◌, ◌≤◌, ℕ, false, List, [], Option, Result, Ok, Err, inr, refl, sym, ap, ◌∙◌, subst, arith, ⊎_elim}
-use Rattle.std.specs.Prelude.{IfErr, IfOk, MatchResult}
-use Rattle.cif_calendar.proofs.FirstClash.{first_clash-clear}
 use Rattle.cif_columns.specs.Sink.{HasFailed, HasWritten}
 use Rattle.cif_columns.proofs.GivenLinesLaws.{known_so}
 use Rattle.cif_extract.specs.ReadFault.{is_read, reading_extract}
 use Rattle.cif_extract.specs.declared.extract.Extract.{Extract}
 use Rattle.cif_extract.specs.declared.fault.Clash.TheVariants.{Association, Train}
 use Rattle.cif_extract.specs.declared.fault.Fault.TheVariants as fault
-use Rattle.cif_extract.proofs.ReadCalls.{HandsOn, Makes, Refuses, at-fault, of_any}
 use Rattle.cif_extract.proofs.SpelledBytes.{one_spelled, spelled-refused}
 use Rattle.cif_canon.specs.Accepted.{IsAcceptedWithin, SpellsNarrowed}
 use Rattle.cif_canon.specs.Fault.{IsDeviceOrMemory, IsNormaliseFault, IsReadNarrowedFault, reading_narrowed}
 use Rattle.cif_canon.specs.Normalised.{FaultWrites, HasCanon, IsCanonOfInput, IsNormalised, Normalises, checking, normalising}
 use Rattle.cif_canon.specs.Normalised.{reading_canon}
 use Rattle.cif_canon.proofs.Words.{Asked, AskedDatesAreWithin, BytesSpellWithin, CanonParts, Clash, Counts, ExtractParts, Fault, Form}
-use Rattle.cif_canon.proofs.Words.{IfSome, IsCanonFault, IsCanonOf, IsClearExtract, IsErrAnd, IsFirstClashIn, IsNarrowed, IsNarrowingFault}
-use Rattle.cif_canon.proofs.Words.{IsOfCheck, Sink, Unread, extract_parts, window_asked}
+use Rattle.cif_canon.proofs.Words.{HandsOn, IfErr, IfOk, IfSome, IsCanonFault, IsCanonOf, IsClearExtract, IsErrAnd, IsFirstClashIn}
+use Rattle.cif_canon.proofs.Words.{IsNarrowed, IsNarrowingFault, IsOfCheck, Makes, MatchResult, Refuses, Sink, Unread, at-fault}
+use Rattle.cif_canon.proofs.Words.{extract_parts, first_clash-clear, of_any, window_asked}
 use Rattle.cif_canon.proofs.NormalForms.{one-narrowed}
 
 module _ (max : ℕ) (asked : Asked) (bytes : List ℕ) where

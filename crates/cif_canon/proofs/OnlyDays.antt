@@ -1,13 +1,10 @@
 -- What is left of a calendar where another one has the same bodies on some days.
 use Rattle.std.proofs.Common.{◌≡◌, ◌≢◌, ◌⊎◌, ℕ, ◌+◌, ◌<◌, ◌≤◌, List, [], ◌∷◌, ◌++◌, Option, None, length, sym, ap, ◌∙◌, subst, arith}
 use Rattle.std.proofs.Common.{⊎_elim, set, get_or}
-use Rattle.std.proofs.lemmas.Bool.{cases_lt}
-use Rattle.std.proofs.lemmas.List.{get_or-set_same, get_or-set_other}
-use Rattle.std.proofs.lemmas.List.Elements.{Contains-append_left, Contains-append_right}
-use Rattle.cif_calendar.proofs.Elements.{Contains-first}
 use Rattle.cif_calendar.proofs.PieceLists.{source_at-piece, tiles-find, tiles-push}
 use Rattle.cif_canon.specs.Steps.OnlySides.{AreOnlyWinners}
-use Rattle.cif_canon.proofs.Words.{CalendarParts, Contains, IsOnlySource, Piece, Terms, Tiles, source_at, weekday_of, winner_of}
+use Rattle.cif_canon.proofs.Words.{CalendarParts, Contains, Contains-append_left, Contains-append_right, Contains-first, IsOnlySource}
+use Rattle.cif_canon.proofs.Words.{Piece, Terms, Tiles, cases_lt, get_or-set_other, get_or-set_same, source_at, weekday_of, winner_of}
 use Rattle.cif_canon.proofs.DifferentDays.{in-week}
 
 weekday-below : (d : ℕ) → weekday_of d < 7

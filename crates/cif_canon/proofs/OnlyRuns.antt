@@ -1,29 +1,21 @@
 -- The runs of what is left of a calendar are those of what only it says.
-use Rattle.std.proofs.Common.{◌≡◌, ◌≢◌, ◌≤◌, ◌<◌, ℕ, zero, suc, List, [], ◌∷◌, None, Some, sym, ◌∙◌, ap, subst, arith, ⊎_elim}
-use Rattle.std.proofs.lemmas.List.Elements.{All-nil, All-cons, All-head, All-tail}
-use Rattle.std.proofs.lemmas.List.Kept.{AllPairs-cons}
+use Rattle.std.proofs.Common.{◌≡◌, ◌≢◌, ◌≤◌, ◌<◌, ℕ, List, [], None, Some, sym, ◌∙◌, ap, subst, arith, get_or, ⊎_elim}
 use Rattle.cif_weeks.specs.Runs.{IsRunOf as IsCalendarRun}
-use Rattle.cif_calendar.proofs.RisingLists.{Contains-none}
 use Rattle.cif_canon.specs.Steps.OnlySides.{IsOnlyCalendar}
-use Rattle.cif_canon.proofs.Words.{All, AllPairs, AllZip, AreCanonicalRuns, AreOnlyRuns, AreRisingRuns, AreSources, CalendarParts, IsWithin}
-use Rattle.cif_canon.proofs.Words.{Permanent, Run, Terms, Two, body_at, body_on, source_at, window_from, window_of, ◌↔◌}
+use Rattle.cif_canon.proofs.Words.{AllPairs, AllZip, AreCanonicalRuns, AreOnlyRuns, AreRisingRuns, AreSources, CalendarParts, Contains-none}
+use Rattle.cif_canon.proofs.Words.{IsWithin, Permanent, Run, Terms, Two, body_at, body_on, get_or_from_slice_get, slice_get-get_or}
+use Rattle.cif_canon.proofs.Words.{slice_get_within, source_at, window_from, window_of, zip-at, ◌↔◌}
 use Rattle.cif_canon.proofs.KeyRecords.{runs-as}
 
 -- what holds of the pairs of one list holds of those of another that goes with it one by one
 module _ {X Y : Type 0} (R : X → Y → Type 0) (P : X → X → Type 0) (Q : Y → Y → Type 0)
     (with' : (x u : X) (y v : Y) → R x y → R u v → Q y v → P x u) where
-  all-zip : (x : X) (y : Y) → R x y → (us : List X) (vs : List Y) → AllZip R us vs → All (Q y) vs → All (P x) us
-  all-zip x y h [] [] z a = All-nil (P x)
-  all-zip x y h (u ∷ us) (v ∷ vs) z a =
-      All-cons (P x) u us (with' x u y v h z.0 (All-head (Q y) v vs a)) (all-zip x y h us vs z.1 (All-tail (Q y) v vs a))
-  all-zip _ _ _ _ _ z _ = absurd z
-
   pub pairs-zip : (xs : List X) (ys : List Y) → AllZip R xs ys → AllPairs Q ys → AllPairs P xs
-  pairs-zip [] [] z a = λ i j d less within. absurd (omega arith)
-  pairs-zip (x ∷ xs) (y ∷ ys) z a =
-      AllPairs-cons P x xs (all-zip x y z.0 xs ys z.1 (λ k d within. a zero (suc k) d (omega arith) (omega arith)))
-      (pairs-zip xs ys z.1 (λ i j d less within. a (suc i) (suc j) d (omega arith) (omega arith)))
-  pairs-zip _ _ z _ = absurd z
+  pairs-zip xs ys z a i j d less within =
+      let (y, at_y, h) = zip-at R xs ys z i (get_or xs i d) (slice_get-get_or xs i d (omega arith)) in
+      let (v, at_v, k) = zip-at R xs ys z j (get_or xs j d) (slice_get-get_or xs j d within) in
+      with' (get_or xs i d) (get_or xs j d) y v h k (subst (λ w. Q w v) (get_or_from_slice_get ys i y y at_y)
+      (subst (λ w. Q (get_or ys i y) w) (get_or_from_slice_get ys j v y at_v) (a i j y less (slice_get_within ys j v at_v))))
 
 -- the runs of records rise as these do
 pub rising-runs : {B : Type 0} (xs : List (Terms B)) (c : CalendarParts) (runs : List Run) (records : List (Permanent B)) →

@@ -2,13 +2,11 @@
 use Rattle.std.proofs.Common.{◌≡◌, ℕ, ◌-◌, ◌<◌, Bool, true, false, List, [], ◌∷◌, Option, None, Some, ap, arith, drop, get_or, length}
 use Rattle.std.proofs.Common.{refl, sym, take, ◌∙◌}
 use Rattle.std.specs.Cmp.{booleans_Decides}
-use Rattle.std.proofs.lemmas.Bool.Decides.{Decides-and, Decides-eqb, same_from_decides}
-use Rattle.std.proofs.lemmas.List.{length-drop, take_all}
 use Rattle.cif_canon.specs.Steps.ByPairs.{HasWrittenFirst, IsListedFirst}
 use Rattle.cif_canon.proofs.MergedSides.{side-decided}
-use Rattle.cif_canon.proofs.Words.{ArePair, Decides, IsAppended, IsTrue, Left, Listed, Ordering, Permanent, Right, Run, Sided, Sink}
-use Rattle.cif_canon.proofs.Words.{Terms, are_pair, at_side, by_pairs, if◌then◌else◌, is_eq, pointwise_decides, record_at}
-use Rattle.cif_canon.proofs.Words.{sided_records, with_record, ◌↔◌}
+use Rattle.cif_canon.proofs.Words.{ArePair, Decides, Decides-and, Decides-eqb, IsAppended, IsTrue, Left, Listed, Ordering, Permanent, Right}
+use Rattle.cif_canon.proofs.Words.{Run, Sided, Sink, Terms, are_pair, at_side, by_pairs, if◌then◌else◌, is_eq, length-drop}
+use Rattle.cif_canon.proofs.Words.{pointwise_decides, record_at, same_from_decides, sided_records, take_all, with_record, ◌↔◌}
 
 -- ---- the test of a pair
 

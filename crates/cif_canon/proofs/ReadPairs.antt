@@ -5,11 +5,10 @@ use Rattle.cif_columns.specs.declared.source.Source.{Source}
 use Rattle.cif_extract.specs.ReadCall.{IsResultOfBoth}
 use Rattle.cif_extract.specs.ReadFault.{IsOfReading, reading_extract}
 use Rattle.cif_extract.specs.declared.extract.Extract.{Extract}
-use Rattle.cif_extract.proofs.ReadCalls.{at-fault}
 use Rattle.cif_canon.specs.Fault.{IsOfReadNarrowed}
 use Rattle.cif_canon.proofs.Normalising.{narrows-not, reads-narrowed}
 use Rattle.cif_canon.specs.Pair.{IsNarrowedPair, IsPairRefusal, asked_of_both}
-use Rattle.cif_canon.proofs.Words.{Asked, ExtractParts, Fault, IsErrAnd, IsNarrowed, IsNarrowingFault, extract_parts}
+use Rattle.cif_canon.proofs.Words.{Asked, ExtractParts, Fault, IsErrAnd, IsNarrowed, IsNarrowingFault, at-fault, extract_parts}
 
 module _ (asked : Asked) (common : Bool) (left right : Extract) (wanted : Asked)
     (is : wanted ≡ asked_of_both common asked (extract_parts left) (extract_parts right)) where

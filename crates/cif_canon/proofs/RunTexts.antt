@@ -1,12 +1,10 @@
 -- What is written of a run is the text of its record.
 use Rattle.std.proofs.Common.{◌≡◌, ℕ, ◌<◌, ◌≤◌, List, Option, None, Some, map, length, get_or, refl, sym, ap, ◌∙◌, arith, subst}
-use Rattle.std.specs.Prelude.{All, slice_get}
 use Rattle.std.specs.Option.{option_and_then, option_map}
-use Rattle.std.proofs.lemmas.List.{length-map}
-use Rattle.std.proofs.lemmas.Option.{option_and_then_some, same_Some, slice_get_read, slice_get_within}
 use Rattle.cif_calendar.proofs.Winning.{terms_at}
 use Rattle.cif_canon.specs.Steps.Texts.{HasRecord, body_at, record_at, run_text, text_if}
-use Rattle.cif_canon.proofs.Words.{BodyParts, IsRunOf, Permanent, Run, Schedule, Terms, record_of, schedule_entries, schedule_entry}
+use Rattle.cif_canon.proofs.Words.{All, BodyParts, IsRunOf, Permanent, Run, Schedule, Terms, length-map, option_and_then_some, record_of}
+use Rattle.cif_canon.proofs.Words.{same_Some, schedule_entries, schedule_entry, slice_get, slice_get_read, slice_get_within}
 
 -- the record of a run whose source is an entry with a body
 pub record-of_entry : {K B : Type 0} (entries : List (K × Terms B)) (run : Run) (e : K × Terms B) (b : B) →

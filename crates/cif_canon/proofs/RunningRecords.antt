@@ -1,22 +1,16 @@
 -- Which canonical records apply on a day, and which are those of one key.
 use Rattle.std.proofs.Common.{◌≡◌, ◌<◌, ℕ, zero, suc, Bool, true, false, List, [], ◌∷◌, map, get_or, refl, sym, ap, ◌∙◌, subst, ⊎_elim}
 use Rattle.std.proofs.Common.{arith}
-use Rattle.std.specs.Prelude.{Some, nat_le, slice_index_or}
-use Rattle.std.proofs.lemmas.Bool.{false≢true, le-leb, leb-true}
-use Rattle.std.proofs.lemmas.Bool.Decides.{Decides-and, Decides-like, same_from_decides}
-use Rattle.std.proofs.lemmas.Option.{same_Some}
 use Rattle.cif_columns.specs.DaysRun.{RunsOn}
-use Rattle.std.proofs.lemmas.List.Elements.{Contains-get_or}
 use Rattle.std.proofs.lemmas.List.Kept.{AllPairs-filter}
 use Rattle.cif_calendar.specs.Applies.{IsAmongDates}
 use Rattle.cif_weeks.specs.Applies.{Applies}
-use Rattle.cif_weeks.proofs.JoinedLists.{AllPairs-map, Contains-map, Contains-from_map}
-use Rattle.cif_weeks.proofs.PermanentEntries.{runs-applies}
-use Rattle.cif_calendar.proofs.RisingLists.{not_less}
 use Rattle.cif_canon.specs.Views.{AreRunning}
-use Rattle.cif_canon.proofs.Words.{AllPairs, AreCanonicalRecords, Contains, Decides, Form, IsTotalOrder, IsTrue, IsWithin, Less, Ordering}
-use Rattle.cif_canon.proofs.Words.{Permanent, Precedes, Run, Terms, Window, applies_on, bytes_decides, filter, nat_eq, of_key, pointwise}
-use Rattle.cif_canon.proofs.Words.{record_of, weekday_of, ◌&&◌, ◌↔◌}
+use Rattle.cif_canon.proofs.Words.{AllPairs, AllPairs-map, AreCanonicalRecords, Contains, Contains-from_map, Contains-get_or, Contains-map}
+use Rattle.cif_canon.proofs.Words.{Decides, Decides-and, Decides-like, Form, IsTotalOrder, IsTrue, IsWithin, Less, Ordering, Permanent}
+use Rattle.cif_canon.proofs.Words.{Precedes, Run, Some, Terms, Window, applies_on, bytes_decides, false≢true, filter, le-leb, leb-true}
+use Rattle.cif_canon.proofs.Words.{nat_eq, nat_le, not_less, of_key, pointwise, record_of, runs-applies, same_Some, same_from_decides}
+use Rattle.cif_canon.proofs.Words.{slice_index_or, weekday_of, ◌&&◌, ◌↔◌}
 use Rattle.cif_canon.proofs.ChosenRecords.{chosen, chosen-from}
 
 -- ---- the test of a day

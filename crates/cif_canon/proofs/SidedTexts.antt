@@ -1,11 +1,9 @@
 -- The records of runs with their sides, and their text.
 use Rattle.std.proofs.Common.{◌≡◌, ℕ, ◌<◌, ◌≤◌, Bool, get_or, length, map, List, [], ◌∷◌, ◌++◌, Option, None, Some, refl, sym, ap, ◌∙◌}
 use Rattle.std.proofs.Common.{subst}
-use Rattle.std.proofs.lemmas.List.Elements.{All-nil, All-cons, All-head, All-tail}
-use Rattle.std.proofs.lemmas.List.{nil_from_length}
-use Rattle.cif_canon.proofs.Words.{All, AllZip, AreNone, AssocBody, AssocKey, BodyParts, HasRecord, HasSidedRecord, IsSidedRunOf, IsTrue}
-use Rattle.cif_canon.proofs.Words.{Permanent, Run, Side, Sided, Terms, Tiploc, at_side, flat_map, record_at, sided_records}
-use Rattle.cif_canon.proofs.Words.{sided_run_text, text_if, with_record, ◌↔◌}
+use Rattle.cif_canon.proofs.Words.{All, All-cons, All-head, All-nil, All-tail, AllZip, AreNone, AssocBody, AssocKey, BodyParts, HasRecord}
+use Rattle.cif_canon.proofs.Words.{HasSidedRecord, IsSidedRunOf, IsTrue, Permanent, Run, Side, Sided, Terms, Tiploc, at_side, flat_map}
+use Rattle.cif_canon.proofs.Words.{nil_from_length, record_at, sided_records, sided_run_text, text_if, with_record, ◌↔◌}
 use Rattle.cif_canon.proofs.MergedSides.{at_side-made}
 use Rattle.cif_canon.proofs.RunTexts.{record-of_run, record-within}
 

@@ -1,12 +1,11 @@
 -- The locations that only one of two rising lists has are found one by one.
 use Rattle.std.proofs.Common.{◌≡◌, ◌⊎◌, inl, inr, ◌+◌, ◌<◌, List, [], ◌∷◌, ◌++◌, Some, None, length, drop, refl, sym, ap, subst, arith}
 use Rattle.std.proofs.Common.{⊎_elim, get_or}
-use Rattle.std.proofs.lemmas.List.Elements.{Contains-append_left, Contains-get_or, Contains-push, Contains-push_cases}
 use Rattle.std.proofs.lemmas.List.Quantifiers.{all_pairs_push}
-use Rattle.cif_calendar.proofs.Elements.{Contains-first, Contains-rest, Contains-cases}
-use Rattle.cif_calendar.proofs.RisingLists.{Contains-none}
-use Rattle.cif_canon.proofs.Words.{AllPairs, AreDifferentTiplocs, AreDistinct, AreSifting, Contains, Equal, Greater, HasMovedOf}
-use Rattle.cif_canon.proofs.Words.{IsFirstOrder, IsOnlyIn, Left, Less, Right, Side, Sided, Tiploc, at_side, nat_list_cmp_total, ◌↔◌}
+use Rattle.cif_canon.proofs.Words.{AllPairs, AreDifferentTiplocs, AreDistinct, AreSifting, Contains, Contains-append_left, Contains-cases}
+use Rattle.cif_canon.proofs.Words.{Contains-first, Contains-get_or, Contains-none, Contains-push, Contains-push_cases, Contains-rest, Equal}
+use Rattle.cif_canon.proofs.Words.{Greater, HasMovedOf, IsFirstOrder, IsOnlyIn, Left, Less, Right, Side, Sided, Tiploc, at_side}
+use Rattle.cif_canon.proofs.Words.{nat_list_cmp_total, ◌↔◌}
 use Rattle.cif_canon.proofs.DifferentTiplocs.{Before, before-greater, equal-tiplocs, not-itself, with_side}
 use Rattle.cif_canon.proofs.MergedSides.{from-sides, pairs-head, pairs-tail, to-sides}
 

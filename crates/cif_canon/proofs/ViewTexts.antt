@@ -1,12 +1,11 @@
 -- What is listed of records is the text of a view.
 use Rattle.std.proofs.Common.{◌≡◌, ℕ, List, ◌++◌, map, Result, Ok, Err, ap, ◌∙◌, length, ◌<◌}
-use Rattle.cif_weeks.proofs.PermanentEntries.{canonical-dated}
 use Rattle.cif_canon.specs.Normalised.{IfWritten}
 use Rattle.cif_canon.specs.Views.{IsDayListed, IsTrainListed}
 use Rattle.cif_canon.proofs.Words.{All, AreCanonicalRecords, AssocBody, AssocKey, BodyParts, DayTexts, ExtractParts, Fault, Form, HasRecord}
 use Rattle.cif_canon.proofs.Words.{IsWithin, Ordering, Permanent, Run, Terms, TrainTexts, Window, Write, applies_on, association_entries}
-use Rattle.cif_canon.proofs.Words.{flat_map, header_window, key_cmp, listed_of, listed_on, nat_cmp, nat_eq, nat_list_cmp_total, pointwise}
-use Rattle.cif_canon.proofs.Words.{run_text, schedule_entries, slice_cmp}
+use Rattle.cif_canon.proofs.Words.{canonical-dated, flat_map, header_window, key_cmp, listed_of, listed_on, nat_cmp, nat_eq}
+use Rattle.cif_canon.proofs.Words.{nat_list_cmp_total, pointwise, run_text, schedule_entries, slice_cmp}
 use Rattle.cif_canon.proofs.CanonTexts.{have-records, texts-of_runs}
 use Rattle.cif_canon.proofs.ChosenRecords.{chosen-text}
 use Rattle.cif_canon.proofs.RunTexts.{sources-slices}

@@ -1,4 +1,26 @@
--- The words of the crates below of which many of the proofs speak.
+-- The words of the crates below of which many of the proofs speak, and lemmas of theirs that several cite.
+pub use Rattle.cif_calendar.proofs.Elements.{Contains-cases, Contains-first, Contains-rest}
+pub use Rattle.cif_calendar.proofs.FirstClash.{first_clash-clear, same_key-cmp}
+pub use Rattle.cif_calendar.proofs.KeyPositions.{all-within, has-key, within-entries}
+pub use Rattle.cif_calendar.proofs.KeyTurns.{decided, first-leads, no-entry, one-key, rising-after}
+pub use Rattle.cif_calendar.proofs.RisingLists.{Contains-none, IsOneWay, less_one_way, not_less, same_members}
+pub use Rattle.cif_extract.proofs.ReadCalls.{HandsOn, Makes, Refuses, at-fault, goes-on, hands, hands-either, hands-on, of_any}
+pub use Rattle.cif_weeks.proofs.JoinedLists.{AllPairs-append, AllPairs-map, AllZip-append, Contains-from_map, Contains-map, zip-at}
+pub use Rattle.cif_weeks.proofs.JoinedLists.{zip-back, zip-map, zip-with}
+pub use Rattle.cif_weeks.proofs.PermanentEntries.{canonical-clear, canonical-dated, records-meaning, runs-applies, same-meaning}
+pub use Rattle.std.proofs.lemmas.Bool.{cases_lt, cond_both, eqb-true, false≢true, le-leb, leb-true, not-false}
+pub use Rattle.std.proofs.lemmas.Bool.Decides.{Decides-and, Decides-eqb, Decides-like, nat_tests, same_from_decides}
+pub use Rattle.std.proofs.lemmas.Grind.{common_steps, flat_map-append}
+pub use Rattle.std.proofs.lemmas.List.{drop_at, drop_more, get_or-set_other, get_or-set_same, length-drop, length-map, length-take-le}
+pub use Rattle.std.proofs.lemmas.List.{map-append, nil_from_length, take_all, take_more}
+pub use Rattle.std.proofs.lemmas.List.Elements.{All-cons, All-contains, All-contains_itself, All-drop, All-filter, All-head, All-nil}
+pub use Rattle.std.proofs.lemmas.List.Elements.{All-tail, All-take, Contains-append_cases, Contains-append_left, Contains-append_right}
+pub use Rattle.std.proofs.lemmas.List.Elements.{Contains-get_or, Contains-push, Contains-push_cases, filter_passes}
+pub use Rattle.std.proofs.lemmas.Option.{get_or_from_slice_get, none-some, option_and_then_some, same_Some, slice_get-get_or}
+pub use Rattle.std.proofs.lemmas.Option.{slice_get_past, slice_get_read, slice_get_within}
+pub use Rattle.std.proofs.lemmas.Result.{IfOk-from_err, IfOk-weaker, err_from_is_err_and}
+pub use Rattle.std.specs.List.{AllByRecursion, dedup}
+pub use Rattle.std.specs.Prelude.{Bool, IfErr, IfOk, IsSome, MatchResult, OnOk, Option, Some, nat_le, slice_index_or, unwrap_or, ⊤}
 pub use Rattle.std.specs.Bool.{Decides}
 pub use Rattle.std.specs.Cmp.{IsTotalOrder}
 pub use Rattle.std.specs.Cmp.Lexicographic.{bytes_decides, nat_list_cmp_total, pointwise, pointwise_decides, slice_cmp, texts_ties}

@@ -1,7 +1,6 @@
 -- Each run has a record, and so the schedule at its source has a body (`has-body`).
 use Rattle.std.proofs.Common.{◌<◌, ap, length, subst, sym, ◌∙◌}
-use Rattle.std.proofs.lemmas.Bool.{false≢true}
-use Rattle.cif_canon.proofs.Words.{HasRecord, Run, Schedule, schedule_entries, schedule_entry}
+use Rattle.cif_canon.proofs.Words.{HasRecord, Run, Schedule, false≢true, schedule_entries, schedule_entry}
 use Rattle.cif_canon.proofs.RunTexts.{has-body}
 use Rattle.cif_canon.proofs.canonical_form.look_ahead.Goals as goal
 use Rattle.cif_canon.proofs.canonical_form.look_ahead.Goals.{in_default-via-in-Some+else-prefetch, in_default-via-in_default}

@@ -1,8 +1,7 @@
 -- A fault of either extract is one of both (`compare-fault`).
 use Rattle.std.proofs.Common.{inl, inr}
-use Rattle.cif_canon.proofs.Words.{IsClearExtract, IsCompareFault, extract_parts}
+use Rattle.cif_canon.proofs.Words.{IsClearExtract, IsCompareFault, extract_parts, hands}
 use Rattle.cif_canon.proofs.CompareFaults.{compare-fault}
-use Rattle.cif_extract.proofs.ReadCalls.{hands}
 use Rattle.cif_canon.proofs.differing.check_comparable.Goals as goal
 
 pub returns-in_err-extract_runs-clause-fault : goal.returns-in_err-extract_runs-clause-fault

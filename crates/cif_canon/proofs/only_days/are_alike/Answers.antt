@@ -1,8 +1,7 @@
 -- Each calendar has pieces of its own: up to the earlier end `alike-by_pieces` tells of both calendars, date by date.
 use Rattle.std.proofs.Common.{◌≡◌, ◌≤◌, ◌∙◌, arith, map, refl, sym, ⊎_elim}
-use Rattle.std.proofs.lemmas.Bool.{cases_lt, false≢true}
 use Rattle.cif_calendar.proofs.Stretches.{sooner}
-use Rattle.cif_canon.proofs.Words.{HoldsFrom, IsTrue, body_on, ◌↔◌}
+use Rattle.cif_canon.proofs.Words.{HoldsFrom, IsTrue, body_on, cases_lt, false≢true, ◌↔◌}
 use Rattle.cif_canon.proofs.DifferentDays.{alike-by_pieces, not-below, piece-bodies, piece-ends}
 use Rattle.cif_canon.proofs.only_days.are_alike.Given.{Over}
 use Rattle.cif_canon.proofs.only_days.are_alike.Goals as goal

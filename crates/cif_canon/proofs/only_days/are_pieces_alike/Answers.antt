@@ -1,7 +1,6 @@
 -- A piece has one winner for each weekday: if seven days from the first are alike, so are all that follow (`alike-week`).
 use Rattle.std.proofs.Common.{◌≡◌, ℕ, ◌∙◌, refl, sym, ap, arith, map, subst, get_or, None}
-use Rattle.std.proofs.lemmas.Bool.{false≢true}
-use Rattle.cif_canon.proofs.Words.{AreAlikeBy, body_at, ◌↔◌}
+use Rattle.cif_canon.proofs.Words.{AreAlikeBy, body_at, false≢true, ◌↔◌}
 use Rattle.cif_canon.proofs.DifferentDays.{alike-week, day-more, not-below}
 use Rattle.cif_canon.proofs.only_days.are_pieces_alike.Given.{Over}
 use Rattle.cif_canon.proofs.only_days.are_pieces_alike.Goals as goal

@@ -1,9 +1,7 @@
 -- What is listed first of the rest goes behind what was listed (`behind`).
 use Rattle.std.proofs.Common.{◌≡◌, ◌<◌, ◌∷◌, ◌++◌, [], append-nil, append_assoc, ap, arith, length, refl, subst, sym, ◌∙◌}
-use Rattle.std.proofs.lemmas.Bool.Decides.{nat_tests}
-use Rattle.std.proofs.lemmas.List.{nil_from_length}
-use Rattle.std.proofs.lemmas.List.Elements.{All-drop}
-use Rattle.cif_canon.proofs.Words.{All, HasSidedRecord, Run, Sided, at_side, by_pairs, flat_map, keyed, sided_records}
+use Rattle.cif_canon.proofs.Words.{All, All-drop, HasSidedRecord, Run, Sided, at_side, by_pairs, flat_map, keyed, nat_tests}
+use Rattle.cif_canon.proofs.Words.{nil_from_length, sided_records}
 use Rattle.cif_canon.proofs.AppendedTexts.{behind, nothing, text-is}
 use Rattle.cif_canon.proofs.pairs.write_pairs.Goals as goal
 

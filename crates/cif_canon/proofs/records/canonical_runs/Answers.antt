@@ -1,13 +1,8 @@
 -- Key by key (`MadeRecords`): the first run of positions is all of a key, whose records go behind, or whose clash is first.
 use Rattle.std.proofs.Common.{◌≡◌, ◌<◌, ◌-◌, ◌∙◌, List, ℕ, [], ap, arith, length, sym, subst}
-use Rattle.std.proofs.lemmas.Result.{err_from_is_err_and}
-use Rattle.std.proofs.lemmas.List.{length-drop, length-take-le, nil_from_length}
-use Rattle.std.proofs.lemmas.Bool.{eqb-true}
-use Rattle.std.proofs.lemmas.List.Elements.{All-drop, All-take}
-use Rattle.cif_calendar.proofs.FirstClash.{same_key-cmp}
 use Rattle.cif_calendar.proofs.Positions.{AreLawful-of_key}
-use Rattle.cif_calendar.proofs.KeyPositions.{all-within}
-use Rattle.cif_canon.proofs.Words.{All, Run, keyed, window_from}
+use Rattle.cif_canon.proofs.Words.{All, All-drop, All-take, Run, all-within, eqb-true, err_from_is_err_and, keyed, length-drop}
+use Rattle.cif_canon.proofs.Words.{length-take-le, nil_from_length, same_key-cmp, window_from}
 use Rattle.cif_canon.proofs.MadeRecords.{IsMade, made-nothing, made-key, made-fault, made-all}
 use Rattle.cif_canon.proofs.records.canonical_runs.Goals as goal
 

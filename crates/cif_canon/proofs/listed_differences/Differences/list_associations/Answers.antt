@@ -1,8 +1,7 @@
 -- The runs have the records of the differences.
 use Rattle.std.proofs.Common.{ap, refl}
-use Rattle.std.specs.List.{flat_map}
 use Rattle.cif_calendar.specs.Entries.{association_entry}
-use Rattle.cif_canon.proofs.Words.{DifferencesParts, by_pairs, key_cmp}
+use Rattle.cif_canon.proofs.Words.{DifferencesParts, by_pairs, flat_map, key_cmp}
 use Rattle.cif_canon.proofs.AppendedTexts.{text-is}
 use Rattle.cif_canon.proofs.SidedTexts.{sided-slices}
 use Rattle.cif_canon.proofs.listed_differences.Differences.list_associations.Goals as goal

@@ -1,7 +1,6 @@
 -- A record that doesn't pass the test of the day has no text: `tested` ties the answer to that test.
 use Rattle.std.proofs.Common.{◌∙◌, [], Bool, ap, sym}
-use Rattle.std.specs.Prelude.{if◌then◌else◌}
-use Rattle.cif_canon.proofs.Words.{listed_on}
+use Rattle.cif_canon.proofs.Words.{if◌then◌else◌, listed_on}
 use Rattle.cif_canon.proofs.AppendedTexts.{nothing, text-is}
 use Rattle.cif_canon.proofs.RunningRecords.{tested}
 use Rattle.cif_canon.proofs.views.OnDayTextsCanonRecordUidBody.write.Goals as goal
