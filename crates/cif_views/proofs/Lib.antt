@@ -12,6 +12,7 @@ mod PairedBodies
 mod PairedJourneys
 mod PublicMoments
 pub mod PublicRows
+pub mod Riders
 mod RowLines
 mod RowsOfDifferences
 mod SameJourneys

@@ -14,7 +14,7 @@ use Rattle.cif_columns.specs.WorkTime.{work_seconds, work_time_in}
 use Rattle.cif_views.specs.Moments.{IsInDayFrom, in_day_from}
 use Rattle.cif_canon.specs.Lines.{ScheduleLines}
 use Rattle.cif_views.specs.PublicCalls.{AreMoments, ArePublicCalls, behind_shown, behind_stay, AreShown, IsBehind, PublicCall}
-use Rattle.cif_views.specs.PublicCalls.{TimedCall, activities_of, advertised, at_first, is_advertised, is_public, is_timed, left_at}
+use Rattle.cif_views.specs.PublicCalls.{TimedCall, advertised, at_first, is_public, is_timed, left_at, riders_of}
 use Rattle.cif_views.specs.PublicCalls.{public_call, public_calls, public_from, public_moment, raised, reached_at, reached_moment, shown_at}
 use Rattle.cif_views.specs.PublicCalls.{stay, stay_at, times_in, working}
 use Rattle.cif_views.specs.declared.public_calls.CallTimes.{CallTimes}
@@ -312,7 +312,7 @@ module _ (j : Journey) (c : Numbered) (lines : List Numbered) (more : (next : Jo
 
   -- by whether it is advertised, and what would be shown
   by-shown : (at : Stay) → IsStay j.left (reached_at times) (left_at times) at → (seen : Bool) →
-      is_advertised (activities_of c.line) ≡ seen → (shown : Option Shown) →
+      (riders_of c.line).advertised ≡ seen → (shown : Option Shown) →
       ShownSays j.shown at times.public_arrival times.public_departure shown → Says j (c ∷ lines) (after at (if seen then shown else None))
   by-shown at is false e shown says =
       let some = is_some times.public_arrival || is_some times.public_departure in
@@ -325,7 +325,7 @@ module _ (j : Journey) (c : Numbered) (lines : List Numbered) (more : (next : Jo
       shows at p is (ap (λ b. some && b) e ∙ ap (λ b. b && true) says.times.some) says
 
   pub one-call : (at : Option Stay) → StaySays j.left (reached_at times) (left_at times) at →
-      (let next = behind_stay j times (activities_of c.line) at in Says j (c ∷ lines) (public_call c next.1 ++ public_from next.0 lines))
+      (let next = behind_stay j times (riders_of c.line) at in Says j (c ∷ lines) (public_call c next.1 ++ public_from next.0 lines))
   one-call None is =
       let next = more j in
       record {
@@ -336,7 +336,7 @@ module _ (j : Journey) (c : Numbered) (lines : List Numbered) (more : (next : Jo
       }
   one-call (Some at) is =
       let within = times-within kind c.line in
-      by-shown at is (is_advertised (activities_of c.line)) refl
+      by-shown at is ((riders_of c.line).advertised) refl
       (shown_at j.shown at times.public_arrival times.public_departure)
       (shown-says j.shown at times.public_arrival times.public_departure within.public_arrival within.public_departure)
 

@@ -3,35 +3,35 @@ use Rattle.std.proofs.Common.{◌≡◌, ℕ, ◌+◌, ◌-◌, List, [], ◌∷
 use Rattle.std.proofs.Common.{arith, cond, length, refl, sym}
 use Rattle.std.specs.List.{flat_map}
 use Rattle.std.proofs.lemmas.Grind.{flat_map-append}
-use Rattle.cif_views.specs.PublicCalls.{activities_in, activities_of, pick_up, public_call, public_fields, public_from, set_down, step}
+use Rattle.cif_views.specs.PublicCalls.{riders_in, riders_of, pick_up, public_call, public_fields, public_from, set_down, step}
 use Rattle.cif_views.specs.PublicCalls.{step_at}
 use Rattle.cif_views.specs.Moments.{midnight, time_text}
 use Rattle.cif_views.specs.PublicCalls.{platform_in, times_in, times_of}
 use Rattle.cif_views.specs.Steps.PublicRows.{behind_schedule, row_of_step}
 use Rattle.cif_views.specs.declared.public_calls.CallTimes.{CallTimes}
 use Rattle.cif_views.specs.declared.public_calls.Journey.{Journey}
+use Rattle.cif_views.specs.declared.public_calls.Riders.{Riders}
 use Rattle.cif_views.specs.declared.public_calls.Shown.{Shown}
 use Rattle.cif_views.proofs.TableRows.{behind-row}
 use Rattle.cif_views.proofs.Words.{JourneyKind, Numbered, Tsv, Whole, after, is_call, kind_of_line}
 use Rattle.cif_views.proofs.Words.{number, numbered_from, row_line, text_at}
 
 -- what is said of riders, by what is read of the line
-module _ (line answer : List ℕ) (activities : List (List ℕ)) (times : CallTimes) (are_activities : activities ≡ activities_of line)
-    (are_times : times ≡ times_of line) where
-  pub own-set-down : answer ≡ set_down activities times → answer ≡ set_down (activities_of line) (times_of line)
-  own-set-down is = rw (← are_activities, ← are_times) is
+module _ (line answer : List ℕ) (riders : Riders) (times : CallTimes) (are_riders : riders ≡ riders_of line) (are_times : times ≡ times_of line) where
+  pub own-set-down : answer ≡ set_down riders times → answer ≡ set_down (riders_of line) (times_of line)
+  own-set-down is = rw (← are_riders, ← are_times) is
 
-  pub own-pick-up : answer ≡ pick_up activities times → answer ≡ pick_up (activities_of line) (times_of line)
-  own-pick-up is = rw (← are_activities, ← are_times) is
+  pub own-pick-up : answer ≡ pick_up riders times → answer ≡ pick_up (riders_of line) (times_of line)
+  own-pick-up is = rw (← are_riders, ← are_times) is
 
 -- a step by what is read of the line is that of the line
-pub step-is : (j next : Journey) (shown : Option Shown) (kind : JourneyKind) (line : List ℕ) (times : CallTimes)
-    (activities : List (List ℕ)) → kind ≡ kind_of_line line → times ≡ times_in kind line → activities ≡ activities_in kind line →
-    (next, shown) ≡ step j times activities → (next, shown) ≡ step_at j line
-step-is j next shown kind line times activities is_kind are_times are_activities is =
+pub step-is : (j next : Journey) (shown : Option Shown) (kind : JourneyKind) (line : List ℕ) (times : CallTimes) →
+    kind ≡ kind_of_line line → times ≡ times_in kind line → (next, shown) ≡ step j times (riders_in kind line) →
+    (next, shown) ≡ step_at j line
+step-is j next shown kind line times is_kind are_times is =
     is
-    ∙ ap (λ (t : CallTimes). step j t activities) (are_times ∙ ap (λ (k : JourneyKind). times_in k line) is_kind)
-    ∙ ap (step j (times_of line)) (are_activities ∙ ap (λ (k : JourneyKind). activities_in k line) is_kind)
+    ∙ ap (λ (t : CallTimes). step j t (riders_in kind line)) are_times
+    ∙ ap (λ (k : JourneyKind). step j (times_in k line) (riders_in k line)) is_kind
 
 pub same-row : (row : List ℕ) (call : ℕ) (j next : Journey) (line : List ℕ) (shown : Option Shown) →
     (next, shown) ≡ step_at j line → row_of_step row call line shown ≡ row_of_step row call line (step_at j line).1
@@ -39,7 +39,7 @@ same-row row call j next line shown is = ap (λ (p : Journey × Option Shown). r
 
 -- the fields of a public call, as they are appended
 pub own-fields : (kind : JourneyKind) (call : ℕ) (line : List ℕ) (shown : Shown) (down up : List ℕ) → kind ≡ kind_of_line line →
-    down ≡ set_down (activities_of line) (times_of line) → up ≡ pick_up (activities_of line) (times_of line) →
+    down ≡ set_down (riders_of line) (times_of line) → up ≡ pick_up (riders_of line) (times_of line) →
     number call ∷ text_at 3 9 line ∷ platform_in kind line ∷ (Whole, time_text (shown.arrival - midnight))
     ∷ (Whole, time_text (shown.departure - midnight)) ∷ (Whole, down) ∷ (Whole, up) ∷ []
     ≡ behind_schedule call line shown

@@ -15,6 +15,7 @@ use Rattle.cif_views.specs.Moments.{IsNearest, IsNext, in_day_from, midnight, ti
 use Rattle.cif_views.specs.Tables.{Numbered, TableFields, calls_of, kind_of_line, number, numbered_from, text_at}
 use Rattle.cif_views.specs.declared.public_calls.CallTimes.{CallTimes}
 use Rattle.cif_views.specs.declared.public_calls.Journey.{Journey}
+use Rattle.cif_views.specs.declared.public_calls.Riders.{Riders}
 use Rattle.cif_views.specs.declared.public_calls.Shown.{Shown}
 use Rattle.cif_views.specs.declared.public_calls.Stay.{Stay}
 use Rattle.cif_views.specs.declared.tables.JourneyKind.{JourneyKind}
@@ -67,19 +68,25 @@ left_at t = option_or t.departure (option_or t.pass t.arrival)
 abbrev pub is_timed : Numbered → Bool
 is_timed c = is_some (reached_at (times_of c.line))
 
--- its activities
-abbrev pub activities_in : JourneyKind → List ℕ → List (List ℕ)
-activities_in Origin line = codes_in (columns 30 41 line)
-activities_in Stop line = codes_in (columns 43 54 line)
-activities_in Terminus line = codes_in (columns 26 37 line)
-activities_in kind line = []
+-- What activities say: that a call is advertised, unless one says that it isn't, or that it is for staff; whether riders may get off, and
+-- on; and whether they have to ask.
+abbrev pub said_by : List (List ℕ) → Riders
+said_by activities = record {
+  advertised = not (has_code activities (codes "N ")) && not (has_code activities (codes "S "));
+  set_down = has_code activities (codes "T ") || (has_code activities (codes "D ") || has_code activities (codes "TF"));
+  pick_up = has_code activities (codes "T ") || (has_code activities (codes "U ") || has_code activities (codes "TB"));
+  on_request = has_code activities (codes "R ");
+}
 
-abbrev pub activities_of : List ℕ → List (List ℕ)
-activities_of line = activities_in (kind_of_line line) line
+-- what those of a call say
+abbrev pub riders_in : JourneyKind → List ℕ → Riders
+riders_in Origin line = said_by (codes_in (columns 30 41 line))
+riders_in Stop line = said_by (codes_in (columns 43 54 line))
+riders_in Terminus line = said_by (codes_in (columns 26 37 line))
+riders_in kind line = said_by []
 
--- a call is advertised unless an activity says that it isn't, or that it is for staff
-abbrev pub is_advertised : List (List ℕ) → Bool
-is_advertised activities = not (has_code activities (codes "N ")) && not (has_code activities (codes "S "))
+abbrev pub riders_of : List ℕ → Riders
+riders_of line = riders_in (kind_of_line line) line
 
 -- ---- moments
 
@@ -115,7 +122,7 @@ pub record AreTimed (calls : List Numbered) (timed : List TimedCall) : Type 0 wh
 abbrev pub is_public : TimedCall → Bool
 is_public t =
     let times = times_of t.call.line in
-    (is_some times.public_arrival || is_some times.public_departure) && is_advertised (activities_of t.call.line)
+    (is_some times.public_arrival || is_some times.public_departure) && (riders_of t.call.line).advertised
 
 -- The moments of its public arrival and departure. Where it has only one of these, that stands for the other.
 pub record ArePublicTimes (t : TimedCall) (arrival departure : ℕ) : Type 0 where
@@ -153,24 +160,14 @@ pub record ArePublicCalls (s : ℕ × ScheduleLines) (shown : List PublicCall) :
 -- ---- their rows
 
 -- Whether riders may get off, and on: 0 yes, 1 no, 3 on request. Where no activity says so, its public times do.
-abbrev pub answer_of : Bool → List (List ℕ) → List ℕ
-answer_of may activities = if may then (if has_code activities (codes "R ") then codes "3" else codes "0") else codes "1"
+abbrev pub answer_of : Bool → Bool → List ℕ
+answer_of may on_request = if may then (if on_request then codes "3" else codes "0") else codes "1"
 
-abbrev pub says_set_down : List (List ℕ) → Bool
-says_set_down activities =
-    has_code activities (codes "T ") || (has_code activities (codes "D ") || has_code activities (codes "TF"))
+abbrev pub set_down : Riders → CallTimes → List ℕ
+set_down r t = answer_of (r.set_down || (not r.pick_up && is_some t.public_arrival)) r.on_request
 
-abbrev pub says_pick_up : List (List ℕ) → Bool
-says_pick_up activities =
-    has_code activities (codes "T ") || (has_code activities (codes "U ") || has_code activities (codes "TB"))
-
-abbrev pub set_down : List (List ℕ) → CallTimes → List ℕ
-set_down activities t =
-    answer_of (says_set_down activities || (not (says_pick_up activities) && is_some t.public_arrival)) activities
-
-abbrev pub pick_up : List (List ℕ) → CallTimes → List ℕ
-pick_up activities t =
-    answer_of (says_pick_up activities || (not (says_set_down activities) && is_some t.public_departure)) activities
+abbrev pub pick_up : Riders → CallTimes → List ℕ
+pick_up r t = answer_of (r.pick_up || (not r.set_down && is_some t.public_departure)) r.on_request
 
 -- the columns of its platform
 abbrev pub platform_in : JourneyKind → List ℕ → Field
@@ -185,8 +182,8 @@ public_fields =
     ∷ (codes "platform", λ p. platform_in (kind_of_line p.call.line) p.call.line)
     ∷ (codes "arrival", λ p. (Whole, time_text (p.arrival - midnight)))
     ∷ (codes "departure", λ p. (Whole, time_text (p.departure - midnight)))
-    ∷ (codes "set_down", λ p. (Whole, set_down (activities_of p.call.line) (times_of p.call.line)))
-    ∷ (codes "pick_up", λ p. (Whole, pick_up (activities_of p.call.line) (times_of p.call.line)))
+    ∷ (codes "set_down", λ p. (Whole, set_down (riders_of p.call.line) (times_of p.call.line)))
+    ∷ (codes "pick_up", λ p. (Whole, pick_up (riders_of p.call.line) (times_of p.call.line)))
     ∷ []
 
 -- ---- as they are made
@@ -223,26 +220,26 @@ shown_at before at (Some arrival) None = let m = public_moment at.reached arriva
 shown_at before at None (Some departure) = let m = public_moment at.left departure in Some (raised before m m)
 shown_at before at None None = None
 
--- those of a call with these times and activities, if it is public
-abbrev pub shown_of : ℕ → Stay → CallTimes → List (List ℕ) → Option Shown
-shown_of before at t activities =
-    if is_advertised activities then shown_at before at t.public_arrival t.public_departure else None
+-- those of a call with these times, of which this is said, if it is public
+abbrev pub shown_of : ℕ → Stay → CallTimes → Riders → Option Shown
+shown_of before at t riders =
+    if riders.advertised then shown_at before at t.public_arrival t.public_departure else None
 
 -- what a timed call leaves of a journey, and its moments if it is public
 abbrev pub behind_shown : Journey → Stay → Option Shown → Journey × Option Shown
 behind_shown j at None = (record { left = Some at.left; shown = j.shown }, None)
 behind_shown j at (Some p) = (record { left = Some at.left; shown = p.departure }, Some p)
 
--- and what a line with these times and activities does, and this line
-abbrev pub behind_stay : Journey → CallTimes → List (List ℕ) → Option Stay → Journey × Option Shown
-behind_stay j t activities None = (j, None)
-behind_stay j t activities (Some at) = behind_shown j at (shown_of j.shown at t activities)
+-- and what a line does with these times, of which this is said, and this line
+abbrev pub behind_stay : Journey → CallTimes → Riders → Option Stay → Journey × Option Shown
+behind_stay j t riders None = (j, None)
+behind_stay j t riders (Some at) = behind_shown j at (shown_of j.shown at t riders)
 
-abbrev pub step : Journey → CallTimes → List (List ℕ) → Journey × Option Shown
-step j t activities = behind_stay j t activities (stay j.left t)
+abbrev pub step : Journey → CallTimes → Riders → Journey × Option Shown
+step j t riders = behind_stay j t riders (stay j.left t)
 
 abbrev pub step_at : Journey → List ℕ → Journey × Option Shown
-step_at j line = step j (times_of line) (activities_of line)
+step_at j line = step j (times_of line) (riders_of line)
 
 abbrev pub public_call : Numbered → Option Shown → List PublicCall
 public_call c None = []

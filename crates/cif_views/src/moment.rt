@@ -143,6 +143,24 @@ impl Moment {
         ensures text { row.new ≡ row.old ++ (9 ∷ time_text (self - midnight)) }
         ensures len { length row.new ≤ length row.old + 48 }
     {
+        // Nearly all are on that date.
+        if self.day == FIRST_DAY {
+            let hour = (self.seconds / 3_600) as u8;
+            row.push(Shape::Whole, &clock_text(hour, self.seconds));
+        } else {
+            self.push_later(row);
+        }
+    }
+
+    /// The same, on any date.
+    #[inline(never)]
+    fn push_later(self, row: &mut TableRow)
+        requires from { midnight ≤ self }
+        requires early { self < DAY * 2 ^ 100 }
+        requires room { length row.old + 48 ≤ 320 }
+        ensures text { row.new ≡ row.old ++ (9 ∷ time_text (self - midnight)) }
+        ensures len { length row.new ≤ length row.old + 48 }
+    {
         let hours = (self.day - FIRST_DAY) * 24 + (self.seconds / 3_600) as u128;
         if hours < 100 {
             row.push(Shape::Whole, &clock_text(hours as u8, self.seconds));

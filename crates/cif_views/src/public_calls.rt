@@ -1,25 +1,24 @@
 //! The public calls of a schedule, as rows of a table.
 ghost use Rattle.std.specs.Prelude.{◌≡◌, ◌<◌, ◌≤◌, ◌+◌, ◌^◌, ◌++◌, ◌∷◌, [], ℕ, IfSome, List, codes, length};
-ghost use Rattle.cif_columns.specs.Activities.{has_code};
+ghost use Rattle.cif_columns.specs.Activities.{codes_in};
 ghost use Rattle.std.specs.List.{flat_map};
 ghost use Rattle.cif_columns.specs.Field.{columns_from};
 ghost use Rattle.cif_canon.specs.Appended.{IsAppended};
 ghost use Rattle.cif_canon.specs.Fields.{after};
 ghost use Rattle.cif_canon.specs.declared.rows.Format.TheVariants.{Tsv};
 ghost use Rattle.cif_views.specs.Moments.{IsBy, IsOnTheWay};
-ghost use Rattle.cif_views.specs.PublicCalls.{activities_in, activities_of, advertised, answer_of, at_first, is_advertised};
-ghost use Rattle.cif_views.specs.PublicCalls.{pick_up, platform_in, public_fields, public_from, reached_moment, says_pick_up};
-ghost use Rattle.cif_views.specs.PublicCalls.{says_set_down, set_down, shown_at, stay, step, step_at, times_in, times_of, working};
-ghost use Rattle.cif_views.specs.Steps.PublicRows.{IsJourneyBy, IsStayBy, IsToShow, behind_schedule, row_of_step};
+ghost use Rattle.cif_views.specs.PublicCalls.{advertised, answer_of, at_first, pick_up, platform_in, public_fields};
+ghost use Rattle.cif_views.specs.PublicCalls.{public_from, reached_moment, riders_in, riders_of, said_by, set_down, shown_at};
+ghost use Rattle.cif_views.specs.PublicCalls.{stay, step, step_at, times_in, times_of, working};
+ghost use Rattle.cif_views.specs.Steps.PublicRows.{IsJourneyBy, IsStayBy, IsToShow, behind_schedule, joined, row_of_step};
+ghost use Rattle.cif_views.specs.Steps.PublicRows.{shown_in};
 ghost use Rattle.cif_views.specs.Tables.{kind_of_line, numbered_from, row_line};
 
 use crate::moment::{Moment, TimeOfDay};
 use crate::table_row::TableRow;
 use crate::tables::{JourneyKind, call_after, kind_of_line};
 use cif_canon::Shape;
-use cif_columns::{
-    Activities, Line, LineSlice, PublicTime, Sink, WorkTime, WriteDevice, columns_at,
-};
+use cif_columns::{Line, LineSlice, PublicTime, Sink, WorkTime, WriteDevice, columns_at};
 
 /// The times of day of a call: the working times, and the public ones.
 #[derive(Clone, Copy)]
@@ -157,50 +156,96 @@ fn advertised(line: &Line, first: usize) -> Option<TimeOfDay>
     ensures { result ≡ advertised (columns_from first 4 line.now) }
 {
     let columns = columns_at::<4>(line, first);
-    if columns[0] == b' ' {
+    // Most are no time, and need no second look.
+    if columns[0] == b' ' || columns == *b"0000" {
         return None;
     }
     let time = PublicTime::read(&columns)?;
     Some(TimeOfDay::new(time.seconds()?))
 }
 
-/// The activities of a call in a line of this kind.
-fn activities_of(kind: JourneyKind, line: &Line) -> Activities
-    ensures { result ≡ activities_in kind line.now }
-{
-    let first = match kind {
-        JourneyKind::Origin => 30,
-        JourneyKind::Stop => 43,
-        JourneyKind::Terminus => 26,
-        JourneyKind::Change | JourneyKind::Other => return Activities::read(&[b' '; 12]),
-    };
-    Activities::read(&columns_at::<12>(line, first))
+/// What the activities of a call say of riders.
+#[derive(Clone, Copy)]
+struct Riders {
+    advertised: bool,
+    // Whether they may get off, and on, and whether they have to ask.
+    set_down: bool,
+    pick_up: bool,
+    on_request: bool,
 }
 
-/// Whether a call with these activities is advertised.
-fn is_advertised(activities: &Activities) -> bool
-    ensures { result ≡ is_advertised activities.now }
-{
-    !activities.has(b"N ") && !activities.has(b"S ")
-}
+impl Riders {
+    /// What is said where there is no activity.
+    fn of_none() -> Riders
+        ensures { result ≡ said_by [] }
+    {
+        Riders {
+            advertised: true,
+            set_down: false,
+            pick_up: false,
+            on_request: false,
+        }
+    }
 
-/// Whether an activity says that riders may get off.
-fn says_set_down(activities: &Activities) -> bool
-    ensures { result ≡ says_set_down activities.now }
-{
-    activities.has(b"T ") || activities.has(b"D ") || activities.has(b"TF")
-}
+    /// What this activity says.
+    // Each test is made, whatever the others say: that takes less than branches do.
+    fn of_one(code: [u8; 2]) -> Riders
+        ensures { result ≡ said_by (code ∷ []) }
+    {
+        let one = [code];
+        let is = one.as_slice();
+        Riders {
+            advertised: !is.contains(b"N ") & !is.contains(b"S "),
+            set_down: is.contains(b"T ") | (is.contains(b"D ") | is.contains(b"TF")),
+            pick_up: is.contains(b"T ") | (is.contains(b"U ") | is.contains(b"TB")),
+            on_request: is.contains(b"R "),
+        }
+    }
 
-/// Whether an activity says that riders may get on.
-fn says_pick_up(activities: &Activities) -> bool
-    ensures { result ≡ says_pick_up activities.now }
-{
-    activities.has(b"T ") || activities.has(b"U ") || activities.has(b"TB")
+    /// What both say.
+    fn join(self, other: Riders) -> Riders
+        ensures { result ≡ joined self other }
+    {
+        Riders {
+            advertised: self.advertised & other.advertised,
+            set_down: self.set_down | other.set_down,
+            pick_up: self.pick_up | other.pick_up,
+            on_request: self.on_request | other.on_request,
+        }
+    }
+
+    /// What the activities in these columns say. Two spaces say nothing.
+    fn in_columns(columns: &[u8; 12]) -> Riders
+        ensures { result ≡ said_by (codes_in columns.now) }
+    {
+        let mut riders = Riders::of_none();
+        let mut rest: &[u8] = columns;
+        while let [a, b, after @ ..] = rest {
+            let code = [*a, *b];
+            if code != *b"  " {
+                riders = riders.join(Riders::of_one(code));
+            }
+            rest = after;
+        }
+        riders
+    }
+
+    /// What those of a call in a line of this kind say.
+    fn in_line(kind: JourneyKind, line: &Line) -> Riders
+        ensures { result ≡ riders_in kind line.now }
+    {
+        match kind {
+            JourneyKind::Origin => Riders::in_columns(&columns_at(line, 30)),
+            JourneyKind::Stop => Riders::in_columns(&columns_at(line, 43)),
+            JourneyKind::Terminus => Riders::in_columns(&columns_at(line, 26)),
+            JourneyKind::Change | JourneyKind::Other => Riders::of_none(),
+        }
+    }
 }
 
 /// What is said for whether riders may: 0 yes, 1 no, 3 on request.
 fn answer_of(may: bool, on_request: bool) -> u8
-    ensures { (activities : List (List ℕ)) → on_request ≡ has_code activities (codes "R ") → result ∷ [] ≡ answer_of may activities }
+    ensures { result ∷ [] ≡ answer_of may on_request }
 {
     match (may, on_request) {
         (false, _) => b'1',
@@ -210,17 +255,15 @@ fn answer_of(may: bool, on_request: bool) -> u8
 }
 
 /// Whether riders may get off, and whether they may get on.
-fn answers_of(activities: &Activities, times: &CallTimes) -> (u8, u8)
-    ensures set_down { result.0 ∷ [] ≡ set_down activities.now times.now }
-    ensures pick_up { result.1 ∷ [] ≡ pick_up activities.now times.now }
+fn answers_of(riders: &Riders, times: &CallTimes) -> (u8, u8)
+    ensures set_down { result.0 ∷ [] ≡ set_down riders.now times.now }
+    ensures pick_up { result.1 ∷ [] ≡ pick_up riders.now times.now }
 {
-    let (down, up) = (says_set_down(activities), says_pick_up(activities));
-    let on_request = activities.has(b"R ");
-    let down_by_time = !up && times.public_arrival.is_some();
-    let up_by_time = !down && times.public_departure.is_some();
+    let down_by_time = !riders.pick_up && times.public_arrival.is_some();
+    let up_by_time = !riders.set_down && times.public_departure.is_some();
     (
-        answer_of(down || down_by_time, on_request),
-        answer_of(up || up_by_time, on_request),
+        answer_of(riders.set_down || down_by_time, riders.on_request),
+        answer_of(riders.pick_up || up_by_time, riders.on_request),
     )
 }
 
@@ -234,44 +277,47 @@ struct Journey {
 }
 
 impl Journey {
-    /// The moments of a line with these times and activities, if it is a public call; the journey goes on
-    /// behind it.
-    fn step(&mut self, times: &CallTimes, activities: &Activities) -> Option<Shown>
+    /// The moments of a line of this kind with these times, and what its activities say, if it is a public call;
+    /// the journey goes on behind it.
+    // Many calls have no public time, and their activities aren't looked at.
+    fn step(&mut self, times: &CallTimes, kind: JourneyKind, line: &Line) -> Option<(Shown, Riders)>
         requires { (n : ℕ) × (n ≤ 2 ^ 64) × IsJourneyBy n self.old }
-        ensures exact { (self.new, result) ≡ step self.old times.now activities.now }
+        ensures exact { (self.new, shown_in result) ≡ step self.old times.now (riders_in kind line.now) }
+        ensures riders { IfSome result (λ public. public.1 ≡ riders_in kind line.now) }
         ensures by { (n : ℕ) → IsJourneyBy n self.old → IsJourneyBy (n + 2) self.new }
-        ensures shown { IfSome result IsToShow }
+        ensures shown { IfSome result (λ public. IsToShow public.0) }
     {
         let Some(stay) = times.stay(self.left) else {
             return None;
         };
         self.left = Some(stay.left);
         let shown = times.shown(self.shown, &stay)?;
-        if !is_advertised(activities) {
+        let riders = Riders::in_line(kind, line);
+        if !riders.advertised {
             return None;
         }
         self.shown = shown.departure;
-        Some(shown)
+        Some((shown, riders))
     }
 }
 
-/// Appends the number of a public call with these times and activities, and its fields.
+/// Appends the number of a public call with these times, whose activities say this, and its fields.
 fn push_public_call(
     row: &mut TableRow,
     call: usize,
     line: &Line,
     times: &CallTimes,
-    activities: &Activities,
+    riders: &Riders,
     shown: &Shown,
 )
     requires room { length row.old ≤ 41 }
     requires times { times.now ≡ times_of line.now }
-    requires activities { activities.now ≡ activities_of line.now }
+    requires riders { riders.now ≡ riders_of line.now }
     requires shown { IsToShow shown.now }
     ensures text { row.new ≡ row.old ++ after Tsv (behind_schedule call line.now shown.now) }
     ensures len { length row.new ≤ 300 }
 {
-    let (set_down, pick_up) = answers_of(activities, times);
+    let (set_down, pick_up) = answers_of(riders, times);
     row.push_number(call);
     row.push(Shape::Trimmed, &columns_at::<7>(line, 3));
     push_platform(row, kind_of_line(line), line);
@@ -301,11 +347,10 @@ fn write_step<W: WriteDevice>(
     ensures same { row.new ≡ row.old }
 {
     let times = CallTimes::of(kind, line);
-    let activities = activities_of(kind, line);
-    match journey.step(&times, &activities) {
-        Some(shown) => {
+    match journey.step(&times, kind, line) {
+        Some((shown, riders)) => {
             let begun = row.len();
-            push_public_call(row, call, line, &times, &activities, &shown);
+            push_public_call(row, call, line, &times, &riders, &shown);
             row.write_and_keep(begun, sink);
         }
         None => {}

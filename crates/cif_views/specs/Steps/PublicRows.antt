@@ -1,12 +1,13 @@
 -- The rows of public calls as the code makes them. No public clause cites them.
-use Rattle.std.specs.Prelude.{ℕ, ◌≤◌, ◌+◌, ◌*◌, ◌-◌, ◌^◌, ◌<◌, IfSome, List, [], ◌∷◌, None, Option, Some}
+use Rattle.std.specs.Prelude.{ℕ, ◌≤◌, ◌&&◌, ◌||◌, ◌+◌, ◌*◌, ◌-◌, ◌^◌, ◌<◌, IfSome, List, [], ◌∷◌, None, Option, Some}
 use Rattle.cif_canon.specs.Fields.{Field}
 use Rattle.cif_canon.specs.declared.rows.Shape.TheVariants.{Whole}
 use Rattle.cif_views.specs.Moments.{IsBy, day, midnight, time_text}
-use Rattle.cif_views.specs.PublicCalls.{activities_of, pick_up, platform_in, set_down, times_of}
+use Rattle.cif_views.specs.PublicCalls.{pick_up, platform_in, riders_of, set_down, times_of}
 use Rattle.cif_views.specs.Steps.Columns.{row_behind}
 use Rattle.cif_views.specs.Tables.{kind_of_line, number, text_at}
 use Rattle.cif_views.specs.declared.public_calls.Journey.{Journey}
+use Rattle.cif_views.specs.declared.public_calls.Riders.{Riders}
 use Rattle.cif_views.specs.declared.public_calls.Shown.{Shown}
 use Rattle.cif_views.specs.declared.public_calls.Stay.{Stay}
 
@@ -18,14 +19,28 @@ behind_schedule call line shown =
     ∷ platform_in (kind_of_line line) line
     ∷ (Whole, time_text (shown.arrival - midnight))
     ∷ (Whole, time_text (shown.departure - midnight))
-    ∷ (Whole, set_down (activities_of line) (times_of line))
-    ∷ (Whole, pick_up (activities_of line) (times_of line))
+    ∷ (Whole, set_down (riders_of line) (times_of line))
+    ∷ (Whole, pick_up (riders_of line) (times_of line))
     ∷ []
 
 -- its row behind what it begins with; a line that is no public call has none
 abbrev pub row_of_step : List ℕ → ℕ → List ℕ → Option Shown → List ℕ
 row_of_step begun call line None = []
 row_of_step begun call line (Some shown) = row_behind begun (behind_schedule call line shown)
+
+-- the moments of what is said of a public call
+abbrev pub shown_in : Option (Shown × Riders) → Option Shown
+shown_in None = None
+shown_in (Some public) = Some public.0
+
+-- what both say of riders
+abbrev pub joined : Riders → Riders → Riders
+joined r s = record {
+  advertised = r.advertised && s.advertised;
+  set_down = r.set_down || s.set_down;
+  pick_up = r.pick_up || s.pick_up;
+  on_request = r.on_request || s.on_request;
+}
 
 -- a call is reached, and then left, after so many moments
 pub record IsStayBy (n : ℕ) (s : Stay) : Type 0 where

@@ -26,5 +26,5 @@ returns-clause-text c =
     h6.text
     ∙ ap (λ (fs : List Field). c.args.row.now ++ after Tsv fs)
     (own-fields _ c.args.call line c.args.shown.now _ _ c.kind_of_line.ensures
-    (own-set-down line _ _ _ c.requires.activities c.requires.times c.answers_of-set_down.ensures.set_down)
-    (own-pick-up line _ _ _ c.requires.activities c.requires.times c.answers_of-set_down.ensures.pick_up))
+    (own-set-down line _ _ _ c.requires.riders c.requires.times c.answers_of-set_down.ensures.set_down)
+    (own-pick-up line _ _ _ c.requires.riders c.requires.times c.answers_of-set_down.ensures.pick_up))

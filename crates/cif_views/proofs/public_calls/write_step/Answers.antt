@@ -8,7 +8,7 @@ pub returns-in-Some-clause-text : goal.returns-in-Some-clause-text
 returns-in-Some-clause-text g c =
     text-is _ _ _ _ _ _
     (same-row c.args.row.now c.args.call c.args.journey.now _ c.args.line.now _
-    (step-is _ _ _ _ _ _ _ c.requires.kind c.of-times.ensures c.activities_of-activities.ensures c.in-Some.ensures.exact))
+    (step-is _ _ _ _ _ _ c.requires.kind c.of-times.ensures c.in-Some.ensures.exact))
     (c.write_and_keep.ensures.text c.args.row.now (behind_schedule c.args.call c.args.line.now c.in-Some.shown)
     c.push_public_call.ensures.text c.len-begun.ensures)
 
@@ -21,5 +21,5 @@ pub returns-in-None-clause-text : goal.returns-in-None-clause-text
 returns-in-None-clause-text g c =
     text-is _ _ _ _ _ _
     (same-row c.args.row.now c.args.call c.args.journey.now _ c.args.line.now _
-    (step-is _ _ _ _ _ _ _ c.requires.kind c.of-times.ensures c.activities_of-activities.ensures c.in-None.ensures.exact))
+    (step-is _ _ _ _ _ _ c.requires.kind c.of-times.ensures c.in-None.ensures.exact))
     (nothing _ _ _)

@@ -1,0 +1,12 @@
+-- What was said so far, and what the activities in `rest` say, is what those in all columns say.
+use Rattle.std.proofs.Common.{◌≡◌, length}
+use Rattle.cif_columns.specs.Activities.{codes_in}
+use Rattle.cif_views.specs.PublicCalls.{said_by}
+use Rattle.cif_views.specs.Steps.PublicRows.{joined}
+use Rattle.cif_views.proofs.public_calls.Riders.in_columns.Given as goal
+
+abbrev pub invariant-loop-rest : goal.invariant-loop-rest
+invariant-loop-rest l = joined l.riders (said_by (codes_in l.rest)) ≡ said_by (codes_in l.fn.columns)
+
+abbrev pub decreases-loop-rest : goal.decreases-loop-rest
+decreases-loop-rest l = length l.rest
