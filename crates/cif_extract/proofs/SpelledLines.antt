@@ -20,7 +20,8 @@ use Rattle.cif_extract.proofs.Places.{fine_here, place_more, place_past}
 module _ (layouts : Layouts) (laws : AreLayouts layouts) where
   fine_at : (front : List (List ℕ)) (place : Place) (before : List (List ℕ)) (line : List ℕ) (after : List (List ℕ))
       (records : List Record) (to : Place) → place_behind_by layouts front ≡ place
-      → SpellAllBy layouts.spells (before ++ line ∷ after) records → MayStand place records to → refusal_behind layouts (front ++ before) line ≡ None
+      → SpellAllBy layouts.spells (before ++ line ∷ after) records → MayStand place records to
+      → refusal_behind layouts (front ++ before) line ≡ None
   fine_at front place [] line after [] to is spell stand = absurd spell
   fine_at front place [] line after (r ∷ records) to is spell stand =
       ap (λ ls. refusal_behind layouts ls line) (append-nil front) ∙ ap (λ p. refusal_at layouts p line) is
