@@ -1,9 +1,8 @@
 -- What a feed says has the marks of its records, and fits the columns of lines.
-use Rattle.std.proofs.Common.{◌≡◌, ℕ, Bool, true, false, cond, not, ◌&&◌, List, [], ◌∷◌, filter, length, refl, sym, ap, ◌∙◌, subst}
+use Rattle.std.proofs.Common.{◌≡◌, ℕ, true, false, not, ◌&&◌, List, length, sym, ap, ◌∙◌, subst}
 use Rattle.std.proofs.Common.{IfOk, Result, Ok, Err, ⊎_elim}
-use Rattle.std.proofs.lemmas.List.Elements.{All-cons, All-head, All-nil, All-tail}
+use Rattle.std.proofs.lemmas.List.Elements.{All-filter, filter_passes}
 use Rattle.std.specs.Prelude.{All}
-use Rattle.cif_columns.specs.Comment.{is_comment}
 use Rattle.cif_columns.specs.Line.{IsLine}
 use Rattle.cif_extract.specs.Texts.{FitsColumns}
 use Rattle.cif_extract.specs.declared.extract.Schedule.{Schedule}
@@ -63,16 +62,13 @@ module _ (feed : Feed) (allowed : HolidayCodes) where
     marked_result (Ok x) says = have_marks (feed_parts x) says
     marked_result (Err f) says = tt
 
-lines_are : (cs : List (List ℕ)) → All IsFeedContent cs → All IsLine (filter is_record_line cs)
-lines_are [] are = All-nil IsLine
-lines_are (c ∷ cs) are =
-    at (is_comment c) (is_note c) refl (All-head IsFeedContent c cs are) (lines_are cs (All-tail IsFeedContent c cs are))
+lines_are : (cs : List (List ℕ)) → All IsFeedContent cs → All IsLine (record_lines cs)
+lines_are cs are = λ k d below.
+    is_line _ (All-filter is_record_line IsFeedContent cs are k d below) (filter_passes is_record_line cs k d below)
   where
-    at : (b n : Bool) → b ≡ is_comment c → IsFeedContent c → All IsLine (filter is_record_line cs)
-        → All IsLine (cond (not b && not n) (c ∷ filter is_record_line cs) (filter is_record_line cs))
-    at true n e is more = more
-    at false true e is more = more
-    at false false e is more = All-cons IsLine c (filter is_record_line cs) (⊎_elim (λ l. l) (λ comment. absurd (cc)) is) more
+    is_line : (c : List ℕ) → IsFeedContent c → is_record_line c ≡ true → IsLine c
+    is_line c is says =
+        ⊎_elim (λ l. l) (λ comment. let no : false ≡ true = ap (λ b. not b && not (is_note c)) (sym comment) ∙ says in cc) is
 
 -- what a feed says fits the columns of lines
 pub feed_fits : (feed : Feed) (allowed : HolidayCodes) (cs : List (List ℕ)) (x : FeedParts) → SpellFeed feed allowed cs x

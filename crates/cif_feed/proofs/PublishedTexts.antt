@@ -57,13 +57,7 @@ use Rattle.cif_feed.proofs.HeldMarks.{feed_fits}
 use Rattle.cif_feed.proofs.OwnLines.{own_spells}
 use Rattle.cif_feed.proofs.PublishedLines.{association_written, basic_written}
 use Rattle.cif_feed.proofs.RecordsTaken.{read_back}
-
--- facts of three lists that follow others
-triples-append : {A B C : Type 0} (P : A → B → C → Type 0) (al : List A) (bs : List B) (cs : List C) (ds : List A) (es : List B)
-    (fs : List C) → AreTriples P al bs cs → AreTriples P ds es fs → AreTriples P (al ++ ds) (bs ++ es) (cs ++ fs)
-triples-append P [] [] [] ds es fs p q = q
-triples-append P (a ∷ al) (b ∷ bs) (c ∷ cs) ds es fs p q = (p.0, triples-append P al bs cs ds es fs p.1 q)
-triples-append P _ _ _ ds es fs p q = absurd p
+use Rattle.cif_feed.proofs.SaidLines.{triples-append}
 
 abbrev association_of : PublishedAssociation → Association
 association_of a = a.association

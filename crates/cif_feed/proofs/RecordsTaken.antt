@@ -75,13 +75,10 @@ module _ (feed : Feed) (allowed : HolidayCodes) (line : List ℕ) (before : Prog
   own_refusal : (f : Feed) (kind : Option Kind) → IsOwn kind f
       → first_of (order_refusal before.place (kind_read_as f kind) ∷ feed_refusal_as f allowed kind line ∷ [])
       ≡ first_of (order_refusal before.place kind ∷ refusal_as kind line ∷ [])
-  own_refusal Full (Some Hd) own = absurd own
-  own_refusal Full (Some Ti) own = absurd own
   own_refusal Full (Some Aa) own = absurd own
   own_refusal Full (Some Bs) own = absurd own
   own_refusal Full _ own = refl
   own_refusal Update (Some Hd) own = absurd own
-  own_refusal Update (Some Ti) own = absurd own
   own_refusal Update (Some Ta) own = absurd own
   own_refusal Update (Some Td) own = absurd own
   own_refusal Update (Some Aa) own = absurd own
