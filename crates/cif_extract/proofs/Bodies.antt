@@ -1,23 +1,21 @@
--- The lines that keep a body and its parts determine each other.
-use Rattle.std.proofs.Common.{◌≡◌, ℕ, suc, ◌-◌, ◌<◌, true, false, cond, Option, None, Some, IfSome, is_some, Result, Ok, All, List}
-use Rattle.std.proofs.Common.{[], ◌∷◌, ◌++◌, length, map, take, drop, get_or, length-append, Err, refl, sym, ◌∙◌, ap, subst, arith}
+-- What stands in the lines that keep a body.
+use Rattle.std.proofs.Common.{◌≡◌, ◌↔◌, ℕ, suc, ◌-◌, ◌<◌, true, false, cond, Option, None, Some, IfSome, is_some, Result, Ok, All, List}
+use Rattle.std.proofs.Common.{[], ◌∷◌, ◌++◌, length, map, take, get_or, length-append, Err, refl, sym, ◌∙◌, ap, subst, arith}
 use Rattle.std.specs.List.{slice_range}
 use Rattle.std.specs.Result.{result_ok}
 use Rattle.std.proofs.lemmas.List.Elements.{All-nil, All-cons}
 use Rattle.std.proofs.Math.Seq.{take-append_seam, get_or-append_seam}
 use Rattle.cif_columns.specs.Field.{AllStandIn, plain_line}
 use Rattle.cif_columns.specs.declared.refusal.Refusal.{Refusal}
-use Rattle.cif_extract.specs.Body.{KeepAll, KeepBody, KeepJourney, KeepSomeBody, is_extra, journey_in, kept_tables, parts_in}
+use Rattle.cif_extract.specs.Body.{BodyLines, KeepAll, KeepBody, KeepJourney, KeepSomeBody, body_of, body_tables, detail_of, is_extra}
+use Rattle.cif_extract.specs.Body.{journey_in, parts_in}
 use Rattle.cif_extract.specs.BodyParts.{BodyParts, body_records, journey_records}
 use Rattle.cif_extract.specs.Call.{SpellsSomeCall, call_in, call_record}
-use Rattle.cif_extract.specs.Laws.SameBody.{same_values}
 use Rattle.cif_extract.specs.declared.call.Call.{Call}
 use Rattle.cif_records.specs.Detail.{detail_table}
 use Rattle.cif_records.specs.Checks.{IsJudged}
 use Rattle.cif_records.specs.Extra.{SpellsExtra, extra_in, extra_refusal}
 use Rattle.cif_records.specs.Record.{SpellsRecord, record_table}
-use Rattle.cif_records.specs.Origin.{SpellsOrigin}
-use Rattle.cif_records.specs.Terminus.{SpellsTerminus}
 use Rattle.cif_records.specs.declared.detail.Detail.{Detail}
 use Rattle.cif_records.specs.declared.extra.Extra.{Extra}
 use Rattle.cif_records.specs.declared.origin.Origin.{Origin}
@@ -100,9 +98,6 @@ journey_of (first ∷ lines) origin calls terminus k =
       ended = subst (λ l. SpellsRecord l (of.Terminus terminus)) (sym (at_end first w.last w.front)) w.ended;
     })
 
-pub journey : (lines : List (List ℕ)) (p : BodyParts) → KeepJourney lines p → Journey lines p.origin p.calls p.terminus
-journey lines p k = journey_of lines p.origin p.calls p.terminus k
-
 -- what stands in the lines of a body
 pub record Kept (lines : List (List ℕ)) (p : BodyParts) : Type 0 where
   pub longer : 2 < length lines
@@ -144,73 +139,87 @@ module _ (detail : Detail) (origin : Origin) (calls : List Call) (terminus : Ter
 pub kept : (lines : List (List ℕ)) (p : BodyParts) → KeepBody lines p → Kept lines p
 kept lines p k = kept_parts p.detail p.origin p.calls p.terminus lines p.extra k
 
-extra_found : (line : List ℕ) (extra : Option Extra) → is_extra line ≡ is_some extra
-    → IfSome extra (λ e. SpellsRecord line (of.Extra e)) → cond (is_extra line) (Some (extra_in line)) None ≡ extra
-extra_found line None marked further = rw marked
-extra_found line (Some e) marked further = rw marked (ap Some (extra_in-spells line e further))
+-- the detail stands in the first line, which is its plain line
+pub first_line : (lines : BodyLines) → KeepSomeBody lines → (2 < length lines) × (get_or lines 0 [] ≡ plain_line (detail_table (detail_of lines)))
+first_line lines (p, k) =
+    let h = kept lines p k in (
+      h.longer,
+      first lines p k ∙ ap (λ (d : Detail). plain_line (detail_table d)) (sym (detail_in-stands (get_or lines 0 []) p.detail h.detailed)),
+    )
+  where
+    first : (lines : List (List ℕ)) (p : BodyParts) → KeepBody lines p → get_or lines 0 [] ≡ plain_line (detail_table p.detail)
+    first [] p k = absurd k
+    first (line ∷ lines) p k = k.1
+
+same_parts : (p q : BodyParts) → p.detail ≡ q.detail → p.extra ≡ q.extra → p.origin ≡ q.origin → p.calls ≡ q.calls
+    → p.terminus ≡ q.terminus → p ≡ q
+same_parts p q detail extra origin calls terminus =
+    ap (λ (v : Detail × Option Extra × Origin × List Call × Terminus).
+    let it : BodyParts = record { detail = v.0; extra = v.1; origin = v.2; calls = v.3; terminus = v.4 } in it)
+    (let values : ◌≡◌ {A = Detail × Option Extra × Origin × List Call × Terminus}
+    (p.detail, p.extra, p.origin, p.calls, p.terminus) (q.detail, q.extra, q.origin, q.calls, q.terminus) = cc in values)
 
 -- the parts that lines keep are those that stand in them
-pub parts_in-keeps : (lines : List (List ℕ)) (p : BodyParts) → KeepBody lines p → parts_in lines ≡ p
-parts_in-keeps lines p k =
+module _ (detail : Detail) (origin : Origin) (calls : List Call) (terminus : Terminus) where
+  stand_in : (lines : BodyLines) (extra : Option Extra) → KeepBody lines (parts detail origin calls terminus extra)
+      → parts_in lines ≡ parts detail origin calls terminus extra
+  stand_in lines extra k =
+      let h = kept lines (parts detail origin calls terminus extra) k in
+      let there = journey_of (journey_in lines) origin calls terminus h.way in
+      same_parts (parts_in lines) (parts detail origin calls terminus extra)
+      (detail_in-stands (get_or lines 0 []) detail h.detailed)
+      (extra_found (get_or lines 1 []) extra h.marked h.further)
+      (origin_in-spells (get_or (journey_in lines) 0 []) origin there.begun)
+      there.called
+      (terminus_in-spells (get_or (journey_in lines) (length (journey_in lines) - 1) []) terminus there.ended)
+    where
+      extra_found : (line : List ℕ) (extra : Option Extra) → is_extra line ≡ is_some extra
+          → IfSome extra (λ e. SpellsRecord line (of.Extra e)) → cond (is_extra line) (Some (extra_in line)) None ≡ extra
+      extra_found line None marked further = rw marked
+      extra_found line (Some e) marked further = rw marked (ap Some (extra_in-spells line e further))
+
+pub parts_in-keeps : (lines : BodyLines) (p : BodyParts) → KeepBody lines p → parts_in lines ≡ p
+parts_in-keeps lines p k = stand_in p.detail p.origin p.calls p.terminus lines p.extra k
+
+pub keeps_parts_in : (lines : BodyLines) → KeepSomeBody lines → KeepBody lines (parts_in lines)
+keeps_parts_in lines (p, k) = subst (KeepBody lines) (sym (parts_in-keeps lines p k)) k
+
+-- a body is the body of the parts that stand in it
+pub body_of-parts_in : (lines : BodyLines) → KeepSomeBody lines → lines ≡ body_of (parts_in lines)
+body_of-parts_in lines h =
+    let p = parts_in lines in kept_plain lines (body_tables p.detail (body_records p)) (keeps_parts_in lines h)
+
+-- bodies are equal where their parts are
+pub equal_parts : (a b : BodyLines) → KeepSomeBody a → KeepSomeBody b → (a ≡ b) ↔ (parts_in a ≡ parts_in b)
+equal_parts a b one other = (
+  λ e. ap parts_in e,
+  λ e. body_of-parts_in a one ∙ ap body_of e ∙ sym (body_of-parts_in b other),
+)
+
+-- the journey that stands in the lines of a body
+pub some_journey : (lines : BodyLines) → KeepSomeBody lines
+    → let p = parts_in lines in Journey (journey_in lines) p.origin p.calls p.terminus
+some_journey lines h =
+    let p = parts_in lines in
+    journey_of (journey_in lines) p.origin p.calls p.terminus (kept lines p (keeps_parts_in lines h)).way
+
+-- the BX that stands in the second line is read from it, and none from another line
+pub extra_read : (lines : BodyLines) (line : List ℕ) (result : Result Extra Refusal) → KeepSomeBody lines → line ≡ get_or lines 1 []
+    → IsJudged (extra_refusal line) (SpellsExtra line) result → ((e : Extra) → SpellsExtra line e → result ≡ Ok e)
+    → result_ok result ≡ (parts_in lines).extra
+extra_read lines line result (p, k) is judged only =
     let h = kept lines p k in
-    let there = journey (journey_in lines) p h.way in
-    same_values (parts_in lines) p
-    (detail_in-stands (get_or lines 0 []) p.detail h.detailed)
-    (extra_found (get_or lines 1 []) p.extra h.marked h.further)
-    (origin_in-spells (get_or (journey_in lines) 0 []) p.origin there.begun)
-    there.called
-    (terminus_in-spells (get_or (journey_in lines) (length (journey_in lines) - 1) []) p.terminus there.ended)
-
--- lines that keep a body keep the parts that stand in them
-pub keeps_parts_in : (lines : List (List ℕ)) → KeepSomeBody lines → KeepBody lines (parts_in lines)
-keeps_parts_in lines h = subst (KeepBody lines) (sym (parts_in-keeps lines h.0 h.1)) h.1
-
--- lines with these parts in them keep these
-pub keeps_view : (lines : List (List ℕ)) (p : BodyParts) → KeepSomeBody lines → parts_in lines ≡ p → KeepBody lines p
-keeps_view lines p h e = subst (KeepBody lines) e (keeps_parts_in lines h)
-
-pub kept_view : (lines : List (List ℕ)) (p : BodyParts) → KeepSomeBody lines → parts_in lines ≡ p → Kept lines p
-kept_view lines p h e = kept lines p (keeps_view lines p h e)
-
--- the journey's first line spells LO
-pub spells_origin : (lines : List (List ℕ)) (p : BodyParts) (line : List ℕ) → KeepJourney lines p → line ≡ get_or lines 0 []
-    → SpellsOrigin line p.origin
-spells_origin lines p line k is =
-    let there = journey lines p k in
-    subst (λ l. SpellsOrigin l p.origin) (sym is) there.begun
-
--- and its last LT
-pub spells_terminus : (lines : List (List ℕ)) (p : BodyParts) (line : List ℕ) → KeepJourney lines p
-    → line ≡ get_or lines (length lines - 1) [] → SpellsTerminus line p.terminus
-spells_terminus lines p line k is =
-    let there = journey lines p k in
-    subst (λ l. SpellsTerminus l p.terminus) (sym is) there.ended
-
--- the BX that a line spells is read from it, and none from another line
-pub extra_read : (line : List ℕ) (extra : Option Extra) (result : Result Extra Refusal) → is_extra line ≡ is_some extra
-    → IfSome extra (λ e. SpellsRecord line (of.Extra e)) → IsJudged (extra_refusal line) (SpellsExtra line) result
-    → ((e : Extra) → SpellsExtra line e → result ≡ Ok e) → result_ok result ≡ extra
-extra_read line (Some e) result marked further judged only = ap result_ok (only e further)
-extra_read line None (Ok e) marked further judged only =
-    let there : is_extra line ≡ true = rw judged.1.0 in
-    absurd (cc)
-extra_read line None (Err why) marked further judged only = refl
-
--- lines that keep equal parts are equal
-pub same_lines : (xs ys : List (List ℕ)) (p : BodyParts) → KeepBody xs p → KeepBody ys p → xs ≡ ys
-same_lines xs ys p k h =
-    kept_plain xs (kept_tables p.detail (body_records p)) k ∙ sym (kept_plain ys (kept_tables p.detail (body_records p)) h)
-
--- equal lines keep equal parts
-pub same_parts : (lines : List (List ℕ)) (p q : BodyParts) → KeepBody lines p → KeepBody lines q → p ≡ q
-same_parts lines p q k h = sym (parts_in-keeps lines p k) ∙ parts_in-keeps lines q h
-
--- the first line is that of the detail
-pub detail_kept : (lines : List (List ℕ)) (p : BodyParts) → KeepBody lines p → get_or lines 0 [] ≡ plain_line (detail_table p.detail)
-detail_kept [] p h = absurd h
-detail_kept (line ∷ lines) p h = h.1
-
--- the lines behind the detail's keep the records that follow the BS
-pub keeps_further : (lines : List (List ℕ)) (p : BodyParts) → KeepBody lines p → KeepAll (drop 1 lines) (map record_table (body_records p))
-keeps_further [] p h = absurd h
-keeps_further (line ∷ lines) p h = h.2
+    let back = sym is in
+    at line p.extra result (subst (λ l. is_extra l ≡ is_some p.extra) back h.marked)
+    (subst (λ l. IfSome p.extra (λ e. SpellsRecord l (of.Extra e))) back h.further) judged only
+    ∙ ap (λ l. cond (is_extra l) (Some (extra_in l)) None) is
+  where
+    at : (line : List ℕ) (extra : Option Extra) (result : Result Extra Refusal) → is_extra line ≡ is_some extra
+        → IfSome extra (λ e. SpellsRecord line (of.Extra e)) → IsJudged (extra_refusal line) (SpellsExtra line) result
+        → ((e : Extra) → SpellsExtra line e → result ≡ Ok e)
+        → result_ok result ≡ cond (is_extra line) (Some (extra_in line)) None
+    at line (Some e) result marked further judged only = rw marked (ap result_ok (only e further) ∙ ap Some (sym (extra_in-spells line e further)))
+    at line None (Ok e) marked further judged only =
+        let there : is_extra line ≡ true = rw judged.1.0 in
+        absurd (cc)
+    at line None (Err why) marked further judged only = rw marked refl

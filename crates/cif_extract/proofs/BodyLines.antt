@@ -2,7 +2,7 @@
 use Rattle.std.proofs.Common.{◌≡◌, ℕ, ◌+◌, ◌<◌, List, [], ◌∷◌, ◌++◌, length, map, take, get_or, sym, ◌∙◌, ap, subst, append_assoc}
 use Rattle.std.proofs.lemmas.List.{map-append, take_more}
 use Rattle.cif_columns.specs.Field.{Row, AllStandIn, plain_line}
-use Rattle.cif_extract.specs.Body.{KeepAll, KeepBody, KeepMore, kept_tables}
+use Rattle.cif_extract.specs.Body.{KeepAll, KeepBody, KeepMore, body_tables}
 use Rattle.cif_extract.specs.BodyParts.{BodyParts, extra_records, journey_records}
 use Rattle.cif_extract.specs.Call.{call_record}
 use Rattle.cif_extract.specs.declared.call.Call.{Call}
@@ -40,7 +40,7 @@ calls_more calls i call within is =
 
 -- the lines of the detail and further details, and then of the journey
 pub whole_body : (p : BodyParts) (empty all : List (List ℕ)) → empty ≡ []
-    → KeepMore empty all (kept_tables p.detail (extra_records p.extra)
+    → KeepMore empty all (body_tables p.detail (extra_records p.extra)
     ++ map record_table (journey_records p.origin p.calls p.terminus)) → KeepBody all p
 whole_body p empty all none m =
     let journey = journey_records p.origin p.calls p.terminus in

@@ -2,8 +2,8 @@
 use Rattle.std.proofs.Common.{◌≡◌, List, [], ◌∷◌, ◌++◌, true, Option, None, Some, ap, refl, sym, ◌∙◌, subst, append_assoc}
 use Rattle.std.proofs.Common.{append-nil, inr, ⊎_elim, true≢false}
 use Rattle.cif_columns.specs.Field.{plain_line}
-use Rattle.cif_extract.specs.Body.{KeepBody, KeepSomeBody, parts_in}
-use Rattle.cif_extract.specs.BodyParts.{BodyParts, extra_records, journey_records}
+use Rattle.cif_extract.specs.Body.{KeepSomeBody, body_tables}
+use Rattle.cif_extract.specs.BodyParts.{extra_records, journey_records}
 use Rattle.cif_extract.specs.Grammar.{AreSchedule, AreSchedules, records_before_trailer}
 use Rattle.cif_extract.specs.OrderOfRecords.{may_stand}
 use Rattle.cif_extract.specs.Steps.Reading.{HasRead, HasReadAt, IsCancelled, IsKeepable, IsOpened, IsWithin}
@@ -24,13 +24,13 @@ use Rattle.cif_records.specs.declared.origin.Origin.{Origin}
 use Rattle.cif_records.specs.declared.record.Record.{Record}
 use Rattle.cif_records.specs.declared.record.Record.TheVariants as of
 use Rattle.cif_records.specs.declared.terminus.Terminus.{Terminus}
-use Rattle.cif_extract.proofs.Bodies.{parts_in-keeps}
 use Rattle.cif_extract.proofs.GrammarLists.{behind_schedules, schedules_more}
 use Rattle.cif_extract.proofs.KeptLines.{journey-whole, keep_body}
 use Rattle.cif_extract.proofs.ReadingSteps.{association_where, header_where, own_at, tiploc_where, trailer_step}
 use Rattle.cif_records.proofs.Records.{kind_of as record_kind}
 use Rattle.cif_extract.proofs.Schedules.{closed_some}
 use Rattle.cif_extract.proofs.ScheduleSteps.{Again, basic_step, call_where, extra_where, origin_where}
+use Rattle.cif_extract.proofs.WrittenLines.{kept_plain}
 
 module _ (records : List Record) (p : Progress) (t : Terminus) where
   -- the schedules then, where they were these
@@ -60,20 +60,22 @@ module _ (records : List Record) (p : Progress) (t : Terminus) where
     close_opened : Again (of.Terminus t) → IsOpened p w.earlier b (begun_journey x o calls) →
         HasRead (records ++ (of.Terminus t ∷ [])) (step p (of.Terminus t))
     close_opened again opened =
-        let body : BodyParts = record { detail = opened.detail; extra = x; origin = o; calls = calls; terminus = t } in
+        let records = extra_records x ++ journey_records o calls t in
         let lines = p.lines ++ (plain_line (record_table (of.Terminus t)) ∷ []) in
-        let keeps : KeepBody lines body = keep_body p.lines opened.detail x o calls t opened.lines again in
-        let same : parts_in lines ≡ body = parts_in-keeps lines body keeps in
-        closes w (schedule_of (terms_of b) (Some body) opened.runs)
+        let keeps = keep_body p.lines opened.detail x o calls t opened.lines again in
+        closes w (schedule_of (terms_of b) (Some lines) opened.runs)
         (rw opened.opened (closed_some p.schedules (terms_of b) lines opened.runs
-        ∙ rw same (ap (λ (ss : List Schedule). ss ++ (schedule_of (terms_of b) (Some body) opened.runs ∷ [])) opened.schedules)))
+        ∙ ap (λ (ss : List Schedule). ss ++ (schedule_of (terms_of b) (Some lines) opened.runs ∷ [])) opened.schedules))
         (record {
           basic = b;
           extra = x;
           journey = journey_records o calls t;
           parts = whole_own;
           terms = record { uid = refl; first = refl; last = refl; days = refl; letter = refl };
-          body = rw opened.has (refl, refl, refl);
+          body = rw opened.has (
+            record { origin = o; calls = calls; terminus = t; are = refl },
+            kept_plain lines (body_tables opened.detail records) keeps,
+          );
         })
 
     -- a cancellation

@@ -2,7 +2,7 @@
 use Rattle.std.proofs.Common.{◌≡◌, ℕ, List, [], ◌∷◌, ◌++◌, map, Option, ap, sym, ◌∙◌, refl, subst, append_assoc}
 use Rattle.std.proofs.lemmas.List.{map-append}
 use Rattle.cif_columns.specs.Field.{Row, AllStandIn, plain_line}
-use Rattle.cif_extract.specs.Body.{KeepAll, KeepBody, kept_tables}
+use Rattle.cif_extract.specs.Body.{KeepAll, KeepBody, body_tables}
 use Rattle.cif_extract.specs.BodyParts.{extra_records, journey_records}
 use Rattle.cif_extract.specs.Call.{call_record}
 use Rattle.cif_extract.specs.Steps.Reading.{begun_journey}
@@ -18,13 +18,13 @@ use Rattle.cif_records.specs.declared.terminus.Terminus.{Terminus}
 use Rattle.cif_extract.proofs.BodyLines.{keep_last}
 
 -- one record more
-pub kept-more : (lines : List (List ℕ)) (d : Detail) (records : List Record) (r : Record) → KeepAll lines (kept_tables d records) →
+pub kept-more : (lines : List (List ℕ)) (d : Detail) (records : List Record) (r : Record) → KeepAll lines (body_tables d records) →
     AllStandIn (plain_line (record_table r)) (record_table r) →
-    KeepAll (lines ++ (plain_line (record_table r) ∷ [])) (kept_tables d (records ++ (r ∷ [])))
+    KeepAll (lines ++ (plain_line (record_table r) ∷ [])) (body_tables d (records ++ (r ∷ [])))
 kept-more lines d records r kept stands =
     subst (KeepAll (lines ++ (plain_line (record_table r) ∷ [])))
     (ap (λ (ts : List (List Row)). detail_table d ∷ ts) (sym (map-append record_table records (r ∷ []))))
-    (keep_last lines (kept_tables d records) (plain_line (record_table r)) (record_table r) kept stands refl)
+    (keep_last lines (body_tables d records) (plain_line (record_table r)) (record_table r) kept stands refl)
 
 -- a call more
 pub journey-more : (x : Option Extra) (o : Origin) (calls : List Call) (call : Call) →
@@ -40,11 +40,11 @@ journey-whole x o calls t = append_assoc (extra_records x) (of.Origin o ∷ map 
 
 -- the lines of a schedule up to its last keep its body
 pub keep_body : (lines : List (List ℕ)) (d : Detail) (x : Option Extra) (o : Origin) (calls : List Call) (t : Terminus) →
-    KeepAll lines (kept_tables d (begun_journey x o calls)) → AllStandIn (plain_line (record_table (of.Terminus t))) (record_table
+    KeepAll lines (body_tables d (begun_journey x o calls)) → AllStandIn (plain_line (record_table (of.Terminus t))) (record_table
     (of.Terminus t)) →
     KeepBody (lines ++ (plain_line (record_table (of.Terminus t)) ∷ []))
     (record { detail = d; extra = x; origin = o; calls = calls; terminus = t })
 keep_body lines d x o calls t kept stands =
-    subst (λ records. KeepAll (lines ++ (plain_line (record_table (of.Terminus t)) ∷ [])) (kept_tables d records))
+    subst (λ records. KeepAll (lines ++ (plain_line (record_table (of.Terminus t)) ∷ [])) (body_tables d records))
     (journey-whole x o calls t)
     (kept-more lines d (begun_journey x o calls) (of.Terminus t) kept stands)

@@ -3,6 +3,7 @@ pub mod Bodies
 pub mod BodyFits
 pub mod BodyLines
 pub mod CallLines
+pub mod Each
 pub mod FirstRefusals
 pub mod GoesOn
 pub mod GrammarLists
@@ -18,7 +19,6 @@ pub mod PlainRecords
 pub mod PlainTexts
 pub mod ReadingRuns
 pub mod ReadingSteps
-pub mod SameLines
 pub mod ScheduleSteps
 pub mod Schedules
 pub mod SpelledBytes

@@ -1,6 +1,7 @@
 -- Records are at most one extract.
 use Rattle.std.proofs.Common.{◌≡◌, ℕ, List, [], ◌∷◌, ◌++◌, map, Option, Some, None, refl, sym, ap, ◌∙◌, subst, append_assoc, ⊎_elim}
-use Rattle.cif_extract.specs.BodyParts.{BodyParts, extra_records, journey_records}
+use Rattle.cif_extract.specs.Body.{BodyLines}
+use Rattle.cif_extract.specs.BodyParts.{extra_records, journey_records}
 use Rattle.cif_extract.specs.Call.{call_record}
 use Rattle.cif_extract.specs.ExtractParts.{ExtractParts}
 use Rattle.cif_extract.specs.Grammar.{AreExtract, AreJourney, AreSchedule, AreSchedules, HaveBody, records_before_trailer}
@@ -14,7 +15,7 @@ use Rattle.cif_records.specs.declared.basic.Basic.{Basic}
 use Rattle.cif_records.specs.declared.detail.Detail.{Detail}
 use Rattle.cif_records.specs.declared.extra.Extra.{Extra}
 use Rattle.cif_records.specs.declared.record.Kind.{Kind}
-use Rattle.cif_records.specs.declared.record.Kind.TheVariants.{Ti, Aa, Bs, Bx, Lt, Zz}
+use Rattle.cif_records.specs.declared.record.Kind.TheVariants.{Ti, Aa, Bs, Bx, Zz}
 use Rattle.cif_records.specs.declared.origin.Origin.{Origin}
 use Rattle.cif_records.specs.declared.record.Record.{Record}
 use Rattle.cif_records.specs.declared.record.Record.TheVariants as of
@@ -22,13 +23,8 @@ use Rattle.cif_records.specs.declared.terminus.Terminus.{Terminus}
 use Rattle.cif_records.specs.declared.tiploc.Tiploc.{Tiploc}
 use Rattle.cif_records.proofs.Records.{kind_of}
 use Rattle.cif_extract.proofs.LayoutLaws.{AreLayouts}
-use Rattle.cif_extract.specs.Laws.SameBody.{same_values as same_parts}
+use Rattle.cif_extract.proofs.Each.{Each, each_append, each_map, each_so}
 use Rattle.cif_extract.proofs.Schedules.{same_schedule}
-
--- P holds of each record
-abbrev pub Each : (Record → Type 0) → List Record → Type 0
-Each P [] = Unit {0}
-Each P (r ∷ records) = P r × Each P records
 
 -- P doesn't hold of the first record, if there is one
 abbrev Stops : (Record → Type 0) → List Record → Type 0
@@ -47,19 +43,6 @@ parted P (r ∷ a) b (q ∷ c) d ea sb ec sd e =
     let tails : a ++ b ≡ c ++ d = cc in
     let more = parted P a b c d ea.1 sb ec.1 sd tails in
     (ap (λ x. x ∷ a) heads ∙ ap (λ (xs : List Record). q ∷ xs) more.0, more.1)
-
-each_append : (P : Record → Type 0) (a b : List Record) → Each P a → Each P b → Each P (a ++ b)
-each_append P [] b p q = q
-each_append P (r ∷ a) b p q = (p.0, each_append P a b p.1 q)
-
-each_so : (P Q : Record → Type 0) → ((r : Record) → P r → Q r) → (rs : List Record) → Each P rs → Each Q rs
-each_so P Q f [] h = tt
-each_so P Q f (r ∷ rs) h = (f r h.0, each_so P Q f rs h.1)
-
--- records made of values, of which P holds
-each_map : {A : Type 0} (P : Record → Type 0) (f : A → Record) → ((x : A) → P (f x)) → (xs : List A) → Each P (map f xs)
-each_map P f h [] = tt
-each_map P f h (x ∷ xs) = (h x, each_map P f h xs)
 
 -- values whose images are equal, where the images of two are equal only where they are
 pub same_values : {A R : Type 0} (f : A → R) → ((x y : A) → f x ≡ f y → x ≡ y) → (xs ys : List A) → map f xs ≡ map f ys → xs ≡ ys
@@ -84,12 +67,6 @@ one_tiploc x y e = cc
 one_association : (x y : Association) → of.Association x ≡ of.Association y → x ≡ y
 one_association x y e = cc
 
-one_call : (x y : Call) → call_record x ≡ call_record y → x ≡ y
-one_call (At x) (At y) e = cc
-one_call (At x) (Turn y) e = cc
-one_call (Turn x) (At y) e = cc
-one_call (Turn x) (Turn y) e = cc
-
 -- neither a BS nor the trailer
 abbrev pub Inside : Record → Type 0
 Inside (of.Extra x) = Unit {0}
@@ -99,29 +76,9 @@ Inside (of.Change c) = Unit {0}
 Inside (of.Terminus t) = Unit {0}
 Inside _ = ⊥
 
-call_isnt : (c : Call) → Isnt Lt (call_record c)
-call_isnt (At s) = λ e. cc
-call_isnt (Turn s) = λ e. cc
-
 call_inside : (c : Call) → Inside (call_record c)
 call_inside (At s) = tt
 call_inside (Turn s) = tt
-
--- a journey is one
-record SameJourney (o p : Origin) (calls others : List Call) (t u : Terminus) : Type 0 where
-  origins : o ≡ p
-  calls_same : calls ≡ others
-  termini : t ≡ u
-
-one_journey : (o p : Origin) (calls others : List Call) (t u : Terminus) → journey_records o calls t ≡ journey_records p others u →
-    SameJourney o p calls others t u
-one_journey o p calls others t u e =
-    let rests : map call_record calls ++ (of.Terminus t ∷ []) ≡ map call_record others ++ (of.Terminus u ∷ []) = cc in
-    let two = parted (Isnt Lt) (map call_record calls) (of.Terminus t ∷ []) (map call_record others) (of.Terminus u ∷ [])
-    (each_map (Isnt Lt) call_record call_isnt calls) (λ h. h refl)
-    (each_map (Isnt Lt) call_record call_isnt others) (λ h. h refl) rests in
-    let last = two.1 in
-    record { origins = cc; calls_same = same_values call_record one_call calls others two.0; termini = cc }
 
 -- what follows a BS and its BX, if anything, is no BX
 abbrev NoExtra : List Record → Type 0
@@ -136,22 +93,18 @@ one_extra (Some x) None a [] p q e = cc
 one_extra (Some x) None a (r ∷ b) p q e = absurd (q (let same : r ≡ of.Extra x = cc in ap kind_of same))
 one_extra (Some x) (Some y) a b p q e = (cc, cc)
 
-no_extra : (d : Option Detail) (x : Option Extra) (journey : List Record) (body : Option BodyParts) → HaveBody d x journey body →
+no_extra : (d : Option Detail) (x : Option Extra) (journey : List Record) (body : Option BodyLines) → HaveBody d x journey body →
     NoExtra journey
-no_extra (Some d) x journey (Some body) h = let (detail, extra, is) = h in subst NoExtra (sym is) (λ e. cc)
+no_extra (Some d) x journey (Some body) (j, is) = subst NoExtra (sym j.are) (λ e. cc)
 no_extra None x journey None h =
     ⊎_elim (λ (none : journey ≡ []). subst NoExtra (sym none) tt)
     (λ (j : AreJourney journey). subst NoExtra (sym j.are) (λ e. cc)) h
 no_extra (Some d) x journey None h = absurd h
 no_extra None x journey (Some body) h = absurd h
 
-one_body : (d : Option Detail) (x : Option Extra) (journey : List Record) (a b : Option BodyParts) → HaveBody d x journey a →
+one_body : (d : Option Detail) (x : Option Extra) (journey : List Record) (a b : Option BodyLines) → HaveBody d x journey a →
     HaveBody d x journey b → a ≡ b
-one_body (Some d) x journey (Some a) (Some b) p q =
-    let (detail, extra, is) = p in
-    let (other_detail, other_extra, other) = q in
-    let same = one_journey a.origin b.origin a.calls b.calls a.terminus b.terminus (sym is ∙ other) in
-    ap Some (same_parts a b (detail ∙ sym other_detail) (extra ∙ sym other_extra) same.origins same.calls_same same.termini)
+one_body (Some d) x journey (Some a) (Some b) p q = ap Some (p.1 ∙ sym q.1)
 one_body None x journey None None p q = refl
 one_body (Some d) x journey None b p q = absurd p
 one_body (Some d) x journey (Some a) None p q = absurd q
@@ -178,7 +131,7 @@ one_schedule records s t p q =
     (one_body q.basic.detail q.extra q.journey s.body t.body body q.body)
 
 -- a schedule has one BS, at its front, and no trailer
-pub further_inside : (d : Option Detail) (x : Option Extra) (journey : List Record) (body : Option BodyParts) → HaveBody d x journey body →
+pub further_inside : (d : Option Detail) (x : Option Extra) (journey : List Record) (body : Option BodyLines) → HaveBody d x journey body →
     Each Inside (extra_records x ++ journey)
 further_inside d x journey body h = each_append Inside (extra_records x) journey (extra_inside x) (journey_inside d body h)
   where
@@ -190,9 +143,8 @@ further_inside d x journey body h = each_append Inside (extra_records x) journey
     whole_inside o calls t =
         (tt, each_append Inside (map call_record calls) (of.Terminus t ∷ []) (each_map Inside call_record call_inside calls) (tt, tt))
 
-    journey_inside : (d : Option Detail) (body : Option BodyParts) → HaveBody d x journey body → Each Inside journey
-    journey_inside (Some d) (Some body) h =
-        let (detail, extra, is) = h in subst (Each Inside) (sym is) (whole_inside body.origin body.calls body.terminus)
+    journey_inside : (d : Option Detail) (body : Option BodyLines) → HaveBody d x journey body → Each Inside journey
+    journey_inside (Some d) (Some body) (j, is) = subst (Each Inside) (sym j.are) (whole_inside j.origin j.calls j.terminus)
     journey_inside None None h =
         ⊎_elim (λ (none : journey ≡ []). subst (Each Inside) (sym none) tt)
         (λ (j : AreJourney journey). subst (Each Inside) (sym j.are) (whole_inside j.origin j.calls j.terminus)) h

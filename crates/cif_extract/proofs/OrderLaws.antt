@@ -4,7 +4,8 @@ use Rattle.std.proofs.Common.{sym, ap, ◌∙◌, subst, arith, cond, append_ass
 use Rattle.std.proofs.lemmas.List.Elements.{All-head, All-tail}
 use Rattle.std.specs.Prelude.{All}
 use Rattle.cif_columns.specs.Line.{IsLine}
-use Rattle.cif_extract.specs.BodyParts.{BodyParts, extra_records, journey_records}
+use Rattle.cif_extract.specs.Body.{BodyLines}
+use Rattle.cif_extract.specs.BodyParts.{extra_records, journey_records}
 use Rattle.cif_extract.specs.Call.{call_record}
 use Rattle.cif_extract.specs.ExtractParts.{ExtractParts}
 use Rattle.cif_extract.specs.FirstRefusal.{NoneRefused}
@@ -103,12 +104,11 @@ stand_schedule : (from : Place) → may_stand from Bs ≡ true → (records : Li
 stand_schedule from may records s is =
     subst (IsOpen from) (sym is.parts) (at is.basic.detail is.basic.bodied s.body is.body)
   where
-    at : (d : Option Detail) → is_some d ≡ has_body is.basic.letter → (body : Option BodyParts) → HaveBody d is.extra is.journey body →
+    at : (d : Option Detail) → is_some d ≡ has_body is.basic.letter → (body : Option BodyLines) → HaveBody d is.extra is.journey body →
         IsOpen from (of.Basic is.basic ∷ (extra_records is.extra ++ is.journey))
-    at (Some d) e (Some body) h =
-        let (detail, extra, journey) = h in
-        subst (λ rs. IsOpen from (of.Basic is.basic ∷ (extra_records is.extra ++ rs))) (sym journey)
-        (stand_journey from may is.basic is.extra body.origin body.calls body.terminus)
+    at (Some d) e (Some body) (j, h) =
+        subst (λ rs. IsOpen from (of.Basic is.basic ∷ (extra_records is.extra ++ rs))) (sym j.are)
+        (stand_journey from may is.basic is.extra j.origin j.calls j.terminus)
     at None e None h =
         ⊎_elim
         (λ (none : is.journey ≡ []). subst (λ rs. IsOpen from (of.Basic is.basic ∷ (extra_records is.extra ++ rs))) (sym none)

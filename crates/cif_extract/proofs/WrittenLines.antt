@@ -1,15 +1,11 @@
 -- What is written, line by line.
-use Rattle.std.proofs.Common.{◌≡◌, ℕ, Bool, List, [], ◌∷◌, ◌++◌, Option, Some, Result, append_assoc, map, sym, ◌∙◌, ap, refl, subst}
+use Rattle.std.proofs.Common.{◌≡◌, ℕ, List, [], ◌∷◌, ◌++◌, Option, Result, append_assoc, map, sym, ◌∙◌, ap, refl, subst}
 use Rattle.cif_columns.specs.Field.{Row, plain_line}
 use Rattle.cif_columns.specs.Sink.{HasFailed, HasWritten, Writes}
 use Rattle.cif_columns.specs.declared.sink.Sink.{Sink}
-use Rattle.cif_columns.specs.declared.stp.Stp.TheVariants.{P}
 use Rattle.cif_columns.proofs.WrittenTexts.{failed_first, writes_on}
 use Rattle.cif_extract.specs.Body.{KeepAll}
-use Rattle.cif_extract.specs.BodyParts.{BodyParts}
 use Rattle.cif_columns.specs.Contents.{lines_text}
-use Rattle.cif_extract.specs.Texts.{body_tables, schedule_lines}
-use Rattle.cif_records.specs.Basic.{basic_rows}
 
 -- lines that are kept are the plain lines of their tables
 pub kept_plain : (lines : List (List ℕ)) (tables : List (List Row)) → KeepAll lines tables → lines ≡ map plain_line tables
@@ -38,10 +34,3 @@ module _ (line texts : List ℕ) (lines rest : List (List ℕ)) (others : texts 
     second_writes u result written h =
         subst (λ text. Writes contents errors text s u result) (sym in_two_parts)
         (writes_on contents errors ((line ++ (10 ∷ [])) ++ texts) (lines_text rest) s t u result written h)
-
--- the text of a schedule is that of its BS and of the lines of its body
-pub schedule_text : (uid : List ℕ) (first last : ℕ) (days : List Bool) (p : BodyParts) (basic : List ℕ)
-    → basic ≡ plain_line (basic_rows uid first last days P (Some p.detail))
-    → lines_text (basic ∷ map plain_line (body_tables (Some p))) ≡ lines_text (schedule_lines uid first last days P (Some p))
-unfolding schedule_lines
-schedule_text uid first last days p basic is = ap (λ line. lines_text (line ∷ map plain_line (body_tables (Some p)))) is

@@ -1,8 +1,9 @@
--- How a body keeps its parts: as plain lines, one a record.
-use Rattle.std.specs.Prelude.{◌≡◌, ℕ, ◌-◌, Bool, cond, None, Some, codes}
+-- What a schedule's body is: its plain lines, one a record.
+use Rattle.std.specs.Prelude.{◌≡◌, ℕ, ◌-◌, All, Bool, cond, None, Some, codes}
 use Rattle.std.specs.Prelude.{List, [], ◌∷◌, ◌++◌, drop, length, map, slice_index_or, slice_range}
 use Rattle.std.specs.Str.{bytes_eq}
 use Rattle.cif_columns.specs.Field.{Row, AllStandIn, columns, plain_line}
+use Rattle.cif_columns.specs.Line.{IsLine}
 use Rattle.cif_extract.specs.BodyParts.{BodyParts, body_records, journey_records}
 use Rattle.cif_extract.specs.Call.{call_in}
 use Rattle.cif_records.specs.Detail.{detail_in, detail_table}
@@ -12,6 +13,19 @@ use Rattle.cif_records.specs.Record.{record_table}
 use Rattle.cif_records.specs.Terminus.{terminus_in}
 use Rattle.cif_records.specs.declared.detail.Detail.{Detail}
 use Rattle.cif_records.specs.declared.record.Record.{Record}
+
+-- The plain lines of a body: columns 30 to 78 of its BS on a line of their own, its BX if there is one, and its journey. Bodies are
+-- equal where these are.
+abbrev pub BodyLines : Type 0
+BodyLines = List (List ℕ)
+
+-- the tables of a detail and of the records that follow its BS
+abbrev pub body_tables : Detail → List Record → List (List Row)
+body_tables detail records = detail_table detail ∷ map record_table records
+
+-- the body of these parts
+abbrev pub body_of : BodyParts → BodyLines
+body_of p = map plain_line (body_tables p.detail (body_records p))
 
 -- each line is the plain line of its table, and spells what the table says
 abbrev pub KeepAll : List (List ℕ) → List (List Row) → Type 0
@@ -24,13 +38,9 @@ KeepAll (line ∷ lines) (table ∷ tables) = AllStandIn line table × (line ≡
 abbrev pub KeepMore : List (List ℕ) → List (List ℕ) → List (List Row) → Type 0
 KeepMore old new more = (tables : List (List Row)) → KeepAll old tables → KeepAll new (tables ++ more)
 
--- the tables of a detail and of the records that follow its BS
-abbrev pub kept_tables : Detail → List Record → List (List Row)
-kept_tables detail records = detail_table detail ∷ map record_table records
-
 -- the lines keep a body of these parts
 abbrev pub KeepBody : List (List ℕ) → BodyParts → Type 0
-KeepBody lines p = KeepAll lines (kept_tables p.detail (body_records p))
+KeepBody lines p = KeepAll lines (body_tables p.detail (body_records p))
 
 -- the lines keep its journey, from LO to LT
 abbrev pub KeepJourney : List (List ℕ) → BodyParts → Type 0
@@ -40,18 +50,27 @@ KeepJourney lines p = KeepAll lines (map record_table (journey_records p.origin 
 abbrev pub KeepSomeBody : List (List ℕ) → Type 0
 KeepSomeBody lines = (p : BodyParts) × KeepBody lines p
 
+-- these are a body: lines that keep one
+pub record IsBody (body : BodyLines) : Type 0 where
+  pub are_lines : All IsLine body
+  pub keep : KeepSomeBody body
+
 -- a line of further details
 abbrev pub is_extra : List ℕ → Bool
 is_extra line = bytes_eq (columns 1 2 line) (codes "BX")
 
 -- the lines from LO to LT
-abbrev pub journey_in : List (List ℕ) → List (List ℕ)
+abbrev pub journey_in : BodyLines → List (List ℕ)
 journey_in lines = drop (cond (is_extra (slice_index_or lines 1 [])) 2 1) lines
 
+-- the detail of a body, as it stands in its first line
+abbrev pub detail_of : BodyLines → Detail
+detail_of lines = detail_in (slice_index_or lines 0 [])
+
 -- the parts of a body, as they stand in its lines
-abbrev pub parts_in : List (List ℕ) → BodyParts
+abbrev pub parts_in : BodyLines → BodyParts
 parts_in lines = record {
-  detail = detail_in (slice_index_or lines 0 []);
+  detail = detail_of lines;
   extra = cond (is_extra (slice_index_or lines 1 [])) (Some (extra_in (slice_index_or lines 1 []))) None;
   origin = origin_in (slice_index_or (journey_in lines) 0 []);
   calls = map call_in (slice_range (journey_in lines) 1 (length (journey_in lines) - 1));

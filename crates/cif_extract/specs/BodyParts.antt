@@ -1,14 +1,7 @@
--- What a schedule's body is: its five parts, and the records that they are.
-use Rattle.std.specs.Prelude.{Bool, ◌&&◌, List, [], ◌∷◌, ◌++◌, Option, None, Some, map}
-use Rattle.std.specs.Cmp.Lexicographic.{pointwise}
-use Rattle.std.specs.Option.{option_eq}
+-- The five parts of a schedule's body, and the records that they are.
+use Rattle.std.specs.Prelude.{List, [], ◌∷◌, ◌++◌, Option, None, Some, map}
 use Rattle.cif_extract.specs.Call.{call_record}
-use Rattle.cif_extract.specs.contracts.call.CallPartialEq.TheImpl as call
 use Rattle.cif_extract.specs.declared.call.Call.{Call}
-use Rattle.cif_records.specs.contracts.detail.DetailPartialEq.TheImpl as detail
-use Rattle.cif_records.specs.contracts.extra.ExtraPartialEq.TheImpl as extra
-use Rattle.cif_records.specs.contracts.origin.OriginPartialEq.TheImpl as origin
-use Rattle.cif_records.specs.contracts.terminus.TerminusPartialEq.TheImpl as terminus
 use Rattle.cif_records.specs.declared.detail.Detail.{Detail}
 use Rattle.cif_records.specs.declared.extra.Extra.{Extra}
 use Rattle.cif_records.specs.declared.origin.Origin.{Origin}
@@ -16,8 +9,7 @@ use Rattle.cif_records.specs.declared.record.Record.{Record}
 use Rattle.cif_records.specs.declared.record.Record.TheVariants as of
 use Rattle.cif_records.specs.declared.terminus.Terminus.{Terminus}
 
--- The body of a schedule: columns 30 to 78 of its BS, its BX or the lack of one, and its journey. An absent BX and one of empty
--- texts are two.
+-- Columns 30 to 78 of its BS, its BX or the lack of one, and its journey. An absent BX and one of empty texts are two.
 pub record BodyParts : Type 0 where
   pub detail : Detail
   pub extra : Option Extra
@@ -37,9 +29,3 @@ journey_records origin calls terminus = of.Origin origin ∷ (map call_record ca
 -- the records of a body, which follow its BS
 abbrev pub body_records : BodyParts → List Record
 body_records p = extra_records p.extra ++ journey_records p.origin p.calls p.terminus
-
--- whether two bodies have equal parts, by the equality of each part's type
-abbrev pub parts_eq : BodyParts → BodyParts → Bool
-parts_eq a b =
-    (detail.ghosts).eq a.detail b.detail && option_eq (extra.ghosts).eq a.extra b.extra && (origin.ghosts).eq a.origin b.origin
-    && pointwise (call.ghosts).eq a.calls b.calls && (terminus.ghosts).eq a.terminus b.terminus

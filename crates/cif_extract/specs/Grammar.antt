@@ -1,7 +1,9 @@
 -- The records of an extract, in order: HD TI* AA* Schedule* ZZ, where Schedule = BS BX? LO (LI | CR)* LT. A cancellation may
 -- lack the part from LO to LT.
 use Rattle.std.specs.Prelude.{◌≡◌, ◌⊎◌, List, [], ◌∷◌, ◌++◌, Option, None, Some, map}
-use Rattle.cif_extract.specs.BodyParts.{BodyParts, extra_records, journey_records}
+use Rattle.cif_columns.specs.Field.{plain_line}
+use Rattle.cif_extract.specs.Body.{BodyLines, body_tables}
+use Rattle.cif_extract.specs.BodyParts.{extra_records, journey_records}
 use Rattle.cif_extract.specs.ExtractParts.{ExtractParts}
 use Rattle.cif_extract.specs.declared.call.Call.{Call}
 use Rattle.cif_extract.specs.declared.extract.Schedule.{Schedule}
@@ -20,11 +22,11 @@ pub record AreJourney (records : List Record) : Type 0 where
   pub terminus : Terminus
   pub are : records ≡ journey_records origin calls terminus
 
--- What follows a BS with this detail is this body. A cancellation has none: its BX says nothing, and its journey neither, if it is
--- there at all.
-abbrev pub HaveBody : Option Detail → Option Extra → List Record → Option BodyParts → Type 0
-HaveBody (Some detail) extra journey (Some body) = (body.detail ≡ detail) × (body.extra ≡ extra)
-    × (journey ≡ journey_records body.origin body.calls body.terminus)
+-- A BS with this detail, and what follows it, have this body: their plain lines. A cancellation has none: its BX says nothing, and its
+-- journey neither, if it is there at all.
+abbrev pub HaveBody : Option Detail → Option Extra → List Record → Option BodyLines → Type 0
+HaveBody (Some detail) extra journey (Some body) =
+    AreJourney journey × (body ≡ map plain_line (body_tables detail (extra_records extra ++ journey)))
 HaveBody None extra journey None = (journey ≡ []) ⊎ AreJourney journey
 HaveBody (Some detail) extra journey None = ⊥
 HaveBody None extra journey (Some body) = ⊥

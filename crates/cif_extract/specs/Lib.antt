@@ -6,7 +6,6 @@ pub mod ExtractParts
 pub mod Fault
 pub mod FirstRefusal
 pub mod Grammar
-pub mod Laws
 pub mod Layouts
 pub mod OrderOfRecords
 pub mod ReadCall

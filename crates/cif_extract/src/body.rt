@@ -1,11 +1,10 @@
 //! What runs on a schedule's dates.
-ghost use Rattle.std.specs.Prelude.{◌≡◌, ◌↔◌, ◌++◌, IfOk, IfSome, IsTrue, OnOk, Some, is_some, map, option_copied};
-ghost use Rattle.cif_extract.specs.Body.{KeepAll, KeepJourney, KeepMore, KeepSomeBody, is_extra, kept_tables, parts_in};
-ghost use Rattle.cif_extract.specs.BodyParts.{body_records, extra_records, journey_records};
-ghost use Rattle.cif_columns.specs.Field.{AllFit, AllStandIn, plain_line};
-ghost use Rattle.cif_extract.specs.Texts.{AllTablesFit};
-ghost use Rattle.cif_records.specs.Detail.{detail_rows, detail_table};
-ghost use Rattle.cif_records.specs.Extra.{SpellsExtra};
+ghost use Rattle.std.specs.Prelude.{◌≡◌, ◌↔◌, ◌++◌, [], IfOk, IsTrue, OnOk, drop, map, option_copied, slice_index_or};
+ghost use Rattle.cif_columns.specs.Field.{AllStandIn, plain_line};
+ghost use Rattle.cif_extract.specs.Body.{IsBody, KeepMore, KeepSomeBody, body_of, body_tables};
+ghost use Rattle.cif_extract.specs.Body.{detail_of, journey_in, parts_in};
+ghost use Rattle.cif_extract.specs.BodyParts.{extra_records, journey_records};
+ghost use Rattle.cif_records.specs.Detail.{detail_table};
 ghost use Rattle.cif_records.specs.Record.{record_table};
 
 use crate::{Call, Calls};
@@ -15,7 +14,7 @@ use std::alloc::{AllocError, Global};
 use std::marker::Model;
 
 /// The body of a schedule: columns 30 to 78 of its BS, its BX or the lack of one, and its journey
-/// from LO to LT. It keeps these as plain lines, and a clause sees the parts.
+/// from LO to LT. It keeps these as plain lines, and a clause sees the lines.
 #[derive(Debug, Drop)]
 pub struct Body {
     // The detail in columns 30 to 78 of a line of its own, the BX if there is one, and the lines
@@ -24,12 +23,11 @@ pub struct Body {
 }
 
 impl Model for Body {
-    ghost use Rattle.cif_extract.specs.Body.{KeepSomeBody, parts_in};
-    ghost use Rattle.cif_extract.specs.BodyParts.{BodyParts};
+    ghost use Rattle.cif_extract.specs.Body.{BodyLines, KeepSomeBody};
 
-    ghost Value = { BodyParts };
+    ghost Value = { BodyLines };
 
-    ghost view = { λ b. parts_in b.lines };
+    ghost view = { λ b. b.lines };
 
     ghost invariant = { λ b. KeepSomeBody b.lines };
 }
@@ -45,7 +43,7 @@ fn push_parts(
     terminus: &Terminus,
 ) -> Result<(), AllocError>
     ensures { OnOk result (KeepMore lines.old lines.new
-        (kept_tables detail.now (extra_records (option_copied extra.entry))
+        (body_tables detail.now (extra_records (option_copied extra.entry))
         ++ map record_table (journey_records origin.now calls.now terminus.now))) }
 {
     lines.push(&detail.write())?;
@@ -60,7 +58,7 @@ fn push_parts(
 }
 
 impl Body {
-    ghost use Rattle.cif_extract.specs.BodyParts.{BodyParts};
+    ghost use Rattle.cif_extract.specs.Body.{BodyLines};
 
     /// The body of these parts.
     pub fn of(
@@ -71,13 +69,13 @@ impl Body {
         calls: &[Call],
         terminus: &Terminus,
     ) -> Result<Body, AllocError>
-        ensures { IfOk result (λ body. body ≡ record {
+        ensures { IfOk result (λ body. body ≡ body_of (record {
           detail = detail.now;
           extra = option_copied extra.entry;
           origin = origin.now;
           calls = calls.now;
           terminus = terminus.now;
-        }) }
+        })) }
     {
         let mut lines = Lines::new(alloc);
         push_parts(&mut lines, detail, extra, origin, calls, terminus)?;
@@ -87,37 +85,37 @@ impl Body {
     /// The body that these lines keep.
     pub(crate) fn of_lines(alloc: Global, lines: &Lines) -> Result<Body, AllocError>
         requires { KeepSomeBody lines.now }
-        ensures { IfOk result (λ b. b ≡ parts_in lines.now) }
+        ensures { IfOk result (λ body. body ≡ lines.now) }
     {
         let lines = Lines::of(alloc, &lines.as_slice())?;
         Ok(Body { lines })
     }
 
-    /// A law for proofs: bodies are equal where their parts are.
+    /// Laws for proofs: bodies are equal where their lines are, and bodies with equal lines have equal parts.
     pub fn equality_of_bodies()
-        ensures { (a b : BodyParts) → IsTrue (⟦<Body as PartialEq>⟧.eq a b) ↔ (a ≡ b) }
+        ensures lines { (a b : BodyLines) → IsTrue (⟦<Body as PartialEq>⟧.eq a b) ↔ (a ≡ b) }
+        ensures parts { (a b : BodyLines) → IsBody a → IsBody b → (a ≡ b) ↔ (parts_in a ≡ parts_in b) }
     {}
 
-    /// A law for proofs: what it says fits its columns.
+    /// A law for proofs: its lines are a body.
     #[inline]
     pub fn fits(&self)
-        ensures detail { AllFit (detail_rows (Some self.now.detail)) }
-        ensures further { AllTablesFit (map record_table (body_records self.now)) }
+        ensures { IsBody self.now }
     {
         self.lines.as_slice().are_lines();
     }
 
     /// The plain lines of the records that follow its BS.
     pub fn further_lines(&self) -> LineSlice<'_>
-        ensures { KeepAll result (map record_table (body_records self.now)) }
+        ensures { result ≡ drop 1 self.now }
     {
         self.lines.as_slice().rest()
     }
 
     /// The line that its detail has to itself.
     pub fn detail_line(&self) -> Line
-        ensures plain { result ≡ plain_line (detail_table self.now.detail) }
-        ensures stands { AllStandIn result (detail_table self.now.detail) }
+        ensures plain { result ≡ plain_line (detail_table (detail_of self.now)) }
+        ensures first { result ≡ slice_index_or self.now 0 [] }
     {
         self.lines.as_slice().first()
     }
@@ -132,15 +130,16 @@ impl Body {
 
     /// The line of its BX or its LO.
     fn second_line(&self) -> Line
-        ensures marked { is_extra result ≡ is_some self.now.extra }
-        ensures further { IfSome self.now.extra (λ extra. SpellsExtra result extra) }
+        ensures second { result ≡ slice_index_or self.now 1 [] }
+        ensures keep { KeepSomeBody self.now }
     {
         self.lines.as_slice().rest().first()
     }
 
     /// The lines from LO to LT.
     fn journey(&self) -> LineSlice<'_>
-        ensures { KeepJourney result self.now }
+        ensures journey { result ≡ journey_in self.now }
+        ensures keep { KeepSomeBody self.now }
     {
         let has_extra = columns_at(&self.second_line(), 1) == *b"BX";
         let further = self.further_lines();
@@ -149,14 +148,14 @@ impl Body {
 
     /// The detail: columns 30 to 78 of its BS.
     pub fn detail(&self) -> Detail
-        ensures { result ≡ self.now.detail }
+        ensures { result ≡ (parts_in self.now).detail }
     {
         Detail::read(&self.detail_line())
     }
 
     /// Its BX.
     pub fn extra(&self) -> Option<Extra>
-        ensures { result ≡ self.now.extra }
+        ensures { result ≡ (parts_in self.now).extra }
     {
         // No LO is read as a BX.
         Extra::read(&self.second_line()).ok()
@@ -164,33 +163,34 @@ impl Body {
 
     /// Where its journey begins.
     pub fn origin(&self) -> Origin
-        ensures { result ≡ self.now.origin }
+        ensures { result ≡ (parts_in self.now).origin }
     {
         Origin::read(&self.journey().first()).unwrap()
     }
 
     /// What is on its way, in order.
     pub fn calls(&self) -> Calls<'_>
-        ensures { result ≡ self.now.calls }
+        ensures { result ≡ (parts_in self.now).calls }
     {
         Calls::of_lines(self.journey().rest())
     }
 
     /// Where its journey ends.
     pub fn terminus(&self) -> Terminus
-        ensures { result ≡ self.now.terminus }
+        ensures { result ≡ (parts_in self.now).terminus }
     {
         Terminus::read(&self.journey().last()).unwrap()
     }
 }
 
 impl PartialEq for Body {
-    ghost use Rattle.cif_extract.specs.BodyParts.{parts_eq};
-    ghost use Rattle.cif_extract.specs.Laws.SameBody.{parts_per};
+    ghost use Rattle.std.specs.Cmp.{partial_equiv_from_equiv};
+    ghost use Rattle.std.specs.Cmp.Lexicographic.{lists_equiv, nat_list_eq_equiv, pointwise};
+    ghost use Rattle.std.specs.Prelude.{nat_eq};
 
-    ghost eq = { parts_eq };
+    ghost eq = { pointwise (pointwise nat_eq) };
 
-    ghost laws = { parts_per };
+    ghost laws = { partial_equiv_from_equiv (lists_equiv nat_list_eq_equiv) };
 
     fn eq(&self, other: &Body) -> bool {
         self.lines.as_slice().is(&other.lines.as_slice())
@@ -198,7 +198,7 @@ impl PartialEq for Body {
 }
 
 impl Eq for Body {
-    ghost use Rattle.cif_extract.specs.Laws.SameBody.{parts_equiv};
+    ghost use Rattle.std.specs.Cmp.Lexicographic.{lists_equiv, nat_list_eq_equiv};
 
-    ghost laws = { parts_equiv };
+    ghost laws = { lists_equiv nat_list_eq_equiv };
 }

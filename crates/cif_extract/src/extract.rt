@@ -61,12 +61,12 @@ pub struct Schedule {
 }
 
 impl Schedule {
-    ghost use Rattle.std.specs.Prelude.{option_copied};
+    ghost use Rattle.std.specs.Prelude.{IfSome, option_copied};
     ghost use Rattle.std.specs.Option.{option_map};
     ghost use Rattle.cif_columns.specs.Field.{AllFit, plain_line};
-    ghost use Rattle.cif_extract.specs.BodyParts.{BodyParts};
+    ghost use Rattle.cif_extract.specs.Body.{IsBody, detail_of};
     ghost use Rattle.cif_extract.specs.Steps.Reading.{schedule_of};
-    ghost use Rattle.cif_extract.specs.Texts.{AllTablesFit, body_tables, rows_on, tables_of};
+    ghost use Rattle.cif_extract.specs.Texts.{ScheduleFits, rows_on};
     ghost use Rattle.cif_records.specs.Detail.{detail_rows};
 
     /// The schedule of these terms, with this body or none.
@@ -106,7 +106,7 @@ impl Schedule {
     /// A law for proofs: what a schedule says fits its columns.
     #[inline]
     pub fn fits(&self)
-        ensures { AllTablesFit (tables_of self.now) }
+        ensures { ScheduleFits self.now }
     {
         self.uid.fits();
         self.first.fits();
@@ -117,9 +117,8 @@ impl Schedule {
 
     #[inline]
     fn body_fits(body: Option<&Body>)
-        ensures detail { AllFit
-            (detail_rows (option_map (λ (b : BodyParts). b.detail) (option_copied body.entry))) }
-        ensures further { AllTablesFit (body_tables (option_copied body.entry)) }
+        ensures detail { AllFit (detail_rows (option_map detail_of (option_copied body.entry))) }
+        ensures body { IfSome (option_copied body.entry) IsBody }
     {
         if let Some(body) = body {
             body.fits();

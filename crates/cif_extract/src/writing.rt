@@ -1,10 +1,10 @@
 //! Records as plain lines, each with a line feed.
-ghost use Rattle.std.specs.Prelude.{◌≡◌, ◌≤◌, ◌++◌, ◌∷◌, [], Some, map};
+ghost use Rattle.std.specs.Prelude.{◌≡◌, ◌≤◌, ◌++◌, ◌∷◌, [], Some};
 ghost use Rattle.cif_columns.specs.Field.{plain_line};
 ghost use Rattle.cif_columns.specs.Sink.{Writes};
 ghost use Rattle.cif_columns.specs.declared.stp.Stp.TheVariants.{P};
 ghost use Rattle.cif_columns.specs.Contents.{lines_text};
-ghost use Rattle.cif_extract.specs.Texts.{body_tables, schedule_lines};
+ghost use Rattle.cif_extract.specs.Texts.{further_lines, schedule_lines};
 ghost use Rattle.cif_records.specs.Association.{association_rows};
 ghost use Rattle.cif_records.specs.Header.{header_table};
 ghost use Rattle.cif_records.specs.Tiploc.{tiploc_table};
@@ -75,23 +75,19 @@ pub struct ScheduleWriter<'a> {
 }
 
 impl<'a> Model for ScheduleWriter<'a> {
-    ghost use Rattle.std.specs.Prelude.{◌≡◌, ◌++◌, Some, map};
+    ghost use Rattle.std.specs.Prelude.{◌≡◌, ◌++◌, drop};
     ghost use Rattle.cif_columns.specs.Contents.{lines_text};
-    ghost use Rattle.cif_columns.specs.Field.{plain_line};
-    ghost use Rattle.cif_extract.specs.BodyParts.{BodyParts};
-    ghost use Rattle.cif_extract.specs.Texts.{body_tables};
+    ghost use Rattle.cif_extract.specs.Body.{BodyLines};
 
-    ghost Value = { BodyParts };
+    ghost Value = { BodyLines };
 
     ghost view = { λ w. w.body.now };
 
-    ghost invariant = { λ w. w.texts.1 ++ lines_text w.rest
-        ≡ lines_text (map plain_line (body_tables (Some w.body.now))) };
+    ghost invariant = { λ w. w.texts.1 ++ lines_text w.rest ≡ lines_text (drop 1 w.body.now) };
 }
 
 impl<'a> ScheduleWriter<'a> {
     /// For schedules that have this body.
-    #[tactic(auto, using(crate::proofs::WrittenLines::kept_plain))]
     pub fn of(body: &'a Body) -> ScheduleWriter<'a>
         ensures { result ≡ body.now }
     {
@@ -101,7 +97,6 @@ impl<'a> ScheduleWriter<'a> {
     }
 
     /// From now on for schedules that have this body.
-    #[tactic(auto, using(crate::proofs::WrittenLines::kept_plain))]
     pub fn set_body(&mut self, body: &'a Body)
         ensures { self.new ≡ body.now }
     {
@@ -134,7 +129,7 @@ impl<'a> ScheduleWriter<'a> {
         sink: &mut Sink<W>,
     ) -> Result<(), WriteFault>
         ensures writes { Writes W.contents W.write_errors
-            (lines_text (basic.now ∷ map plain_line (body_tables (Some self.old)))) sink.old sink.new result }
+            (lines_text (basic.now ∷ further_lines (Some self.old))) sink.old sink.new result }
         ensures body { self.new ≡ self.old }
     {
         self.texts.set_first(basic);

@@ -4,8 +4,8 @@ use Rattle.std.specs.Prelude.{map, true, false}
 use Rattle.cif_columns.specs.Field.{AllStandIn, plain_line}
 use Rattle.cif_columns.specs.Line.{IsLine}
 use Rattle.cif_columns.specs.declared.refusal.Refusal.{Refusal}
-use Rattle.cif_extract.specs.Body.{KeepAll, kept_tables, parts_in}
-use Rattle.cif_extract.specs.BodyParts.{BodyParts, extra_records}
+use Rattle.cif_extract.specs.Body.{BodyLines, KeepAll, body_tables}
+use Rattle.cif_extract.specs.BodyParts.{extra_records}
 use Rattle.cif_extract.specs.Call.{call_record}
 use Rattle.cif_extract.specs.ExtractParts.{ExtractParts}
 use Rattle.cif_extract.specs.Grammar.{AreExtract, AreSchedules, HasTerms, records_before_trailer}
@@ -60,7 +60,7 @@ progress_of r = record {
 }
 
 -- the schedule of these terms, with this body or none
-abbrev pub schedule_of : (t : BasicTerms) → (body : Option BodyParts) → is_some body ≡ has_body t.letter → Schedule
+abbrev pub schedule_of : (t : BasicTerms) → (body : Option BodyLines) → is_some body ≡ has_body t.letter → Schedule
 schedule_of t body bodied = record {
   uid = t.uid;
   first = t.first;
@@ -99,14 +99,14 @@ abbrev pub keeping : Progress → List ℕ → Progress
 keeping p line = record p { lines = with_kept p.opened p.lines line }
 
 -- the schedules so far, and one of these terms with this body, if their letter has one
-abbrev pub with_schedule : List Schedule → (t : BasicTerms) → BodyParts → (runs : Bool) → runs ≡ has_body t.letter → List Schedule
+abbrev pub with_schedule : List Schedule → (t : BasicTerms) → BodyLines → (runs : Bool) → runs ≡ has_body t.letter → List Schedule
 with_schedule schedules t body true runs = schedules ++ (schedule_of t (Some body) runs ∷ [])
 with_schedule schedules t body false runs = schedules
 
 -- the schedules so far, and the one that has been opened with these lines
 abbrev pub closed : List Schedule → Option BasicTerms → List (List ℕ) → List Schedule
 closed schedules None lines = schedules
-closed schedules (Some t) lines = with_schedule schedules t (parts_in lines) (has_body t.letter) refl
+closed schedules (Some t) lines = with_schedule schedules t lines (has_body t.letter) refl
 
 -- what one record more comes to
 abbrev pub step : Progress → Record → Progress
@@ -189,7 +189,7 @@ pub record IsOpened (p : Progress) (earlier : List Schedule) (b : Basic) (furthe
   pub runs : true ≡ has_body b.letter
   pub opened : p.opened ≡ Some (terms_of b)
   pub schedules : p.schedules ≡ earlier
-  pub lines : KeepAll p.lines (kept_tables detail further)
+  pub lines : KeepAll p.lines (body_tables detail further)
 
 -- a BS of the letter without a body has come, and its schedule is there already
 pub record IsCancelled (p : Progress) (earlier : List Schedule) (b : Basic) : Type 0 where

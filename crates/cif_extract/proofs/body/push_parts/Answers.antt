@@ -7,7 +7,7 @@ use Rattle.cif_records.specs.Detail.{detail_table}
 use Rattle.cif_records.specs.Extra.{extra_table}
 use Rattle.cif_records.specs.Record.{record_table}
 use Rattle.cif_records.specs.declared.record.Record.TheVariants as of
-use Rattle.cif_extract.specs.Body.{KeepMore, kept_tables}
+use Rattle.cif_extract.specs.Body.{KeepMore, body_tables}
 use Rattle.cif_extract.specs.BodyParts.{extra_records}
 use Rattle.cif_extract.specs.Call.{call_record}
 use Rattle.cif_extract.specs.declared.call.Call.{Call}
@@ -38,7 +38,7 @@ returns c =
     let end = record_table (of.Terminus c.args.terminus.now) in
     let calls = map call_record c.args.calls.now in
     let d = more_by old c.push.new.self c.write.result detail c.in_ok-push.ensures c.write.ensures.again c.write.ensures.plain in
-    let h : KeepMore old head (kept_tables c.args.detail.now (extra_records (option_copied c.args.extra))) = elim c.match-extra.branch [
+    let h : KeepMore old head (body_tables c.args.detail.now (extra_records (option_copied c.args.extra))) = elim c.match-extra.branch [
       | in-Some+in_ok-push-2 w ↦
           let further = extra_table w.in-Some.extra.now in
           rw (w.lines-is, w.in-Some.is) (more_and_more old c.push.new.self w.push-in-Some.new.self (detail ∷ []) (further ∷ []) d
@@ -50,7 +50,7 @@ returns c =
     let b = subst (λ (cs : List Call). KeepMore first all (map record_table (map call_record cs)))
     (take_all c.loop-call.call-index c.args.calls.now c.loop-call-test.false) c.loop-call.invariant in
     on_ok_weaker c.push-3.result (λ is. subst
-    (λ tables. KeepMore old new (kept_tables c.args.detail.now (extra_records (option_copied c.args.extra)) ++ begin ∷ tables))
+    (λ tables. KeepMore old new (body_tables c.args.detail.now (extra_records (option_copied c.args.extra)) ++ begin ∷ tables))
     (sym (map-append record_table calls (of.Terminus c.args.terminus.now ∷ [])))
     (more_and_more old head new _ (begin ∷ (map record_table calls ++ end ∷ [])) h
     (more_and_more head all new (begin ∷ map record_table calls) (end ∷ [])

@@ -1,7 +1,7 @@
--- The detail that is read of the first line is the one that stands there (`detail_in-stands`).
-use Rattle.std.proofs.Common.{◌∙◌}
-use Rattle.cif_records.proofs.Details.{detail_in-stands}
+-- The detail that is read is what stands in the first line.
+use Rattle.std.proofs.Common.{ap, ◌∙◌}
+use Rattle.cif_records.specs.Detail.{detail_in}
 use Rattle.cif_extract.proofs.body.Body.detail.Goals as goal
 
 pub returns : goal.returns
-returns c = c.read.ensures.exact ∙ detail_in-stands c.detail_line.result c.args.self.now.detail c.detail_line.ensures.stands
+returns c = c.read.ensures.exact ∙ ap detail_in c.detail_line.ensures.first

@@ -1,6 +1,10 @@
--- The declared equality is one of parts, and decides theirs by `same_body`, part by part.
-use Rattle.cif_extract.specs.Laws.SameBody.{same_body}
+-- Lists of lists of numbers are equal where their elements are, and bodies where their parts are (`equal_parts`).
+use Rattle.std.specs.Cmp.Lexicographic.{bytes_decides, pointwise_decides}
+use Rattle.cif_extract.proofs.Bodies.{equal_parts}
 use Rattle.cif_extract.proofs.body.Body.equality_of_bodies.Goals as goal
 
-pub returns : goal.returns
-returns c = same_body
+pub returns-clause-lines : goal.returns-clause-lines
+returns-clause-lines c = pointwise_decides bytes_decides
+
+pub returns-clause-parts : goal.returns-clause-parts
+returns-clause-parts c a b one other = equal_parts a b one.keep other.keep

@@ -1,11 +1,12 @@
--- The lines are those of the detail and the further details and then those of the journey (`whole_body`): they keep those parts.
+-- The lines are those of the detail and the further details and then those of the journey (`whole_body`): they keep those parts, as their
+-- plain lines.
 use Rattle.std.proofs.Common.{◌≡◌, subst}
 use Rattle.std.specs.Option.{option_copied}
 use Rattle.std.specs.Prelude.{IfOk}
-use Rattle.cif_extract.specs.Body.{KeepBody}
-use Rattle.cif_extract.specs.BodyParts.{BodyParts}
-use Rattle.cif_extract.proofs.Bodies.{parts_in-keeps}
+use Rattle.cif_extract.specs.Body.{KeepBody, body_tables}
+use Rattle.cif_extract.specs.BodyParts.{BodyParts, body_records}
 use Rattle.cif_extract.proofs.BodyLines.{whole_body}
+use Rattle.cif_extract.proofs.WrittenLines.{kept_plain}
 use Rattle.cif_extract.proofs.body.Body.of.Goals as goal
 use Rattle.cif_extract.proofs.body.Body.of.Goals.{In_ok-push_parts}
 
@@ -31,5 +32,5 @@ pub returns : goal.returns
 unfolding parts
 returns c =
     let d = (goal.at.returns c).In_ok-push_parts in
-    subst (λ (p : BodyParts). IfOk c.of_lines.result (λ b. b ≡ p))
-    (parts_in-keeps c.push_parts.new.lines (parts d) (kept d)) c.of_lines.ensures
+    subst (λ lines. IfOk c.of_lines.result (λ b. b ≡ lines))
+    (kept_plain c.push_parts.new.lines (body_tables d.args.detail.now (body_records (parts d))) (kept d)) c.of_lines.ensures

@@ -1,18 +1,22 @@
--- The journey's first line spells its LO (`spells_origin`), so `read` gives that (`only`) and refuses nothing.
-use Rattle.std.proofs.Common.{ap, is_ok}
-use Rattle.cif_extract.proofs.Bodies.{spells_origin}
+-- The journey's first line spells its LO (`some_journey`), so `read` gives that (`only`) and refuses nothing.
+use Rattle.std.proofs.Common.{◌≡◌, Ok, [], ap, get_or, is_ok, subst, sym, ◌∙◌}
+use Rattle.cif_extract.specs.Body.{parts_in}
+use Rattle.cif_extract.proofs.Bodies.{some_journey}
 use Rattle.cif_extract.proofs.body.Body.origin.Goals as goal
+use Rattle.cif_extract.proofs.body.Body.origin.Goals.{After-read}
+use Rattle.cif_records.specs.Origin.{SpellsOrigin}
+
+read : (c : After-read) → c.read.result ≡ Ok (parts_in c.args.self.now).origin
+read c =
+    let it = (parts_in c.args.self.now).origin in
+    let line = c.first.ensures ∙ ap (λ lines. get_or lines 0 []) c.journey.ensures.journey in
+    c.read.ensures.only it (subst (λ l. SpellsOrigin l it) (sym line) (some_journey c.args.self.now c.journey.ensures.keep).begun)
 
 pub unwrap-requires : goal.unwrap-requires
-unwrap-requires c =
-    let there = spells_origin c.journey.result c.args.self.now c.first.result
-    c.journey.ensures c.first.ensures in
-    ap is_ok (c.read.ensures.only c.args.self.now.origin there)
+unwrap-requires c = ap is_ok (read c)
 
 pub returns : goal.returns
 returns c =
-    let there = spells_origin c.journey.result c.args.self.now c.first.result
-    c.journey.ensures c.first.ensures in
-    let read = c.read.ensures.only c.args.self.now.origin there in
+    let said = read (goal.at.returns c).After-read in
     let given = c.unwrap.ensures in
     cc

@@ -1,16 +1,22 @@
--- The journey's last line spells its LT (`spells_terminus`), so `read` gives that (`only`) and refuses nothing.
-use Rattle.std.proofs.Common.{ap, is_ok}
-use Rattle.cif_extract.proofs.Bodies.{spells_terminus}
+-- The journey's last line spells its LT (`some_journey`), so `read` gives that (`only`) and refuses nothing.
+use Rattle.std.proofs.Common.{◌≡◌, Ok, [], ap, get_or, is_ok, length, ◌-◌, subst, sym, ◌∙◌}
+use Rattle.cif_extract.specs.Body.{parts_in}
+use Rattle.cif_extract.proofs.Bodies.{some_journey}
 use Rattle.cif_extract.proofs.body.Body.terminus.Goals as goal
+use Rattle.cif_extract.proofs.body.Body.terminus.Goals.{After-read}
+use Rattle.cif_records.specs.Terminus.{SpellsTerminus}
+
+read : (c : After-read) → c.read.result ≡ Ok (parts_in c.args.self.now).terminus
+read c =
+    let it = (parts_in c.args.self.now).terminus in
+    let line = c.last.ensures ∙ ap (λ lines. get_or lines (length lines - 1) []) c.journey.ensures.journey in
+    c.read.ensures.only it (subst (λ l. SpellsTerminus l it) (sym line) (some_journey c.args.self.now c.journey.ensures.keep).ended)
 
 pub unwrap-requires : goal.unwrap-requires
-unwrap-requires c =
-    let there = spells_terminus c.journey.result c.args.self.now c.last.result c.journey.ensures c.last.ensures in
-    ap is_ok (c.read.ensures.only c.args.self.now.terminus there)
+unwrap-requires c = ap is_ok (read c)
 
 pub returns : goal.returns
 returns c =
-    let there = spells_terminus c.journey.result c.args.self.now c.last.result c.journey.ensures c.last.ensures in
-    let read = c.read.ensures.only c.args.self.now.terminus there in
+    let said = read (goal.at.returns c).After-read in
     let given = c.unwrap.ensures in
     cc

@@ -1,29 +1,33 @@
--- One association more (`one_more`), and one schedule (`some_more`). The header and the locations fit by their own facts, and so the whole
--- does (`extract_fits`).
-use Rattle.std.proofs.Common.{◌∙◌, map, subst, take_all}
-use Rattle.std.specs.List.{flat_map}
+-- One association more (`one_more`), and one schedule. The header and the locations fit by their own facts, and so the whole does
+-- (`extract_fits`).
+use Rattle.std.proofs.Common.{◌∙◌, All, subst, take_all}
+use Rattle.cif_columns.specs.Field.{AllFit}
 use Rattle.cif_extract.specs.ExtractParts.{extract_parts}
-use Rattle.cif_extract.specs.Texts.{AllTablesFit, tables_of}
+use Rattle.cif_extract.specs.Texts.{ScheduleFits}
 use Rattle.cif_records.specs.Association.{association_table}
-use Rattle.cif_extract.proofs.BodyFits.{extract_fits, one_more, some_more}
+use Rattle.cif_records.specs.declared.association.Association.{Association}
+use Rattle.cif_extract.proofs.BodyFits.{extract_fits, one_more}
 use Rattle.cif_extract.proofs.extract.Extract.fits.Goals as goal
+
+abbrev AssociationFits : Association → Type 0
+AssociationFits a = AllFit (association_table a)
 
 pub loop-association-preserved : goal.loop-association-preserved
 loop-association-preserved c =
-    one_more association_table c.as_slice-associations.result.now c.loop-association.association-index c.association-item.result
+    one_more AssociationFits c.as_slice-associations.result.now c.loop-association.association-index c.association-item.result
     c.loop-association-test.true c.association-item.is c.loop-association.invariant c.fits.ensures
 
 pub loop-schedule-preserved : goal.loop-schedule-preserved
 loop-schedule-preserved c =
-    some_more tables_of c.as_slice-schedules.result.now c.loop-schedule.schedule-index c.schedule-item.result
+    one_more ScheduleFits c.as_slice-schedules.result.now c.loop-schedule.schedule-index c.schedule-item.result
     c.loop-schedule-test.true c.schedule-item.is c.loop-schedule.invariant c.fits-in-loop-schedule.ensures
 
 pub returns : goal.returns
 returns c =
     extract_fits (extract_parts c.args.self.now)
-    (subst (λ xs. AllTablesFit (map association_table xs))
+    (subst (All AssociationFits)
     (take_all c.loop-association.association-index _ c.loop-association-test.false ∙ c.as_slice-associations.ensures.value)
     c.loop-association.invariant)
-    (subst (λ xs. AllTablesFit (flat_map tables_of xs))
+    (subst (All ScheduleFits)
     (take_all c.loop-schedule.schedule-index _ c.loop-schedule-test.false ∙ c.as_slice-schedules.ensures.value)
     c.loop-schedule.invariant)

@@ -2,19 +2,18 @@
 use Rattle.std.proofs.Common.{ap, sym, ◌∙◌}
 use Rattle.std.specs.Option.{option_map}
 use Rattle.cif_columns.specs.Field.{columns, plain_line}
-use Rattle.cif_extract.specs.BodyParts.{BodyParts}
+use Rattle.cif_extract.specs.Body.{detail_of}
 use Rattle.cif_records.specs.Detail.{detail_rows}
 use Rattle.cif_records.proofs.Details.{detail_columns}
 use Rattle.cif_extract.proofs.extract.Schedule.line_on.Goals as goal
 
 pub returns-in-Some : goal.returns-in-Some
 returns-in-Some c =
-    let own = detail_columns c.in-Some.body.detail c.detail_line.result c.line.ensures.detail.width c.detail_line.ensures.plain in
-    c.line.ensures.plain (option_map (λ (b : BodyParts). b.detail) c.args.self.now.body)
-    (own ∙ ap (λ o. plain_line (detail_rows (option_map (λ (b : BodyParts). b.detail) o))) (sym c.in-Some.is))
+    let own = detail_columns (detail_of c.in-Some.body) c.detail_line.result c.line.ensures.detail.width c.detail_line.ensures.plain in
+    c.line.ensures.plain (option_map detail_of c.args.self.now.body)
+    (own ∙ ap (λ o. plain_line (detail_rows (option_map detail_of o))) (sym c.in-Some.is))
 
 pub returns-in-None : goal.returns-in-None
 returns-in-None c =
-    c.line-in-None.ensures.plain (option_map (λ (b : BodyParts). b.detail) c.args.self.now.body)
-    (ap (columns 30 78) c.blank.ensures
-    ∙ ap (λ o. plain_line (detail_rows (option_map (λ (b : BodyParts). b.detail) o))) (sym c.in-None.is))
+    c.line-in-None.ensures.plain (option_map detail_of c.args.self.now.body)
+    (ap (columns 30 78) c.blank.ensures ∙ ap (λ o. plain_line (detail_rows (option_map detail_of o))) (sym c.in-None.is))

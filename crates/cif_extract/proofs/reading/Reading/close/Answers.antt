@@ -1,6 +1,6 @@
 -- Unless memory ran out, the schedule is put together from the steps, with the parts in the lines.
 use Rattle.std.proofs.Common.{◌∙◌, ◌++◌, ◌∷◌, [], List, None, Some, ap, sym}
-use Rattle.cif_extract.specs.BodyParts.{BodyParts}
+use Rattle.cif_extract.specs.Body.{BodyLines}
 use Rattle.cif_extract.specs.Steps.Reading.{Progress, progress_of, schedule_of}
 use Rattle.cif_extract.specs.declared.extract.Schedule.{Schedule}
 use Rattle.cif_extract.proofs.Schedules.{closed_some}
@@ -13,5 +13,5 @@ returns-in-Ok c =
     let runs = c.requires.runs in
     memory_so None (λ is. ap (λ (schedules : List Schedule). record before { schedules = schedules })
     (is ∙ ap (λ (s : Schedule). before.schedules ++ (s ∷ []))
-    (c.of.ensures runs ∙ ap (λ (b : BodyParts). schedule_of c.args.terms (Some b) runs) c.in-Ok.ensures)
+    (c.of.ensures runs ∙ ap (λ (b : BodyLines). schedule_of c.args.terms (Some b) runs) c.in-Ok.ensures)
     ∙ sym (closed_some before.schedules c.args.terms before.lines runs))) c.push.result c.push.ensures

@@ -3,7 +3,6 @@ use Rattle.std.proofs.Common.{◌≡◌, Some, ap, sym, subst, ◌∙◌}
 use Rattle.cif_extract.specs.Layouts.{own_layouts}
 use Rattle.cif_extract.specs.Steps.Reading.{IsTaken, progress_of}
 use Rattle.cif_extract.specs.Taken.{refusal_at}
-use Rattle.cif_records.specs.Kind.{kind_in}
 use Rattle.cif_records.specs.Record.{refusal_as}
 use Rattle.cif_extract.proofs.TakenLines.{refusal_of_fields, refusal_of_record}
 use Rattle.cif_extract.proofs.reading.Reading.take.Goals as goal

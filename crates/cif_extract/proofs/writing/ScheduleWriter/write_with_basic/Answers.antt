@@ -1,11 +1,9 @@
 -- The text is that of the BS with the lines that were taken, and of the others.
-use Rattle.std.proofs.Common.{Some, ◌++◌, ℕ, List, ap, subst, ◌∙◌, ◌∷◌, map}
+use Rattle.std.proofs.Common.{◌++◌, ℕ, List, ap, drop, subst, ◌∙◌, ◌∷◌}
 use Rattle.cif_columns.specs.Contents.{lines_text}
-use Rattle.cif_columns.specs.Field.{plain_line}
 use Rattle.cif_columns.specs.Sink.{HasFailed, HasWritten, Writes}
 use Rattle.cif_columns.proofs.WrittenTexts.{writes_err}
-use Rattle.cif_extract.specs.BodyParts.{BodyParts}
-use Rattle.cif_extract.specs.Texts.{body_tables}
+use Rattle.cif_extract.specs.Body.{BodyLines}
 use Rattle.cif_extract.proofs.WrittenLines.{first_failed, second_writes}
 use Rattle.cif_extract.proofs.writing.ScheduleWriter.write_with_basic.Goals as goal
 
@@ -14,11 +12,11 @@ returns-in_err-write_all-clause-writes g c =
     let a = c.args in
     let w = c.self.inside in
     let text = c.text.ensures ∙ ap (λ (t : List ℕ × List ℕ). t.0 ++ t.1) c.set_first.ensures in
-    subst (λ (p : BodyParts). Writes g.W.Write.contents g.W.WriteDevice.write_errors
-    (lines_text (a.basic.now ∷ map plain_line (body_tables (Some p)))) a.sink.now c.write_all.new.self c.from_residual.result)
+    subst (λ (p : BodyLines). Writes g.W.Write.contents g.W.WriteDevice.write_errors
+    (lines_text (a.basic.now ∷ drop 1 p)) a.sink.now c.write_all.new.self c.from_residual.result)
     c.self.view_is
     (writes_err _ _ _ _ _ c.from_residual.result c.from_residual.ensures.0
-    (first_failed a.basic.now w.texts.1 (map plain_line (body_tables (Some w.body.now))) w.rest c.self.invariant _ _ _ _
+    (first_failed a.basic.now w.texts.1 (drop 1 w.body.now) w.rest c.self.invariant _ _ _ _
     (subst (λ t. HasFailed g.W.Write.contents g.W.WriteDevice.write_errors t a.sink.now c.write_all.new.self) text
     c.in_err-write_all.ensures)))
 
@@ -27,9 +25,9 @@ returns-clause-writes g c =
     let a = c.args in
     let w = c.self.inside in
     let text = c.text.ensures ∙ ap (λ (t : List ℕ × List ℕ). t.0 ++ t.1) c.set_first.ensures in
-    subst (λ (p : BodyParts). Writes g.W.Write.contents g.W.WriteDevice.write_errors
-    (lines_text (a.basic.now ∷ map plain_line (body_tables (Some p)))) a.sink.now c.write_lines.new.self c.write_lines.result)
+    subst (λ (p : BodyLines). Writes g.W.Write.contents g.W.WriteDevice.write_errors
+    (lines_text (a.basic.now ∷ drop 1 p)) a.sink.now c.write_lines.new.self c.write_lines.result)
     c.self.view_is
-    (second_writes a.basic.now w.texts.1 (map plain_line (body_tables (Some w.body.now))) w.rest c.self.invariant _ _ _ _ _ _
+    (second_writes a.basic.now w.texts.1 (drop 1 w.body.now) w.rest c.self.invariant _ _ _ _ _ _
     (subst (λ t. HasWritten g.W.Write.contents g.W.WriteDevice.write_errors t a.sink.now c.write_all.new.self) text
     c.in_ok-write_all.ensures) c.write_lines.ensures)
