@@ -152,8 +152,7 @@ impl Entry for Schedule {
     ghost use Rattle.cif_calendar.specs.Ranks.{IsNumberOf};
     ghost use Rattle.cif_calendar.specs.Laws.Bodied.{cancelled-from_bodied};
     ghost use Rattle.cif_calendar.specs.Laws.Ranks.{order_of_numbers};
-    ghost use Rattle.cif_extract.specs.Laws.SameBody.{same_body};
-    ghost use Rattle.std.specs.Cmp.Lexicographic.{bytes_decides};
+    ghost use Rattle.std.specs.Cmp.Lexicographic.{bytes_decides, pointwise_decides};
 
     ghost key = { λ s. s.uid };
 
@@ -191,7 +190,7 @@ impl Entry for Schedule {
 
     ghost same_key = { Prim.search (rules, common_steps, bytes_decides) };
 
-    ghost same_body = { same_body };
+    ghost same_body = { pointwise_decides bytes_decides };
 
     ghost same_order = { order_of_numbers };
 

@@ -5,7 +5,7 @@ use Rattle.std.proofs.lemmas.List.Concat.{flat_map_single}
 use Rattle.std.proofs.lemmas.List.FromFn.{get_or-enumerate_from}
 use Rattle.cif_canon.specs.Lines.{line_of_association, lines_of_schedule}
 use Rattle.cif_canon.specs.Steps.Texts.{of_run}
-use Rattle.cif_canon.proofs.Words.{All, All-head, All-tail, AreCanonicalRecords, AreDistinct, AssocBody, AssocKey, BodyParts, ExtractParts}
+use Rattle.cif_canon.proofs.Words.{All, All-head, All-tail, AreCanonicalRecords, AreDistinct, AssocBody, AssocKey, BodyLines, ExtractParts}
 use Rattle.cif_canon.proofs.Words.{Form, HasRecord, Permanent, Run, ScheduleLines, Terms, Tiploc, association_entries, association_plain}
 use Rattle.cif_canon.proofs.Words.{canon_lines, enumerate_from, flat_map, flat_map-append, header_table, header_window, key_cmp}
 use Rattle.cif_canon.proofs.Words.{line_of_tiploc, lines_of, nat_cmp, numbered_text, plain_line, record_at, run_text, schedule_entries}
@@ -21,7 +21,7 @@ lines-of_associations [] h = refl
 lines-of_associations ((k, r) ∷ es) h =
     ap (λ (ls : List (List ℕ)). association_plain (k, r) ∷ ls) (lines-of_associations es (All-tail IsDated (k, r) es h))
 
-lines-of_schedules : (es : List (List ℕ × Permanent BodyParts)) (h : All IsDated es) →
+lines-of_schedules : (es : List (List ℕ × Permanent BodyLines)) (h : All IsDated es) →
     map schedule_plain es ≡ map lines_of_schedule (schedules_of es h)
 lines-of_schedules [] h = refl
 lines-of_schedules ((uid, r) ∷ es) h =
@@ -68,7 +68,7 @@ module _ {K B C : Type 0} (text : C → List ℕ) (part : K × Permanent B → C
       ∙ sym (flat_map-append text (of_run part entries run) (flat_map (of_run part entries) runs))
 
 -- what is listed of the schedules of runs, with their numbers
-module _ (text : ℕ → ScheduleLines → List ℕ) (entries : List (List ℕ × Terms BodyParts)) where
+module _ (text : ℕ → ScheduleLines → List ℕ) (entries : List (List ℕ × Terms BodyLines)) where
   abbrev listed : ℕ × ScheduleLines → List ℕ
   listed s = text s.0 s.1
 

@@ -3,7 +3,7 @@ use Rattle.std.proofs.Common.{◌≡◌, ℕ, suc, List, [], ◌∷◌, ◌++◌
 use Rattle.cif_columns.specs.Contents.{lines_text}
 use Rattle.cif_canon.specs.Steps.Texts.{association_text}
 use Rattle.cif_canon.proofs.Words.{All, All-cons, All-head, All-nil, All-tail, AllZip, AreCanonicalRecords, AreDistinct, AssocBody}
-use Rattle.cif_canon.proofs.Words.{AssocKey, BodyParts, ExtractParts, Form, HasRecord, IsRunOf, Permanent, Row, Run, Terms, Tiploc}
+use Rattle.cif_canon.proofs.Words.{AssocKey, BodyLines, ExtractParts, Form, HasRecord, IsRunOf, Permanent, Row, Run, Terms, Tiploc}
 use Rattle.cif_canon.proofs.Words.{association_entries, association_run_text, association_table, canon_text, extract_text, flat_map}
 use Rattle.cif_canon.proofs.Words.{flat_map-append, header_table, header_window, key_cmp, map-append, nat_cmp, plain_line, record_at}
 use Rattle.cif_canon.proofs.Words.{schedule_entries, schedule_lines, schedule_run_text, schedule_text, slice_cmp, tables_of, text_if}
@@ -52,11 +52,11 @@ associations-text [] h = refl
 associations-text ((k, r) ∷ es) h =
     ap (λ (l : List ℕ). association_text (k, r) ++ l) (associations-text es (All-tail IsDated (k, r) es h))
 
-one-schedule : (e : List ℕ × Permanent BodyParts) (h : IsDated e) → schedule_text e ≡ text_of (tables_of (schedule_of e h))
+one-schedule : (e : List ℕ × Permanent BodyLines) (h : IsDated e) → schedule_text e ≡ text_of (tables_of (schedule_of e h))
 unfolding schedule_lines
 one-schedule (uid, r) h = refl
 
-schedules-text : (es : List (List ℕ × Permanent BodyParts)) (h : All IsDated es) →
+schedules-text : (es : List (List ℕ × Permanent BodyLines)) (h : All IsDated es) →
     flat_map schedule_text es ≡ text_of (flat_map tables_of (schedules_of es h))
 schedules-text [] h = refl
 schedules-text (e ∷ es) h =
@@ -71,7 +71,7 @@ pub number-of_associations : (es : List (AssocKey × Permanent AssocBody)) (h : 
 number-of_associations [] h = refl
 number-of_associations (e ∷ es) h = ap suc (number-of_associations es (All-tail IsDated e es h))
 
-pub number-of_schedules : (es : List (List ℕ × Permanent BodyParts)) (h : All IsDated es) → length es ≡ length (schedules_of es h)
+pub number-of_schedules : (es : List (List ℕ × Permanent BodyLines)) (h : All IsDated es) → length es ≡ length (schedules_of es h)
 number-of_schedules [] h = refl
 number-of_schedules (e ∷ es) h = ap suc (number-of_schedules es (All-tail IsDated e es h))
 

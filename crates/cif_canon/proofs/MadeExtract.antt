@@ -1,7 +1,7 @@
 -- The extract of canonical records.
 use Rattle.std.proofs.Common.{◌≡◌, ℕ, ◌≤◌, List, [], ◌∷◌, Some, refl, ap}
 use Rattle.cif_weeks.specs.Permanent.{terms_of}
-use Rattle.cif_canon.proofs.Words.{All, All-head, All-tail, AssocBody, AssocKey, Association, BodyParts, P, Permanent, Schedule}
+use Rattle.cif_canon.proofs.Words.{All, All-head, All-tail, AssocBody, AssocKey, Association, BodyLines, P, Permanent, Schedule}
 use Rattle.cif_canon.proofs.Words.{association_entries, permanent_entries, schedule_entries}
 
 -- a record that doesn't end before it begins
@@ -31,7 +31,7 @@ entries-of_associations [] h = refl
 entries-of_associations (e ∷ es) h = ap (λ rest. (e.0, terms_of e.1) ∷ rest) (entries-of_associations es (All-tail IsDated e es h))
 
 -- a permanent schedule
-abbrev pub schedule_of : (e : List ℕ × Permanent BodyParts) → IsDated e → Schedule
+abbrev pub schedule_of : (e : List ℕ × Permanent BodyLines) → IsDated e → Schedule
 schedule_of (uid, r) h = record {
   uid = uid;
   first = r.first;
@@ -43,11 +43,11 @@ schedule_of (uid, r) h = record {
   bodied = refl;
 }
 
-abbrev pub schedules_of : (es : List (List ℕ × Permanent BodyParts)) → All IsDated es → List Schedule
+abbrev pub schedules_of : (es : List (List ℕ × Permanent BodyLines)) → All IsDated es → List Schedule
 schedules_of [] h = []
 schedules_of (e ∷ es) h = schedule_of e (All-head IsDated e es h) ∷ schedules_of es (All-tail IsDated e es h)
 
-pub entries-of_schedules : (es : List (List ℕ × Permanent BodyParts)) (h : All IsDated es)
+pub entries-of_schedules : (es : List (List ℕ × Permanent BodyLines)) (h : All IsDated es)
     → schedule_entries (schedules_of es h) ≡ permanent_entries es
 entries-of_schedules [] h = refl
 entries-of_schedules (e ∷ es) h = ap (λ rest. (e.0, terms_of e.1) ∷ rest) (entries-of_schedules es (All-tail IsDated e es h))

@@ -11,7 +11,7 @@ use Rattle.cif_records.proofs.Headers as headers
 use Rattle.cif_weeks.specs.Aligned.{IsAligned}
 use Rattle.cif_weeks.specs.declared.form.Form.TheVariants.{One}
 use Rattle.cif_canon.proofs.Words.{All, All-head, All-tail, AllZip, AreCanonical, AreCanonicalRecords, AreDistinct, AssocBody, AssocKey}
-use Rattle.cif_canon.proofs.Words.{Association, BodyParts, Contains, Contains-get_or, ExtractParts, FitsColumns, Form, IsRunOf, IsWithin}
+use Rattle.cif_canon.proofs.Words.{Association, BodyLines, Contains, Contains-get_or, ExtractParts, FitsColumns, Form, IsRunOf, IsWithin}
 use Rattle.cif_canon.proofs.Words.{Ordering, P, Permanent, Row, Run, Schedule, Terms, Tiploc, Two, Window, association_entries}
 use Rattle.cif_canon.proofs.Words.{association_entry, association_table, basic_rows, flat_map, header_window, key_cmp, nat_cmp}
 use Rattle.cif_canon.proofs.Words.{schedule_entries, schedule_entry, slice_cmp, slice_get, tables_of, tiploc_table, trailer_table}
@@ -110,7 +110,7 @@ associations-fit xs (run ∷ runs) ((k, r) ∷ es) dated terms zip fits =
       associations-fit xs runs es (All-tail IsDated (k, r) es dated) (All-tail HasTerms (k, r) es terms) zip.1 fits,
     )
 
-schedules-fit : (xs : List Schedule) (runs : List Run) (es : List (List ℕ × Permanent BodyParts)) (dated : All IsDated es) →
+schedules-fit : (xs : List Schedule) (runs : List Run) (es : List (List ℕ × Permanent BodyLines)) (dated : All IsDated es) →
     All HasTerms es → AllZip (IsRunOf (schedule_entries xs)) runs es → AllTablesFit (flat_map tables_of xs) →
     AllTablesFit (flat_map tables_of (schedules_of es dated))
 schedules-fit xs runs [] dated terms zip fits = tt
@@ -118,8 +118,8 @@ schedules-fit xs [] (e ∷ es) dated terms zip fits = absurd zip
 schedules-fit xs (run ∷ runs) ((uid, r) ∷ es) dated terms zip fits =
     let f = found-at schedule_entry tables_of xs run.source (uid, zip.0.terms) fits zip.0.at in
     let s = f.it in
-    let train : s.uid ≡ uid = ap (λ (e : List ℕ × Terms BodyParts). e.0) f.is in
-    let body : s.body ≡ Some r.body = ap (λ (e : List ℕ × Terms BodyParts). e.1.body) f.is ∙ zip.0.body in
+    let train : s.uid ≡ uid = ap (λ (e : List ℕ × Terms BodyLines). e.0) f.is in
+    let body : s.body ≡ Some r.body = ap (λ (e : List ℕ × Terms BodyLines). e.1.body) f.is ∙ zip.0.body in
     let own = subst (λ u. AllTablesFit (schedule_tables u s.first s.last s.days s.letter (Some r.body))) train
     (subst (λ o. AllTablesFit (schedule_tables s.uid s.first s.last s.days s.letter o)) body f.fits) in
     fit-append (schedule_tables uid r.first r.last r.days P (Some r.body))

@@ -1,7 +1,7 @@
 -- Lines behind a mark.
 use Rattle.std.proofs.Common.{◌≡◌, ℕ, List, [], ◌∷◌, ◌++◌, sym, ◌∙◌, append_assoc, append-nil, refl, ap}
 use Rattle.cif_canon.specs.Differences.{mark, marked_schedule}
-use Rattle.cif_canon.proofs.Words.{BodyParts, Permanent, Side, flat_map, marked_text, schedule_lines, schedule_plain}
+use Rattle.cif_canon.proofs.Words.{BodyLines, Permanent, Side, flat_map, marked_text, schedule_lines, schedule_plain}
 
 -- the text of one line
 pub marked-line : (side : Side) (line : List ℕ) → mark side ++ (line ++ (10 ∷ [])) ≡ marked_text side (line ∷ [])
@@ -24,7 +24,7 @@ marked-first side line lines =
     ap (λ (l : List ℕ). l ++ marked_text side lines) (append-nil ((mark side ++ line) ++ (10 ∷ [])))
 
 -- the text of a schedule is that of its first line and of the others
-pub marked-all : (side : Side) (e : List ℕ × Permanent BodyParts) (basic : List ℕ) (further : List (List ℕ)) →
+pub marked-all : (side : Side) (e : List ℕ × Permanent BodyLines) (basic : List ℕ) (further : List (List ℕ)) →
     basic ≡ (schedule_plain e).basic → further ≡ (schedule_plain e).further →
     marked_text side (basic ∷ []) ++ marked_text side further ≡ marked_schedule (record { side = side; it = e })
 unfolding schedule_lines

@@ -3,7 +3,7 @@ use Rattle.std.proofs.Common.{◌≡◌, ℕ, ◌<◌, ◌≤◌, List, Option, 
 use Rattle.std.specs.Option.{option_and_then, option_map}
 use Rattle.cif_calendar.proofs.Winning.{terms_at}
 use Rattle.cif_canon.specs.Steps.Texts.{HasRecord, body_at, record_at, run_text, text_if}
-use Rattle.cif_canon.proofs.Words.{All, BodyParts, IsRunOf, Permanent, Run, Schedule, Terms, length-map, option_and_then_some, record_of}
+use Rattle.cif_canon.proofs.Words.{All, BodyLines, IsRunOf, Permanent, Run, Schedule, Terms, length-map, option_and_then_some, record_of}
 use Rattle.cif_canon.proofs.Words.{same_Some, schedule_entries, schedule_entry, slice_get, slice_get_read, slice_get_within}
 
 -- the record of a run whose source is an entry with a body
@@ -72,7 +72,7 @@ body-of schedules n s within is =
     ap (option_and_then (λ (s : Schedule). s.body)) (slice_get_read schedules (length schedules) n s refl within is)
 
 -- the text of a run, by the schedule at its source and its body
-pub schedule-text : (text : List ℕ × Permanent BodyParts → List ℕ) (schedules : List Schedule) (run : Run) (s : Schedule) (b : BodyParts) →
+pub schedule-text : (text : List ℕ × Permanent BodyLines → List ℕ) (schedules : List Schedule) (run : Run) (s : Schedule) (b : BodyLines) →
     HasRecord (schedule_entries schedules) run → s ≡ get_or schedules run.source s → body_at schedules run.source ≡ Some b →
     run_text text (schedule_entries schedules) run ≡ text (s.uid, record_of run b)
 schedule-text text schedules run s b h is body =

@@ -5,7 +5,7 @@ use Rattle.cif_extract.proofs.OneExtract.{same_values}
 use Rattle.cif_extract.proofs.Schedules.{same_schedule}
 use Rattle.cif_records.proofs.Associations.{same_association}
 use Rattle.cif_records.proofs.Headers.{same_header}
-use Rattle.cif_canon.proofs.Words.{Agree, AssocBody, AssocKey, Association, BodyParts, ExtractParts, Header, SameMeaning, Schedule, Terms}
+use Rattle.cif_canon.proofs.Words.{Agree, AssocBody, AssocKey, Association, BodyLines, ExtractParts, Header, SameMeaning, Schedule, Terms}
 use Rattle.cif_canon.proofs.Words.{Window, association_entries, association_entry, header_window, schedule_entries, schedule_entry}
 
 -- ---- equal parts
@@ -19,10 +19,10 @@ one-association a b e =
 
 one-schedule : (s t : Schedule) → schedule_entry s ≡ schedule_entry t → s ≡ t
 one-schedule s t e =
-    let terms = ap (λ (p : List ℕ × Terms BodyParts). p.1) e in
-    same_schedule s t (ap (λ (p : List ℕ × Terms BodyParts). p.0) e) (ap (λ (u : Terms BodyParts). u.first) terms)
-    (ap (λ (u : Terms BodyParts). u.last) terms) (ap (λ (u : Terms BodyParts). u.days) terms)
-    (ap (λ (u : Terms BodyParts). u.letter) terms) (ap (λ (u : Terms BodyParts). u.body) terms)
+    let terms = ap (λ (p : List ℕ × Terms BodyLines). p.1) e in
+    same_schedule s t (ap (λ (p : List ℕ × Terms BodyLines). p.0) e) (ap (λ (u : Terms BodyLines). u.first) terms)
+    (ap (λ (u : Terms BodyLines). u.last) terms) (ap (λ (u : Terms BodyLines). u.days) terms)
+    (ap (λ (u : Terms BodyLines). u.letter) terms) (ap (λ (u : Terms BodyLines). u.body) terms)
 
 pub same-associations : (xs ys : List Association) → association_entries xs ≡ association_entries ys → xs ≡ ys
 same-associations xs ys e = same_values association_entry one-association xs ys e

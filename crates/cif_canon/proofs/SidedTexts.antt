@@ -1,7 +1,7 @@
 -- The records of runs with their sides, and their text.
 use Rattle.std.proofs.Common.{◌≡◌, ℕ, ◌<◌, ◌≤◌, Bool, get_or, length, map, List, [], ◌∷◌, ◌++◌, Option, None, Some, refl, sym, ap, ◌∙◌}
 use Rattle.std.proofs.Common.{subst}
-use Rattle.cif_canon.proofs.Words.{All, All-cons, All-head, All-nil, All-tail, AllZip, AreNone, AssocBody, AssocKey, BodyParts, HasRecord}
+use Rattle.cif_canon.proofs.Words.{All, All-cons, All-head, All-nil, All-tail, AllZip, AreNone, AssocBody, AssocKey, BodyLines, HasRecord}
 use Rattle.cif_canon.proofs.Words.{HasSidedRecord, IsSidedRunOf, IsTrue, Permanent, Run, Side, Sided, Terms, Tiploc, at_side, flat_map}
 use Rattle.cif_canon.proofs.Words.{nil_from_length, record_at, sided_records, sided_run_text, text_if, with_record, ◌↔◌}
 use Rattle.cif_canon.proofs.MergedSides.{at_side-made}
@@ -70,7 +70,7 @@ module _ {X K B : Type 0} (entry : X → K × Terms B) (xs ys : List X) where
 
 -- no location and no run are no difference
 pub none-listed : (tiplocs : List (Sided Tiploc)) (xa ya : List (AssocKey × Terms AssocBody)) (ra : List (Sided Run)) →
-    All (HasSidedRecord xa ya) ra → (xs ys : List (List ℕ × Terms BodyParts)) (rs : List (Sided Run)) → All (HasSidedRecord xs ys) rs →
+    All (HasSidedRecord xa ya) ra → (xs ys : List (List ℕ × Terms BodyLines)) (rs : List (Sided Run)) → All (HasSidedRecord xs ys) rs →
     (answer : Bool) → IsTrue answer ↔ ((length tiplocs ≡ 0) × (length ra ≡ 0) × (length rs ≡ 0)) →
     IsTrue answer ↔ AreNone (record {
       tiplocs = tiplocs;

@@ -2,7 +2,7 @@
 use Rattle.std.proofs.Common.{◌≡◌, ℕ, List, ◌++◌, map, Result, Ok, Err, ap, ◌∙◌, length, ◌<◌}
 use Rattle.cif_canon.specs.Normalised.{IfWritten}
 use Rattle.cif_canon.specs.Views.{IsDayListed, IsTrainListed}
-use Rattle.cif_canon.proofs.Words.{All, AreCanonicalRecords, AssocBody, AssocKey, BodyParts, DayTexts, ExtractParts, Fault, Form, HasRecord}
+use Rattle.cif_canon.proofs.Words.{All, AreCanonicalRecords, AssocBody, AssocKey, BodyLines, DayTexts, ExtractParts, Fault, Form, HasRecord}
 use Rattle.cif_canon.proofs.Words.{IsWithin, Ordering, Permanent, Run, Terms, TrainTexts, Window, Write, applies_on, association_entries}
 use Rattle.cif_canon.proofs.Words.{canonical-dated, flat_map, header_window, key_cmp, listed_of, listed_on, nat_cmp, nat_eq}
 use Rattle.cif_canon.proofs.Words.{nat_list_cmp_total, pointwise, run_text, schedule_entries, slice_cmp}
@@ -35,7 +35,7 @@ have-lines cmp form window entry xs ys runs own same is a =
 abbrev pub associations-text : (AssocKey × AssocBody → List ℕ) → ExtractParts → ℕ → List Run → List ℕ
 associations-text text x d = flat_map (run_text (listed_on text d) (association_entries x.associations))
 
-abbrev pub trains-text : (List ℕ × BodyParts → List ℕ) → ExtractParts → ℕ → List Run → List ℕ
+abbrev pub trains-text : (List ℕ × BodyLines → List ℕ) → ExtractParts → ℕ → List Run → List ℕ
 trains-text text x d = flat_map (run_text (listed_on text d) (schedule_entries x.schedules))
 
 module _ (listed : DayTexts) (x : ExtractParts) (d : ℕ) (within : IsWithin (header_window x.header) d) (form : Form)
@@ -75,5 +75,5 @@ module _ (listed : TrainTexts) (x : ExtractParts) (uid : List ℕ) (form : Form)
     are = own-are (slice_cmp nat_cmp) nat_list_cmp_total s.records s.canonical.rising uid;
     text_is = ap (λ (l : List ℕ). listed.heading ++ l)
         (texts-of_runs (schedule_entries x.schedules) (listed_of listed.schedule uid) schedules s.records s.runs_of
-        ∙ chosen-text (λ e. pointwise nat_eq e.0 uid) (λ (e : List ℕ × Permanent BodyParts). e.1) listed.schedule s.records);
+        ∙ chosen-text (λ e. pointwise nat_eq e.0 uid) (λ (e : List ℕ × Permanent BodyLines). e.1) listed.schedule s.records);
   }

@@ -46,7 +46,7 @@ pub use Rattle.cif_records.specs.declared.association.AssocKey.{AssocKey}
 pub use Rattle.cif_records.specs.declared.association.Association.{Association}
 pub use Rattle.cif_records.specs.declared.header.Header.{Header}
 pub use Rattle.cif_records.specs.declared.tiploc.Tiploc.{Tiploc}
-pub use Rattle.cif_extract.specs.BodyParts.{BodyParts}
+pub use Rattle.cif_extract.specs.Body.{BodyLines}
 pub use Rattle.cif_extract.specs.ExtractParts.{ExtractParts, extract_parts}
 pub use Rattle.cif_extract.specs.SpellsExtract.{BytesSpell, BytesSpellWithin}
 pub use Rattle.cif_extract.specs.Texts.{FitsColumns, extract_text, tables_of}

@@ -13,7 +13,7 @@ use Rattle.cif_calendar.specs.Terms.{Terms}
 use Rattle.cif_columns.specs.Contents.{lines_text}
 use Rattle.cif_columns.specs.Field.{plain_line}
 use Rattle.cif_columns.specs.declared.stp.Stp.TheVariants.{P}
-use Rattle.cif_extract.specs.BodyParts.{BodyParts}
+use Rattle.cif_extract.specs.Body.{BodyLines}
 use Rattle.cif_extract.specs.ExtractParts.{ExtractParts}
 use Rattle.cif_extract.specs.Texts.{schedule_lines}
 use Rattle.cif_records.specs.AssocKey.{key_cmp}
@@ -89,7 +89,7 @@ pub record AreDifferentTiplocs (xs ys : List Tiploc) (found : List (Sided Tiploc
 pub record DifferencesParts : Type 0 where
   pub tiplocs : List (Sided Tiploc)
   pub associations : List (Sided (AssocKey × Permanent AssocBody))
-  pub schedules : List (Sided (List ℕ × Permanent BodyParts))
+  pub schedules : List (Sided (List ℕ × Permanent BodyLines))
 
 -- there is none
 pub record AreNone (d : DifferencesParts) : Type 0 where
@@ -161,7 +161,7 @@ marked_association s =
     marked_text s.side
     (plain_line (association_rows s.it.0 s.it.1.first s.it.1.last s.it.1.days P (Some s.it.1.body)) ∷ [])
 
-abbrev pub marked_schedule : Sided (List ℕ × Permanent BodyParts) → List ℕ
+abbrev pub marked_schedule : Sided (List ℕ × Permanent BodyLines) → List ℕ
 marked_schedule s = marked_text s.side (schedule_lines s.it.0 s.it.1.first s.it.1.last s.it.1.days P (Some s.it.1.body))
 
 -- the text of the differences: locations, then associations, then schedules

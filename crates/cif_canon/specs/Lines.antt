@@ -2,18 +2,16 @@
 use Rattle.std.specs.Prelude.{ℕ, List, Some, map}
 use Rattle.cif_columns.specs.Field.{plain_line}
 use Rattle.cif_columns.specs.declared.stp.Stp.TheVariants.{P}
-use Rattle.cif_extract.specs.BodyParts.{BodyParts}
+use Rattle.cif_extract.specs.Body.{BodyLines, detail_of}
 use Rattle.cif_extract.specs.ExtractParts.{ExtractParts}
-use Rattle.cif_extract.specs.Texts.{body_tables, rows_on}
+use Rattle.cif_extract.specs.Texts.{further_lines, rows_on}
+pub use Rattle.cif_extract.specs.Texts.{line_of_association, line_of_tiploc}
 use Rattle.cif_extract.specs.declared.extract.Schedule.{Schedule}
-use Rattle.cif_records.specs.Association.{association_rows, association_table}
+use Rattle.cif_records.specs.Association.{association_rows}
 use Rattle.cif_records.specs.Basic.{basic_rows}
 use Rattle.cif_records.specs.Header.{header_table}
-use Rattle.cif_records.specs.Tiploc.{tiploc_table}
 use Rattle.cif_records.specs.declared.association.AssocBody.{AssocBody}
 use Rattle.cif_records.specs.declared.association.AssocKey.{AssocKey}
-use Rattle.cif_records.specs.declared.association.Association.{Association}
-use Rattle.cif_records.specs.declared.tiploc.Tiploc.{Tiploc}
 use Rattle.cif_weeks.specs.Permanent.{Permanent}
 
 -- the lines of a schedule: its BS, and those that follow it, which are its BX if there is one and its journey
@@ -28,27 +26,21 @@ pub record ExtractLines : Type 0 where
   pub associations : List (List ℕ)
   pub schedules : List ScheduleLines
 
--- the plain line of a location, of an association, and those of a schedule
-abbrev pub line_of_tiploc : Tiploc → List ℕ
-line_of_tiploc t = plain_line (tiploc_table t)
-
-abbrev pub line_of_association : Association → List ℕ
-line_of_association a = plain_line (association_table a)
-
+-- the plain lines of a schedule
 abbrev pub lines_of_schedule : Schedule → ScheduleLines
 lines_of_schedule s = record {
   basic = plain_line (rows_on s.first s.last s);
-  further = map plain_line (body_tables s.body);
+  further = further_lines s.body;
 }
 
 -- the plain line of a permanent association, and the lines of a permanent schedule
 abbrev pub association_plain : AssocKey × Permanent AssocBody → List ℕ
 association_plain e = plain_line (association_rows e.0 e.1.first e.1.last e.1.days P (Some e.1.body))
 
-abbrev pub schedule_plain : List ℕ × Permanent BodyParts → ScheduleLines
+abbrev pub schedule_plain : List ℕ × Permanent BodyLines → ScheduleLines
 schedule_plain e = record {
-  basic = plain_line (basic_rows e.0 e.1.first e.1.last e.1.days P (Some e.1.body.detail));
-  further = map plain_line (body_tables (Some e.1.body));
+  basic = plain_line (basic_rows e.0 e.1.first e.1.last e.1.days P (Some (detail_of e.1.body)));
+  further = further_lines (Some e.1.body);
 }
 
 -- the plain lines of an extract

@@ -3,7 +3,7 @@ use Rattle.std.specs.Prelude.{ℕ, List, ◌∷◌, [], ◌++◌, codes}
 use Rattle.cif_columns.specs.DayDigits.{yymmdd_of}
 use Rattle.cif_columns.specs.DaysRun.{days_columns}
 use Rattle.cif_columns.specs.Text.{left_justified}
-use Rattle.cif_extract.specs.BodyParts.{BodyParts}
+use Rattle.cif_extract.specs.Body.{BodyLines, parts_in}
 use Rattle.cif_records.specs.declared.association.AssocBody.{AssocBody}
 use Rattle.cif_records.specs.declared.association.AssocKey.{AssocKey}
 use Rattle.cif_weeks.specs.Permanent.{Permanent}
@@ -23,8 +23,9 @@ place_fields format location suffix time platform =
     location_fields format location suffix ++ ((Trimmed, time) ∷ (Trimmed, left_justified 3 platform) ∷ [])
 
 -- the journey of a body: its train identity, its origin with the departure, its terminus with the arrival
-abbrev pub journey_fields : Format → BodyParts → List Field
-journey_fields format b =
+abbrev pub journey_fields : Format → BodyLines → List Field
+journey_fields format body =
+    let b = parts_in body in
     (Trimmed, left_justified 4 b.detail.identity)
     ∷ (place_fields format b.origin.location b.origin.suffix b.origin.departure b.origin.platform
     ++ place_fields format b.terminus.location b.terminus.suffix b.terminus.arrival b.terminus.platform)
@@ -44,7 +45,7 @@ association_fields e =
     ∷ []
 
 -- the fields of a train that runs
-abbrev pub train_fields : Format → List ℕ × BodyParts → List Field
+abbrev pub train_fields : Format → List ℕ × BodyLines → List Field
 train_fields format e = (Whole, e.0) ∷ journey_fields format e.1
 
 -- A table has the fields of each of its rows: ten of a train and nine of an association. Those that aren't the row's own are empty.
@@ -59,10 +60,10 @@ abbrev pub association_row : Format → AssocKey × AssocBody → List Field
 association_row format e = (Trimmed, codes "AA") ∷ (no_train format ++ association_fields e)
 
 -- the row of a train that runs
-abbrev pub train_row : Format → List ℕ × BodyParts → List Field
+abbrev pub train_row : Format → List ℕ × BodyLines → List Field
 train_row format e = (Trimmed, codes "BS") ∷ (train_fields format e ++ no_association format)
 
 -- the row of a canonical schedule: from its first to its last date it runs on these days of the week
-abbrev pub schedule_row : Format → Permanent BodyParts → List Field
+abbrev pub schedule_row : Format → Permanent BodyLines → List Field
 schedule_row format r =
     (Date, yymmdd_of r.first) ∷ (Date, yymmdd_of r.last) ∷ (Trimmed, days_columns r.days) ∷ journey_fields format r.body

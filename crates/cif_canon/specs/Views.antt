@@ -10,7 +10,7 @@ use Rattle.cif_calendar.specs.Keys.{of_key}
 use Rattle.cif_calendar.specs.Meaning.{EntriesSayTheSame}
 use Rattle.cif_calendar.specs.Runs.{BodyRuns}
 use Rattle.cif_calendar.specs.Terms.{Terms}
-use Rattle.cif_extract.specs.BodyParts.{BodyParts}
+use Rattle.cif_extract.specs.Body.{BodyLines}
 use Rattle.cif_extract.specs.ExtractParts.{ExtractParts}
 use Rattle.cif_extract.specs.declared.fault.Fault.{Fault}
 use Rattle.cif_extract.specs.declared.fault.Fault.TheVariants.{OutsideWindow, Write}
@@ -38,7 +38,7 @@ pub record AreRunning {K B : Type 0} (cmp : K → K → Ordering) (entries : Lis
 pub record DayTexts : Type 0 where
   pub heading : List ℕ
   pub association : AssocKey × AssocBody → List ℕ
-  pub train : List ℕ × BodyParts → List ℕ
+  pub train : List ℕ × BodyLines → List ℕ
 
 -- The day is in the window of the extract, which is clear, and the text has the heading, what is listed of each association that holds, and
 -- then of each train that runs.
@@ -47,7 +47,7 @@ pub record IsDayListed (listed : DayTexts) (x : ExtractParts) (d : ℕ) (text : 
   pub clear : IsClearExtract x
   pub associations : List (AssocKey × AssocBody)
   pub hold : AreRunning key_cmp (association_entries x.associations) d associations
-  pub trains : List (List ℕ × BodyParts)
+  pub trains : List (List ℕ × BodyLines)
   pub run : AreRunning (slice_cmp nat_cmp) (schedule_entries x.schedules) d trains
   pub text_is : text ≡ listed.heading ++ (flat_map listed.association associations ++ flat_map listed.train trains)
 
@@ -55,7 +55,7 @@ pub record IsDayListed (listed : DayTexts) (x : ExtractParts) (d : ℕ) (text : 
 abbrev pub association_line : AssocKey × AssocBody → List ℕ
 association_line e = line_of Text (association_row Text e)
 
-abbrev pub train_line : List ℕ × BodyParts → List ℕ
+abbrev pub train_line : List ℕ × BodyLines → List ℕ
 train_line e = line_of Text (train_row Text e)
 
 abbrev pub day_lines : DayTexts
@@ -67,22 +67,22 @@ IsDayView = IsDayListed day_lines
 -- what is listed of a train: the heading, and the text of each of its canonical schedules
 pub record TrainTexts : Type 0 where
   pub heading : List ℕ
-  pub schedule : Permanent BodyParts → List ℕ
+  pub schedule : Permanent BodyLines → List ℕ
 
 -- The extract is clear, and the text has the heading, and what is listed of each of the train's records among the canonical records of the
 -- form, in order.
 pub record IsTrainListed (listed : TrainTexts) (form : Form) (x : ExtractParts) (uid text : List ℕ) : Type 0 where
   pub clear : IsClearExtract x
-  pub records : List (List ℕ × Permanent BodyParts)
+  pub records : List (List ℕ × Permanent BodyLines)
   pub canonical : AreCanonical (slice_cmp nat_cmp) form (header_window x.header) records
   pub same_meaning : EntriesSayTheSame (schedule_entries x.schedules) (permanent_entries records) x.header.first x.header.last
-  pub own : List (Permanent BodyParts)
+  pub own : List (Permanent BodyLines)
   pub rising : AllPairs (λ r s. r.first < s.first) own
-  pub are : (r : Permanent BodyParts) → Contains own r ↔ Contains records (uid, r)
+  pub are : (r : Permanent BodyLines) → Contains own r ↔ Contains records (uid, r)
   pub text_is : text ≡ listed.heading ++ flat_map listed.schedule own
 
 -- the view of a train: a line for each of its canonical schedules
-abbrev pub schedule_line : Permanent BodyParts → List ℕ
+abbrev pub schedule_line : Permanent BodyLines → List ℕ
 schedule_line r = line_of Text (schedule_row Text r)
 
 abbrev pub train_lines : TrainTexts

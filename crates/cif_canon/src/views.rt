@@ -26,7 +26,7 @@ use std::alloc::Global;
 /// What is listed of a day: a text for each association that holds, and for each train that runs.
 pub trait DayLines {
     ghost use Rattle.std.specs.Prelude.{ℕ, List};
-    ghost use Rattle.cif_extract.specs.BodyParts.{BodyParts};
+    ghost use Rattle.cif_extract.specs.Body.{BodyLines};
     ghost use Rattle.cif_records.specs.declared.association.AssocBody.{AssocBody};
     ghost use Rattle.cif_records.specs.declared.association.AssocKey.{AssocKey};
 
@@ -34,7 +34,7 @@ pub trait DayLines {
     ghost association: { Self → AssocKey × AssocBody → List ℕ };
 
     // The text of a train that runs.
-    ghost train: { Self → List ℕ × BodyParts → List ℕ };
+    ghost train: { Self → List ℕ × BodyLines → List ℕ };
 
     /// Appends the text of an association that holds.
     fn write_association<W: WriteDevice>(
@@ -55,11 +55,11 @@ pub trait DayLines {
 /// What is listed of a train: a text for each of its canonical schedules.
 pub trait TrainLines {
     ghost use Rattle.std.specs.Prelude.{ℕ, List};
-    ghost use Rattle.cif_extract.specs.BodyParts.{BodyParts};
+    ghost use Rattle.cif_extract.specs.Body.{BodyLines};
     ghost use Rattle.cif_weeks.specs.Permanent.{Permanent};
 
     // The text of a canonical schedule.
-    ghost schedule: { Self → Permanent BodyParts → List ℕ };
+    ghost schedule: { Self → Permanent BodyLines → List ℕ };
 
     /// Appends the text of the schedule with the dates and the mask of the run, and with this body.
     fn write_schedule<W: WriteDevice>(&self, run: &Run, body: &Body, sink: &mut Sink<W>)

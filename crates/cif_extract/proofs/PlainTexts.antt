@@ -16,7 +16,7 @@ use Rattle.cif_extract.specs.ExtractParts.{ExtractParts}
 use Rattle.cif_extract.specs.Grammar.{AreExtract, AreSchedule, AreSchedules, HaveBody}
 use Rattle.cif_extract.specs.Layouts.{Layouts, own_layouts}
 use Rattle.cif_extract.specs.SpellsExtract.{BytesSpell, SpellAll, SpellAllBy, SpellExtract, SpellExtractBy}
-use Rattle.cif_extract.specs.Texts.{FitsColumns, ScheduleFits, extract_lines, extract_text, further_lines, lines_of_schedule}
+use Rattle.cif_extract.specs.Texts.{FitsColumns, ScheduleFits, extract_lines, extract_text, further_lines, plain_lines_of}
 use Rattle.cif_extract.specs.declared.extract.Schedule.{Schedule}
 use Rattle.cif_records.specs.Basic.{basic_back, basic_rows}
 use Rattle.cif_records.specs.Detail.{detail_rows, detail_table}
@@ -210,7 +210,7 @@ lines-map : {X : Type 0} (f : X → Record) (xs : List X) → lines_of (map f xs
 lines-map f [] = refl
 lines-map f (x ∷ xs) = ap (λ ls. plain_line (record_table (f x)) ∷ ls) (lines-map f xs)
 
-schedules-lines : (ss : List Schedule) → All ScheduleFits ss → lines_of (flat_map records_of ss) ≡ flat_map lines_of_schedule ss
+schedules-lines : (ss : List Schedule) → All ScheduleFits ss → lines_of (flat_map records_of ss) ≡ flat_map plain_lines_of ss
 schedules-lines [] fits = refl
 schedules-lines (s ∷ ss) fits =
     lines-append (records_of s) (flat_map records_of ss)

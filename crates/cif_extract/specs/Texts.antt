@@ -30,8 +30,8 @@ unfoldable pub schedule_lines : List ℕ → ℕ → ℕ → List Bool → Stp �
 schedule_lines uid first last days letter body = plain_line (basic_rows uid first last days letter (option_map detail_of body)) ∷ further_lines body
 
 -- the plain lines of a schedule, of a location and of an association
-abbrev pub lines_of_schedule : Schedule → List (List ℕ)
-lines_of_schedule s = plain_line (rows_on s.first s.last s) ∷ further_lines s.body
+abbrev pub plain_lines_of : Schedule → List (List ℕ)
+plain_lines_of s = plain_line (rows_on s.first s.last s) ∷ further_lines s.body
 
 abbrev pub line_of_tiploc : Tiploc → List ℕ
 line_of_tiploc t = plain_line (tiploc_table t)
@@ -43,7 +43,7 @@ line_of_association a = plain_line (association_table a)
 abbrev pub extract_lines : ExtractParts → List (List ℕ)
 extract_lines x =
     plain_line (header_table x.header) ∷ (map line_of_tiploc x.tiplocs
-    ++ (map line_of_association x.associations ++ (flat_map lines_of_schedule x.schedules ++ (plain_line trailer_table ∷ []))))
+    ++ (map line_of_association x.associations ++ (flat_map plain_lines_of x.schedules ++ (plain_line trailer_table ∷ []))))
 
 -- its text: its plain lines, each with a line feed, and nothing else
 abbrev pub extract_text : ExtractParts → List ℕ

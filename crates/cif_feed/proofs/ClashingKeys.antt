@@ -24,7 +24,7 @@ use Rattle.cif_calendar.proofs.RisingLists.{Contains-none}
 use Rattle.cif_extract.specs.ExtractParts.{ExtractParts}
 use Rattle.cif_extract.specs.declared.fault.Clash.TheVariants as clash
 use Rattle.cif_records.proofs.Headers.{last_is_day}
-use Rattle.cif_extract.specs.BodyParts.{BodyParts}
+use Rattle.cif_extract.specs.Body.{BodyLines}
 use Rattle.cif_records.specs.declared.association.AssocBody.{AssocBody}
 use Rattle.cif_records.specs.declared.association.AssocKey.{AssocKey}
 use Rattle.cif_records.specs.declared.header.Header.{Header}
@@ -75,7 +75,7 @@ pub all-found : (x : PublishedExtract) (xs ys : List (PreparedRecord Association
     (records_on {K = AssocKey} {B = AssocBody} (λ (a : Association). a.key) association_terms xs)
     first (last + 1) known between associations
     → AreFound (slice_cmp nat_cmp) clash.Train IsNumberOf
-    (records_on {K = List ℕ} {B = BodyParts} (λ (s : Schedule). s.uid) schedule_terms ss) first (last + 1) between all trains
+    (records_on {K = List ℕ} {B = BodyLines} (λ (s : Schedule). s.uid) schedule_terms ss) first (last + 1) between all trains
     → AreAllFound (prepared_parts x ys ts) known all associations trains
 all-found x xs ys ss ts first last known between all associations trains same same_also f l a t = (
   between,
@@ -158,7 +158,7 @@ module _ (h : Holidays) (p : PublishedParts) where
           )) p.associations n (count_associations found.1.days found.1.reads));
       clashing_trains = m;
       are_trains = count-map (λ (s : PublishedSchedule). (s.schedule.uid, published_schedule_terms s))
-          (λ (e : List ℕ × PublishedTerms BodyParts). AppliesOnAny
+          (λ (e : List ℕ × PublishedTerms BodyLines). AppliesOnAny
           (IsClashDay h (published_schedules p.schedules) p.header.first (p.header.last + 1) e.0) h p.header.last e.1) p.schedules m
           (count-same
           (λ (s : PublishedSchedule). AppliesOnAny (Contains (found.2.days s.schedule.uid)) h p.header.last (published_schedule_terms s))

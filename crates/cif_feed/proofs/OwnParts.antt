@@ -3,7 +3,7 @@ use Rattle.std.proofs.Common.{◌≡◌, ◌↔◌, ℕ, ◌+◌, ◌<◌, ◌�
 use Rattle.std.proofs.Common.{◌++◌, map, Option, None, refl, sym, ap, ◌∙◌, subst, ⊎_elim, arith}
 use Rattle.cif_calendar.specs.Entries.{association_entries, association_entry, schedule_entries, schedule_entry}
 use Rattle.cif_calendar.specs.Terms.{Terms}
-use Rattle.cif_extract.specs.BodyParts.{BodyParts}
+use Rattle.cif_extract.specs.Body.{BodyLines}
 use Rattle.cif_extract.specs.ExtractParts.{ExtractParts}
 use Rattle.cif_extract.specs.declared.extract.Schedule.{Schedule}
 use Rattle.cif_extract.proofs.Schedules.{same_schedule}
@@ -107,11 +107,11 @@ one_association a b e = same_association a b (ap (λ (v : AssocKey × Terms Asso
     (ap (λ (v : AssocKey × Terms AssocBody). v.1.days) e) (ap (λ (v : AssocKey × Terms AssocBody). v.1.letter) e)
     (ap (λ (v : AssocKey × Terms AssocBody). v.1.body) e)
 
-one_schedule : (a b : Schedule) → ◌≡◌ {A = List ℕ × Terms BodyParts} (schedule_entry a) (schedule_entry b) → a ≡ b
-one_schedule a b e = same_schedule a b (ap (λ (v : List ℕ × Terms BodyParts). v.0) e)
-    (ap (λ (v : List ℕ × Terms BodyParts). v.1.first) e) (ap (λ (v : List ℕ × Terms BodyParts). v.1.last) e)
-    (ap (λ (v : List ℕ × Terms BodyParts). v.1.days) e) (ap (λ (v : List ℕ × Terms BodyParts). v.1.letter) e)
-    (ap (λ (v : List ℕ × Terms BodyParts). v.1.body) e)
+one_schedule : (a b : Schedule) → ◌≡◌ {A = List ℕ × Terms BodyLines} (schedule_entry a) (schedule_entry b) → a ≡ b
+one_schedule a b e = same_schedule a b (ap (λ (v : List ℕ × Terms BodyLines). v.0) e)
+    (ap (λ (v : List ℕ × Terms BodyLines). v.1.first) e) (ap (λ (v : List ℕ × Terms BodyLines). v.1.last) e)
+    (ap (λ (v : List ℕ × Terms BodyLines). v.1.days) e) (ap (λ (v : List ℕ × Terms BodyLines). v.1.letter) e)
+    (ap (λ (v : List ℕ × Terms BodyLines). v.1.body) e)
 
 pub same_all : {A B : Type 0} (f : A → B) → ((x y : A) → f x ≡ f y → x ≡ y) → (xs ys : List A) → map f xs ≡ map f ys → xs ≡ ys
 same_all f one [] [] e = refl

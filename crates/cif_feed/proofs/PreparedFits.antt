@@ -7,7 +7,7 @@ use Rattle.cif_columns.specs.Day.{IsDay}
 use Rattle.cif_columns.specs.Field.{AllFit}
 use Rattle.cif_calendar.specs.Entries.{association_entries, schedule_entries}
 use Rattle.cif_calendar.specs.Terms.{Terms}
-use Rattle.cif_extract.specs.BodyParts.{BodyParts}
+use Rattle.cif_extract.specs.Body.{BodyLines}
 use Rattle.cif_extract.specs.ExtractParts.{ExtractParts}
 use Rattle.cif_extract.specs.Texts.{AllTablesFit, FitsColumns, schedule_tables}
 use Rattle.cif_extract.specs.declared.extract.Schedule.{Schedule}
@@ -72,7 +72,7 @@ module _ {K B : Type 0} (P : K × Terms B → Type 0) (Stops : K → Option Holi
 abbrev AssociationEntryFits : AssocKey × Terms AssocBody → Type 0
 AssociationEntryFits e = AllFit (association_rows e.0 e.1.first e.1.last e.1.days e.1.letter e.1.body)
 
-abbrev ScheduleEntryFits : List ℕ × Terms BodyParts → Type 0
+abbrev ScheduleEntryFits : List ℕ × Terms BodyLines → Type 0
 ScheduleEntryFits e = AllTablesFit (schedule_tables e.0 e.1.first e.1.last e.1.days e.1.letter e.1.body)
 
 module _ (window_last : ℕ) where
@@ -98,7 +98,7 @@ associations_such [] f = tt
 associations_such (a ∷ al) f = (f.0, associations_such al f.1)
 
 schedules_such : (ss : List PublishedSchedule) → Each ScheduleFits (map (λ (s : PublishedSchedule). s.schedule) ss)
-    → Each (λ (e : List ℕ × PublishedTerms BodyParts). ScheduleEntryFits (e.0, e.1.terms)) (published_schedules ss)
+    → Each (λ (e : List ℕ × PublishedTerms BodyLines). ScheduleEntryFits (e.0, e.1.terms)) (published_schedules ss)
 schedules_such [] f = tt
 schedules_such (s ∷ ss) f = (f.0, schedules_such ss f.1)
 

@@ -7,7 +7,7 @@ use Rattle.std.proofs.lemmas.Simd.{map-map}
 use Rattle.cif_calendar.specs.Entries.{association_entries, association_entry, association_terms, schedule_entries, schedule_entry}
 use Rattle.cif_calendar.specs.Entries.{schedule_terms}
 use Rattle.cif_calendar.specs.Terms.{Terms}
-use Rattle.cif_extract.specs.BodyParts.{BodyParts}
+use Rattle.cif_extract.specs.Body.{BodyLines}
 use Rattle.cif_extract.specs.declared.extract.Schedule.{Schedule}
 use Rattle.cif_records.specs.declared.association.AssocBody.{AssocBody}
 use Rattle.cif_records.specs.declared.association.AssocKey.{AssocKey}
@@ -31,7 +31,7 @@ pub prepared-associations : (xs : List (PreparedRecord Association ℕ))
 prepared-associations xs = sym (map-map association_entry association_on xs)
 
 pub prepared-schedules : (xs : List (PreparedRecord Schedule ℕ))
-    → records_on {K = List ℕ} {B = BodyParts} (λ (s : Schedule). s.uid) schedule_terms xs ≡ schedule_entries (map schedule_on xs)
+    → records_on {K = List ℕ} {B = BodyLines} (λ (s : Schedule). s.uid) schedule_terms xs ≡ schedule_entries (map schedule_on xs)
 prepared-schedules xs = sym (map-map schedule_entry schedule_on xs)
 
 pub added-associations : (Stops : ℕ → Type 0) (a : Association) (last : ℕ) (old new : List (PreparedRecord Association ℕ))
@@ -48,14 +48,14 @@ added-associations Stops a last old new added =
 
 pub added-schedules : (Stops : ℕ → Type 0) (s : Schedule) (last : ℕ) (old new : List (PreparedRecord Schedule ℕ))
     → AreAdded Stops s.uid (ended last (schedule_terms s))
-    (records_on {K = List ℕ} {B = BodyParts} (λ (x : Schedule). x.uid) schedule_terms old)
-    (records_on {K = List ℕ} {B = BodyParts} (λ (x : Schedule). x.uid) schedule_terms new)
+    (records_on {K = List ℕ} {B = BodyLines} (λ (x : Schedule). x.uid) schedule_terms old)
+    (records_on {K = List ℕ} {B = BodyLines} (λ (x : Schedule). x.uid) schedule_terms new)
     → AreAdded Stops s.uid (ended last (schedule_terms s)) (schedule_entries (map schedule_on old)) (schedule_entries (map schedule_on new))
 added-schedules Stops s last old new added =
-    subst (λ (l : List (List ℕ × Terms BodyParts)). AreAdded Stops s.uid (ended last (schedule_terms s))
+    subst (λ (l : List (List ℕ × Terms BodyLines)). AreAdded Stops s.uid (ended last (schedule_terms s))
     (schedule_entries (map schedule_on old)) l) (prepared-schedules new)
-    (subst (λ (l : List (List ℕ × Terms BodyParts)). AreAdded Stops s.uid (ended last (schedule_terms s)) l
-    (records_on {K = List ℕ} {B = BodyParts} (λ (x : Schedule). x.uid) schedule_terms new)) (prepared-schedules old) added)
+    (subst (λ (l : List (List ℕ × Terms BodyLines)). AreAdded Stops s.uid (ended last (schedule_terms s)) l
+    (records_on {K = List ℕ} {B = BodyLines} (λ (x : Schedule). x.uid) schedule_terms new)) (prepared-schedules old) added)
 
 -- days that stop where others do leave the same
 pub prepared-same : {K B : Type 0} (S T : K → Option HolidayCode → ℕ → Type 0)

@@ -7,7 +7,7 @@ use Rattle.std.specs.List.{flat_map}
 use Rattle.cif_columns.specs.Contents.{contents_of}
 use Rattle.cif_columns.specs.Field.{AllFit, plain_line}
 use Rattle.cif_columns.proofs.PlainLines.{contents-lines_text}
-use Rattle.cif_extract.specs.BodyParts.{BodyParts, body_records, extra_records, journey_records}
+use Rattle.cif_extract.specs.BodyParts.{body_records, extra_records, journey_records}
 use Rattle.cif_extract.specs.Call.{call_record}
 use Rattle.cif_extract.specs.ExtractParts.{ExtractParts}
 use Rattle.cif_extract.specs.Texts.{AllTablesFit, FitsColumns, body_tables, rows_on, tables_of}
@@ -213,7 +213,7 @@ module _ (allowed : HolidayCodes) where
   calls_other (At s ∷ calls) last is = (tt, calls_other calls last is)
   calls_other (Turn c ∷ calls) last is = (tt, calls_other calls last is)
 
-  body_other : (b : BodyParts) → AreOther (body_records b)
+  body_other : (b : BodyLines) → AreOther (body_records b)
   body_other b = at b.extra
     where
       journey : AreOther (journey_records b.origin b.calls b.terminus)
@@ -223,7 +223,7 @@ module _ (allowed : HolidayCodes) where
       at None = journey
       at (Some x) = (tt, journey)
 
-  body : (b : Option BodyParts) → AllTablesFit (body_tables b) → IsBlock (map plain_line (body_tables b)) (records_of_body b) [] []
+  body : (b : Option BodyLines) → AllTablesFit (body_tables b) → IsBlock (map plain_line (body_tables b)) (records_of_body b) [] []
   body None fits = nothing
   body (Some b) fits = others (body_records b) (body_other b) fits
 

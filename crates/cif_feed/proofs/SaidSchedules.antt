@@ -3,7 +3,7 @@ use Rattle.std.proofs.Common.{◌≡◌, ℕ, false, cond, List, [], ◌∷◌, 
 use Rattle.std.specs.List.{flat_map}
 use Rattle.std.specs.Option.{option_map}
 use Rattle.cif_columns.specs.Field.{AllStandIn}
-use Rattle.cif_extract.specs.BodyParts.{BodyParts}
+use Rattle.cif_extract.specs.Body.{BodyLines}
 use Rattle.cif_extract.specs.ExtractParts.{ExtractParts}
 use Rattle.cif_extract.specs.Grammar.{AreSchedules, HasTerms, HaveBody}
 use Rattle.cif_extract.specs.SpellsExtract.{SpellExtractBy}
@@ -51,7 +51,7 @@ pub record IsScheduleLine (feed : Feed) (allowed : HolidayCodes) (line : ℕ × 
   pub basic : Basic
   pub of_basic : IsBasicLine feed allowed line basic m
   pub terms : HasTerms basic s
-  pub detail : basic.detail ≡ option_map (λ (body : BodyParts). body.detail) s.body
+  pub detail : basic.detail ≡ option_map detail_of s.body
 
 module _ (feed : Feed) (allowed : HolidayCodes) (n : ℕ) (c : List ℕ) where
   abbrev Are : Option Kind → List Basic → Type 0
@@ -71,8 +71,8 @@ module _ (feed : Feed) (allowed : HolidayCodes) (n : ℕ) (c : List ℕ) where
 
 -- ---- the schedules of their BS
 
-detail_there : (d : Option Detail) (x : Option Extra) (journey : List Record) (body : Option BodyParts) → HaveBody d x journey body
-    → d ≡ option_map (λ (b : BodyParts). b.detail) body
+detail_there : (d : Option Detail) (x : Option Extra) (journey : List Record) (body : Option BodyLines) → HaveBody d x journey body
+    → d ≡ option_map detail_of body
 detail_there (Some d) x journey (Some b) has = ap Some (sym has.0)
 detail_there None x journey None has = refl
 detail_there (Some d) x journey None has = absurd has
@@ -86,7 +86,7 @@ module _ (feed : Feed) (allowed : HolidayCodes) where
   Schedules = IsScheduleLine feed allowed
 
   take_line : (ls : List (ℕ × List ℕ)) (ms : List (Numbered RecordMark)) (b : Basic) (rest : List Basic) (s : Schedule) (ss : List Schedule)
-      → HasTerms b s → b.detail ≡ option_map (λ (body : BodyParts). body.detail) s.body → AreTriples Basics ls (b ∷ rest) ms
+      → HasTerms b s → b.detail ≡ option_map detail_of s.body → AreTriples Basics ls (b ∷ rest) ms
       → ((ls : List (ℕ × List ℕ)) (ms : List (Numbered RecordMark)) → AreTriples Basics ls rest ms → AreTriples Schedules ls ss ms)
       → AreTriples Schedules ls (s ∷ ss) ms
   take_line (l ∷ ls) (m ∷ ms) b rest s ss terms detail p more =
@@ -118,7 +118,7 @@ module _ (feed : Feed) (allowed : HolidayCodes) where
 -- ---- what it says
 
 module _ (line : ℕ × List ℕ) (b : Basic) (s : Schedule) (terms : HasTerms b s)
-    (detail : b.detail ≡ option_map (λ (body : BodyParts). body.detail) s.body) (change : Change ScheduleKey PublishedSchedule) where
+    (detail : b.detail ≡ option_map detail_of s.body) (change : Change ScheduleKey PublishedSchedule) where
   put_stands : (t : Transaction) (p : PublishedSchedule) → p.schedule ≡ s → p.open_end ≡ is_open 16 line.1
       → p.code ≡ code_of all_codes line.1
       → AllStandIn line.1 (put_basic_rows t (is_open 16 line.1) (code_of all_codes line.1) (terms_of b) b.detail)

@@ -12,7 +12,7 @@ use Rattle.cif_columns.specs.Field.{Row, plain_line}
 use Rattle.cif_columns.specs.Sink.{HasFailed, HasWritten}
 use Rattle.cif_columns.specs.declared.sink.Sink.{Sink}
 use Rattle.cif_extract.specs.Body.{KeepAll}
-use Rattle.cif_extract.specs.BodyParts.{BodyParts}
+use Rattle.cif_extract.specs.Body.{BodyLines}
 use Rattle.cif_extract.specs.Texts.{body_tables, extract_text, tables_of}
 use Rattle.cif_extract.specs.declared.extract.Schedule.{Schedule}
 use Rattle.cif_extract.proofs.WrittenLines.{kept_plain}
@@ -31,7 +31,7 @@ use Rattle.cif_feed.specs.declared.prepared_record.PreparedRecord.{PreparedRecor
 use Rattle.cif_feed.specs.declared.published_extract.PublishedExtract.{PublishedExtract}
 
 -- the lines of a body that are kept are its plain lines
-pub kept_text : (lines : List (List ℕ)) (p : BodyParts) (texts : List ℕ) (rest : List (List ℕ)) → KeepAll lines (body_tables (Some p))
+pub kept_text : (lines : List (List ℕ)) (p : BodyLines) (texts : List ℕ) (rest : List (List ℕ)) → KeepAll lines (body_tables (Some p))
     → texts ++ lines_text rest ≡ lines_text lines → texts ++ lines_text rest ≡ lines_text (map plain_line (body_tables (Some p)))
 kept_text lines p texts rest kept is = is ∙ ap lines_text (kept_plain lines (body_tables (Some p)) kept)
 

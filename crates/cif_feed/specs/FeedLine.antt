@@ -7,7 +7,7 @@ use Rattle.cif_columns.specs.Field.{AllStandIn, FieldValue, Row, columns, column
 use Rattle.cif_columns.specs.Stp.{stp_in}
 use Rattle.cif_columns.specs.declared.stp.Stp.{Stp}
 use Rattle.cif_columns.specs.declared.stp.Stp.TheVariants.{C}
-use Rattle.cif_extract.specs.BodyParts.{BodyParts}
+use Rattle.cif_extract.specs.Body.{BodyLines}
 use Rattle.cif_extract.specs.Layouts.{cancels}
 use Rattle.cif_extract.specs.declared.extract.Schedule.{Schedule}
 use Rattle.cif_records.specs.Association.{association_rows_by}
@@ -123,7 +123,7 @@ basic_terms s = record { uid = s.uid; first = s.first; last = s.last; days = s.d
 
 abbrev pub published_basic_rows : Transaction → PublishedSchedule → List Row
 published_basic_rows transaction p = put_basic_rows transaction p.open_end p.code (basic_terms p.schedule)
-    (option_map (λ (b : BodyParts). b.detail) p.schedule.body)
+    (option_map detail_of p.schedule.body)
 
 -- ---- the record
 

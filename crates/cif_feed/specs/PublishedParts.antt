@@ -7,7 +7,7 @@ use Rattle.cif_columns.specs.Field.{plain_line}
 use Rattle.cif_extract.specs.ReadCall.{ReadCall, reading}
 use Rattle.cif_extract.specs.Texts.{body_tables, rows_on}
 use Rattle.cif_calendar.specs.Entries.{association_terms, schedule_terms}
-use Rattle.cif_extract.specs.BodyParts.{BodyParts}
+use Rattle.cif_extract.specs.Body.{BodyLines}
 use Rattle.cif_extract.specs.declared.extract.Schedule.{Schedule}
 use Rattle.cif_records.specs.Association.{association_table}
 use Rattle.cif_records.specs.Header.{header_table}
@@ -84,14 +84,14 @@ pub record BytesSpellPublished (allowed : HolidayCodes) (max : ℕ) (bytes : Lis
 abbrev pub published_association_terms : PublishedAssociation → PublishedTerms AssocBody
 published_association_terms a = record { terms = association_terms a.association; open_end = a.open_end; code = None }
 
-abbrev pub published_schedule_terms : PublishedSchedule → PublishedTerms BodyParts
+abbrev pub published_schedule_terms : PublishedSchedule → PublishedTerms BodyLines
 published_schedule_terms s = record { terms = schedule_terms s.schedule; open_end = s.open_end; code = s.code }
 
 -- the associations by their keys, and the schedules by their UIDs
 abbrev pub published_associations : List PublishedAssociation → List (AssocKey × PublishedTerms AssocBody)
 published_associations associations = map (λ (a : PublishedAssociation). (a.association.key, published_association_terms a)) associations
 
-abbrev pub published_schedules : List PublishedSchedule → List (List ℕ × PublishedTerms BodyParts)
+abbrev pub published_schedules : List PublishedSchedule → List (List ℕ × PublishedTerms BodyLines)
 published_schedules schedules = map (λ (s : PublishedSchedule). (s.schedule.uid, published_schedule_terms s)) schedules
 
 -- ---- its text

@@ -8,7 +8,7 @@ use Rattle.cif_columns.specs.Field.{columns}
 use Rattle.cif_views.specs.AllFields.{HasAll, TablesHaveColumns, table_with}
 use Rattle.cif_views.specs.Explanation.{explanation_names, mark_columns, said_of_association, said_of_train, terms_fields}
 use Rattle.cif_views.specs.Listing.{association_fields_of, date_field, day_names}
-use Rattle.cif_views.proofs.Words.{AssocBody, AssocKey, BodyParts, Mark, Terms, Trimmed, Tsv, no_association, no_train, with_first}
+use Rattle.cif_views.proofs.Words.{AssocBody, AssocKey, BodyLines, Mark, Terms, Trimmed, Tsv, no_association, no_train, with_first}
 
 pub all-of_association : (calls : Bool) (d : ℕ) (e : AssocKey × AssocBody) →
     HasAll (day_names (table_with calls)) (association_fields_of (table_with calls) (date_field d) e)
@@ -21,7 +21,7 @@ pub explained-association : (d : ℕ) (mark : Mark) (key : AssocKey) (terms : Te
 explained-association d mark key terms None = refl
 explained-association d mark key terms (Some body) = refl
 
-pub explained-train : (d : ℕ) (mark : Mark) (uid : List ℕ) (terms : Terms BodyParts) (body : Option BodyParts) →
+pub explained-train : (d : ℕ) (mark : Mark) (uid : List ℕ) (terms : Terms BodyLines) (body : Option BodyLines) →
     HasAll explanation_names (with_first Tsv (date_field d) ((Trimmed, mark_columns mark) ∷ (Trimmed, codes "BS")
     ∷ (terms_fields terms ++ (said_of_train Tsv uid body ++ no_association Tsv))))
 explained-train d mark uid terms None = refl

@@ -8,7 +8,7 @@ use Rattle.cif_views.specs.Listing.{association_names, if_table, lines_of_row, t
 use Rattle.cif_views.specs.declared.listing.Listing.{Listing}
 use Rattle.cif_canon.specs.Fields.{separator}
 use Rattle.cif_canon.proofs.ViewLines.{IsGrowing, joined-rows}
-use Rattle.cif_views.proofs.Words.{At, BodyParts, Call, Field, Format, Text, Trimmed, Tsv, Turn, after, call_text, calls_text, day_names}
+use Rattle.cif_views.proofs.Words.{At, BodyLines, Call, Field, Format, Text, Trimmed, Tsv, Turn, after, call_text, calls_text, day_names}
 use Rattle.cif_views.proofs.Words.{fields_text, flat_map, line_of, names_behind, names_line, row_lines, row_start, shown, with_first}
 
 -- one more of all is done, or none is left
@@ -71,11 +71,11 @@ module _ (one other : List Field → List ℕ) (same : (f : Field) (fs : List Fi
   same-between [] = refl
   same-between (call ∷ calls) = ap₂ (λ (a b : List ℕ). a ++ b) (same-call call) (same-between calls)
 
-  same-calls : (b : BodyParts) → calls_text one b ≡ calls_text other b
+  same-calls : (b : BodyLines) → calls_text one b ≡ calls_text other b
   same-calls b =
       ap₂ (λ (a b : List ℕ). a ++ b) (same _ _) (ap₂ (λ (a b : List ℕ). a ++ b) (same-between b.calls) (same _ _))
 
-row-calls : (format : Format) (first : Field) (row : List Field) (b : BodyParts) →
+row-calls : (format : Format) (first : Field) (row : List Field) (b : BodyLines) →
     row_and_calls format (fields_text format (first ∷ row)) b ≡ with_calls format (first ∷ row) b
 row-calls Text first row b = refl
 row-calls Tsv first row b =
@@ -83,7 +83,7 @@ row-calls Tsv first row b =
     (line-behind first row) b
 
 -- the lines of a train, by the text of its row
-row-lines : (listing : Listing) (row : List Field) (b : BodyParts) → 0 < length row →
+row-lines : (listing : Listing) (row : List Field) (b : BodyLines) → 0 < length row →
     row_lines listing (fields_text listing.format row) b ≡ lines_of_row listing row b
 row-lines listing [] b some = absurd (omega (arith, some))
 row-lines listing (first ∷ row) b some =
@@ -99,7 +99,7 @@ with_first-some : (format : Format) (first field : Field) (fields : List Field) 
 with_first-some Text first field fields = omega arith
 with_first-some Tsv first field fields = omega arith
 
-pub with_first-lines : (listing : Listing) (first field : Field) (fields : List Field) (b : BodyParts) →
+pub with_first-lines : (listing : Listing) (first field : Field) (fields : List Field) (b : BodyLines) →
     row_lines listing (row_start listing.format first ++ fields_text listing.format (field ∷ fields)) b
     ≡ lines_of_row listing (with_first listing.format first (field ∷ fields)) b
 with_first-lines listing first field fields b =

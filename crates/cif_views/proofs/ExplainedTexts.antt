@@ -3,7 +3,7 @@ use Rattle.std.proofs.Common.{◌≡◌, ℕ, List, ◌++◌, refl, subst}
 use Rattle.cif_weeks.specs.Window.{IsWithin}
 use Rattle.cif_views.specs.Explanation.{AreExplained, Explained, IsAssociationOf, IsExplanation, IsTrain, explained_association_line}
 use Rattle.cif_views.specs.Explanation.{explained_train_line, explanation_heading}
-use Rattle.cif_views.proofs.Words.{AreMarked, ArePlacedInOrder, AssocBody, AssocKey, Association, BodyParts, ExtractParts, Format, Placed}
+use Rattle.cif_views.proofs.Words.{AreMarked, ArePlacedInOrder, AssocBody, AssocKey, Association, BodyLines, ExtractParts, Format, Placed}
 use Rattle.cif_views.proofs.Words.{Schedule, association_entries, flat_map, header_window, key_cmp, nat_cmp, schedule_entries, slice_cmp}
 use Rattle.cif_views.proofs.Explaining.{explained}
 
@@ -11,7 +11,7 @@ pub explanation : (format : Format) (x : ExtractParts) (u : List ℕ) (d : ℕ) 
     → (entries : List Association) (placed : List (Placed AssocKey AssocBody)) (marked : List (Explained AssocKey AssocBody))
     → entries ≡ x.associations → ArePlacedInOrder key_cmp IsAssociationOf (association_entries entries) u d placed
     → AreMarked placed placed marked
-    → (trains : List Schedule) (applying : List (Placed (List ℕ) BodyParts)) (shown : List (Explained (List ℕ) BodyParts))
+    → (trains : List Schedule) (applying : List (Placed (List ℕ) BodyLines)) (shown : List (Explained (List ℕ) BodyLines))
     → trains ≡ x.schedules → ArePlacedInOrder (slice_cmp nat_cmp) IsTrain (schedule_entries trains) u d applying
     → AreMarked applying applying shown
     → IsExplanation format x u d (explanation_heading format

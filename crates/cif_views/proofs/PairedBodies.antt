@@ -36,7 +36,7 @@ use Rattle.cif_views.specs.Tables.{journey_kind, kind_of_line, row_fields, type_
 use Rattle.cif_views.specs.Steps.Columns.{association_columns, basic_columns, extra_columns}
 use Rattle.cif_views.specs.declared.tables.JourneyKind.{JourneyKind}
 use Rattle.cif_views.specs.declared.tables.JourneyKind.TheVariants as kinds_of
-use Rattle.cif_views.proofs.Words.{AllFit, AllStandIn, AssocBody, AssocKey, At, BodyParts, Call, Column, Detail, IsLine, Left, P, Permanent}
+use Rattle.cif_views.proofs.Words.{AllFit, AllStandIn, AssocBody, AssocKey, At, BodyLines, Call, Column, Detail, IsLine, Left, P, Permanent}
 use Rattle.cif_views.proofs.Words.{Row, StandsIn, Tsv, Turn, after, association_plain, columns, fields_in, journeys_behind, own_columns}
 use Rattle.cif_views.proofs.Words.{place_behind, places_behind, same_places, schedule_plain, shown, spare, text, trimmed}
 use Rattle.cif_views.proofs.DifferingCells.{AllSame, all-covered, all-moved, are_covered, both-none, covered, is_there, same-cells}
@@ -123,18 +123,18 @@ keep-lines (r ∷ rs) fits = (records.spells r fits.0, refl, keep-lines rs fits.
 alone-fits : (d : Detail) → AllFit (detail_rows (Some d)) → AllFit (detail_table d)
 alone-fits d fits = (tt, fits-append (detail_rows (Some d)) (row 79 80 spare ∷ []) fits (tt, tt))
 
-module _ (d : Detail) (fits : AllFit (detail_rows (Some d))) (p q : BodyParts)
+module _ (d : Detail) (fits : AllFit (detail_rows (Some d))) (p q : BodyLines)
     (one : AllTablesFit (map record_table (journey_records p.origin p.calls p.terminus)))
     (other : AllTablesFit (map record_table (journey_records q.origin q.calls q.terminus)))
     (same : lines_of (journey_records p.origin p.calls p.terminus) ≡ lines_of (journey_records q.origin q.calls q.terminus)) where
   -- a body with this detail, no BX, and the journey of another
-  abbrev plain : BodyParts → BodyParts
+  abbrev plain : BodyLines → BodyLines
   plain b = record { detail = d; extra = None; origin = b.origin; calls = b.calls; terminus = b.terminus }
 
   abbrev plain_lines : List (List ℕ) → List (List ℕ)
   plain_lines lines = plain_line (detail_table d) ∷ lines
 
-  keeps : (b : BodyParts) → AllTablesFit (map record_table (journey_records b.origin b.calls b.terminus)) →
+  keeps : (b : BodyLines) → AllTablesFit (map record_table (journey_records b.origin b.calls b.terminus)) →
       KeepBody (plain_lines (lines_of (journey_records b.origin b.calls b.terminus))) (plain b)
   keeps b all = (
     stands-plain_line (detail_table d) refl (alone-fits d fits),
@@ -240,15 +240,15 @@ same-extra (Some e) (Some f) one other identity same =
 -- ---- the detail of a schedule
 
 -- a schedule's line that stands for its record
-abbrev pub basic_line : List ℕ × Permanent BodyParts → List Row
+abbrev pub basic_line : List ℕ × Permanent BodyLines → List Row
 basic_line e = basic_rows e.0 e.1.first e.1.last e.1.days P (Some e.1.body.detail)
 
 -- it fits its columns, with the lines of its body
-pub record FitsLines (e : List ℕ × Permanent BodyParts) : Type 0 where
+pub record FitsLines (e : List ℕ × Permanent BodyLines) : Type 0 where
   pub basic : AllFit (basic_line e)
   pub further : AllTablesFit (map record_table (body_records e.1.body))
 
-module _ (e : List ℕ × Permanent BodyParts) (fits : FitsLines e) where
+module _ (e : List ℕ × Permanent BodyLines) (fits : FitsLines e) where
   is-line : IsLine (plain_line (basic_line e))
   is-line = line-plain_line (basic_line e) refl fits.basic
 
@@ -266,7 +266,7 @@ module _ (e : List ℕ × Permanent BodyParts) (fits : FitsLines e) where
   pub journey-fits : AllTablesFit (map record_table (journey_records e.1.body.origin e.1.body.calls e.1.body.terminus))
   journey-fits = last-fit e.1.body.extra _ fits.further
 
-module _ (e g : List ℕ × Permanent BodyParts) (one : FitsLines e) (other : FitsLines g) where
+module _ (e g : List ℕ × Permanent BodyLines) (one : FitsLines e) (other : FitsLines g) where
   same-detail : map (shown Tsv) (row_fields detail_fields (plain_line (basic_line e)))
       ≡ map (shown Tsv) (row_fields detail_fields (plain_line (basic_line g))) → e.1.body.detail ≡ g.1.body.detail
   same-detail same =
@@ -315,8 +315,8 @@ module _ (e g : List ℕ × Permanent BodyParts) (one : FitsLines e) (other : Fi
       let lines = same-journeys begun 1 rs qs (are-places q.origin q.calls q.terminus) (journey-fits e one) (journey-fits g other)
       places rows in
       let journey = one-journey p.detail (detail-fits e one) p q (journey-fits e one) (journey-fits g other) lines in
-      same_values p q detail_is extra_is (ap (λ (b : BodyParts). b.origin) journey) (ap (λ (b : BodyParts). b.calls) journey)
-      (ap (λ (b : BodyParts). b.terminus) journey)
+      same_values p q detail_is extra_is (ap (λ (b : BodyLines). b.origin) journey) (ap (λ (b : BodyLines). b.calls) journey)
+      (ap (λ (b : BodyLines). b.terminus) journey)
 
 -- ---- two associations
 

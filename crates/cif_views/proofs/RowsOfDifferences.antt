@@ -29,7 +29,7 @@ use Rattle.cif_canon.proofs.ByPairs.{associations-by_pairs, schedules-by_pairs}
 use Rattle.cif_canon.proofs.MadeFits.{HasTerms, have-terms, permanent-association, permanent-basic}
 use Rattle.cif_canon.proofs.MergedSides.{side-member}
 use Rattle.cif_views.specs.RowsOfDifferences.{HasRow, HaveRows}
-use Rattle.cif_views.proofs.Words.{AllFit, AssocBody, AssocKey, Association, BodyParts, Contains, ExtractParts, Left, Ordering, Permanent}
+use Rattle.cif_views.proofs.Words.{AllFit, AssocBody, AssocKey, Association, BodyLines, Contains, ExtractParts, Left, Ordering, Permanent}
 use Rattle.cif_views.proofs.Words.{Right, Row, Schedule, ScheduleLines, Side, Terms, association_differences, association_entries}
 use Rattle.cif_views.proofs.Words.{association_entry, association_head, association_plain, change_of, difference_names, difference_table}
 use Rattle.cif_views.proofs.Words.{flat_map, header_window, key_cmp, names_line, nat_cmp, nothing, of_key, schedule_differences}
@@ -173,11 +173,11 @@ association-fits (a ∷ xs) k t fits h = ⊎_elim
     (λ later. association-fits xs k t fits.1 later)
     (Contains-cases (association_entry a) (association_entries xs) (k, t) h)
 
-schedule-fits : (xs : List Schedule) (k : List ℕ) (t : Terms BodyParts) → AllTablesFit (flat_map tables_of xs) →
+schedule-fits : (xs : List Schedule) (k : List ℕ) (t : Terms BodyLines) → AllTablesFit (flat_map tables_of xs) →
     Contains (schedule_entries xs) (k, t) → AllTablesFit (schedule_tables k t.first t.last t.days t.letter t.body)
 schedule-fits [] k t fits h = absurd (Contains-none (k, t) h)
 schedule-fits (s ∷ xs) k t fits h = ⊎_elim
-    (λ e. subst (λ (p : List ℕ × Terms BodyParts). AllTablesFit (schedule_tables p.0 p.1.first p.1.last p.1.days p.1.letter p.1.body)) e
+    (λ e. subst (λ (p : List ℕ × Terms BodyLines). AllTablesFit (schedule_tables p.0 p.1.first p.1.last p.1.days p.1.letter p.1.body)) e
     (fit-front (tables_of s) (flat_map tables_of xs) fits))
     (λ later. schedule-fits xs k t (fit-back (tables_of s) (flat_map tables_of xs) fits) later)
     (Contains-cases (schedule_entry s) (schedule_entries xs) (k, t) h)
@@ -192,7 +192,7 @@ module _ (x y : ExtractParts) (d : DifferencesParts) (a : FitLists x) (b : FitLi
   association-listed Left k t h = association-fits x.associations k t a.associations h
   association-listed Right k t h = association-fits y.associations k t b.associations h
 
-  schedule-listed : (side : Side) (k : List ℕ) (t : Terms BodyParts) →
+  schedule-listed : (side : Side) (k : List ℕ) (t : Terms BodyLines) →
       Contains (at_side (schedule_entries x.schedules) (schedule_entries y.schedules) side) (k, t) →
       AllTablesFit (schedule_tables k t.first t.last t.days t.letter t.body)
   schedule-listed Left k t h = schedule-fits x.schedules k t a.schedules h
@@ -211,13 +211,13 @@ module _ (x y : ExtractParts) (d : DifferencesParts) (a : FitLists x) (b : FitLi
       (All-contains HasTerms (of_side side d.associations) e
       (have-terms key_cmp Two window (of_side side d.associations) (are.associations.only side).canonical (headers.last_is_day x.header)) h)
 
-  schedule-lines-fit : (side : Side) (e : List ℕ × Permanent BodyParts) → Contains (of_side side d.schedules) e → FitsLines e
+  schedule-lines-fit : (side : Side) (e : List ℕ × Permanent BodyLines) → Contains (of_side side d.schedules) e → FitsLines e
   schedule-lines-fit side e h =
       let said = says (slice_cmp nat_cmp) window (schedule_entries x.schedules) (schedule_entries y.schedules) d.schedules
       are.schedules side e h in
       let runs = said.only.runs in
       let t = runs.winner in
-      let own = subst (λ (o : Option BodyParts). AllTablesFit (schedule_tables e.0 t.first t.last t.days t.letter o)) runs.body
+      let own = subst (λ (o : Option BodyLines). AllTablesFit (schedule_tables e.0 t.first t.last t.days t.letter o)) runs.body
       (schedule-listed side e.0 t runs.wins.listed) in
       record {
         basic = permanent-basic e.0 t.first t.last t.days t.letter e.1.body.detail e.1.first e.1.last e.1.days own.0
@@ -230,7 +230,7 @@ module _ (x y : ExtractParts) (d : DifferencesParts) (a : FitLists x) (b : FitLi
   abbrev associations_listed : List (Listed (AssocKey × Permanent AssocBody))
   associations_listed = by_pairs key_cmp d.associations
 
-  abbrev schedules_listed : List (Listed (List ℕ × Permanent BodyParts))
+  abbrev schedules_listed : List (Listed (List ℕ × Permanent BodyLines))
   schedules_listed = by_pairs (slice_cmp nat_cmp) d.schedules
 
   association-row : (l : Listed (AssocKey × Permanent AssocBody)) → Contains associations_listed l →
@@ -242,7 +242,7 @@ module _ (x y : ExtractParts) (d : DifferencesParts) (a : FitLists x) (b : FitLi
       (λ s. some-row (association_head (change_of s.side) (association_plain s.it) ++ replicate 6 nothing))
       (λ s r one other none. same-association s.it r one other none)
 
-  schedule-row : (l : Listed (List ℕ × Permanent BodyParts)) → Contains schedules_listed l →
+  schedule-row : (l : Listed (List ℕ × Permanent BodyLines)) → Contains schedules_listed l →
       HasRow (schedule_differences (listed_as schedule_plain l))
   schedule-row =
       has-row (slice_cmp nat_cmp) window (schedule_entries x.schedules) (schedule_entries y.schedules) d.schedules are.schedules

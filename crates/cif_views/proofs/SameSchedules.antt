@@ -18,7 +18,7 @@ use Rattle.cif_records.proofs.Records as records
 use Rattle.cif_views.specs.Steps.Columns.{basic_columns, extra_columns}
 use Rattle.cif_views.specs.Steps.TableRows.{has_row}
 use Rattle.cif_views.specs.Tables.{NumberedSchedule, extra_fields}
-use Rattle.cif_views.proofs.Words.{BodyParts, IsLine, JourneyKind, Numbered, Other, Permanent, ScheduleLines, Tsv, columns, extra_in}
+use Rattle.cif_views.proofs.Words.{BodyLines, IsLine, JourneyKind, Numbered, Other, Permanent, ScheduleLines, Tsv, columns, extra_in}
 use Rattle.cif_views.proofs.Words.{flat_map, is_call, journey_kind, kind_of_line, numbered_from, numbered_schedule, row_fields}
 use Rattle.cif_views.proofs.Words.{schedule_fields, schedule_plain, shown, trimmed}
 use Rattle.cif_views.proofs.PairedBodies.{ArePlaces, FitsLines, are-further, are-places, basic_line, extra-fits, extra_line, journey-fits}
@@ -28,13 +28,13 @@ use Rattle.cif_views.proofs.SameJourneys.{IsNumbered, IsOfJourney, IsRow, are-nu
 
 -- the lines of a schedule of a canonical extract; the numbers of its calls can be written
 pub record IsSchedule (s : ScheduleLines) : Type 0 where
-  pub it : List ℕ × Permanent BodyParts
+  pub it : List ℕ × Permanent BodyLines
   pub fits : FitsLines it
   pub is : s ≡ schedule_plain it
   pub few : length s.further < most
 
 -- its journey
-abbrev journey_of : List ℕ × Permanent BodyParts → List (List ℕ)
+abbrev journey_of : List ℕ × Permanent BodyLines → List (List ℕ)
 journey_of e = lines_of (journey_records e.1.body.origin e.1.body.calls e.1.body.terminus)
 
 are-of_journey : (rs : List Record) → ArePlaces rs → AllTablesFit (map record_table rs) → All IsOfJourney (lines_of rs)
@@ -43,7 +43,7 @@ are-of_journey (r ∷ rs) are fits =
     All-cons IsOfJourney (plain_line (record_table r)) (lines_of rs)
     (record { it = r; place = are.0; fits = fits.0; is = refl }) (are-of_journey rs are.1 fits.1)
 
-of-journey : (e : List ℕ × Permanent BodyParts) → FitsLines e → All IsOfJourney (journey_of e)
+of-journey : (e : List ℕ × Permanent BodyLines) → FitsLines e → All IsOfJourney (journey_of e)
 of-journey e fits =
     let b = e.1.body in
     are-of_journey (journey_records b.origin b.calls b.terminus) (are-places b.origin b.calls b.terminus) (journey-fits e fits)

@@ -34,7 +34,7 @@ use Rattle.cif_views.specs.TableText.{table_heading, table_text}
 use Rattle.cif_views.specs.Tables.{association_fields, header_fields}
 use Rattle.cif_views.specs.declared.tables.Table.{Table}
 use Rattle.cif_views.specs.declared.tables.Table.TheVariants.{Associations, Calls, Changes, Header, Public, Schedules, Tiplocs}
-use Rattle.cif_views.proofs.Words.{AssocBody, AssocKey, Association, BodyParts, Column, ExtractParts, Permanent, Row, Schedule}
+use Rattle.cif_views.proofs.Words.{AssocBody, AssocKey, Association, BodyLines, Column, ExtractParts, Permanent, Row, Schedule}
 use Rattle.cif_views.proofs.Words.{ScheduleLines, association_entries, association_entry, flat_map, numbered_schedule, row_line}
 use Rattle.cif_views.proofs.Words.{schedule_entries, schedule_entry, schedule_fields, schedule_plain, table_rows, tiploc_fields}
 use Rattle.cif_views.proofs.PairedBodies.{association_line, basic_line}
@@ -168,10 +168,10 @@ plain-all table (x ∷ xs) fits =
 abbrev association_of : AssocKey × Terms AssocBody → List Row
 association_of e = aa.association_rows e.0 e.1.first e.1.last e.1.days e.1.letter e.1.body
 
-abbrev schedule_of : List ℕ × Terms BodyParts → List (List Row)
+abbrev schedule_of : List ℕ × Terms BodyLines → List (List Row)
 schedule_of e = schedule_tables e.0 e.1.first e.1.last e.1.days e.1.letter e.1.body
 
-abbrev permanent_tables : List ℕ × Permanent BodyParts → List (List Row)
+abbrev permanent_tables : List ℕ × Permanent BodyLines → List (List Row)
 permanent_tables e = basic_line e ∷ body_tables (Some e.1.body)
 
 abbrev lines_in : List (List Row) → ScheduleLines
@@ -190,7 +190,7 @@ plain-associations xs es are fits =
     subst (All (IsPlain association_line)) (sym (by-records association_entry xs es are (λ p. plain_line (association_of p))))
     (plain-all association_line es (subst AllTablesFit (by-records association_entry xs es are association_of) fits))
 
-plain-records : (es : List (List ℕ × Permanent BodyParts)) → AllTablesFit (flat_map permanent_tables es) →
+plain-records : (es : List (List ℕ × Permanent BodyLines)) → AllTablesFit (flat_map permanent_tables es) →
     length (flat_map permanent_tables es) < 2 ^ 64 →
     All IsSchedule (map schedule_plain es) × (length (map schedule_plain es) ≤ length (flat_map permanent_tables es))
 plain-records [] fits few = (All-nil IsSchedule, omega arith)
@@ -210,7 +210,7 @@ plain-records (e ∷ es) fits few =
       omega (arith, long, count),
     )
 
-plain-schedules : (xs : List Schedule) (es : List (List ℕ × Permanent BodyParts)) → schedule_entries xs ≡ permanent_entries es →
+plain-schedules : (xs : List Schedule) (es : List (List ℕ × Permanent BodyLines)) → schedule_entries xs ≡ permanent_entries es →
     AllTablesFit (flat_map tables_of xs) → length (flat_map tables_of xs) < 2 ^ 64 →
     All IsSchedule (map lines_of_schedule xs) × (length (map lines_of_schedule xs) < 2 ^ 64)
 plain-schedules xs es are fits few =

@@ -14,7 +14,7 @@ pub use Rattle.cif_records.specs.declared.association.AssocBody.{AssocBody}
 pub use Rattle.cif_records.specs.declared.association.AssocKey.{AssocKey}
 pub use Rattle.cif_records.specs.declared.association.Association.{Association}
 pub use Rattle.cif_records.specs.declared.detail.Detail.{Detail}
-pub use Rattle.cif_extract.specs.BodyParts.{BodyParts}
+pub use Rattle.cif_extract.specs.Body.{BodyLines}
 pub use Rattle.cif_extract.specs.ExtractParts.{ExtractParts, extract_parts}
 pub use Rattle.cif_extract.specs.declared.call.Call.{Call}
 pub use Rattle.cif_extract.specs.declared.call.Call.TheVariants.{At, Turn}

@@ -2,7 +2,7 @@
 use Rattle.std.specs.Prelude.{◌≡◌, ℕ, Bool, true, false, List, [], ◌∷◌, ◌++◌, length, replicate, take}
 use Rattle.std.specs.List.{flat_map}
 use Rattle.cif_columns.specs.Field.{columns}
-use Rattle.cif_extract.specs.BodyParts.{BodyParts}
+use Rattle.cif_extract.specs.Body.{BodyLines}
 use Rattle.cif_records.specs.declared.association.AssocBody.{AssocBody}
 use Rattle.cif_records.specs.declared.association.AssocKey.{AssocKey}
 use Rattle.cif_records.specs.declared.origin.Origin.{Origin}
@@ -54,21 +54,21 @@ pub record CallsHaveAll : Type 0 where
 pub record DayRowsHaveAll : Type 0 where
   pub association : (calls : Bool) (d : ℕ) (e : AssocKey × AssocBody) →
       HasAll (day_names (table_with calls)) (association_fields_of (table_with calls) (date_field d) e)
-  pub train : (d : ℕ) (e : List ℕ × BodyParts) → HasAll (day_names (table_with false)) (with_first Tsv (date_field d) (train_row Tsv e))
-  pub call : (d : ℕ) (e : List ℕ × BodyParts) (call : List Field) → HasAll call_names call →
+  pub train : (d : ℕ) (e : List ℕ × BodyLines) → HasAll (day_names (table_with false)) (with_first Tsv (date_field d) (train_row Tsv e))
+  pub call : (d : ℕ) (e : List ℕ × BodyLines) (call : List Field) → HasAll call_names call →
       HasAll (day_names (table_with true)) (with_first Tsv (date_field d) (train_row Tsv e) ++ call)
 
 -- the rows of a train: of a schedule, and of a schedule with a call
 pub record TrainRowsHaveAll : Type 0 where
-  pub schedule : (uid : List ℕ) (r : Permanent BodyParts) →
+  pub schedule : (uid : List ℕ) (r : Permanent BodyLines) →
       HasAll (train_names (table_with false)) (with_first Tsv (uid_field uid) (schedule_row Tsv r))
-  pub call : (uid : List ℕ) (r : Permanent BodyParts) (call : List Field) → HasAll call_names call →
+  pub call : (uid : List ℕ) (r : Permanent BodyLines) (call : List Field) → HasAll call_names call →
       HasAll (train_names (table_with true)) (with_first Tsv (uid_field uid) (schedule_row Tsv r) ++ call)
 
 -- the rows of an explanation
 pub record ExplainedRowsHaveAll : Type 0 where
   pub association : (d : ℕ) (e : Explained AssocKey AssocBody) → HasAll explanation_names (explained_association_fields Tsv d e)
-  pub train : (d : ℕ) (e : Explained (List ℕ) BodyParts) → HasAll explanation_names (explained_train_fields Tsv d e)
+  pub train : (d : ℕ) (e : Explained (List ℕ) BodyLines) → HasAll explanation_names (explained_train_fields Tsv d e)
 
 -- The rows of differences: of what only one side has, and of a field of a pair. Those of a location, of an association and of a schedule
 -- begin with as many fields.

@@ -3,7 +3,7 @@ use Rattle.std.specs.Prelude.{ℕ, List, ◌∷◌, [], ◌++◌, codes}
 use Rattle.std.specs.List.{flat_map}
 use Rattle.cif_columns.specs.Activities.{codes_columns}
 use Rattle.cif_columns.specs.Text.{left_justified}
-use Rattle.cif_extract.specs.BodyParts.{BodyParts}
+use Rattle.cif_extract.specs.Body.{BodyLines, parts_in}
 use Rattle.cif_extract.specs.declared.call.Call.{Call}
 use Rattle.cif_extract.specs.declared.call.Call.TheVariants.{At, Turn}
 use Rattle.cif_records.specs.declared.origin.Origin.{Origin}
@@ -60,8 +60,9 @@ call_text text (At stop) = text (stop_fields stop)
 call_text text (Turn change) = []
 
 -- what is written of all calls of a train
-abbrev pub calls_text : (List Field → List ℕ) → BodyParts → List ℕ
-calls_text text b =
+abbrev pub calls_text : (List Field → List ℕ) → BodyLines → List ℕ
+calls_text text body =
+    let b = parts_in body in
     text (origin_fields b.origin) ++ (flat_map (call_text text) b.calls ++ text (terminus_fields b.terminus))
 
 -- the names of a call's fields

@@ -15,7 +15,7 @@ use Rattle.cif_columns.specs.DayDigits.{yymmdd_of}
 use Rattle.cif_columns.specs.DaysRun.{days_columns}
 use Rattle.cif_columns.specs.Stp.{letter}
 use Rattle.cif_columns.specs.Text.{left_justified}
-use Rattle.cif_extract.specs.BodyParts.{BodyParts}
+use Rattle.cif_extract.specs.Body.{BodyLines}
 use Rattle.cif_extract.specs.ExtractParts.{ExtractParts}
 use Rattle.cif_extract.specs.declared.fault.Fault.{Fault}
 use Rattle.cif_extract.specs.declared.fault.Fault.TheVariants.{Memory, OutsideWindow, Write}
@@ -107,7 +107,7 @@ said_of_association format key None =
     ∷ left_out format 2))
 
 -- what a schedule says: the fields of the day view, and of a cancellation its train alone
-abbrev pub said_of_train : Format → List ℕ → Option BodyParts → List Field
+abbrev pub said_of_train : Format → List ℕ → Option BodyLines → List Field
 said_of_train format uid (Some body) = train_fields format (uid, body)
 said_of_train format uid None = (Whole, uid) ∷ left_out format 9
 
@@ -117,7 +117,7 @@ explained_association_fields format d e =
     with_first format (date_field d) ((Trimmed, mark_columns e.mark) ∷ (Trimmed, codes "AA")
     ∷ (terms_fields e.terms ++ (no_train format ++ said_of_association format e.key e.terms.body)))
 
-abbrev pub explained_train_fields : Format → ℕ → Explained (List ℕ) BodyParts → List Field
+abbrev pub explained_train_fields : Format → ℕ → Explained (List ℕ) BodyLines → List Field
 explained_train_fields format d e =
     with_first format (date_field d) ((Trimmed, mark_columns e.mark) ∷ (Trimmed, codes "BS")
     ∷ (terms_fields e.terms ++ (said_of_train format e.key e.terms.body ++ no_association format)))
@@ -126,7 +126,7 @@ explained_train_fields format d e =
 unfoldable pub explained_association_line : Format → ℕ → Explained AssocKey AssocBody → List ℕ
 explained_association_line format d e = line_of format (explained_association_fields format d e)
 
-unfoldable pub explained_train_line : Format → ℕ → Explained (List ℕ) BodyParts → List ℕ
+unfoldable pub explained_train_line : Format → ℕ → Explained (List ℕ) BodyLines → List ℕ
 explained_train_line format d e = line_of format (explained_train_fields format d e)
 
 -- the names of their fields, and the first line of a table
@@ -152,7 +152,7 @@ pub record IsExplanation (format : Format) (x : ExtractParts) (u : List ℕ) (d 
   pub within : IsWithin (header_window x.header) d
   pub associations : List (Explained AssocKey AssocBody)
   pub of_associations : AreExplained key_cmp IsAssociationOf (association_entries x.associations) u d associations
-  pub trains : List (Explained (List ℕ) BodyParts)
+  pub trains : List (Explained (List ℕ) BodyLines)
   pub of_trains : AreExplained (slice_cmp nat_cmp) IsTrain (schedule_entries x.schedules) u d trains
   pub text_is :
       text ≡ explanation_heading format

@@ -1,7 +1,7 @@
 -- What is listed of a day and of a train: lines of text or the rows of a table, with or without the calls of trains.
 use Rattle.std.specs.Prelude.{ℕ, List, ◌∷◌, [], ◌++◌, codes, if◌then◌else◌}
 use Rattle.cif_columns.specs.DayDigits.{yymmdd_of}
-use Rattle.cif_extract.specs.BodyParts.{BodyParts}
+use Rattle.cif_extract.specs.Body.{BodyLines}
 use Rattle.cif_extract.specs.ExtractParts.{ExtractParts}
 use Rattle.cif_records.specs.declared.association.AssocBody.{AssocBody}
 use Rattle.cif_records.specs.declared.association.AssocKey.{AssocKey}
@@ -38,19 +38,19 @@ unfoldable pub association_line : Listing → Field → AssocKey × AssocBody �
 association_line listing first e = line_of listing.format (association_fields_of listing first e)
 
 -- A row with calls is a line of text, with a line for each call below it; in a table it is repeated before each call.
-abbrev pub with_calls : Format → List Field → BodyParts → List ℕ
+abbrev pub with_calls : Format → List Field → BodyLines → List ℕ
 with_calls Text row b = line_of Text row ++ calls_text (line_of Text) b
 with_calls Tsv row b = calls_text (λ call. line_of Tsv (row ++ call)) b
 
 -- the lines of a train: of its row, with its calls if they are listed
-abbrev pub lines_of_row : Listing → List Field → BodyParts → List ℕ
+abbrev pub lines_of_row : Listing → List Field → BodyLines → List ℕ
 lines_of_row listing row b = if listing.calls then with_calls listing.format row b else line_of listing.format row
 
 -- what is listed of a train that runs, and of a canonical schedule
-abbrev pub train_text : Listing → Field → List ℕ × BodyParts → List ℕ
+abbrev pub train_text : Listing → Field → List ℕ × BodyLines → List ℕ
 train_text listing first e = lines_of_row listing (with_first listing.format first (train_row listing.format e)) e.1
 
-abbrev pub schedule_text : Listing → Field → Permanent BodyParts → List ℕ
+abbrev pub schedule_text : Listing → Field → Permanent BodyLines → List ℕ
 schedule_text listing first r = lines_of_row listing (with_first listing.format first (schedule_row listing.format r)) r.body
 
 -- the names of the fields of a journey, of an association, and of a call if calls are listed

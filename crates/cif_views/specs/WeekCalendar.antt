@@ -13,7 +13,7 @@ use Rattle.cif_columns.specs.Day.{week_of, weekday_of}
 use Rattle.cif_columns.specs.DayDigits.{yymmdd_of}
 use Rattle.cif_columns.specs.Stp.{letter}
 use Rattle.cif_columns.specs.declared.stp.Stp.TheVariants.{N, O, P}
-use Rattle.cif_extract.specs.BodyParts.{BodyParts}
+use Rattle.cif_extract.specs.Body.{BodyLines}
 use Rattle.cif_extract.specs.ExtractParts.{ExtractParts}
 use Rattle.cif_extract.specs.declared.fault.Fault.{Fault}
 use Rattle.cif_extract.specs.declared.fault.Fault.TheVariants.{Memory, Write}
@@ -91,4 +91,4 @@ pub record SaysWhatRuns (x : ExtractParts) (u text : List ℕ) (d : ℕ) : Type 
   pub shown : IsShown text d character
   pub letter : IsRunningLetter character
       ↔ (IsClear (of_key (schedule_entries x.schedules) u) d
-      × ((body : BodyParts) × Runs (of_key (schedule_entries x.schedules) u) d (Some body)))
+      × ((body : BodyLines) × Runs (of_key (schedule_entries x.schedules) u) d (Some body)))

@@ -6,7 +6,7 @@ use Rattle.cif_calendar.specs.Terms.{Terms}
 use Rattle.cif_columns.specs.Contents.{lines_text}
 use Rattle.cif_columns.specs.Field.{plain_line}
 use Rattle.cif_columns.specs.declared.stp.Stp.TheVariants.{P}
-use Rattle.cif_extract.specs.BodyParts.{BodyParts}
+use Rattle.cif_extract.specs.Body.{BodyLines}
 use Rattle.cif_extract.specs.ExtractParts.{ExtractParts}
 use Rattle.cif_extract.specs.declared.extract.Schedule.{Schedule}
 use Rattle.cif_extract.specs.Texts.{schedule_lines}
@@ -48,7 +48,7 @@ abbrev pub of_run : {K B C : Type 0} → (K × Permanent B → C) → List (K ×
 of_run part entries run = text_if (λ e. part e ∷ []) (record_at entries run)
 
 -- what is listed of the schedule of a run, with a number
-abbrev pub numbered_text : (ℕ → ScheduleLines → List ℕ) → List (List ℕ × Terms BodyParts) → ℕ × Run → List ℕ
+abbrev pub numbered_text : (ℕ → ScheduleLines → List ℕ) → List (List ℕ × Terms BodyLines) → ℕ × Run → List ℕ
 numbered_text text entries n = run_text (λ e. text n.0 (schedule_plain e)) entries n.1
 
 -- the lines of an extract's locations and runs
@@ -67,18 +67,18 @@ tiploc_text t = plain_line (tiploc_table t) ++ (10 ∷ [])
 abbrev pub association_text : AssocKey × Permanent AssocBody → List ℕ
 association_text e = plain_line (association_rows e.0 e.1.first e.1.last e.1.days P (Some e.1.body)) ++ (10 ∷ [])
 
-abbrev pub schedule_text : List ℕ × Permanent BodyParts → List ℕ
+abbrev pub schedule_text : List ℕ × Permanent BodyLines → List ℕ
 schedule_text e = lines_text (schedule_lines e.0 e.1.first e.1.last e.1.days P (Some e.1.body))
 
 -- the body of the schedule at a position
-abbrev pub body_at : List Schedule → ℕ → Option BodyParts
+abbrev pub body_at : List Schedule → ℕ → Option BodyLines
 body_at schedules n = option_and_then (λ (s : Schedule). s.body) (slice_get schedules n)
 
 -- the text of the runs of associations, of schedules
 abbrev pub association_run_text : List (AssocKey × Terms AssocBody) → Run → List ℕ
 association_run_text = run_text association_text
 
-abbrev pub schedule_run_text : List (List ℕ × Terms BodyParts) → Run → List ℕ
+abbrev pub schedule_run_text : List (List ℕ × Terms BodyLines) → Run → List ℕ
 schedule_run_text = run_text schedule_text
 
 -- the text that is written of an extract, by its locations and its runs

@@ -2,7 +2,7 @@
 use Rattle.std.specs.Prelude.{ℕ, List, [], Bool, false, ◌&&◌, nat_le, nat_eq, if◌then◌else◌, slice_index_or}
 use Rattle.std.specs.Cmp.Lexicographic.{pointwise}
 use Rattle.cif_columns.specs.Day.{weekday_of}
-use Rattle.cif_extract.specs.BodyParts.{BodyParts}
+use Rattle.cif_extract.specs.Body.{BodyLines}
 use Rattle.cif_weeks.specs.Permanent.{Permanent}
 
 -- whether a permanent record applies on day d
@@ -14,5 +14,5 @@ abbrev pub listed_on : {K B : Type 0} → (K × B → List ℕ) → ℕ → K ×
 listed_on text d e = if applies_on e.1 d then text (e.0, e.1.body) else []
 
 -- what is listed of a record, where it is the train's
-abbrev pub listed_of : (Permanent BodyParts → List ℕ) → List ℕ → List ℕ × Permanent BodyParts → List ℕ
+abbrev pub listed_of : (Permanent BodyLines → List ℕ) → List ℕ → List ℕ × Permanent BodyLines → List ℕ
 listed_of text uid e = if pointwise nat_eq e.0 uid then text e.1 else []

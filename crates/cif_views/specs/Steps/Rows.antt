@@ -1,7 +1,7 @@
 -- The lines of a train, by the text of its row, and the first lines of tables by that of some names. No public clause cites them.
 use Rattle.std.specs.Prelude.{List, ℕ, ◌∷◌, ◌++◌, codes, if◌then◌else◌}
 use Rattle.std.specs.List.{flat_map}
-use Rattle.cif_extract.specs.BodyParts.{BodyParts}
+use Rattle.cif_extract.specs.Body.{BodyLines}
 use Rattle.cif_canon.specs.Fields.{Field, line_of}
 use Rattle.cif_canon.specs.declared.rows.Format.{Format}
 use Rattle.cif_canon.specs.declared.rows.Format.TheVariants.{Text, Tsv}
@@ -12,12 +12,12 @@ use Rattle.cif_views.specs.declared.listing.First.TheVariants.{Date, Train}
 use Rattle.cif_views.specs.declared.listing.Listing.{Listing}
 
 -- the lines of a train, whose own fields are the row, with those of its calls
-abbrev pub row_and_calls : Format → List ℕ → BodyParts → List ℕ
+abbrev pub row_and_calls : Format → List ℕ → BodyLines → List ℕ
 row_and_calls Text row b = (row ++ codes "\n") ++ calls_text (line_of Text) b
 row_and_calls Tsv row b = calls_text (λ call. (row ++ codes "\t") ++ line_of Tsv call) b
 
 -- the lines of a train, by the text of its own fields
-abbrev pub row_lines : Listing → List ℕ → BodyParts → List ℕ
+abbrev pub row_lines : Listing → List ℕ → BodyLines → List ℕ
 row_lines listing row b = if listing.calls then row_and_calls listing.format row b else (row ++ codes "\n")
 
 -- names, a tab before each

@@ -2,14 +2,14 @@
 use Rattle.std.proofs.Common.{◌∙◌, List, Option, ap, drop, replicate, sym, ℕ}
 use Rattle.cif_canon.specs.Pairs.{Listed, listed_as}
 use Rattle.cif_canon.proofs.AppendedTexts.{text-is}
-use Rattle.cif_views.proofs.Words.{BodyParts, Field, Permanent, Trimmed, change_of, nothing, schedule_differences, schedule_head}
+use Rattle.cif_views.proofs.Words.{BodyLines, Field, Permanent, Trimmed, change_of, nothing, schedule_differences, schedule_head}
 use Rattle.cif_views.proofs.Words.{schedule_plain, single_row}
 use Rattle.cif_views.proofs.PairedJourneys.{shown-change}
 use Rattle.cif_views.proofs.TableRows.{behind-row}
 use Rattle.cif_views.proofs.difference_table.DifferenceTableTextsListedRecordUidBody.write.Goals as goal
 
 abbrev Record : Type 0
-Record = List ℕ × Permanent BodyParts
+Record = List ℕ × Permanent BodyLines
 
 abbrev rows : Listed Record → List ℕ
 rows p = schedule_differences (listed_as schedule_plain p)

@@ -2,7 +2,7 @@
 use Rattle.std.proofs.Common.{◌∙◌, ◌++◌, List, ℕ, ap, codes}
 use Rattle.cif_canon.specs.Rows.{train_fields, train_row}
 use Rattle.cif_canon.proofs.AppendedTexts.{text-is}
-use Rattle.cif_views.proofs.Words.{BodyParts, Trimmed, fields_text, first_field, no_association, row_lines}
+use Rattle.cif_views.proofs.Words.{BodyLines, Trimmed, fields_text, first_field, no_association, row_lines}
 use Rattle.cif_views.proofs.CallTexts.{with_first-lines}
 use Rattle.cif_views.proofs.listing.ListedRowsDayLines.write_train.Goals as goal
 
@@ -10,7 +10,7 @@ pub returns : goal.returns
 returns g c =
     let rows = c.args.self.now in
     let listing = rows.listing in
-    let e : List ℕ × BodyParts = (c.args.uid.now, c.args.body.now) in
+    let e : List ℕ × BodyLines = (c.args.uid.now, c.args.body.now) in
     text-is _ _ _ _ _ _
     (ap (λ row. row_lines listing row c.args.body.now) (c.train_row-row.ensures.text
     ∙ ap (λ (l : List ℕ). l ++ fields_text listing.format (train_row listing.format e)) (c.as_str.ensures.value ∙ c.row_start.ensures))
