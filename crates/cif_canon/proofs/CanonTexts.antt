@@ -1,13 +1,14 @@
 -- The text that is written of an extract's runs is that of the canonical extract.
 use Rattle.std.proofs.Common.{◌≡◌, ℕ, suc, List, [], ◌∷◌, ◌++◌, map, length, refl, sym, ap, ◌∙◌}
 use Rattle.cif_columns.specs.Contents.{lines_text}
+use Rattle.cif_canon.specs.Lines.{line_of_association}
 use Rattle.cif_canon.specs.Steps.Texts.{association_text}
 use Rattle.cif_canon.proofs.Words.{All, All-cons, All-head, All-nil, All-tail, AllZip, AreCanonicalRecords, AreDistinct, AssocBody}
-use Rattle.cif_canon.proofs.Words.{AssocKey, BodyLines, ExtractParts, Form, HasRecord, IsRunOf, Permanent, Row, Run, Terms, Tiploc}
-use Rattle.cif_canon.proofs.Words.{association_entries, association_run_text, association_table, canon_text, extract_text, flat_map}
-use Rattle.cif_canon.proofs.Words.{flat_map-append, header_table, header_window, key_cmp, map-append, nat_cmp, plain_line, record_at}
-use Rattle.cif_canon.proofs.Words.{schedule_entries, schedule_lines, schedule_run_text, schedule_text, slice_cmp, tables_of, text_if}
-use Rattle.cif_canon.proofs.Words.{tiploc_table, tiploc_text, trailer_table}
+use Rattle.cif_canon.proofs.Words.{AssocKey, BodyLines, ExtractParts, Form, HasRecord, IsRunOf, Permanent, Run, Terms, Tiploc}
+use Rattle.cif_canon.proofs.Words.{association_entries, association_run_text, canon_text, extract_text, flat_map}
+use Rattle.cif_canon.proofs.Words.{flat_map-append, header_table, header_window, key_cmp, nat_cmp, plain_line, record_at}
+use Rattle.cif_canon.proofs.Words.{schedule_entries, schedule_lines, schedule_run_text, schedule_text, slice_cmp, text_if}
+use Rattle.cif_canon.proofs.Words.{line_of_tiploc, plain_lines_of, tiploc_text, trailer_table}
 use Rattle.cif_canon.proofs.MadeExtract.{IsDated, associations_of, schedule_of, schedules_of}
 use Rattle.cif_canon.proofs.RunTexts.{record-of_run}
 use Rattle.cif_canon.proofs.KeptExtract.{canonical_of, dated-associations, dated-schedules}
@@ -32,39 +33,30 @@ module _ {K B : Type 0} (entries : List (K × Terms B)) where
       ∙ ap (λ (l : List C). text e ++ l) (texts-of_runs text runs records zip.1)
   texts-of_runs _ _ _ zip = absurd zip
 
--- ---- the text of tables
+-- ---- the text of lines
 
-abbrev text_of : List (List Row) → List ℕ
-text_of tables = lines_text (map plain_line tables)
+text-append : (a b : List (List ℕ)) → lines_text (a ++ b) ≡ lines_text a ++ lines_text b
+text-append a b = flat_map-append (λ (line : List ℕ). line ++ (10 ∷ [])) a b
 
-text-append : (a b : List (List Row)) → text_of (a ++ b) ≡ text_of a ++ text_of b
-text-append a b =
-    ap lines_text (map-append plain_line a b)
-    ∙ flat_map-append (λ (line : List ℕ). line ++ (10 ∷ [])) (map plain_line a) (map plain_line b)
-
-tiplocs-text : (ts : List Tiploc) → flat_map tiploc_text ts ≡ text_of (map tiploc_table ts)
+tiplocs-text : (ts : List Tiploc) → flat_map tiploc_text ts ≡ lines_text (map line_of_tiploc ts)
 tiplocs-text [] = refl
 tiplocs-text (t ∷ ts) = ap (λ (l : List ℕ). tiploc_text t ++ l) (tiplocs-text ts)
 
 associations-text : (es : List (AssocKey × Permanent AssocBody)) (h : All IsDated es) →
-    flat_map association_text es ≡ text_of (map association_table (associations_of es h))
+    flat_map association_text es ≡ lines_text (map line_of_association (associations_of es h))
 associations-text [] h = refl
 associations-text ((k, r) ∷ es) h =
     ap (λ (l : List ℕ). association_text (k, r) ++ l) (associations-text es (All-tail IsDated (k, r) es h))
 
-one-schedule : (e : List ℕ × Permanent BodyLines) (h : IsDated e) → schedule_text e ≡ text_of (tables_of (schedule_of e h))
-unfolding schedule_lines
-one-schedule (uid, r) h = refl
-
 schedules-text : (es : List (List ℕ × Permanent BodyLines)) (h : All IsDated es) →
-    flat_map schedule_text es ≡ text_of (flat_map tables_of (schedules_of es h))
+    flat_map schedule_text es ≡ lines_text (flat_map plain_lines_of (schedules_of es h))
+unfolding schedule_lines
 schedules-text [] h = refl
 schedules-text (e ∷ es) h =
     let head = All-head IsDated e es h in
     let tail = All-tail IsDated e es h in
-    ap (λ (l : List ℕ). l ++ flat_map schedule_text es) (one-schedule e head)
-    ∙ ap (λ (l : List ℕ). text_of (tables_of (schedule_of e head)) ++ l) (schedules-text es tail)
-    ∙ sym (text-append (tables_of (schedule_of e head)) (flat_map tables_of (schedules_of es tail)))
+    ap (λ (l : List ℕ). lines_text (plain_lines_of (schedule_of e head)) ++ l) (schedules-text es tail)
+    ∙ sym (text-append (plain_lines_of (schedule_of e head)) (flat_map plain_lines_of (schedules_of es tail)))
 
 -- the number of what is made
 pub number-of_associations : (es : List (AssocKey × Permanent AssocBody)) (h : All IsDated es) → length es ≡ length (associations_of es h)
@@ -88,10 +80,10 @@ module _ (form : Form) (x : ExtractParts) (tiplocs : List Tiploc) (distinct : Ar
       let dated_s = dated-schedules form x schedules s in
       let head : List ℕ = plain_line (header_table x.header) ++ (10 ∷ []) in
       let end : List ℕ = plain_line trailer_table ++ (10 ∷ []) in
-      let first = map tiploc_table tiplocs in
-      let second = map association_table (associations_of a.records dated_a) in
-      let third = flat_map tables_of (schedules_of s.records dated_s) in
-      let last : List (List Row) = trailer_table ∷ [] in
+      let first = map line_of_tiploc tiplocs in
+      let second = map line_of_association (associations_of a.records dated_a) in
+      let third = flat_map plain_lines_of (schedules_of s.records dated_s) in
+      let last = plain_line trailer_table ∷ [] in
       let associations_are = texts-of_runs (association_entries x.associations) association_text associations a.records a.runs_of
       ∙ associations-text a.records dated_a in
       let schedules_are = texts-of_runs (schedule_entries x.schedules) schedule_text schedules s.records s.runs_of
@@ -99,9 +91,9 @@ module _ (form : Form) (x : ExtractParts) (tiplocs : List Tiploc) (distinct : Ar
       ap (λ (l : List ℕ). head ++ l)
       (ap (λ (l : List ℕ). l ++ (flat_map (association_run_text (association_entries x.associations)) associations
       ++ (flat_map (schedule_run_text (schedule_entries x.schedules)) schedules ++ end))) (tiplocs-text tiplocs)
-      ∙ ap (λ (l : List ℕ). text_of first ++ l)
+      ∙ ap (λ (l : List ℕ). lines_text first ++ l)
       (ap (λ (l : List ℕ). l ++ (flat_map (schedule_run_text (schedule_entries x.schedules)) schedules ++ end)) associations_are
-      ∙ ap (λ (l : List ℕ). text_of second ++ l)
+      ∙ ap (λ (l : List ℕ). lines_text second ++ l)
       (ap (λ (l : List ℕ). l ++ end) schedules_are ∙ sym (text-append third last))
       ∙ sym (text-append second (third ++ last)))
       ∙ sym (text-append first (second ++ (third ++ last))))

@@ -9,12 +9,13 @@ use Rattle.cif_records.specs.HeaderColumns.{with_window}
 use Rattle.cif_records.proofs.Headers as headers
 use Rattle.cif_canon.specs.Accepted.{IsAccepted}
 use Rattle.cif_canon.specs.Asked.{nothing_asked}
+use Rattle.cif_canon.specs.Lines.{line_of_association}
 use Rattle.cif_canon.specs.NormalForm.{IsNormalFormAgain, IsNormalFormOf, IsReachedFromForms, IsUnique, after_first_line}
 use Rattle.cif_extract.proofs.OneExtract.{same_extract_parts}
 use Rattle.cif_canon.proofs.Words.{Agree, AreClear, Asked, AskedDatesAreWithin, Association, BytesSpell, ExtractParts, FitsColumns, Form}
 use Rattle.cif_canon.proofs.Words.{Header, IsCanonicalExtract, IsCanonicalOf, IsClearExtract, IsNarrowed, IsWithin, SameMeaning, Schedule}
-use Rattle.cif_canon.proofs.Words.{Tiploc, Window, association_table, canonical-clear, drop_at, extract_text, flat_map, header_table}
-use Rattle.cif_canon.proofs.Words.{header_window, key_cmp, nat_cmp, plain_line, slice_cmp, tables_of, tiploc_table, trailer_table}
+use Rattle.cif_canon.proofs.Words.{Tiploc, Window, canonical-clear, drop_at, extract_text, flat_map, header_table}
+use Rattle.cif_canon.proofs.Words.{header_window, key_cmp, nat_cmp, line_of_tiploc, plain_line, plain_lines_of, slice_cmp, trailer_table}
 use Rattle.cif_canon.proofs.Words.{unwrap_or, window_asked}
 use Rattle.cif_canon.proofs.SameExtracts.{agree-sym, agree-trans, agree-with_header, one-window, same-sym, same-trans}
 use Rattle.cif_canon.proofs.Unique.{extracts-unique, one-associations, one-schedules, one-tiplocs}
@@ -56,8 +57,8 @@ meaning-unique form x y b c p q is =
 -- the lines behind the header's
 abbrev further_lines : List Tiploc → List Association → List Schedule → List (List ℕ)
 further_lines tiplocs associations schedules =
-    map plain_line (map tiploc_table tiplocs
-    ++ (map association_table associations ++ (flat_map tables_of schedules ++ (trailer_table ∷ []))))
+    map line_of_tiploc tiplocs
+    ++ (map line_of_association associations ++ (flat_map plain_lines_of schedules ++ (plain_line trailer_table ∷ [])))
 
 abbrev further_text : ExtractParts → List ℕ
 further_text x = lines_text (further_lines x.tiplocs x.associations x.schedules)
@@ -78,7 +79,13 @@ further-unique : (x y : ExtractParts) → BytesSpell (extract_text x) x → Byte
     further_text x ≡ further_text y → (window : Window) → Agree window x y
 further-unique x y p q same window =
     let z : ExtractParts = record { header = y.header; tiplocs = x.tiplocs; associations = x.associations; schedules = x.schedules } in
-    let fits : FitsColumns z = (headers.fits y.header, (spelled-fits (contents_of (extract_text x)) x p.are_lines p.spelled).1) in
+    let own = spelled-fits (contents_of (extract_text x)) x p.are_lines p.spelled in
+    let fits : FitsColumns z = record {
+      header = headers.fits y.header;
+      tiplocs = own.tiplocs;
+      associations = own.associations;
+      schedules = own.schedules;
+    } in
     let text : extract_text z ≡ extract_text y = ap (λ (t : List ℕ). first_line y.header ++ t) same in
     let is : z ≡ y = one_spelled (extract_text y) z y (subst (λ t. BytesSpell t z) text (text-spells z fits)) q in
     subst (Agree window x) is (agree-with_header window x y.header)

@@ -49,7 +49,7 @@ pub use Rattle.cif_records.specs.declared.tiploc.Tiploc.{Tiploc}
 pub use Rattle.cif_extract.specs.Body.{BodyLines}
 pub use Rattle.cif_extract.specs.ExtractParts.{ExtractParts, extract_parts}
 pub use Rattle.cif_extract.specs.SpellsExtract.{BytesSpell, BytesSpellWithin}
-pub use Rattle.cif_extract.specs.Texts.{FitsColumns, extract_text, tables_of}
+pub use Rattle.cif_extract.specs.Texts.{FitsColumns, extract_text, plain_lines_of}
 unfoldable pub use Rattle.cif_extract.specs.Texts.{schedule_lines}
 pub use Rattle.cif_extract.specs.declared.extract.Schedule.{Schedule}
 pub use Rattle.cif_extract.specs.declared.fault.Clash.{Clash}

@@ -2,6 +2,7 @@
 use Rattle.std.proofs.Common.{◌≡◌, ℕ, ◌<◌, Bool, true, false, List, [], ◌∷◌, ◌++◌, codes, length, refl, sym, ap, ap₂, ◌∙◌, append-nil}
 use Rattle.std.proofs.Common.{◌+◌, ◌≤◌, Bor, append_assoc, arith, drop, get_or, if◌then◌else◌, map, subst}
 use Rattle.std.proofs.lemmas.List.{at_drop_all, at_drop_more}
+use Rattle.cif_extract.specs.Body.{parts_in}
 use Rattle.cif_views.specs.Explanation.{explanation_heading}
 use Rattle.cif_views.specs.Steps.Rows.{heading_text, row_and_calls}
 use Rattle.cif_views.specs.Listing.{association_names, if_table, lines_of_row, train_names, with_calls}
@@ -73,7 +74,7 @@ module _ (one other : List Field → List ℕ) (same : (f : Field) (fs : List Fi
 
   same-calls : (b : BodyLines) → calls_text one b ≡ calls_text other b
   same-calls b =
-      ap₂ (λ (a b : List ℕ). a ++ b) (same _ _) (ap₂ (λ (a b : List ℕ). a ++ b) (same-between b.calls) (same _ _))
+      ap₂ (λ (a b : List ℕ). a ++ b) (same _ _) (ap₂ (λ (a b : List ℕ). a ++ b) (same-between (parts_in b).calls) (same _ _))
 
 row-calls : (format : Format) (first : Field) (row : List Field) (b : BodyLines) →
     row_and_calls format (fields_text format (first ∷ row)) b ≡ with_calls format (first ∷ row) b

@@ -7,14 +7,14 @@ use Rattle.std.specs.Cmp.Lexicographic.{bytes_decides}
 use Rattle.std.proofs.lemmas.Bool.{and_parts, false≢true}
 use Rattle.cif_columns.specs.Field.{plain_line, row}
 use Rattle.cif_columns.proofs.FieldLaws.{one_text_value}
-use Rattle.cif_columns.proofs.Parts.{fits-append, fits-front, stands-front, stands-plain_line}
+use Rattle.cif_columns.proofs.Parts.{stands-front, stands-plain_line}
 use Rattle.cif_columns.proofs.PlainLines.{line-plain_line}
-use Rattle.cif_extract.specs.Body.{KeepAll, KeepBody}
-use Rattle.cif_extract.specs.BodyParts.{body_records, extra_records, journey_records}
+use Rattle.cif_extract.specs.Body.{IsBody, KeepSomeBody, detail_of, parts_in}
+use Rattle.cif_extract.specs.BodyParts.{BodyParts, body_records, extra_records, journey_records}
 use Rattle.cif_extract.specs.Call.{call_record}
-use Rattle.cif_extract.specs.Laws.SameBody.{same_values}
-use Rattle.cif_extract.specs.Texts.{AllTablesFit}
-use Rattle.cif_extract.proofs.Bodies.{same_parts}
+use Rattle.cif_extract.proofs.Bodies.{first_line}
+use Rattle.cif_extract.proofs.Each.{Each, each_back, each_front}
+use Rattle.cif_extract.proofs.PlainTexts.{RecordFits, further-fit, further-lines, lines_of}
 use Rattle.cif_records.specs.Association as aa
 use Rattle.cif_records.specs.Basic.{basic_back, basic_rows}
 use Rattle.cif_records.specs.Detail.{detail_rows, detail_table}
@@ -78,12 +78,9 @@ module _ (begun : List ℕ) (call : ℕ) (l m : List ℕ) (left : IsLine l) (rig
 
 -- ---- two journeys
 
-abbrev pub lines_of : List Record → List (List ℕ)
-lines_of rs = map plain_line (map record_table rs)
-
 module _ (begun : List ℕ) where
-  same-journeys : (call : ℕ) (rs qs : List Record) → ArePlaces qs → AllTablesFit (map record_table rs) →
-      AllTablesFit (map record_table qs) → IsTrue (same_places (lines_of rs) (lines_of qs)) →
+  same-journeys : (call : ℕ) (rs qs : List Record) → ArePlaces qs → Each RecordFits rs →
+      Each RecordFits qs → IsTrue (same_places (lines_of rs) (lines_of qs)) →
       places_behind begun call (lines_of rs) (lines_of qs) ≡ [] → lines_of rs ≡ lines_of qs
   same-journeys call [] [] are one other places none = refl
   same-journeys call [] (q ∷ qs) are one other places none = absurd (false≢true places)
@@ -115,49 +112,6 @@ are-places o calls t = (tt, are-behind calls t)
 
 -- ---- two bodies
 
-keep-lines : (rs : List Record) → AllTablesFit (map record_table rs) → KeepAll (lines_of rs) (map record_table rs)
-keep-lines [] fits = tt
-keep-lines (r ∷ rs) fits = (records.spells r fits.0, refl, keep-lines rs fits.1)
-
--- a detail that fits its line of its own
-alone-fits : (d : Detail) → AllFit (detail_rows (Some d)) → AllFit (detail_table d)
-alone-fits d fits = (tt, fits-append (detail_rows (Some d)) (row 79 80 spare ∷ []) fits (tt, tt))
-
-module _ (d : Detail) (fits : AllFit (detail_rows (Some d))) (p q : BodyLines)
-    (one : AllTablesFit (map record_table (journey_records p.origin p.calls p.terminus)))
-    (other : AllTablesFit (map record_table (journey_records q.origin q.calls q.terminus)))
-    (same : lines_of (journey_records p.origin p.calls p.terminus) ≡ lines_of (journey_records q.origin q.calls q.terminus)) where
-  -- a body with this detail, no BX, and the journey of another
-  abbrev plain : BodyLines → BodyLines
-  plain b = record { detail = d; extra = None; origin = b.origin; calls = b.calls; terminus = b.terminus }
-
-  abbrev plain_lines : List (List ℕ) → List (List ℕ)
-  plain_lines lines = plain_line (detail_table d) ∷ lines
-
-  keeps : (b : BodyLines) → AllTablesFit (map record_table (journey_records b.origin b.calls b.terminus)) →
-      KeepBody (plain_lines (lines_of (journey_records b.origin b.calls b.terminus))) (plain b)
-  keeps b all = (
-    stands-plain_line (detail_table d) refl (alone-fits d fits),
-    refl,
-    keep-lines (journey_records b.origin b.calls b.terminus) all,
-  )
-
-  one-journey : plain p ≡ plain q
-  one-journey =
-      same_parts (plain_lines (lines_of (journey_records q.origin q.calls q.terminus))) (plain p) (plain q)
-      (subst (λ lines. KeepBody (plain_lines lines) (plain p)) same (keeps p one)) (keeps q other)
-
--- tables that fit, of a BX or none and those behind it
-first-fit : (x : Option Extra) (rs : List Record) → AllTablesFit (map record_table (extra_records x ++ rs)) →
-    AllTablesFit (map record_table (extra_records x))
-first-fit None rs fits = tt
-first-fit (Some e) rs fits = (fits.0, tt)
-
-last-fit : (x : Option Extra) (rs : List Record) → AllTablesFit (map record_table (extra_records x ++ rs)) →
-    AllTablesFit (map record_table rs)
-last-fit None rs fits = fits
-last-fit (Some e) rs fits = fits.1
-
 -- two journeys without a row have the same places
 told-places : (same : Bool) (rows row : List ℕ) → cond same rows row ≡ [] → 0 < length row → IsTrue same × (rows ≡ [])
 told-places true rows row none some = (refl, none)
@@ -182,7 +136,7 @@ pub record AreFurther (lines : List (List ℕ)) (extra : Option Extra) (journey 
   pub journey_is : without_extra lines ≡ journey
 
 pub are-further : (extra : Option Extra) (o : Origin) (rs : List Record) →
-    AllTablesFit (map record_table (extra_records extra ++ (of.Origin o ∷ rs))) →
+    Each RecordFits (extra_records extra ++ (of.Origin o ∷ rs)) →
     AreFurther (lines_of (extra_records extra ++ (of.Origin o ∷ rs))) extra (lines_of (of.Origin o ∷ rs))
 are-further None o rs fits =
     let line = plain_line (record_table (of.Origin o)) in
@@ -216,8 +170,8 @@ shown-extra e fits same =
     let long : 2 ≡ 0 = ap length (sym (ap trimmed (records.spells (of.Extra e) fits).0) ∙ same) in
     absurd (omega (arith, long))
 
-pub same-extra : (x y : Option Extra) → AllTablesFit (map record_table (extra_records x)) →
-    AllTablesFit (map record_table (extra_records y)) →
+pub same-extra : (x y : Option Extra) → Each RecordFits (extra_records x) →
+    Each RecordFits (extra_records y) →
     identity_of_extra (extra_line x) ≡ identity_of_extra (extra_line y) → extra_cells (extra_line x) ≡ extra_cells (extra_line y) → x ≡ y
 same-extra None None one other identity same = refl
 same-extra None (Some f) one other identity same = absurd (shown-extra f other.0 (sym identity))
@@ -241,47 +195,83 @@ same-extra (Some e) (Some f) one other identity same =
 
 -- a schedule's line that stands for its record
 abbrev pub basic_line : List ℕ × Permanent BodyLines → List Row
-basic_line e = basic_rows e.0 e.1.first e.1.last e.1.days P (Some e.1.body.detail)
+basic_line e = basic_rows e.0 e.1.first e.1.last e.1.days P (Some (detail_of e.1.body))
 
--- it fits its columns, with the lines of its body
+-- it fits its columns, and has a body
 pub record FitsLines (e : List ℕ × Permanent BodyLines) : Type 0 where
   pub basic : AllFit (basic_line e)
-  pub further : AllTablesFit (map record_table (body_records e.1.body))
+  pub body : IsBody e.1.body
+
+-- the lines behind its BS, of a BX or none and a journey
+abbrev pub behind_extra : Option Extra → List (List ℕ) → List (List ℕ)
+behind_extra None lines = lines
+behind_extra (Some e) lines = plain_line (record_table (of.Extra e)) ∷ lines
+
+further-is : (x : Option Extra) (rs : List Record) → lines_of (extra_records x ++ rs) ≡ behind_extra x (lines_of rs)
+further-is None rs = refl
+further-is (Some e) rs = refl
 
 module _ (e : List ℕ × Permanent BodyLines) (fits : FitsLines e) where
+  abbrev it : BodyParts
+  it = parts_in e.1.body
+
+  abbrev pub journey_in_body : List Record
+  journey_in_body = journey_records it.origin it.calls it.terminus
+
   is-line : IsLine (plain_line (basic_line e))
   is-line = line-plain_line (basic_line e) refl fits.basic
 
-  detail-stands : AllStandIn (plain_line (basic_line e)) (detail_rows (Some e.1.body.detail))
+  detail-stands : AllStandIn (plain_line (basic_line e)) (detail_rows (Some (detail_of e.1.body)))
   detail-stands =
-      stands-front (plain_line (basic_line e)) (detail_rows (Some e.1.body.detail)) (basic_back P)
+      stands-front (plain_line (basic_line e)) (detail_rows (Some (detail_of e.1.body))) (basic_back P)
       (stands-plain_line (basic_line e) refl fits.basic).1.1.1.1.1.1.1
 
-  detail-fits : AllFit (detail_rows (Some e.1.body.detail))
-  detail-fits = fits-front (detail_rows (Some e.1.body.detail)) (basic_back P) fits.basic.1.1.1.1.1.1.1
+  further-fits : Each RecordFits (body_records it)
+  further-fits = further-fit (Some e.1.body) fits.body
 
-  pub extra-fits : AllTablesFit (map record_table (extra_records e.1.body.extra))
-  extra-fits = first-fit e.1.body.extra _ fits.further
+  pub extra-fits : Each RecordFits (extra_records it.extra)
+  extra-fits = each_front RecordFits (extra_records it.extra) journey_in_body further-fits
 
-  pub journey-fits : AllTablesFit (map record_table (journey_records e.1.body.origin e.1.body.calls e.1.body.terminus))
-  journey-fits = last-fit e.1.body.extra _ fits.further
+  pub journey-fits : Each RecordFits journey_in_body
+  journey-fits = each_back RecordFits (extra_records it.extra) journey_in_body further-fits
+
+  pub further-of : drop 1 e.1.body ≡ behind_extra it.extra (lines_of journey_in_body)
+  further-of = further-lines (Some e.1.body) fits.body ∙ further-is it.extra journey_in_body
+
+  pub are-further_of : AreFurther (drop 1 e.1.body) it.extra (lines_of journey_in_body)
+  are-further_of =
+      subst (λ lines. AreFurther lines it.extra (lines_of journey_in_body)) (sym (further-lines (Some e.1.body) fits.body))
+      (are-further it.extra it.origin (map call_record it.calls ++ (of.Terminus it.terminus ∷ [])) further-fits)
+
+-- bodies are equal where their details are, and their further lines
+same-lines : (a b : BodyLines) → KeepSomeBody a → KeepSomeBody b → detail_of a ≡ detail_of b → drop 1 a ≡ drop 1 b → a ≡ b
+same-lines a b one other detail further =
+    by-first a (first_line a one).0 ∙ (λ i. first i ∷ further i) ∙ sym (by-first b (first_line b other).0)
+  where
+    first : get_or a 0 [] ≡ get_or b 0 []
+    first =
+        (first_line a one).1 ∙ ap (λ (d : Detail). plain_line (detail_table d)) detail ∙ sym (first_line b other).1
+
+    by-first : (lines : BodyLines) → 2 < length lines → lines ≡ get_or lines 0 [] ∷ drop 1 lines
+    by-first [] some = absurd (omega (arith, some))
+    by-first (line ∷ lines) some = refl
 
 module _ (e g : List ℕ × Permanent BodyLines) (one : FitsLines e) (other : FitsLines g) where
   same-detail : map (shown Tsv) (row_fields detail_fields (plain_line (basic_line e)))
-      ≡ map (shown Tsv) (row_fields detail_fields (plain_line (basic_line g))) → e.1.body.detail ≡ g.1.body.detail
+      ≡ map (shown Tsv) (row_fields detail_fields (plain_line (basic_line g))) → detail_of e.1.body ≡ detail_of g.1.body
   same-detail same =
       let l = plain_line (basic_line e) in
       let m = plain_line (basic_line g) in
       let all = all-covered l m 0 kinds_of.Other refl (is-line e one) (is-line g other) (drop 4 basic_columns)
-      (detail_rows (Some g.1.body.detail)) refl same in
-      one_detail l e.1.body.detail g.1.body.detail (detail-stands e one)
-      (all-moved l m (detail_rows (Some g.1.body.detail)) all (detail-stands g other))
+      (detail_rows (Some (detail_of g.1.body))) refl same in
+      one_detail l (detail_of e.1.body) (detail_of g.1.body) (detail-stands e one)
+      (all-moved l m (detail_rows (Some (detail_of g.1.body))) all (detail-stands g other))
 
   -- where a pair has no row, the bodies are the same
   pub same-body : schedule_differences (record { side = Left; it = schedule_plain e }, Some (schedule_plain g)) ≡ [] → e.1.body ≡ g.1.body
   same-body none =
-      let p = e.1.body in
-      let q = g.1.body in
+      let p = parts_in e.1.body in
+      let q = parts_in g.1.body in
       let s = schedule_plain e in
       let t = schedule_plain g in
       let head = schedule_head changed s.basic in
@@ -296,15 +286,15 @@ module _ (e g : List ℕ × Permanent BodyLines) (one : FitsLines e) (other : Fi
       let (no_detail, later) = both-none details (identities ++ (extras ++ journeys)) none in
       let (no_identity, last) = both-none identities (extras ++ journeys) later in
       let (no_extra, no_journey) = both-none extras journeys last in
-      let a = are-further p.extra p.origin (map call_record p.calls ++ (of.Terminus p.terminus ∷ [])) one.further in
-      let b = are-further q.extra q.origin (map call_record q.calls ++ (of.Terminus q.terminus ∷ [])) other.further in
+      let a = are-further_of e one in
+      let b = are-further_of g other in
       let detail_is = same-detail (same-cells start s.basic t.basic detail_fields no_detail) in
       let extra_is = same-extra p.extra q.extra (extra-fits e one) (extra-fits g other)
       (ap identity_of_extra (sym a.extra_is) ∙ ap first_cell (same-cells start x y extra_identity no_identity)
       ∙ ap identity_of_extra b.extra_is)
       (ap extra_cells (sym a.extra_is) ∙ same-cells behind x y extra_fields no_extra ∙ ap extra_cells b.extra_is) in
-      let rs = journey_records p.origin p.calls p.terminus in
-      let qs = journey_records q.origin q.calls q.terminus in
+      let rs = journey_in_body e one in
+      let qs = journey_in_body g other in
       let begun = after Tsv head in
       let by_lines : journeys_behind begun (lines_of rs) (lines_of qs) ≡ [] =
       ap₂ (journeys_behind begun) (sym a.journey_is) (sym b.journey_is)
@@ -314,9 +304,8 @@ module _ (e g : List ℕ × Permanent BodyLines) (one : FitsLines e) (other : Fi
       (some-behind begun (call_counts (count_of_calls (lines_of rs)) (count_of_calls (lines_of qs)))) in
       let lines = same-journeys begun 1 rs qs (are-places q.origin q.calls q.terminus) (journey-fits e one) (journey-fits g other)
       places rows in
-      let journey = one-journey p.detail (detail-fits e one) p q (journey-fits e one) (journey-fits g other) lines in
-      same_values p q detail_is extra_is (ap (λ (b : BodyLines). b.origin) journey) (ap (λ (b : BodyLines). b.calls) journey)
-      (ap (λ (b : BodyLines). b.terminus) journey)
+      same-lines e.1.body g.1.body one.body.keep other.body.keep detail_is
+      (further-of e one ∙ (λ i. behind_extra (extra_is i) (lines i)) ∙ sym (further-of g other))
 
 -- ---- two associations
 

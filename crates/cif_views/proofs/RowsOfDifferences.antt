@@ -1,15 +1,16 @@
 -- Each difference has a row: the bodies of a pair differ, and where all cells are the same they don't.
-use Rattle.std.proofs.Common.{◌≡◌, ℕ, ◌<◌, ◌≤◌, Bool, List, [], ◌∷◌, ◌++◌, Option, None, Some, arith, length, map, replicate, ◌∙◌, ap}
+use Rattle.std.proofs.Common.{◌≡◌, ℕ, ◌<◌, ◌≤◌, All, Bool, IfSome, List, [], ◌∷◌, ◌++◌, Option, None, Some, arith, length, map, replicate, ◌∙◌, ap}
 use Rattle.std.proofs.Common.{length-append, ⊎_elim, refl, subst, sym}
+use Rattle.std.specs.Option.{option_map}
 use Rattle.std.proofs.lemmas.List.{nil_from_length}
 use Rattle.std.proofs.lemmas.List.Elements.{All-contains, Contains-append_left, Contains-append_right}
 use Rattle.cif_columns.specs.Day.{weekday_of}
 use Rattle.cif_columns.specs.DaysRun.{RunsOn}
-use Rattle.cif_extract.specs.Texts.{AllTablesFit, schedule_tables, tables_of}
-use Rattle.cif_extract.proofs.PlainTexts.{fit-back, fit-front, spelled-fits}
+use Rattle.cif_extract.specs.Body.{IsBody, detail_of}
+use Rattle.cif_extract.specs.Texts.{ScheduleFits}
+use Rattle.cif_extract.proofs.PlainTexts.{spelled-fits}
 use Rattle.cif_records.specs.Association as aa
-use Rattle.cif_records.specs.Tiploc.{tiploc_table}
-use Rattle.cif_records.specs.Trailer.{trailer_table}
+use Rattle.cif_records.specs.Basic.{basic_rows}
 use Rattle.cif_records.proofs.Headers as headers
 use Rattle.cif_calendar.specs.Runs.{BodyRuns}
 use Rattle.cif_calendar.proofs.Elements.{Contains-cases, Contains-first, Contains-rest}
@@ -144,59 +145,49 @@ module _ {K B : Type 0} (cmp : K → K → Ordering) (window : Window) (xs ys : 
 -- ---- what is listed of accepted extracts fits its columns
 
 record FitLists (x : ExtractParts) : Type 0 where
-  associations : AllTablesFit (map aa.association_table x.associations)
-  schedules : AllTablesFit (flat_map tables_of x.schedules)
+  associations : All (λ (a : Association). AllFit (aa.association_table a)) x.associations
+  schedules : All ScheduleFits x.schedules
 
 accepted-fits : (asked : Asked) (input : List ℕ) (x : ExtractParts) → IsAccepted asked x input → FitLists x
 accepted-fits asked input x a =
-    let w = a.whole in
-    let locations = map tiploc_table w.tiplocs in
-    let own = map aa.association_table w.associations in
-    let trains = flat_map tables_of w.schedules in
-    let end : List (List Row) = trailer_table ∷ [] in
-    let fits = spelled-fits (contents_of input) w a.spelled.are_lines a.spelled.spelled in
-    let behind = fit-back locations (own ++ (trains ++ end)) fits.1 in
-    let back = fit-back own (trains ++ end) behind in
+    let fits = spelled-fits (contents_of input) a.whole a.spelled.are_lines a.spelled.spelled in
     record {
-      associations = subst (λ (rs : List Association). AllTablesFit (map aa.association_table rs)) (sym a.narrowed.associations)
-          (fit-front own (trains ++ end) behind);
-      schedules = subst (λ (ss : List Schedule). AllTablesFit (flat_map tables_of ss)) (sym a.narrowed.schedules)
-          (fit-front trains end back);
+      associations = subst (All (λ (a : Association). AllFit (aa.association_table a))) (sym a.narrowed.associations) fits.associations;
+      schedules = subst (All ScheduleFits) (sym a.narrowed.schedules) fits.schedules;
     }
 
-association-fits : (xs : List Association) (k : AssocKey) (t : Terms AssocBody) → AllTablesFit (map aa.association_table xs) →
-    Contains (association_entries xs) (k, t) → AllFit (aa.association_rows k t.first t.last t.days t.letter t.body)
-association-fits [] k t fits h = absurd (Contains-none (k, t) h)
-association-fits (a ∷ xs) k t fits h = ⊎_elim
-    (λ e. subst (λ (p : AssocKey × Terms AssocBody). AllFit (aa.association_rows p.0 p.1.first p.1.last p.1.days p.1.letter p.1.body)) e
-    fits.0)
-    (λ later. association-fits xs k t fits.1 later)
-    (Contains-cases (association_entry a) (association_entries xs) (k, t) h)
+-- what fits of the records fits of their entries
+abbrev pub AssociationEntryFits : AssocKey × Terms AssocBody → Type 0
+AssociationEntryFits e = AllFit (aa.association_rows e.0 e.1.first e.1.last e.1.days e.1.letter e.1.body)
 
-schedule-fits : (xs : List Schedule) (k : List ℕ) (t : Terms BodyLines) → AllTablesFit (flat_map tables_of xs) →
-    Contains (schedule_entries xs) (k, t) → AllTablesFit (schedule_tables k t.first t.last t.days t.letter t.body)
-schedule-fits [] k t fits h = absurd (Contains-none (k, t) h)
-schedule-fits (s ∷ xs) k t fits h = ⊎_elim
-    (λ e. subst (λ (p : List ℕ × Terms BodyLines). AllTablesFit (schedule_tables p.0 p.1.first p.1.last p.1.days p.1.letter p.1.body)) e
-    (fit-front (tables_of s) (flat_map tables_of xs) fits))
-    (λ later. schedule-fits xs k t (fit-back (tables_of s) (flat_map tables_of xs) fits) later)
-    (Contains-cases (schedule_entry s) (schedule_entries xs) (k, t) h)
+pub record ScheduleEntryFits (e : List ℕ × Terms BodyLines) : Type 0 where
+  pub basic : AllFit (basic_rows e.0 e.1.first e.1.last e.1.days e.1.letter (option_map detail_of e.1.body))
+  pub body : IfSome e.1.body IsBody
+
+of-entry : {X Y : Type 0} (entry : X → Y) (P : X → Type 0) (Q : Y → Type 0) → ((x : X) → P x → Q (entry x)) → (xs : List X) (y : Y) →
+    All P xs → Contains (map entry xs) y → Q y
+of-entry entry P Q f xs y fits h =
+    let found = from-map entry xs y h in subst Q found.is (f found.it (All-contains P xs found.it fits found.there))
 
 module _ (x y : ExtractParts) (d : DifferencesParts) (a : FitLists x) (b : FitLists y) (are : AreDifferences x y d) where
   abbrev window : Window
   window = header_window x.header
 
-  association-listed : (side : Side) (k : AssocKey) (t : Terms AssocBody) →
-      Contains (at_side (association_entries x.associations) (association_entries y.associations) side) (k, t) →
-      AllFit (aa.association_rows k t.first t.last t.days t.letter t.body)
-  association-listed Left k t h = association-fits x.associations k t a.associations h
-  association-listed Right k t h = association-fits y.associations k t b.associations h
+  association-listed : (side : Side) (e : AssocKey × Terms AssocBody) →
+      Contains (at_side (association_entries x.associations) (association_entries y.associations) side) e → AssociationEntryFits e
+  association-listed Left e h = of-entry association_entry _ AssociationEntryFits (λ r f. f) x.associations e a.associations h
+  association-listed Right e h = of-entry association_entry _ AssociationEntryFits (λ r f. f) y.associations e b.associations h
 
-  schedule-listed : (side : Side) (k : List ℕ) (t : Terms BodyLines) →
-      Contains (at_side (schedule_entries x.schedules) (schedule_entries y.schedules) side) (k, t) →
-      AllTablesFit (schedule_tables k t.first t.last t.days t.letter t.body)
-  schedule-listed Left k t h = schedule-fits x.schedules k t a.schedules h
-  schedule-listed Right k t h = schedule-fits y.schedules k t b.schedules h
+  schedule-listed : (side : Side) (e : List ℕ × Terms BodyLines) →
+      Contains (at_side (schedule_entries x.schedules) (schedule_entries y.schedules) side) e → ScheduleEntryFits e
+  schedule-listed side e h = at side h
+    where
+      own : (s : Schedule) → ScheduleFits s → ScheduleEntryFits (schedule_entry s)
+      own s f = record { basic = f.basic; body = f.body }
+
+      at : (side : Side) → Contains (at_side (schedule_entries x.schedules) (schedule_entries y.schedules) side) e → ScheduleEntryFits e
+      at Left h = of-entry schedule_entry ScheduleFits ScheduleEntryFits own x.schedules e a.schedules h
+      at Right h = of-entry schedule_entry ScheduleFits ScheduleEntryFits own y.schedules e b.schedules h
 
   association-lines-fit : (side : Side) (e : AssocKey × Permanent AssocBody) → Contains (of_side side d.associations) e →
       AllFit (association_line e)
@@ -206,7 +197,7 @@ module _ (x y : ExtractParts) (d : DifferencesParts) (a : FitLists x) (b : FitLi
       let runs = said.only.runs in
       let t = runs.winner in
       let own = subst (λ (o : Option AssocBody). AllFit (aa.association_rows e.0 t.first t.last t.days t.letter o)) runs.body
-      (association-listed side e.0 t runs.wins.listed) in
+      (association-listed side (e.0, t) runs.wins.listed) in
       permanent-association e.0 t.first t.last t.days t.letter e.1.body e.1.first e.1.last e.1.days own
       (All-contains HasTerms (of_side side d.associations) e
       (have-terms key_cmp Two window (of_side side d.associations) (are.associations.only side).canonical (headers.last_is_day x.header)) h)
@@ -217,14 +208,15 @@ module _ (x y : ExtractParts) (d : DifferencesParts) (a : FitLists x) (b : FitLi
       are.schedules side e h in
       let runs = said.only.runs in
       let t = runs.winner in
-      let own = subst (λ (o : Option BodyLines). AllTablesFit (schedule_tables e.0 t.first t.last t.days t.letter o)) runs.body
-      (schedule-listed side e.0 t runs.wins.listed) in
+      let own = schedule-listed side (e.0, t) runs.wins.listed in
       record {
-        basic = permanent-basic e.0 t.first t.last t.days t.letter e.1.body.detail e.1.first e.1.last e.1.days own.0
+        basic = permanent-basic e.0 t.first t.last t.days t.letter (detail_of e.1.body) e.1.first e.1.last e.1.days
+            (subst (λ (o : Option BodyLines). AllFit (basic_rows e.0 t.first t.last t.days t.letter (option_map detail_of o))) runs.body
+            own.basic)
             (All-contains HasTerms (of_side side d.schedules) e
             (have-terms (slice_cmp nat_cmp) Two window (of_side side d.schedules) (are.schedules.only side).canonical
             (headers.last_is_day x.header)) h);
-        further = own.1;
+        body = subst (λ o. IfSome o IsBody) runs.body own.body;
       }
 
   abbrev associations_listed : List (Listed (AssocKey × Permanent AssocBody))

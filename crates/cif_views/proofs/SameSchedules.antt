@@ -7,9 +7,10 @@ use Rattle.std.proofs.lemmas.List.Elements.{All-append, All-cons, All-filter, Al
 use Rattle.cif_columns.specs.Field.{plain_line}
 use Rattle.cif_columns.specs.Line.{ArePrintable}
 use Rattle.cif_canon.proofs.ViewLines.{spaces}
+use Rattle.cif_extract.specs.Body.{parts_in}
 use Rattle.cif_extract.specs.BodyParts.{extra_records, journey_records}
-use Rattle.cif_extract.specs.Call.{call_record}
-use Rattle.cif_extract.specs.Texts.{AllTablesFit}
+use Rattle.cif_extract.proofs.Each.{Each}
+use Rattle.cif_extract.proofs.PlainTexts.{RecordFits, lines_of}
 use Rattle.cif_records.specs.Record.{record_table}
 use Rattle.cif_records.specs.declared.extra.Extra.{Extra}
 use Rattle.cif_records.specs.declared.record.Record.{Record}
@@ -21,8 +22,8 @@ use Rattle.cif_views.specs.Tables.{NumberedSchedule, extra_fields}
 use Rattle.cif_views.proofs.Words.{BodyLines, IsLine, JourneyKind, Numbered, Other, Permanent, ScheduleLines, Tsv, columns, extra_in}
 use Rattle.cif_views.proofs.Words.{flat_map, is_call, journey_kind, kind_of_line, numbered_from, numbered_schedule, row_fields}
 use Rattle.cif_views.proofs.Words.{schedule_fields, schedule_plain, shown, trimmed}
-use Rattle.cif_views.proofs.PairedBodies.{ArePlaces, FitsLines, are-further, are-places, basic_line, extra-fits, extra_line, journey-fits}
-use Rattle.cif_views.proofs.PairedBodies.{lines_of, same-extra}
+use Rattle.cif_views.proofs.PairedBodies.{ArePlaces, FitsLines, are-further_of, are-places, basic_line, behind_extra, extra-fits}
+use Rattle.cif_views.proofs.PairedBodies.{extra_line, further-of as further-of_body, journey-fits, same-extra}
 use Rattle.cif_views.proofs.RowLines.{AreCells, IsPlain, are-cells, cells_in, cells_of, is-line, number-printable, one-line}
 use Rattle.cif_views.proofs.SameJourneys.{IsNumbered, IsOfJourney, IsRow, are-numbered, listed_from, most, same-journey}
 
@@ -35,9 +36,9 @@ pub record IsSchedule (s : ScheduleLines) : Type 0 where
 
 -- its journey
 abbrev journey_of : List ℕ × Permanent BodyLines → List (List ℕ)
-journey_of e = lines_of (journey_records e.1.body.origin e.1.body.calls e.1.body.terminus)
+journey_of e = let b = parts_in e.1.body in lines_of (journey_records b.origin b.calls b.terminus)
 
-are-of_journey : (rs : List Record) → ArePlaces rs → AllTablesFit (map record_table rs) → All IsOfJourney (lines_of rs)
+are-of_journey : (rs : List Record) → ArePlaces rs → Each RecordFits rs → All IsOfJourney (lines_of rs)
 are-of_journey [] are fits = All-nil IsOfJourney
 are-of_journey (r ∷ rs) are fits =
     All-cons IsOfJourney (plain_line (record_table r)) (lines_of rs)
@@ -45,22 +46,15 @@ are-of_journey (r ∷ rs) are fits =
 
 of-journey : (e : List ℕ × Permanent BodyLines) → FitsLines e → All IsOfJourney (journey_of e)
 of-journey e fits =
-    let b = e.1.body in
+    let b = parts_in e.1.body in
     are-of_journey (journey_records b.origin b.calls b.terminus) (are-places b.origin b.calls b.terminus) (journey-fits e fits)
 
--- the lines behind a BS, of a BX or none and a journey
-abbrev behind_extra : Option Extra → List (List ℕ) → List (List ℕ)
-behind_extra None lines = lines
-behind_extra (Some e) lines = plain_line (record_table (of.Extra e)) ∷ lines
+-- its BX
+abbrev extra_of : List ℕ × Permanent BodyLines → Option Extra
+extra_of e = (parts_in e.1.body).extra
 
-further-is : (x : Option Extra) (rs : List Record) → lines_of (extra_records x ++ rs) ≡ behind_extra x (lines_of rs)
-further-is None rs = refl
-further-is (Some e) rs = refl
-
-further-of : (s : ScheduleLines) (p : IsSchedule s) → s.further ≡ behind_extra p.it.1.body.extra (journey_of p.it)
-further-of s p =
-    let b = p.it.1.body in
-    (λ i. (p.is i).further) ∙ further-is b.extra (journey_records b.origin b.calls b.terminus)
+further-of : (s : ScheduleLines) (p : IsSchedule s) → s.further ≡ behind_extra (extra_of p.it) (journey_of p.it)
+further-of s p = (λ i. (p.is i).further) ∙ further-of_body p.it p.fits
 
 no-longer : (x : Option Extra) (lines : List (List ℕ)) → length lines ≤ length (behind_extra x lines)
 no-longer None lines = omega arith
@@ -77,7 +71,7 @@ module _ (calls : Bool) where
   listed n lines = listed_from n calls 1 lines
 
   -- there is none of a BX
-  listed-behind : (n : ℕ) (x : Option Extra) (lines : List (List ℕ)) → AllTablesFit (map record_table (extra_records x)) →
+  listed-behind : (n : ℕ) (x : Option Extra) (lines : List (List ℕ)) → Each RecordFits (extra_records x) →
       listed n (behind_extra x lines) ≡ listed n lines
   listed-behind n None lines fits = refl
   listed-behind n (Some e) lines fits =
@@ -91,7 +85,7 @@ module _ (calls : Bool) where
 
   pub listed-of : (n : ℕ) (s : ScheduleLines) (p : IsSchedule s) → listed n s.further ≡ listed n (journey_of p.it)
   listed-of n s p =
-      ap (listed n) (further-of s p) ∙ listed-behind n p.it.1.body.extra (journey_of p.it) (extra-fits p.it p.fits)
+      ap (listed n) (further-of s p) ∙ listed-behind n (extra_of p.it) (journey_of p.it) (extra-fits p.it p.fits)
 
   of-schedule : (first last n : ℕ) (s : ScheduleLines) → first ≤ n → n ≤ last → IsSchedule s →
       All (IsRow calls first last) (listed n s.further)
@@ -99,7 +93,7 @@ module _ (calls : Bool) where
       let lines = journey_of p.it in
       let numbered = numbered_from n 1 lines in
       let few = p.few in
-      let high : 1 + length lines ≤ most = omega (arith, few, ap length (further-of s p), no-longer p.it.1.body.extra lines) in
+      let high : 1 + length lines ≤ most = omega (arith, few, ap length (further-of s p), no-longer (extra_of p.it) lines) in
       let are = All-filter (λ p. has_row calls (kind_of_line p.line)) (IsNumbered first last 1 most) numbered
       (are-numbered n first last 1 most 1 lines from upto (omega arith) high (of-journey p.it p.fits)) in
       let pass = filter_passes (λ (p : Numbered). has_row calls (kind_of_line p.line)) numbered in
@@ -149,7 +143,7 @@ module _ (calls : Bool) where
 -- a line has a BX, or spaces in its place
 pub record IsExtra (line : List ℕ) : Type 0 where
   pub it : Option Extra
-  pub fits : AllTablesFit (map record_table (extra_records it))
+  pub fits : Each RecordFits (extra_records it)
   pub is : line ≡ extra_line it
 
 -- a row of schedules
@@ -161,7 +155,7 @@ pub record IsNumberedPlain (s : NumberedSchedule) : Type 0 where
 line-of_extra : (line : List ℕ) → IsExtra line → IsLine line
 line-of_extra line x = subst IsLine (sym x.is) (is x.it x.fits)
   where
-    is : (o : Option Extra) → AllTablesFit (map record_table (extra_records o)) → IsLine (extra_line o)
+    is : (o : Option Extra) → Each RecordFits (extra_records o) → IsLine (extra_line o)
     is None fits = record { width = refl; printable = spaces 80 }
     is (Some e) fits = records.line (of.Extra e) fits.0
 
@@ -192,11 +186,8 @@ same-row_of s t p q same =
 abbrev pub schedules_from : ℕ → List ScheduleLines → List NumberedSchedule
 schedules_from n xs = map numbered_schedule (enumerate_from n xs)
 
-extra-there : (s : ScheduleLines) (p : IsSchedule s) → extra_in s.further ≡ extra_line p.it.1.body.extra
-extra-there s p =
-    let b = p.it.1.body in
-    (λ i. extra_in (p.is i).further)
-    ∙ (are-further b.extra b.origin (map call_record b.calls ++ (of.Terminus b.terminus ∷ [])) p.fits.further).extra_is
+extra-there : (s : ScheduleLines) (p : IsSchedule s) → extra_in s.further ≡ extra_line (extra_of p.it)
+extra-there s p = (λ i. extra_in (p.is i).further) ∙ (are-further_of p.it p.fits).extra_is
 
 pub all-numbered : (n : ℕ) (xs : List ScheduleLines) → n + length xs ≤ 2 ^ 64 → All IsSchedule xs →
     All IsNumberedPlain (schedules_from n xs)
@@ -207,7 +198,7 @@ all-numbered n (s ∷ xs) few are =
     (record {
       few = omega (arith, few);
       basic = record { it = p.it; fits = p.fits.basic; is = λ i. (p.is i).basic };
-      extra = record { it = p.it.1.body.extra; fits = extra-fits p.it p.fits; is = extra-there s p };
+      extra = record { it = extra_of p.it; fits = extra-fits p.it p.fits; is = extra-there s p };
     }) (all-numbered (n + 1) xs (omega (arith, few)) (All-tail IsSchedule s xs are))
 
 same-lines : (s t : ScheduleLines) → s.basic ≡ t.basic → s.further ≡ t.further → s ≡ t
@@ -217,7 +208,7 @@ one-schedule : (n : ℕ) (s t : ScheduleLines) → IsSchedule s → IsSchedule t
     ((calls : Bool) → listed calls n s.further ≡ listed calls n t.further) → s ≡ t
 one-schedule n s t p q basic extra rows =
     let line = sym (extra-there s p) ∙ extra ∙ extra-there t q in
-    let same = same-extra p.it.1.body.extra q.it.1.body.extra (extra-fits p.it p.fits) (extra-fits q.it q.fits)
+    let same = same-extra (extra_of p.it) (extra_of q.it) (extra-fits p.it p.fits) (extra-fits q.it q.fits)
     (ap (λ (l : List ℕ). trimmed (columns 1 2 l)) line) (ap (λ (l : List ℕ). map (shown Tsv) (row_fields extra_fields l)) line) in
     let journey = same-journey n 1 (journey_of p.it) (journey_of q.it) (of-journey p.it p.fits) (of-journey q.it q.fits)
     (λ calls. sym (listed-of calls n s p) ∙ rows calls ∙ listed-of calls n t q) in

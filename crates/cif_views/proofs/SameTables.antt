@@ -2,20 +2,23 @@
 use Rattle.std.proofs.Common.{◌≡◌, ◌≢◌, ℕ, ◌+◌, ◌<◌, ◌≤◌, ◌^◌, All, Bool, true, false, List, [], ◌∷◌, ◌++◌, Some, ap, ◌∙◌}
 use Rattle.std.proofs.Common.{arith, drop, get_or, length, length-append, map, refl, subst, sym}
 use Rattle.std.specs.List.{enumerate_from}
+use Rattle.std.specs.Option.{option_map}
 use Rattle.std.specs.Prelude.{◌↔◌}
 use Rattle.std.proofs.lemmas.Grind.{flat_map-append}
 use Rattle.std.proofs.lemmas.List.{append_cancel_left, length-map, map-append}
-use Rattle.std.proofs.lemmas.List.Elements.{All-cons, All-nil}
+use Rattle.std.proofs.lemmas.List.Elements.{All-cons, All-head, All-map, All-nil, All-tail, All-weaker}
 use Rattle.std.proofs.lemmas.List.Folds.{flat_map-map}
 use Rattle.std.proofs.lemmas.Simd.{map-map}
 use Rattle.cif_calendar.specs.Terms.{Terms}
 use Rattle.cif_columns.specs.Contents.{contents_of, lines_text}
 use Rattle.cif_columns.specs.Field.{plain_line}
 use Rattle.cif_extract.specs.SpellsExtract.{BytesSpell}
-use Rattle.cif_extract.specs.Texts.{AllTablesFit, body_tables, extract_tables, extract_text, schedule_tables, tables_of}
-use Rattle.cif_extract.proofs.PlainTexts.{fit-back, fit-front, spelled-fits}
+use Rattle.cif_extract.specs.Body.{detail_of}
+use Rattle.cif_extract.specs.Texts.{ScheduleFits, extract_text, further_lines, plain_lines_of}
+use Rattle.cif_extract.proofs.PlainTexts.{spelled-fits}
 use Rattle.cif_extract.proofs.SpelledBytes.{one_spelled}
 use Rattle.cif_records.specs.Association as aa
+use Rattle.cif_records.specs.Basic.{basic_rows}
 use Rattle.cif_records.specs.Header.{header_table}
 use Rattle.cif_records.specs.Tiploc.{tiploc_table}
 use Rattle.cif_records.specs.Trailer.{trailer_table}
@@ -34,11 +37,12 @@ use Rattle.cif_views.specs.TableText.{table_heading, table_text}
 use Rattle.cif_views.specs.Tables.{association_fields, header_fields}
 use Rattle.cif_views.specs.declared.tables.Table.{Table}
 use Rattle.cif_views.specs.declared.tables.Table.TheVariants.{Associations, Calls, Changes, Header, Public, Schedules, Tiplocs}
-use Rattle.cif_views.proofs.Words.{AssocBody, AssocKey, Association, BodyLines, Column, ExtractParts, Permanent, Row, Schedule}
+use Rattle.cif_views.proofs.Words.{AllFit, AssocBody, AssocKey, Association, BodyLines, Column, ExtractParts, Permanent, Row, Schedule}
 use Rattle.cif_views.proofs.Words.{ScheduleLines, association_entries, association_entry, flat_map, numbered_schedule, row_line}
 use Rattle.cif_views.proofs.Words.{schedule_entries, schedule_entry, schedule_fields, schedule_plain, table_rows, tiploc_fields}
-use Rattle.cif_views.proofs.PairedBodies.{association_line, basic_line}
+use Rattle.cif_views.proofs.PairedBodies.{FitsLines, association_line}
 use Rattle.cif_views.proofs.RowLines.{IsPlain, same-plain_row, same-plain_rows, same-rows}
+use Rattle.cif_views.proofs.RowsOfDifferences.{AssociationEntryFits, ScheduleEntryFits}
 use Rattle.cif_views.proofs.SameJourneys.{IsRow, fields_of, most, one-row, row-cells}
 use Rattle.cif_views.proofs.SameSchedules.{IsNumberedPlain, IsSchedule, all-numbered, all-rows, listed, rows_from, same-row_of}
 use Rattle.cif_views.proofs.SameSchedules.{same-schedules, schedule-cells, schedules_from}
@@ -140,14 +144,13 @@ abbrev text_of : ExtractLines → List ℕ
 text_of x =
     lines_text (x.header ∷ (x.tiplocs ++ (x.associations ++ (flat_map all_lines x.schedules ++ (plain_line trailer_table ∷ [])))))
 
-lines-of_schedules : (ss : List Schedule) → map plain_line (flat_map tables_of ss) ≡ flat_map all_lines (map lines_of_schedule ss)
-lines-of_schedules [] = refl
-lines-of_schedules (s ∷ ss) =
-    map-append plain_line (tables_of s) (flat_map tables_of ss)
-    ∙ ap (λ (l : List (List ℕ)). map plain_line (tables_of s) ++ l) (lines-of_schedules ss)
+lines-of_schedules : (ss : List Schedule) → flat_map plain_lines_of ss ≡ flat_map all_lines (map lines_of_schedule ss)
+lines-of_schedules ss = sym (flat_map-map all_lines lines_of_schedule ss)
 
 text-is : (x : ExtractParts) → extract_text x ≡ text_of (lines_of x)
-text-is x = simp (map-append, map-map, lines-of_schedules)
+text-is x =
+    ap (λ (own : List (List ℕ)). lines_text (plain_line (header_table x.header) ∷ (map line_of_tiploc x.tiplocs
+    ++ (map line_of_association x.associations ++ (own ++ (plain_line trailer_table ∷ [])))))) (lines-of_schedules x.schedules)
 
 -- it has a byte at least for each line
 some-byte : (ls : List (List ℕ)) → length ls ≤ length (lines_text ls)
@@ -157,25 +160,28 @@ some-byte (l ∷ ls) =
 
 -- ---- what a canonical extract has
 
-plain-all : {X : Type 0} (table : X → List Row) (xs : List X) → AllTablesFit (map table xs) →
+plain-all : {X : Type 0} (table : X → List Row) (xs : List X) → All (λ x. AllFit (table x)) xs →
     All (IsPlain table) (map (λ x. plain_line (table x)) xs)
 plain-all table [] fits = All-nil (IsPlain table)
 plain-all table (x ∷ xs) fits =
-    All-cons (IsPlain table) (plain_line (table x)) (map (λ x. plain_line (table x)) xs) (record { it = x; fits = fits.0; is = refl })
-    (plain-all table xs fits.1)
+    All-cons (IsPlain table) (plain_line (table x)) (map (λ x. plain_line (table x)) xs)
+    (record { it = x; fits = All-head (λ y. AllFit (table y)) x xs fits; is = refl })
+    (plain-all table xs (All-tail (λ y. AllFit (table y)) x xs fits))
 
--- the tables of an association, and of a schedule, as entries and as permanent records
-abbrev association_of : AssocKey × Terms AssocBody → List Row
-association_of e = aa.association_rows e.0 e.1.first e.1.last e.1.days e.1.letter e.1.body
+-- the line of an association, and those of a schedule, as entries
+abbrev line_of_entry : AssocKey × Terms AssocBody → List ℕ
+line_of_entry e = plain_line (aa.association_rows e.0 e.1.first e.1.last e.1.days e.1.letter e.1.body)
 
-abbrev schedule_of : List ℕ × Terms BodyLines → List (List Row)
-schedule_of e = schedule_tables e.0 e.1.first e.1.last e.1.days e.1.letter e.1.body
+abbrev lines_of_entry : List ℕ × Terms BodyLines → ScheduleLines
+lines_of_entry e = record {
+  basic = plain_line (basic_rows e.0 e.1.first e.1.last e.1.days e.1.letter (option_map detail_of e.1.body));
+  further = further_lines e.1.body;
+}
 
-abbrev permanent_tables : List ℕ × Permanent BodyLines → List (List Row)
-permanent_tables e = basic_line e ∷ body_tables (Some e.1.body)
-
-abbrev lines_in : List (List Row) → ScheduleLines
-lines_in tables = record { basic = plain_line (get_or tables 0 []); further = map plain_line (drop 1 tables) }
+of-map : {X Y : Type 0} (P : Y → Type 0) (f : X → Y) (xs : List X) → All P (map f xs) → All (λ x. P (f x)) xs
+of-map P f [] all = All-nil (λ x. P (f x))
+of-map P f (x ∷ xs) all =
+    All-cons (λ y. P (f y)) x xs (All-head P (f x) (map f xs) all) (of-map P f xs (All-tail P (f x) (map f xs) all))
 
 -- what canonical entries have is what their records have
 module _ {A K B : Type 0} (entry : A → K × Terms B) (xs : List A) (es : List (K × Permanent B)) (are : map entry xs ≡ permanent_entries es)
@@ -184,69 +190,61 @@ module _ {A K B : Type 0} (entry : A → K × Terms B) (xs : List A) (es : List 
     by-records of =
         sym (map-map of entry xs) ∙ ap (map of) are ∙ map-map of (λ (e : K × Permanent B). (e.0, terms_of e.1)) es
 
-plain-associations : (xs : List Association) (es : List (AssocKey × Permanent AssocBody)) → association_entries xs ≡ permanent_entries es →
-    AllTablesFit (map aa.association_table xs) → All (IsPlain association_line) (map line_of_association xs)
-plain-associations xs es are fits =
-    subst (All (IsPlain association_line)) (sym (by-records association_entry xs es are (λ p. plain_line (association_of p))))
-    (plain-all association_line es (subst AllTablesFit (by-records association_entry xs es are association_of) fits))
+    -- what holds of the entries holds of the records
+    of-records : (P : K × Terms B → Type 0) → All (λ x. P (entry x)) xs → All (λ (e : K × Permanent B). P (e.0, terms_of e.1)) es
+    of-records P all = of-map P (λ (e : K × Permanent B). (e.0, terms_of e.1)) es (subst (All P) are (All-map P entry xs all))
 
-plain-records : (es : List (List ℕ × Permanent BodyLines)) → AllTablesFit (flat_map permanent_tables es) →
-    length (flat_map permanent_tables es) < 2 ^ 64 →
-    All IsSchedule (map schedule_plain es) × (length (map schedule_plain es) ≤ length (flat_map permanent_tables es))
+plain-associations : (xs : List Association) (es : List (AssocKey × Permanent AssocBody)) → association_entries xs ≡ permanent_entries es →
+    All (λ (a : Association). AllFit (aa.association_table a)) xs → All (IsPlain association_line) (map line_of_association xs)
+plain-associations xs es are fits =
+    subst (All (IsPlain association_line)) (sym (by-records association_entry xs es are line_of_entry))
+    (plain-all association_line es (of-records association_entry xs es are AssociationEntryFits fits))
+
+-- canonical records, of which so many lines are written
+plain-records : (es : List (List ℕ × Permanent BodyLines)) → All FitsLines es → length (flat_map all_lines (map schedule_plain es)) < 2 ^ 64 →
+    All IsSchedule (map schedule_plain es) × (length (map schedule_plain es) ≤ length (flat_map all_lines (map schedule_plain es)))
 plain-records [] fits few = (All-nil IsSchedule, omega arith)
 plain-records (e ∷ es) fits few =
-    let rest = flat_map permanent_tables es in
-    let own = fit-front (permanent_tables e) rest fits in
-    let long = length-append (permanent_tables e) rest in
-    let as-many = length-map (body_tables (Some e.1.body)) plain_line in
-    let (others, count) = plain-records es (fit-back (permanent_tables e) rest fits) (omega (arith, few, long)) in (
-      All-cons IsSchedule (schedule_plain e) (map schedule_plain es)
-          (record {
-            it = e;
-            fits = record { basic = own.0; further = own.1 };
-            is = refl;
-            few = omega (arith, few, long, as-many);
-          }) others,
+    let own = schedule_plain e in
+    let long = length-append (all_lines own) (flat_map all_lines (map schedule_plain es)) in
+    let (others, count) = plain-records es (All-tail FitsLines e es fits) (omega (arith, few, long)) in (
+      All-cons IsSchedule own (map schedule_plain es)
+          (record { it = e; fits = All-head FitsLines e es fits; is = refl; few = omega (arith, few, long) }) others,
       omega (arith, long, count),
     )
 
 plain-schedules : (xs : List Schedule) (es : List (List ℕ × Permanent BodyLines)) → schedule_entries xs ≡ permanent_entries es →
-    AllTablesFit (flat_map tables_of xs) → length (flat_map tables_of xs) < 2 ^ 64 →
+    All ScheduleFits xs → length (flat_map all_lines (map lines_of_schedule xs)) < 2 ^ 64 →
     All IsSchedule (map lines_of_schedule xs) × (length (map lines_of_schedule xs) < 2 ^ 64)
 plain-schedules xs es are fits few =
-    let tables : flat_map tables_of xs ≡ flat_map permanent_tables es =
-    sym (flat_map-map (λ (t : List (List Row)). t) tables_of xs)
-    ∙ ap (flat_map (λ (t : List (List Row)). t)) (by-records schedule_entry xs es are schedule_of)
-    ∙ flat_map-map (λ (t : List (List Row)). t) permanent_tables es in
-    let some = ap length tables in
-    let (all, count) = plain-records es (subst AllTablesFit tables fits) (omega (arith, few, some)) in
-    subst (λ (ls : List ScheduleLines). All IsSchedule ls × (length ls < 2 ^ 64))
-    (sym (by-records schedule_entry xs es are (λ p. lines_in (schedule_of p)))) (all, omega (arith, few, some, count))
+    let lines = by-records schedule_entry xs es are lines_of_entry in
+    let entries = All-weaker ScheduleFits (λ s. ScheduleEntryFits (schedule_entry s)) (λ s f. record { basic = f.basic; body = f.body }) xs fits in
+    let records = All-weaker _ FitsLines (λ e f. record { basic = f.basic; body = f.body }) es
+    (of-records schedule_entry xs es are ScheduleEntryFits entries) in
+    let some = subst (λ ls. length (flat_map all_lines ls) < 2 ^ 64) lines few in
+    let (all, count) = plain-records es records some in
+    subst (λ (ls : List ScheduleLines). All IsSchedule ls × (length ls < 2 ^ 64)) (sym lines) (all, omega (arith, some, count))
 
 module _ (form : Form) (x : ExtractParts) (text : List ℕ) (is : IsCanonicalText form x text) (few : length text < 2 ^ 64) where
   are-plain : ArePlain (lines_of x)
   are-plain =
-      let locations = map tiploc_table x.tiplocs in
-      let own = map aa.association_table x.associations in
-      let trains = flat_map tables_of x.schedules in
-      let end : List (List Row) = trailer_table ∷ [] in
+      let locations = map line_of_tiploc x.tiplocs in
+      let own = map line_of_association x.associations in
+      let trains = flat_map all_lines (map lines_of_schedule x.schedules) in
+      let end = plain_line trailer_table ∷ [] in
       let fits = spelled-fits (contents_of text) x is.spelled.are_lines is.spelled.spelled in
-      let behind = fit-back locations (own ++ (trains ++ end)) fits.1 in
-      let back = fit-back own (trains ++ end) behind in
-      let bytes = ap length is.text in
-      let lines = some-byte (map plain_line (extract_tables x)) in
-      let all = length-map (extract_tables x) plain_line in
+      let bytes = ap length (is.text ∙ text-is x) in
+      let lines = some-byte (plain_line (header_table x.header) ∷ (locations ++ (own ++ (trains ++ end)))) in
       let more = length-append locations (own ++ (trains ++ end)) in
       let others = length-append own (trains ++ end) in
       let last = length-append trains end in
-      let some : length trains < 2 ^ 64 = omega (arith, few, bytes, lines, all, more, others, last) in
-      let (schedules, count) = plain-schedules x.schedules is.canonical.schedules.records is.canonical.schedules.are
-      (fit-front trains end back) some in
+      let (schedules, count) = plain-schedules x.schedules is.canonical.schedules.records is.canonical.schedules.are fits.schedules
+      (omega (arith, few, bytes, lines, more, others, last)) in
       record {
-        header = record { it = x.header; fits = fits.0; is = refl };
-        tiplocs = plain-all tiploc_table x.tiplocs (fit-front locations (own ++ (trains ++ end)) fits.1);
+        header = record { it = x.header; fits = fits.header; is = refl };
+        tiplocs = plain-all tiploc_table x.tiplocs fits.tiplocs;
         associations = plain-associations x.associations is.canonical.associations.records is.canonical.associations.are
-            (fit-front own (trains ++ end) behind);
+            fits.associations;
         schedules = schedules;
         few = count;
       }

@@ -1,11 +1,12 @@
 -- The places go behind the train identity (`field-after`).
+use Rattle.cif_extract.specs.Body.{parts_in}
 use Rattle.cif_canon.specs.Rows.{place_fields}
 use Rattle.cif_canon.proofs.ViewLines.{field-after}
 use Rattle.cif_canon.proofs.rows.push_journey.Goals as goal
 
 pub returns-clause-text : goal.returns-clause-text
 returns-clause-text c =
-    let b = c.args.body.now in
+    let b = parts_in c.args.body.now in
     rw (
       c.push_place-2.ensures.text,
       c.push_place.ensures.text,

@@ -1,5 +1,6 @@
 -- The origin's line goes first, then those on the way, then the terminus's.
 use Rattle.std.proofs.Common.{ℕ, List, ap, ◌∙◌, ◌++◌}
+use Rattle.cif_extract.specs.Body.{parts_in}
 use Rattle.cif_views.specs.Calls.{origin_fields, terminus_fields}
 use Rattle.cif_canon.proofs.AppendedTexts.{both, text-is}
 use Rattle.cif_views.proofs.Words.{Field, call_text, flat_map, line_of}
@@ -7,7 +8,7 @@ use Rattle.cif_views.proofs.calls.write_calls.Goals as goal
 
 pub returns : goal.returns
 returns g c =
-    let b = c.args.body.now in
+    let b = parts_in c.args.body.now in
     let text : List Field → List ℕ = λ fields. c.args.before.now ++ line_of c.args.format fields in
     let between = flat_map (call_text text) b.calls in
     both _ _ (text (origin_fields b.origin)) (between ++ text (terminus_fields b.terminus)) _ _ _

@@ -1,8 +1,7 @@
--- The lines that are kept are the plain lines of the body's records (`kept_plain`).
+-- These are the lines of the record that the view is.
 use Rattle.std.proofs.Common.{ap, ◌∙◌, List, ℕ}
-use Rattle.cif_extract.proofs.WrittenLines.{kept_plain}
 use Rattle.cif_canon.proofs.Words.{BodyLines, Permanent, schedule_plain}
 use Rattle.cif_canon.proofs.canon_record.CanonRecord+Uid+Body.further.Goals as goal
 
 pub returns : goal.returns
-returns c = kept_plain _ _ c.further_lines.ensures ∙ ap (λ (e : List ℕ × Permanent BodyLines). (schedule_plain e).further) c.self.view_is
+returns c = c.further_lines.ensures ∙ ap (λ (e : List ℕ × Permanent BodyLines). (schedule_plain e).further) c.self.view_is
