@@ -26,7 +26,7 @@ use Rattle.cif_weeks.specs.Permanent.{permanent_entries, terms_of}
 use Rattle.cif_weeks.specs.declared.form.Form.{Form}
 use Rattle.cif_canon.specs.Canon.{CanonParts, IsCanonOf}
 use Rattle.cif_canon.specs.Canonical.{IsCanonicalOf, IsCanonicalText}
-use Rattle.cif_canon.specs.Lines.{ExtractLines, line_of_association, lines_of, lines_of_schedule}
+use Rattle.cif_canon.specs.Lines.{ExtractLines, line_of_association, line_of_tiploc, lines_of, lines_of_schedule}
 use Rattle.cif_canon.specs.Meaning.{SameMeaning}
 use Rattle.cif_canon.proofs.SameExtracts.{same-sym, same-trans}
 use Rattle.cif_canon.proofs.Unique.{extracts-unique}
@@ -219,8 +219,8 @@ plain-schedules : (xs : List Schedule) (es : List (List ℕ × Permanent BodyLin
 plain-schedules xs es are fits few =
     let lines = by-records schedule_entry xs es are lines_of_entry in
     let entries = All-weaker ScheduleFits (λ s. ScheduleEntryFits (schedule_entry s)) (λ s f. record { basic = f.basic; body = f.body }) xs fits in
-    let records = All-weaker _ FitsLines (λ e f. record { basic = f.basic; body = f.body }) es
-    (of-records schedule_entry xs es are ScheduleEntryFits entries) in
+    let records = All-weaker (λ (e : List ℕ × Permanent BodyLines). ScheduleEntryFits (e.0, terms_of e.1)) FitsLines
+    (λ e f. record { basic = f.basic; body = f.body }) es (of-records schedule_entry xs es are ScheduleEntryFits entries) in
     let some = subst (λ ls. length (flat_map all_lines ls) < 2 ^ 64) lines few in
     let (all, count) = plain-records es records some in
     subst (λ (ls : List ScheduleLines). All IsSchedule ls × (length ls < 2 ^ 64)) (sym lines) (all, omega (arith, some, count))
