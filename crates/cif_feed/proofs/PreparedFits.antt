@@ -43,13 +43,10 @@ module _ {K B : Type 0} (P : K × Terms B → Type 0) (Stops : K → Option Holi
     on : (k : K) (r : Terms B) (p : Part) → IsDay p.first → IsDay p.last → P (k, r) → P (k, part_terms r p)
 
   module _ (takes : TakesDays) (day : IsDay window_last) where
-    later : (m n : ℕ) → IsDay m → IsDay n → IsDay (max m n)
-    later m n a b = omega arith
-
     last_day : (k : K) (r : PublishedTerms B) → P (k, r.terms) → IsDay (prepared_last window_last r)
     last_day k r p =
-        cond_both r.open_end (max r.terms.first window_last) r.terms.last IsDay
-        (λ is. later r.terms.first window_last (takes.first k r.terms p) day) (λ is. takes.last k r.terms p)
+        let first = takes.first k r.terms p in
+        cond_both r.open_end (max r.terms.first window_last) r.terms.last IsDay (λ is. omega arith) (λ is. takes.last k r.terms p)
 
     parts_such : (k : K) (r : PublishedTerms B) (ps : List Part)
         → All (IsPart (Stops k r.code) (ended (prepared_last window_last r) r.terms)) ps

@@ -88,8 +88,7 @@ detail_there (Some d) x journey (Some b) has fits =
     let stands = stands-plain_line (detail_table d) refl (tt, alone) in
     ap Some (sym (ap detail_of has.1 ∙ detail_in-stands (plain_line (detail_table d)) d stands))
 detail_there None x journey None has fits = refl
-detail_there (Some d) x journey None has fits = absurd has
-detail_there None x journey (Some b) has fits = absurd has
+detail_there _ x journey _ has fits = absurd has
 
 module _ (feed : Feed) (allowed : HolidayCodes) where
   abbrev Basics : ℕ × List ℕ → Basic → Numbered RecordMark → Type 0
