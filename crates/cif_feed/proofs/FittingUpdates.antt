@@ -1,5 +1,5 @@
 -- What an update leaves fits the columns of lines, where what was there does.
-use Rattle.std.proofs.Common.{ℕ, Bool, not, List, [], ◌∷◌, map, Option, Some, None, IfSome, sym, subst}
+use Rattle.std.proofs.Common.{ℕ, Bool, not, List, [], ◌∷◌, Option, Some, None, IfSome, sym, subst}
 use Rattle.std.proofs.lemmas.List.Elements.{All-append, All-cons, All-filter, All-head, All-map, All-nil, All-tail}
 use Rattle.std.specs.Prelude.{All}
 use Rattle.cif_columns.specs.Contents.{contents_of}

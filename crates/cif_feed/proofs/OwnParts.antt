@@ -6,13 +6,11 @@ use Rattle.cif_calendar.specs.Terms.{Terms}
 use Rattle.cif_extract.specs.Body.{BodyLines}
 use Rattle.cif_extract.specs.ExtractParts.{ExtractParts}
 use Rattle.cif_extract.specs.declared.extract.Schedule.{Schedule}
-use Rattle.cif_extract.proofs.OneExtract.{same_values}
+use Rattle.cif_extract.proofs.OneExtract.{same_extract_parts, same_values}
 use Rattle.cif_extract.proofs.Schedules.{same_schedule}
 use Rattle.cif_records.specs.declared.association.AssocBody.{AssocBody}
 use Rattle.cif_records.specs.declared.association.AssocKey.{AssocKey}
 use Rattle.cif_records.specs.declared.association.Association.{Association}
-use Rattle.cif_records.specs.declared.header.Header.{Header}
-use Rattle.cif_records.specs.declared.tiploc.Tiploc.{Tiploc}
 use Rattle.cif_records.proofs.Associations.{same_association}
 use Rattle.cif_feed.specs.OfProfile.{as_published, association_as_published, schedule_as_published}
 use Rattle.cif_feed.specs.Parts.{AreParts, IsPart, Part}
@@ -147,10 +145,7 @@ module _ (h : Holidays) (x : ExtractParts) where
       (prepared_is OfSchedules (λ k d none. none) last (schedule_entries x.schedules) (schedule_entries y.schedules)
       (schedules_in_order x.schedules)
       (subst (λ l. ArePrepared OfSchedules last l (schedule_entries y.schedules)) (schedules_as x.schedules) p.schedules)) in
-      ap (λ (v : Header). record y { header = v }) p.header
-      ∙ ap (λ (v : List Tiploc). record y { header = x.header; tiplocs = v }) p.tiplocs
-      ∙ ap (λ (v : List Association). record x { associations = v; schedules = y.schedules }) associations
-      ∙ ap (λ (v : List Schedule). record x { schedules = v }) schedules
+      same_extract_parts y x p.header p.tiplocs associations schedules
 
   pub only_itself : (y : ExtractParts) → IsPrepared h false (as_published x) y ↔ (y ≡ x)
   only_itself y = (prepared_same y, λ same. subst (IsPrepared h false (as_published x)) (sym same) own_prepared)

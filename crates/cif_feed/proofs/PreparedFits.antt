@@ -11,13 +11,11 @@ use Rattle.cif_calendar.specs.Terms.{Terms}
 use Rattle.cif_extract.specs.Body.{BodyLines, IsBody, detail_of}
 use Rattle.cif_extract.specs.ExtractParts.{ExtractParts}
 use Rattle.cif_extract.specs.Texts.{FitsColumns, ScheduleFits}
-use Rattle.cif_extract.specs.declared.extract.Schedule.{Schedule}
 use Rattle.cif_extract.proofs.BodyFits.{extract_fits}
 use Rattle.cif_records.specs.Association.{association_rows}
 use Rattle.cif_records.specs.Basic.{basic_rows}
 use Rattle.cif_records.specs.declared.association.AssocBody.{AssocBody}
 use Rattle.cif_records.specs.declared.association.AssocKey.{AssocKey}
-use Rattle.cif_records.specs.declared.association.Association.{Association}
 use Rattle.cif_records.proofs.Headers.{last_is_day}
 use Rattle.cif_feed.specs.OfProfile.{of_profile}
 use Rattle.cif_feed.specs.Parts.{IsPart, Part, ended}
