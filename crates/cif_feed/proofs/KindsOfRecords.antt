@@ -6,7 +6,8 @@ use Rattle.cif_extract.specs.BodyParts.{extra_records}
 use Rattle.cif_extract.specs.ExtractParts.{ExtractParts}
 use Rattle.cif_extract.specs.Grammar.{AreExtract, AreSchedule, AreSchedules, records_before_trailer}
 use Rattle.cif_extract.specs.declared.extract.Schedule.{Schedule}
-use Rattle.cif_extract.proofs.OneExtract.{Each, Inside, further_inside}
+use Rattle.cif_extract.proofs.Each.{Each}
+use Rattle.cif_extract.proofs.OneExtract.{Inside, further_inside}
 use Rattle.cif_records.specs.declared.association.Association.{Association}
 use Rattle.cif_records.specs.declared.basic.Basic.{Basic}
 use Rattle.cif_records.specs.declared.header.Header.{Header}

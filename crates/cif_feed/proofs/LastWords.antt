@@ -2,13 +2,13 @@
 use Rattle.std.proofs.Common.{◌≡◌, ◌≢◌, Bool, true, false, cond, List, [], ◌∷◌, ◌++◌, All, filter, refl, sym, ap, ◌∙◌}
 use Rattle.std.specs.Prelude.{option_to_list}
 use Rattle.std.proofs.lemmas.List.Elements.{All-head, All-tail}
+use Rattle.cif_extract.proofs.OneExtract.{same_values}
 use Rattle.cif_feed.specs.Changes.{AreAfter, HaveLastWord, TellsSame, changes_of, key_of, keyed_record, last_word, of_key, put_of}
 use Rattle.cif_feed.specs.Changes.{with_keys}
 use Rattle.cif_feed.specs.declared.changes.Action.{Action}
 use Rattle.cif_feed.specs.declared.changes.Action.TheVariants.{New, Revised, Deleted}
 use Rattle.cif_feed.specs.declared.changes.Change.{Change}
 use Rattle.cif_feed.proofs.ChangeLaws.{bools, filter-alike, of_key-after_all, same_equiv}
-use Rattle.cif_feed.proofs.OwnParts.{same_all}
 
 module _ {K R : Type 0} (key : R → K) (same : K → K → Bool) (tells : TellsSame same) (k : K) where
   -- those of the key, without it
@@ -26,7 +26,7 @@ module _ {K R : Type 0} (key : R → K) (same : K → K → Bool) (tells : Tells
       at false more = more
 
   same_records : (xs ys : List R) → with_keys key xs ≡ with_keys key ys → xs ≡ ys
-  same_records = same_all (λ (r : R). (key r, r)) (λ x y e. ap (λ (v : K × R). v.1) e)
+  same_records = same_values (λ (r : R). (key r, r)) (λ x y e. ap (λ (v : K × R). v.1) e)
 
   -- changes of other keys
   others : (cs : List (Change K R)) (b : List (K × R)) → All (λ d. key_of key d.action ≢ k) cs → last_word same b (changes_of key cs) k ≡ b

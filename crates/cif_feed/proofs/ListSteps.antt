@@ -1,5 +1,6 @@
 -- Elements of lists that are mapped.
-use Rattle.std.proofs.Common.{◌≡◌, ◌↔◌, ⊎_elim, List, [], ◌∷◌, map, subst, Contains}
+use Rattle.std.proofs.Common.{◌≡◌, ◌↔◌, ◌<◌, ⊎_elim, All, List, [], ◌∷◌, map, subst, sym, Contains}
+use Rattle.std.proofs.lemmas.List.{get_or-map, length-map}
 use Rattle.cif_calendar.proofs.Elements.{Contains-cases, Contains-first, Contains-rest}
 use Rattle.cif_calendar.proofs.RisingLists.{Contains-none}
 
@@ -17,6 +18,10 @@ module _ {A B : Type 0} (f : A → B) where
       (λ is. (y, Contains-first y ys, is))
       (λ rest. let (x, other, is) = Contains-from_map ys z rest in (x, Contains-rest y ys x other, is))
       (Contains-cases (f y) (map f ys) z has)
+
+  pub All-from_map : (P : B → Type 0) (xs : List A) → All P (map f xs) → All (λ x. P (f x)) xs
+  All-from_map P xs p =
+      λ k d below. subst P (get_or-map f xs k d (f d) below) (p k (f d) (subst (λ n. k < n) (sym (length-map xs f)) below))
 
 pub iff-by : {P Q R : Type 0} → P ↔ R → Q ↔ R → P ↔ Q
 iff-by p q = (λ x. q.1 (p.0 x), λ x. p.1 (q.0 x))

@@ -6,12 +6,11 @@ use Rattle.cif_calendar.specs.Terms.{Terms}
 use Rattle.cif_extract.specs.Body.{BodyLines}
 use Rattle.cif_extract.specs.ExtractParts.{ExtractParts}
 use Rattle.cif_extract.specs.declared.extract.Schedule.{Schedule}
+use Rattle.cif_extract.proofs.OneExtract.{same_extract_parts, same_values}
 use Rattle.cif_extract.proofs.Schedules.{same_schedule}
 use Rattle.cif_records.specs.declared.association.AssocBody.{AssocBody}
 use Rattle.cif_records.specs.declared.association.AssocKey.{AssocKey}
 use Rattle.cif_records.specs.declared.association.Association.{Association}
-use Rattle.cif_records.specs.declared.header.Header.{Header}
-use Rattle.cif_records.specs.declared.tiploc.Tiploc.{Tiploc}
 use Rattle.cif_records.proofs.Associations.{same_association}
 use Rattle.cif_feed.specs.OfProfile.{as_published, association_as_published, schedule_as_published}
 use Rattle.cif_feed.specs.Parts.{AreParts, IsPart, Part}
@@ -113,14 +112,6 @@ one_schedule a b e = same_schedule a b (ap (λ (v : List ℕ × Terms BodyLines)
     (ap (λ (v : List ℕ × Terms BodyLines). v.1.days) e) (ap (λ (v : List ℕ × Terms BodyLines). v.1.letter) e)
     (ap (λ (v : List ℕ × Terms BodyLines). v.1.body) e)
 
-pub same_all : {A B : Type 0} (f : A → B) → ((x y : A) → f x ≡ f y → x ≡ y) → (xs ys : List A) → map f xs ≡ map f ys → xs ≡ ys
-same_all f one [] [] e = refl
-same_all f one (x ∷ xs) (y ∷ ys) e =
-    let heads : f x ≡ f y = cc in
-    let tails : map f xs ≡ map f ys = cc in
-    ap (λ z. z ∷ xs) (one x y heads) ∙ ap (λ zs. y ∷ zs) (same_all f one xs ys tails)
-same_all f one _ _ e = cc
-
 -- ---- an extract
 
 module _ (h : Holidays) (x : ExtractParts) where
@@ -145,19 +136,16 @@ module _ (h : Holidays) (x : ExtractParts) where
   prepared_same : (y : ExtractParts) → IsPrepared h false (as_published x) y → y ≡ x
   prepared_same y p =
       let last = x.header.last in
-      let associations = same_all association_entry one_association y.associations x.associations
+      let associations = same_values association_entry one_association y.associations x.associations
       (prepared_is OfAssociations (λ k d none. none) last (association_entries x.associations) (association_entries y.associations)
       (associations_in_order x.associations)
       (subst (λ l. ArePrepared OfAssociations last l (association_entries y.associations)) (associations_as x.associations)
       p.associations)) in
-      let schedules = same_all schedule_entry one_schedule y.schedules x.schedules
+      let schedules = same_values schedule_entry one_schedule y.schedules x.schedules
       (prepared_is OfSchedules (λ k d none. none) last (schedule_entries x.schedules) (schedule_entries y.schedules)
       (schedules_in_order x.schedules)
       (subst (λ l. ArePrepared OfSchedules last l (schedule_entries y.schedules)) (schedules_as x.schedules) p.schedules)) in
-      ap (λ (v : Header). record y { header = v }) p.header
-      ∙ ap (λ (v : List Tiploc). record y { header = x.header; tiplocs = v }) p.tiplocs
-      ∙ ap (λ (v : List Association). record x { associations = v; schedules = y.schedules }) associations
-      ∙ ap (λ (v : List Schedule). record x { schedules = v }) schedules
+      same_extract_parts y x p.header p.tiplocs associations schedules
 
   pub only_itself : (y : ExtractParts) → IsPrepared h false (as_published x) y ↔ (y ≡ x)
   only_itself y = (prepared_same y, λ same. subst (IsPrepared h false (as_published x)) (sym same) own_prepared)

@@ -1,38 +1,37 @@
 -- The text of a published extract spells it.
 use Rattle.std.proofs.Common.{◌≡◌, ℕ, ◌+◌, ◌≤◌, List, [], ◌∷◌, ◌++◌, length, map, Option, Some, None, refl, sym, ap, ◌∙◌, subst, arith}
-use Rattle.std.proofs.Common.{IsTrue, append-nil, append_assoc}
+use Rattle.std.proofs.Common.{All, IfSome, IsTrue, append-nil, append_assoc}
 use Rattle.std.proofs.lemmas.List.{map-append}
 use Rattle.std.proofs.lemmas.List.Elements.{All-head, All-tail}
 use Rattle.std.specs.List.{flat_map}
 use Rattle.cif_columns.specs.Contents.{contents_of}
 use Rattle.cif_columns.specs.Field.{AllFit, plain_line}
 use Rattle.cif_columns.proofs.PlainLines.{contents-lines_text}
-use Rattle.cif_extract.specs.BodyParts.{body_records, extra_records, journey_records}
+use Rattle.cif_extract.specs.Body.{BodyLines, IsBody, parts_in}
+use Rattle.cif_extract.specs.BodyParts.{extra_records}
 use Rattle.cif_extract.specs.Call.{call_record}
-use Rattle.cif_extract.specs.ExtractParts.{ExtractParts}
-use Rattle.cif_extract.specs.Texts.{AllTablesFit, FitsColumns, body_tables, rows_on, tables_of}
+use Rattle.cif_extract.specs.Texts.{FitsColumns, ScheduleFits, further_lines, line_of_tiploc, rows_on}
 use Rattle.cif_extract.specs.declared.call.Call.{Call}
 use Rattle.cif_extract.specs.declared.call.Call.TheVariants.{At, Turn}
 use Rattle.cif_extract.specs.declared.extract.Schedule.{Schedule}
-use Rattle.cif_extract.proofs.OneExtract.{laid_out}
+use Rattle.cif_extract.proofs.Each.{Each, each_append, each_map}
+use Rattle.cif_extract.proofs.OneExtract.{laid_out, same_extract_parts}
 use Rattle.cif_extract.proofs.PlainRecords.{are-extract, basic_of, plain_records, records_of, records_of_body}
-use Rattle.cif_extract.proofs.PlainTexts.{fit-back, fit-front}
-use Rattle.cif_records.specs.Association.{association_table}
-use Rattle.cif_records.specs.Header.{header_table}
+use Rattle.cif_extract.proofs.PlainTexts.{RecordFits, further-fit, further-lines, lines_of}
 use Rattle.cif_records.specs.Kind.{kind_in}
 use Rattle.cif_records.specs.Record.{record_table}
-use Rattle.cif_records.specs.Tiploc.{tiploc_table}
-use Rattle.cif_records.specs.Trailer.{trailer_table}
 use Rattle.cif_records.specs.declared.association.Association.{Association}
 use Rattle.cif_records.specs.declared.extra.Extra.{Extra}
-use Rattle.cif_records.specs.declared.header.Header.{Header}
 use Rattle.cif_records.specs.declared.record.Kind.{Kind}
 use Rattle.cif_records.specs.declared.record.Kind.TheVariants.{Aa, Bs}
 use Rattle.cif_records.specs.declared.record.Record.{Record}
 use Rattle.cif_records.specs.declared.record.Record.TheVariants as of
 use Rattle.cif_records.specs.declared.tiploc.Tiploc.{Tiploc}
+use Rattle.cif_records.proofs.Headers as headers
 use Rattle.cif_records.proofs.Records as records
 use Rattle.cif_records.proofs.Records.{kind_of, kind_there}
+use Rattle.cif_records.proofs.Tiplocs as locations
+use Rattle.cif_records.proofs.Trailers as trailers
 use Rattle.cif_feed.specs.FromLines.{AreTriples}
 use Rattle.cif_feed.specs.HolidayCode.{all_codes, has_code}
 use Rattle.cif_feed.specs.OfProfile.{of_profile}
@@ -53,6 +52,7 @@ use Rattle.cif_feed.specs.declared.published.PublishedAssociation.{PublishedAsso
 use Rattle.cif_feed.specs.declared.published.PublishedSchedule.{PublishedSchedule}
 use Rattle.cif_feed.proofs.FeedLines.{kind_there as feed_kind}
 use Rattle.cif_feed.proofs.KnownLines.{AreReadAs, IsReadAs, all_marks, marks_from, pairs-append, parts_read, read_are, spell_read}
+use Rattle.cif_feed.proofs.FittingUpdates.{AssociationFits}
 use Rattle.cif_feed.proofs.HeldMarks.{feed_fits}
 use Rattle.cif_feed.proofs.OwnLines.{own_spells}
 use Rattle.cif_feed.proofs.PublishedLines.{association_written, basic_written}
@@ -71,10 +71,24 @@ IsOther (of.Association a) = ⊥
 IsOther (of.Basic b) = ⊥
 IsOther r = Unit {0}
 
--- the records of an extract, its parts one behind another
-records_are : (x : ExtractParts) → plain_records x ≡ of.Header x.header
-    ∷ (map of.Tiploc x.tiplocs ++ (map of.Association x.associations ++ (flat_map records_of x.schedules ++ (of.Trailer ∷ []))))
-records_are x = laid_out x (flat_map records_of x.schedules)
+-- so is each that follows a BS
+extra_other : (x : Option Extra) → Each IsOther (extra_records x)
+extra_other None = tt
+extra_other (Some x) = (tt, tt)
+
+call_other : (c : Call) → IsOther (call_record c)
+call_other (At s) = tt
+call_other (Turn c) = tt
+
+body_other : (body : Option BodyLines) → Each IsOther (records_of_body body)
+body_other None = tt
+body_other (Some body) =
+    let p = parts_in body in
+    each_append IsOther (extra_records p.extra) _ (extra_other p.extra) (
+      tt,
+      each_append IsOther (map call_record p.calls) (of.Terminus p.terminus ∷ [])
+          (each_map IsOther call_record call_other p.calls) (tt, tt),
+    )
 
 module _ (allowed : HolidayCodes) where
   marks-append : {A : Type 0} (of_mark : ℕ → LineMark → List A) (n : ℕ) (cs ds : List (List ℕ))
@@ -87,34 +101,33 @@ module _ (allowed : HolidayCodes) where
       (n + 1 + length cs) ds))
       ∙ ap (λ (k : ℕ). (own ++ first) ++ marks_from allowed of_mark k ds) (omega arith)
 
-  -- Contents that spell these records, and whose marks, from any number on, are those of these associations and schedules.
+  -- the marks of contents, whatever the number of the first, are those of these published records
+  module _ {R M P : Type 0} (record_of : P → R) (Is : R → M → P → Type 0) (of_mark : ℕ → LineMark → List M) where
+    abbrev AreMarked : List (List ℕ) → List P → Type 0
+    AreMarked cs ps = (n : ℕ) → AreTriples Is (map record_of ps) (marks_from allowed of_mark n cs) ps
+
+    marked-both : (cs ds : List (List ℕ)) (ps qs : List P) → AreMarked cs ps → AreMarked ds qs → AreMarked (cs ++ ds) (ps ++ qs)
+    marked-both cs ds ps qs p q = λ n.
+        subst (λ rs. AreTriples Is rs (marks_from allowed of_mark n (cs ++ ds)) (ps ++ qs)) (sym (map-append record_of ps qs))
+        (subst (λ ms. AreTriples Is (map record_of ps ++ map record_of qs) ms (ps ++ qs)) (sym (marks-append of_mark n cs ds))
+        (triples-append Is (map record_of ps) (marks_from allowed of_mark n cs) ps (map record_of qs)
+        (marks_from allowed of_mark (n + length cs) ds) qs (p n) (q (n + length cs))))
+
+  -- Contents that spell these records, and whose marks are those of these associations and schedules.
   record IsBlock (cs : List (List ℕ)) (rs : List Record) (al : List PublishedAssociation) (ss : List PublishedSchedule) : Type 0 where
     reads : AreReadAs allowed cs rs
-    associations : (n : ℕ) → AreTriples IsPublishedAssociation (map association_of al) (marks_from allowed association_mark n cs) al
-    schedules : (n : ℕ) → AreTriples IsPublishedSchedule (map schedule_of ss) (marks_from allowed schedule_mark n cs) ss
+    associations : AreMarked association_of IsPublishedAssociation association_mark cs al
+    schedules : AreMarked schedule_of IsPublishedSchedule schedule_mark cs ss
 
   nothing : IsBlock [] [] [] []
   nothing = record { reads = tt; associations = λ n. tt; schedules = λ n. tt }
 
-  both : (cs : List (List ℕ)) (rs : List Record) (ds : List (List ℕ)) (qs : List Record) (al bs : List PublishedAssociation)
-      (ss ts : List PublishedSchedule) → IsBlock cs rs al ss → IsBlock ds qs bs ts
-      → IsBlock (cs ++ ds) (rs ++ qs) (al ++ bs) (ss ++ ts)
-  both cs rs ds qs al bs ss ts p q = record {
+  both : {cs ds : List (List ℕ)} {rs qs : List Record} {al bs : List PublishedAssociation} {ss ts : List PublishedSchedule}
+      → IsBlock cs rs al ss → IsBlock ds qs bs ts → IsBlock (cs ++ ds) (rs ++ qs) (al ++ bs) (ss ++ ts)
+  both {cs} {ds} {rs} {qs} {al} {bs} {ss} {ts} p q = record {
     reads = pairs-append (IsReadAs allowed) cs rs ds qs p.reads q.reads;
-    associations = λ n.
-        subst (λ rs. AreTriples IsPublishedAssociation rs (marks_from allowed association_mark n (cs ++ ds)) (al ++ bs))
-        (sym (map-append association_of al bs))
-        (subst (λ ms. AreTriples IsPublishedAssociation (map association_of al ++ map association_of bs) ms (al ++ bs))
-        (sym (marks-append association_mark n cs ds))
-        (triples-append IsPublishedAssociation (map association_of al) (marks_from allowed association_mark n cs) al (map association_of bs)
-        (marks_from allowed association_mark (n + length cs) ds) bs (p.associations n) (q.associations (n + length cs))));
-    schedules = λ n.
-        subst (λ rs. AreTriples IsPublishedSchedule rs (marks_from allowed schedule_mark n (cs ++ ds)) (ss ++ ts))
-        (sym (map-append schedule_of ss ts))
-        (subst (λ ms. AreTriples IsPublishedSchedule (map schedule_of ss ++ map schedule_of ts) ms (ss ++ ts))
-        (sym (marks-append schedule_mark n cs ds))
-        (triples-append IsPublishedSchedule (map schedule_of ss) (marks_from allowed schedule_mark n cs) ss (map schedule_of ts)
-        (marks_from allowed schedule_mark (n + length cs) ds) ts (p.schedules n) (q.schedules (n + length cs))));
+    associations = marked-both association_of IsPublishedAssociation association_mark cs ds al bs p.associations q.associations;
+    schedules = marked-both schedule_of IsPublishedSchedule schedule_mark cs ds ss ts p.schedules q.schedules;
   }
 
   -- ---- one line
@@ -129,7 +142,7 @@ module _ (allowed : HolidayCodes) where
   quiet (of.Basic b) other c = absurd other
   quiet _ other c = record { associations = λ n. refl; schedules = λ n. refl }
 
-  other_one : (r : Record) → IsOther r → AllFit (record_table r) → IsBlock (plain_line (record_table r) ∷ []) (r ∷ []) [] []
+  other_one : (r : Record) → IsOther r → RecordFits r → IsBlock (plain_line (record_table r) ∷ []) (r ∷ []) [] []
   other_one r other fits =
       let c = plain_line (record_table r) in
       let spells = records.spells r fits in
@@ -141,7 +154,7 @@ module _ (allowed : HolidayCodes) where
         schedules = λ n. subst (λ ms. AreTriples IsPublishedSchedule [] (ms ++ []) []) (sym (silent.schedules n)) tt;
       }
 
-  association_one : (a : PublishedAssociation) → AllFit (association_table a.association)
+  association_one : (a : PublishedAssociation) → AssociationFits a.association
       → IsBlock (published_association_line a ∷ []) (of.Association a.association ∷ []) (a ∷ []) []
   association_one a fits =
       let c = published_association_line a in
@@ -185,65 +198,38 @@ module _ (allowed : HolidayCodes) where
 
   -- ---- the records of a kind
 
-  tiplocs : (ts : List Tiploc) → AllTablesFit (map tiploc_table ts)
-      → IsBlock (map (λ (t : Tiploc). plain_line (tiploc_table t)) ts) (map of.Tiploc ts) [] []
-  tiplocs [] fits = nothing
-  tiplocs (t ∷ ts) fits =
-      both (plain_line (tiploc_table t) ∷ []) (of.Tiploc t ∷ []) _ _ [] [] [] [] (other_one (of.Tiploc t) tt fits.0) (tiplocs ts fits.1)
+  tiplocs : (ts : List Tiploc) → IsBlock (map line_of_tiploc ts) (map of.Tiploc ts) [] []
+  tiplocs [] = nothing
+  tiplocs (t ∷ ts) = both (other_one (of.Tiploc t) tt (locations.fits t)) (tiplocs ts)
 
-  associations : (al : List PublishedAssociation) → AllTablesFit (map association_table (map association_of al))
+  associations : (al : List PublishedAssociation) → All AssociationFits (map association_of al)
       → IsBlock (map published_association_line al) (map of.Association (map association_of al)) al []
   associations [] fits = nothing
   associations (a ∷ al) fits =
-      both (published_association_line a ∷ []) (of.Association a.association ∷ []) _ _ (a ∷ []) al [] []
-      (association_one a fits.0) (associations al fits.1)
+      both (association_one a (All-head AssociationFits a.association (map association_of al) fits))
+      (associations al (All-tail AssociationFits a.association (map association_of al) fits))
 
-  abbrev AreOther : List Record → Type 0
-  AreOther [] = Unit {0}
-  AreOther (r ∷ rs) = IsOther r × AreOther rs
-
-  others : (rs : List Record) → AreOther rs → AllTablesFit (map record_table rs)
-      → IsBlock (map plain_line (map record_table rs)) rs [] []
+  others : (rs : List Record) → Each IsOther rs → Each RecordFits rs → IsBlock (lines_of rs) rs [] []
   others [] are fits = nothing
-  others (r ∷ rs) are fits =
-      both (plain_line (record_table r) ∷ []) (r ∷ []) _ _ [] [] [] [] (other_one r are.0 fits.0) (others rs are.1 fits.1)
+  others (r ∷ rs) are fits = both (other_one r are.0 fits.0) (others rs are.1 fits.1)
 
-  calls_other : (calls : List Call) (last : Record) → IsOther last → AreOther (map call_record calls ++ (last ∷ []))
-  calls_other [] last is = (is, tt)
-  calls_other (At s ∷ calls) last is = (tt, calls_other calls last is)
-  calls_other (Turn c ∷ calls) last is = (tt, calls_other calls last is)
+  body : (b : Option BodyLines) → IfSome b IsBody → IsBlock (further_lines b) (records_of_body b) [] []
+  body b is =
+      subst (λ ls. IsBlock ls (records_of_body b) [] []) (sym (further-lines b is))
+      (others (records_of_body b) (body_other b) (further-fit b is))
 
-  body_other : (b : BodyLines) → AreOther (body_records b)
-  body_other b = at b.extra
-    where
-      journey : AreOther (journey_records b.origin b.calls b.terminus)
-      journey = (tt, calls_other b.calls (of.Terminus b.terminus) tt)
-
-      at : (x : Option Extra) → AreOther (extra_records x ++ journey_records b.origin b.calls b.terminus)
-      at None = journey
-      at (Some x) = (tt, journey)
-
-  body : (b : Option BodyLines) → AllTablesFit (body_tables b) → IsBlock (map plain_line (body_tables b)) (records_of_body b) [] []
-  body None fits = nothing
-  body (Some b) fits = others (body_records b) (body_other b) fits
-
-  schedule : (s : PublishedSchedule) → AllTablesFit (tables_of s.schedule)
-      → ((k : HolidayCode) → s.code ≡ Some k → IsTrue (has_code allowed k))
+  schedule : (s : PublishedSchedule) → ScheduleFits s.schedule → ((k : HolidayCode) → s.code ≡ Some k → IsTrue (has_code allowed k))
       → IsBlock (published_schedule_lines s) (records_of s.schedule) [] (s ∷ [])
-  schedule s fits may =
-      both (published_basic_line s ∷ []) (of.Basic (basic_of s.schedule) ∷ []) _ _ [] [] (s ∷ []) []
-      (basic_one s fits.0 may) (body s.schedule.body fits.1)
+  schedule s fits may = both (basic_one s fits.basic may) (body s.schedule.body fits.body)
 
-  schedules : (ss : List PublishedSchedule) → AllTablesFit (flat_map tables_of (map schedule_of ss)) → CodesMayStand allowed ss
+  schedules : (ss : List PublishedSchedule) → All ScheduleFits (map schedule_of ss) → CodesMayStand allowed ss
       → IsBlock (flat_map published_schedule_lines ss) (flat_map records_of (map schedule_of ss)) [] ss
   schedules [] fits may = nothing
   schedules (s ∷ ss) fits may =
-      let own = tables_of s.schedule in
-      let more = flat_map tables_of (map schedule_of ss) in
+      let more = map schedule_of ss in
       let May : PublishedSchedule → Type 0 = λ s. (k : HolidayCode) → s.code ≡ Some k → IsTrue (has_code allowed k) in
-      both (published_schedule_lines s) (records_of s.schedule) (flat_map published_schedule_lines ss)
-      (flat_map records_of (map schedule_of ss)) [] [] (s ∷ []) ss
-      (schedule s (fit-front own more fits) (All-head May s ss may)) (schedules ss (fit-back own more fits) (All-tail May s ss may))
+      both (schedule s (All-head ScheduleFits s.schedule more fits) (All-head May s ss may))
+      (schedules ss (All-tail ScheduleFits s.schedule more fits) (All-tail May s ss may))
 
   -- ---- an extract
 
@@ -251,24 +237,13 @@ module _ (allowed : HolidayCodes) where
     whole : IsBlock (published_lines p) (plain_records (of_profile p)) p.associations p.schedules
     whole =
         let x = of_profile p in
-        let ts = map tiploc_table p.tiplocs in
-        let al = map association_table x.associations in
-        let ss = flat_map tables_of x.schedules in
-        let end = trailer_table ∷ [] in
-        let last = plain_line trailer_table ∷ [] in
-        let behind = fit-back ts (al ++ (ss ++ end)) fits.1 in
-        let back = fit-back al (ss ++ end) behind in
-        let made = both (plain_line (header_table p.header) ∷ []) (of.Header p.header ∷ []) _ _ [] (p.associations ++ []) []
-        (p.schedules ++ []) (other_one (of.Header p.header) tt fits.0)
-        (both (map (λ (t : Tiploc). plain_line (tiploc_table t)) p.tiplocs) (map of.Tiploc p.tiplocs) _ _ [] (p.associations ++ []) []
-        (p.schedules ++ []) (tiplocs p.tiplocs (fit-front ts (al ++ (ss ++ end)) fits.1))
-        (both (map published_association_line p.associations) (map of.Association x.associations) _ _ p.associations [] []
-        (p.schedules ++ []) (associations p.associations (fit-front al (ss ++ end) behind))
-        (both (flat_map published_schedule_lines p.schedules) (flat_map records_of x.schedules) last (of.Trailer ∷ []) [] [] p.schedules []
-        (schedules p.schedules (fit-front ss end back) may) (other_one of.Trailer tt (fit-back ss end back).0)))) in
+        let groups = flat_map records_of x.schedules in
+        let made = both (other_one (of.Header p.header) tt (headers.fits p.header)) (both (tiplocs p.tiplocs)
+        (both (associations p.associations fits.associations)
+        (both (schedules p.schedules fits.schedules may) (other_one of.Trailer tt trailers.fits)))) in
         subst (λ al. IsBlock (published_lines p) (plain_records x) al p.schedules) (append-nil p.associations)
         (subst (λ ss. IsBlock (published_lines p) (plain_records x) (p.associations ++ []) ss) (append-nil p.schedules)
-        (subst (λ rs. IsBlock (published_lines p) rs (p.associations ++ []) (p.schedules ++ [])) (sym (records_are x)) made))
+        (subst (λ rs. IsBlock (published_lines p) rs (p.associations ++ []) (p.schedules ++ [])) (sym (laid_out x groups)) made))
 
     says : SayPublished (parts_read allowed (published_lines p) (of_profile p)) p
     says =
@@ -292,7 +267,7 @@ module _ (allowed : HolidayCodes) where
       spell = subst (λ ls. SpellPublished allowed ls p) (sym published-lines) (record {
         lines = parts_read allowed (published_lines p) (of_profile p);
         spelled = spell_read allowed (published_lines p) (plain_records (of_profile p)) (of_profile p) whole.reads
-            (are-extract (of_profile p));
+            (are-extract (of_profile p) fits);
         says = says;
       });
       within = subst (λ (ls : List (List ℕ)). length ls ≤ max) (sym published-lines) within;
@@ -320,12 +295,9 @@ said_all P f one _ _ _ t = absurd t
 said_profile : (lines : FeedParts) (p : PublishedParts) → SayPublished lines p → of_profile p ≡ lines.extract
 said_profile lines p s =
     let x = lines.extract in
-    ap (λ (v : Header). record (of_profile p) { header = v }) s.header
-    ∙ ap (λ (v : List Tiploc). record (of_profile p) { header = x.header; tiplocs = v }) s.tiplocs
-    ∙ ap (λ (v : List Association). record x { associations = v; schedules = map schedule_of p.schedules })
+    same_extract_parts (of_profile p) x s.header s.tiplocs
     (said_all IsPublishedAssociation association_of (λ a m p is. is.of_profile) x.associations lines.association_marks p.associations
     s.associations)
-    ∙ ap (λ (v : List Schedule). record x { schedules = v })
     (said_all IsPublishedSchedule schedule_of (λ a m p is. is.of_profile) x.schedules lines.schedule_marks p.schedules s.schedules)
 
 pub said_fits : (allowed : HolidayCodes) (cs : List (List ℕ)) (p : PublishedParts) → SpellPublished allowed cs p

@@ -1,14 +1,18 @@
 -- The BS of an update say its changes of schedules, one by one.
-use Rattle.std.proofs.Common.{◌≡◌, ℕ, false, cond, List, [], ◌∷◌, Option, Some, None, refl, sym, ap, ◌∙◌, subst}
+use Rattle.std.proofs.Common.{◌≡◌, ℕ, All, false, cond, List, [], ◌∷◌, Option, Some, None, refl, sym, ap, ◌∙◌, subst, ⊎_elim}
+use Rattle.std.proofs.lemmas.List.Elements.{All-filter, All-head, All-tail}
 use Rattle.std.specs.List.{flat_map}
 use Rattle.std.specs.Option.{option_map}
-use Rattle.cif_columns.specs.Field.{AllStandIn}
-use Rattle.cif_extract.specs.Body.{BodyLines}
+use Rattle.cif_columns.specs.Field.{AllFit, AllStandIn, plain_line, row, spare}
+use Rattle.cif_columns.specs.Line.{IsLine}
+use Rattle.cif_columns.proofs.Parts.{fits-append, fits-front, stands-plain_line}
+use Rattle.cif_extract.specs.Body.{BodyLines, detail_of}
 use Rattle.cif_extract.specs.ExtractParts.{ExtractParts}
 use Rattle.cif_extract.specs.Grammar.{AreSchedules, HasTerms, HaveBody}
 use Rattle.cif_extract.specs.SpellsExtract.{SpellExtractBy}
 use Rattle.cif_extract.specs.declared.extract.Schedule.{Schedule}
-use Rattle.cif_records.specs.Basic.{terms_of}
+use Rattle.cif_records.specs.Basic.{basic_back, terms_of}
+use Rattle.cif_records.specs.Detail.{detail_rows, detail_table}
 use Rattle.cif_records.specs.Kind.{kind_in}
 use Rattle.cif_records.specs.declared.basic.Basic.{Basic}
 use Rattle.cif_records.specs.declared.detail.Detail.{Detail}
@@ -17,9 +21,11 @@ use Rattle.cif_records.specs.declared.record.Kind.{Kind}
 use Rattle.cif_records.specs.declared.record.Kind.TheVariants.{Bs}
 use Rattle.cif_records.specs.declared.record.Record.{Record}
 use Rattle.cif_records.specs.declared.record.Record.TheVariants as of
+use Rattle.cif_records.proofs.Details.{detail_in-stands}
 use Rattle.cif_records.proofs.Records.{kind_of}
 use Rattle.cif_feed.specs.FeedLine.{SpellsBasicBy, SpellsInFeed, code_of, deleted_basic_rows, is_open, letter_of}
 use Rattle.cif_feed.specs.FeedLine.{mark_by, published_basic_rows, put_basic_rows, record_mark, transaction_at}
+use Rattle.cif_feed.specs.FeedRefusal.{IsFeedContent}
 use Rattle.cif_feed.specs.FromLines.{ArePairs, AreTriples}
 use Rattle.cif_feed.specs.HolidayCode.{all_codes}
 use Rattle.cif_feed.specs.LayoutRefusals.{kind_read_as}
@@ -35,8 +41,11 @@ use Rattle.cif_feed.specs.declared.mark.RecordMark.{RecordMark}
 use Rattle.cif_feed.specs.declared.mark.Transaction.{Transaction}
 use Rattle.cif_feed.specs.declared.mark.Transaction.TheVariants.{New, Revised, Deleted}
 use Rattle.cif_feed.specs.declared.published.PublishedSchedule.{PublishedSchedule}
-use Rattle.cif_feed.proofs.FeedLines.{kind_there}
+use Rattle.cif_feed.proofs.Enumerated.{enumerate_filter}
+use Rattle.cif_feed.proofs.FeedLines.{feed_are, kind_there}
+use Rattle.cif_feed.proofs.FeedSteps.{named_line}
 use Rattle.cif_feed.proofs.KindsOfRecords.{basic_of, first_basic, records_basics}
+use Rattle.cif_feed.proofs.ListSteps.{All-from_map}
 use Rattle.cif_feed.proofs.RecordsTaken.{read_back}
 use Rattle.cif_feed.proofs.SaidLines.{kept_kind, lines_spelled, said_pairs}
 
@@ -51,7 +60,7 @@ pub record IsScheduleLine (feed : Feed) (allowed : HolidayCodes) (line : ℕ × 
   pub basic : Basic
   pub of_basic : IsBasicLine feed allowed line basic m
   pub terms : HasTerms basic s
-  pub detail : basic.detail ≡ option_map detail_of s.body
+  pub detail : AllFit (detail_rows basic.detail) → basic.detail ≡ option_map detail_of s.body
 
 module _ (feed : Feed) (allowed : HolidayCodes) (n : ℕ) (c : List ℕ) where
   abbrev Are : Option Kind → List Basic → Type 0
@@ -71,12 +80,15 @@ module _ (feed : Feed) (allowed : HolidayCodes) (n : ℕ) (c : List ℕ) where
 
 -- ---- the schedules of their BS
 
+-- a detail that fits its columns is that of the body
 detail_there : (d : Option Detail) (x : Option Extra) (journey : List Record) (body : Option BodyLines) → HaveBody d x journey body
-    → d ≡ option_map detail_of body
-detail_there (Some d) x journey (Some b) has = ap Some (sym has.0)
-detail_there None x journey None has = refl
-detail_there (Some d) x journey None has = absurd has
-detail_there None x journey (Some b) has = absurd has
+    → AllFit (detail_rows d) → d ≡ option_map detail_of body
+detail_there (Some d) x journey (Some b) has fits =
+    let alone = fits-append (detail_rows (Some d)) (row 79 80 spare ∷ []) fits (tt, tt) in
+    let stands = stands-plain_line (detail_table d) refl (tt, alone) in
+    ap Some (sym (ap detail_of has.1 ∙ detail_in-stands (plain_line (detail_table d)) d stands))
+detail_there None x journey None has fits = refl
+detail_there _ x journey _ has fits = absurd has
 
 module _ (feed : Feed) (allowed : HolidayCodes) where
   abbrev Basics : ℕ × List ℕ → Basic → Numbered RecordMark → Type 0
@@ -86,7 +98,7 @@ module _ (feed : Feed) (allowed : HolidayCodes) where
   Schedules = IsScheduleLine feed allowed
 
   take_line : (ls : List (ℕ × List ℕ)) (ms : List (Numbered RecordMark)) (b : Basic) (rest : List Basic) (s : Schedule) (ss : List Schedule)
-      → HasTerms b s → b.detail ≡ option_map detail_of s.body → AreTriples Basics ls (b ∷ rest) ms
+      → HasTerms b s → (AllFit (detail_rows b.detail) → b.detail ≡ option_map detail_of s.body) → AreTriples Basics ls (b ∷ rest) ms
       → ((ls : List (ℕ × List ℕ)) (ms : List (Numbered RecordMark)) → AreTriples Basics ls rest ms → AreTriples Schedules ls ss ms)
       → AreTriples Schedules ls (s ∷ ss) ms
   take_line (l ∷ ls) (m ∷ ms) b rest s ss terms detail p more =
@@ -146,16 +158,37 @@ module _ (line : ℕ × List ℕ) (b : Basic) (s : Schedule) (terms : HasTerms b
   said_by (Some Deleted) spells is =
       subst (SaysSchedule line) (sym is.change) (record { number = refl; stands = deletion_stands spells.0 })
 
+-- a content that spells a BS is a line, so that the detail fits
+detail_fits : (c : List ℕ) (b : Basic) → IsFeedContent c → SpellsInFeed Update all_codes c (of.Basic b) → AllFit (detail_rows b.detail)
+detail_fits c b content spells =
+    let (no_comment, no_note) = named_line c Bs (read_back Update (kind_in c) Bs (λ no. cc)
+    (kind_there Update all_codes c (of.Basic b) spells)) in
+    let line : IsLine c = ⊎_elim (λ l. l) (λ comment. absurd (cc)) content in
+    let whole = (feed_are Update all_codes).fits c line (of.Basic b) spells in
+    fits-front (detail_rows b.detail) (basic_back b.letter) whole.1.1.1.1.1.1.1
+
 schedule_said : (line : ℕ × List ℕ) (s : Schedule) (m : Numbered RecordMark) (change : Change ScheduleKey PublishedSchedule)
-    → IsScheduleLine Update all_codes line s m → IsScheduleChange s m change → SaysSchedule line change
-schedule_said line s m change q is =
-    said_by line q.basic s q.terms q.detail change (transaction_at Update line.1) q.of_basic.spells
-    (subst (λ (x : Numbered RecordMark). IsScheduleChange s x change) q.of_basic.mark is)
+    → IsScheduleLine Update all_codes line s m → IsScheduleChange s m change → IsFeedContent line.1 → SaysSchedule line change
+schedule_said line s m change q is content =
+    said_by line q.basic s q.terms (q.detail (detail_fits line.1 q.basic content q.of_basic.spells)) change (transaction_at Update line.1)
+    q.of_basic.spells (subst (λ (x : Numbered RecordMark). IsScheduleChange s x change) q.of_basic.mark is)
+
+-- what is said of contents is said
+said_of : {A B : Type 0} (P : A → Type 0) (S : A → B → Type 0) (xs : List A) (ys : List B) → All P xs
+    → ArePairs (λ x y. P x → S x y) xs ys → ArePairs S xs ys
+said_of P S [] [] all p = tt
+said_of P S (x ∷ xs) (y ∷ ys) all p = (p.0 (All-head P x xs all), said_of P S xs ys (All-tail P x xs all) p.1)
+said_of P S _ _ all p = absurd p
 
 pub schedules_said : (cs : List (List ℕ)) (u : UpdateParts) → SpellUpdate cs u → ArePairs SaysSchedule (lines_of is_basic cs) u.schedules
 schedules_said cs u s =
     let x = s.lines in
-    said_pairs (IsScheduleLine Update all_codes) IsScheduleChange SaysSchedule schedule_said (lines_of is_basic cs) x.extract.schedules
-    x.schedule_marks u.schedules
+    let Is : ℕ × List ℕ → Type 0 = λ line. IsFeedContent line.1 in
+    said_of Is SaysSchedule (lines_of is_basic cs) u.schedules
+    (All-from_map (λ (line : ℕ × List ℕ). line.1) IsFeedContent (lines_of is_basic cs)
+    (subst (All IsFeedContent) (sym (enumerate_filter (λ c. is_basic (kind_in c)) 1 cs))
+    (All-filter (λ c. is_basic (kind_in c)) IsFeedContent cs s.spelled.are_contents)))
+    (said_pairs (IsScheduleLine Update all_codes) IsScheduleChange (λ line change. Is line → SaysSchedule line change) schedule_said
+    (lines_of is_basic cs) x.extract.schedules x.schedule_marks u.schedules
     (subst (AreTriples (IsScheduleLine Update all_codes) (lines_of is_basic cs) x.extract.schedules) (sym s.spelled.says.schedule_marks)
-    (schedules_marked Update all_codes cs x.extract s.spelled.says.extract)) s.says.schedules
+    (schedules_marked Update all_codes cs x.extract s.spelled.says.extract)) s.says.schedules)

@@ -4,6 +4,7 @@ use Rattle.std.proofs.Common.{append_assoc, slice_get}
 use Rattle.std.proofs.lemmas.List.{append_cancel_left}
 use Rattle.cif_columns.specs.Contents.{contents_of}
 use Rattle.cif_extract.specs.Texts.{FitsColumns}
+use Rattle.cif_extract.proofs.OneExtract.{same_values}
 use Rattle.cif_records.specs.declared.header.Header.{Header}
 use Rattle.cif_records.specs.declared.tiploc.Tiploc.{Tiploc}
 use Rattle.cif_feed.specs.Changes.{AreAfter, changes_of, with_keys}
@@ -25,7 +26,6 @@ use Rattle.cif_feed.proofs.PublishedTexts.{may_any, published-lines, published-s
 use Rattle.cif_feed.proofs.SaidPublished.{one_published}
 use Rattle.cif_feed.proofs.SaidUpdate.{one_update}
 use Rattle.cif_feed.proofs.SpelledFeeds.{spelled_first}
-use Rattle.cif_feed.proofs.OwnParts.{same_all}
 use Rattle.cif_feed.proofs.UpdatesDone.{one_list}
 
 -- ---- what is done
@@ -34,7 +34,7 @@ use Rattle.cif_feed.proofs.UpdatesDone.{one_list}
 one_after : {K R : Type 0} (key : R → K) (old : List R) (cs : List (Change K R)) (p q : List R) → AreAfter key old cs p
     → AreAfter key old cs q → p ≡ q
 one_after {K} {R} key old cs p q a b =
-    same_all (λ (r : R). (key r, r)) (λ x y e. ap (λ (v : K × R). v.1) e) p q
+    same_values (λ (r : R). (key r, r)) (λ x y e. ap (λ (v : K × R). v.1) e) p q
     (a.after ∙ after_all-alike a.same b.same (same_alike a.same b.same a.tells b.tells) (with_keys key old) (changes_of key cs)
     ∙ sym b.after)
 

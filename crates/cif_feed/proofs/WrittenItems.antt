@@ -1,24 +1,19 @@
 -- Texts that are written one after another.
-use Rattle.std.proofs.Common.{◌≡◌, ℕ, ◌+◌, ◌<◌, ◌≤◌, List, [], ◌∷◌, ◌++◌, Option, Some, map, take, drop, length, get_or, refl, sym, ap, ◌∙◌}
-use Rattle.std.proofs.Common.{subst, append-nil, take-append-drop}
+use Rattle.std.proofs.Common.{◌≡◌, ℕ, ◌+◌, ◌<◌, ◌≤◌, List, [], ◌∷◌, ◌++◌, Option, map, take, drop, length, get_or, refl, sym, ap, ◌∙◌}
+use Rattle.std.proofs.Common.{ap₂, subst, append-nil, take-append-drop}
 use Rattle.std.specs.List.{flat_map}
 use Rattle.std.proofs.lemmas.Grind.{flat_map-append}
-use Rattle.std.proofs.lemmas.List.{map-append, take_all, take_more}
+use Rattle.std.proofs.lemmas.List.{take_all, take_more}
 use Rattle.std.proofs.lemmas.List.Folds.{flat_map-map}
 use Rattle.std.proofs.lemmas.Simd.{map-map}
 use Rattle.cif_columns.proofs.WrittenTexts.{failed_first, failed_second, written_both}
 use Rattle.cif_columns.specs.Contents.{lines_text}
-use Rattle.cif_columns.specs.Field.{Row, plain_line}
+use Rattle.cif_columns.specs.Field.{plain_line}
 use Rattle.cif_columns.specs.Sink.{HasFailed, HasWritten}
 use Rattle.cif_columns.specs.declared.sink.Sink.{Sink}
-use Rattle.cif_extract.specs.Body.{KeepAll}
-use Rattle.cif_extract.specs.Body.{BodyLines}
-use Rattle.cif_extract.specs.Texts.{body_tables, extract_text, tables_of}
+use Rattle.cif_extract.specs.Texts.{extract_text, line_of_association, line_of_tiploc, plain_lines_of}
 use Rattle.cif_extract.specs.declared.extract.Schedule.{Schedule}
-use Rattle.cif_extract.proofs.WrittenLines.{kept_plain}
-use Rattle.cif_records.specs.Association.{association_table}
 use Rattle.cif_records.specs.Header.{header_table}
-use Rattle.cif_records.specs.Tiploc.{tiploc_table}
 use Rattle.cif_records.specs.Trailer.{trailer_table}
 use Rattle.cif_records.specs.declared.association.Association.{Association}
 use Rattle.cif_records.specs.declared.header.Header.{Header}
@@ -29,11 +24,6 @@ use Rattle.cif_feed.specs.Steps.Written.{prepared_association_text, prepared_sch
 use Rattle.cif_feed.specs.Steps.Written.{published_schedule_text, records_text, tiploc_text, trailer_text}
 use Rattle.cif_feed.specs.declared.prepared_record.PreparedRecord.{PreparedRecord}
 use Rattle.cif_feed.specs.declared.published_extract.PublishedExtract.{PublishedExtract}
-
--- the lines of a body that are kept are its plain lines
-pub kept_text : (lines : List (List ℕ)) (p : BodyLines) (texts : List ℕ) (rest : List (List ℕ)) → KeepAll lines (body_tables (Some p))
-    → texts ++ lines_text rest ≡ lines_text lines → texts ++ lines_text rest ≡ lines_text (map plain_line (body_tables (Some p)))
-kept_text lines p texts rest kept is = is ∙ ap lines_text (kept_plain lines (body_tables (Some p)) kept)
 
 -- ---- one text more
 
@@ -87,15 +77,15 @@ lines-flat lines (x ∷ xs) = lines-append (lines x) (flat_map lines xs) ∙ ap 
 texts-whole : {A S : Type 0} (header : Header) (tiplocs : List Tiploc) (line : A → List ℕ) (xs : List A) (lines : S → List (List ℕ))
     (ss : List S)
     → records_text header tiplocs (flat_map (λ a. line a ++ 10 ∷ []) xs) (flat_map (λ s. lines_text (lines s)) ss)
-    ≡ lines_text (plain_line (header_table header) ∷ (map (λ (t : Tiploc). plain_line (tiploc_table t)) tiplocs
+    ≡ lines_text (plain_line (header_table header) ∷ (map line_of_tiploc tiplocs
     ++ (map line xs ++ (flat_map lines ss ++ (plain_line trailer_table ∷ [])))))
 texts-whole header tiplocs line xs lines ss =
     let last = plain_line trailer_table ∷ [] in
     let schedules = flat_map lines ss in
     let associations = map line xs in
     sym (ap (λ l. head_text header ++ l)
-    (lines-append (map (λ (t : Tiploc). plain_line (tiploc_table t)) tiplocs) (associations ++ (schedules ++ last))
-    ∙ ap (λ l. l ++ lines_text (associations ++ (schedules ++ last))) (lines-map (λ (t : Tiploc). plain_line (tiploc_table t)) tiplocs)
+    (lines-append (map line_of_tiploc tiplocs) (associations ++ (schedules ++ last))
+    ∙ ap (λ l. l ++ lines_text (associations ++ (schedules ++ last))) (lines-map line_of_tiploc tiplocs)
     ∙ ap (λ l. flat_map tiploc_text tiplocs ++ l)
     (lines-append associations (schedules ++ last)
     ∙ ap (λ l. l ++ lines_text (schedules ++ last)) (lines-map line xs) ∙ ap (λ l. flat_map (λ a. line a ++ 10 ∷ []) xs ++ l)
@@ -111,32 +101,11 @@ published-whole p = texts-whole p.header p.tiplocs published_association_line p.
 
 -- ---- the text of a prepared extract
 
--- the plain lines of tables, one list behind another
-tables-both : (a b : List (List Row)) (la lb : List (List ℕ)) → map plain_line a ≡ la → map plain_line b ≡ lb
-    → map plain_line (a ++ b) ≡ la ++ lb
-tables-both a b la lb is_a is_b =
-    map-append plain_line a b ∙ ap (λ l. l ++ map plain_line b) is_a ∙ ap (λ l. la ++ l) is_b
-
-tables-flat : {A : Type 0} (tables : A → List (List Row)) (xs : List A)
-    → map plain_line (flat_map tables xs) ≡ flat_map (λ x. map plain_line (tables x)) xs
-tables-flat tables [] = refl
-tables-flat tables (x ∷ xs) = tables-both (tables x) (flat_map tables xs) _ _ refl (tables-flat tables xs)
-
 pub prepared-whole : (x : PublishedExtract) (xs : List (PreparedRecord Association ℕ)) (ss : List (PreparedRecord Schedule ℕ))
     → records_text x.header x.tiplocs.items (flat_map prepared_association_text xs) (flat_map prepared_schedule_text ss)
     ≡ extract_text (prepared_parts x xs ss)
 prepared-whole x xs ss =
-    let last = trailer_table ∷ [] in
-    let schedules = flat_map tables_of (map schedule_on ss) in
-    let associations = map association_table (map association_on xs) in
-    texts-whole x.header x.tiplocs.items (λ p. plain_line (association_table (association_on p))) xs
-    (λ p. map plain_line (tables_of (schedule_on p))) ss
-    ∙ sym (ap (λ l. lines_text (plain_line (header_table x.header) ∷ l))
-    (tables-both (map tiploc_table x.tiplocs.items) (associations ++ (schedules ++ last)) _ _
-    (map-map plain_line tiploc_table x.tiplocs.items)
-    (tables-both associations (schedules ++ last) _ _
-    (map-map plain_line association_table (map association_on xs)
-    ∙ map-map (λ a. plain_line (association_table a)) association_on xs)
-    (tables-both schedules last _ _
-    (ap (map plain_line) (flat_map-map tables_of schedule_on ss) ∙ tables-flat (λ p. tables_of (schedule_on p)) ss)
-    refl))))
+    texts-whole x.header x.tiplocs.items (λ p. line_of_association (association_on p)) xs (λ p. plain_lines_of (schedule_on p)) ss
+    ∙ ap₂ (λ (associations schedules : List (List ℕ)). lines_text (plain_line (header_table x.header)
+    ∷ (map line_of_tiploc x.tiplocs.items ++ (associations ++ (schedules ++ (plain_line trailer_table ∷ []))))))
+    (sym (map-map line_of_association association_on xs)) (sym (flat_map-map plain_lines_of schedule_on ss))

@@ -7,7 +7,7 @@ use Rattle.cif_columns.specs.Field.{AllStandIn, FieldValue, Row, columns, column
 use Rattle.cif_columns.specs.Stp.{stp_in}
 use Rattle.cif_columns.specs.declared.stp.Stp.{Stp}
 use Rattle.cif_columns.specs.declared.stp.Stp.TheVariants.{C}
-use Rattle.cif_extract.specs.Body.{BodyLines}
+use Rattle.cif_extract.specs.Body.{detail_of}
 use Rattle.cif_extract.specs.Layouts.{cancels}
 use Rattle.cif_extract.specs.declared.extract.Schedule.{Schedule}
 use Rattle.cif_records.specs.Association.{association_rows_by}

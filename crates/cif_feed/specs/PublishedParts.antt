@@ -5,13 +5,11 @@ use Rattle.std.specs.List.{flat_map}
 use Rattle.cif_columns.specs.Contents.{contents_of, lines_text}
 use Rattle.cif_columns.specs.Field.{plain_line}
 use Rattle.cif_extract.specs.ReadCall.{ReadCall, reading}
-use Rattle.cif_extract.specs.Texts.{body_tables, rows_on}
+use Rattle.cif_extract.specs.Texts.{further_lines, line_of_association, line_of_tiploc, rows_on}
 use Rattle.cif_calendar.specs.Entries.{association_terms, schedule_terms}
 use Rattle.cif_extract.specs.Body.{BodyLines}
 use Rattle.cif_extract.specs.declared.extract.Schedule.{Schedule}
-use Rattle.cif_records.specs.Association.{association_table}
 use Rattle.cif_records.specs.Header.{header_table}
-use Rattle.cif_records.specs.Tiploc.{tiploc_table}
 use Rattle.cif_records.specs.Trailer.{trailer_table}
 use Rattle.cif_records.specs.declared.association.AssocBody.{AssocBody}
 use Rattle.cif_records.specs.declared.association.AssocKey.{AssocKey}
@@ -111,18 +109,18 @@ with_code (Some code) line = with_columns 29 (letter code ∷ []) line
 
 -- the lines of an association, and of a schedule: plain but for an open end and a code
 abbrev pub published_association_line : PublishedAssociation → List ℕ
-published_association_line a = with_open_end a.open_end 22 (plain_line (association_table a.association))
+published_association_line a = with_open_end a.open_end 22 (line_of_association a.association)
 
 abbrev pub published_basic_line : PublishedSchedule → List ℕ
 published_basic_line s =
     with_code s.code (with_open_end s.open_end 16 (plain_line (rows_on s.schedule.first s.schedule.last s.schedule)))
 
 abbrev pub published_schedule_lines : PublishedSchedule → List (List ℕ)
-published_schedule_lines s = published_basic_line s ∷ map plain_line (body_tables s.schedule.body)
+published_schedule_lines s = published_basic_line s ∷ further_lines s.schedule.body
 
 -- the lines of a published extract
 abbrev pub published_lines : PublishedParts → List (List ℕ)
-published_lines p = plain_line (header_table p.header) ∷ (map (λ (t : Tiploc). plain_line (tiploc_table t)) p.tiplocs
+published_lines p = plain_line (header_table p.header) ∷ (map line_of_tiploc p.tiplocs
     ++ (map published_association_line p.associations
     ++ (flat_map published_schedule_lines p.schedules ++ (plain_line trailer_table ∷ []))))
 

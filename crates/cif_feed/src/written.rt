@@ -1,10 +1,9 @@
 //! The text of an extract, record by record.
-ghost use Rattle.std.specs.Prelude.{◌≡◌, ◌∷◌, Some, map, false, option_copied};
+ghost use Rattle.std.specs.Prelude.{◌≡◌, ◌∷◌, Some, false, option_copied};
 ghost use Rattle.std.specs.List.{flat_map};
 ghost use Rattle.cif_columns.specs.Contents.{lines_text};
-ghost use Rattle.cif_columns.specs.Field.{plain_line};
 ghost use Rattle.cif_columns.specs.Sink.{Writes, sink_failed};
-ghost use Rattle.cif_extract.specs.Texts.{body_tables};
+ghost use Rattle.cif_extract.specs.Texts.{further_lines};
 ghost use Rattle.cif_feed.specs.Steps.Written.{records_text};
 
 use cif_columns::{Line, LineTexts, Sink, WriteDevice, WriteFault};
@@ -87,7 +86,7 @@ pub(crate) fn write_schedule<W: WriteDevice>(
     sink: &mut Sink<W>,
 ) -> Result<(), WriteFault>
     ensures { Writes W.contents W.write_errors
-        (lines_text (basic.now ∷ map plain_line (body_tables (option_copied body.entry)))) sink.old sink.new result }
+        (lines_text (basic.now ∷ further_lines (option_copied body.entry))) sink.old sink.new result }
 {
     match body {
         Some(body) => write_with_body(basic, body, texts, sink),
@@ -96,7 +95,6 @@ pub(crate) fn write_schedule<W: WriteDevice>(
 }
 
 /// Appends this line, as the BS of a schedule, and the plain lines of its body, each with a line feed.
-#[tactic(auto, using(crate::proofs::WrittenItems::kept_text))]
 fn write_with_body<W: WriteDevice>(
     basic: &Line,
     body: &Body,
@@ -104,7 +102,7 @@ fn write_with_body<W: WriteDevice>(
     sink: &mut Sink<W>,
 ) -> Result<(), WriteFault>
     ensures { Writes W.contents W.write_errors
-        (lines_text (basic.now ∷ map plain_line (body_tables (Some body.now)))) sink.old sink.new result }
+        (lines_text (basic.now ∷ further_lines (Some body.now))) sink.old sink.new result }
 {
     let rest = texts.take(body.further_lines());
     texts.set_first(basic);

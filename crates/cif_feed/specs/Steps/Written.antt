@@ -1,13 +1,11 @@
 -- The texts of records, one after another.
-use Rattle.std.specs.Prelude.{ℕ, List, [], ◌∷◌, ◌++◌, map}
+use Rattle.std.specs.Prelude.{ℕ, List, [], ◌∷◌, ◌++◌}
 use Rattle.std.specs.List.{flat_map}
 use Rattle.cif_columns.specs.Contents.{lines_text}
 use Rattle.cif_columns.specs.Field.{plain_line}
-use Rattle.cif_extract.specs.Texts.{tables_of}
+use Rattle.cif_extract.specs.Texts.{line_of_association, line_of_tiploc, plain_lines_of}
 use Rattle.cif_extract.specs.declared.extract.Schedule.{Schedule}
-use Rattle.cif_records.specs.Association.{association_table}
 use Rattle.cif_records.specs.Header.{header_table}
-use Rattle.cif_records.specs.Tiploc.{tiploc_table}
 use Rattle.cif_records.specs.Trailer.{trailer_table}
 use Rattle.cif_records.specs.declared.association.Association.{Association}
 use Rattle.cif_records.specs.declared.header.Header.{Header}
@@ -20,7 +18,7 @@ use Rattle.cif_feed.specs.declared.published.PublishedSchedule.{PublishedSchedul
 
 -- the line of a location, with a line feed
 abbrev pub tiploc_text : Tiploc → List ℕ
-tiploc_text t = plain_line (tiploc_table t) ++ 10 ∷ []
+tiploc_text t = line_of_tiploc t ++ 10 ∷ []
 
 abbrev pub head_text : Header → List ℕ
 head_text header = plain_line (header_table header) ++ 10 ∷ []
@@ -42,7 +40,7 @@ published_schedule_text s = lines_text (published_schedule_lines s)
 
 -- the texts of the records of a prepared extract
 abbrev pub prepared_association_text : PreparedRecord Association ℕ → List ℕ
-prepared_association_text p = plain_line (association_table (association_on p)) ++ 10 ∷ []
+prepared_association_text p = line_of_association (association_on p) ++ 10 ∷ []
 
 abbrev pub prepared_schedule_text : PreparedRecord Schedule ℕ → List ℕ
-prepared_schedule_text p = lines_text (map plain_line (tables_of (schedule_on p)))
+prepared_schedule_text p = lines_text (plain_lines_of (schedule_on p))
