@@ -23,19 +23,18 @@ use Rattle.cif_feed.specs.OfProfile.{of_profile}
 use Rattle.cif_feed.specs.PublishedParts.{PublishedParts}
 use Rattle.cif_feed.specs.RecordKeys.{tiploc_key}
 use Rattle.cif_feed.specs.UpdateParts.{AssociationKey, BytesSpellUpdate, IsAssociationChange, IsScheduleChange, ScheduleKey, UpdateParts}
-use Rattle.cif_feed.specs.UpdateParts.{change_by, tiploc_changes, tiploc_changes_by}
+use Rattle.cif_feed.specs.UpdateParts.{change_by, tiploc_changes, tiploc_changes_by, tiploc_changes_of}
 use Rattle.cif_feed.specs.Updated.{IsUpdated, published_association_key, published_schedule_key}
 use Rattle.cif_feed.specs.declared.changes.Action.TheVariants as action
 use Rattle.cif_feed.specs.declared.changes.Change.{Change}
-use Rattle.cif_feed.specs.declared.feed.Feed.TheVariants.{Update}
-use Rattle.cif_feed.specs.declared.mark.Numbered.{Numbered}
+use Rattle.cif_feed.specs.declared.feed_line.Feed.TheVariants.{Update}
 use Rattle.cif_feed.specs.declared.mark.RecordMark.{RecordMark}
 use Rattle.cif_feed.specs.declared.mark.TiplocMark.{TiplocMark}
 use Rattle.cif_feed.specs.declared.mark.Transaction.{Transaction}
 use Rattle.cif_feed.specs.declared.mark.Transaction.TheVariants.{New, Revised, Deleted}
-use Rattle.cif_feed.specs.declared.published.PublishedAssociation.{PublishedAssociation}
-use Rattle.cif_feed.specs.declared.published.PublishedSchedule.{PublishedSchedule}
-use Rattle.cif_feed.proofs.HeldMarks.{feed_fits}
+use Rattle.cif_feed.specs.declared.published_extract.PublishedAssociation.{PublishedAssociation}
+use Rattle.cif_feed.specs.declared.published_extract.PublishedSchedule.{PublishedSchedule}
+use Rattle.cif_feed.proofs.SaidLines.{feed_fits}
 
 -- P holds of each
 abbrev pub Each : {A : Type 0} → (A → Type 0) → List A → Type 0
@@ -125,40 +124,41 @@ tiploc_puts Revised number own t fits =
     (record { line = number; action = action.Deleted own } ∷ record { line = number; action = action.New t } ∷ [])
     (Each (PutsSuch TiplocFits tiploc_key)) (λ is. (fits, tt)) (λ is. (tt, (fits, tt)))
 
-tiplocs_put : (ts : List Tiploc) (ms : List (Numbered TiplocMark)) → Each TiplocFits ts
+tiplocs_put : (ts : List Tiploc) (ms : List TiplocMark) → Each TiplocFits ts
     → Each (PutsSuch TiplocFits tiploc_key) (tiploc_changes ts ms)
 tiplocs_put [] ms fits = tt
 tiplocs_put (t ∷ ts) [] fits = tt
 tiplocs_put (t ∷ ts) (m ∷ ms) fits =
-    each-append (PutsSuch TiplocFits tiploc_key) (tiploc_changes_by m.mark.transaction m.number m.mark.tiploc t) (tiploc_changes ts ms)
-    (tiploc_puts m.mark.transaction m.number m.mark.tiploc t fits.0) (tiplocs_put ts ms fits.1)
+    each-append (PutsSuch TiplocFits tiploc_key) (tiploc_changes_of m t) (tiploc_changes ts ms)
+    (tiploc_puts m.transaction m.line m.tiploc t fits.0) (tiplocs_put ts ms fits.1)
 
 change_puts : {K R : Type 0} (P : R → Type 0) (key : R → K) (transaction : Transaction) (number : ℕ) (k : K) (r : R) → P r
     → PutsSuch P key (change_by transaction number k r)
 change_puts P key Deleted number k r p = tt
 change_puts P key _ number k r p = p
 
-associations_put : (xs : List Association) (ms : List (Numbered RecordMark)) (cs : List (Change AssociationKey PublishedAssociation))
-    → AreTriples IsAssociationChange xs ms cs → Each AssociationFits xs → Each (PutsSuch AssociationOf published_association_key) cs
-associations_put [] [] [] t fits = tt
-associations_put (x ∷ xs) (m ∷ ms) (c ∷ cs) t fits = (
-  subst (PutsSuch AssociationOf published_association_key) (sym t.0.change)
-      (change_puts AssociationOf published_association_key m.mark.transaction m.number (x.key, x.first, m.mark.letter) t.0.published
-      (subst AssociationFits (sym t.0.is.of_profile) fits.0)),
-  associations_put xs ms cs t.1 fits.1,
-)
-associations_put _ _ _ t fits = absurd t
+-- what the records put that changes are made of
+changes_put : {X K R : Type 0} (P : R → Type 0) (key : R → K) (Q : X → Type 0) (IsChange : X → RecordMark → Change K R → Type 0)
+    → ((x : X) (m : RecordMark) (c : Change K R) → IsChange x m c → Q x → PutsSuch P key c) → (xs : List X) (ms : List RecordMark)
+    (cs : List (Change K R)) → AreTriples IsChange xs ms cs → Each Q xs → Each (PutsSuch P key) cs
+changes_put P key Q IsChange so [] [] [] t fits = tt
+changes_put P key Q IsChange so (x ∷ xs) (m ∷ ms) (c ∷ cs) t fits =
+    (so x m c t.0 fits.0, changes_put P key Q IsChange so xs ms cs t.1 fits.1)
+changes_put P key Q IsChange so _ _ _ t fits = absurd t
 
-schedules_put : (xs : List Schedule) (ms : List (Numbered RecordMark)) (cs : List (Change ScheduleKey PublishedSchedule))
-    → AreTriples IsScheduleChange xs ms cs → Each ScheduleFits xs → Each (PutsSuch ScheduleOf published_schedule_key) cs
-schedules_put [] [] [] t fits = tt
-schedules_put (x ∷ xs) (m ∷ ms) (c ∷ cs) t fits = (
-  subst (PutsSuch ScheduleOf published_schedule_key) (sym t.0.change)
-      (change_puts ScheduleOf published_schedule_key m.mark.transaction m.number (x.uid, x.first, m.mark.letter) t.0.published
-      (subst ScheduleFits (sym t.0.is.of_profile) fits.0)),
-  schedules_put xs ms cs t.1 fits.1,
-)
-schedules_put _ _ _ t fits = absurd t
+association_puts : (a : Association) (m : RecordMark) (c : Change AssociationKey PublishedAssociation) → IsAssociationChange a m c
+    → AssociationFits a → PutsSuch AssociationOf published_association_key c
+association_puts a m c is fits =
+    subst (PutsSuch AssociationOf published_association_key) (sym is.change)
+    (change_puts AssociationOf published_association_key m.transaction m.line (a.key, a.first, m.letter) is.published
+    (subst AssociationFits (sym is.is.of_profile) fits))
+
+schedule_puts : (s : Schedule) (m : RecordMark) (c : Change ScheduleKey PublishedSchedule) → IsScheduleChange s m c → ScheduleFits s
+    → PutsSuch ScheduleOf published_schedule_key c
+schedule_puts s m c is fits =
+    subst (PutsSuch ScheduleOf published_schedule_key) (sym is.change)
+    (change_puts ScheduleOf published_schedule_key m.transaction m.line (s.uid, s.first, m.letter) is.published
+    (subst ScheduleFits (sym is.is.of_profile) fits))
 
 -- ---- an extract, record by record
 
@@ -240,14 +240,16 @@ updated_fits max bytes u old new s up fits =
     fits_each (of_profile new) (record {
       header = subst (λ (h : Header). AllFit (header_table h)) (sym (up.header ∙ says.header)) put.header;
       tiplocs = left TiplocFits tiploc_key old.tiplocs u.tiplocs new.tiplocs up.tiplocs was.tiplocs
-          (subst (Each (PutsSuch TiplocFits tiploc_key)) (sym says.tiplocs) (tiplocs_put x.tiplocs lines.tiploc_marks put.tiplocs));
+          (subst (Each (PutsSuch TiplocFits tiploc_key)) (sym says.tiplocs) (tiplocs_put x.tiplocs lines.marks.tiplocs put.tiplocs));
       associations = each_map AssociationFits (λ (a : PublishedAssociation). a.association) new.associations
           (left AssociationOf published_association_key old.associations u.associations new.associations up.associations
           (map_each AssociationFits (λ (a : PublishedAssociation). a.association) old.associations was.associations)
-          (associations_put x.associations lines.association_marks u.associations says.associations put.associations));
+          (changes_put AssociationOf published_association_key AssociationFits IsAssociationChange association_puts x.associations
+          lines.marks.associations u.associations says.associations put.associations));
       schedules = each_map ScheduleFits (λ (a : PublishedSchedule). a.schedule) new.schedules
           (left ScheduleOf published_schedule_key old.schedules u.schedules new.schedules up.schedules
           (map_each ScheduleFits (λ (a : PublishedSchedule). a.schedule) old.schedules was.schedules)
-          (schedules_put x.schedules lines.schedule_marks u.schedules says.schedules put.schedules));
+          (changes_put ScheduleOf published_schedule_key ScheduleFits IsScheduleChange schedule_puts x.schedules lines.marks.schedules
+          u.schedules says.schedules put.schedules));
       trailer = was.trailer;
     })

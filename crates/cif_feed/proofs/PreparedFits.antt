@@ -24,10 +24,10 @@ use Rattle.cif_feed.specs.Prepared.{ArePrepared, part_terms, prepared_last}
 use Rattle.cif_feed.specs.PreparedParts.{IsPrepared}
 use Rattle.cif_feed.specs.Published.{IsStop, PublishedTerms}
 use Rattle.cif_feed.specs.PublishedParts.{PublishedParts, published_associations, published_schedules}
-use Rattle.cif_feed.specs.declared.holiday_code.HolidayCode.{HolidayCode}
+use Rattle.cif_feed.specs.declared.holidays.HolidayCode.{HolidayCode}
 use Rattle.cif_feed.specs.declared.holidays.Holidays.{Holidays}
-use Rattle.cif_feed.specs.declared.published.PublishedAssociation.{PublishedAssociation}
-use Rattle.cif_feed.specs.declared.published.PublishedSchedule.{PublishedSchedule}
+use Rattle.cif_feed.specs.declared.published_extract.PublishedAssociation.{PublishedAssociation}
+use Rattle.cif_feed.specs.declared.published_extract.PublishedSchedule.{PublishedSchedule}
 use Rattle.cif_feed.proofs.FittingUpdates.{AssociationFits, Each, ScheduleFits, TiplocFits, each-append, each_fits, fits_each}
 
 -- ---- records on the dates of their parts
