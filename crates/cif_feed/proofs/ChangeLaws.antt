@@ -4,11 +4,13 @@ use Rattle.std.proofs.Common.{◌∙◌, append_assoc, append-nil, IsTrue}
 use Rattle.std.specs.Cmp.{IsEquivalence}
 use Rattle.std.specs.Ordering.{eq_by_cmp}
 use Rattle.std.specs.declared.cmp.Ordering.{Ordering}
-use Rattle.std.specs.Prelude.{filter}
-use Rattle.std.proofs.lemmas.List.Elements.{filter-append}
-use Rattle.cif_feed.specs.Changes.{ChangeParts, TellsSame, after_all, after_change, is_changed, is_there, keyed_record, last_word, of_key}
-use Rattle.cif_feed.specs.Changes.{put_last, refusal, refusals, untouched, without_key}
+use Rattle.std.specs.Prelude.{filter, option_to_list}
+use Rattle.std.proofs.lemmas.List.Elements.{filter-append, filter_agree}
+use Rattle.cif_feed.specs.Changes.{ChangeParts, TellsSame, after_all, after_change, is_changed, is_there, key_of, keyed_record, last_word}
+use Rattle.cif_feed.specs.Changes.{of_key, put_last, put_of, refusal, refusals, untouched, with_keys, without_key}
 use Rattle.cif_feed.specs.Steps.Changes.{same_by}
+use Rattle.cif_feed.specs.declared.changes.Action.{Action}
+use Rattle.cif_feed.specs.declared.changes.Action.TheVariants.{New, Revised, Deleted}
 
 module _ {A : Type 0} where
   -- a filter after a filter
@@ -20,12 +22,6 @@ module _ {A : Type 0} where
           ≡ cond (b && p x) (x ∷ filter (λ y. q y && p y) xs) (filter (λ y. q y && p y) xs)
       at true more = ap (λ l. cond (p x) (x ∷ l) l) more
       at false more = more
-
-  -- by tests that agree
-  pub filter-alike : (p q : A → Bool) → ((x : A) → p x ≡ q x) → (xs : List A) → filter p xs ≡ filter q xs
-  filter-alike p q agree [] = refl
-  filter-alike p q agree (x ∷ xs) =
-      ap (λ b. cond b (x ∷ filter p xs) (filter p xs)) (agree x) ∙ ap (λ l. cond (q x) (x ∷ l) l) (filter-alike p q agree xs)
 
   -- where nothing passes
   filter-nothing : (p : A → Bool) → ((x : A) → p x ≡ false) → (xs : List A) → filter p xs ≡ []
@@ -68,7 +64,7 @@ module _ {K I : Type 0} (same : K → K → Bool) where
         ∙ ap (λ l. of_key same (without_key same records c.key) key ++ l) (put-fails (λ k. same k key) c.key c.puts is)
         ∙ append-nil (of_key same (without_key same records c.key) key)
         ∙ filter-filter (λ (r : K × I). same r.0 key) (λ r. not (same r.0 c.key)) records
-        ∙ filter-alike _ (λ (r : K × I). same r.0 key) (λ (r : K × I). at r.0 (same r.0 c.key) refl) records
+        ∙ filter_agree _ (λ (r : K × I). same r.0 key) (λ (r : K × I). at r.0 (same r.0 c.key) refl) records
       where
         at : (k : K) (v : Bool) → same k c.key ≡ v → (not v && same k key) ≡ same k key
         at k true one = sym (laws.congr k c.key key one ∙ is)
@@ -93,7 +89,7 @@ module _ {K I : Type 0} (same : K → K → Bool) where
       (filter-append (λ (r : K × I). not (is_changed same changes r.0)) (without_key same records c.key) (keyed_record c.key c.puts)
       ∙ ap (λ l. l ++ filter (λ (r : K × I). not (is_changed same changes r.0)) (keyed_record c.key c.puts))
       (filter-filter (λ (r : K × I). not (is_changed same changes r.0)) (λ r. not (same r.0 c.key)) records
-      ∙ filter-alike _ (λ (r : K × I). not (is_changed same (c ∷ changes) r.0))
+      ∙ filter_agree _ (λ (r : K × I). not (is_changed same (c ∷ changes) r.0))
       (λ (r : K × I). neither (same r.0 c.key) (is_changed same changes r.0)) records)
       ∙ ap (λ l. untouched same records (c ∷ changes) ++ l) (at (is_changed same changes c.key) refl))
       ∙ append_assoc (untouched same records (c ∷ changes)) (cond (is_changed same changes c.key) [] (keyed_record c.key c.puts))
@@ -108,6 +104,13 @@ module _ {K I : Type 0} (same : K → K → Bool) where
       → after_all same records (us ++ vs) ≡ after_all same (after_all same records us) vs
   after_all-append records [] vs = refl
   after_all-append records (u ∷ us) vs = after_all-append (after_change same records u) us vs
+
+-- what a line of an update puts
+pub put_keys : {K R : Type 0} (key : R → K) (a : Action K R)
+    → keyed_record (key_of key a) (put_of a) ≡ with_keys key (option_to_list (put_of a))
+put_keys key (New r) = refl
+put_keys key (Revised r) = refl
+put_keys key (Deleted d) = refl
 
 -- ---- tests of keys
 
@@ -142,7 +145,7 @@ module _ {K : Type 0} where
     after-alike : (records : List (K × I)) (c : ChangeParts K I) → after_change p records c ≡ after_change q records c
     after-alike records c =
         ap (λ l. l ++ keyed_record c.key c.puts)
-        (filter-alike (λ (r : K × I). not (p r.0 c.key)) (λ r. not (q r.0 c.key)) (λ r. ap not (agree r.0 c.key)) records)
+        (filter_agree (λ (r : K × I). not (p r.0 c.key)) (λ r. not (q r.0 c.key)) (λ r. ap not (agree r.0 c.key)) records)
 
     pub after_all-alike : (records : List (K × I)) (changes : List (ChangeParts K I)) → after_all p records changes
         ≡ after_all q records changes

@@ -10,16 +10,16 @@ use Rattle.std.specs.Prelude.{filter, map, option_to_list}
 use Rattle.std.proofs.Math.Bool.{or-false, or-true}
 use Rattle.std.proofs.lemmas.Bool.Decides.{nat_tests}
 use Rattle.std.proofs.lemmas.List.{get_or-map, length-map, map-append, map_more}
+use Rattle.std.proofs.lemmas.List.Elements.{filter_agree}
 use Rattle.std.proofs.lemmas.List.Folds.{list_any-append, list_any_at}
 use Rattle.std.proofs.lemmas.Option.{same_Some}
 use Rattle.cif_extract.proofs.FirstRefusals.{or_none}
-use Rattle.cif_feed.specs.Changes.{ChangeParts, after_all, after_change, changes_of, is_changed, is_there, key_of, keyed_record, of_key}
-use Rattle.cif_feed.specs.Changes.{parts_of, put_last, put_of, refusal, refusals, untouched, with_keys}
+use Rattle.cif_feed.specs.Changes.{ChangeParts, after_all, after_change, changes_of, is_changed, is_there, keyed_record, of_key}
+use Rattle.cif_feed.specs.Changes.{parts_of, put_last, refusal, refusals, untouched, with_keys}
 use Rattle.cif_feed.specs.Steps.Changes.{AreLast, SaysAlone, SaysThere, is_position, last_from}
-use Rattle.cif_feed.specs.declared.changes.Action.{Action}
-use Rattle.cif_feed.specs.declared.changes.Action.TheVariants.{New, Revised, Deleted}
 use Rattle.cif_feed.specs.declared.changes.Change.{Change}
-use Rattle.cif_feed.proofs.ChangeLaws.{of_key-after}
+use Rattle.cif_feed.proofs.ChangeLaws.{of_key-after, put_keys}
+use Rattle.cif_feed.proofs.ListSteps.{filter-map}
 
 -- ---- options and tests
 
@@ -261,28 +261,16 @@ module _ {K R : Type 0} (key : R → K) where
   pub untouched-keys : (same : K → K → Bool) (changes : List (ChangeParts K R)) (test : R → Bool)
       → ((r : R) → test r ≡ not (is_changed same changes (key r))) → (xs : List R)
       → with_keys key (filter test xs) ≡ untouched same (with_keys key xs) changes
-  untouched-keys same changes test is [] = refl
-  untouched-keys same changes test is (x ∷ xs) =
-      ap (λ b. with_keys key (cond b (x ∷ filter test xs) (filter test xs))) (is x)
-      ∙ at (not (is_changed same changes (key x))) (untouched-keys same changes test is xs)
-    where
-      at : (b : Bool) → with_keys key (filter test xs) ≡ untouched same (with_keys key xs) changes
-          → with_keys key (cond b (x ∷ filter test xs) (filter test xs))
-          ≡ cond b ((key x, x) ∷ untouched same (with_keys key xs) changes) (untouched same (with_keys key xs) changes)
-      at true more = ap (λ l. (key x, x) ∷ l) more
-      at false more = more
+  untouched-keys same changes test is xs =
+      ap (with_keys key) (filter_agree test _ is xs)
+      ∙ sym (filter-map (λ (r : K × R). not (is_changed same changes r.0)) (λ (r : R). (key r, r)) xs)
 
   -- what a change puts, if it is the last of its key
   pub put-keys : (x : Change K R) (b : Bool)
       → with_keys key (cond (not b) (option_to_list (parts_of key x).puts) [])
       ≡ cond b [] (keyed_record (parts_of key x).key (parts_of key x).puts)
   put-keys x true = refl
-  put-keys x false = at x.action
-    where
-      at : (a : Action K R) → with_keys key (option_to_list (put_of a)) ≡ keyed_record (key_of key a) (put_of a)
-      at (New r) = refl
-      at (Revised r) = refl
-      at (Deleted k) = refl
+  put-keys x false = sym (put_keys key x.action)
 
   -- one change less is left
   pub put-more : (same : K → K → Bool) (records more : List R) (x : Change K R) (others : List (Change K R)) (is_last : Bool)

@@ -15,7 +15,7 @@ use Rattle.cif_extract.specs.declared.extract.Schedule.{Schedule}
 use Rattle.cif_extract.specs.declared.fault.Clash.{Clash}
 use Rattle.cif_records.specs.AssocKey.{key_cmp}
 use Rattle.cif_records.specs.declared.association.Association.{Association}
-use Rattle.cif_feed.specs.declared.prepared_record.PreparedRecord.{PreparedRecord}
+use Rattle.cif_feed.specs.declared.parts.PreparedRecord.{PreparedRecord}
 use Rattle.cif_feed.specs.declared.published_extract.PublishedExtract.{PublishedExtract}
 use Rattle.cif_feed.proofs.PreparedLists.{prepared-associations, prepared-schedules}
 use Rattle.cif_feed.specs.Steps.PartsSoFar.{records_on}
@@ -39,11 +39,10 @@ use Rattle.cif_feed.specs.Steps.Dropping.{AreAllFound, AreFound, IsCutAt, ReadsA
 use Rattle.cif_feed.specs.declared.dropped.Dropped.{Dropped}
 use Rattle.cif_feed.specs.declared.dropped.DroppedKey.{DroppedKey}
 use Rattle.cif_feed.specs.declared.holidays.Holidays.{Holidays}
-use Rattle.cif_feed.specs.declared.published.PublishedAssociation.{PublishedAssociation}
-use Rattle.cif_feed.specs.declared.published.PublishedSchedule.{PublishedSchedule}
+use Rattle.cif_feed.specs.declared.published_extract.PublishedAssociation.{PublishedAssociation}
+use Rattle.cif_feed.specs.declared.published_extract.PublishedSchedule.{PublishedSchedule}
 use Rattle.cif_feed.proofs.CutCounts.{count-map, count-same}
-use Rattle.cif_feed.proofs.PreparedDays.{clash-days, cut-prepared, cut-whole, whole-clear}
-use Rattle.cif_feed.proofs.PreparedRuns.{closed-associations, closed-schedules}
+use Rattle.cif_feed.proofs.PreparedRuns.{clash-days, closed-associations, closed-schedules, cut-prepared, cut-whole, whole-clear}
 
 -- what is in no list has no days
 no-days : {K : Type 0} (keys : List K) (k : K) (days : List ℕ) → Contains keys k ↔ (0 < length days) → keys ≡ [] → days ≡ []

@@ -1,7 +1,7 @@
 -- How many records have a cut, one record after another.
 use Rattle.std.proofs.Common.{◌≡◌, ◌↔◌, inl, inr, ⊎_elim, ℕ, ◌+◌, ◌<◌, ◌≤◌, List, []}
 use Rattle.std.proofs.Common.{◌∷◌, ◌++◌, Option, None, Some, Bool, Contains, IsTrue, is_some, map, take}
-use Rattle.std.proofs.Common.{length, get_or, refl, sym, ap, ◌∙◌, subst}
+use Rattle.std.proofs.Common.{length, get_or, refl, sym, ap, ◌∙◌, subst, arith, true, false}
 use Rattle.std.proofs.lemmas.Bool.{false≢true}
 use Rattle.std.proofs.lemmas.List.{take_more}
 use Rattle.cif_feed.specs.CutCount.{AppliesOnAny, HasCut, IsCountOf}
@@ -10,7 +10,8 @@ use Rattle.cif_feed.specs.Holidays.{IsHolidayOn}
 use Rattle.cif_feed.specs.Prepared.{prepared_last}
 use Rattle.cif_feed.specs.Parts.{ended}
 use Rattle.cif_feed.specs.Published.{AppliesAsPublished, IsHolidayOf, PublishedTerms}
-use Rattle.cif_feed.specs.declared.holiday_code.HolidayCode.{HolidayCode}
+use Rattle.cif_feed.specs.Steps.Marks.{plus_if}
+use Rattle.cif_feed.specs.declared.holidays.HolidayCode.{HolidayCode}
 use Rattle.cif_feed.specs.declared.holidays.Holidays.{Holidays}
 
 module _ {A : Type 0} (P : A → Type 0) where
@@ -32,11 +33,14 @@ module _ {A : Type 0} (P : A → Type 0) where
     one_more : take (i + 1) xs ≡ take i xs ++ x ∷ []
     one_more = take_more xs i x below ∙ ap (λ (y : A). take i xs ++ y ∷ []) (sym is)
 
-    pub count-more_yes : P x → IsCountOf P (take (i + 1) xs) (n + 1)
-    count-more_yes has = subst (λ l. IsCountOf P l (n + 1)) (sym one_more) (count-yes (take i xs) x n has count)
+    pub count-more : (b : Bool) → IsTrue b ↔ P x → IsCountOf P (take (i + 1) xs) (plus_if n b)
+    count-more true decided = subst (λ l. IsCountOf P l (n + 1)) (sym one_more) (count-yes (take i xs) x n (decided.0 refl) count)
+    count-more false decided =
+        subst (λ l. IsCountOf P l n) (sym one_more) (count-no (take i xs) x n (λ has. false≢true (decided.1 has)) count)
 
-    pub count-more_no : ¬ P x → IsCountOf P (take (i + 1) xs) n
-    count-more_no lacks = subst (λ l. IsCountOf P l n) (sym one_more) (count-no (take i xs) x n lacks count)
+pub within-more : (n i : ℕ) (b : Bool) → n ≤ i → plus_if n b ≤ i + 1
+within-more n i true few = omega arith
+within-more n i false few = omega arith
 
 -- the counts of properties that are the same are the same
 pub count-same : {A : Type 0} (P Q : A → Type 0) → ((x : A) → P x ↔ Q x) → (xs : List A) (n : ℕ) → IsCountOf P xs n → IsCountOf Q xs n

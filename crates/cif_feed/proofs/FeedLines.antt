@@ -47,13 +47,13 @@ use Rattle.cif_feed.specs.FeedLine.{IsClosedAt, IsDeletion, SpellsAssociationBy,
 use Rattle.cif_feed.specs.FeedLayouts.{feed_layouts}
 use Rattle.cif_feed.specs.FeedLine.{cancels_in_feed, code_of, code_value, deleted_association_rows, deleted_basic_rows, deletes}
 use Rattle.cif_feed.specs.FeedLine.{end_value, indicator_of, is_open, letter_of, put_association_rows, put_basic_front, put_basic_rows}
-use Rattle.cif_feed.specs.FeedLine.{record_mark, transaction_at}
+use Rattle.cif_feed.specs.FeedLine.{transaction_at}
 use Rattle.cif_feed.specs.LayoutRefusals.{association_refusal_by, basic_refusal_by, feed_refusal_as, kind_read_as, open_dates_refusal}
 use Rattle.cif_feed.specs.Transaction.{transaction_letter}
-use Rattle.cif_feed.specs.declared.feed.Feed.{Feed}
-use Rattle.cif_feed.specs.declared.feed.Feed.TheVariants.{Full, Update}
-use Rattle.cif_feed.specs.declared.holiday_code.HolidayCode.{HolidayCode}
-use Rattle.cif_feed.specs.declared.holiday_code.HolidayCodes.{HolidayCodes}
+use Rattle.cif_feed.specs.declared.feed_line.Feed.{Feed}
+use Rattle.cif_feed.specs.declared.feed_line.Feed.TheVariants.{Full, Update}
+use Rattle.cif_feed.specs.declared.holidays.HolidayCode.{HolidayCode}
+use Rattle.cif_feed.specs.declared.holidays.HolidayCodes.{HolidayCodes}
 use Rattle.cif_feed.specs.declared.mark.Transaction.{Transaction}
 use Rattle.cif_feed.specs.declared.mark.Transaction.TheVariants.{New, Revised, Deleted}
 
@@ -215,7 +215,7 @@ module _ (line : List ℕ) where
 
   -- any AA
   association_owes : (t : Option Transaction)
-      → OwesAssociation (association_refusal_by t line) (record_mark t 22 None line).open_end (SpellsAssociationBy t line)
+      → OwesAssociation (association_refusal_by t line) (is_open 22 line) (SpellsAssociationBy t line)
   association_owes None = owes_nothing line (codes "AA") _ _ _ _
   association_owes (Some New) = put_owes New
   association_owes (Some Revised) = put_owes Revised
@@ -223,7 +223,7 @@ module _ (line : List ℕ) where
       record { named = λ a p. p.0.0; fine = cut_fine; one = cut_one; fits = cut_fits; closed = λ a p ends. p.1.last }
 
   pub association_closed : (t : Option Transaction) (a : Association) → SpellsAssociationBy t line a
-      → IsClosedAt (record_mark t 22 None line).open_end a.last
+      → IsClosedAt (is_open 22 line) a.last
   association_closed t = (association_owes t).closed
 
   module _ (allowed : HolidayCodes) where
@@ -313,7 +313,7 @@ module _ (line : List ℕ) where
 
     -- any BS
     basic_owes : (t : Option Transaction)
-        → OwesBasic (basic_refusal_by allowed t line) (record_mark t 16 (code_of allowed line) line).open_end (SpellsBasicBy allowed t line)
+        → OwesBasic (basic_refusal_by allowed t line) (is_open 16 line) (SpellsBasicBy allowed t line)
     basic_owes None = owes_nothing line (codes "BS") _ _ _ _
     basic_owes (Some New) = basic_put_owes New
     basic_owes (Some Revised) = basic_put_owes Revised
@@ -333,7 +333,7 @@ module _ (line : List ℕ) where
     basic_cancels (Some Deleted) b p = ap (λ stp. not (has_body stp)) (sym p.1.letter)
 
     pub basic_closed : (t : Option Transaction) (b : Basic) → SpellsBasicBy allowed t line b
-        → IsClosedAt (record_mark t 16 (code_of allowed line) line).open_end b.last
+        → IsClosedAt (is_open 16 line) b.last
     basic_closed t = (basic_owes t).closed
 
 -- ---- any line

@@ -4,8 +4,7 @@ use Rattle.std.proofs.Common.{Option, Some, None, IfErr, IfOk, IfSome, IsSomeAnd
 use Rattle.std.proofs.Common.{below_more, codes, filter, get_or, inl, inr, length-append, ne_eqb, true≢false}
 use Rattle.std.proofs.lemmas.Bool.Decides.{nat_tests}
 use Rattle.std.proofs.lemmas.List.{append_cancel_left, get_or_append_left, take-append-le}
-use Rattle.std.proofs.lemmas.Bool.{eqb-true}
-use Rattle.std.proofs.lemmas.List.Elements.{All-cons, All-from_get_or, All-head, All-nil, All-tail}
+use Rattle.std.proofs.lemmas.List.Elements.{All-cons, All-head, All-nil, All-tail}
 use Rattle.std.proofs.lemmas.List.Sums.{count_by-le-length, length-filter}
 use Rattle.std.proofs.Math.Seq.{get_or-append_seam, take-append_seam}
 use Rattle.std.specs.List.{list_all}
@@ -51,15 +50,15 @@ use Rattle.cif_feed.specs.FeedRefusal.{not_full, untaken_fault}
 use Rattle.cif_feed.specs.FeedFault.{is_feed_read, reading_feed}
 use Rattle.cif_columns.specs.declared.line_reader.TheConstants.{MAX_LINES}
 use Rattle.cif_feed.specs.Counts.{counts_of}
-use Rattle.cif_feed.specs.Steps.Counts.{HaveRoom}
-use Rattle.cif_feed.specs.declared.counts.UpdateCounts.{UpdateCounts}
+use Rattle.cif_feed.specs.Steps.Marks.{HaveRoom}
+use Rattle.cif_feed.specs.declared.mark.UpdateCounts.{UpdateCounts}
 use Rattle.cif_feed.specs.SpellsFeed.{BytesSpellFeed, SayFeed, SpellFeed, feed_parts}
 use Rattle.cif_feed.specs.Steps.FeedReading.{IsFeedTaken}
-use Rattle.cif_feed.specs.declared.feed.Feed.{Feed}
-use Rattle.cif_feed.specs.declared.feed.Feed.TheVariants.{Full, Update}
+use Rattle.cif_feed.specs.declared.feed_line.Feed.{Feed}
+use Rattle.cif_feed.specs.declared.feed_line.Feed.TheVariants.{Full, Update}
 use Rattle.cif_feed.specs.declared.feed.FeedFault.{FeedFault}
 use Rattle.cif_feed.specs.declared.feed.FeedFault.TheVariants.{Extract, NotUpdate, BadTransaction}
-use Rattle.cif_feed.specs.declared.holiday_code.HolidayCodes.{HolidayCodes}
+use Rattle.cif_feed.specs.declared.holidays.HolidayCodes.{HolidayCodes}
 use Rattle.cif_feed.specs.declared.feed_reading.FeedReading.{FeedReading}
 use Rattle.cif_feed.specs.declared.feed_reading.FeedExtract.{FeedExtract}
 use Rattle.cif_feed.proofs.FeedSteps.{comment_kind, named_line}
@@ -135,25 +134,6 @@ module _ (feed : Feed) (allowed : HolidayCodes) (max : ℕ) where
           → may ≡ true
       at true true true true e = refl
       at _ _ _ _ e = absurd (cc)
-
-  -- a content that isn't refused is one
-  content_is : (cs : List (List ℕ)) (c : List ℕ) → feed_refusal feed allowed max cs c ≡ None → IsFeedContent c
-  unfolding feed_refusal
-  content_is cs c none = at (is_comment c) refl (nat_lt (length cs) max) (nat_eq (length c) 80) (list_all is_printable c) refl refl none
-    where
-      at : (comment : Bool) → comment ≡ is_comment c → (few wide printable : Bool) → wide ≡ nat_eq (length c) 80
-          → printable ≡ list_all is_printable c
-          → first_of (unless few refusal.TooManyLines ∷ cond comment None (first_of (unless wide refusal.BadLength
-          ∷ unless printable refusal.BadByte ∷ line_refusal feed allowed cs c ∷ [])) ∷ []) ≡ None
-          → IsFeedContent c
-      at true comment few wide printable ew ep e = inr (sym comment)
-      at false comment true true true ew ep e =
-          inl (record { width = eqb-true (length c) 80 (sym ew); printable = printable_fact c (sym ep) })
-      at false comment _ _ _ ew ep e = absurd (cc)
-
-  -- and so each of contents none of which is refused
-  pub contents_are : (cs : List (List ℕ)) → NoneOfFeedRefused feed allowed max cs → All IsFeedContent cs
-  contents_are cs fine = All-from_get_or IsFeedContent cs [] (λ k below. content_is (take k cs) (get_or cs k []) (fine.fine k below))
 
   -- ---- none is refused
 

@@ -1,51 +1,182 @@
--- One content more of a feed: what the contents say then, and what the reading has come to.
-use Rattle.std.proofs.Common.{◌≡◌, ℕ, ◌+◌, ◌≤◌, ◌==◌, Bool, true, false, cond, not, ◌&&◌, ◌||◌, List, [], ◌∷◌, ◌++◌, length, filter}
-use Rattle.std.proofs.Common.{Option, Some, None, Result, Ok, Err, refl, sym, ap, ◌∙◌, subst, ne_eqb, take, codes, append-nil, arith}
-use Rattle.std.proofs.Common.{length-append}
+-- One content more of a feed: the record that is read of it and taken, what the contents say then, and what the reading has come to.
+use Rattle.std.proofs.Common.{◌≡◌, ℕ, List, Option, Some, Result, Ok, Err, refl, sym, subst, true, false, [], ◌∷◌, ap, ◌∙◌, ◌+◌, ◌≤◌, ◌==◌}
+use Rattle.std.proofs.Common.{Bool, cond, not, ◌&&◌, ◌||◌, ◌++◌, length, filter, None, ne_eqb, take, codes, append-nil, arith}
+use Rattle.std.proofs.Common.{length-append, map}
+use Rattle.cif_columns.specs.Field.{AllStandIn, columns}
+use Rattle.cif_columns.specs.declared.refusal.Refusal.{Refusal}
+use Rattle.cif_records.specs.Basic.{basic_back}
+use Rattle.cif_records.specs.Checks.{IsJudged, first_of, unless, are}
+use Rattle.cif_records.specs.declared.association.Association.{Association}
+use Rattle.cif_records.specs.declared.basic.BasicTerms.{BasicTerms}
+use Rattle.cif_records.specs.declared.record.Kind.TheVariants.{Aa, Bs, Hd, Ti, Ta, Td, Li}
+use Rattle.cif_records.specs.declared.record.Record.TheVariants as of
+use Rattle.cif_records.proofs.Basics.{detail_read}
+use Rattle.cif_records.proofs.Details.{basic_with, stands_by, stands_with}
+use Rattle.cif_feed.specs.FeedLine.{IsClosedAt, SpellsAssociationBy, SpellsBasicBy, code_of, is_open, put_basic_front, SpellsInFeed}
+use Rattle.cif_feed.specs.FeedLine.{put_basic_rows, transaction_at}
+use Rattle.cif_feed.specs.LayoutRefusals.{association_refusal_by, basic_refusal_by, feed_refusal_as, kind_read_as}
+use Rattle.cif_feed.specs.Steps.FeedLine.{ReadsBasic}
+use Rattle.cif_feed.specs.declared.feed_line.Feed.{Feed}
+use Rattle.cif_feed.specs.declared.holidays.HolidayCodes.{HolidayCodes}
+use Rattle.cif_feed.specs.declared.mark.Transaction.{Transaction}
+use Rattle.cif_feed.specs.declared.mark.Transaction.TheVariants.{New}
+use Rattle.cif_columns.specs.declared.refusal.Refusal.TheVariants.{OutOfOrder}
+use Rattle.cif_extract.specs.FirstRefusal.{order_refusal}
+use Rattle.cif_extract.specs.Layouts.{own_layouts}
+use Rattle.cif_extract.specs.OrderOfRecords.{may_stand}
+use Rattle.cif_extract.specs.Steps.Reading.{IsKeepable, IsTaken, IsTakenAs, Progress, UnlessMemory, step, GoesOnPlainly, progress_of}
+use Rattle.cif_extract.specs.Taken.{refusal_at, HasTaken}
+use Rattle.cif_extract.specs.declared.reading.TakeFault.{TakeFault}
+use Rattle.cif_extract.proofs.FirstRefusals.{or_none, not_true}
+use Rattle.cif_extract.proofs.Places.{fine_here}
+use Rattle.cif_extract.proofs.TakenLines.{fine_so, refused_so}
+use Rattle.cif_records.specs.Kind.{kind_in, is_identity, kinds}
+use Rattle.cif_records.specs.Record.{SpellsRecord, record_refusal, refusal_as}
+use Rattle.cif_records.specs.declared.record.Kind.{Kind}
+use Rattle.cif_records.specs.declared.record.Record.{Record}
+use Rattle.cif_records.proofs.Records.{kind_of, kind_there}
+use Rattle.cif_feed.specs.FeedLayouts.{feed_layouts}
+use Rattle.cif_feed.specs.Steps.FeedReading.{IsOwn, IsRecordTaken, read_as, HasTakenFeed, IsFeedTaken, IsNoteTaken, IsStopTaken}
+use Rattle.cif_feed.specs.Steps.FeedReading.{with_passed}
+use Rattle.cif_feed.specs.declared.feed_line.Feed.TheVariants.{Full, Update}
+use Rattle.cif_feed.proofs.FeedLines.{feed_are, kind_there as feed_kind}
 use Rattle.std.proofs.lemmas.Bool.{and_parts}
-use Rattle.std.proofs.lemmas.Grind.{flat_map-append}
-use Rattle.std.proofs.lemmas.List.{take-take}
+use Rattle.std.proofs.lemmas.List.{map-append, take-take}
 use Rattle.std.proofs.lemmas.List.Elements.{filter-append}
 use Rattle.std.proofs.lemmas.List.Folds.{list_any-append}
 use Rattle.std.proofs.lemmas.Slice.Eq.{bytes_eq-Decides}
 use Rattle.std.specs.Prelude.{find}
-use Rattle.std.specs.List.{enumerate_from, flat_map, list_any}
+use Rattle.std.specs.List.{enumerate_from, list_any}
 use Rattle.cif_columns.specs.Comment.{is_comment}
-use Rattle.cif_columns.specs.Field.{columns}
-use Rattle.cif_columns.specs.declared.refusal.Refusal.TheVariants.{OutOfOrder}
-use Rattle.cif_extract.proofs.FirstRefusals.{not_true}
 use Rattle.cif_extract.proofs.ReadingRuns.{refused_behind, taken_behind}
-use Rattle.cif_extract.specs.Steps.Reading.{GoesOnPlainly, UnlessMemory, progress_of}
 use Rattle.cif_extract.specs.Steps.Reading as read
-use Rattle.cif_extract.specs.Layouts.{own_layouts}
-use Rattle.cif_extract.specs.Taken.{HasTaken, refusal_at}
-use Rattle.cif_extract.specs.declared.reading.TakeFault.{TakeFault}
 use Rattle.cif_extract.specs.declared.reading.TakeFault.TheVariants.{Refused, Memory}
-use Rattle.cif_records.specs.Checks.{are, unless}
-use Rattle.cif_records.specs.Kind.{is_identity, kind_in, kinds}
-use Rattle.cif_records.specs.declared.record.Kind.{Kind}
-use Rattle.cif_records.specs.declared.record.Kind.TheVariants.{Li}
-use Rattle.cif_feed.specs.FeedLayouts.{feed_layouts}
-use Rattle.cif_feed.specs.FeedLine.{mark_by, mark_in}
-use Rattle.cif_feed.specs.RecordLines.{association_mark, is_basic, is_header, is_note, is_record_line, is_trailer, marks, notes_may_stand}
-use Rattle.cif_feed.specs.RecordLines.{record_lines, schedule_mark, tiploc_mark}
-use Rattle.cif_feed.specs.SpellsFeed.{header_from, passed_of}
-use Rattle.cif_feed.specs.Steps.FeedReading.{HasTakenFeed, IsFeedTaken, IsMarked, IsNoteTaken, IsRecordTaken, IsStopTaken, Marks, marks_in}
-use Rattle.cif_feed.specs.Steps.FeedReading.{header_behind, marks_of, with_mark}
 use Rattle.cif_feed.specs.Counts.{counts_of, ends_open, is_deleted, is_new, is_revised, transaction_as}
-use Rattle.cif_feed.specs.Steps.Counts.{plus_if, with_line}
-use Rattle.cif_feed.specs.declared.counts.UpdateCounts.{UpdateCounts}
-use Rattle.cif_feed.specs.declared.feed.Feed.{Feed}
+use Rattle.cif_feed.specs.Marks.{MarkParts, association_mark, header_from, mark_parts, marks_in, passed_of, schedule_mark, tiploc_mark}
+use Rattle.cif_feed.specs.RecordLines.{is_association, is_basic, is_header, is_note, is_of_tiploc, is_record_line, is_trailer, lines_of}
+use Rattle.cif_feed.specs.RecordLines.{notes_may_stand, record_lines}
+use Rattle.cif_feed.specs.Steps.Marks.{header_behind, one_if, plus_if, with_counts, with_line}
 use Rattle.cif_feed.specs.declared.feed_reading.FeedReading.{FeedReading}
-use Rattle.cif_feed.specs.declared.feed_reading.Passed.{Passed}
-use Rattle.cif_feed.specs.declared.holiday_code.HolidayCodes.{HolidayCodes}
-use Rattle.cif_feed.specs.declared.mark.LineMark.{LineMark}
-use Rattle.cif_feed.specs.declared.mark.LineMark.TheVariants.{Nothing}
-use Rattle.cif_records.specs.declared.record.Record.TheVariants as of
-use Rattle.cif_records.proofs.Records.{kind_there}
-use Rattle.cif_feed.proofs.Enumerated.{enumerate_more}
-use Rattle.cif_feed.proofs.FeedLines.{feed_are}
-use Rattle.cif_feed.proofs.RecordsTaken.{own_taken}
+use Rattle.cif_feed.specs.declared.mark.Passed.{Passed}
+use Rattle.cif_feed.proofs.ListSteps.{enumerate_append}
+
+-- ---- what the readers of AA and BS find, by the transaction
+
+-- what is judged holds of another fact that follows
+judged_by : {T : Type 0} (P Q : T → Type 0) (refusal : Option Refusal) (result : Result T Refusal) → ((value : T) → P value → Q value)
+    → IsJudged refusal P result → IsJudged refusal Q result
+judged_by P Q refusal (Ok value) so judged = (judged.0, so value judged.1)
+judged_by P Q refusal (Err why) so judged = judged
+
+module _ (feed : Feed) (allowed : HolidayCodes) (line : List ℕ) (t : Option Transaction) (is : transaction_at feed line ≡ t) where
+  pub association_read : (result : Result Association Refusal)
+      → IsJudged (association_refusal_by t line) (SpellsAssociationBy t line) result
+      → IsJudged (feed_refusal_as feed allowed (Some Aa) line) (λ a. SpellsInFeed feed allowed line (of.Association a)) result
+  association_read result = subst (λ o. IsJudged (association_refusal_by o line) (SpellsAssociationBy o line) result) (sym is)
+
+  -- of a BS the terms are read
+  pub basic_read : (result : Result BasicTerms Refusal)
+      → IsJudged (basic_refusal_by allowed t line) (λ terms. SpellsBasicBy allowed t line (basic_with terms line)) result
+      → IsJudged (feed_refusal_as feed allowed (Some Bs) line) (ReadsBasic feed allowed line) result
+  basic_read result judged =
+      subst (λ o. IsJudged (basic_refusal_by allowed o line) (ReadsBasic feed allowed line) result) (sym is)
+      (judged_by _ (ReadsBasic feed allowed line) (basic_refusal_by allowed t line) result (λ terms spells. record {
+        basic = basic_with terms line;
+        terms = refl;
+        spells = subst (λ o. SpellsBasicBy allowed o line (basic_with terms line)) (sym is) spells;
+        detail = detail_read line (basic_with terms line) (stands_by terms.letter line);
+      }) judged)
+
+-- those of one that is put
+pub basic_put : (allowed : HolidayCodes) (line : List ℕ) (t : Transaction) (result : Result BasicTerms Refusal)
+    → IsJudged (basic_refusal_by allowed (Some New) line) (λ terms.
+    AllStandIn line (put_basic_front t (is_open 16 line) (code_of allowed line) terms) × AllStandIn line (basic_back terms.letter)
+    × IsClosedAt (is_open 16 line) terms.last) result
+    → IsJudged (basic_refusal_by allowed (Some New) line) (λ terms.
+    AllStandIn line (put_basic_rows t (is_open 16 line) (code_of allowed line) terms (basic_with terms line).detail)
+    × IsClosedAt (is_open 16 line) terms.last) result
+basic_put allowed line t result judged =
+    judged_by _ _ (basic_refusal_by allowed (Some New) line) result
+    (λ terms p. (stands_with line terms (put_basic_front t (is_open 16 line) (code_of allowed line) terms) p.0 p.1, p.2)) judged
+
+-- ---- records that are taken
+
+-- but for locations the kinds are the lines' own
+pub read_back : (feed : Feed) (read : Option Kind) (kind : Kind) → (kind ≡ Ti → ⊥) → kind_read_as feed read ≡ Some kind → read ≡ Some kind
+read_back Full read kind other is = is
+read_back Update (Some Ta) kind other is = absurd (other (cc))
+read_back Update (Some Td) kind other is = absurd (other (cc))
+read_back Update read kind other is = is
+
+-- a line of a kind stands where the kind may that it is read as
+read_there : (feed : Feed) (kind : Kind) → kind_read_as feed (Some kind) ≡ Some (read_as feed kind)
+read_there Full kind = refl
+read_there Update Ta = refl
+read_there Update Td = refl
+read_there Update _ = refl
+
+module _ (feed : Feed) (allowed : HolidayCodes) (line : List ℕ) (before : Progress) where
+  -- a line of this kind
+  module _ (kind : Kind) (named : Some kind ≡ kind_in line) where
+    by_place : refusal_at (feed_layouts feed allowed) before.place line
+        ≡ first_of (unless (may_stand before.place (read_as feed kind)) OutOfOrder ∷ feed_refusal_as feed allowed (Some kind) line ∷ [])
+    by_place =
+        ap (λ k. first_of (order_refusal before.place (kind_read_as feed k) ∷ feed_refusal_as feed allowed k line ∷ [])) (sym named)
+        ∙ ap (λ k. first_of (order_refusal before.place k ∷ feed_refusal_as feed allowed (Some kind) line ∷ [])) (read_there feed kind)
+
+    -- it is refused where it may not stand
+    pub out_of_place : may_stand before.place (read_as feed kind) ≡ false
+        → refusal_at (feed_layouts feed allowed) before.place line ≡ Some OutOfOrder
+    out_of_place forbidden = by_place ∙ rw forbidden refl
+
+    module _ (may : may_stand before.place (read_as feed kind) ≡ true) where
+      -- else it is refused for its fields
+      pub in_place : refusal_at (feed_layouts feed allowed) before.place line ≡ feed_refusal_as feed allowed (Some kind) line
+      in_place = by_place ∙ rw may (or_none (feed_refusal_as feed allowed (Some kind) line))
+
+      -- and a record that it spells is put
+      pub put_taken : (r : Record) → SpellsInFeed feed allowed line r → (result : Result Unit TakeFault) (after : Progress)
+          → UnlessMemory (IsKeepable r × (after ≡ step before r)) result → IsRecordTaken feed allowed line before result after
+      put_taken r spells result after =
+          let both : Some (kind_of r) ≡ Some (read_as feed kind) =
+          sym (feed_kind feed allowed line r spells) ∙ ap (kind_read_as feed) (sym named) ∙ read_there feed kind in
+          let same : kind_of r ≡ read_as feed kind = cc in
+          fine_so _ (λ is. (r, spells, is.0, is.1)) result
+          (fine_here (feed_layouts feed allowed) (feed_are feed allowed) before.place line r spells
+          (ap (may_stand before.place) same ∙ may))
+
+  -- a line that is as in an extract of this profile
+  own_refusal : (f : Feed) (kind : Option Kind) → IsOwn kind f
+      → first_of (order_refusal before.place (kind_read_as f kind) ∷ feed_refusal_as f allowed kind line ∷ [])
+      ≡ first_of (order_refusal before.place kind ∷ refusal_as kind line ∷ [])
+  own_refusal Full (Some Aa) own = absurd own
+  own_refusal Full (Some Bs) own = absurd own
+  own_refusal Full _ own = refl
+  own_refusal Update (Some Hd) own = absurd own
+  own_refusal Update (Some Ta) own = absurd own
+  own_refusal Update (Some Td) own = absurd own
+  own_refusal Update (Some Aa) own = absurd own
+  own_refusal Update (Some Bs) own = absurd own
+  own_refusal Update _ own = refl
+
+  own_spells : (r : Record) → IsOwn (Some (kind_of r)) feed → SpellsRecord line r → SpellsInFeed feed allowed line r
+  own_spells (of.Header h) own s = absurd own
+  own_spells (of.Tiploc t) own s = absurd own
+  own_spells (of.Association a) own s = absurd own
+  own_spells (of.Basic b) own s = absurd own
+  own_spells _ own s = s
+
+  pub own_taken : IsOwn (kind_in line) feed → (result : Result Unit TakeFault) (after : Progress)
+      → IsTaken (refusal_at own_layouts before.place line) line before result after → IsRecordTaken feed allowed line before result after
+  unfolding record_refusal
+  own_taken own result after taken =
+      subst (λ refusal. IsTakenAs refusal (SpellsInFeed feed allowed line) before result after) (sym (own_refusal feed (kind_in line) own))
+      (refused_so _ (λ (r, spells, keepable, is). (
+        r,
+        own_spells r (subst (λ k. IsOwn k feed) (kind_there line r spells) own) spells,
+        keepable,
+        is,
+      )) result taken)
 
 -- ---- comments, notes and lines
 
@@ -107,222 +238,172 @@ header_more n from (d ∷ cs) c = at (is_header (kind_in d)) (header_more (n + 1
     at true more = sym (kept n (n + length (d ∷ cs)) (is_header (kind_in c)) from)
     at false more = more ∙ ap (header_behind (header_from (n + 1) cs) (kind_in c)) (omega arith)
 
--- another content
-header_same : (cs : List (List ℕ)) (c : List ℕ) → is_header (kind_in c) ≡ false → header_from 1 (cs ++ c ∷ []) ≡ header_from 1 cs
-header_same cs c other =
-    header_more 1 (omega arith) cs c
-    ∙ ap (λ b. cond (b && (header_from 1 cs == 0)) (1 + length cs) (header_from 1 cs)) other
-
 -- ---- what contents say
 
-with_nothing : (m : Marks) (number : ℕ) → with_mark m number Nothing ≡ m
-with_nothing m number = rw (append-nil m.tiplocs, append-nil m.associations, append-nil m.schedules) refl
+-- the marks with another count of what was passed over
+abbrev with_count : MarkParts → Passed → MarkParts
+with_count m passed = record m { passed = passed }
 
 module _ (feed : Feed) (allowed : HolidayCodes) (cs : List (List ℕ)) (c : List ℕ) where
-  -- its number
-  abbrev here : ℕ
-  here = 1 + length cs
+  -- the content with its number
+  abbrev here : ℕ × List ℕ
+  here = (1 + length cs, c)
 
-  one_more : (p : List ℕ → Bool) → filter p (cs ++ c ∷ []) ≡ filter p cs ++ cond (p c) (c ∷ []) []
+  one_more : (p : List ℕ → Bool) → filter p (cs ++ c ∷ []) ≡ filter p cs ++ one_if (p c) c
   one_more p = filter-append p cs (c ∷ [])
 
-  -- the same of contents with their numbers
-  abbrev is_numbered : ℕ × List ℕ → Bool
-  is_numbered = λ (numbered : ℕ × List ℕ). is_record_line numbered.1
-
-  numbered_more : filter is_numbered (enumerate_from 1 (cs ++ c ∷ []))
-      ≡ filter is_numbered (enumerate_from 1 cs) ++ cond (is_record_line c) ((here, c) ∷ []) []
-  numbered_more = ap (filter is_numbered) (enumerate_more 1 cs c) ∙ filter-append is_numbered (enumerate_from 1 cs) ((here, c) ∷ [])
-
-  count_yes : (p : List ℕ → Bool) → p c ≡ true → length (filter p (cs ++ c ∷ [])) ≡ length (filter p cs) + 1
-  count_yes p is =
-      ap length (one_more p ∙ ap (λ b. filter p cs ++ cond b (c ∷ []) []) is) ∙ length-append (filter p cs) (c ∷ [])
-
-  pub count_no : (p : List ℕ → Bool) → p c ≡ false → length (filter p (cs ++ c ∷ [])) ≡ length (filter p cs)
-  count_no p is = ap length (one_more p ∙ ap (λ b. filter p cs ++ cond b (c ∷ []) []) is ∙ append-nil (filter p cs))
+  count_more : (p : List ℕ → Bool) → length (filter p (cs ++ c ∷ [])) ≡ plus_if (length (filter p cs)) (p c)
+  count_more p = ap length (one_more p) ∙ length-append (filter p cs) (one_if (p c) c) ∙ at (p c)
+    where
+      at : (b : Bool) → length (filter p cs) + length (one_if b c) ≡ plus_if (length (filter p cs)) b
+      at true = refl
+      at false = omega arith
 
   -- whether one of them is
   any_more : (p : List ℕ → Bool) → list_any p (cs ++ c ∷ []) ≡ (list_any p cs || p c)
   any_more p = list_any-append p cs (c ∷ []) ∙ ap (λ b. list_any p cs || b) (or_false (p c) false refl)
 
-  any_same : (p : List ℕ → Bool) → p c ≡ false → list_any p (cs ++ c ∷ []) ≡ list_any p cs
-  any_same p is = any_more p ∙ or_false (list_any p cs) (p c) is
-
-  -- how many comments and notes there are
-  passed_line : is_comment c ≡ false → is_note c ≡ false → passed_of (cs ++ c ∷ []) ≡ passed_of cs
-  passed_line no_comment no_note =
-      let counts : Passed = record { comments = length (filter is_comment cs); notes = length (filter is_note (cs ++ c ∷ [])) } in
-      ap (λ (n : ℕ). record counts { comments = n }) (count_no is_comment no_comment)
-      ∙ ap (λ (n : ℕ). record counts { notes = n }) (count_no is_note no_note)
+  none_more : (p : List ℕ → Bool) → p c ≡ false → list_any p (cs ++ c ∷ []) ≡ list_any p cs
+  none_more p is = any_more p ∙ or_false (list_any p cs) (p c) is
 
   -- how many do what
-  abbrev puts : List ℕ → Bool
-  puts = λ l. is_new (transaction_as (kind_in l) l)
+  counts_more : counts_of (cs ++ c ∷ []) ≡ with_counts (counts_of cs) (kind_in c) c
+  counts_more = rw (
+    count_more (λ l. is_new (transaction_as (kind_in l) l)),
+    count_more (λ l. is_revised (transaction_as (kind_in l) l)),
+    count_more (λ l. is_deleted (transaction_as (kind_in l) l)),
+    count_more (λ l. ends_open (kind_in l) l),
+  ) refl
 
-  abbrev revises : List ℕ → Bool
-  revises = λ l. is_revised (transaction_as (kind_in l) l)
-
-  abbrev deletes : List ℕ → Bool
-  deletes = λ l. is_deleted (transaction_as (kind_in l) l)
-
-  abbrev opens : List ℕ → Bool
-  opens = λ l. ends_open (kind_in l) l
-
-  count_more : (p : List ℕ → Bool) → length (filter p (cs ++ c ∷ [])) ≡ plus_if (length (filter p cs)) (p c)
-  count_more p = at (p c) refl
+  -- the lines of some kinds, and what is said of each
+  said_more : {A : Type 0} (f : ℕ × List ℕ → A) (is : Option Kind → Bool)
+      → map f (lines_of is (cs ++ c ∷ [])) ≡ map f (lines_of is cs) ++ one_if (is (kind_in c)) (f here)
+  said_more f is =
+      let of_kind : ℕ × List ℕ → Bool = λ (line : ℕ × List ℕ). is (kind_in line.1) in
+      ap (λ l. map f (filter of_kind l)) (enumerate_append 1 cs (c ∷ []))
+      ∙ ap (map f) (filter-append of_kind (enumerate_from 1 cs) (here ∷ []))
+      ∙ map-append f (lines_of is cs) (one_if (is (kind_in c)) here)
+      ∙ ap (λ l. map f (lines_of is cs) ++ l) (at (is (kind_in c)))
     where
-      at : (b : Bool) → p c ≡ b → length (filter p (cs ++ c ∷ [])) ≡ plus_if (length (filter p cs)) b
-      at true is = count_yes p is
-      at false is = count_no p is
+      at : (b : Bool) → map f (one_if b here) ≡ one_if b (f here)
+      at true = refl
+      at false = refl
 
-  counts_more : counts_of (cs ++ c ∷ []) ≡ with_line (counts_of cs) (kind_in c) c
-  counts_more = rw (count_more puts, count_more revises, count_more deletes, count_more opens) refl
+  -- how many comments and notes there are
+  passed_more : passed_of (cs ++ c ∷ [])
+      ≡ record { comments = plus_if (passed_of cs).comments (is_comment c); notes = plus_if (passed_of cs).notes (is_note c) }
+  passed_more = rw (count_more is_comment, count_more is_note) refl
 
-  -- a content whose kind does nothing
-  silent_counts : (kind : Option Kind) → kind_in c ≡ kind → ((n : UpdateCounts) → with_line n kind c ≡ with_line n None c)
-      → (n : UpdateCounts) → with_line n (kind_in c) c ≡ n
-  silent_counts kind is none n = ap (λ k. with_line n k c) is ∙ none n
+  marks_more : marks_in allowed (cs ++ c ∷ [])
+      ≡ with_count (with_line (marks_in allowed cs) allowed (kind_in c) here) (passed_of (cs ++ c ∷ []))
+  marks_more = rw (
+    header_more 1 (omega arith) cs c,
+    said_more (λ (line : ℕ × List ℕ). tiploc_mark (kind_in line.1) line) is_of_tiploc,
+    said_more association_mark is_association,
+    said_more (schedule_mark allowed) is_basic,
+    counts_more,
+  ) refl
 
-  counts_same : (kind : Option Kind) → kind_in c ≡ kind → ((n : UpdateCounts) → with_line n kind c ≡ with_line n None c)
-      → counts_of (cs ++ c ∷ []) ≡ counts_of cs
-  counts_same kind is none = counts_more ∙ silent_counts kind is none (counts_of cs)
-
-  module _ (is : is_record_line c ≡ true) where
-    pub lines_more : record_lines (cs ++ c ∷ []) ≡ record_lines cs ++ (c ∷ [])
-    lines_more = one_more is_record_line ∙ ap (λ b. filter is_record_line cs ++ cond b (c ∷ []) []) is
-
-    marks_more : {A : Type 0} (of_mark : ℕ → LineMark → List A)
-        → marks of_mark feed allowed (cs ++ c ∷ []) ≡ marks of_mark feed allowed cs ++ of_mark here (mark_in feed allowed c)
-    marks_more of_mark =
-        let f : ℕ × List ℕ → List _ = λ (numbered : ℕ × List ℕ). of_mark numbered.0 (mark_in feed allowed numbered.1) in
-        let old = filter is_numbered (enumerate_from 1 cs) in
-        ap (flat_map f) (numbered_more ∙ ap (λ b. old ++ cond b ((here, c) ∷ []) []) is) ∙ flat_map-append f old ((here, c) ∷ [])
-        ∙ ap (λ l. flat_map f old ++ l) (append-nil (f (here, c)))
-
-    marks_in-more : marks_in feed allowed (cs ++ c ∷ []) ≡ with_mark (marks_in feed allowed cs) here (mark_in feed allowed c)
-    marks_in-more = rw (marks_more tiploc_mark, marks_more association_mark, marks_more schedule_mark) refl
-
-  module _ (is : is_record_line c ≡ false) where
-    pub lines_same : record_lines (cs ++ c ∷ []) ≡ record_lines cs
-    lines_same =
-        one_more is_record_line ∙ ap (λ b. filter is_record_line cs ++ cond b (c ∷ []) []) is ∙ append-nil (filter is_record_line cs)
-
-    marks_in-same : marks_in feed allowed (cs ++ c ∷ []) ≡ marks_in feed allowed cs
-    marks_in-same =
-        ap (λ (l : List (ℕ × List ℕ)). let m : Marks = record {
-          tiplocs = flat_map (λ (numbered : ℕ × List ℕ). tiploc_mark numbered.0 (mark_in feed allowed numbered.1)) l;
-          associations = flat_map (λ (numbered : ℕ × List ℕ). association_mark numbered.0 (mark_in feed allowed numbered.1)) l;
-          schedules = flat_map (λ (numbered : ℕ × List ℕ). schedule_mark numbered.0 (mark_in feed allowed numbered.1)) l;
-        } in m)
-        (numbered_more ∙ ap (λ b. filter is_numbered (enumerate_from 1 cs) ++ cond b ((here, c) ∷ []) []) is
-        ∙ append-nil (filter is_numbered (enumerate_from 1 cs)))
+  -- a line of no kind, or of a location on the way, says nothing
+  with_nothing : (m : MarkParts) (line : ℕ × List ℕ) → with_line m allowed None line ≡ m
+  with_nothing m line = rw (append-nil m.tiplocs, append-nil m.associations, append-nil m.schedules) refl
 
   -- ---- one more
+
+  pub lines_more : is_record_line c ≡ true → record_lines (cs ++ c ∷ []) ≡ record_lines cs ++ (c ∷ [])
+  lines_more is = one_more is_record_line ∙ ap (λ b. filter is_record_line cs ++ one_if b c) is
+
+  pub lines_same : is_record_line c ≡ false → record_lines (cs ++ c ∷ []) ≡ record_lines cs
+  lines_same is =
+      one_more is_record_line ∙ ap (λ b. filter is_record_line cs ++ one_if b c) is ∙ append-nil (filter is_record_line cs)
 
   is_line : is_comment c ≡ false → is_note c ≡ false → is_record_line c ≡ true
   is_line no_comment no_note = ap (λ b. not b && not (is_note c)) no_comment ∙ ap not no_note
 
-  -- what is kept of a line of this number that was taken, but for its mark
-  pub record IsTaken (number : ℕ) (old mid : FeedReading) : Type 0 where
+  -- what is kept of a line of this number that was taken
+  pub record IsLineTaken (number : ℕ) (old new : FeedReading) : Type 0 where
     pub no_comment : is_comment c ≡ false
     pub no_note : is_note c ≡ false
-    pub header_line : mid.header_line ≡ header_behind old.header_line (kind_in c) number
-    pub marks : marks_of mid ≡ marks_of old
-    pub counts : mid.counts ≡ with_line old.counts (kind_in c) c
-    pub passed : mid.passed ≡ old.passed
-    pub basic : mid.has_basic ≡ (old.has_basic || is_basic (kind_in c))
-    pub trailer : mid.has_trailer ≡ (old.has_trailer || is_trailer (kind_in c))
+    pub marks : mark_parts new.marks ≡ with_line (mark_parts old.marks) allowed (kind_in c) (number, c)
+    pub basic : new.has_basic ≡ (old.has_basic || is_basic (kind_in c))
+    pub trailer : new.has_trailer ≡ (old.has_trailer || is_trailer (kind_in c))
 
-  line_step : (number : ℕ) → number ≡ length cs + 1 → (old mid new : FeedReading) → HasTakenFeed feed allowed cs old
-      → IsTaken number old mid → HasTaken (feed_layouts feed allowed) (record_lines cs ++ (c ∷ [])) (progress_of mid.reading)
-      → IsMarked mid number (mark_in feed allowed c) new → HasTakenFeed feed allowed (cs ++ c ∷ []) new
-  line_step number at old mid new so_far kept taken m =
-      let is = is_line kept.no_comment kept.no_note in
-      let numbered : number ≡ here = omega (arith, at) in
+  line_step : (number : ℕ) → number ≡ length cs + 1 → (old new : FeedReading) → HasTakenFeed feed allowed cs old
+      → IsLineTaken number old new → HasTaken (feed_layouts feed allowed) (record_lines cs ++ (c ∷ [])) (progress_of new.reading)
+      → HasTakenFeed feed allowed (cs ++ c ∷ []) new
+  line_step number at old new so_far kept taken =
+      let numbered : number ≡ 1 + length cs = omega (arith, at) in
+      let same : passed_of (cs ++ c ∷ []) ≡ passed_of cs = passed_more ∙ rw (kept.no_comment, kept.no_note) refl in
       record {
-        taken = subst (λ ls. HasTaken (feed_layouts feed allowed) ls (progress_of new.reading)) (sym (lines_more is))
-            (subst (λ r. HasTaken (feed_layouts feed allowed) (record_lines cs ++ (c ∷ [])) (progress_of r)) (sym m.reading) taken);
-        header_line = m.header_line ∙ kept.header_line ∙ ap (λ (n : ℕ). header_behind n (kind_in c) number) so_far.header_line
-            ∙ ap (header_behind (header_from 1 cs) (kind_in c)) numbered ∙ sym (header_more 1 (omega arith) cs c);
-        marked = m.marked ∙ ap (λ v. with_mark v number (mark_in feed allowed c)) (kept.marks ∙ so_far.marked)
-            ∙ ap (λ (n : ℕ). with_mark (marks_in feed allowed cs) n (mark_in feed allowed c)) numbered ∙ sym (marks_in-more is);
-        counts = m.counts ∙ kept.counts ∙ ap (λ (n : UpdateCounts). with_line n (kind_in c) c) so_far.counts ∙ sym counts_more;
-        passed = m.passed ∙ kept.passed ∙ so_far.passed ∙ sym (passed_line kept.no_comment kept.no_note);
-        basic = m.basic ∙ kept.basic ∙ ap (λ b. b || is_basic (kind_in c)) so_far.basic
-            ∙ sym (any_more (λ content. is_basic (kind_in content)));
-        trailer = m.trailer ∙ kept.trailer ∙ ap (λ b. b || is_trailer (kind_in c)) so_far.trailer
+        taken = subst (λ ls. HasTaken (feed_layouts feed allowed) ls (progress_of new.reading))
+            (sym (lines_more (is_line kept.no_comment kept.no_note))) taken;
+        marks = kept.marks ∙ ap (λ (m : MarkParts). with_line m allowed (kind_in c) (number, c)) so_far.marks
+            ∙ ap (λ (n : ℕ). with_line (marks_in allowed cs) allowed (kind_in c) (n, c)) numbered
+            ∙ ap (with_count (with_line (marks_in allowed cs) allowed (kind_in c) here)) (sym same)
+            ∙ sym marks_more;
+        basic = kept.basic ∙ ap (λ b. b || is_basic (kind_in c)) so_far.basic ∙ sym (any_more (λ content. is_basic (kind_in content)));
+        trailer = kept.trailer ∙ ap (λ b. b || is_trailer (kind_in c)) so_far.trailer
             ∙ sym (any_more (λ content. is_trailer (kind_in content)));
       }
 
-  -- a content that names no kind and is kept by its count alone
+  -- a content that is kept by its count alone, of no kind
   silent_step : is_record_line c ≡ false → kind_in c ≡ None → (old : FeedReading) (p : Passed) → HasTakenFeed feed allowed cs old
-      → p ≡ passed_of (cs ++ c ∷ []) → HasTakenFeed feed allowed (cs ++ c ∷ []) (record old { passed = p })
+      → p ≡ passed_of (cs ++ c ∷ []) → HasTakenFeed feed allowed (cs ++ c ∷ []) (with_passed old p)
   silent_step nothing no_kind old p so_far counted = record {
     taken = subst (λ ls. HasTaken (feed_layouts feed allowed) ls (progress_of old.reading)) (sym (lines_same nothing)) so_far.taken;
-    header_line = so_far.header_line ∙ sym (header_same cs c (ap is_header no_kind));
-    marked = so_far.marked ∙ sym (marks_in-same nothing);
-    counts = so_far.counts ∙ sym (counts_same None no_kind (λ n. refl));
-    passed = counted;
-    basic = so_far.basic ∙ sym (any_same (λ content. is_basic (kind_in content)) (ap is_basic no_kind));
-    trailer = so_far.trailer ∙ sym (any_same (λ content. is_trailer (kind_in content)) (ap is_trailer no_kind));
+    marks = ap (λ m. with_count m p) so_far.marks ∙ ap (with_count (marks_in allowed cs)) counted
+        ∙ sym (marks_more ∙ ap (λ k. with_count (with_line (marks_in allowed cs) allowed k here) (passed_of (cs ++ c ∷ []))) no_kind
+        ∙ ap (λ m. with_count m (passed_of (cs ++ c ∷ []))) (with_nothing (marks_in allowed cs) here));
+    basic = so_far.basic ∙ sym (none_more (λ content. is_basic (kind_in content)) (ap is_basic no_kind));
+    trailer = so_far.trailer ∙ sym (none_more (λ content. is_trailer (kind_in content)) (ap is_trailer no_kind));
   }
 
   -- a comment
   pub comment_step : is_comment c ≡ true → (old new : FeedReading) → HasTakenFeed feed allowed cs old
-      → new ≡ record old { passed = record old.passed { comments = old.passed.comments + 1 } }
+      → new ≡ with_passed old (record old.marks.passed { comments = old.marks.passed.comments + 1 })
       → HasTakenFeed feed allowed (cs ++ c ∷ []) new
   comment_step comment old new so_far is =
       let (no_note, no_kind) = comment_kind c comment in
       let nothing : is_record_line c ≡ false = ap (λ b. not b && not (is_note c)) comment in
-      let counts : Passed = record { comments = length (filter is_comment cs) + 1; notes = length (filter is_note cs) } in
       subst (HasTakenFeed feed allowed (cs ++ c ∷ [])) (sym is) (silent_step nothing no_kind old _ so_far
-      (ap (λ (p : Passed). let q : Passed = record p { comments = p.comments + 1 } in q) so_far.passed
-      ∙ ap (λ (n : ℕ). record counts { comments = n }) (sym (count_yes is_comment comment))
-      ∙ ap (λ (n : ℕ). let q : Passed = record { comments = length (filter is_comment (cs ++ c ∷ [])); notes = n } in q)
-      (sym (count_no is_note no_note))))
+      (ap (λ (m : MarkParts). let q : Passed = record m.passed { comments = m.passed.comments + 1 } in q) so_far.marks
+      ∙ sym (passed_more ∙ rw (comment, no_note) refl)))
 
   -- a note
   note_step : is_comment c ≡ false → is_note c ≡ true → (old new : FeedReading) → HasTakenFeed feed allowed cs old
-      → new ≡ record old { passed = record old.passed { notes = old.passed.notes + 1 } } → HasTakenFeed feed allowed (cs ++ c ∷ []) new
+      → new ≡ with_passed old (record old.marks.passed { notes = old.marks.passed.notes + 1 })
+      → HasTakenFeed feed allowed (cs ++ c ∷ []) new
   note_step no_comment note old new so_far is =
       let nothing : is_record_line c ≡ false = ap (λ b. not b && not (is_note c)) no_comment ∙ ap not note in
-      let counts : Passed = record { comments = length (filter is_comment cs); notes = length (filter is_note cs) + 1 } in
       subst (HasTakenFeed feed allowed (cs ++ c ∷ [])) (sym is) (silent_step nothing (note_kind c note) old _ so_far
-      (ap (λ (p : Passed). let q : Passed = record p { notes = p.notes + 1 } in q) so_far.passed
-      ∙ ap (λ (n : ℕ). record counts { comments = n }) (sym (count_no is_comment no_comment))
-      ∙ ap (λ (n : ℕ). let q : Passed = record { comments = length (filter is_comment (cs ++ c ∷ [])); notes = n } in q)
-      (sym (count_yes is_note note))))
+      (ap (λ (m : MarkParts). let q : Passed = record m.passed { notes = m.passed.notes + 1 } in q) so_far.marks
+      ∙ sym (passed_more ∙ rw (no_comment, note) refl)))
 
   -- ---- what comes of it
 
   -- the reading knows whether a note may stand
-  may_stand : (old : FeedReading) → HasTakenFeed feed allowed cs old → notes_may_stand cs ≡ (old.has_basic && not old.has_trailer)
-  may_stand old so_far =
+  note_may_stand : (old : FeedReading) → HasTakenFeed feed allowed cs old → notes_may_stand cs ≡ (old.has_basic && not old.has_trailer)
+  note_may_stand old so_far =
       ap (λ b. b && not (list_any (λ content. is_trailer (kind_in content)) cs)) (sym so_far.basic)
       ∙ ap (λ b. old.has_basic && not b) (sym so_far.trailer)
 
   pub note_taken : is_comment c ≡ false → is_note c ≡ true → (result : Result Unit TakeFault) (old new : FeedReading)
       → HasTakenFeed feed allowed cs old → IsNoteTaken old result new → IsFeedTaken feed allowed cs c result new
   note_taken no_comment note (Ok done) old new so_far is = (
-    rw note (ap (λ b. unless b OutOfOrder) (may_stand old so_far ∙ is.0)),
+    rw note (ap (λ b. unless b OutOfOrder) (note_may_stand old so_far ∙ is.0)),
     note_step no_comment note old new so_far is.1,
   )
   note_taken no_comment note (Err (Refused why)) old new so_far is =
-      rw note (ap (λ b. unless b OutOfOrder) (may_stand old so_far ∙ is.0) ∙ ap Some (sym is.1))
+      rw note (ap (λ b. unless b OutOfOrder) (note_may_stand old so_far ∙ is.0) ∙ ap Some (sym is.1))
   note_taken no_comment note (Err Memory) old new so_far is = absurd is
 
-  pub line_marked : (number : ℕ) (m : LineMark) (result : Result Unit TakeFault) (old mid new : FeedReading) → number ≡ length cs + 1
-      → HasTakenFeed feed allowed cs old → IsTaken number old mid
-      → IsRecordTaken feed allowed c (progress_of old.reading) (Ok tt) (progress_of mid.reading) → m ≡ mark_in feed allowed c
-      → UnlessMemory (IsMarked mid number m new) result → IsFeedTaken feed allowed cs c result new
-  line_marked number m (Ok done) old mid new at so_far kept taken told is =
+  pub line_taken : (number : ℕ) (old new : FeedReading) → number ≡ length cs + 1 → HasTakenFeed feed allowed cs old
+      → IsLineTaken number old new → IsRecordTaken feed allowed c (progress_of old.reading) (Ok tt) (progress_of new.reading)
+      → IsFeedTaken feed allowed cs c (Ok tt) new
+  line_taken number old new at so_far kept taken =
       let (fine, more) = taken_behind (feed_layouts feed allowed) (feed_are feed allowed) (record_lines cs) c (progress_of old.reading)
-      so_far.taken (Ok tt) (progress_of mid.reading) taken in (
-        rw kept.no_note fine,
-        line_step number at old mid new so_far kept more (subst (λ (x : LineMark). IsMarked mid number x new) told is),
-      )
-  line_marked number m (Err (Refused why)) old mid new at so_far kept taken told is = absurd is
-  line_marked number m (Err Memory) old mid new at so_far kept taken told is = tt
+      so_far.taken (Ok tt) (progress_of new.reading) taken in
+      (rw kept.no_note fine, line_step number at old new so_far kept more)
 
   pub line_untaken : is_note c ≡ false → (fault : TakeFault) (old mid new : FeedReading) → HasTakenFeed feed allowed cs old
       → IsRecordTaken feed allowed c (progress_of old.reading) (Err fault) (progress_of mid.reading)
@@ -341,24 +422,14 @@ module _ (feed : Feed) (allowed : HolidayCodes) (cs : List (List ℕ)) (c : List
       let kind : kind_in c ≡ Some Li = kind_there c (of.Stop plain.stop) plain.spelled in
       let (no_comment, no_note) = named_line c Li kind in
       let own = own_taken feed allowed c (progress_of old.reading) (rw kind tt) (Ok tt) (progress_of new.reading) taken in
-      let both = line_marked (length cs + 1) Nothing (Ok tt) old new new refl so_far (record {
+      let both = line_taken (length cs + 1) old new refl so_far (record {
         no_comment = no_comment;
         no_note = no_note;
-        header_line = ap (λ (r : FeedReading). r.header_line) is
-            ∙ ap (λ b. cond (b && (old.header_line == 0)) (length cs + 1) old.header_line) (sym (ap is_header kind));
-        marks = ap marks_of is;
-        counts = ap (λ (r : FeedReading). r.counts) is ∙ sym (silent_counts (Some Li) kind (λ n. refl) old.counts);
-        passed = ap (λ (r : FeedReading). r.passed) is;
+        marks = ap (λ (r : FeedReading). mark_parts r.marks) is
+            ∙ sym (ap (λ k. with_line (mark_parts old.marks) allowed k (length cs + 1, c)) kind
+            ∙ with_nothing (mark_parts old.marks) (length cs + 1, c));
         basic = ap (λ (r : FeedReading). r.has_basic) is ∙ sym (or_false old.has_basic (is_basic (kind_in c)) (ap is_basic kind));
         trailer = ap (λ (r : FeedReading). r.has_trailer) is
             ∙ sym (or_false old.has_trailer (is_trailer (kind_in c)) (ap is_trailer kind));
-      }) own (sym (ap (λ k. mark_by feed allowed k c) kind)) (record {
-        marked = sym (with_nothing (marks_of new) (length cs + 1));
-        reading = refl;
-        header_line = refl;
-        counts = refl;
-        passed = refl;
-        basic = refl;
-        trailer = refl;
-      }) in
+      }) own in
       record { is_line = plain.is_line; no_comment = no_comment; stands = both.0; taken = both.1 }

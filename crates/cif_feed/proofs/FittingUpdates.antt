@@ -19,14 +19,13 @@ use Rattle.cif_feed.specs.UpdateParts.{AssociationKey, BytesSpellUpdate, IsAssoc
 use Rattle.cif_feed.specs.UpdateParts.{change_by}
 use Rattle.cif_feed.specs.Updated.{IsUpdated, published_association_key, published_schedule_key}
 use Rattle.cif_feed.specs.declared.changes.Change.{Change}
-use Rattle.cif_feed.specs.declared.feed.Feed.TheVariants.{Update}
-use Rattle.cif_feed.specs.declared.mark.Numbered.{Numbered}
+use Rattle.cif_feed.specs.declared.feed_line.Feed.TheVariants.{Update}
 use Rattle.cif_feed.specs.declared.mark.RecordMark.{RecordMark}
 use Rattle.cif_feed.specs.declared.mark.Transaction.{Transaction}
 use Rattle.cif_feed.specs.declared.mark.Transaction.TheVariants.{Deleted}
-use Rattle.cif_feed.specs.declared.published.PublishedAssociation.{PublishedAssociation}
-use Rattle.cif_feed.specs.declared.published.PublishedSchedule.{PublishedSchedule}
-use Rattle.cif_feed.proofs.HeldMarks.{feed_fits}
+use Rattle.cif_feed.specs.declared.published_extract.PublishedAssociation.{PublishedAssociation}
+use Rattle.cif_feed.specs.declared.published_extract.PublishedSchedule.{PublishedSchedule}
+use Rattle.cif_feed.proofs.SaidLines.{feed_fits}
 use Rattle.cif_feed.proofs.ListSteps.{All-from_map}
 
 -- what follows of the third of each three, where P holds of the first
@@ -88,18 +87,18 @@ AssociationOf a = AssociationFits a.association
 abbrev ScheduleOf : PublishedSchedule → Type 0
 ScheduleOf s = ScheduleFits s.schedule
 
-association_put : (x : Association) (m : Numbered RecordMark) (c : Change AssociationKey PublishedAssociation)
+association_put : (x : Association) (m : RecordMark) (c : Change AssociationKey PublishedAssociation)
     → IsAssociationChange x m c → AssociationFits x → PutsSuch AssociationOf c
 association_put x m c is fits =
     subst (PutsSuch AssociationOf) (sym is.change)
-    (change_puts AssociationOf m.mark.transaction m.number (x.key, x.first, m.mark.letter) is.published
+    (change_puts AssociationOf m.transaction m.line (x.key, x.first, m.letter) is.published
     (subst AssociationFits (sym is.is.of_profile) fits))
 
-schedule_put : (x : Schedule) (m : Numbered RecordMark) (c : Change ScheduleKey PublishedSchedule) → IsScheduleChange x m c
+schedule_put : (x : Schedule) (m : RecordMark) (c : Change ScheduleKey PublishedSchedule) → IsScheduleChange x m c
     → ScheduleFits x → PutsSuch ScheduleOf c
 schedule_put x m c is fits =
     subst (PutsSuch ScheduleOf) (sym is.change)
-    (change_puts ScheduleOf m.mark.transaction m.number (x.uid, x.first, m.mark.letter) is.published
+    (change_puts ScheduleOf m.transaction m.line (x.uid, x.first, m.letter) is.published
     (subst ScheduleFits (sym is.is.of_profile) fits))
 
 pub updated_fits : (max : ℕ) (bytes : List ℕ) (u : UpdateParts) (old new : PublishedParts) → BytesSpellUpdate max bytes u
@@ -115,10 +114,10 @@ updated_fits max bytes u old new s up fits =
     (All-map AssociationFits association new.associations
     (left AssociationOf published_association_key old.associations u.associations new.associations up.associations
     (All-from_map association AssociationFits old.associations fits.associations)
-    (triples-all IsAssociationChange AssociationFits (PutsSuch AssociationOf) association_put x.associations lines.association_marks
+    (triples-all IsAssociationChange AssociationFits (PutsSuch AssociationOf) association_put x.associations lines.marks.associations
     u.associations says.associations put.associations)))
     (All-map ScheduleFits schedule new.schedules
     (left ScheduleOf published_schedule_key old.schedules u.schedules new.schedules up.schedules
     (All-from_map schedule ScheduleFits old.schedules fits.schedules)
-    (triples-all IsScheduleChange ScheduleFits (PutsSuch ScheduleOf) schedule_put x.schedules lines.schedule_marks u.schedules
+    (triples-all IsScheduleChange ScheduleFits (PutsSuch ScheduleOf) schedule_put x.schedules lines.marks.schedules u.schedules
     says.schedules put.schedules)))

@@ -4,8 +4,8 @@ use Rattle.std.specs.List.{insert}
 use Rattle.std.proofs.lemmas.List.Sorted.{Contains-permutation, IsPermutation-insert, IsPermutation-sym}
 use Rattle.cif_calendar.proofs.Elements.{Contains-cases, Contains-first, Contains-rest}
 use Rattle.cif_feed.specs.Holidays.{HasMore, IsHoliday, Names, dates_of}
-use Rattle.cif_feed.specs.declared.holiday_code.HolidayCode.{HolidayCode}
-use Rattle.cif_feed.specs.declared.holiday_code.HolidayCode.TheVariants.{X, E, G}
+use Rattle.cif_feed.specs.declared.holidays.HolidayCode.{HolidayCode}
+use Rattle.cif_feed.specs.declared.holidays.HolidayCode.TheVariants.{X, E, G}
 use Rattle.cif_feed.specs.declared.holidays.HolidayDates.{HolidayDates}
 use Rattle.cif_feed.specs.declared.holidays.Holidays.{Holidays}
 

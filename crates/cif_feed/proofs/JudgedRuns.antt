@@ -50,8 +50,7 @@ use Rattle.cif_feed.specs.declared.judged.Order.{Order}
 use Rattle.cif_feed.specs.declared.judged.Judged.{Judged}
 use Rattle.cif_feed.specs.declared.judged.Judged.TheVariants as judged
 use Rattle.cif_feed.specs.declared.reasons.Reasons.{Reasons}
-use Rattle.cif_feed.proofs.OwnReasons.{judged_line, own_none, own_of_line, reasons_of_more, refused_number}
-use Rattle.cif_feed.proofs.ToldReasons.{tell_nothing}
+use Rattle.cif_feed.proofs.ToldReasons.{judged_line, own_none, own_of_line, reasons_of_more, refused_number, tell_nothing}
 
 -- ---- contents that spell an extract
 

@@ -1,14 +1,13 @@
 -- What changes leave of a key, as a list of records.
 use Rattle.std.proofs.Common.{◌≡◌, ◌≢◌, Bool, true, false, cond, List, [], ◌∷◌, ◌++◌, All, filter, refl, sym, ap, ◌∙◌}
 use Rattle.std.specs.Prelude.{option_to_list}
-use Rattle.std.proofs.lemmas.List.Elements.{All-head, All-tail}
+use Rattle.std.proofs.lemmas.List.Elements.{All-head, All-tail, filter_agree}
 use Rattle.cif_extract.proofs.OneExtract.{same_values}
 use Rattle.cif_feed.specs.Changes.{AreAfter, HaveLastWord, TellsSame, changes_of, key_of, keyed_record, last_word, of_key, put_of}
 use Rattle.cif_feed.specs.Changes.{with_keys}
-use Rattle.cif_feed.specs.declared.changes.Action.{Action}
-use Rattle.cif_feed.specs.declared.changes.Action.TheVariants.{New, Revised, Deleted}
 use Rattle.cif_feed.specs.declared.changes.Change.{Change}
-use Rattle.cif_feed.proofs.ChangeLaws.{bools, filter-alike, of_key-after_all, same_equiv}
+use Rattle.cif_feed.proofs.ChangeLaws.{bools, of_key-after_all, put_keys, same_equiv}
+use Rattle.cif_feed.proofs.ListSteps.{filter-map}
 
 module _ {K R : Type 0} (key : R → K) (same : K → K → Bool) (tells : TellsSame same) (k : K) where
   -- those of the key, without it
@@ -16,14 +15,7 @@ module _ {K R : Type 0} (key : R → K) (same : K → K → Bool) (tells : Tells
   has = λ r. same (key r) k
 
   of_key-filter : (rs : List R) → of_key same (with_keys key rs) k ≡ with_keys key (filter has rs)
-  of_key-filter [] = refl
-  of_key-filter (r ∷ rs) = at (has r) (of_key-filter rs)
-    where
-      at : (b : Bool) → of_key same (with_keys key rs) k ≡ with_keys key (filter has rs)
-          → cond b ((key r, r) ∷ of_key same (with_keys key rs) k) (of_key same (with_keys key rs) k)
-          ≡ with_keys key (cond b (r ∷ filter has rs) (filter has rs))
-      at true more = ap (λ l. (key r, r) ∷ l) more
-      at false more = more
+  of_key-filter rs = filter-map (λ (r : K × R). same r.0 k) (λ (r : R). (key r, r)) rs
 
   same_records : (xs ys : List R) → with_keys key xs ≡ with_keys key ys → xs ≡ ys
   same_records = same_values (λ (r : R). (key r, r)) (λ x y e. ap (λ (v : K × R). v.1) e)
@@ -46,11 +38,6 @@ module _ {K R : Type 0} (key : R → K) (same : K → K → Bool) (tells : Tells
   behind (c ∷ before) after b =
       behind before after (cond (same (key_of key c.action) k) (keyed_record (key_of key c.action) (put_of c.action)) b)
 
-  put_keys : (a : Action K R) → keyed_record (key_of key a) (put_of a) ≡ with_keys key (option_to_list (put_of a))
-  put_keys (New r) = refl
-  put_keys (Revised r) = refl
-  put_keys (Deleted d) = refl
-
   last_is : (before after : List (Change K R)) (c : Change K R) (b : List (K × R)) → key_of key c.action ≡ k
       → All (λ d. key_of key d.action ≢ k) after
       → last_word same b (changes_of key (before ++ c ∷ after)) k ≡ with_keys key (option_to_list (put_of c.action))
@@ -58,7 +45,7 @@ module _ {K R : Type 0} (key : R → K) (same : K → K → Bool) (tells : Tells
       behind before (c ∷ after) b
       ∙ ap (λ v. last_word same (cond v (keyed_record (key_of key c.action) (put_of c.action)) (last_word same b (changes_of key before) k))
       (changes_of key after) k) ((tells (key_of key c.action) k).1 is)
-      ∙ others after (keyed_record (key_of key c.action) (put_of c.action)) none ∙ put_keys c.action
+      ∙ others after (keyed_record (key_of key c.action) (put_of c.action)) none ∙ put_keys key c.action
 
 pub have_last_word : {K R : Type 0} (key : R → K) (old : List R) (changes : List (Change K R)) (new : List R)
     → AreAfter key old changes new → (k : K) → HaveLastWord key old changes new k
@@ -74,7 +61,7 @@ have_last_word {K} {R} key old changes new are k = record {
     test = has key are.same are.tells k;
     tells = λ r. are.tells (key r) k;
     are = of.are
-        ∙ filter-alike of.test (has key are.same are.tells k)
+        ∙ filter_agree of.test (has key are.same are.tells k)
         (λ r. bools (of.test r) (are.same (key r) k) (λ is. (are.tells (key r) k).1 ((of.tells r).0 is))
         (λ is. (of.tells r).1 ((are.tells (key r) k).0 is))) old
         ∙ same_records key are.same are.tells k (filter (has key are.same are.tells k) old) (filter (has key are.same are.tells k) new)

@@ -18,7 +18,7 @@ use Rattle.cif_feed.specs.Prepared.{ArePrepared, part_terms, published_terms}
 use Rattle.cif_feed.specs.PreparedParts.{IsPrepared}
 use Rattle.cif_feed.specs.Published.{IsStop, PublishedTerms}
 use Rattle.cif_feed.specs.PublishedParts.{published_associations, published_schedules}
-use Rattle.cif_feed.specs.declared.holiday_code.HolidayCode.{HolidayCode}
+use Rattle.cif_feed.specs.declared.holidays.HolidayCode.{HolidayCode}
 use Rattle.cif_feed.specs.declared.holidays.Holidays.{Holidays}
 use Rattle.cif_feed.proofs.PartLists.{parts-whole}
 

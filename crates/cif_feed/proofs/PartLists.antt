@@ -1,14 +1,86 @@
--- The parts of a record, one after another.
-use Rattle.std.proofs.Common.{◌≡◌, inl, inr, ⊎_elim, ℕ, ◌+◌, ◌-◌, ◌<◌, ◌≤◌, List}
-use Rattle.std.proofs.Common.{[], ◌∷◌, ◌++◌, ◌↔◌, Some, None, Contains, refl, sym}
-use Rattle.std.proofs.Common.{ap, ◌∙◌, subst, arith, Bool, true, false, cond, nat_lt, append-nil, ltb-true, ltb-false}
+-- The parts of a record, one cut after another, among days that don't fall.
+use Rattle.std.proofs.Common.{◌≡◌, ℕ, ◌+◌, ◌-◌, ◌<◌, ◌≤◌, Bool, List, length, get_or, drop, None, Some, sym, ap, ◌∙◌, subst, arith}
+use Rattle.std.proofs.Common.{Contains, ◌⊎◌, ⊎_elim, length-drop, inl, inr, [], ◌∷◌, ◌++◌, ◌↔◌, refl, true, false, cond, nat_lt, append-nil}
+use Rattle.std.proofs.Common.{ltb-true, ltb-false, map, append_assoc}
 use Rattle.std.proofs.lemmas.Bool.{cases_lt}
+use Rattle.std.proofs.lemmas.List.{get_or-drop, get_or_default, map-append}
+use Rattle.std.specs.List.Sorted.{IsNonDecreasing}
+use Rattle.cif_columns.specs.Day.{weekday_of}
+use Rattle.cif_columns.specs.DaysRun.{RunsOn}
+use Rattle.cif_feed.specs.HolidayDates.{IsFirstFrom, IsDateOnDaysRun}
 use Rattle.std.proofs.lemmas.List.Elements.{All-contains, All-push, All-weaker, Contains-append_left, Contains-push}
 use Rattle.std.proofs.lemmas.List.Quantifiers.{all_pairs_push}
 use Rattle.cif_calendar.specs.Terms.{Terms}
 use Rattle.cif_feed.specs.Parts.{AreParts, IsBefore, IsCut, IsPart, Part}
-use Rattle.cif_feed.specs.HolidayDates.{IsDateOnDaysRun, IsFirstFrom}
-use Rattle.cif_feed.specs.Steps.PartsSoFar.{ArePartsBefore, MayBegin, before_cut}
+use Rattle.cif_feed.specs.Steps.PartsSoFar.{ArePartsBefore, MayBegin, before_cut, AreAdded, IsAdded, IsLeftFrom, IsPushed, added_before}
+use Rattle.cif_feed.specs.Steps.PartsSoFar.{records_on}
+use Rattle.cif_feed.specs.Prepared.{part_entry}
+use Rattle.cif_feed.specs.PreparedRecord.{terms_on}
+use Rattle.cif_feed.specs.declared.parts.PreparedRecord.{PreparedRecord}
+
+-- ---- the first of the dates from a day on
+
+-- The dates before the place come before `from`, and those from it up to the index too, or they don't have their weekdays in the mask.
+module _ (dates later : List ℕ) (days : List Bool) (from place index : ℕ) (rise : IsNonDecreasing dates)
+    (before : (k : ℕ) → k < place → get_or dates k 0 < from) (is : later ≡ drop place dates)
+    (others : (k : ℕ) → k < index → (get_or later k 0 < from) ⊎ (¬ RunsOn days (weekday_of (get_or later k 0)))) where
+  long : length later ≡ length dates - place
+  long = ap length is ∙ length-drop place dates
+
+  at_later : (j : ℕ) → get_or later j 0 ≡ get_or dates (place + j) 0
+  at_later j = ap (λ (l : List ℕ). get_or l j 0) is ∙ get_or-drop place dates j 0
+
+  -- a day from `from` on that comes before the date at the index isn't one of them
+  passed : (d : ℕ) → from ≤ d → (index < length later → d < get_or later index 0) → ¬ IsDateOnDaysRun dates days d
+  passed d early ahead on = at on.listed
+    where
+      at : Contains dates d → ⊥
+      at (k, below, at_k) =
+          let here : get_or dates k 0 ≡ d = get_or_default dates k 0 d below ∙ at_k in
+          ⊎_elim
+          (λ (low : k < place). let gone : get_or dates k 0 < from = before k low in absurd (omega arith))
+          (λ (high : place ≤ k). ⊎_elim
+          (λ (seen : k - place < index).
+          let there : get_or later (k - place) 0 ≡ d =
+          at_later (k - place) ∙ ap (λ (n : ℕ). get_or dates n 0) (omega arith) ∙ here in
+          ⊎_elim
+          (λ (gone : get_or later (k - place) 0 < from). absurd (omega arith))
+          (λ off. off (subst (λ (n : ℕ). RunsOn days (weekday_of n)) (sym there) on.on_weekday))
+          (others (k - place) seen))
+          (λ (unseen : index ≤ k - place).
+          let in_later : index < length later = omega (arith, long) in
+          let sooner = ahead in_later in
+          let up : get_or dates (place + index) 0 ≤ get_or dates k 0 = rise (place + index) k 0 (omega arith) below in
+          let one = at_later index in absurd (omega arith))
+          (cases_lt (k - place) index))
+          (cases_lt k place)
+
+  -- none is found where the date at the index, if there is one, comes after the last
+  pub none-found : (last : ℕ) → (index < length later → last < get_or later index 0)
+      → IsFirstFrom (IsDateOnDaysRun dates days) from last None
+  none-found last behind d early late = passed d early (λ there. let b = behind there in omega arith)
+
+  -- the date at the index isn't before the first
+  pub from-late : (date : ℕ) → index < length later → date ≡ get_or later index 0
+      → ((k : ℕ) → place ≤ k → k < length dates → from ≤ get_or dates k 0) → from ≤ date
+  from-late date there at after = (
+      let below : place + index < length dates = omega (arith, long) in
+      let same : date ≡ get_or dates (place + index) 0 = at ∙ at_later index in
+      let a = after (place + index) (omega arith) below in omega arith)
+
+  -- the date at the index is found where its weekday is in the mask
+  pub date-found : (last date : ℕ) → index < length later → date ≡ get_or later index 0 → date ≤ last → RunsOn days (weekday_of date)
+      → from ≤ date → IsFirstFrom (IsDateOnDaysRun dates days) from last (Some date)
+  date-found last date there at upto on late =
+      let below : place + index < length dates = omega (arith, long) in
+      let same : date ≡ get_or dates (place + index) 0 = at ∙ at_later index in (
+        late,
+        upto,
+        record { listed = (place + index, below, get_or_default dates (place + index) date 0 below ∙ sym same); on_weekday = on },
+        λ e early sooner. passed e early (λ h. omega (arith, at)),
+      )
+
+-- ---- lists of parts
 
 module _ {B : Type 0} (Stops : ℕ → Type 0) (r : Terms B) where
   pub parts-none : ArePartsBefore Stops r r.first []
@@ -209,3 +281,139 @@ module _ {B : Type 0} (Stops : ℕ → Type 0) (r : Terms B) where
       subst (λ (q : Part). Contains parts q) (same-part p have.0 is_p is_q have.2 have.3) have.1)
       (λ cut. absurd (is_p.whole p.first (omega arith) is_p.in_order cut))
       (are.covered p.first is_p.from (let up = is_p.in_order in let upto = is_p.upto in omega arith))
+
+-- ---- one cut after another
+
+module _ {K B : Type 0} (stops left : List ℕ) (k : K) (r : Terms B) where
+  -- The records that were there, and those of the parts before `first`, on which another may begin. None of the first n of the days that
+  -- are left is a cut from that day on.
+  pub record IsCutUpTo (old now : List (K × Terms B)) (first n : ℕ) : Type 0 where
+    pub own : List Part
+    pub are : now ≡ old ++ map (part_entry k r) own
+    pub so_far : ArePartsBefore (Contains stops) r first own
+    pub begins : MayBegin (Contains stops) r first
+    pub passed : (j : ℕ) → j < n → (get_or left j 0 < first) ⊎ (¬ RunsOn r.days (weekday_of (get_or left j 0)))
+
+  pub cut-nothing : (old : List (K × Terms B)) → r.first ≤ r.last → IsCutUpTo old old r.first 0
+  cut-nothing old up = record {
+    own = [];
+    are = sym (append-nil old);
+    so_far = parts-none (Contains stops) r;
+    begins = may-begin (Contains stops) r up;
+    passed = λ j below. absurd (omega arith);
+  }
+
+module _ {K B : Type 0} (stops left : List ℕ) (k : K) (r : Terms B) (rise : IsNonDecreasing stops)
+    (from : IsLeftFrom stops r.first left) where
+  module _ (old now : List (K × Terms B)) (first n : ℕ) (cut : IsCutUpTo stops left k r old now first n) where
+    before : (j : ℕ) → j < from.place → get_or stops j 0 < first
+    before j below = (let b = from.before j below in let f = cut.begins.from in omega arith)
+
+    -- the part up to the record's last day ends the list
+    end : (new : List (K × Terms B)) → IsAdded k r first r.last now new → IsFirstFrom (IsDateOnDaysRun stops r.days) first r.last None
+        → AreAdded (Contains stops) k r old new
+    end new added none =
+        let p : Part = record { first = first; last = r.last } in (
+          cut.own ++ p ∷ [],
+          parts-last stops r first cut.own cut.so_far cut.begins none,
+          added ∙ ap (λ l. l ++ (k, terms_on r first r.last) ∷ []) cut.are
+              ∙ append_assoc old (map (part_entry k r) cut.own) ((k, terms_on r first r.last) ∷ [])
+              ∙ ap (λ l. old ++ l) (ap (λ q. map (part_entry k r) cut.own ++ q ∷ [])
+              (let up = cut.begins.upto in
+              let same : terms_on r first r.last ≡ record r { first = first; last = r.last } =
+              ap (λ (m : ℕ). record r { first = first; last = m }) (omega arith) in
+              ap (λ (t : Terms B). (k, t)) same)
+              ∙ sym (map-append (part_entry k r) cut.own (p ∷ []))),
+        )
+
+    -- no day is left, or the next one is behind the record
+    pub cut-end : (new : List (K × Terms B)) → IsAdded k r first r.last now new → ¬ n < length left → AreAdded (Contains stops) k r old new
+    cut-end new added over = end new added
+        (none-found stops left r.days first from.place n rise before from.is cut.passed r.last (λ below. absurd (over below)))
+
+    pub cut-behind : (new : List (K × Terms B)) (stop : ℕ) → IsAdded k r first r.last now new → n < length left → stop ≡ get_or left n 0
+        → r.last < stop → AreAdded (Contains stops) k r old new
+    cut-behind new stop added below is behind = end new added
+        (none-found stops left r.days first from.place n rise before from.is cut.passed r.last (λ there. omega (arith, is)))
+
+    -- a day that is no cut
+    pub cut-passed : (stop : ℕ) → stop ≡ get_or left n 0 → (stop < first) ⊎ (¬ RunsOn r.days (weekday_of stop))
+        → IsCutUpTo stops left k r old now first (n + 1)
+    cut-passed stop is off = record {
+      own = cut.own;
+      are = cut.are;
+      so_far = cut.so_far;
+      begins = cut.begins;
+      passed = λ j below. ⊎_elim
+          (λ (earlier : j < n). cut.passed j earlier)
+          (λ later. let here : n ≡ j = omega arith in
+          subst (λ m. (get_or left m 0 < first) ⊎ (¬ RunsOn r.days (weekday_of (get_or left m 0)))) here
+          (subst (λ m. (m < first) ⊎ (¬ RunsOn r.days (weekday_of m))) is off))
+          (cases_lt j n);
+    }
+
+    -- a cut
+    module _ (new : List (K × Terms B)) (stop : ℕ) (added : new ≡ now ++ added_before k r first stop) (below : n < length left)
+        (is : stop ≡ get_or left n 0) (late : first ≤ stop) (upto : stop ≤ r.last) (runs : RunsOn r.days (weekday_of stop)) where
+      found : IsFirstFrom (IsDateOnDaysRun stops r.days) first r.last (Some stop)
+      found = date-found stops left r.days first from.place n rise before from.is cut.passed r.last stop below is upto runs late
+
+      joined : new ≡ old ++ map (part_entry k r) (cut.own ++ before_cut first stop)
+      joined = added ∙ ap (λ l. l ++ added_before k r first stop) cut.are
+          ∙ append_assoc old (map (part_entry k r) cut.own) (added_before k r first stop)
+          ∙ ap (λ l. old ++ l) (sym (map-append (part_entry k r) cut.own (before_cut first stop)))
+
+      pub cut-last : ¬ stop < r.last → AreAdded (Contains stops) k r old new
+      cut-last end = (
+        cut.own ++ before_cut first stop,
+        parts-cut_last stops r first cut.own cut.so_far cut.begins stop found (omega arith),
+        joined,
+      )
+
+      pub cut-next : stop < r.last → IsCutUpTo stops left k r old new (stop + 1) (n + 1)
+      cut-next more =
+          let next = parts-next stops r first cut.own cut.so_far cut.begins stop found more in record {
+            own = cut.own ++ before_cut first stop;
+            are = joined;
+            so_far = next.0;
+            begins = next.1;
+            passed = λ j b. ⊎_elim
+                (λ (earlier : j < n). ⊎_elim (λ gone. inl (omega arith)) (λ off. inr off) (cut.passed j earlier))
+                (λ later. inl (let here : n ≡ j = omega arith in
+                let same : get_or left j 0 ≡ stop = ap (λ m. get_or left m 0) (sym here) ∙ sym is in omega arith))
+                (cases_lt j n);
+          }
+
+-- a record that never runs is its one part
+pub never-cut : {K B : Type 0} (stops : List ℕ) (k : K) (r : Terms B) (old new : List (K × Terms B)) → r.first ≤ r.last
+    → ((w : ℕ) → ¬ RunsOn r.days w) → IsAdded k r r.first r.last old new → AreAdded (Contains stops) k r old new
+never-cut {K} {B} stops k r old new up never added = (
+  record { first = r.first; last = r.last } ∷ [],
+  parts-whole (Contains stops) r up (λ d cut. never (weekday_of d) cut.applies.on_weekday),
+  added ∙ ap (λ (m : ℕ). old ++ (let t : Terms B = record r { last = m } in (k, t)) ∷ []) (omega arith),
+)
+
+-- ---- one record more
+
+-- a record that was pushed
+pub pushed-is : {E D : Type 0} (x : PreparedRecord E D) (e : E) (first last : D) (old new : List (PreparedRecord E D)) → new ≡ old ++ x ∷ []
+    → x.entry.now ≡ e → x.first ≡ first → x.last ≡ last → IsPushed e first last old new
+pushed-is x e first last old new items is_of is_first is_last =
+    record { pushed = x; items = items; is_of = is_of; is_first = is_first; is_last = is_last }
+
+module _ {E K B : Type 0} (key : E → K) (terms : E → Terms B) where
+  abbrev entry_of : PreparedRecord E ℕ → K × Terms B
+  entry_of p = (key p.entry.now, terms_on (terms p.entry.now) p.first p.last)
+
+  -- it comes behind the others
+  pub pushed-added : (e : E) (first last : ℕ) (old new : List (PreparedRecord E ℕ)) → IsPushed e first last old new
+      → IsAdded (key e) (terms e) first last (records_on key terms old) (records_on key terms new)
+  pushed-added e first last old new p =
+      ap (map entry_of) p.items ∙ map-append entry_of old (p.pushed ∷ [])
+      ∙ ap (λ q. map entry_of old ++ q ∷ []) (rw (p.is_of, p.is_first, p.is_last) refl)
+
+  pub pushed-from : (e : E) (first n last : ℕ) (old new : List (PreparedRecord E ℕ)) → first ≡ n → IsPushed e first last old new
+      → IsAdded (key e) (terms e) n last (records_on key terms old) (records_on key terms new)
+  pushed-from e first n last old new same p =
+      subst (λ (m : ℕ). IsAdded (key e) (terms e) m last (records_on key terms old) (records_on key terms new)) same
+      (pushed-added e first last old new p)

@@ -24,10 +24,10 @@ use Rattle.cif_feed.specs.PreparedParts.{IsPrepared}
 use Rattle.cif_feed.specs.Published.{IsStop, PublishedTerms}
 use Rattle.cif_feed.specs.PublishedParts.{PublishedParts, published_association_terms, published_associations, published_schedule_terms}
 use Rattle.cif_feed.specs.PublishedParts.{published_schedules}
-use Rattle.cif_feed.specs.declared.holiday_code.HolidayCode.{HolidayCode}
+use Rattle.cif_feed.specs.declared.holidays.HolidayCode.{HolidayCode}
 use Rattle.cif_feed.specs.declared.holidays.Holidays.{Holidays}
-use Rattle.cif_feed.specs.declared.published.PublishedAssociation.{PublishedAssociation}
-use Rattle.cif_feed.specs.declared.published.PublishedSchedule.{PublishedSchedule}
+use Rattle.cif_feed.specs.declared.published_extract.PublishedAssociation.{PublishedAssociation}
+use Rattle.cif_feed.specs.declared.published_extract.PublishedSchedule.{PublishedSchedule}
 use Rattle.cif_feed.proofs.FittingUpdates.{AssociationFits}
 use Rattle.cif_feed.proofs.ListSteps.{All-from_map}
 

@@ -19,9 +19,9 @@ use Rattle.cif_feed.specs.PreparedParts.{association_on, schedule_on}
 use Rattle.cif_feed.specs.Published.{IsHolidayOf, PublishedTerms}
 use Rattle.cif_feed.specs.Steps.Dropping.{IsStopAmong}
 use Rattle.cif_feed.specs.Steps.PartsSoFar.{AreAdded, records_on}
-use Rattle.cif_feed.specs.declared.holiday_code.HolidayCode.{HolidayCode}
+use Rattle.cif_feed.specs.declared.holidays.HolidayCode.{HolidayCode}
 use Rattle.cif_feed.specs.declared.holidays.Holidays.{Holidays}
-use Rattle.cif_feed.specs.declared.prepared_record.PreparedRecord.{PreparedRecord}
+use Rattle.cif_feed.specs.declared.parts.PreparedRecord.{PreparedRecord}
 use Rattle.cif_feed.proofs.PartLists.{parts-same}
 
 -- the prepared records as those of an extract

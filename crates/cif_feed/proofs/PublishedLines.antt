@@ -1,6 +1,25 @@
--- The lines that are written of an association and of a BS spell them, with their open ends and holiday codes.
-use Rattle.std.proofs.Common.{◌≡◌, ℕ, ◌+◌, ◌-◌, Bool, true, false, cond, List, [], ◌∷◌, ◌++◌, length, take, drop, Option, Some, None}
-use Rattle.std.proofs.Common.{refl, sym, ap, ◌∙◌, subst, codes, arith, IsTrue, slice_index, length-append}
+-- Lines that spell records of a published extract: those whose records are known, those that are written, and those of this profile.
+use Rattle.std.proofs.Common.{◌≡◌, ℕ, true, false, cond, not, ◌&&◌, List, [], ◌∷◌, refl, sym, ap, ◌∙◌, subst, inl, ◌+◌, ◌-◌, Bool, ◌++◌}
+use Rattle.std.proofs.Common.{length, take, drop, Option, Some, None, codes, arith, IsTrue, slice_index, length-append}
+use Rattle.std.proofs.lemmas.List.Elements.{All-cons, All-nil, All-head, All-tail}
+use Rattle.std.specs.Prelude.{All}
+use Rattle.cif_columns.specs.Comment.{is_comment}
+use Rattle.cif_columns.specs.Line.{IsLine}
+use Rattle.cif_extract.specs.ExtractParts.{ExtractParts}
+use Rattle.cif_extract.specs.Grammar.{AreExtract}
+use Rattle.cif_extract.specs.SpellsExtract.{SpellAllBy, BytesSpellWithin, SpellAll, SpellExtract, SpellExtractBy}
+use Rattle.cif_records.specs.declared.record.Record.{Record}
+use Rattle.cif_records.proofs.Records.{kind_of, kind_there}
+use Rattle.cif_feed.specs.FeedLine.{SpellsInFeed, IsClosedAt, SpellsAssociationBy, SpellsBasicBy, code_of, code_value, end_value}
+use Rattle.cif_feed.specs.FeedLine.{if_allowed, is_open, put_association_rows, put_basic_rows, transaction_at}
+use Rattle.cif_feed.specs.FromLines.{ArePairs}
+use Rattle.cif_feed.specs.Marks.{marks_in, association_mark, schedule_mark}
+use Rattle.cif_feed.specs.RecordLines.{is_note, is_record_line, record_lines, is_association, is_basic, lines_of}
+use Rattle.cif_feed.specs.SpellsFeed.{FeedParts, SpellFeed}
+use Rattle.cif_feed.specs.declared.feed_line.Feed.TheVariants.{Full}
+use Rattle.cif_feed.specs.declared.holidays.HolidayCodes.{HolidayCodes}
+use Rattle.cif_feed.proofs.FeedLines.{kind_there as feed_kind}
+use Rattle.cif_feed.proofs.FeedSteps.{named_line}
 use Rattle.std.proofs.Math.Seq.{drop-append-add, take-append_seam}
 use Rattle.cif_columns.specs.Field.{AllFit, AllStandIn, FieldValue, Fits, Row, StandsIn, columns, date, exactly, is_whole_from}
 use Rattle.cif_columns.specs.Field.{plain_columns, plain_line, row, width_of}
@@ -14,22 +33,83 @@ use Rattle.cif_records.specs.Basic.{terms_of}
 use Rattle.cif_records.specs.Checks.{are}
 use Rattle.cif_records.specs.declared.association.Association.{Association}
 use Rattle.cif_records.specs.declared.basic.Basic.{Basic}
-use Rattle.cif_records.specs.declared.record.Record.{Record}
 use Rattle.cif_records.specs.declared.record.Record.TheVariants as of
 use Rattle.cif_records.proofs.Judging.{no_open_end}
-use Rattle.cif_feed.specs.FeedLine.{IsClosedAt, SpellsAssociationBy, SpellsBasicBy, SpellsInFeed, code_of, code_value, end_value}
-use Rattle.cif_feed.specs.FeedLine.{if_allowed, is_open, letter_of, put_association_rows, put_basic_rows, record_mark, transaction_at}
 use Rattle.cif_feed.specs.HolidayCode.{code_in, has_code, letter}
-use Rattle.cif_feed.specs.PublishedParts.{published_association_line, published_basic_line, with_code, with_columns, with_open_end}
-use Rattle.cif_feed.specs.declared.feed.Feed.TheVariants.{Full}
-use Rattle.cif_feed.specs.declared.holiday_code.HolidayCode.{HolidayCode}
-use Rattle.cif_feed.specs.declared.holiday_code.HolidayCode.TheVariants.{X, E, G}
-use Rattle.cif_feed.specs.declared.holiday_code.HolidayCodes.{HolidayCodes}
-use Rattle.cif_feed.specs.declared.mark.RecordMark.{RecordMark}
+use Rattle.cif_feed.specs.PublishedParts.{published_association_line, published_basic_line, BytesSpellPublished, IsPublishedAssociation}
+use Rattle.cif_feed.specs.PublishedParts.{IsPublishedSchedule, SayPublished}
+use Rattle.cif_feed.specs.WrittenOver.{with_code, with_columns, with_open_end}
+use Rattle.cif_feed.specs.declared.holidays.HolidayCode.{HolidayCode}
+use Rattle.cif_feed.specs.declared.holidays.HolidayCode.TheVariants.{X, E, G}
 use Rattle.cif_feed.specs.declared.mark.Transaction.TheVariants.{New}
-use Rattle.cif_feed.specs.declared.published.PublishedAssociation.{PublishedAssociation}
-use Rattle.cif_feed.specs.declared.published.PublishedSchedule.{PublishedSchedule}
-use Rattle.cif_feed.proofs.KnownLines.{IsReadAs}
+use Rattle.cif_feed.specs.declared.published_extract.PublishedAssociation.{PublishedAssociation}
+use Rattle.cif_feed.specs.declared.published_extract.PublishedSchedule.{PublishedSchedule}
+use Rattle.cif_columns.specs.Contents.{contents_of}
+use Rattle.cif_extract.specs.declared.extract.Schedule.{Schedule}
+use Rattle.cif_records.specs.Kind.{kind_in}
+use Rattle.cif_records.specs.Record.{SpellsRecord}
+use Rattle.cif_records.specs.declared.record.Kind.{Kind}
+use Rattle.cif_feed.specs.OfProfile.{as_published, association_as_published, schedule_as_published}
+use Rattle.cif_feed.proofs.ListSteps.{triples-of}
+use Rattle.cif_feed.proofs.SaidLines.{IsScheduleLine, IsTest, SpellsAssociation, associations_spelled, schedules_spelled}
+
+-- ---- contents whose records are known
+
+module _ (allowed : HolidayCodes) where
+  -- the content is a line that spells this record
+  pub record IsReadAs (c : List ℕ) (r : Record) : Type 0 where
+    pub is_line : IsLine c
+    pub spells : SpellsInFeed Full allowed c r
+
+  abbrev pub AreReadAs : List (List ℕ) → List Record → Type 0
+  AreReadAs cs rs = ArePairs IsReadAs cs rs
+
+  -- it is no comment and no note
+  neither : (c : List ℕ) (r : Record) → IsReadAs c r → (is_comment c ≡ false) × (is_note c ≡ false)
+  neither c r is = named_line c (kind_of r) (feed_kind Full allowed c r is.spells)
+
+  speaks : (c : List ℕ) (r : Record) → IsReadAs c r → is_record_line c ≡ true
+  speaks c r is = let both = neither c r is in ap (λ b. not b && not (is_note c)) both.0 ∙ ap not both.1
+
+  pub speak : (cs : List (List ℕ)) (rs : List Record) → AreReadAs cs rs → record_lines cs ≡ cs
+  speak [] [] are = refl
+  speak (c ∷ cs) (r ∷ rs) are =
+      ap (λ b. cond b (c ∷ record_lines cs) (record_lines cs)) (speaks c r are.0) ∙ ap (λ k. c ∷ k) (speak cs rs are.1)
+  speak _ _ are = absurd are
+
+  pub read_are : (cs : List (List ℕ)) (rs : List Record) → AreReadAs cs rs → All IsLine cs
+  read_are [] [] are = All-nil IsLine
+  read_are (c ∷ cs) (r ∷ rs) are = All-cons IsLine c cs are.0.is_line (read_are cs rs are.1)
+  read_are _ _ are = absurd are
+
+  no_notes : (cs : List (List ℕ)) (rs : List Record) → AreReadAs cs rs → All (λ c. is_note c ≡ false) cs
+  no_notes [] [] are = All-nil (λ c. is_note c ≡ false)
+  no_notes (c ∷ cs) (r ∷ rs) are = All-cons (λ c. is_note c ≡ false) c cs (neither c r are.0).1 (no_notes cs rs are.1)
+  no_notes _ _ are = absurd are
+
+  spell : (cs : List (List ℕ)) (rs : List Record) → AreReadAs cs rs → SpellAllBy (SpellsInFeed Full allowed) cs rs
+  spell [] [] are = tt
+  spell (c ∷ cs) (r ∷ rs) are = (are.0.spells, spell cs rs are.1)
+  spell _ _ are = absurd are
+
+  -- what the contents say, where their records are this extract
+  abbrev pub parts_read : List (List ℕ) → ExtractParts → FeedParts
+  parts_read cs x = record { extract = x; marks = marks_in allowed cs }
+
+  pub spell_read : (cs : List (List ℕ)) (rs : List Record) (x : ExtractParts) → AreReadAs cs rs → AreExtract rs x
+      → SpellFeed Full allowed cs (parts_read cs x)
+  spell_read cs rs x are extract = record {
+    are_contents = λ k d below. inl (read_are cs rs are k d below);
+    notes_stand = λ k below note. let none = no_notes cs rs are k [] below in absurd (cc);
+    says = record {
+      extract = record {
+        records = rs;
+        spelled = subst (λ ls. SpellAllBy (SpellsInFeed Full allowed) ls rs) (sym (speak cs rs are)) (spell cs rs are);
+        are = extract;
+      };
+      marks = refl;
+    };
+  }
 
 -- ---- columns that are written over those of a plain line
 
@@ -71,24 +151,20 @@ opened : (columns : List ℕ) (open_end : Bool) (last : ℕ) → StandsIn column
 opened columns true last stands = ap (λ (l : List ℕ). are l (codes "999999")) stands
 opened columns false last stands = no_open_end columns last stands
 
--- the mark of a line that puts a record, with this end and this code
-abbrev pub new_mark : Bool → Option HolidayCode → List ℕ → RecordMark
-new_mark open_end code c = record { transaction = New; letter = letter_of c; open_end = open_end; code = code }
-
 module _ (allowed : HolidayCodes) (c : List ℕ) where
   new_there : columns 3 3 c ≡ codes "N" → transaction_at Full c ≡ Some New
   new_there new = ap (λ (l : List ℕ). cond (are l (codes "N")) (Some New) None) new
 
   pub association_spelled : (a : Association) (open_end : Bool) → AllStandIn c (put_association_rows New open_end a)
       → IsClosedAt open_end a.last
-      → SpellsInFeed Full allowed c (of.Association a) × (record_mark (transaction_at Full c) 22 None c ≡ new_mark open_end None c)
+      → SpellsInFeed Full allowed c (of.Association a) × (is_open 22 c ≡ open_end)
   association_spelled a open_end s closed =
       let is : is_open 22 c ≡ open_end = opened (columns 22 27 c) open_end a.last s.1.1.1.1.1.0 in (
         subst (λ t. SpellsAssociationBy t c a) (sym (new_there s.1.0)) (
           subst (λ b. AllStandIn c (put_association_rows New b a)) (sym is) s,
           subst (λ b. IsClosedAt b a.last) (sym is) closed,
         ),
-        ap (λ t. record_mark t 22 None c) (new_there s.1.0) ∙ ap (λ b. new_mark b None c) is,
+        is,
       )
 
   code_there : (code : Option HolidayCode) → ((k : HolidayCode) → code ≡ Some k → IsTrue (has_code allowed k)) → (l : List ℕ)
@@ -106,8 +182,7 @@ module _ (allowed : HolidayCodes) (c : List ℕ) where
   pub basic_spelled : (b : Basic) (open_end : Bool) (code : Option HolidayCode)
       → AllStandIn c (put_basic_rows New open_end code (terms_of b) b.detail) → IsClosedAt open_end b.last
       → ((k : HolidayCode) → code ≡ Some k → IsTrue (has_code allowed k))
-      → SpellsInFeed Full allowed c (of.Basic b)
-      × (record_mark (transaction_at Full c) 16 (code_of allowed c) c ≡ new_mark open_end code c)
+      → SpellsInFeed Full allowed c (of.Basic b) × (is_open 16 c ≡ open_end) × (code_of allowed c ≡ code)
   basic_spelled b open_end code s closed may =
       let is : is_open 16 c ≡ open_end = opened (columns 16 21 c) open_end b.last s.1.1.1.1.0 in
       let told : code_of allowed c ≡ code = code_there code may (columns 29 29 c) s.1.1.1.1.1.1.0 in (
@@ -116,18 +191,13 @@ module _ (allowed : HolidayCodes) (c : List ℕ) where
               (subst (λ v. AllStandIn c (put_basic_rows New v code (terms_of b) b.detail)) (sym is) s),
           subst (λ v. IsClosedAt v b.last) (sym is) closed,
         ),
-        ap (λ t. record_mark t 16 (code_of allowed c) c) (new_there s.1.0) ∙ ap (λ v. new_mark v (code_of allowed c) c) is
-            ∙ ap (λ k. new_mark open_end k c) told,
+        is,
+        told,
       )
 
 -- ---- what is written
 
 module _ (allowed : HolidayCodes) where
-  -- the line spells the record, and its mark says this end and this code
-  pub record IsWritten (c : List ℕ) (r : Record) (m : RecordMark) (open_end : Bool) (code : Option HolidayCode) : Type 0 where
-    pub reads : IsReadAs allowed c r
-    pub mark : m ≡ new_mark open_end code c
-
   module _ (a : PublishedAssociation) (fits : AllFit (association_table a.association)) where
     abbrev association : Association
     association = a.association
@@ -146,16 +216,18 @@ module _ (allowed : HolidayCodes) where
     association_fits true =
         (fits.0, (fits.1.0, (fits.1.1.0, (fits.1.1.1.0, (fits.1.1.1.1.0, (nines_fit, fits.1.1.1.1.1.1))))))
 
-    pub association_written : IsWritten (published_association_line a) (of.Association association)
-        (record_mark (transaction_at Full (published_association_line a)) 22 None (published_association_line a)) a.open_end None
+    -- the line spells it, with its end
+    abbrev pub IsAssociationWritten : List ℕ → Type 0
+    IsAssociationWritten c = IsReadAs allowed c (of.Association association) × (is_open 22 c ≡ a.open_end)
+
+    pub association_written : IsAssociationWritten (published_association_line a)
     association_written =
         let rows = association_rows a.open_end in
         let fit = association_fits a.open_end in
         let c = plain_line rows in
-        let (spells, told) = association_spelled allowed c association a.open_end (stands-plain_line rows refl fit) a.closed in
-        subst (λ l. IsWritten l (of.Association association) (record_mark (transaction_at Full l) 22 None l) a.open_end None)
-        (sym (association_is a.open_end))
-        (record { reads = record { is_line = line-plain_line rows refl fit; spells = spells }; mark = told })
+        let (spells, ends) = association_spelled allowed c association a.open_end (stands-plain_line rows refl fit) a.closed in
+        subst IsAssociationWritten (sym (association_is a.open_end))
+        (record { is_line = line-plain_line rows refl fit; spells = spells }, ends)
 
   module _ (s : PublishedSchedule) (fits : AllFit (rows_on s.schedule.first s.schedule.last s.schedule)) where
     abbrev basic : Basic
@@ -193,16 +265,75 @@ module _ (allowed : HolidayCodes) where
         let fit = end_fits open_end in
         (fit.0, (fit.1.0, (fit.1.1.0, (fit.1.1.1.0, (fit.1.1.1.1.0, (fit.1.1.1.1.1.0, (code_fit k, fit.1.1.1.1.1.1.1)))))))
 
-    pub basic_written : ((k : HolidayCode) → s.code ≡ Some k → IsTrue (has_code allowed k))
-        → IsWritten (published_basic_line s) (of.Basic basic)
-        (record_mark (transaction_at Full (published_basic_line s)) 16 (code_of allowed (published_basic_line s)) (published_basic_line s))
-        s.open_end s.code
+    -- the line spells its BS, with its end and its code
+    abbrev pub IsBasicWritten : List ℕ → Type 0
+    IsBasicWritten c = IsReadAs allowed c (of.Basic basic) × (is_open 16 c ≡ s.open_end) × (code_of allowed c ≡ s.code)
+
+    pub basic_written : ((k : HolidayCode) → s.code ≡ Some k → IsTrue (has_code allowed k)) → IsBasicWritten (published_basic_line s)
     basic_written may =
         let rows = rows_with s.open_end s.code in
         let fit = basic_fits s.open_end s.code in
         let c = plain_line rows in
-        let (spells, told) =
-        basic_spelled allowed c basic s.open_end s.code (stands-plain_line rows refl fit) s.closed may in
-        subst (λ l. IsWritten l (of.Basic basic) (record_mark (transaction_at Full l) 16 (code_of allowed l) l) s.open_end s.code)
-        (sym (basic_is s.open_end s.code))
-        (record { reads = record { is_line = line-plain_line rows refl fit; spells = spells }; mark = told })
+        let (spells, ends, code) = basic_spelled allowed c basic s.open_end s.code (stands-plain_line rows refl fit) s.closed may in
+        subst IsBasicWritten (sym (basic_is s.open_end s.code))
+        (record { is_line = line-plain_line rows refl fit; spells = spells }, ends, code)
+
+-- ---- lines of this profile
+
+module _ (allowed : HolidayCodes) where
+  pub own_spells : (c : List ℕ) (r : Record) → SpellsRecord c r → SpellsInFeed Full allowed c r
+  own_spells c (of.Association a) s = (association_spelled allowed c a false s (λ e. cc)).0
+  own_spells c (of.Basic b) s = (basic_spelled allowed c b false None s (λ e. cc) (λ k e. cc)).0
+  own_spells c r s = s
+
+  own_lines : (cs : List (List ℕ)) (rs : List Record) → All IsLine cs → SpellAll cs rs → AreReadAs allowed cs rs
+  own_lines [] [] are spell = tt
+  own_lines (c ∷ cs) (r ∷ rs) are spell = (
+    record { is_line = All-head IsLine c cs are; spells = own_spells c r spell.0 },
+    own_lines cs rs (All-tail IsLine c cs are) spell.1,
+  )
+  own_lines _ _ are spell = absurd spell
+
+  -- ---- what they say: no end is open, and there is no code
+
+  own_agrees : (is : Option Kind → Bool) → IsTest is → (c : List ℕ) (r : Record) → SpellsRecord c r
+      → is (kind_in c) ≡ is (Some (kind_of r))
+  own_agrees is test c r s = ap is (kind_there c r s)
+
+  own_association : (line : ℕ × List ℕ) (a : Association) → SpellsAssociation SpellsRecord line a
+      → IsPublishedAssociation a (association_mark line) (association_as_published a)
+  own_association line a s = record { of_profile = refl; open_end = sym (association_spelled allowed line.1 a false s (λ e. cc)).1 }
+
+  own_schedule : (line : ℕ × List ℕ) (s : Schedule) → IsScheduleLine SpellsRecord line s
+      → IsPublishedSchedule s (schedule_mark allowed line) (schedule_as_published s)
+  own_schedule line s is =
+      let (spells, ends, code) = basic_spelled allowed line.1 is.basic false None is.spells (λ e. cc) (λ k e. cc) in
+      record { of_profile = refl; open_end = sym ends; code = sym code }
+
+  own_says : (cs : List (List ℕ)) (x : ExtractParts) → All IsLine cs → SpellExtract cs x
+      → SayPublished (parts_read allowed cs x) (as_published x)
+  own_says cs x are s =
+      let all : record_lines cs ≡ cs = speak allowed cs s.records (own_lines cs s.records are s.spelled) in
+      let spelled = subst (λ l. SpellExtractBy SpellsRecord l x) (sym all) s in
+      record {
+        header = refl;
+        tiplocs = refl;
+        associations = triples-of (SpellsAssociation SpellsRecord) association_mark association_as_published IsPublishedAssociation
+            own_association (lines_of is_association cs) x.associations (associations_spelled SpellsRecord own_agrees cs x spelled);
+        schedules = triples-of (IsScheduleLine SpellsRecord) (schedule_mark allowed) schedule_as_published IsPublishedSchedule
+            own_schedule (lines_of is_basic cs) x.schedules (schedules_spelled SpellsRecord own_agrees cs x spelled);
+      }
+
+  pub own_published : (max : ℕ) (bytes : List ℕ) (x : ExtractParts) → BytesSpellWithin max bytes x
+      → BytesSpellPublished allowed max bytes (as_published x)
+  own_published max bytes x s =
+      let cs = contents_of bytes in
+      let e = s.spell.spelled in
+      record {
+        spell = record {
+          lines = parts_read allowed cs x;
+          spelled = spell_read allowed cs e.records x (own_lines cs e.records s.spell.are_lines e.spelled) e.are;
+          says = own_says cs x s.spell.are_lines e;
+        };
+        within = s.within;
+      }

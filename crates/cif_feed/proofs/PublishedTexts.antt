@@ -1,9 +1,8 @@
 -- The text of a published extract spells it.
-use Rattle.std.proofs.Common.{◌≡◌, ℕ, ◌+◌, ◌≤◌, List, [], ◌∷◌, ◌++◌, length, map, Option, Some, None, refl, sym, ap, ◌∙◌, subst, arith}
-use Rattle.std.proofs.Common.{All, IfSome, IsTrue, append-nil, append_assoc}
-use Rattle.std.proofs.lemmas.List.{map-append}
-use Rattle.std.proofs.lemmas.List.Elements.{All-head, All-tail}
-use Rattle.std.specs.List.{flat_map}
+use Rattle.std.proofs.Common.{◌≡◌, ℕ, ◌+◌, ◌≤◌, List, [], ◌∷◌, ◌++◌, length, map, Option, Some, None, refl, sym, ap, ◌∙◌, subst}
+use Rattle.std.proofs.Common.{All, Bool, IfSome, IsTrue, append-nil, filter}
+use Rattle.std.proofs.lemmas.List.Elements.{All-head, All-tail, filter-append}
+use Rattle.std.specs.List.{enumerate_from, flat_map}
 use Rattle.cif_columns.specs.Contents.{contents_of}
 use Rattle.cif_columns.specs.Field.{AllFit, plain_line}
 use Rattle.cif_columns.proofs.PlainLines.{contents-lines_text}
@@ -17,7 +16,7 @@ use Rattle.cif_extract.specs.declared.extract.Schedule.{Schedule}
 use Rattle.cif_extract.proofs.Each.{Each, each_append, each_map}
 use Rattle.cif_extract.proofs.OneExtract.{laid_out, same_extract_parts}
 use Rattle.cif_extract.proofs.PlainRecords.{are-extract, basic_of, plain_records, records_of, records_of_body}
-use Rattle.cif_extract.proofs.PlainTexts.{RecordFits, further-fit, further-lines, lines_of}
+use Rattle.cif_extract.proofs.PlainTexts.{RecordFits, further-fit, further-lines, lines_of as record_lines}
 use Rattle.cif_records.specs.Kind.{kind_in}
 use Rattle.cif_records.specs.Record.{record_table}
 use Rattle.cif_records.specs.declared.association.Association.{Association}
@@ -32,32 +31,31 @@ use Rattle.cif_records.proofs.Records as records
 use Rattle.cif_records.proofs.Records.{kind_of, kind_there}
 use Rattle.cif_records.proofs.Tiplocs as locations
 use Rattle.cif_records.proofs.Trailers as trailers
-use Rattle.cif_feed.specs.FromLines.{AreTriples}
+use Rattle.cif_feed.specs.FromLines.{ArePairs, AreTriples}
 use Rattle.cif_feed.specs.HolidayCode.{all_codes, has_code}
 use Rattle.cif_feed.specs.OfProfile.{of_profile}
-use Rattle.cif_feed.specs.FeedLine.{mark_by, mark_in}
-use Rattle.cif_feed.specs.RecordLines.{association_mark, schedule_mark}
+use Rattle.cif_feed.specs.FeedLine.{code_of, is_open}
+use Rattle.cif_feed.specs.Marks.{association_mark, schedule_mark}
+use Rattle.cif_feed.specs.RecordLines.{is_association, is_basic, lines_of}
+use Rattle.cif_feed.specs.Steps.Marks.{one_if}
 use Rattle.cif_feed.specs.PublishedParts.{BytesSpellPublished, IsPublishedAssociation, IsPublishedSchedule, PublishedParts, SayPublished}
 use Rattle.cif_feed.specs.PublishedParts.{SpellPublished, published_association_line, published_basic_line, published_lines}
 use Rattle.cif_feed.specs.PublishedParts.{published_schedule_lines, published_text}
 use Rattle.cif_feed.specs.SpellsFeed.{FeedParts}
 use Rattle.cif_feed.specs.WrittenExtracts.{CodesMayStand}
-use Rattle.cif_feed.specs.declared.feed.Feed.TheVariants.{Full}
-use Rattle.cif_feed.specs.declared.holiday_code.HolidayCode.{HolidayCode}
-use Rattle.cif_feed.specs.declared.holiday_code.HolidayCode.TheVariants.{X, E, G}
-use Rattle.cif_feed.specs.declared.holiday_code.HolidayCodes.{HolidayCodes}
-use Rattle.cif_feed.specs.declared.mark.LineMark.{LineMark}
-use Rattle.cif_feed.specs.declared.mark.RecordMark.{RecordMark}
-use Rattle.cif_feed.specs.declared.published.PublishedAssociation.{PublishedAssociation}
-use Rattle.cif_feed.specs.declared.published.PublishedSchedule.{PublishedSchedule}
+use Rattle.cif_feed.specs.declared.feed_line.Feed.TheVariants.{Full}
+use Rattle.cif_feed.specs.declared.holidays.HolidayCode.{HolidayCode}
+use Rattle.cif_feed.specs.declared.holidays.HolidayCode.TheVariants.{X, E, G}
+use Rattle.cif_feed.specs.declared.holidays.HolidayCodes.{HolidayCodes}
+use Rattle.cif_feed.specs.declared.published_extract.PublishedAssociation.{PublishedAssociation}
+use Rattle.cif_feed.specs.declared.published_extract.PublishedSchedule.{PublishedSchedule}
 use Rattle.cif_feed.proofs.FeedLines.{kind_there as feed_kind}
-use Rattle.cif_feed.proofs.KnownLines.{AreReadAs, IsReadAs, all_marks, marks_from, pairs-append, parts_read, read_are, spell_read}
+use Rattle.cif_feed.proofs.PublishedLines.{AreReadAs, IsReadAs, association_written, basic_written, own_spells, parts_read, read_are}
+use Rattle.cif_feed.proofs.PublishedLines.{spell_read}
 use Rattle.cif_feed.proofs.FittingUpdates.{AssociationFits}
-use Rattle.cif_feed.proofs.HeldMarks.{feed_fits}
-use Rattle.cif_feed.proofs.OwnLines.{own_spells}
-use Rattle.cif_feed.proofs.PublishedLines.{association_written, basic_written}
-use Rattle.cif_feed.proofs.RecordsTaken.{read_back}
-use Rattle.cif_feed.proofs.SaidLines.{triples-append}
+use Rattle.cif_feed.proofs.SaidLines.{feed_fits}
+use Rattle.cif_feed.proofs.ListSteps.{enumerate_append, pairs-append, triples-by}
+use Rattle.cif_feed.proofs.FeedSteps.{read_back}
 
 abbrev association_of : PublishedAssociation → Association
 association_of a = a.association
@@ -90,34 +88,29 @@ body_other (Some body) =
           (each_map IsOther call_record call_other p.calls) (tt, tt),
     )
 
+-- the lines of some kinds, of which the first has this number
+abbrev lines_from : (Option Kind → Bool) → ℕ → List (List ℕ) → List (ℕ × List ℕ)
+lines_from is n cs = filter (λ (line : ℕ × List ℕ). is (kind_in line.1)) (enumerate_from n cs)
+
+lines-append : (is : Option Kind → Bool) (n : ℕ) (cs ds : List (List ℕ))
+    → lines_from is n (cs ++ ds) ≡ lines_from is n cs ++ lines_from is (n + length cs) ds
+lines-append is n cs ds =
+    ap (filter (λ (line : ℕ × List ℕ). is (kind_in line.1))) (enumerate_append n cs ds)
+    ∙ filter-append (λ (line : ℕ × List ℕ). is (kind_in line.1)) (enumerate_from n cs) (enumerate_from (n + length cs) ds)
+
 module _ (allowed : HolidayCodes) where
-  marks-append : {A : Type 0} (of_mark : ℕ → LineMark → List A) (n : ℕ) (cs ds : List (List ℕ))
-      → marks_from allowed of_mark n (cs ++ ds) ≡ marks_from allowed of_mark n cs ++ marks_from allowed of_mark (n + length cs) ds
-  marks-append of_mark n [] ds = ap (λ (k : ℕ). marks_from allowed of_mark k ds) (omega arith)
-  marks-append of_mark n (c ∷ cs) ds =
-      let own = of_mark n (mark_in Full allowed c) in
-      let first = marks_from allowed of_mark (n + 1) cs in
-      ap (λ l. own ++ l) (marks-append of_mark (n + 1) cs ds) ∙ sym (append_assoc own first (marks_from allowed of_mark
-      (n + 1 + length cs) ds))
-      ∙ ap (λ (k : ℕ). (own ++ first) ++ marks_from allowed of_mark k ds) (omega arith)
+  -- what lines say beyond the records
+  abbrev HasEnd : ℕ × List ℕ → PublishedAssociation → Type 0
+  HasEnd line a = is_open 22 line.1 ≡ a.open_end
 
-  -- the marks of contents, whatever the number of the first, are those of these published records
-  module _ {R M P : Type 0} (record_of : P → R) (Is : R → M → P → Type 0) (of_mark : ℕ → LineMark → List M) where
-    abbrev AreMarked : List (List ℕ) → List P → Type 0
-    AreMarked cs ps = (n : ℕ) → AreTriples Is (map record_of ps) (marks_from allowed of_mark n cs) ps
+  abbrev HasEndAndCode : ℕ × List ℕ → PublishedSchedule → Type 0
+  HasEndAndCode line s = (is_open 16 line.1 ≡ s.open_end) × (code_of allowed line.1 ≡ s.code)
 
-    marked-both : (cs ds : List (List ℕ)) (ps qs : List P) → AreMarked cs ps → AreMarked ds qs → AreMarked (cs ++ ds) (ps ++ qs)
-    marked-both cs ds ps qs p q = λ n.
-        subst (λ rs. AreTriples Is rs (marks_from allowed of_mark n (cs ++ ds)) (ps ++ qs)) (sym (map-append record_of ps qs))
-        (subst (λ ms. AreTriples Is (map record_of ps ++ map record_of qs) ms (ps ++ qs)) (sym (marks-append of_mark n cs ds))
-        (triples-append Is (map record_of ps) (marks_from allowed of_mark n cs) ps (map record_of qs)
-        (marks_from allowed of_mark (n + length cs) ds) qs (p n) (q (n + length cs))))
-
-  -- Contents that spell these records, and whose marks are those of these associations and schedules.
+  -- Contents that spell these records, and of which the AA and the BS, with numbers from any on, are of these associations and schedules.
   record IsBlock (cs : List (List ℕ)) (rs : List Record) (al : List PublishedAssociation) (ss : List PublishedSchedule) : Type 0 where
     reads : AreReadAs allowed cs rs
-    associations : AreMarked association_of IsPublishedAssociation association_mark cs al
-    schedules : AreMarked schedule_of IsPublishedSchedule schedule_mark cs ss
+    associations : (n : ℕ) → ArePairs HasEnd (lines_from is_association n cs) al
+    schedules : (n : ℕ) → ArePairs HasEndAndCode (lines_from is_basic n cs) ss
 
   nothing : IsBlock [] [] [] []
   nothing = record { reads = tt; associations = λ n. tt; schedules = λ n. tt }
@@ -126,75 +119,56 @@ module _ (allowed : HolidayCodes) where
       → IsBlock cs rs al ss → IsBlock ds qs bs ts → IsBlock (cs ++ ds) (rs ++ qs) (al ++ bs) (ss ++ ts)
   both {cs} {ds} {rs} {qs} {al} {bs} {ss} {ts} p q = record {
     reads = pairs-append (IsReadAs allowed) cs rs ds qs p.reads q.reads;
-    associations = marked-both association_of IsPublishedAssociation association_mark cs ds al bs p.associations q.associations;
-    schedules = marked-both schedule_of IsPublishedSchedule schedule_mark cs ds ss ts p.schedules q.schedules;
+    associations = λ n.
+        subst (λ ls. ArePairs HasEnd ls (al ++ bs)) (sym (lines-append is_association n cs ds))
+        (pairs-append HasEnd (lines_from is_association n cs) al (lines_from is_association (n + length cs) ds) bs (p.associations n)
+        (q.associations (n + length cs)));
+    schedules = λ n.
+        subst (λ ls. ArePairs HasEndAndCode ls (ss ++ ts)) (sym (lines-append is_basic n cs ds))
+        (pairs-append HasEndAndCode (lines_from is_basic n cs) ss (lines_from is_basic (n + length cs) ds) ts (p.schedules n)
+        (q.schedules (n + length cs)));
   }
 
   -- ---- one line
 
-  -- what the line of another kind says beyond its record is nothing of these
-  record IsQuiet (m : LineMark) : Type 0 where
-    associations : (n : ℕ) → association_mark n m ≡ []
-    schedules : (n : ℕ) → schedule_mark n m ≡ []
-
-  quiet : (r : Record) → IsOther r → (c : List ℕ) → IsQuiet (mark_by Full allowed (Some (kind_of r)) c)
-  quiet (of.Association a) other c = absurd other
-  quiet (of.Basic b) other c = absurd other
-  quiet _ other c = record { associations = λ n. refl; schedules = λ n. refl }
+  -- of this kind
+  line_one : (c : List ℕ) (r : Record) (kind : Kind) (al : List PublishedAssociation) (ss : List PublishedSchedule)
+      → IsReadAs allowed c r → kind_in c ≡ Some kind
+      → ((n : ℕ) → ArePairs HasEnd (one_if (is_association (Some kind)) (n, c)) al)
+      → ((n : ℕ) → ArePairs HasEndAndCode (one_if (is_basic (Some kind)) (n, c)) ss) → IsBlock (c ∷ []) (r ∷ []) al ss
+  line_one c r kind al ss reads named association basic = record {
+    reads = (reads, tt);
+    associations = λ n. subst (λ k. ArePairs HasEnd (one_if (is_association k) (n, c)) al) (sym named) (association n);
+    schedules = λ n. subst (λ k. ArePairs HasEndAndCode (one_if (is_basic k) (n, c)) ss) (sym named) (basic n);
+  }
 
   other_one : (r : Record) → IsOther r → RecordFits r → IsBlock (plain_line (record_table r) ∷ []) (r ∷ []) [] []
   other_one r other fits =
       let c = plain_line (record_table r) in
       let spells = records.spells r fits in
-      let silent : IsQuiet (mark_in Full allowed c) =
-      subst (λ (k : Option Kind). IsQuiet (mark_by Full allowed k c)) (sym (kind_there c r spells)) (quiet r other c) in
-      record {
-        reads = (record { is_line = records.line r fits; spells = own_spells allowed c r spells }, tt);
-        associations = λ n. subst (λ ms. AreTriples IsPublishedAssociation [] (ms ++ []) []) (sym (silent.associations n)) tt;
-        schedules = λ n. subst (λ ms. AreTriples IsPublishedSchedule [] (ms ++ []) []) (sym (silent.schedules n)) tt;
-      }
+      at c r other (record { is_line = records.line r fits; spells = own_spells allowed c r spells }) (kind_there c r spells)
+    where
+      at : (c : List ℕ) (r : Record) → IsOther r → IsReadAs allowed c r → kind_in c ≡ Some (kind_of r) → IsBlock (c ∷ []) (r ∷ []) [] []
+      at c (of.Association a) other reads named = absurd other
+      at c (of.Basic b) other reads named = absurd other
+      at c r other reads named = line_one c r (kind_of r) [] [] reads named (λ n. tt) (λ n. tt)
 
   association_one : (a : PublishedAssociation) → AssociationFits a.association
       → IsBlock (published_association_line a ∷ []) (of.Association a.association ∷ []) (a ∷ []) []
   association_one a fits =
       let c = published_association_line a in
-      let w = association_written allowed a fits in
-      let named = read_back Full (kind_in c) Aa (λ e. cc) (feed_kind Full allowed c (of.Association a.association) w.reads.spells) in
-      record {
-        reads = (w.reads, tt);
-        associations = λ n.
-            subst (λ (k : Option Kind). AreTriples IsPublishedAssociation (a.association ∷ [])
-            (association_mark n (mark_by Full allowed k c) ++ []) (a ∷ []))
-            (sym named) (record { of_profile = refl; open_end = ap (λ (m : RecordMark). m.open_end) (sym w.mark) }, tt);
-        schedules = λ n.
-            subst (λ (k : Option Kind). AreTriples IsPublishedSchedule [] (schedule_mark n (mark_by Full allowed k c) ++ []) [])
-            (sym named) tt;
-      }
+      let (reads, ends) = association_written allowed a fits in
+      let named = read_back Full (kind_in c) Aa (λ e. cc) (feed_kind Full allowed c (of.Association a.association) reads.spells) in
+      line_one c (of.Association a.association) Aa (a ∷ []) [] reads named (λ n. (ends, tt)) (λ n. tt)
 
   basic_one : (s : PublishedSchedule) → AllFit (rows_on s.schedule.first s.schedule.last s.schedule)
       → ((k : HolidayCode) → s.code ≡ Some k → IsTrue (has_code allowed k))
       → IsBlock (published_basic_line s ∷ []) (of.Basic (basic_of s.schedule) ∷ []) [] (s ∷ [])
   basic_one s fits may =
       let c = published_basic_line s in
-      let w = basic_written allowed s fits may in
-      let named = read_back Full (kind_in c) Bs (λ e. cc) (feed_kind Full allowed c (of.Basic (basic_of s.schedule)) w.reads.spells) in
-      record {
-        reads = (w.reads, tt);
-        associations = λ n.
-            subst (λ (k : Option Kind). AreTriples IsPublishedAssociation [] (association_mark n (mark_by Full allowed k c) ++ []) [])
-            (sym named) tt;
-        schedules = λ n.
-            subst (λ (k : Option Kind). AreTriples IsPublishedSchedule (s.schedule ∷ [])
-            (schedule_mark n (mark_by Full allowed k c) ++ []) (s ∷ []))
-            (sym named) (
-              record {
-                of_profile = refl;
-                open_end = ap (λ (m : RecordMark). m.open_end) (sym w.mark);
-                code = ap (λ (m : RecordMark). m.code) (sym w.mark);
-              },
-              tt,
-            );
-      }
+      let (reads, ends, code) = basic_written allowed s fits may in
+      let named = read_back Full (kind_in c) Bs (λ e. cc) (feed_kind Full allowed c (of.Basic (basic_of s.schedule)) reads.spells) in
+      line_one c (of.Basic (basic_of s.schedule)) Bs [] (s ∷ []) reads named (λ n. tt) (λ n. ((ends, code), tt))
 
   -- ---- the records of a kind
 
@@ -209,7 +183,7 @@ module _ (allowed : HolidayCodes) where
       both (association_one a (All-head AssociationFits a.association (map association_of al) fits))
       (associations al (All-tail AssociationFits a.association (map association_of al) fits))
 
-  others : (rs : List Record) → Each IsOther rs → Each RecordFits rs → IsBlock (lines_of rs) rs [] []
+  others : (rs : List Record) → Each IsOther rs → Each RecordFits rs → IsBlock (record_lines rs) rs [] []
   others [] are fits = nothing
   others (r ∷ rs) are fits = both (other_one r are.0 fits.0) (others rs are.1 fits.1)
 
@@ -248,14 +222,15 @@ module _ (allowed : HolidayCodes) where
     says : SayPublished (parts_read allowed (published_lines p) (of_profile p)) p
     says =
         let cs = published_lines p in
-        let rs = plain_records (of_profile p) in
         record {
           header = refl;
           tiplocs = refl;
-          associations = subst (λ ms. AreTriples IsPublishedAssociation (map association_of p.associations) ms p.associations)
-              (sym (all_marks allowed association_mark cs rs whole.reads)) (whole.associations 1);
-          schedules = subst (λ ms. AreTriples IsPublishedSchedule (map schedule_of p.schedules) ms p.schedules)
-              (sym (all_marks allowed schedule_mark cs rs whole.reads)) (whole.schedules 1);
+          associations = triples-by HasEnd association_mark association_of IsPublishedAssociation
+              (λ line a ends. record { of_profile = refl; open_end = sym ends }) (lines_of is_association cs) p.associations
+              (whole.associations 1);
+          schedules = triples-by HasEndAndCode (schedule_mark allowed) schedule_of IsPublishedSchedule
+              (λ line s is. record { of_profile = refl; open_end = sym is.0; code = sym is.1 }) (lines_of is_basic cs) p.schedules
+              (whole.schedules 1);
         }
 
     pub published-lines : contents_of (published_text p) ≡ published_lines p
@@ -296,9 +271,9 @@ said_profile : (lines : FeedParts) (p : PublishedParts) → SayPublished lines p
 said_profile lines p s =
     let x = lines.extract in
     same_extract_parts (of_profile p) x s.header s.tiplocs
-    (said_all IsPublishedAssociation association_of (λ a m p is. is.of_profile) x.associations lines.association_marks p.associations
+    (said_all IsPublishedAssociation association_of (λ a m p is. is.of_profile) x.associations lines.marks.associations p.associations
     s.associations)
-    (said_all IsPublishedSchedule schedule_of (λ a m p is. is.of_profile) x.schedules lines.schedule_marks p.schedules s.schedules)
+    (said_all IsPublishedSchedule schedule_of (λ a m p is. is.of_profile) x.schedules lines.marks.schedules p.schedules s.schedules)
 
 pub said_fits : (allowed : HolidayCodes) (cs : List (List ℕ)) (p : PublishedParts) → SpellPublished allowed cs p
     → FitsColumns (of_profile p)

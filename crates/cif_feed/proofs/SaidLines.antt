@@ -1,107 +1,494 @@
--- The lines of a kind, with the records that they spell and their marks.
-use Rattle.std.proofs.Common.{◌≡◌, ℕ, Bool, true, false, cond, not, ◌&&◌, List, [], ◌∷◌, ◌++◌, filter, map, Option, Some, refl, sym, ap}
-use Rattle.std.proofs.Common.{None, ◌∙◌, length, subst, suc}
-use Rattle.std.proofs.Math.Bool.{and-false}
-use Rattle.std.specs.List.{enumerate_from, flat_map}
+-- The records of a kind, and its lines, one by one, with the records that they spell, the changes that they say, and their marks.
+use Rattle.std.proofs.Common.{◌≡◌, List, [], ◌∷◌, ◌++◌, map, refl, ap, ◌∙◌, append-nil, ℕ, Bool, true, false, cond, not, ◌&&◌, filter}
+use Rattle.std.proofs.Common.{Option, Some, None, sym, subst, unwrap_or, length, IfOk, Result, Ok, Err, ⊎_elim}
+use Rattle.std.proofs.lemmas.Grind.{flat_map-append}
+use Rattle.std.specs.List.{flat_map, enumerate_from}
+use Rattle.cif_extract.specs.Body.{BodyLines, detail_of}
+use Rattle.cif_extract.specs.BodyParts.{extra_records}
 use Rattle.cif_extract.specs.ExtractParts.{ExtractParts}
+use Rattle.cif_extract.specs.Grammar.{AreExtract, AreSchedule, AreSchedules, records_before_trailer, HasTerms, HaveBody}
+use Rattle.cif_extract.specs.declared.extract.Schedule.{Schedule}
+use Rattle.cif_extract.proofs.Each.{Each}
+use Rattle.cif_extract.proofs.OneExtract.{Inside, further_inside}
+use Rattle.cif_records.specs.declared.association.Association.{Association}
+use Rattle.cif_records.specs.declared.basic.Basic.{Basic}
+use Rattle.cif_records.specs.declared.header.Header.{Header}
+use Rattle.cif_records.specs.declared.record.Record.{Record}
+use Rattle.cif_records.specs.declared.record.Record.TheVariants as of
+use Rattle.cif_records.specs.declared.tiploc.Tiploc.{Tiploc}
+use Rattle.std.proofs.Math.Bool.{and-false}
+use Rattle.std.proofs.lemmas.List.Elements.{filter_agree, All-filter, All-head, All-tail, filter_passes}
 use Rattle.cif_extract.specs.SpellsExtract.{SpellAllBy, SpellExtractBy}
 use Rattle.cif_records.specs.Kind.{kind_in}
 use Rattle.cif_records.specs.declared.record.Kind.{Kind}
 use Rattle.cif_records.specs.declared.record.Kind.TheVariants.{Ti, Ta, Td}
-use Rattle.cif_records.specs.declared.record.Record.{Record}
-use Rattle.cif_feed.specs.FeedLine.{SpellsInFeed, mark_in}
+use Rattle.cif_records.proofs.Records.{kind_of}
+use Rattle.cif_feed.specs.FeedLine.{SpellsInFeed, SpellsBasicBy, code_of, deleted_basic_rows, is_open, letter_of, published_basic_rows}
+use Rattle.cif_feed.specs.FeedLine.{put_basic_rows, transaction_at, SpellsAssociationBy, published_association_rows, put_association_rows}
 use Rattle.cif_feed.specs.FromLines.{ArePairs, AreTriples}
 use Rattle.cif_feed.specs.LayoutRefusals.{kind_read_as}
-use Rattle.cif_feed.specs.RecordLines.{is_note, is_record_line, marks, record_lines}
-use Rattle.cif_feed.specs.UpdateLines.{lines_of}
-use Rattle.cif_feed.specs.declared.feed.Feed.{Feed}
-use Rattle.cif_feed.specs.declared.feed.Feed.TheVariants.{Full, Update}
-use Rattle.cif_feed.specs.declared.holiday_code.HolidayCodes.{HolidayCodes}
-use Rattle.cif_feed.specs.declared.mark.LineMark.{LineMark}
-use Rattle.cif_feed.proofs.ChangeLaws.{filter-alike, filter-filter}
-use Rattle.cif_feed.proofs.Enumerated.{enumerate_filter}
+use Rattle.cif_feed.specs.RecordLines.{is_association, is_basic, is_note, is_of_tiploc, is_record_line, lines_of, record_lines}
+use Rattle.cif_feed.specs.Steps.Marks.{one_if, HasMarks, IsClosed, last_of_association, last_of_schedule}
+use Rattle.cif_feed.specs.declared.feed_line.Feed.{Feed}
+use Rattle.cif_feed.specs.declared.feed_line.Feed.TheVariants.{Full, Update}
+use Rattle.cif_feed.specs.declared.holidays.HolidayCodes.{HolidayCodes}
+use Rattle.cif_feed.proofs.ChangeLaws.{filter-filter}
+use Rattle.cif_feed.proofs.FeedLines.{kind_there, association_closed, basic_closed, feed_are}
 use Rattle.cif_feed.proofs.FeedSteps.{named_line}
+use Rattle.cif_feed.proofs.ListSteps.{enumerate_filter, pairs-append, triples-said, pairs-length, pairs-mapped}
+use Rattle.std.specs.Option.{option_map}
+use Rattle.cif_columns.specs.Field.{AllFit, AllStandIn, plain_line, row, spare}
+use Rattle.cif_columns.proofs.Parts.{fits-append, fits-front, stands-plain_line}
+use Rattle.cif_records.specs.Basic.{basic_back, terms_of}
+use Rattle.cif_records.specs.Detail.{detail_rows, detail_table}
+use Rattle.cif_records.proofs.Details.{detail_in-stands}
+use Rattle.cif_records.specs.declared.detail.Detail.{Detail}
+use Rattle.cif_records.specs.declared.extra.Extra.{Extra}
+use Rattle.cif_feed.specs.HolidayCode.{all_codes}
+use Rattle.cif_feed.specs.Marks.{MarkParts, schedule_mark, association_mark, tiploc_mark}
+use Rattle.cif_feed.specs.UpdateLines.{SaysSchedule, SayTiplocs, SaysAssociation}
+use Rattle.cif_feed.specs.UpdateParts.{IsScheduleChange, ScheduleKey, SpellUpdate, UpdateParts, AssociationKey, IsAssociationChange}
+use Rattle.cif_feed.specs.UpdateParts.{tiploc_changes, tiploc_changes_of}
+use Rattle.cif_feed.specs.declared.changes.Change.{Change}
+use Rattle.cif_feed.specs.declared.mark.Transaction.{Transaction}
+use Rattle.cif_feed.specs.declared.mark.Transaction.TheVariants.{New, Revised, Deleted}
+use Rattle.cif_feed.specs.declared.published_extract.PublishedSchedule.{PublishedSchedule}
+use Rattle.cif_feed.specs.declared.mark.RecordMark.{RecordMark}
+use Rattle.cif_feed.specs.declared.mark.TiplocMark.{TiplocMark}
+use Rattle.cif_feed.specs.declared.published_extract.PublishedAssociation.{PublishedAssociation}
+use Rattle.std.proofs.lemmas.List.{length-map}
+use Rattle.std.specs.Prelude.{All}
+use Rattle.cif_columns.specs.Line.{IsLine}
+use Rattle.cif_extract.specs.Texts.{FitsColumns}
+use Rattle.cif_extract.proofs.PlainTexts.{spelled-fits-by}
+use Rattle.cif_feed.specs.FeedLayouts.{feed_layouts}
+use Rattle.cif_feed.specs.FeedRefusal.{IsFeedContent}
+use Rattle.cif_feed.specs.SpellsFeed.{FeedParts, SayFeed, SpellFeed, feed_parts}
+use Rattle.cif_feed.specs.declared.feed.FeedFault.{FeedFault}
+use Rattle.cif_feed.specs.declared.feed_reading.FeedExtract.{FeedExtract}
 
--- ---- three lists, element by element
+abbrev pub tiploc_of : Record → List Tiploc
+tiploc_of (of.Tiploc t) = t ∷ []
+tiploc_of r = []
 
-pub triples-append : {A B D : Type 0} (Q : A → B → D → Type 0) (xs : List A) (bs : List B) (ds : List D) (xs' : List A) (bs' : List B)
-    (ds' : List D) → AreTriples Q xs bs ds → AreTriples Q xs' bs' ds' → AreTriples Q (xs ++ xs') (bs ++ bs') (ds ++ ds')
-triples-append Q [] [] [] xs' bs' ds' p q = q
-triples-append Q (a ∷ xs) (b ∷ bs) (d ∷ ds) xs' bs' ds' p q = (p.0, triples-append Q xs bs ds xs' bs' ds' p.1 q)
-triples-append Q _ _ _ xs' bs' ds' p q = absurd p
+abbrev pub association_of : Record → List Association
+association_of (of.Association a) = a ∷ []
+association_of r = []
 
--- what is made of the second and the third is said of the first
-pub said_pairs : {A B D F : Type 0} (Q : A → B → D → Type 0) (M : B → D → F → Type 0) (S : A → F → Type 0)
-    → ((a : A) (b : B) (d : D) (f : F) → Q a b d → M b d f → S a f) → (xs : List A) (bs : List B) (ds : List D) (fs : List F)
-    → AreTriples Q xs bs ds → AreTriples M bs ds fs → ArePairs S xs fs
-said_pairs Q M S so [] [] [] [] p q = tt
-said_pairs Q M S so (a ∷ xs) (b ∷ bs) (d ∷ ds) (f ∷ fs) p q = (so a b d f p.0 q.0, said_pairs Q M S so xs bs ds fs p.1 q.1)
-said_pairs Q M S so (a ∷ xs) (b ∷ bs) (d ∷ ds) [] p q = absurd q
-said_pairs Q M S so [] [] [] (f ∷ fs) p q = absurd q
-said_pairs Q M S so _ _ _ fs p q = absurd p
+abbrev pub basic_of : Record → List Basic
+basic_of (of.Basic b) = b ∷ []
+basic_of r = []
 
--- what follows of the second and the third
-pub triples-pairs : {A B D : Type 0} (Q : A → B → D → Type 0) (P : B → D → Type 0) → ((a : A) (b : B) (d : D) → Q a b d → P b d)
-    → (xs : List A) (bs : List B) (ds : List D) → AreTriples Q xs bs ds → ArePairs P bs ds
-triples-pairs Q P so [] [] [] p = tt
-triples-pairs Q P so (a ∷ xs) (b ∷ bs) (d ∷ ds) p = (so a b d p.0, triples-pairs Q P so xs bs ds p.1)
-triples-pairs Q P so _ _ _ p = absurd p
+module _ {A : Type 0} (f : Record → List A) (quiet : (r : Record) → Inside r → f r ≡ []) where
+  -- what says nothing of the records behind a BS
+  quiet_all : (rs : List Record) → Each Inside rs → flat_map f rs ≡ []
+  quiet_all [] inside = refl
+  quiet_all (r ∷ rs) inside = ap (λ l. l ++ flat_map f rs) (quiet r inside.0) ∙ quiet_all rs inside.1
 
-pub triples-length : {A B D : Type 0} (Q : A → B → D → Type 0) (xs : List A) (bs : List B) (ds : List D) → AreTriples Q xs bs ds
-    → length ds ≡ length bs
-triples-length Q [] [] [] p = refl
-triples-length Q (a ∷ xs) (b ∷ bs) (d ∷ ds) p = ap suc (triples-length Q xs bs ds p.1)
-triples-length Q _ _ _ p = absurd p
+  -- of a schedule there is its BS alone
+  own_basic : (own : List Record) (s : Schedule) (are : AreSchedule own s) → flat_map f own ≡ f (of.Basic are.basic)
+  own_basic own s are =
+      ap (flat_map f) are.parts
+      ∙ ap (λ l. f (of.Basic are.basic) ++ l) (quiet_all (extra_records are.extra ++ are.journey)
+      (further_inside are.basic.detail are.extra are.journey s.body are.body))
+      ∙ append-nil (f (of.Basic are.basic))
+
+-- ---- the records of an extract
+
+no_tiplocs : (r : Record) → Inside r → tiploc_of r ≡ []
+no_tiplocs (of.Tiploc t) inside = absurd inside
+no_tiplocs _ inside = refl
+
+no_associations : (r : Record) → Inside r → association_of r ≡ []
+no_associations (of.Association a) inside = absurd inside
+no_associations _ inside = refl
+
+no_basics : (r : Record) → Inside r → basic_of r ≡ []
+no_basics (of.Basic b) inside = absurd inside
+no_basics _ inside = refl
+
+-- groups have the basics of their schedules, and nothing else of these
+groups_none : {A : Type 0} (f : Record → List A) → ((r : Record) → Inside r → f r ≡ []) → ((b : Basic) → f (of.Basic b) ≡ [])
+    → (groups : List Record) (ss : List Schedule) → AreSchedules groups ss → flat_map f groups ≡ []
+groups_none f quiet none groups [] are = ap (flat_map f) are
+groups_none f quiet none groups (s ∷ ss) are =
+    let (own, others, parts, one, more) = are in
+    ap (flat_map f) parts ∙ flat_map-append f own others
+    ∙ ap (λ l. l ++ flat_map f others) (own_basic f quiet own s one ∙ none one.basic) ∙ groups_none f quiet none others ss more
+
+-- the BS of a schedule stands alone
+pub first_basic : (groups own others : List Record) (s : Schedule) → groups ≡ own ++ others → (one : AreSchedule own s)
+    → flat_map basic_of groups ≡ one.basic ∷ flat_map basic_of others
+first_basic groups own others s parts one =
+    ap (flat_map basic_of) parts ∙ flat_map-append basic_of own others
+    ∙ ap (λ l. l ++ flat_map basic_of others) (own_basic basic_of no_basics own s one)
+
+all_one : {B : Type 0} (f : Record → List B) (g : B → Record) → ((b : B) → f (g b) ≡ b ∷ []) → (bs : List B) → flat_map f (map g bs) ≡ bs
+all_one f g one [] = refl
+all_one f g one (b ∷ bs) = ap (λ l. l ++ flat_map f (map g bs)) (one b) ∙ ap (λ l. b ∷ l) (all_one f g one bs)
+
+none_of : {A B : Type 0} (f : Record → List B) (g : A → Record) → ((a : A) → f (g a) ≡ []) → (xs : List A) → flat_map f (map g xs) ≡ []
+none_of f g none [] = refl
+none_of f g none (x ∷ xs) = ap (λ l. l ++ flat_map f (map g xs)) (none x) ∙ none_of f g none xs
+
+-- the records of an extract, by parts
+module _ {B : Type 0} (f : Record → List B) (header : (x : Header) → f (of.Header x) ≡ []) (trailer : f of.Trailer ≡ [])
+    (rs : List Record) (x : ExtractParts) (are : AreExtract rs x) where
+  by_parts : flat_map f rs
+      ≡ flat_map f (map of.Tiploc x.tiplocs) ++ (flat_map f (map of.Association x.associations) ++ flat_map f are.schedules)
+  by_parts =
+      let rest = map of.Tiploc x.tiplocs ++ (map of.Association x.associations ++ are.schedules) in
+      ap (flat_map f) are.parts ∙ flat_map-append f (records_before_trailer x are.schedules) (of.Trailer ∷ [])
+      ∙ ap (λ l. flat_map f (records_before_trailer x are.schedules) ++ (l ++ [])) trailer
+      ∙ append-nil (flat_map f (records_before_trailer x are.schedules)) ∙ ap (λ l. l ++ flat_map f rest) (header x.header)
+      ∙ flat_map-append f (map of.Tiploc x.tiplocs) (map of.Association x.associations ++ are.schedules)
+      ∙ ap (λ l. flat_map f (map of.Tiploc x.tiplocs) ++ l) (flat_map-append f (map of.Association x.associations) are.schedules)
+
+pub records_tiplocs : (rs : List Record) (e : ExtractParts) → AreExtract rs e → flat_map tiploc_of rs ≡ e.tiplocs
+records_tiplocs rs e are =
+    by_parts tiploc_of (λ x. refl) refl rs e are
+    ∙ ap (λ l. l ++ (flat_map tiploc_of (map of.Association e.associations) ++ flat_map tiploc_of are.schedules))
+    (all_one tiploc_of of.Tiploc (λ t. refl) e.tiplocs)
+    ∙ ap (λ l. e.tiplocs ++ (l ++ flat_map tiploc_of are.schedules)) (none_of tiploc_of of.Association (λ a. refl) e.associations)
+    ∙ ap (λ l. e.tiplocs ++ l) (groups_none tiploc_of no_tiplocs (λ b. refl) are.schedules e.schedules are.are_schedules)
+    ∙ append-nil e.tiplocs
+
+pub records_associations : (rs : List Record) (e : ExtractParts) → AreExtract rs e → flat_map association_of rs ≡ e.associations
+records_associations rs e are =
+    by_parts association_of (λ x. refl) refl rs e are
+    ∙ ap (λ l. l ++ (flat_map association_of (map of.Association e.associations) ++ flat_map association_of are.schedules))
+    (none_of association_of of.Tiploc (λ t. refl) e.tiplocs)
+    ∙ ap (λ l. l ++ flat_map association_of are.schedules) (all_one association_of of.Association (λ a. refl) e.associations)
+    ∙ ap (λ l. e.associations ++ l) (groups_none association_of no_associations (λ b. refl) are.schedules e.schedules are.are_schedules)
+    ∙ append-nil e.associations
+
+pub records_basics : (rs : List Record) (e : ExtractParts) (are : AreExtract rs e) → flat_map basic_of rs ≡ flat_map basic_of are.schedules
+records_basics rs e are =
+    by_parts basic_of (λ x. refl) refl rs e are
+    ∙ ap (λ l. l ++ (flat_map basic_of (map of.Association e.associations) ++ flat_map basic_of are.schedules))
+    (none_of basic_of of.Tiploc (λ t. refl) e.tiplocs)
+    ∙ ap (λ l. l ++ flat_map basic_of are.schedules) (none_of basic_of of.Association (λ a. refl) e.associations)
 
 -- ---- the lines of a kind
 
--- a line is of a kind where it is read as one
-pub kept_kind : (is : Option Kind → Bool) → is (Some Ta) ≡ is (Some Ti) → is (Some Td) ≡ is (Some Ti) → (feed : Feed) (k : Option Kind)
-    → is k ≡ is (kind_read_as feed k)
-kept_kind is ta td Full k = refl
-kept_kind is ta td Update (Some Ta) = ta
-kept_kind is ta td Update (Some Td) = td
-kept_kind is ta td Update _ = refl
+-- a test of kinds that doesn't tell TI, TA and TD apart
+pub record IsTest (is : Option Kind → Bool) : Type 0 where
+  pub none : is None ≡ false
+  pub ta : is (Some Ta) ≡ is (Some Ti)
+  pub td : is (Some Td) ≡ is (Some Ti)
 
-module _ (feed : Feed) (allowed : HolidayCodes) {A B : Type 0} (is : Option Kind → Bool) (f : Record → List A)
-    (of_mark : ℕ → LineMark → List B) (Q : ℕ × List ℕ → A → B → Type 0)
-    (step : (n : ℕ) (c : List ℕ) (r : Record) → SpellsInFeed feed allowed c r
-    → AreTriples Q (cond (is (kind_in c)) ((n, c) ∷ []) []) (f r) (of_mark n (mark_in feed allowed c))) where
-  abbrev of_kind : ℕ × List ℕ → Bool
-  of_kind line = is (kind_in line.1)
+-- a line passes where the record passes that it spells in a feed
+pub feed_agrees : (feed : Feed) (allowed : HolidayCodes) (is : Option Kind → Bool) → IsTest is → (c : List ℕ) (r : Record)
+    → SpellsInFeed feed allowed c r → is (kind_in c) ≡ is (Some (kind_of r))
+feed_agrees feed allowed is test c r s = kept feed (kind_in c) ∙ ap is (kind_there feed allowed c r s)
+  where
+    kept : (f : Feed) (k : Option Kind) → is k ≡ is (kind_read_as f k)
+    kept Full k = refl
+    kept Update (Some Ta) = test.ta
+    kept Update (Some Td) = test.td
+    kept Update _ = refl
 
-  abbrev marks_of : List (ℕ × List ℕ) → List B
-  marks_of ns = flat_map (λ (n : ℕ × List ℕ). of_mark n.0 (mark_in feed allowed n.1)) ns
+-- a line spells a location, an association, a basic schedule
+module _ (Spells : List ℕ → Record → Type 0) where
+  abbrev pub SpellsTiploc : ℕ × List ℕ → Tiploc → Type 0
+  SpellsTiploc line t = Spells line.1 (of.Tiploc t)
 
-  all_lines : (ns : List (ℕ × List ℕ)) (rs : List Record) → SpellAllBy (SpellsInFeed feed allowed) (map (λ (n : ℕ × List ℕ). n.1) ns) rs
-      → AreTriples Q (filter of_kind ns) (flat_map f rs) (marks_of ns)
-  all_lines [] [] spell = tt
-  all_lines (n ∷ ns) (r ∷ rs) spell =
-      at (is (kind_in n.1)) (triples-append Q (cond (is (kind_in n.1)) ((n.0, n.1) ∷ []) []) (f r) (of_mark n.0 (mark_in feed allowed n.1))
-      (filter of_kind ns) (flat_map f rs) (marks_of ns) (step n.0 n.1 r spell.0) (all_lines ns rs spell.1))
-    where
-      at : (b : Bool) → AreTriples Q (cond b (n ∷ []) [] ++ filter of_kind ns) (flat_map f (r ∷ rs)) (marks_of (n ∷ ns))
-          → AreTriples Q (cond b (n ∷ filter of_kind ns) (filter of_kind ns)) (flat_map f (r ∷ rs)) (marks_of (n ∷ ns))
-      at true p = p
-      at false p = p
-  all_lines _ _ spell = absurd spell
+  abbrev pub SpellsAssociation : ℕ × List ℕ → Association → Type 0
+  SpellsAssociation line a = Spells line.1 (of.Association a)
 
-  module _ (none : is None ≡ false) (cs : List (List ℕ)) (x : ExtractParts)
-      (s : SpellExtractBy (SpellsInFeed feed allowed) (record_lines cs) x) where
+  abbrev pub SpellsBasic : ℕ × List ℕ → Basic → Type 0
+  SpellsBasic line b = Spells line.1 (of.Basic b)
+
+module _ (Spells : List ℕ → Record → Type 0)
+    (agrees : (is : Option Kind → Bool) → IsTest is → (c : List ℕ) (r : Record) → Spells c r → is (kind_in c) ≡ is (Some (kind_of r))) where
+  module _ {A : Type 0} (is : Option Kind → Bool) (test : IsTest is) (f : Record → List A) (Q : ℕ × List ℕ → A → Type 0)
+      (own : (r : Record) (line : ℕ × List ℕ) → Spells line.1 r → ArePairs Q (one_if (is (Some (kind_of r))) line) (f r)) where
+    abbrev of_kind : ℕ × List ℕ → Bool
+    of_kind line = is (kind_in line.1)
+
+    all_lines : (ns : List (ℕ × List ℕ)) (rs : List Record) → SpellAllBy Spells (map (λ (n : ℕ × List ℕ). n.1) ns) rs
+        → ArePairs Q (filter of_kind ns) (flat_map f rs)
+    all_lines [] [] spell = tt
+    all_lines (n ∷ ns) (r ∷ rs) spell =
+        subst (λ b. ArePairs Q (cond b (n ∷ filter of_kind ns) (filter of_kind ns)) (flat_map f (r ∷ rs)))
+        (sym (agrees is test n.1 r spell.0)) (at (is (Some (kind_of r))) (own r n spell.0) (all_lines ns rs spell.1))
+      where
+        at : (b : Bool) → ArePairs Q (one_if b n) (f r) → ArePairs Q (filter of_kind ns) (flat_map f rs)
+            → ArePairs Q (cond b (n ∷ filter of_kind ns) (filter of_kind ns)) (flat_map f (r ∷ rs))
+        at true p more = pairs-append Q (n ∷ []) (f r) (filter of_kind ns) (flat_map f rs) p more
+        at false p more = pairs-append Q [] (f r) (filter of_kind ns) (flat_map f rs) p more
+    all_lines _ _ spell = absurd spell
+
     -- a line of such a kind is no comment and no note
     kinds_speak : (n : ℕ × List ℕ) → (is_record_line n.1 && is (kind_in n.1)) ≡ is (kind_in n.1)
     kinds_speak n = at (kind_in n.1) refl
       where
         at : (k : Option Kind) → kind_in n.1 ≡ k → (is_record_line n.1 && is k) ≡ is k
-        at None e = ap (λ b. is_record_line n.1 && b) none ∙ and-false (is_record_line n.1) ∙ sym none
+        at None e = ap (λ b. is_record_line n.1 && b) test.none ∙ and-false (is_record_line n.1) ∙ sym test.none
         at (Some k) e =
             let (no_comment, no_note) = named_line n.1 k e in
             ap (λ b. (not b && not (is_note n.1)) && is (Some k)) no_comment ∙ ap (λ b. not b && is (Some k)) no_note
 
-    pub lines_spelled : AreTriples Q (lines_of is cs) (flat_map f s.records) (marks of_mark feed allowed cs)
-    lines_spelled =
-        subst (λ ls. AreTriples Q ls (flat_map f s.records) (marks of_mark feed allowed cs))
+    lines_spelled : (cs : List (List ℕ)) (rs : List Record) → SpellAllBy Spells (record_lines cs) rs
+        → ArePairs Q (lines_of is cs) (flat_map f rs)
+    lines_spelled cs rs s =
+        subst (λ ls. ArePairs Q ls (flat_map f rs))
         (filter-filter of_kind (λ (n : ℕ × List ℕ). is_record_line n.1) (enumerate_from 1 cs)
-        ∙ filter-alike _ of_kind kinds_speak (enumerate_from 1 cs))
-        (all_lines (filter (λ (n : ℕ × List ℕ). is_record_line n.1) (enumerate_from 1 cs)) s.records
-        (subst (λ l. SpellAllBy (SpellsInFeed feed allowed) l s.records) (sym (enumerate_filter is_record_line 1 cs)) s.spelled))
+        ∙ filter_agree _ of_kind kinds_speak (enumerate_from 1 cs))
+        (all_lines (filter (λ (n : ℕ × List ℕ). is_record_line n.1) (enumerate_from 1 cs)) rs
+        (subst (λ l. SpellAllBy Spells l rs) (sym (enumerate_filter is_record_line 1 cs)) s))
+
+  -- ---- those of locations, associations and basic schedules
+
+  tiploc : (r : Record) (line : ℕ × List ℕ) → Spells line.1 r
+      → ArePairs (SpellsTiploc Spells) (one_if (is_of_tiploc (Some (kind_of r))) line) (tiploc_of r)
+  tiploc (of.Tiploc t) line s = (s, tt)
+  tiploc _ line s = tt
+
+  association : (r : Record) (line : ℕ × List ℕ) → Spells line.1 r
+      → ArePairs (SpellsAssociation Spells) (one_if (is_association (Some (kind_of r))) line) (association_of r)
+  association (of.Association a) line s = (s, tt)
+  association _ line s = tt
+
+  basic : (r : Record) (line : ℕ × List ℕ) → Spells line.1 r
+      → ArePairs (SpellsBasic Spells) (one_if (is_basic (Some (kind_of r))) line) (basic_of r)
+  basic (of.Basic b) line s = (s, tt)
+  basic _ line s = tt
+
+  module _ (cs : List (List ℕ)) (x : ExtractParts) (s : SpellExtractBy Spells (record_lines cs) x) where
+    pub tiplocs_spelled : ArePairs (SpellsTiploc Spells) (lines_of is_of_tiploc cs) x.tiplocs
+    tiplocs_spelled =
+        subst (ArePairs (SpellsTiploc Spells) (lines_of is_of_tiploc cs)) (records_tiplocs s.records x s.are)
+        (lines_spelled is_of_tiploc (record { none = refl; ta = refl; td = refl }) tiploc_of (SpellsTiploc Spells) tiploc cs s.records
+        s.spelled)
+
+    pub associations_spelled : ArePairs (SpellsAssociation Spells) (lines_of is_association cs) x.associations
+    associations_spelled =
+        subst (ArePairs (SpellsAssociation Spells) (lines_of is_association cs)) (records_associations s.records x s.are)
+        (lines_spelled is_association (record { none = refl; ta = refl; td = refl }) association_of (SpellsAssociation Spells) association
+        cs s.records s.spelled)
+
+    pub basics_spelled : ArePairs (SpellsBasic Spells) (lines_of is_basic cs) (flat_map basic_of s.are.schedules)
+    basics_spelled =
+        subst (ArePairs (SpellsBasic Spells) (lines_of is_basic cs)) (records_basics s.records x s.are)
+        (lines_spelled is_basic (record { none = refl; ta = refl; td = refl }) basic_of (SpellsBasic Spells) basic cs s.records s.spelled)
+
+-- ---- contents that are no comments are lines
+
+lines_are : (cs : List (List ℕ)) → All IsFeedContent cs → All IsLine (record_lines cs)
+lines_are cs are = λ k d below.
+    is_line _ (All-filter is_record_line IsFeedContent cs are k d below) (filter_passes is_record_line cs k d below)
+  where
+    is_line : (c : List ℕ) → IsFeedContent c → is_record_line c ≡ true → IsLine c
+    is_line c is says =
+        ⊎_elim (λ l. l) (λ comment. let no : false ≡ true = ap (λ b. not b && not (is_note c)) (sym comment) ∙ says in cc) is
+
+-- ---- schedules, by their BS
+
+-- a line that spells the BS of a schedule, of which what the lines behind it say isn't asked
+pub record IsScheduleLine (Spells : List ℕ → Record → Type 0) (line : ℕ × List ℕ) (s : Schedule) : Type 0 where
+  pub basic : Basic
+  pub spells : Spells line.1 (of.Basic basic)
+  pub terms : HasTerms basic s
+  pub detail : AllFit (detail_rows basic.detail) → basic.detail ≡ option_map detail_of s.body
+
+-- ---- the schedules of their BS
+
+-- a detail that fits its columns is that of the body
+detail_there : (d : Option Detail) (x : Option Extra) (journey : List Record) (body : Option BodyLines) → HaveBody d x journey body
+    → AllFit (detail_rows d) → d ≡ option_map detail_of body
+detail_there (Some d) x journey (Some b) has fits =
+    let alone = fits-append (detail_rows (Some d)) (row 79 80 spare ∷ []) fits (tt, tt) in
+    let stands = stands-plain_line (detail_table d) refl (tt, alone) in
+    ap Some (sym (ap detail_of has.1 ∙ detail_in-stands (plain_line (detail_table d)) d stands))
+detail_there None x journey None has fits = refl
+detail_there _ x journey _ has fits = absurd has
+
+module _ (Spells : List ℕ → Record → Type 0) where
+  abbrev Basics : ℕ × List ℕ → Basic → Type 0
+  Basics = SpellsBasic Spells
+
+  abbrev Schedules : ℕ × List ℕ → Schedule → Type 0
+  Schedules = IsScheduleLine Spells
+
+  take_line : (ls : List (ℕ × List ℕ)) (b : Basic) (rest : List Basic) (s : Schedule) (ss : List Schedule)
+      → HasTerms b s → (AllFit (detail_rows b.detail) → b.detail ≡ option_map detail_of s.body) → ArePairs Basics ls (b ∷ rest)
+      → ((ls : List (ℕ × List ℕ)) → ArePairs Basics ls rest → ArePairs Schedules ls ss) → ArePairs Schedules ls (s ∷ ss)
+  take_line (l ∷ ls) b rest s ss terms detail p more =
+      (record { basic = b; spells = p.0; terms = terms; detail = detail }, more ls p.1)
+  take_line [] b rest s ss terms detail p more = absurd p
+
+  schedule_lines : (ls : List (ℕ × List ℕ)) (groups : List Record) (ss : List Schedule)
+      → AreSchedules groups ss → ArePairs Basics ls (flat_map basic_of groups) → ArePairs Schedules ls ss
+  schedule_lines ls groups [] none p = at ls (subst (λ g. ArePairs Basics ls (flat_map basic_of g)) none p)
+    where
+      at : (ls : List (ℕ × List ℕ)) → ArePairs Basics ls [] → ArePairs Schedules ls []
+      at [] p = tt
+      at (l ∷ ls) p = absurd p
+  schedule_lines ls groups (s ∷ ss) all p =
+      let (own, others, parts, one, more) = all in
+      take_line ls one.basic (flat_map basic_of others) s ss one.terms
+      (detail_there one.basic.detail one.extra one.journey s.body one.body)
+      (subst (ArePairs Basics ls) (first_basic groups own others s parts one) p)
+      (λ ls. schedule_lines ls others ss more)
+
+  pub schedules_spelled : ((is : Option Kind → Bool) → IsTest is → (c : List ℕ) (r : Record) → Spells c r
+      → is (kind_in c) ≡ is (Some (kind_of r)))
+      → (cs : List (List ℕ)) (x : ExtractParts) → SpellExtractBy Spells (record_lines cs) x
+      → ArePairs Schedules (lines_of is_basic cs) x.schedules
+  schedules_spelled agrees cs x s =
+      schedule_lines (lines_of is_basic cs) s.are.schedules x.schedules s.are.are_schedules (basics_spelled Spells agrees cs x s)
+
+-- ---- what it says
+
+module _ (line : ℕ × List ℕ) (b : Basic) (s : Schedule) (terms : HasTerms b s)
+    (detail : b.detail ≡ option_map detail_of s.body) (change : Change ScheduleKey PublishedSchedule) where
+  put_schedule_stands : (t : Transaction) (p : PublishedSchedule) → p.schedule ≡ s → p.open_end ≡ is_open 16 line.1
+      → p.code ≡ code_of all_codes line.1
+      → AllStandIn line.1 (put_basic_rows t (is_open 16 line.1) (code_of all_codes line.1) (terms_of b) b.detail)
+      → AllStandIn line.1 (published_basic_rows t p)
+  put_schedule_stands t p same ends code stands =
+      let all : put_basic_rows t (is_open 16 line.1) (code_of all_codes line.1) (terms_of b) b.detail ≡ published_basic_rows t p = cc in
+      subst (AllStandIn line.1) all stands
+
+  deletion_stands : AllStandIn line.1 (deleted_basic_rows b.uid b.first (letter_of line.1))
+      → AllStandIn line.1 (deleted_basic_rows s.uid s.first (letter_of line.1))
+  deletion_stands stands =
+      subst (λ v. AllStandIn line.1 (deleted_basic_rows v s.first (letter_of line.1))) terms.uid
+      (subst (λ v. AllStandIn line.1 (deleted_basic_rows b.uid v (letter_of line.1))) terms.first stands)
+
+  schedule_said_by : (t : Option Transaction) → SpellsBasicBy all_codes t line.1 b
+      → IsScheduleChange s (record (schedule_mark all_codes line) { transaction = unwrap_or t New }) change
+      → SaysSchedule line change
+  schedule_said_by None spells is = absurd spells
+  schedule_said_by (Some New) spells is =
+      subst (SaysSchedule line) (sym is.change)
+      (record { number = refl; stands = put_schedule_stands New is.published is.is.of_profile is.is.open_end is.is.code spells.0 })
+  schedule_said_by (Some Revised) spells is =
+      subst (SaysSchedule line) (sym is.change)
+      (record { number = refl; stands = put_schedule_stands Revised is.published is.is.of_profile is.is.open_end is.is.code spells.0 })
+  schedule_said_by (Some Deleted) spells is =
+      subst (SaysSchedule line) (sym is.change) (record { number = refl; stands = deletion_stands spells.0 })
+
+-- lines that spell records, as lines
+abbrev LineSpells : List ℕ → Record → Type 0
+LineSpells line r = IsLine line × SpellsInFeed Update all_codes line r
+
+spell-lines : (lines : List (List ℕ)) (rs : List Record) → All IsLine lines → SpellAllBy (SpellsInFeed Update all_codes) lines rs
+    → SpellAllBy LineSpells lines rs
+spell-lines [] [] are spell = tt
+spell-lines (l ∷ lines) (r ∷ rs) are spell =
+    ((All-head IsLine l lines are, spell.0), spell-lines lines rs (All-tail IsLine l lines are) spell.1)
+spell-lines _ _ are spell = absurd spell
+
+-- a detail that a line says fits
+detail_fits : (line : List ℕ) (b : Basic) → LineSpells line (of.Basic b) → AllFit (detail_rows b.detail)
+detail_fits line b (is, spells) =
+    let whole = (feed_are Update all_codes).fits line is (of.Basic b) spells in
+    fits-front (detail_rows b.detail) (basic_back b.letter) whole.1.1.1.1.1.1.1
+
+pub schedules_said : (cs : List (List ℕ)) (u : UpdateParts) → SpellUpdate cs u → ArePairs SaysSchedule (lines_of is_basic cs) u.schedules
+schedules_said cs u s =
+    let x = s.lines in
+    let says = s.spelled.says in
+    let e = says.extract in
+    triples-said (IsScheduleLine LineSpells) (schedule_mark all_codes) IsScheduleChange SaysSchedule
+    (λ line s change q is. schedule_said_by line q.basic s q.terms (q.detail (detail_fits line.1 q.basic q.spells)) change
+    (transaction_at Update line.1) q.spells.1 is) (lines_of is_basic cs) x.extract.schedules u.schedules
+    (schedules_spelled LineSpells (λ is test c r spells. feed_agrees Update all_codes is test c r spells.1) cs x.extract (record {
+      records = e.records;
+      spelled = spell-lines (record_lines cs) e.records (lines_are cs s.spelled.are_contents) e.spelled;
+      are = e.are;
+    }))
+    (subst (λ ms. AreTriples IsScheduleChange x.extract.schedules ms u.schedules) (ap (λ (m : MarkParts). m.schedules) says.marks)
+    s.says.schedules)
+
+-- ---- locations and associations
+
+-- ---- locations
+
+abbrev mark_there : ℕ × List ℕ → TiplocMark
+mark_there line = tiploc_mark (kind_in line.1) line
+
+all_tiplocs : (ls : List (ℕ × List ℕ)) (ts : List Tiploc) → ArePairs (SpellsTiploc (SpellsInFeed Update all_codes)) ls ts
+    → SayTiplocs ls (tiploc_changes ts (map mark_there ls))
+all_tiplocs [] [] p = refl
+all_tiplocs (l ∷ ls) (t ∷ ts) p = (
+  tiploc_changes_of (mark_there l) t,
+  tiploc_changes ts (map mark_there ls),
+  refl,
+  record { tiploc = t; spells = p.0; are = refl },
+  all_tiplocs ls ts p.1,
+)
+all_tiplocs _ _ p = absurd p
+
+pub tiplocs_said : (cs : List (List ℕ)) (u : UpdateParts) → SpellUpdate cs u → SayTiplocs (lines_of is_of_tiploc cs) u.tiplocs
+tiplocs_said cs u s =
+    let x = s.lines in
+    let says = s.spelled.says in
+    subst (SayTiplocs (lines_of is_of_tiploc cs)) (sym s.says.tiplocs)
+    (subst (λ ms. SayTiplocs (lines_of is_of_tiploc cs) (tiploc_changes x.extract.tiplocs ms))
+    (sym (ap (λ (m : MarkParts). m.tiplocs) says.marks))
+    (all_tiplocs (lines_of is_of_tiploc cs) x.extract.tiplocs
+    (tiplocs_spelled (SpellsInFeed Update all_codes) (feed_agrees Update all_codes) cs x.extract says.extract)))
+
+-- ---- associations
+
+module _ (line : ℕ × List ℕ) (a : Association) (change : Change AssociationKey PublishedAssociation) where
+  put_stands : (t : Transaction) (p : PublishedAssociation) → p.association ≡ a → p.open_end ≡ is_open 22 line.1
+      → AllStandIn line.1 (put_association_rows t (is_open 22 line.1) a) → AllStandIn line.1 (published_association_rows t p)
+  put_stands t p same ends stands =
+      let all : put_association_rows t (is_open 22 line.1) a ≡ published_association_rows t p = cc in subst (AllStandIn line.1) all stands
+
+  said_by : (t : Option Transaction) → SpellsAssociationBy t line.1 a
+      → IsAssociationChange a (record (association_mark line) { transaction = unwrap_or t New }) change → SaysAssociation line change
+  said_by None s is = absurd s
+  said_by (Some New) s is =
+      subst (SaysAssociation line) (sym is.change)
+      (record { number = refl; stands = put_stands New is.published is.is.of_profile is.is.open_end s.0 })
+  said_by (Some Revised) s is =
+      subst (SaysAssociation line) (sym is.change)
+      (record { number = refl; stands = put_stands Revised is.published is.is.of_profile is.is.open_end s.0 })
+  said_by (Some Deleted) s is = subst (SaysAssociation line) (sym is.change) (record { number = refl; stands = s.0 })
+
+pub associations_said : (cs : List (List ℕ)) (u : UpdateParts) → SpellUpdate cs u
+    → ArePairs SaysAssociation (lines_of is_association cs) u.associations
+associations_said cs u s =
+    let x = s.lines in
+    let says = s.spelled.says in
+    triples-said (SpellsAssociation (SpellsInFeed Update all_codes)) association_mark IsAssociationChange SaysAssociation
+    (λ line a change spells is. said_by line a change (transaction_at Update line.1) spells is) (lines_of is_association cs)
+    x.extract.associations u.associations
+    (associations_spelled (SpellsInFeed Update all_codes) (feed_agrees Update all_codes) cs x.extract says.extract)
+    (subst (λ ms. AreTriples IsAssociationChange x.extract.associations ms u.associations)
+    (ap (λ (m : MarkParts). m.associations) says.marks) s.says.associations)
+
+-- ---- the marks of the records
+
+module _ (feed : Feed) (allowed : HolidayCodes) (cs : List (List ℕ)) where
+  pub have_marks : (x : FeedParts) → SayFeed feed allowed cs x → HasMarks x
+  have_marks x s =
+      let Spells = SpellsInFeed feed allowed in
+      let e = x.extract in
+      let tiplocs = tiplocs_spelled Spells (feed_agrees feed allowed) cs e s.extract in
+      subst (λ (m : MarkParts). HasMarks (record { extract = e; marks = m })) (sym s.marks) (record {
+        tiplocs = length-map (lines_of is_of_tiploc cs) _ ∙ pairs-length (SpellsTiploc Spells) (lines_of is_of_tiploc cs) e.tiplocs tiplocs;
+        associations = pairs-mapped (SpellsAssociation Spells) association_mark (IsClosed last_of_association)
+            (λ line a spells. association_closed line.1 (transaction_at feed line.1) a spells) (lines_of is_association cs) e.associations
+            (associations_spelled Spells (feed_agrees feed allowed) cs e s.extract);
+        schedules = pairs-mapped (IsScheduleLine Spells) (schedule_mark allowed) (IsClosed last_of_schedule)
+            (λ line s is ends. sym is.terms.last ∙ basic_closed line.1 allowed (transaction_at feed line.1) is.basic is.spells ends)
+            (lines_of is_basic cs) e.schedules (schedules_spelled Spells (feed_agrees feed allowed) cs e s.extract);
+      })
+
+  pub marked_result : (result : Result FeedExtract FeedFault) → IfOk result (λ x. SayFeed feed allowed cs (feed_parts x))
+      → IfOk result (λ x. HasMarks (feed_parts x))
+  marked_result (Ok x) says = have_marks (feed_parts x) says
+  marked_result (Err f) says = tt
+
+-- what a feed says fits the columns of lines
+pub feed_fits : (feed : Feed) (allowed : HolidayCodes) (cs : List (List ℕ)) (x : FeedParts) → SpellFeed feed allowed cs x
+    → FitsColumns x.extract
+feed_fits feed allowed cs x s =
+    spelled-fits-by (feed_layouts feed allowed) (feed_are feed allowed) (record_lines cs) x.extract (lines_are cs s.are_contents)
+    s.says.extract

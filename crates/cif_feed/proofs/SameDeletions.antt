@@ -10,13 +10,15 @@ use Rattle.cif_records.proofs.Associations as associations
 use Rattle.cif_records.proofs.Basics as basics
 use Rattle.cif_feed.specs.Changes.{transaction_of}
 use Rattle.cif_feed.specs.FeedLine.{deleted_association_rows, deleted_basic_rows, published_association_rows, published_basic_rows}
+use Rattle.cif_feed.specs.Transaction.{transaction_letter}
 use Rattle.cif_feed.specs.UpdateLines.{action_rows}
 use Rattle.cif_feed.specs.UpdateParts.{AssociationKey, ScheduleKey}
 use Rattle.cif_feed.specs.declared.changes.Action.{Action}
 use Rattle.cif_feed.specs.declared.changes.Action.TheVariants.{New, Revised, Deleted}
+use Rattle.cif_feed.specs.declared.mark.Transaction.{Transaction}
 use Rattle.cif_feed.specs.declared.mark.Transaction.TheVariants as transaction
-use Rattle.cif_feed.specs.declared.published.PublishedAssociation.{PublishedAssociation}
-use Rattle.cif_feed.specs.declared.published.PublishedSchedule.{PublishedSchedule}
+use Rattle.cif_feed.specs.declared.published_extract.PublishedAssociation.{PublishedAssociation}
+use Rattle.cif_feed.specs.declared.published_extract.PublishedSchedule.{PublishedSchedule}
 
 -- columns among others
 part : (k a n m : ℕ) (l : List ℕ) → take n (drop a (take (a + (n + m)) (drop k l))) ≡ take n (drop (k + a) l)
@@ -29,16 +31,29 @@ module _ (l q : List ℕ) where
   agree : (k a n m : ℕ) → take (a + (n + m)) (drop k l) ≡ take (a + (n + m)) (drop k q) → take n (drop (k + a) l) ≡ take n (drop (k + a) q)
   agree k a n m e = sym (part k a n m l) ∙ ap (λ (xs : List ℕ). take n (drop a xs)) e ∙ part k a n m q
 
-  -- no line is a deletion that agrees with another line in column 3
-  not_put : (letter : ℕ) → columns 3 3 l ≡ codes "D" → columns 3 3 q ≡ letter ∷ [] → columns 3 3 l ≡ columns 3 3 q → letter ≡ 68
-  not_put letter s t e = let same : letter ∷ [] ≡ 68 ∷ [] = sym t ∙ sym e ∙ s in cc
+  -- A deletion and what another line does that agrees in column 3 are the same, where their keys are. `puts` are the columns of a record
+  -- that is put, by its transaction, and `deletes` those of the deletion of a key.
+  module _ {K R : Type 0} (puts : Transaction → R → List Row) (deletes : K → List Row)
+      (put : (t : Transaction) (r : R) → AllStandIn q (puts t r) → columns 3 3 q ≡ transaction_letter t ∷ [])
+      (deleted : (k : K) → AllStandIn l (deletes k) → columns 3 3 l ≡ codes "D") (same : columns 3 3 l ≡ columns 3 3 q)
+      (one_key : (j k : K) → AllStandIn l (deletes j) → AllStandIn q (deletes k) → j ≡ k) where
+    no_put : (letter : ℕ) (k : K) → AllStandIn l (deletes k) → columns 3 3 q ≡ letter ∷ [] → letter ≡ 68
+    no_put letter k s t = let both : letter ∷ [] ≡ 68 ∷ [] = sym t ∙ sym same ∙ deleted k s in cc
+
+    one_deletion : (a b : Action K R) → AllStandIn l (action_rows puts deletes a) → AllStandIn q (action_rows puts deletes b)
+        → transaction_of a ≡ transaction.Deleted → a ≡ b
+    one_deletion (New r) b s t is = cc
+    one_deletion (Revised r) b s t is = cc
+    one_deletion (Deleted j) (New r) s t is = absurd (omega (arith, no_put 78 j s (put transaction.New r t)))
+    one_deletion (Deleted j) (Revised r) s t is = absurd (omega (arith, no_put 82 j s (put transaction.Revised r t)))
+    one_deletion (Deleted j) (Deleted k) s t is = ap Deleted (one_key j k s t)
 
   module _ (front : columns 3 21 l ≡ columns 3 21 q) (middle : columns 38 46 l ≡ columns 38 46 q) (back : columns 80 80 l ≡ columns 80 80 q)
     where
-      abbrev rows : Action AssociationKey PublishedAssociation → List Row
-      rows = action_rows published_association_rows (λ k. deleted_association_rows k.0 k.1 k.2)
+      abbrev rows : AssociationKey → List Row
+      rows k = deleted_association_rows k.0 k.1 k.2
 
-      one_key : (j k : AssociationKey) → AllStandIn l (rows (Deleted j)) → AllStandIn q (rows (Deleted k)) → j ≡ k
+      one_key : (j k : AssociationKey) → AllStandIn l (rows j) → AllStandIn q (rows k) → j ≡ k
       one_key j k s t =
           let a = associations.parts_by l (codes "D") j.0 j.1 spare spare j.2 None s in
           let b = associations.parts_by q (codes "D") k.0 k.1 spare spare k.2 None t in
@@ -56,19 +71,17 @@ module _ (l q : List ℕ) where
           ∙ ap (λ (x : ℕ). let v : AssociationKey = (k.0, x, j.2) in v) first
           ∙ ap (λ (x : Stp). let v : AssociationKey = (k.0, k.1, x) in v) stp
 
-      pub one_association_deletion : (a b : Action AssociationKey PublishedAssociation) → AllStandIn l (rows a) → AllStandIn q (rows b)
+      pub one_association_deletion : (a b : Action AssociationKey PublishedAssociation)
+          → AllStandIn l (action_rows published_association_rows rows a) → AllStandIn q (action_rows published_association_rows rows b)
           → transaction_of a ≡ transaction.Deleted → a ≡ b
-      one_association_deletion (New r) b s t deletes = cc
-      one_association_deletion (Revised r) b s t deletes = cc
-      one_association_deletion (Deleted j) (New r) s t deletes = absurd (omega (arith, not_put 78 s.1.0 t.1.0 (agree 2 0 1 18 front)))
-      one_association_deletion (Deleted j) (Revised r) s t deletes = absurd (omega (arith, not_put 82 s.1.0 t.1.0 (agree 2 0 1 18 front)))
-      one_association_deletion (Deleted j) (Deleted k) s t deletes = ap Deleted (one_key j k s t)
+      one_association_deletion =
+          one_deletion published_association_rows rows (λ t r s. s.1.0) (λ k s. s.1.0) (agree 2 0 1 18 front) one_key
 
   module _ (front : columns 3 15 l ≡ columns 3 15 q) (back : columns 80 80 l ≡ columns 80 80 q) where
-    abbrev basic_rows : Action ScheduleKey PublishedSchedule → List Row
-    basic_rows = action_rows published_basic_rows (λ k. deleted_basic_rows k.0 k.1 k.2)
+    abbrev basic_rows : ScheduleKey → List Row
+    basic_rows k = deleted_basic_rows k.0 k.1 k.2
 
-    one_basic_key : (j k : ScheduleKey) → AllStandIn l (basic_rows (Deleted j)) → AllStandIn q (basic_rows (Deleted k)) → j ≡ k
+    one_basic_key : (j k : ScheduleKey) → AllStandIn l (basic_rows j) → AllStandIn q (basic_rows k) → j ≡ k
     one_basic_key j k s t =
         let a = basics.parts_by l (basic_front_by (codes "D") j.0 j.1 spare spare spare) None j.2 s in
         let b = basics.parts_by q (basic_front_by (codes "D") k.0 k.1 spare spare spare) None k.2 t in
@@ -80,10 +93,8 @@ module _ (l q : List ℕ) where
         ∙ ap (λ (x : ℕ). let v : ScheduleKey = (k.0, x, j.2) in v) first
         ∙ ap (λ (x : Stp). let v : ScheduleKey = (k.0, k.1, x) in v) stp
 
-    pub one_schedule_deletion : (a b : Action ScheduleKey PublishedSchedule) → AllStandIn l (basic_rows a) → AllStandIn q (basic_rows b)
+    pub one_schedule_deletion : (a b : Action ScheduleKey PublishedSchedule)
+        → AllStandIn l (action_rows published_basic_rows basic_rows a) → AllStandIn q (action_rows published_basic_rows basic_rows b)
         → transaction_of a ≡ transaction.Deleted → a ≡ b
-    one_schedule_deletion (New r) b s t deletes = cc
-    one_schedule_deletion (Revised r) b s t deletes = cc
-    one_schedule_deletion (Deleted j) (New r) s t deletes = absurd (omega (arith, not_put 78 s.1.0 t.1.0 (agree 2 0 1 12 front)))
-    one_schedule_deletion (Deleted j) (Revised r) s t deletes = absurd (omega (arith, not_put 82 s.1.0 t.1.0 (agree 2 0 1 12 front)))
-    one_schedule_deletion (Deleted j) (Deleted k) s t deletes = ap Deleted (one_basic_key j k s t)
+    one_schedule_deletion =
+        one_deletion published_basic_rows basic_rows (λ t r s. s.1.0) (λ k s. s.1.0) (agree 2 0 1 12 front) one_basic_key

@@ -1,6 +1,6 @@
--- Bytes that spell a published extract, or an update, aren't refused, and spell no other.
-use Rattle.std.proofs.Common.{◌≡◌, ◌≢◌, ℕ, ◌<◌, ◌≤◌, Bool, true, false, cond, not, ◌&&◌, List, [], ◌∷◌, ◌++◌, length, Some}
-use Rattle.std.proofs.Common.{None, refl, sym, ap, ◌∙◌, subst, arith, get_or, length-append, ⊎_elim}
+-- Bytes that spell a published extract, or an update, aren't refused, and spell no other: it is what its lines say.
+use Rattle.std.proofs.Common.{◌≡◌, ◌≢◌, ℕ, ◌<◌, ◌≤◌, Bool, true, false, cond, not, ◌&&◌, List, [], ◌∷◌, ◌++◌, length, Some, None, refl, sym}
+use Rattle.std.proofs.Common.{ap, ◌∙◌, subst, arith, get_or, length-append, ⊎_elim, Option, Result, Ok, Err, IfErr, IfOk, IsTrue}
 use Rattle.std.proofs.lemmas.List.Elements.{All-filter, All-weaker, filter-append}
 use Rattle.std.proofs.Math.Seq.{get_or-append_seam, take-append_seam}
 use Rattle.std.specs.Prelude.{All}
@@ -19,41 +19,51 @@ use Rattle.cif_records.specs.Checks.{unless}
 use Rattle.cif_records.specs.Kind.{kind_in}
 use Rattle.cif_records.specs.declared.record.Kind.TheVariants.{Zz}
 use Rattle.cif_records.proofs.Judging.{none-some}
-use Rattle.cif_feed.specs.FeedFault.{IsFailure, IsFeedFault}
+use Rattle.cif_feed.specs.FeedFault.{IsFailure, IsFeedFault, IsReadAs, reading_feed}
 use Rattle.cif_feed.specs.FeedLayouts.{feed_layouts}
 use Rattle.cif_feed.specs.FeedLine.{SpellsInFeed}
+use Rattle.cif_feed.specs.Marks.{MarkParts}
 use Rattle.cif_feed.specs.RecordLines.{is_note, is_record_line, notes_may_stand, record_lines}
 use Rattle.cif_feed.specs.FeedRefusal.{IsFeedContent, IsFeedTruncated, IsFirstOfFeed, IsRefusedContent, line_refusal}
-use Rattle.cif_feed.specs.SpellsFeed.{BytesSpellFeed, FeedParts, SayFeed, SpellFeed}
-use Rattle.cif_feed.specs.declared.feed.Feed.{Feed}
+use Rattle.cif_feed.specs.SpellsFeed.{BytesSpellFeed, FeedParts, SayFeed, SpellFeed, feed_parts}
+use Rattle.cif_feed.specs.declared.feed_line.Feed.{Feed}
 use Rattle.cif_feed.specs.declared.feed.FeedFault.{FeedFault}
 use Rattle.cif_feed.specs.declared.feed.FeedFault.TheVariants.{Extract, NotUpdate, BadTransaction}
-use Rattle.cif_feed.specs.declared.holiday_code.HolidayCodes.{HolidayCodes}
-use Rattle.cif_feed.specs.declared.counts.UpdateCounts.{UpdateCounts}
-use Rattle.cif_feed.specs.declared.feed_reading.Passed.{Passed}
+use Rattle.cif_feed.specs.declared.holidays.HolidayCodes.{HolidayCodes}
 use Rattle.cif_feed.proofs.FeedRuns.{comment_fine, line_why}
 use Rattle.cif_feed.proofs.FeedLines.{feed_are}
-use Rattle.cif_feed.proofs.RecordsTaken.{read_back}
-
--- parts that are the same, one by one
-same_parts : (a b : FeedParts) → a.extract ≡ b.extract → a.header_line ≡ b.header_line → a.tiploc_marks ≡ b.tiploc_marks
-    → a.association_marks ≡ b.association_marks → a.schedule_marks ≡ b.schedule_marks → a.counts ≡ b.counts → a.passed ≡ b.passed → a ≡ b
-same_parts a b e h t aa s n c =
-    ap (λ (v : ExtractParts). record a { extract = v }) e ∙ ap (λ (v : ℕ). record a { extract = b.extract; header_line = v }) h
-    ∙ ap (λ v. record a { extract = b.extract; header_line = b.header_line; tiploc_marks = v }) t
-    ∙ ap (λ v. record a { extract = b.extract; header_line = b.header_line; tiploc_marks = b.tiploc_marks; association_marks = v }) aa
-    ∙ ap (λ v. record b { schedule_marks = v; counts = a.counts; passed = a.passed }) s
-    ∙ ap (λ (v : UpdateCounts). record b { counts = v; passed = a.passed }) n ∙ ap (λ (v : Passed). record b { passed = v }) c
+use Rattle.cif_feed.proofs.FeedSteps.{read_back}
+use Rattle.std.proofs.Props.{props}
+use mathlib.Core.HLevel.{Σ_prop_path}
+use Rattle.cif_extract.specs.declared.extract.Schedule.{Schedule}
+use Rattle.cif_extract.proofs.ReadCalls.{HandsOn, Makes}
+use Rattle.cif_records.specs.declared.association.Association.{Association}
+use Rattle.cif_records.specs.declared.header.Header.{Header}
+use Rattle.cif_records.specs.declared.tiploc.Tiploc.{Tiploc}
+use Rattle.cif_feed.specs.FromLines.{AreTriples}
+use Rattle.cif_feed.specs.LastDay.{last_day}
+use Rattle.cif_feed.specs.PublishedParts.{BytesSpellPublished, IsPublishedAssociation, IsPublishedSchedule, PublishedParts, SayPublished}
+use Rattle.cif_feed.specs.PublishedParts.{SpellPublished, published_parts, IsPublishedOf, reading_published}
+use Rattle.cif_feed.specs.declared.feed_line.Feed.TheVariants.{Full}
+use Rattle.cif_feed.specs.declared.feed_reading.FeedExtract.{FeedExtract}
+use Rattle.cif_feed.specs.declared.holidays.HolidayCode.{HolidayCode}
+use Rattle.cif_feed.specs.declared.published_extract.PublishedAssociation.{PublishedAssociation}
+use Rattle.cif_feed.specs.declared.published_extract.PublishedSchedule.{PublishedSchedule}
+use Rattle.cif_feed.specs.declared.published_extract.PublishedExtract.{PublishedExtract}
+use Rattle.cif_feed.specs.HolidayCode.{all_codes}
+use Rattle.cif_feed.specs.UpdateParts.{IsUpdateOf, reading_update, AssociationKey, BytesSpellUpdate, IsAssociationChange, IsScheduleChange}
+use Rattle.cif_feed.specs.UpdateParts.{SayUpdate, ScheduleKey, SpellUpdate, UpdateParts, change_by, update_parts}
+use Rattle.cif_feed.specs.declared.changes.Change.{Change}
+use Rattle.cif_feed.specs.declared.feed_line.Feed.TheVariants as feed
+use Rattle.cif_feed.specs.declared.update.Update.{Update}
 
 module _ (feed : Feed) (allowed : HolidayCodes) (max : ℕ) where
   -- contents say one at most
   pub one_feed : (cs : List (List ℕ)) (x y : FeedParts) → SayFeed feed allowed cs x → SayFeed feed allowed cs y → x ≡ y
   one_feed cs x y p q =
-      same_parts x y
+      ap (λ (e : ExtractParts). record x { extract = e })
       (one_extract (feed_layouts feed allowed) (feed_are feed allowed) (record_lines cs) x.extract y.extract p.extract q.extract)
-      (p.header_line ∙ sym q.header_line) (p.tiploc_marks ∙ sym q.tiploc_marks)
-      (p.association_marks ∙ sym q.association_marks) (p.schedule_marks ∙ sym q.schedule_marks)
-      (p.counts ∙ sym q.counts) (p.passed ∙ sym q.passed)
+      ∙ ap (λ (m : MarkParts). record y { marks = m }) (p.marks ∙ sym q.marks)
 
   -- the lines of records before and after one
   parts : (before : List (List ℕ)) (c : List ℕ) (after : List (List ℕ)) → is_record_line c ≡ true
@@ -134,3 +144,143 @@ module _ (feed : Feed) (allowed : HolidayCodes) (max : ℕ) where
   blames_none bytes x s after (NotUpdate line) h = absurd (spelled_first (contents_of bytes) x s.within _ s.spell h.0)
   blames_none bytes x s after (BadTransaction line) h = absurd (spelled_first (contents_of bytes) x s.within _ s.spell h.0)
   blames_none bytes x s after _ h = absurd h
+
+-- ---- one at most
+
+pub same_association : (p q : PublishedAssociation) → p.association ≡ q.association → p.open_end ≡ q.open_end → p ≡ q
+same_association p q a e =
+    let same : ◌≡◌ {A = (v : Association × Bool) × (IsTrue v.1 → v.0.last ≡ last_day)} ((p.association, p.open_end), p.closed)
+    ((q.association, q.open_end), q.closed) = Σ_prop_path (λ v. hlevel props) (cc) in
+    ap (λ (v : (w : Association × Bool) × (IsTrue w.1 → w.0.last ≡ last_day)). let r : PublishedAssociation = record {
+      association = v.0.0;
+      open_end = v.0.1;
+      closed = v.1;
+    } in r) same
+
+pub same_schedule : (p q : PublishedSchedule) → p.schedule ≡ q.schedule → p.open_end ≡ q.open_end → p.code ≡ q.code → p ≡ q
+same_schedule p q s e c =
+    let same : ◌≡◌ {A = (v : Schedule × Bool × Option HolidayCode) × (IsTrue v.1 → v.0.last ≡ last_day)}
+    ((p.schedule, p.open_end, p.code), p.closed) ((q.schedule, q.open_end, q.code), q.closed) = Σ_prop_path (λ v. hlevel props) (cc) in
+    ap (λ (v : (w : Schedule × Bool × Option HolidayCode) × (IsTrue w.1 → w.0.last ≡ last_day)). let r : PublishedSchedule = record {
+      schedule = v.0.0;
+      open_end = v.0.1;
+      code = v.0.2;
+      closed = v.1;
+    } in r) same
+
+-- what is made of the same elements is the same
+module _ {A B C : Type 0} (P : A → B → C → Type 0) (one : (x : A) (y : B) (z w : C) → P x y z → P x y w → z ≡ w) where
+  pub same_triples : (xs : List A) (ys : List B) (zs ws : List C) → AreTriples P xs ys zs → AreTriples P xs ys ws → zs ≡ ws
+  same_triples [] [] [] [] p q = refl
+  same_triples [] [] [] (w ∷ ws) p q = absurd q
+  same_triples (x ∷ xs) (y ∷ ys) (z ∷ zs) [] p q = absurd q
+  same_triples (x ∷ xs) (y ∷ ys) (z ∷ zs) (w ∷ ws) p q =
+      ap (λ v. v ∷ zs) (one x y z w p.0 q.0) ∙ ap (λ vs. w ∷ vs) (same_triples xs ys zs ws p.1 q.1)
+  same_triples _ _ _ _ p q = absurd p
+
+one_published_said : (lines : FeedParts) (p q : PublishedParts) → SayPublished lines p → SayPublished lines q → p ≡ q
+one_published_said lines p q s t =
+    ap (λ (v : Header). record p { header = v }) (s.header ∙ sym t.header)
+    ∙ ap (λ (v : List Tiploc). record p { header = q.header; tiplocs = v }) (s.tiplocs ∙ sym t.tiplocs)
+    ∙ ap (λ (v : List PublishedAssociation). record q { associations = v; schedules = p.schedules })
+    (same_triples IsPublishedAssociation
+    (λ x y z w a b. same_association z w (a.of_profile ∙ sym b.of_profile) (a.open_end ∙ sym b.open_end)) _ _ p.associations q.associations
+    s.associations t.associations)
+    ∙ ap (λ (v : List PublishedSchedule). record q { schedules = v })
+    (same_triples IsPublishedSchedule
+    (λ x y z w a b. same_schedule z w (a.of_profile ∙ sym b.of_profile) (a.open_end ∙ sym b.open_end) (a.code ∙ sym b.code)) _ _
+    p.schedules q.schedules s.schedules t.schedules)
+
+pub one_published : (allowed : HolidayCodes) (cs : List (List ℕ)) (p q : PublishedParts) → SpellPublished allowed cs p
+    → SpellPublished allowed cs q
+    → p ≡ q
+one_published allowed cs p q s t =
+    let same = one_feed Full allowed 0 cs s.lines t.lines s.spelled.says t.spelled.says in
+    one_published_said s.lines p q s.says (subst (λ l. SayPublished l q) (sym same) t.says)
+
+-- ---- what is read
+
+module _ (allowed : HolidayCodes) (max : ℕ) where
+  pub reads-published : (f : FeedFault) → HandsOn (reading_feed Full allowed max) (reading_published allowed max) f
+  reads-published f = record { fault = λ bytes after h. h; answers = λ h. h; same = refl }
+
+  pub makes-published : (lines : FeedExtract) (x : PublishedExtract) → SayPublished (feed_parts lines) (published_parts x)
+      → x.passed ≡ lines.marks.passed → Makes (reading_feed Full allowed max) (reading_published allowed max) lines x
+  makes-published lines x says passed = record {
+    answer = λ bytes s. record {
+      spelled = record {
+        spell = record { lines = feed_parts lines; spelled = s.spell; says = says };
+        within = s.within;
+      };
+      passed = passed ∙ ap (λ (m : MarkParts). m.passed) s.spell.says.marks;
+    };
+    whole = λ whole. tt;
+  }
+
+  pub published_as : (bytes : List ℕ) (after : Unread) (x : PublishedParts) (result : Result PublishedExtract FeedFault)
+      → BytesSpellPublished allowed max bytes x → IfOk result (IsPublishedOf allowed max bytes)
+      → IfErr result (IsFeedFault Full allowed max bytes after) → IsReadAs published_parts x result
+  published_as bytes after x (Ok y) s ok err = one_published allowed (contents_of bytes) (published_parts y) x ok.spelled.spell s.spell
+  published_as bytes after x (Err f) s ok err =
+      blames_none Full allowed max bytes s.spell.lines (record { spell = s.spell.spelled; within = s.within }) after f err
+
+-- ---- an update
+
+one_update_said : (lines : FeedParts) (p q : UpdateParts) → SayUpdate lines p → SayUpdate lines q → p ≡ q
+one_update_said lines p q s t =
+    ap (λ (v : Header). record p { header = v }) (s.header ∙ sym t.header)
+    ∙ ap (λ (v : ℕ). record p { header = q.header; header_line = v }) (s.header_line ∙ sym t.header_line)
+    ∙ ap (λ (v : List (Change (List ℕ) Tiploc)). record p { header = q.header; header_line = q.header_line; tiplocs = v })
+    (s.tiplocs ∙ sym t.tiplocs)
+    ∙ ap (λ (v : List (Change AssociationKey PublishedAssociation)). record q { associations = v; schedules = p.schedules })
+    (same_triples IsAssociationChange
+    (λ x y z w a b. a.change ∙ ap (change_by y.transaction y.line (x.key, x.first, y.letter))
+    (same_association a.published b.published (a.is.of_profile ∙ sym b.is.of_profile) (a.is.open_end ∙ sym b.is.open_end)) ∙ sym b.change)
+    _ _ p.associations q.associations s.associations t.associations)
+    ∙ ap (λ (v : List (Change ScheduleKey PublishedSchedule)). record q { schedules = v })
+    (same_triples IsScheduleChange
+    (λ x y z w a b. a.change ∙ ap (change_by y.transaction y.line (x.uid, x.first, y.letter))
+    (same_schedule a.published b.published (a.is.of_profile ∙ sym b.is.of_profile) (a.is.open_end ∙ sym b.is.open_end)
+    (a.is.code ∙ sym b.is.code)) ∙ sym b.change) _ _ p.schedules q.schedules s.schedules t.schedules)
+
+pub one_update : (cs : List (List ℕ)) (u v : UpdateParts) → SpellUpdate cs u → SpellUpdate cs v → u ≡ v
+one_update cs u v s t =
+    let same = one_feed feed.Update all_codes 0 cs s.lines t.lines s.spelled.says t.spelled.says in
+    one_update_said s.lines u v s.says (subst (λ l. SayUpdate l v) (sym same) t.says)
+
+module _ (max : ℕ) (allowed : HolidayCodes) (each : allowed ≡ all_codes) where
+  pub reads-update : (f : FeedFault) → HandsOn (reading_feed feed.Update allowed max) (reading_update max) f
+  reads-update f = record {
+    fault = λ bytes after. subst (λ a. IsFeedFault feed.Update a max bytes after f) each;
+    answers = λ h. h;
+    same = refl;
+  }
+
+  pub makes-update : (lines : FeedExtract) (u : Update) → SayUpdate (feed_parts lines) (update_parts u) → u.counts ≡ lines.marks.counts
+      → u.passed ≡ lines.marks.passed
+      → Makes (reading_feed feed.Update allowed max) (reading_update max) lines u
+  makes-update lines u says counts passed = record {
+    answer = λ bytes s. record {
+      spelled = record {
+        spell = record {
+          lines = feed_parts lines;
+          spelled = subst (λ a. SpellFeed feed.Update a (contents_of bytes) (feed_parts lines)) each s.spell;
+          says = says;
+        };
+        within = s.within;
+      };
+      counts = counts ∙ ap (λ (m : MarkParts). m.counts) s.spell.says.marks;
+      passed = passed ∙ ap (λ (m : MarkParts). m.passed) s.spell.says.marks;
+    };
+    whole = λ whole. tt;
+  }
+
+module _ (max : ℕ) (bytes : List ℕ) (after : Unread) (x : UpdateParts) (s : BytesSpellUpdate max bytes x) where
+  pub update_blames_none : (f : FeedFault) → IsFeedFault feed.Update all_codes max bytes after f → IsFailure f
+  update_blames_none =
+      blames_none feed.Update all_codes max bytes s.spell.lines (record { spell = s.spell.spelled; within = s.within }) after
+
+  pub update_as : (result : Result Update FeedFault) → IfOk result (IsUpdateOf max bytes)
+      → IfErr result (IsFeedFault feed.Update all_codes max bytes after) → IsReadAs update_parts x result
+  update_as (Ok u) ok err = one_update (contents_of bytes) (update_parts u) x ok.spelled.spell s.spell
+  update_as (Err f) ok err = update_blames_none f err

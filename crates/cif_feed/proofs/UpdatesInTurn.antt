@@ -1,32 +1,159 @@
--- Updates that are done one after another, in one run or in two.
-use Rattle.std.proofs.Common.{◌≡◌, ◌↔◌, ℕ, ◌≤◌, Bool, List, [], ◌∷◌, ◌++◌, length, Some, refl, sym, ap, ◌∙◌, subst, inr, ⊎_elim}
-use Rattle.std.proofs.Common.{append_assoc, slice_get}
-use Rattle.std.proofs.lemmas.List.{append_cancel_left}
+-- An update that was read is done, or a line of it is refused; and updates are done one after another.
+use Rattle.std.proofs.Common.{◌≡◌, ℕ, ◌==◌, cond, List, [], ◌∷◌, ◌++◌, refl, sym, ap, ◌∙◌, append-nil, append_assoc, Bool, false, Some}
+use Rattle.std.proofs.Common.{Result, Ok, Err, subst, ⊎_elim, slice_get, true≢false, ◌↔◌, ◌≤◌, length, inr}
+use Rattle.cif_feed.specs.Steps.Changes.{last_line, IsDone}
+use Rattle.cif_feed.specs.Updated.{told_once, updating, AreRefusedLines, IsLineRefused, IsUpdateFault, IsUpdated, MayBeDone, refused_header}
+use Rattle.cif_feed.specs.Updated.{IsUpdatedBy}
+use Rattle.cif_feed.specs.declared.changes.RefusedLine.{RefusedLine}
+use Rattle.std.specs.Prelude.{IfOk, MatchResult}
 use Rattle.cif_columns.specs.Contents.{contents_of}
+use Rattle.cif_columns.specs.Source.{Unread}
+use Rattle.cif_extract.proofs.ReadCalls.{HandsOn, Makes, Refuses}
+use Rattle.cif_feed.specs.Changes.{AreRefused, changes_of, with_keys, AreAfter}
+use Rattle.cif_feed.specs.FeedFault.{IsFailure}
+use Rattle.cif_feed.specs.PublishedParts.{PublishedParts, BytesSpellPublished, published_lines, published_text}
+use Rattle.cif_feed.specs.UpdateParts.{IsUpdateOf, reading_update, BytesSpellUpdate, UpdateParts, update_parts}
+use Rattle.cif_feed.specs.declared.changes.Change.{Change}
+use Rattle.cif_feed.specs.declared.feed.FeedFault.{FeedFault}
+use Rattle.cif_feed.specs.declared.feed.FeedFault.TheVariants.{AlreadyThere, NotThere, OutOfSequence}
+use Rattle.cif_feed.specs.declared.update.Outcome.{Outcome}
+use Rattle.cif_feed.specs.declared.update.Update.{Update}
+use Rattle.cif_feed.proofs.ChangeLaws.{refusals-alike, same_alike, after_all-alike}
+use Rattle.cif_feed.proofs.SpelledFeeds.{one_update, update_blames_none, one_published, spelled_first}
+use Rattle.std.proofs.lemmas.List.{append_cancel_left}
 use Rattle.cif_extract.specs.Texts.{FitsColumns}
 use Rattle.cif_extract.proofs.OneExtract.{same_values}
 use Rattle.cif_records.specs.declared.header.Header.{Header}
 use Rattle.cif_records.specs.declared.tiploc.Tiploc.{Tiploc}
-use Rattle.cif_feed.specs.Changes.{AreAfter, changes_of, with_keys}
 use Rattle.cif_feed.specs.HolidayCode.{all_codes}
 use Rattle.cif_feed.specs.OfProfile.{of_profile}
-use Rattle.cif_feed.specs.PublishedParts.{BytesSpellPublished, PublishedParts, published_lines, published_text}
-use Rattle.cif_feed.specs.UpdateParts.{UpdateParts}
-use Rattle.cif_feed.specs.Updated.{AreRefusedLines, IsLineRefused, IsUpdated, IsUpdatedBy}
 use Rattle.cif_feed.specs.UpdatesInTurn.{AreUpdatesDone, IsOneRefused, IsRefused, IsRefusedFor, IsWritten}
-use Rattle.cif_feed.specs.declared.changes.Change.{Change}
-use Rattle.cif_feed.specs.declared.changes.RefusedLine.{RefusedLine}
-use Rattle.cif_feed.specs.declared.feed.Feed.TheVariants.{Update}
-use Rattle.cif_feed.specs.declared.feed.FeedFault.{FeedFault}
-use Rattle.cif_feed.specs.declared.published.PublishedAssociation.{PublishedAssociation}
-use Rattle.cif_feed.specs.declared.published.PublishedSchedule.{PublishedSchedule}
-use Rattle.cif_feed.proofs.ChangeLaws.{after_all-alike, same_alike}
+use Rattle.cif_feed.specs.declared.feed_line.Feed.TheVariants as feed
+use Rattle.cif_feed.specs.declared.published_extract.PublishedAssociation.{PublishedAssociation}
+use Rattle.cif_feed.specs.declared.published_extract.PublishedSchedule.{PublishedSchedule}
 use Rattle.cif_feed.proofs.FittingUpdates.{updated_fits}
 use Rattle.cif_feed.proofs.PublishedTexts.{may_any, published-lines, published-spells, said_fits}
-use Rattle.cif_feed.proofs.SaidPublished.{one_published}
-use Rattle.cif_feed.proofs.SaidUpdate.{one_update}
-use Rattle.cif_feed.proofs.SpelledFeeds.{spelled_first}
-use Rattle.cif_feed.proofs.UpdatesDone.{one_list}
+
+-- ---- lines that are told once
+
+pub last-append : (p : ℕ) (xs ys : List RefusedLine) → last_line p (xs ++ ys) ≡ last_line (last_line p xs) ys
+last-append p [] ys = refl
+last-append p (x ∷ xs) ys = last-append x.line xs ys
+
+pub told-append : (p : ℕ) (xs ys : List RefusedLine) → told_once p (xs ++ ys) ≡ told_once p xs ++ told_once (last_line p xs) ys
+told-append p [] ys = refl
+told-append p (x ∷ xs) ys =
+    ap (λ l. cond (x.line == p) [] (x ∷ []) ++ l) (told-append x.line xs ys)
+    ∙ sym (append_assoc (cond (x.line == p) [] (x ∷ [])) (told_once x.line xs) (told_once (last_line x.line xs) ys))
+
+-- one line more
+pub told-more : (p : ℕ) (xs : List RefusedLine) (x : RefusedLine)
+    → told_once p (xs ++ x ∷ []) ≡ told_once p xs ++ cond (x.line == last_line p xs) [] (x ∷ [])
+told-more p xs x =
+    told-append p xs (x ∷ []) ∙ ap (λ l. told_once p xs ++ l) (append-nil (cond (x.line == last_line p xs) [] (x ∷ [])))
+
+pub last-more : (p : ℕ) (xs : List RefusedLine) (x : RefusedLine) → last_line p (xs ++ x ∷ []) ≡ x.line
+last-more p xs x = last-append p xs (x ∷ [])
+
+-- of three lists
+pub told-three : (xs ys zs : List RefusedLine) → told_once 0 xs ++ (told_once (last_line 0 xs) ys
+    ++ told_once (last_line (last_line 0 xs) ys) zs) ≡ told_once 0 (xs ++ (ys ++ zs))
+told-three xs ys zs =
+    sym (told-append 0 xs (ys ++ zs) ∙ ap (λ l. told_once 0 xs ++ l) (told-append (last_line 0 xs) ys zs))
+
+-- ---- one update
+
+-- there is one list of lines that may not be done
+one_refused : {K R : Type 0} (key : R → K) (old : List R) (changes : List (Change K R)) (p q : List RefusedLine)
+    → AreRefused key old changes p → AreRefused key old changes q → p ≡ q
+one_refused key old changes p q a b =
+    a.are ∙ refusals-alike a.same b.same (same_alike a.same b.same a.tells b.tells) (with_keys key old) (changes_of key changes) ∙ sym b.are
+
+pub one_list : (u : UpdateParts) (old : PublishedParts) (p q : List RefusedLine) → AreRefusedLines u old p → AreRefusedLines u old q → p ≡ q
+one_list u old p q a b =
+    a.are
+    ∙ ap (λ l. refused_header u old ++ told_once 0 (l ++ (a.associations ++ a.schedules)))
+    (one_refused _ old.tiplocs u.tiplocs a.tiplocs b.tiplocs a.of_tiplocs b.of_tiplocs)
+    ∙ ap (λ l. refused_header u old ++ told_once 0 (b.tiplocs ++ (l ++ a.schedules)))
+    (one_refused _ old.associations u.associations a.associations b.associations a.of_associations b.of_associations)
+    ∙ ap (λ l. refused_header u old ++ told_once 0 (b.tiplocs ++ (b.associations ++ l)))
+    (one_refused _ old.schedules u.schedules a.schedules b.schedules a.of_schedules b.of_schedules) ∙ sym b.are
+
+module _ (lenient : Bool) (max : ℕ) (old new : PublishedParts) where
+  pub reads-updating : (f : FeedFault) → HandsOn (reading_update max) (updating lenient old new max) f
+  reads-updating (OutOfSequence line) = record { fault = λ bytes after h. absurd h; answers = λ h. tt; same = refl }
+  reads-updating (NotThere line) = record { fault = λ bytes after h. absurd h; answers = λ h. tt; same = refl }
+  reads-updating (AlreadyThere line) = record { fault = λ bytes after h. absurd h; answers = λ h. tt; same = refl }
+  reads-updating _ = record { fault = λ bytes after h. h; answers = λ h. h; same = refl }
+
+  line_refused : (u : Update) (waived : List RefusedLine) → AreRefusedLines (update_parts u) old waived → (line : RefusedLine)
+      → (lenient ≡ false) × (slice_get waived 0 ≡ Some line) → (bytes : List ℕ) → IsUpdateOf max bytes u
+      → IsLineRefused lenient old max bytes line
+  line_refused u waived refused line is bytes h = record {
+    strict = is.0;
+    update = update_parts u;
+    spelled = h.spelled;
+    lines = waived;
+    refused = refused;
+    first = is.1;
+  }
+
+  -- an update that was read is done, or a line of it is refused
+  pub updates : (u : Update) (waived : List RefusedLine) → IsUpdated (update_parts u) old new
+      → AreRefusedLines (update_parts u) old waived → (result : Result Outcome FeedFault) → IsDone lenient waived result
+      → IfOk result (λ done. (done.counts ≡ u.counts) × (done.passed ≡ u.passed))
+      → MatchResult result (Makes (reading_update max) (updating lenient old new max) u)
+      (Refuses (reading_update max) (updating lenient old new max) u)
+  updates u waived updated refused (Ok done) is said = record {
+    answer = λ bytes h. record {
+      done = record {
+        update = update_parts u;
+        spelled = h.spelled;
+        updated = updated;
+        refused = subst (AreRefusedLines (update_parts u) old) (sym is.0) refused;
+        strict = λ strict. is.0 ∙ is.1 strict;
+      };
+      counts = said.0 ∙ h.counts;
+      passed = said.1 ∙ h.passed;
+    };
+    whole = λ whole. tt;
+  }
+  updates u waived updated refused (Err (OutOfSequence line)) is said = record {
+    fault = λ bytes after. line_refused u waived refused _ is bytes;
+    answers = tt;
+    other = refl;
+  }
+  updates u waived updated refused (Err (NotThere line)) is said = record {
+    fault = λ bytes after. line_refused u waived refused _ is bytes;
+    answers = tt;
+    other = refl;
+  }
+  updates u waived updated refused (Err (AlreadyThere line)) is said = record {
+    fault = λ bytes after. line_refused u waived refused _ is bytes;
+    answers = tt;
+    other = refl;
+  }
+  updates u waived updated refused (Err _) is said = absurd is
+
+-- an update that may be done isn't refused
+module _ (lenient : Bool) (max : ℕ) (old : PublishedParts) (bytes : List ℕ) (after : Unread) (u : UpdateParts)
+    (s : BytesSpellUpdate max bytes u) (may : MayBeDone lenient old u) where
+  refused_no : (line : RefusedLine) → IsLineRefused lenient old max bytes line → ⊥
+  refused_no line h = ⊎_elim
+      (λ is. true≢false (sym is ∙ h.strict))
+      (λ none.
+      let same = one_update (contents_of bytes) u h.update s.spell h.spelled.spell in
+      let empty : h.lines ≡ [] = one_list h.update old h.lines [] h.refused (subst (λ w. AreRefusedLines w old []) same none) in
+      let no : slice_get [] 0 ≡ Some line = sym (ap (λ l. slice_get l 0) empty) ∙ h.first in cc)
+      may
+
+  pub updated_blames_none : (f : FeedFault) → IsUpdateFault lenient old max bytes after f → IsFailure f
+  updated_blames_none (OutOfSequence line) h = absurd (refused_no _ h)
+  updated_blames_none (NotThere line) h = absurd (refused_no _ h)
+  updated_blames_none (AlreadyThere line) h = absurd (refused_no _ h)
+  updated_blames_none f h = update_blames_none max bytes after u s f h
+
+-- ---- one after another
 
 -- ---- what is done
 
@@ -130,7 +257,7 @@ module _ (lenient : Bool) (max : ℕ) where
       → IsUpdatedBy lenient old max u new w → IsRefusedFor lenient max old u fault → ⊥
   not_both old u new w fault done refused = ⊎_elim
       (λ first. let s = done.spelled in
-      spelled_first Update all_codes max (contents_of u) s.spell.lines s.within fault s.spell.spelled first)
+      spelled_first feed.Update all_codes max (contents_of u) s.spell.lines s.within fault s.spell.spelled first)
       (λ some. by some.0 some.1)
       refused
     where

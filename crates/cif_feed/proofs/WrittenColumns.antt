@@ -4,7 +4,7 @@ use Rattle.std.proofs.lemmas.List.{drop-drop}
 use Rattle.std.proofs.lemmas.List.Elements.{All-append, All-drop, All-take}
 use borrow.Rule.Slice.PartMut.{put_mid}
 use Rattle.cif_columns.specs.Line.{ArePrintable, IsPrintable}
-use Rattle.cif_feed.specs.PublishedParts.{with_columns}
+use Rattle.cif_feed.specs.WrittenOver.{with_columns}
 
 pub printable-written : (from many : ℕ) (line columns : List ℕ) → ArePrintable line → ArePrintable columns
     → ArePrintable (put_mid from many line columns)

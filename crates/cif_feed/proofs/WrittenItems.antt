@@ -22,7 +22,7 @@ use Rattle.cif_feed.specs.PreparedParts.{association_on, prepared_parts, schedul
 use Rattle.cif_feed.specs.PublishedParts.{PublishedParts, published_association_line, published_schedule_lines, published_text}
 use Rattle.cif_feed.specs.Steps.Written.{prepared_association_text, prepared_schedule_text, head_text, published_association_text}
 use Rattle.cif_feed.specs.Steps.Written.{published_schedule_text, records_text, tiploc_text, trailer_text}
-use Rattle.cif_feed.specs.declared.prepared_record.PreparedRecord.{PreparedRecord}
+use Rattle.cif_feed.specs.declared.parts.PreparedRecord.{PreparedRecord}
 use Rattle.cif_feed.specs.declared.published_extract.PublishedExtract.{PublishedExtract}
 
 -- ---- one text more

@@ -21,12 +21,12 @@ use Rattle.cif_feed.specs.PublishedParts.{reading_published}
 use Rattle.cif_feed.specs.WrittenPrepared.{FeedWrites, IsDeviceOrMemory, IsPrepareFault, IsPreparedAs, IsPreparedText}
 use Rattle.cif_feed.specs.WrittenPrepared.{Prepares, WritesPrepared, codes_named}
 use Rattle.cif_feed.specs.declared.dropped.Dropped.{Dropped}
-use Rattle.cif_feed.specs.declared.feed.Feed.TheVariants.{Full}
+use Rattle.cif_feed.specs.declared.feed_line.Feed.TheVariants.{Full}
 use Rattle.cif_feed.specs.declared.feed.FeedFault.{FeedFault}
 use Rattle.cif_feed.specs.declared.feed.FeedFault.TheVariants.{Extract}
-use Rattle.cif_feed.specs.declared.holiday_code.HolidayCode.TheVariants.{X, E, G}
-use Rattle.cif_feed.specs.declared.holiday_code.HolidayCode.{HolidayCode}
-use Rattle.cif_feed.specs.declared.holiday_code.HolidayCodes.{HolidayCodes}
+use Rattle.cif_feed.specs.declared.holidays.HolidayCode.TheVariants.{X, E, G}
+use Rattle.cif_feed.specs.declared.holidays.HolidayCode.{HolidayCode}
+use Rattle.cif_feed.specs.declared.holidays.HolidayCodes.{HolidayCodes}
 use Rattle.cif_feed.specs.declared.holidays.Holidays.{Holidays}
 use Rattle.cif_feed.specs.declared.published_extract.PublishedExtract.{PublishedExtract}
 use Rattle.cif_feed.proofs.ChangeLaws.{bools}

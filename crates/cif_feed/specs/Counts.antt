@@ -1,11 +1,11 @@
 -- How many lines of a feed do what, by their columns.
-use Rattle.std.specs.Prelude.{ℕ, Bool, true, false, not, ◌&&◌, List, Option, Some, None, filter, length, slice_index}
+use Rattle.std.specs.Prelude.{ℕ, Bool, true, false, not, ◌&&◌, List, Option, Some, None, filter, length}
 use Rattle.cif_records.specs.Kind.{kind_in}
 use Rattle.cif_records.specs.declared.record.Kind.{Kind}
 use Rattle.cif_records.specs.declared.record.Kind.TheVariants.{Ti, Ta, Td, Aa, Bs}
-use Rattle.cif_feed.specs.FeedLine.{is_open}
+use Rattle.cif_feed.specs.FeedLine.{column, is_open}
 use Rattle.cif_feed.specs.Transaction.{transaction_in}
-use Rattle.cif_feed.specs.declared.counts.UpdateCounts.{UpdateCounts}
+use Rattle.cif_feed.specs.declared.mark.UpdateCounts.{UpdateCounts}
 use Rattle.cif_feed.specs.declared.mark.Transaction.{Transaction}
 use Rattle.cif_feed.specs.declared.mark.Transaction.TheVariants.{New, Revised, Deleted}
 
@@ -14,8 +14,8 @@ abbrev pub transaction_as : Option Kind → List ℕ → Option Transaction
 transaction_as (Some Ti) line = Some New
 transaction_as (Some Ta) line = Some Revised
 transaction_as (Some Td) line = Some Deleted
-transaction_as (Some Aa) line = transaction_in (slice_index line 2)
-transaction_as (Some Bs) line = transaction_in (slice_index line 2)
+transaction_as (Some Aa) line = transaction_in (column 3 line)
+transaction_as (Some Bs) line = transaction_in (column 3 line)
 transaction_as kind line = None
 
 abbrev pub is_new : Option Transaction → Bool
@@ -32,8 +32,8 @@ is_deleted transaction = false
 
 -- whether the end of an AA, or of a BS, is open; of one that is deleted it isn't read
 abbrev pub ends_open : Option Kind → List ℕ → Bool
-ends_open (Some Aa) line = is_open 22 line && not (is_deleted (transaction_in (slice_index line 2)))
-ends_open (Some Bs) line = is_open 16 line && not (is_deleted (transaction_in (slice_index line 2)))
+ends_open (Some Aa) line = is_open 22 line && not (is_deleted (transaction_in (column 3 line)))
+ends_open (Some Bs) line = is_open 16 line && not (is_deleted (transaction_in (column 3 line)))
 ends_open kind line = false
 
 -- the counts of these contents

@@ -8,11 +8,11 @@ use Rattle.cif_extract.specs.ReadFault.{IsLineNumber, is_read}
 use Rattle.cif_extract.specs.declared.fault.Fault.TheVariants.{Refused, Read, Memory}
 use Rattle.cif_feed.specs.FeedRefusal.{IsFeedContent, IsFeedCut, IsFirstOfFeed}
 use Rattle.cif_feed.specs.SpellsFeed.{BytesSpellFeed, feed_parts}
-use Rattle.cif_feed.specs.declared.feed.Feed.{Feed}
+use Rattle.cif_feed.specs.declared.feed_line.Feed.{Feed}
 use Rattle.cif_feed.specs.declared.feed.FeedFault.{FeedFault}
 use Rattle.cif_feed.specs.declared.feed.FeedFault.TheVariants.{BadHoliday, BadTransaction, Extract, NotUpdate}
 use Rattle.cif_feed.specs.declared.feed_reading.FeedExtract.{FeedExtract}
-use Rattle.cif_feed.specs.declared.holiday_code.HolidayCodes.{HolidayCodes}
+use Rattle.cif_feed.specs.declared.holidays.HolidayCodes.{HolidayCodes}
 use Rattle.cif_feed.specs.declared.holiday_text.HolidayFault.{HolidayFault}
 use Rattle.cif_feed.specs.declared.holiday_text.HolidayFault.TheVariants as holiday
 

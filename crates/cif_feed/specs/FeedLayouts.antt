@@ -3,8 +3,8 @@ use Rattle.cif_extract.specs.Layouts.{Layouts}
 use Rattle.cif_records.specs.Kind.{kind_in}
 use Rattle.cif_feed.specs.FeedLine.{SpellsInFeed, cancels_in_feed}
 use Rattle.cif_feed.specs.LayoutRefusals.{feed_refusal_as, kind_read_as}
-use Rattle.cif_feed.specs.declared.feed.Feed.{Feed}
-use Rattle.cif_feed.specs.declared.holiday_code.HolidayCodes.{HolidayCodes}
+use Rattle.cif_feed.specs.declared.feed_line.Feed.{Feed}
+use Rattle.cif_feed.specs.declared.holidays.HolidayCodes.{HolidayCodes}
 
 -- how its lines spell records, where these holiday codes may stand
 abbrev pub feed_layouts : Feed → HolidayCodes → Layouts

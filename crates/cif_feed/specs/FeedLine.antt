@@ -1,5 +1,5 @@
--- What a line of a feed spells: a record, and its mark, which is what the record has no place for. The lines are laid out as those of this
--- profile, but for what feeds have otherwise: transactions, open ends, holiday codes, and TA and TD.
+-- Which record a line of a feed spells. The lines are laid out as those of this profile, but for what feeds have otherwise: transactions,
+-- open ends, holiday codes, and TA and TD.
 use Rattle.std.specs.Prelude.{◌≡◌, ℕ, ◌||◌, Bool, true, false, List, [], ◌∷◌, ◌++◌, Option, Some, None, IsTrue, codes, replicate}
 use Rattle.std.specs.Prelude.{slice_index, unwrap_or, if◌then◌else◌}
 use Rattle.std.specs.Option.{option_map}
@@ -24,24 +24,21 @@ use Rattle.cif_records.specs.declared.basic.Basic.{Basic}
 use Rattle.cif_records.specs.declared.basic.BasicTerms.{BasicTerms}
 use Rattle.cif_records.specs.declared.detail.Detail.{Detail}
 use Rattle.cif_records.specs.declared.record.Kind.{Kind}
-use Rattle.cif_records.specs.declared.record.Kind.TheVariants.{Ti, Ta, Td, Aa, Bs}
+use Rattle.cif_records.specs.declared.record.Kind.TheVariants.{Ta, Td}
 use Rattle.cif_records.specs.declared.record.Record.{Record}
 use Rattle.cif_records.specs.declared.record.Record.TheVariants as of
 use Rattle.cif_records.specs.declared.tiploc.Tiploc.{Tiploc}
 use Rattle.cif_feed.specs.HolidayCode.{code_in, has_code, letter}
 use Rattle.cif_feed.specs.LastDay.{last_day}
 use Rattle.cif_feed.specs.Transaction.{transaction_in, transaction_letter}
-use Rattle.cif_feed.specs.declared.feed.Feed.{Feed}
-use Rattle.cif_feed.specs.declared.feed.Feed.TheVariants.{Full, Update}
-use Rattle.cif_feed.specs.declared.holiday_code.HolidayCode.{HolidayCode}
-use Rattle.cif_feed.specs.declared.holiday_code.HolidayCodes.{HolidayCodes}
-use Rattle.cif_feed.specs.declared.mark.LineMark.{LineMark}
-use Rattle.cif_feed.specs.declared.mark.LineMark.TheVariants as mark
-use Rattle.cif_feed.specs.declared.mark.RecordMark.{RecordMark}
+use Rattle.cif_feed.specs.declared.feed_line.Feed.{Feed}
+use Rattle.cif_feed.specs.declared.feed_line.Feed.TheVariants.{Full, Update}
+use Rattle.cif_feed.specs.declared.holidays.HolidayCode.{HolidayCode}
+use Rattle.cif_feed.specs.declared.holidays.HolidayCodes.{HolidayCodes}
 use Rattle.cif_feed.specs.declared.mark.Transaction.{Transaction}
-use Rattle.cif_feed.specs.declared.mark.Transaction.TheVariants.{New, Revised, Deleted}
-use Rattle.cif_feed.specs.declared.published.PublishedAssociation.{PublishedAssociation}
-use Rattle.cif_feed.specs.declared.published.PublishedSchedule.{PublishedSchedule}
+use Rattle.cif_feed.specs.declared.mark.Transaction.TheVariants.{New, Deleted}
+use Rattle.cif_feed.specs.declared.published_extract.PublishedAssociation.{PublishedAssociation}
+use Rattle.cif_feed.specs.declared.published_extract.PublishedSchedule.{PublishedSchedule}
 
 -- ---- what columns say
 
@@ -179,32 +176,3 @@ deletes transaction = false
 
 abbrev pub cancels_in_feed : Feed → List ℕ → Bool
 cancels_in_feed feed line = deletes (transaction_at feed line) || cancels line
-
--- ---- the mark
-
--- of a TI, a TA or a TD
-abbrev pub tiploc_mark_of : Transaction → List ℕ → LineMark
-tiploc_mark_of transaction line = mark.Tiploc (record { transaction = transaction; tiploc = columns 3 9 line })
-
--- Of an AA or a BS whose last date is in the columns from this one on. A line without a transaction is refused; of a deletion the
--- transaction and the letter say something alone.
-abbrev pub record_mark : Option Transaction → ℕ → Option HolidayCode → List ℕ → RecordMark
-record_mark transaction last code line = record {
-  transaction = unwrap_or transaction New;
-  letter = letter_of line;
-  open_end = is_open last line;
-  code = code;
-}
-
--- of a line of this kind
-abbrev pub mark_by : Feed → HolidayCodes → Option Kind → List ℕ → LineMark
-mark_by feed allowed (Some Ti) line = tiploc_mark_of New line
-mark_by feed allowed (Some Ta) line = tiploc_mark_of Revised line
-mark_by feed allowed (Some Td) line = tiploc_mark_of Deleted line
-mark_by feed allowed (Some Aa) line = mark.Association (record_mark (transaction_at feed line) 22 None line)
-mark_by feed allowed (Some Bs) line = mark.Schedule (record_mark (transaction_at feed line) 16 (code_of allowed line) line)
-mark_by feed allowed kind line = mark.Nothing
-
--- the mark of a line
-abbrev pub mark_in : Feed → HolidayCodes → List ℕ → LineMark
-mark_in feed allowed line = mark_by feed allowed (kind_in line) line

@@ -14,7 +14,7 @@ use Rattle.cif_extract.specs.ReadFault.{IsLineNumber}
 use Rattle.cif_feed.specs.HolidayCode.{letter}
 use Rattle.cif_feed.specs.Holidays.{Names, IsHoliday}
 use Rattle.cif_feed.specs.Words.{words_in}
-use Rattle.cif_feed.specs.declared.holiday_code.HolidayCode.{HolidayCode}
+use Rattle.cif_feed.specs.declared.holidays.HolidayCode.{HolidayCode}
 use Rattle.cif_feed.specs.declared.holiday_text.HolidayFault.{HolidayFault}
 use Rattle.cif_feed.specs.declared.holiday_text.HolidayFault.TheVariants.{BadHoliday, Read, Memory}
 use Rattle.cif_feed.specs.declared.holidays.Holidays.{Holidays}

@@ -10,9 +10,9 @@ use Rattle.cif_records.specs.Record.{refusal_as}
 use Rattle.cif_records.specs.declared.record.Kind.{Kind}
 use Rattle.cif_records.specs.declared.record.Kind.TheVariants.{Hd, Ti, Ta, Td, Aa, Bs}
 use Rattle.cif_feed.specs.FeedLine.{code_of, indicator_of, transaction_at}
-use Rattle.cif_feed.specs.declared.feed.Feed.{Feed}
-use Rattle.cif_feed.specs.declared.feed.Feed.TheVariants.{Update}
-use Rattle.cif_feed.specs.declared.holiday_code.HolidayCodes.{HolidayCodes}
+use Rattle.cif_feed.specs.declared.feed_line.Feed.{Feed}
+use Rattle.cif_feed.specs.declared.feed_line.Feed.TheVariants.{Update}
+use Rattle.cif_feed.specs.declared.holidays.HolidayCodes.{HolidayCodes}
 use Rattle.cif_feed.specs.declared.mark.Transaction.{Transaction}
 use Rattle.cif_feed.specs.declared.mark.Transaction.TheVariants.{Deleted}
 

@@ -15,6 +15,7 @@ pub mod Holidays
 pub mod Judged
 pub mod LastDay
 pub mod LayoutRefusals
+pub mod Marks
 pub mod OfProfile
 pub mod PublishedParts
 pub mod Parts
@@ -36,4 +37,5 @@ pub mod Updated
 pub mod UpdatesInTurn
 pub mod Words
 pub mod WrittenExtracts
+pub mod WrittenOver
 pub mod WrittenPrepared

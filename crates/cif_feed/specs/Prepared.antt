@@ -7,7 +7,7 @@ use Rattle.cif_calendar.specs.Wins.{Wins}
 use Rattle.cif_feed.specs.LastDay.{last_day}
 use Rattle.cif_feed.specs.Parts.{AreParts, Part, ended}
 use Rattle.cif_feed.specs.Published.{PublishedTerms}
-use Rattle.cif_feed.specs.declared.holiday_code.HolidayCode.{HolidayCode}
+use Rattle.cif_feed.specs.declared.holidays.HolidayCode.{HolidayCode}
 
 -- The last day of a record in a prepared extract, by the last day of the window: an open end becomes the later of that and of the first
 -- day.

@@ -4,7 +4,7 @@ use Rattle.cif_calendar.specs.Applies.{Applies}
 use Rattle.cif_calendar.specs.ClashDates.{IsClashBetween}
 use Rattle.cif_calendar.specs.Terms.{Terms}
 use Rattle.cif_feed.specs.Holidays.{IsHoliday}
-use Rattle.cif_feed.specs.declared.holiday_code.HolidayCode.{HolidayCode}
+use Rattle.cif_feed.specs.declared.holidays.HolidayCode.{HolidayCode}
 use Rattle.cif_feed.specs.declared.holidays.Holidays.{Holidays}
 
 -- What the rules read of a published record: its terms as a record of this profile, in which an open end is the last day that there is;

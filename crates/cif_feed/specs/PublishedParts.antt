@@ -1,6 +1,5 @@
 -- What a published extract holds, when bytes spell it, and its text.
-use Rattle.std.specs.Prelude.{◌≡◌, ℕ, ◌+◌, ◌-◌, ◌≤◌, List, [], ◌∷◌, ◌++◌, map, length, take, drop, codes, Bool, if◌then◌else◌}
-use Rattle.std.specs.Prelude.{Option, Some, None}
+use Rattle.std.specs.Prelude.{◌≡◌, ℕ, ◌≤◌, List, [], ◌∷◌, ◌++◌, None, map, length}
 use Rattle.std.specs.List.{flat_map}
 use Rattle.cif_columns.specs.Contents.{contents_of, lines_text}
 use Rattle.cif_columns.specs.Field.{plain_line}
@@ -18,17 +17,16 @@ use Rattle.cif_records.specs.declared.header.Header.{Header}
 use Rattle.cif_records.specs.declared.tiploc.Tiploc.{Tiploc}
 use Rattle.cif_feed.specs.FeedFault.{IsFeedFault, IsOfFeed, is_feed_read}
 use Rattle.cif_feed.specs.FromLines.{AreTriples}
-use Rattle.cif_feed.specs.HolidayCode.{letter}
+use Rattle.cif_feed.specs.Marks.{passed_of}
 use Rattle.cif_feed.specs.Published.{PublishedTerms}
-use Rattle.cif_feed.specs.SpellsFeed.{FeedParts, SpellFeed, passed_of}
-use Rattle.cif_feed.specs.declared.feed.Feed.TheVariants.{Full}
+use Rattle.cif_feed.specs.SpellsFeed.{FeedParts, SpellFeed}
+use Rattle.cif_feed.specs.WrittenOver.{with_code, with_open_end}
+use Rattle.cif_feed.specs.declared.feed_line.Feed.TheVariants.{Full}
 use Rattle.cif_feed.specs.declared.feed.FeedFault.{FeedFault}
-use Rattle.cif_feed.specs.declared.holiday_code.HolidayCode.{HolidayCode}
-use Rattle.cif_feed.specs.declared.holiday_code.HolidayCodes.{HolidayCodes}
-use Rattle.cif_feed.specs.declared.mark.Numbered.{Numbered}
+use Rattle.cif_feed.specs.declared.holidays.HolidayCodes.{HolidayCodes}
 use Rattle.cif_feed.specs.declared.mark.RecordMark.{RecordMark}
-use Rattle.cif_feed.specs.declared.published.PublishedAssociation.{PublishedAssociation}
-use Rattle.cif_feed.specs.declared.published.PublishedSchedule.{PublishedSchedule}
+use Rattle.cif_feed.specs.declared.published_extract.PublishedAssociation.{PublishedAssociation}
+use Rattle.cif_feed.specs.declared.published_extract.PublishedSchedule.{PublishedSchedule}
 use Rattle.cif_feed.specs.declared.published_extract.PublishedExtract.{PublishedExtract}
 
 -- the header, and the other records in their order and with repeats
@@ -50,21 +48,21 @@ published_parts x = record {
 -- ---- what contents spell
 
 -- The published association is this one, with what its line says of its end; and so is the schedule, with its code.
-pub record IsPublishedAssociation (r : Association) (m : Numbered RecordMark) (a : PublishedAssociation) : Type 0 where
+pub record IsPublishedAssociation (r : Association) (m : RecordMark) (a : PublishedAssociation) : Type 0 where
   pub of_profile : a.association ≡ r
-  pub open_end : a.open_end ≡ m.mark.open_end
+  pub open_end : a.open_end ≡ m.open_end
 
-pub record IsPublishedSchedule (r : Schedule) (m : Numbered RecordMark) (s : PublishedSchedule) : Type 0 where
+pub record IsPublishedSchedule (r : Schedule) (m : RecordMark) (s : PublishedSchedule) : Type 0 where
   pub of_profile : s.schedule ≡ r
-  pub open_end : s.open_end ≡ m.mark.open_end
-  pub code : s.code ≡ m.mark.code
+  pub open_end : s.open_end ≡ m.open_end
+  pub code : s.code ≡ m.code
 
 -- The lines say a published extract of these parts.
 pub record SayPublished (lines : FeedParts) (p : PublishedParts) : Type 0 where
   pub header : p.header ≡ lines.extract.header
   pub tiplocs : p.tiplocs ≡ lines.extract.tiplocs
-  pub associations : AreTriples IsPublishedAssociation lines.extract.associations lines.association_marks p.associations
-  pub schedules : AreTriples IsPublishedSchedule lines.extract.schedules lines.schedule_marks p.schedules
+  pub associations : AreTriples IsPublishedAssociation lines.extract.associations lines.marks.associations p.associations
+  pub schedules : AreTriples IsPublishedSchedule lines.extract.schedules lines.marks.schedules p.schedules
 
 -- The contents spell a published extract of these parts.
 pub record SpellPublished (allowed : HolidayCodes) (contents : List (List ℕ)) (p : PublishedParts) : Type 0 where
@@ -93,19 +91,6 @@ abbrev pub published_schedules : List PublishedSchedule → List (List ℕ × Pu
 published_schedules schedules = map (λ (s : PublishedSchedule). (s.schedule.uid, published_schedule_terms s)) schedules
 
 -- ---- its text
-
--- the line with these columns, from the one of this number on, in place of its own
-unfoldable pub with_columns : ℕ → List ℕ → List ℕ → List ℕ
-with_columns first columns line = take (first - 1) line ++ (columns ++ drop (first - 1 + length columns) line)
-
--- the line, with an open end in the six columns from the one of this number on
-abbrev pub with_open_end : Bool → ℕ → List ℕ → List ℕ
-with_open_end open_end first line = if open_end then with_columns first (codes "999999") line else line
-
--- the line, with a holiday code in column 29
-abbrev pub with_code : Option HolidayCode → List ℕ → List ℕ
-with_code None line = line
-with_code (Some code) line = with_columns 29 (letter code ∷ []) line
 
 -- the lines of an association, and of a schedule: plain but for an open end and a code
 abbrev pub published_association_line : PublishedAssociation → List ℕ

@@ -1,20 +1,12 @@
--- Which contents of a feed say a record, and what the lines of records say beyond it: their marks.
-use Rattle.std.specs.Prelude.{ℕ, Bool, true, false, not, ◌&&◌, ◌||◌, List, [], ◌∷◌, Option, Some, filter, codes}
-use Rattle.std.specs.List.{enumerate_from, flat_map, list_any}
+-- Which contents of a feed say a record, and which are lines of a kind.
+use Rattle.std.specs.Prelude.{ℕ, Bool, true, false, not, ◌&&◌, ◌||◌, List, Option, Some, filter, codes}
+use Rattle.std.specs.List.{enumerate_from, list_any}
 use Rattle.cif_columns.specs.Comment.{is_comment}
 use Rattle.cif_columns.specs.Field.{columns}
 use Rattle.cif_records.specs.Checks.{are}
 use Rattle.cif_records.specs.Kind.{kind_in}
 use Rattle.cif_records.specs.declared.record.Kind.{Kind}
-use Rattle.cif_records.specs.declared.record.Kind.TheVariants.{Hd, Bs, Zz}
-use Rattle.cif_feed.specs.FeedLine.{mark_in}
-use Rattle.cif_feed.specs.declared.feed.Feed.{Feed}
-use Rattle.cif_feed.specs.declared.holiday_code.HolidayCodes.{HolidayCodes}
-use Rattle.cif_feed.specs.declared.mark.LineMark.{LineMark}
-use Rattle.cif_feed.specs.declared.mark.LineMark.TheVariants as mark
-use Rattle.cif_feed.specs.declared.mark.Numbered.{Numbered}
-use Rattle.cif_feed.specs.declared.mark.RecordMark.{RecordMark}
-use Rattle.cif_feed.specs.declared.mark.TiplocMark.{TiplocMark}
+use Rattle.cif_records.specs.declared.record.Kind.TheVariants.{Hd, Ti, Ta, Td, Aa, Bs, Zz}
 
 -- the kinds of a note, TN and LN; no more of it is read
 abbrev pub is_note : List ℕ → Bool
@@ -28,10 +20,20 @@ is_record_line content = not (is_comment content) && not (is_note content)
 abbrev pub record_lines : List (List ℕ) → List (List ℕ)
 record_lines contents = filter is_record_line contents
 
--- the kind of a header, of a BS, and of a trailer
+-- the kind of a header, the kinds TI, TA and TD, the kind of an AA, of a BS, and of a trailer
 abbrev pub is_header : Option Kind → Bool
 is_header (Some Hd) = true
 is_header kind = false
+
+abbrev pub is_of_tiploc : Option Kind → Bool
+is_of_tiploc (Some Ti) = true
+is_of_tiploc (Some Ta) = true
+is_of_tiploc (Some Td) = true
+is_of_tiploc kind = false
+
+abbrev pub is_association : Option Kind → Bool
+is_association (Some Aa) = true
+is_association kind = false
 
 abbrev pub is_basic : Option Kind → Bool
 is_basic (Some Bs) = true
@@ -46,21 +48,6 @@ abbrev pub notes_may_stand : List (List ℕ) → Bool
 notes_may_stand contents =
     list_any (λ content. is_basic (kind_in content)) contents && not (list_any (λ content. is_trailer (kind_in content)) contents)
 
--- the mark of a line of this number: of locations, of associations, and of the BS of schedules
-abbrev pub tiploc_mark : ℕ → LineMark → List (Numbered TiplocMark)
-tiploc_mark number (mark.Tiploc m) = record { number = number; mark = m } ∷ []
-tiploc_mark number m = []
-
-abbrev pub association_mark : ℕ → LineMark → List (Numbered RecordMark)
-association_mark number (mark.Association m) = record { number = number; mark = m } ∷ []
-association_mark number m = []
-
-abbrev pub schedule_mark : ℕ → LineMark → List (Numbered RecordMark)
-schedule_mark number (mark.Schedule m) = record { number = number; mark = m } ∷ []
-schedule_mark number m = []
-
--- The marks of the contents, with their numbers from 1: every content counts.
-abbrev pub marks : {A : Type 0} → (ℕ → LineMark → List A) → Feed → HolidayCodes → List (List ℕ) → List A
-marks of_mark feed allowed contents = flat_map
-    (λ (numbered : ℕ × List ℕ). of_mark numbered.0 (mark_in feed allowed numbered.1))
-    (filter (λ (numbered : ℕ × List ℕ). is_record_line numbered.1) (enumerate_from 1 contents))
+-- the lines of some kinds, with their numbers from 1: every content counts
+abbrev pub lines_of : (Option Kind → Bool) → List (List ℕ) → List (ℕ × List ℕ)
+lines_of is contents = filter (λ (line : ℕ × List ℕ). is (kind_in line.1)) (enumerate_from 1 contents)

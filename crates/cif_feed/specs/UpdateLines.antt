@@ -1,35 +1,22 @@
 -- What the lines of an update say, by their columns as the layouts have them.
-use Rattle.std.specs.Prelude.{◌≡◌, ℕ, Bool, true, false, List, [], ◌∷◌, ◌++◌, Option, Some, filter}
-use Rattle.std.specs.List.{enumerate_from}
+use Rattle.std.specs.Prelude.{◌≡◌, ℕ, List, [], ◌∷◌, ◌++◌}
 use Rattle.cif_columns.specs.Field.{AllStandIn, Row}
 use Rattle.cif_records.specs.Kind.{kind_in}
-use Rattle.cif_records.specs.declared.record.Kind.{Kind}
-use Rattle.cif_records.specs.declared.record.Kind.TheVariants.{Ti, Ta, Td, Aa}
 use Rattle.cif_records.specs.declared.record.Record.TheVariants as of
 use Rattle.cif_records.specs.declared.tiploc.Tiploc.{Tiploc}
-use Rattle.cif_feed.specs.FeedLine.{SpellsInFeed, deleted_association_rows, deleted_basic_rows, mark_in, published_association_rows}
+use Rattle.cif_feed.specs.FeedLine.{SpellsInFeed, deleted_association_rows, deleted_basic_rows, published_association_rows}
 use Rattle.cif_feed.specs.FeedLine.{published_basic_rows}
 use Rattle.cif_feed.specs.HolidayCode.{all_codes}
-use Rattle.cif_feed.specs.UpdateParts.{AssociationKey, ScheduleKey, tiploc_changes_by}
+use Rattle.cif_feed.specs.Marks.{tiploc_mark}
+use Rattle.cif_feed.specs.UpdateParts.{AssociationKey, ScheduleKey, tiploc_changes_of}
 use Rattle.cif_feed.specs.declared.changes.Action.{Action}
 use Rattle.cif_feed.specs.declared.changes.Action.TheVariants.{New, Revised, Deleted}
 use Rattle.cif_feed.specs.declared.changes.Change.{Change}
-use Rattle.cif_feed.specs.declared.feed.Feed.TheVariants.{Update}
-use Rattle.cif_feed.specs.declared.mark.LineMark.TheVariants as mark
-use Rattle.cif_feed.specs.declared.mark.TiplocMark.{TiplocMark}
+use Rattle.cif_feed.specs.declared.feed_line.Feed.TheVariants.{Update}
 use Rattle.cif_feed.specs.declared.mark.Transaction.{Transaction}
 use Rattle.cif_feed.specs.declared.mark.Transaction.TheVariants as transaction
-use Rattle.cif_feed.specs.declared.published.PublishedAssociation.{PublishedAssociation}
-use Rattle.cif_feed.specs.declared.published.PublishedSchedule.{PublishedSchedule}
-
--- the kind of an AA
-abbrev pub is_association : Option Kind → Bool
-is_association (Some Aa) = true
-is_association kind = false
-
--- the lines of some kinds, with their numbers from 1: every content counts
-abbrev pub lines_of : (Option Kind → Bool) → List (List ℕ) → List (ℕ × List ℕ)
-lines_of is contents = filter (λ (line : ℕ × List ℕ). is (kind_in line.1)) (enumerate_from 1 contents)
+use Rattle.cif_feed.specs.declared.published_extract.PublishedAssociation.{PublishedAssociation}
+use Rattle.cif_feed.specs.declared.published_extract.PublishedSchedule.{PublishedSchedule}
 
 -- ---- associations and schedules
 
@@ -54,21 +41,12 @@ SaysSchedule = SaysChange (action_rows published_basic_rows (λ k. deleted_basic
 
 -- ---- locations
 
--- the kinds TI, TA and TD
-abbrev pub is_of_tiploc : Option Kind → Bool
-is_of_tiploc (Some Ti) = true
-is_of_tiploc (Some Ta) = true
-is_of_tiploc (Some Td) = true
-is_of_tiploc kind = false
-
 -- A TI puts the location that it spells, of its columns 3 to 72. A TA amends that of its own TIPLOC: it puts the one that it spells, with
 -- its columns 10 to 72. A TD deletes that of its TIPLOC.
 pub record SaysTiploc (line : ℕ × List ℕ) (changes : List (Change (List ℕ) Tiploc)) : Type 0 where
   pub tiploc : Tiploc
   pub spells : SpellsInFeed Update all_codes line.1 (of.Tiploc tiploc)
-  pub own : TiplocMark
-  pub is_own : mark_in Update all_codes line.1 ≡ mark.Tiploc own
-  pub are : changes ≡ tiploc_changes_by own.transaction line.0 own.tiploc tiploc
+  pub are : changes ≡ tiploc_changes_of (tiploc_mark (kind_in line.1) line) tiploc
 
 -- the lines make these changes, one line after another
 abbrev pub SayTiplocs : List (ℕ × List ℕ) → List (Change (List ℕ) Tiploc) → Type 0

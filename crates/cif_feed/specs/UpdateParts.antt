@@ -13,20 +13,20 @@ use Rattle.cif_feed.specs.Counts.{counts_of}
 use Rattle.cif_feed.specs.FeedFault.{IsFeedFault, IsOfFeed, is_feed_read}
 use Rattle.cif_feed.specs.FromLines.{AreTriples}
 use Rattle.cif_feed.specs.HolidayCode.{all_codes}
+use Rattle.cif_feed.specs.Marks.{passed_of}
 use Rattle.cif_feed.specs.PublishedParts.{IsPublishedAssociation, IsPublishedSchedule}
 use Rattle.cif_feed.specs.RecordKeys.{tiploc_key}
-use Rattle.cif_feed.specs.SpellsFeed.{FeedParts, SpellFeed, passed_of}
+use Rattle.cif_feed.specs.SpellsFeed.{FeedParts, SpellFeed}
 use Rattle.cif_feed.specs.declared.changes.Action.TheVariants.{New, Revised, Deleted}
 use Rattle.cif_feed.specs.declared.changes.Change.{Change}
-use Rattle.cif_feed.specs.declared.feed.Feed.TheVariants.{Update}
+use Rattle.cif_feed.specs.declared.feed_line.Feed.TheVariants.{Update}
 use Rattle.cif_feed.specs.declared.feed.FeedFault.{FeedFault}
-use Rattle.cif_feed.specs.declared.mark.Numbered.{Numbered}
 use Rattle.cif_feed.specs.declared.mark.RecordMark.{RecordMark}
 use Rattle.cif_feed.specs.declared.mark.TiplocMark.{TiplocMark}
 use Rattle.cif_feed.specs.declared.mark.Transaction.{Transaction}
 use Rattle.cif_feed.specs.declared.mark.Transaction.TheVariants as transaction
-use Rattle.cif_feed.specs.declared.published.PublishedAssociation.{PublishedAssociation}
-use Rattle.cif_feed.specs.declared.published.PublishedSchedule.{PublishedSchedule}
+use Rattle.cif_feed.specs.declared.published_extract.PublishedAssociation.{PublishedAssociation}
+use Rattle.cif_feed.specs.declared.published_extract.PublishedSchedule.{PublishedSchedule}
 use Rattle.cif_feed.specs.declared.update.Update as declared
 
 -- the keys of associations and of schedules in an update: with their first day and their letter
@@ -74,33 +74,36 @@ tiploc_changes_by transaction.New number own t = record { line = number; action 
 tiploc_changes_by transaction.Revised number own t = amendment number own t
 tiploc_changes_by transaction.Deleted number own t = record { line = number; action = Deleted own } ∷ []
 
+abbrev pub tiploc_changes_of : TiplocMark → Tiploc → List (Change (List ℕ) Tiploc)
+tiploc_changes_of m t = tiploc_changes_by m.transaction m.line m.tiploc t
+
 -- what all of them do
-abbrev pub tiploc_changes : List Tiploc → List (Numbered TiplocMark) → List (Change (List ℕ) Tiploc)
+abbrev pub tiploc_changes : List Tiploc → List TiplocMark → List (Change (List ℕ) Tiploc)
 tiploc_changes (t ∷ tiplocs) (m ∷ marks) =
-    tiploc_changes_by m.mark.transaction m.number m.mark.tiploc t ++ tiploc_changes tiplocs marks
+    tiploc_changes_of m t ++ tiploc_changes tiplocs marks
 tiploc_changes tiplocs marks = []
 
 -- What a line does to associations, and to schedules. What a deletion deletes is its UIDs and the other fields of its key, its first
 -- date and its letter.
-pub record IsAssociationChange (r : Association) (m : Numbered RecordMark) (c : Change AssociationKey PublishedAssociation) : Type 0 where
+pub record IsAssociationChange (r : Association) (m : RecordMark) (c : Change AssociationKey PublishedAssociation) : Type 0 where
   pub published : PublishedAssociation
   pub is : IsPublishedAssociation r m published
-  pub change : c ≡ change_by m.mark.transaction m.number (r.key, r.first, m.mark.letter) published
+  pub change : c ≡ change_by m.transaction m.line (r.key, r.first, m.letter) published
 
-pub record IsScheduleChange (r : Schedule) (m : Numbered RecordMark) (c : Change ScheduleKey PublishedSchedule) : Type 0 where
+pub record IsScheduleChange (r : Schedule) (m : RecordMark) (c : Change ScheduleKey PublishedSchedule) : Type 0 where
   pub published : PublishedSchedule
   pub is : IsPublishedSchedule r m published
-  pub change : c ≡ change_by m.mark.transaction m.number (r.uid, r.first, m.mark.letter) published
+  pub change : c ≡ change_by m.transaction m.line (r.uid, r.first, m.letter) published
 
 -- ---- what contents spell
 
 -- the lines say an update of these parts
 pub record SayUpdate (lines : FeedParts) (u : UpdateParts) : Type 0 where
   pub header : u.header ≡ lines.extract.header
-  pub header_line : u.header_line ≡ lines.header_line
-  pub tiplocs : u.tiplocs ≡ tiploc_changes lines.extract.tiplocs lines.tiploc_marks
-  pub associations : AreTriples IsAssociationChange lines.extract.associations lines.association_marks u.associations
-  pub schedules : AreTriples IsScheduleChange lines.extract.schedules lines.schedule_marks u.schedules
+  pub header_line : u.header_line ≡ lines.marks.header_line
+  pub tiplocs : u.tiplocs ≡ tiploc_changes lines.extract.tiplocs lines.marks.tiplocs
+  pub associations : AreTriples IsAssociationChange lines.extract.associations lines.marks.associations u.associations
+  pub schedules : AreTriples IsScheduleChange lines.extract.schedules lines.marks.schedules u.schedules
 
 -- the contents spell an update of these parts; each holiday code may stand in it
 pub record SpellUpdate (contents : List (List ℕ)) (u : UpdateParts) : Type 0 where

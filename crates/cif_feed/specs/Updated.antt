@@ -7,19 +7,19 @@ use Rattle.cif_feed.specs.Changes.{AreAfter, AreRefused}
 use Rattle.cif_feed.specs.Counts.{counts_of}
 use Rattle.cif_feed.specs.FeedFault.{IsFeedFault, IsOfFeed, is_feed_read}
 use Rattle.cif_feed.specs.HolidayCode.{all_codes}
+use Rattle.cif_feed.specs.Marks.{passed_of}
 use Rattle.cif_feed.specs.PublishedParts.{PublishedParts}
 use Rattle.cif_feed.specs.RecordKeys.{association_key, schedule_key, tiploc_key}
 use Rattle.cif_feed.specs.Sequence.{follows}
-use Rattle.cif_feed.specs.SpellsFeed.{passed_of}
 use Rattle.cif_feed.specs.UpdateParts.{AssociationKey, BytesSpellUpdate, ScheduleKey, UpdateParts}
 use Rattle.cif_feed.specs.declared.changes.RefusedLine.{RefusedLine}
 use Rattle.cif_feed.specs.declared.changes.Unfit.{Unfit}
 use Rattle.cif_feed.specs.declared.changes.Unfit.TheVariants as unfit
-use Rattle.cif_feed.specs.declared.feed.Feed.TheVariants.{Update}
+use Rattle.cif_feed.specs.declared.feed_line.Feed.TheVariants.{Update}
 use Rattle.cif_feed.specs.declared.feed.FeedFault.{FeedFault}
 use Rattle.cif_feed.specs.declared.feed.FeedFault.TheVariants.{NotThere, AlreadyThere, OutOfSequence}
-use Rattle.cif_feed.specs.declared.published.PublishedAssociation.{PublishedAssociation}
-use Rattle.cif_feed.specs.declared.published.PublishedSchedule.{PublishedSchedule}
+use Rattle.cif_feed.specs.declared.published_extract.PublishedAssociation.{PublishedAssociation}
+use Rattle.cif_feed.specs.declared.published_extract.PublishedSchedule.{PublishedSchedule}
 use Rattle.cif_feed.specs.declared.update.Outcome.{Outcome}
 
 -- the keys of the records of a published extract

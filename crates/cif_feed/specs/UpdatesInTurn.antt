@@ -6,7 +6,7 @@ use Rattle.cif_feed.specs.HolidayCode.{all_codes}
 use Rattle.cif_feed.specs.PublishedParts.{BytesSpellPublished, PublishedParts, published_text}
 use Rattle.cif_feed.specs.Updated.{IsLineRefused, IsUpdatedBy, refused_fault}
 use Rattle.cif_feed.specs.declared.changes.RefusedLine.{RefusedLine}
-use Rattle.cif_feed.specs.declared.feed.Feed.TheVariants.{Update}
+use Rattle.cif_feed.specs.declared.feed_line.Feed.TheVariants.{Update}
 use Rattle.cif_feed.specs.declared.feed.FeedFault.{FeedFault}
 
 -- The updates that these bytes spell are done to a published extract, one after another. The lines that are waived are those of the one

@@ -1,19 +1,19 @@
 //! How many records holidays cut, and how many apply on a date on which their key clashes.
-ghost use Rattle.std.specs.Prelude.{◌↔◌, ◌≤◌, ℕ, Contains, IsTrue, List, length};
+ghost use Rattle.std.specs.Prelude.{◌≡◌, ◌↔◌, ◌<◌, ◌≤◌, ◌+◌, ◌^◌, ℕ, Contains, IsTrue, List, length};
 ghost use Rattle.std.specs.BTreeMap.{get};
 ghost use Rattle.std.specs.Ordering.{nat_cmp};
 ghost use Rattle.cif_feed.specs.CutCount.{AppliesOnAny, HasCut, IsCountOf};
 ghost use Rattle.cif_feed.specs.PublishedParts.{published_association_terms, published_schedule_terms};
 ghost use Rattle.cif_feed.specs.Steps.Dropping.{ReadsAssociations, ReadsTrains};
+ghost use Rattle.cif_feed.specs.Steps.Marks.{plus_if};
 ghost use Rattle.cif_feed.specs.Published.{AppliesAsPublished};
 ghost use Rattle.cif_feed.specs.Parts.{ended};
-ghost use Rattle.cif_feed.specs.declared.published.PublishedAssociation.{PublishedAssociation};
-ghost use Rattle.cif_feed.specs.declared.published.PublishedSchedule.{PublishedSchedule};
+ghost use Rattle.cif_feed.specs.declared.published_extract.PublishedAssociation.{PublishedAssociation};
+ghost use Rattle.cif_feed.specs.declared.published_extract.PublishedSchedule.{PublishedSchedule};
 ghost use Rattle.cif_records.specs.AssocKey.{key_cmp};
 ghost use Rattle.cif_records.specs.declared.association.AssocKey.{AssocKey};
 
-use crate::dropped::{ClashDates, dates_of};
-use crate::prepare::prepared_last;
+use crate::prepare::{ClashDates, dates_of, prepared_last};
 use crate::{HolidayCode, Holidays, PublishedExtract, PublishedSchedule};
 use cif_calendar::{Dates, Entry};
 use cif_columns::Day;
@@ -28,9 +28,7 @@ impl PublishedExtract {
         let mut count = 0;
         let schedules = self.schedules.as_slice();
         for one in schedules {
-            if has_cut(one, self.header.last, holidays) {
-                count += 1;
-            }
+            count = plus_if(count, has_cut(one, self.header.last, holidays));
         }
         count
     }
@@ -52,9 +50,10 @@ impl PublishedExtract {
             let association = &one.association;
             let last = prepared_last(association, one.open_end, self.header.last);
             let dates = dates_of(clash_dates, association);
-            if applies_on_any(association, last, None, holidays, dates) {
-                count += 1;
-            }
+            count = plus_if(
+                count,
+                applies_on_any(association, last, None, holidays, dates),
+            );
         }
         count
     }
@@ -76,12 +75,21 @@ impl PublishedExtract {
             let schedule = &one.schedule;
             let last = prepared_last(schedule, one.open_end, self.header.last);
             let dates = dates_of(clash_dates, schedule);
-            if applies_on_any(schedule, last, one.code, holidays, dates) {
-                count += 1;
-            }
+            count = plus_if(
+                count,
+                applies_on_any(schedule, last, one.code, holidays, dates),
+            );
         }
         count
     }
+}
+
+/// One more, if it counts.
+fn plus_if(count: usize, counts: bool) -> usize
+    requires { count + 1 < 2 ^ 64 }
+    ensures { result ≡ plus_if count counts }
+{
+    if counts { count + 1 } else { count }
 }
 
 /// Whether the entry, whose last date is `last`, applies on one of the dates, with these holidays.

@@ -1,12 +1,13 @@
 //! The keys that clash, and their dates.
-ghost use Rattle.std.specs.Prelude.{◌≡◌, ◌+◌, ◌<◌, ℕ, All, List, [], IfOk, length};
+ghost use Rattle.std.specs.Prelude.{◌≡◌, ◌+◌, ◌<◌, All, [], IfOk, length};
 ghost use Rattle.std.specs.BTreeMap.{get};
 ghost use Rattle.cif_calendar.specs.Keys.{ArePositionsOf, keyed};
 ghost use Rattle.cif_feed.specs.Dropped.{dropped_text};
-ghost use Rattle.cif_feed.specs.Steps.Dropping.{AreFound, IsKeyTold, IsTold, ReadsDates};
+ghost use Rattle.cif_feed.specs.Steps.Dropping.{AreFound, IsKeyTold, IsTold};
 
+use crate::prepare::ClashDates;
 use arrayvec::ArrayString;
-use cif_calendar::{Entry, NamedEntry, Window, clash_dates, count_of_first_key, positions_by_key};
+use cif_calendar::{NamedEntry, Window, clash_dates, count_of_first_key, positions_by_key};
 use cif_columns::Day;
 use cif_extract::Clash;
 use itoa::Buffer;
@@ -67,20 +68,6 @@ impl Dropped {
             keys: Vec::new(alloc),
             records: 0,
         }
-    }
-}
-
-/// For what stands for each key that clashes, the dates on which it does.
-pub(crate) type ClashDates<R> = BTreeMap<R, Vec<Day>>;
-
-/// The dates on which the key of the entry clashes.
-pub(crate) fn dates_of<'d, E: Entry>(dates: &'d ClashDates<E::Rank>, entry: &E) -> &'d [Day]
-    ensures { (days : E.Key → List ℕ) → ReadsDates E.stands_for days (get E.Rank.cmp dates.now)
-        → result.now ≡ days (E.key entry.now) }
-{
-    match dates.get(&entry.rank()) {
-        Some(days) => days.as_slice(),
-        None => &[],
     }
 }
 

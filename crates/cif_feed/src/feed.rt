@@ -1,4 +1,4 @@
-//! Which feed is read, and why one can't be.
+//! Why a feed isn't read, or an update not done.
 ghost use Rattle.std.specs.Prelude.{◌≡◌, ◌≤◌, ◌++◌, length};
 ghost use Rattle.cif_feed.specs.FeedTexts.{line_text};
 
@@ -7,15 +7,6 @@ use arrayvec::ArrayString;
 use cif_columns::LineFault;
 use cif_extract::Fault;
 use itoa::Buffer;
-
-/// What is read.
-#[derive(Clone, Copy, Debug, PartialEq, Eq)]
-pub enum Feed {
-    /// A published extract.
-    Full,
-    /// An update.
-    Update,
-}
 
 /// Why a feed isn't read, or an update not done.
 #[derive(Drop, PartialEq, Eq)]

@@ -1,4 +1,4 @@
-//! Reading the lines of feeds: the records that they spell, and their marks.
+//! Reading the lines of feeds: the records that they spell.
 ghost use Rattle.std.specs.Prelude.{◌≡◌, ◌≤◌, ◌+◌, ◌++◌, ◌∷◌, [], None, Some, IfSome, codes};
 ghost use Rattle.std.specs.Result.{result_unwrap_or};
 ghost use Rattle.cif_columns.specs.Field.{AllStandIn, StandsIn, columns, columns_from, date};
@@ -8,22 +8,29 @@ ghost use Rattle.cif_records.specs.Checks.{IsJudged};
 ghost use Rattle.cif_records.specs.Kind.{kind_in};
 ghost use Rattle.cif_records.specs.declared.record.Record.TheVariants as of;
 ghost use Rattle.cif_feed.specs.FeedLine.{IsClosedAt, IsDeletion, SpellsAssociationBy, SpellsInFeed, code_of};
-ghost use Rattle.cif_feed.specs.FeedLine.{code_value, deleted_basic_rows, end_value, is_open, letter_of, mark_by};
-ghost use Rattle.cif_feed.specs.FeedLine.{put_association_rows, put_basic_front, put_tiploc, record_mark};
-ghost use Rattle.cif_feed.specs.FeedLine.{tiploc_mark_of, transaction_at};
+ghost use Rattle.cif_feed.specs.FeedLine.{code_value, deleted_basic_rows, end_value, is_open, letter_of};
+ghost use Rattle.cif_feed.specs.FeedLine.{put_association_rows, put_basic_front, put_tiploc, transaction_at};
 ghost use Rattle.cif_feed.specs.LastDay.{last_day};
 ghost use Rattle.cif_feed.specs.LayoutRefusals.{association_refusal_by, basic_refusal_by, feed_refusal_as};
 ghost use Rattle.cif_feed.specs.LayoutRefusals.{holiday_code_refusal, kind_read_as, open_dates_refusal};
 ghost use Rattle.cif_feed.specs.Steps.FeedLine.{ReadsBasic};
 ghost use Rattle.cif_feed.specs.Transaction.{transaction_letter};
-ghost use Rattle.cif_feed.specs.declared.holiday_code.HolidayCodes.{HolidayCodes};
+ghost use Rattle.cif_feed.specs.declared.holidays.HolidayCodes.{HolidayCodes};
 
-use crate::mark::{LineMark, RecordMark, TiplocMark};
-use crate::{Feed, HolidayCode, HolidayCodes, Transaction};
-use cif_columns::{Day, DaysRun, Line, Refusal, Stp, columns_at, field_at, uid_at};
+use crate::{HolidayCode, HolidayCodes, Transaction};
+use cif_columns::{Day, DaysRun, Line, Refusal, Stp, columns_at, uid_at};
 use cif_records::{
     AssocKey, Association, BasicTerms, Dates, Header, Kind, Tiploc, dates_at, field_or,
 };
+
+/// What is read.
+#[derive(Clone, Copy, Debug, PartialEq, Eq)]
+pub enum Feed {
+    /// A published extract.
+    Full,
+    /// An update.
+    Update,
+}
 
 /// The number of the last day there is, 31 December 2059.
 const LAST_DAY: u16 = 36_524;
@@ -186,59 +193,6 @@ fn deleted_basic(line: &Line) -> Result<BasicTerms, Refusal>
     })
 }
 
-/// The mark of a line of this kind.
-pub(crate) fn mark_of(
-    feed: Feed,
-    allowed: HolidayCodes,
-    kind: Option<Kind>,
-    line: &Line,
-) -> LineMark
-    ensures { result ≡ mark_by feed allowed kind line.now }
-{
-    match kind {
-        Some(Kind::Ti) => tiploc_mark(Transaction::New, line),
-        Some(Kind::Ta) => tiploc_mark(Transaction::Revised, line),
-        Some(Kind::Td) => tiploc_mark(Transaction::Deleted, line),
-        Some(Kind::Aa) => {
-            LineMark::Association(record_mark(transaction_at(feed, line), line, 22, None))
-        }
-        Some(Kind::Bs) => {
-            let code = code_at(allowed, line).unwrap_or(None);
-            LineMark::Schedule(record_mark(transaction_at(feed, line), line, 16, code))
-        }
-        _ => LineMark::Nothing,
-    }
-}
-
-/// The mark of a TI, a TA or a TD with this transaction.
-fn tiploc_mark(transaction: Transaction, line: &Line) -> LineMark
-    ensures { result ≡ tiploc_mark_of transaction line.now }
-{
-    LineMark::Tiploc(TiplocMark {
-        transaction,
-        tiploc: columns_at(line, 3),
-    })
-}
-
-/// The mark of an AA or a BS with this transaction, whose last date is in the six columns from `last` on.
-fn record_mark(
-    transaction: Option<Transaction>,
-    line: &Line,
-    last: usize,
-    code: Option<HolidayCode>,
-) -> RecordMark
-    requires from_one { 1 ≤ last }
-    requires within { last ≤ 75 }
-    ensures { result ≡ record_mark transaction last code line.now }
-{
-    RecordMark {
-        transaction: transaction.unwrap_or(Transaction::New),
-        letter: field_at(line, 80).unwrap_or(Stp::C),
-        open_end: has_open_end(line, last),
-        code,
-    }
-}
-
 /// The transaction in column 3, where it may stand in the feed.
 fn transaction_at(feed: Feed, line: &Line) -> Option<Transaction>
     ensures exact { result ≡ transaction_at feed line.now }
@@ -283,7 +237,7 @@ pub(crate) fn has_open_end(line: &Line, first: usize) -> bool
 }
 
 /// The holiday code in column 29, where it may stand; none for a space.
-fn code_at(allowed: HolidayCodes, line: &Line) -> Result<Option<HolidayCode>, Refusal>
+pub(crate) fn code_at(allowed: HolidayCodes, line: &Line) -> Result<Option<HolidayCode>, Refusal>
     ensures judged { IsJudged (holiday_code_refusal allowed line.now)
         (λ _. StandsIn (columns 29 29 line.now) (code_value (code_of allowed line.now))) result }
     ensures code { result_unwrap_or result None ≡ code_of allowed line.now }

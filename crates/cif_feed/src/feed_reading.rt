@@ -1,56 +1,38 @@
 //! Reading a published extract, or an update, content by content.
-ghost use Rattle.std.specs.Prelude.{◌≡◌, ◌<◌, ◌≤◌, ◌+◌, ◌^◌, ◌++◌, ◌∷◌, [], ℕ, List, false, true, length};
-ghost use Rattle.std.specs.Prelude.{IfErr, IfOk, All};
+ghost use Rattle.std.specs.Prelude.{◌≡◌, ◌<◌, ◌≤◌, ◌+◌, ◌^◌, ◌++◌, ◌∷◌, [], ℕ, List, false, true, length, IfErr, IfOk};
+ghost use Rattle.std.specs.Prelude.{All};
 ghost use Rattle.cif_columns.specs.Comment.{is_comment};
 ghost use Rattle.cif_columns.specs.Line.{IsLine};
 ghost use Rattle.cif_columns.specs.declared.line_reader.TheConstants.{MAX_LINES};
 ghost use Rattle.cif_extract.specs.ReadCall.{IsResultOf};
-ghost use Rattle.cif_extract.specs.Steps.Reading.{GoesOnPlainly, UnlessMemory, progress_of};
+ghost use Rattle.cif_extract.specs.Steps.Reading.{GoesOnPlainly, HasRead, UnlessMemory, progress_of};
 ghost use Rattle.cif_extract.specs.Taken.{IsNoTrailer};
-ghost use Rattle.cif_feed.specs.FeedRefusal.{not_full, untaken_fault};
+ghost use Rattle.cif_feed.specs.FeedRefusal.{untaken_fault};
 ghost use Rattle.cif_feed.specs.FeedLayouts.{feed_layouts};
 ghost use Rattle.cif_feed.specs.RecordLines.{is_basic, is_note, is_trailer, record_lines};
 ghost use Rattle.cif_feed.specs.FeedFault.{reading_feed};
 ghost use Rattle.cif_feed.specs.SpellsFeed.{SayFeed, feed_parts};
-ghost use Rattle.cif_feed.specs.Steps.FeedReading.{HasTakenFeed, IsFeedTaken, IsMarked, IsNoteTaken};
-ghost use Rattle.cif_feed.specs.Steps.Counts.{HaveRoom};
-ghost use Rattle.cif_feed.specs.Steps.FeedReading.{IsStopTaken, header_behind};
-ghost use Rattle.cif_feed.specs.Steps.Marked.{HasMarks};
-ghost use Rattle.cif_feed.specs.declared.feed.Feed.{Feed};
-ghost use Rattle.cif_feed.specs.declared.holiday_code.HolidayCodes.{HolidayCodes};
+ghost use Rattle.cif_feed.specs.Steps.FeedReading.{HasTakenFeed, IsFeedTaken, IsNoteTaken, IsOwn, IsRecordTaken};
+ghost use Rattle.cif_feed.specs.Steps.FeedReading.{IsStopTaken, read_as};
+ghost use Rattle.cif_feed.specs.Steps.Marks.{HasMarks, HaveRoom};
+ghost use Rattle.cif_feed.specs.declared.feed_line.Feed.{Feed};
+ghost use Rattle.cif_feed.specs.declared.holidays.HolidayCodes.{HolidayCodes};
 ghost use Rattle.cif_records.specs.Kind.{kind_in};
+ghost use Rattle.cif_records.specs.declared.record.Record.{Record};
 
-use crate::feed_line::mark_of;
-use crate::mark::{LineMark, Numbered, RecordMark, TiplocMark};
-use crate::record_taking::take_record;
-use crate::{Feed, FeedFault, HolidayCodes, UpdateCounts};
+use crate::feed_line::{read_association, read_basic, read_header, read_tiploc};
+use crate::mark::Marks;
+use crate::{Feed, FeedFault, HolidayCodes};
 use cif_columns::{Content, LINE_WIDTH, Line, LineReader, ReadDevice, Refusal, Source, columns_at};
 use cif_extract::{Extract, Fault, Reading, TakeFault};
 use cif_records::{Kind, kind_of};
-use std::alloc::Global;
+use std::alloc::{AllocError, Global};
 
 /// What the lines of a feed say: the extract of its records, and what they say beyond these.
 #[derive(Drop)]
 pub(crate) struct FeedExtract {
     pub(crate) extract: Extract,
-    // The number of the line of its header.
-    pub(crate) header_line: u64,
-    // The marks of its locations, associations and schedules, in their order.
-    pub(crate) tiploc_marks: Vec<Numbered<TiplocMark>>,
-    pub(crate) association_marks: Vec<Numbered<RecordMark>>,
-    pub(crate) schedule_marks: Vec<Numbered<RecordMark>>,
-    // How many lines do what, if it is an update.
-    pub(crate) counts: UpdateCounts,
-    pub(crate) passed: Passed,
-}
-
-/// How many contents of a feed said nothing.
-#[derive(Clone, Copy, Debug, PartialEq, Eq)]
-pub struct Passed {
-    /// The comments.
-    pub comments: u64,
-    /// The notes, TN and LN.
-    pub notes: u64,
+    pub(crate) marks: Marks,
 }
 
 /// What the source's contents say, of which at most `max_lines` may come. `allowed` are the holiday codes
@@ -100,13 +82,7 @@ pub(crate) fn read_feed<R: ReadDevice>(
 #[derive(Drop)]
 pub(crate) struct FeedReading {
     reading: Reading,
-    // The number of the line of the header; 0 before one has come.
-    header_line: u64,
-    tiploc_marks: Vec<Numbered<TiplocMark>>,
-    association_marks: Vec<Numbered<RecordMark>>,
-    schedule_marks: Vec<Numbered<RecordMark>>,
-    counts: UpdateCounts,
-    passed: Passed,
+    marks: Marks,
     // Whether a BS has come, and a ZZ.
     has_basic: bool,
     has_trailer: bool,
@@ -119,15 +95,7 @@ impl FeedReading {
     {
         FeedReading {
             reading: Reading::new(alloc),
-            header_line: 0,
-            tiploc_marks: Vec::new(alloc),
-            association_marks: Vec::new(alloc),
-            schedule_marks: Vec::new(alloc),
-            counts: UpdateCounts::new(),
-            passed: Passed {
-                comments: 0,
-                notes: 0,
-            },
+            marks: Marks::new(alloc),
             has_basic: false,
             has_trailer: false,
         }
@@ -135,12 +103,12 @@ impl FeedReading {
 
     /// Counts a comment.
     fn pass_comment(&mut self)
-        requires { self.old.passed.comments < MAX_LINES }
+        requires { self.old.marks.passed.comments < MAX_LINES }
         ensures { (feed : Feed) (allowed : HolidayCodes) (contents : List (List ℕ)) (comment : List ℕ)
             → HasTakenFeed feed allowed contents self.old → is_comment comment ≡ true
             → HasTakenFeed feed allowed (contents ++ comment ∷ []) self.new }
     {
-        self.passed.comments += 1;
+        self.marks.passed.comments += 1;
     }
 
     /// Takes the line of columns that are a plain line of a location on the way, where one may stand.
@@ -165,8 +133,8 @@ impl FeedReading {
     ) -> Result<(), TakeFault>
         requires taken { (contents : List (List ℕ))
             × HasTakenFeed feed allowed contents self.old }
-        requires room { self.old.passed.notes < MAX_LINES }
-        requires counts { HaveRoom self.old.counts }
+        requires room { self.old.marks.passed.notes < MAX_LINES }
+        requires counts { HaveRoom self.old.marks.counts }
         requires no_comment { is_comment line.now ≡ false }
         ensures taken { (contents : List (List ℕ)) → HasTakenFeed feed allowed contents self.old
             → number ≡ length contents + 1 → IsFeedTaken feed allowed contents line.now result self.new }
@@ -178,11 +146,12 @@ impl FeedReading {
         let kind = kind_of(line);
         match take_record(alloc, &mut self.reading, feed, allowed, kind, line) {
             Ok(()) => {
-                self.header_line = header_behind(self.header_line, kind, number);
-                self.counts.add(kind, line);
                 self.has_basic |= is_basic(kind);
                 self.has_trailer |= is_trailer(kind);
-                self.push_mark(number, mark_of(feed, allowed, kind, line))
+                match self.marks.add(allowed, kind, number, line) {
+                    Ok(()) => Ok(()),
+                    Err(AllocError) => Err(TakeFault::Memory),
+                }
             }
             Err(fault) => Err(fault),
         }
@@ -190,39 +159,14 @@ impl FeedReading {
 
     /// Counts a note, where one may stand.
     fn take_note(&mut self) -> Result<(), TakeFault>
-        requires { self.old.passed.notes < MAX_LINES }
+        requires { self.old.marks.passed.notes < MAX_LINES }
         ensures { IsNoteTaken self.old result self.new }
     {
         if !self.has_basic || self.has_trailer {
             return Err(TakeFault::Refused(Refusal::OutOfOrder));
         }
-        self.passed.notes += 1;
+        self.marks.passed.notes += 1;
         Ok(())
-    }
-
-    /// Appends what the line of this number says beyond its record.
-    fn push_mark(&mut self, number: u64, mark: LineMark) -> Result<(), TakeFault>
-        ensures { UnlessMemory (IsMarked self.old number mark self.new) result }
-    {
-        match mark {
-            LineMark::Nothing => Ok(()),
-            LineMark::Tiploc(mark) => FeedReading::push(&mut self.tiploc_marks, number, mark),
-            LineMark::Association(mark) => {
-                FeedReading::push(&mut self.association_marks, number, mark)
-            }
-            LineMark::Schedule(mark) => FeedReading::push(&mut self.schedule_marks, number, mark),
-        }
-    }
-
-    /// Appends the mark of the line of this number.
-    fn push<M: Drop>(marks: &mut Vec<Numbered<M>>, number: u64, mark: M) -> Result<(), TakeFault>
-        ensures { UnlessMemory (marks.new.items
-            ≡ marks.old.items ++ record { number = number; mark = mark } ∷ []) result }
-    {
-        match marks.push(Numbered { number, mark }) {
-            Ok(()) => Ok(()),
-            Err(_) => Err(TakeFault::Memory),
-        }
     }
 
     /// What was read, where these are all contents.
@@ -239,25 +183,12 @@ impl FeedReading {
     {
         let FeedReading {
             reading,
-            header_line,
-            tiploc_marks,
-            association_marks,
-            schedule_marks,
-            counts,
-            passed,
+            marks,
             has_basic: _,
             has_trailer: _,
         } = self;
         match reading.end() {
-            Some(extract) => Ok(FeedExtract {
-                extract,
-                header_line,
-                tiploc_marks,
-                association_marks,
-                schedule_marks,
-                counts,
-                passed,
-            }),
+            Some(extract) => Ok(FeedExtract { extract, marks }),
             None => Err(FeedFault::Extract(Fault::Refused {
                 line: lines + 1,
                 why: Refusal::Truncated,
@@ -266,38 +197,80 @@ impl FeedReading {
     }
 }
 
+/// Takes a line of this kind. Its place is judged before its fields, and memory is asked for after them.
+fn take_record(
+    alloc: Global,
+    reading: &mut Reading,
+    feed: Feed,
+    allowed: HolidayCodes,
+    kind: Option<Kind>,
+    line: &Line,
+) -> Result<(), TakeFault>
+    requires kind { kind ≡ kind_in line.now }
+    requires read { (records : List Record) × HasRead records (progress_of reading.old) }
+    ensures { IsRecordTaken feed allowed line.now (progress_of reading.old) result (progress_of reading.new) }
+{
+    let Some(kind) = kind else {
+        return take_own(alloc, reading, feed, line);
+    };
+    if !reading.allows(read_as(feed, kind)) {
+        return Err(TakeFault::Refused(Refusal::OutOfOrder));
+    }
+    match (kind, feed) {
+        (Kind::Hd, _) => match read_header(feed, line) {
+            Ok(header) => {
+                reading.put_header(header);
+                Ok(())
+            }
+            Err(why) => Err(TakeFault::Refused(why)),
+        },
+        (Kind::Aa, _) => match read_association(feed, line) {
+            Ok(association) => reading.put_association(association),
+            Err(why) => Err(TakeFault::Refused(why)),
+        },
+        (Kind::Bs, _) => match read_basic(feed, allowed, line) {
+            Ok(terms) => reading.put_basic(terms, line),
+            Err(why) => Err(TakeFault::Refused(why)),
+        },
+        (Kind::Ti, _) | (Kind::Ta | Kind::Td, Feed::Update) => {
+            reading.put_tiploc(read_tiploc(feed, kind, line))
+        }
+        _ => take_own(alloc, reading, feed, line),
+    }
+}
+
+/// Takes a line that is as in an extract of this profile.
+fn take_own(alloc: Global, reading: &mut Reading, feed: Feed, line: &Line) -> Result<(), TakeFault>
+    requires own { IsOwn (kind_in line.now) feed }
+    requires read { (records : List Record) × HasRead records (progress_of reading.old) }
+    ensures { (allowed : HolidayCodes)
+        → IsRecordTaken feed allowed line.now (progress_of reading.old) result (progress_of reading.new) }
+{
+    reading.take(alloc, line)
+}
+
+/// The kind whose place a line of this kind has.
+fn read_as(feed: Feed, kind: Kind) -> Kind
+    ensures { result ≡ read_as feed kind }
+{
+    match (feed, kind) {
+        (Feed::Update, Kind::Ta | Kind::Td) => Kind::Ti,
+        _ => kind,
+    }
+}
+
 /// The fault of a line that isn't taken, whose number this is.
 fn fault_at(feed: Feed, number: u64, line: &Line, fault: TakeFault) -> FeedFault
     ensures { result ≡ untaken_fault feed number (kind_in line.now) fault }
 {
-    match fault {
-        TakeFault::Refused(Refusal::NotFull) => not_full(feed, number, kind_of(line)),
-        TakeFault::Refused(why) => FeedFault::Extract(Fault::Refused { line: number, why }),
-        TakeFault::Memory => FeedFault::Extract(Fault::Memory),
-    }
-}
-
-/// What NotFull is called, by the kind of the line of this number.
-fn not_full(feed: Feed, line: u64, kind: Option<Kind>) -> FeedFault
-    ensures { result ≡ not_full feed line kind }
-{
-    match (feed, kind) {
-        (Feed::Full, _) => FeedFault::Extract(Fault::Refused {
-            line,
-            why: Refusal::NotFull,
-        }),
-        (Feed::Update, Some(Kind::Hd)) => FeedFault::NotUpdate { line },
-        (Feed::Update, _) => FeedFault::BadTransaction { line },
-    }
-}
-
-/// The number of the first header, where it was `so_far`, and then a line of this kind has this number.
-fn header_behind(so_far: u64, kind: Option<Kind>, number: u64) -> u64
-    ensures { result ≡ header_behind so_far kind number }
-{
-    match kind {
-        Some(Kind::Hd) if so_far == 0 => number,
-        _ => so_far,
+    let why = match fault {
+        TakeFault::Refused(why) => why,
+        TakeFault::Memory => return FeedFault::Extract(Fault::Memory),
+    };
+    match (feed, why, kind_of(line)) {
+        (Feed::Update, Refusal::NotFull, Some(Kind::Hd)) => FeedFault::NotUpdate { line: number },
+        (Feed::Update, Refusal::NotFull, _) => FeedFault::BadTransaction { line: number },
+        _ => FeedFault::Extract(Fault::Refused { line: number, why }),
     }
 }
 

@@ -1,14 +1,14 @@
 //! The text of holidays.
-ghost use Rattle.std.specs.Prelude.{◌≡◌, ◌<◌, ◌+◌, [], ℕ, All};
-ghost use Rattle.std.specs.Prelude.{IfErr, IfOk, IfSome, Some};
+ghost use Rattle.std.specs.Prelude.{◌≡◌, ◌<◌, ◌≤◌, ◌+◌, ◌∷◌, ◌==◌, [], ℕ, All, IfErr, IfOk, IfSome, Some, length};
+ghost use Rattle.std.specs.List.{before_first};
 ghost use Rattle.cif_columns.specs.Day.{StandsInYymmdd};
 ghost use Rattle.cif_columns.specs.declared.line_reader.TheConstants.{MAX_LINES};
 ghost use Rattle.cif_extract.specs.ReadCall.{IsResultOf};
 ghost use Rattle.cif_feed.specs.Words.{words_in};
 
-use crate::words::{before_byte, first_word};
 use crate::{HolidayCode, Holidays};
 use cif_columns::{ContentReader, Day, LineFault, MAX_LINES, NextContent, ReadDevice, Source};
+use memchr::memchr;
 use std::alloc::Global;
 
 /// How many bytes a line of holidays may have, its remark included and its ending not.
@@ -42,7 +42,9 @@ impl From<LineFault> for HolidayFault {
 }
 
 impl Holidays {
-    ghost use Rattle.cif_feed.specs.HolidayText.{reading_holidays};
+    ghost use Rattle.cif_feed.specs.Holidays.{HasMore};
+    ghost use Rattle.cif_feed.specs.HolidayText.{IsDate, IsHolidayLine, NamesDay, reading_holidays};
+    ghost use Rattle.cif_feed.specs.Steps.HolidayReading.{HasLineMore, IsDateFault, IsLineFault};
 
     /// The holidays of a text. Each line has at most 1,000 bytes. What begins with a `#` is a remark.
     /// What stands before it is empty, or a code and any number of dates `yymmdd`, with spaces
@@ -80,12 +82,6 @@ impl Holidays {
             }
         }
     }
-}
-
-impl Holidays {
-    ghost use Rattle.cif_feed.specs.Holidays.{HasMore};
-    ghost use Rattle.cif_feed.specs.HolidayText.{IsDate, IsHolidayLine, NamesDay};
-    ghost use Rattle.cif_feed.specs.Steps.HolidayReading.{HasLineMore, IsDateFault, IsLineFault};
 
     /// Adds what the line of this number says. After a fault nothing is said of the holidays.
     fn add_line(&mut self, number: u64, line: &[u8]) -> Result<(), HolidayFault>
@@ -145,5 +141,32 @@ fn day_in(word: &[u8]) -> Option<Day>
     match word.as_array::<6>() {
         Some(columns) => Day::from_yymmdd(columns),
         None => None,
+    }
+}
+
+/// The first of the words, or nothing where there is none, and what stands behind it.
+#[tactic(auto, unfolding(crate::specs::Words::words_in))]
+fn first_word(bytes: &[u8]) -> (&[u8], &[u8])
+    ensures none { length result.0.now ≡ 0 → words_in bytes.now ≡ [] }
+    ensures some { 0 < length result.0.now →
+        words_in bytes.now ≡ result.0.now ∷ words_in result.1.now }
+    ensures shorter { length result.0.now + length result.1.now ≤ length bytes.now }
+{
+    let mut start = 0;
+    while start < bytes.len() && bytes[start] == b' ' {
+        start += 1;
+    }
+    let from = &bytes[start..];
+    let word = before_byte(from, b' ');
+    (word, &from[word.len()..])
+}
+
+/// What stands before the first such byte; all bytes where there is none.
+fn before_byte(bytes: &[u8], byte: u8) -> &[u8]
+    ensures { result.now ≡ before_first (λ b. b == byte) bytes.now }
+{
+    match memchr(byte, bytes) {
+        Some(at) => &bytes[..at],
+        None => bytes,
     }
 }

@@ -1,34 +1,71 @@
-//! The prepared extract of a published one: the parts of its records.
-ghost use Rattle.std.specs.Prelude.{◌≡◌, ◌≤◌, ℕ, List, Option, IfOk, false, map, true};
+//! The prepared extract of a published one, the parts of its records: making and writing it.
+ghost use Rattle.std.specs.Prelude.{◌≡◌, ◌≤◌, ℕ, List, Option, IfOk, IfSome, false, map, true};
 ghost use Rattle.std.specs.BTreeMap.{get};
 ghost use Rattle.std.specs.Ordering.{nat_cmp};
 ghost use Rattle.cif_calendar.specs.Entries.{association_entries, schedule_entries};
 ghost use Rattle.cif_columns.specs.Sink.{Writes};
+ghost use Rattle.cif_columns.specs.Source.{reader_of};
+ghost use Rattle.cif_columns.specs.declared.line_reader.TheConstants.{MAX_LINES};
+ghost use Rattle.cif_extract.specs.ReadCall.{IsResultOf};
 ghost use Rattle.cif_extract.specs.Texts.{extract_text};
 ghost use Rattle.cif_feed.specs.Prepared.{ArePrepared, prepared_last, published_terms};
 ghost use Rattle.cif_feed.specs.PreparedParts.{IsPrepared, association_on, schedule_on};
 ghost use Rattle.cif_feed.specs.PublishedParts.{published_associations, published_parts, published_schedules};
-ghost use Rattle.cif_feed.specs.Steps.Dropping.{AreAllFound, IsCutAt, IsStopAmong, ReadsAssociations, ReadsTrains};
-ghost use Rattle.cif_feed.specs.WrittenPrepared.{IsPreparedAs};
-ghost use Rattle.cif_feed.specs.declared.holiday_code.HolidayCode.{HolidayCode};
+ghost use Rattle.cif_feed.specs.Steps.Dropping.{AreAllFound, IsCutAt, IsStopAmong, ReadsAssociations, ReadsDates, ReadsTrains};
+ghost use Rattle.cif_feed.specs.WrittenPrepared.{FeedWrites, IsPreparedAs, Prepares, WritesPrepared, preparing};
+ghost use Rattle.cif_feed.specs.declared.holidays.HolidayCode.{HolidayCode};
 ghost use Rattle.cif_feed.specs.declared.holidays.Holidays.{Holidays};
 ghost use Rattle.cif_records.specs.AssocKey.{key_cmp};
 ghost use Rattle.cif_records.specs.declared.association.AssocKey.{AssocKey};
 
-use crate::dropped::{ClashDates, dates_of, find_clash_dates};
+use crate::dropped::find_clash_dates;
 use crate::parts::add_parts;
 use crate::written::write_records;
 use crate::{
-    Dropped, DroppedKey, Holidays, PreparedRecord, PublishedAssociation, PublishedExtract,
-    PublishedSchedule,
+    Dropped, DroppedKey, FeedFault, Holidays, PreparedRecord, PublishedAssociation,
+    PublishedExtract, PublishedSchedule,
 };
 use cif_calendar::{Entry, Window};
-use cif_columns::{Day, Sink, WriteDevice, WriteFault};
-use cif_extract::Schedule;
+use cif_columns::{Day, ReadDevice, Sink, Source, WriteDevice, WriteFault};
+use cif_extract::{Fault, Schedule};
 use cif_records::{AssocKey, Association};
 use std::alloc::{AllocError, Global};
 use std::collections::BTreeMap;
 use std::marker::Model;
+
+/// Reads a published extract, of which at most `max_lines` contents may come, and appends the text of
+/// its prepared extract, with these holidays: without the dates on which keys clash, if
+/// `drops_clashes`. The answer is these keys.
+///
+/// The faults are those of `PublishedExtract::read`, and then Write; Memory where memory ran out. Nothing is
+/// written before the whole input is accepted and all memory is allocated. What was read is left in
+/// `kept`: to free each of its bodies takes time, which a program that ends right after this can spare.
+pub fn write_prepared<R: ReadDevice, W: WriteDevice>(
+    alloc: Global,
+    source: &mut Source<R>,
+    sink: &mut Sink<W>,
+    max_lines: u64,
+    holidays: &Holidays,
+    drops_clashes: bool,
+    kept: &mut Option<PublishedExtract>,
+) -> Result<Dropped, FeedFault>
+    requires within { max_lines ≤ MAX_LINES }
+    ensures prepared { (text : List ℕ)
+        × FeedWrites W.contents W.write_errors text sink.old sink.new result
+        × IfSome (R.remaining (reader_of source.old)) (λ bytes.
+        Prepares holidays.now drops_clashes max_lines bytes text result) }
+    ensures reads { IsResultOf R.remaining R.read_errors
+        (preparing holidays.now max_lines kept.new) source.old source.new result }
+{
+    match PublishedExtract::read(alloc, source, max_lines, holidays.codes()) {
+        Ok(extract) => {
+            let answer = extract.append_prepared(alloc, holidays, drops_clashes, sink);
+            *kept = Some(extract);
+            answer
+        }
+        Err(fault) => Err(fault),
+    }
+}
 
 /// The prepared extract of a published one, from which its records are borrowed: a clause sees what
 /// the extract holds.
@@ -49,6 +86,42 @@ impl<'a> Model for Prepared<'a> {
 }
 
 impl PublishedExtract {
+    /// Appends the text of its prepared extract, and gives what it leaves out.
+    fn append_prepared<W: WriteDevice>(
+        &self,
+        alloc: Global,
+        holidays: &Holidays,
+        drops_clashes: bool,
+        sink: &mut Sink<W>,
+    ) -> Result<Dropped, FeedFault>
+        ensures { WritesPrepared W.contents W.write_errors holidays.now drops_clashes
+            (published_parts self.now) sink.old sink.new result }
+    {
+        let Ok((prepared, dropped)) = self.prepare_if(alloc, holidays, drops_clashes) else {
+            return Err(FeedFault::Extract(Fault::Memory));
+        };
+        match prepared.write(sink) {
+            Ok(()) => Ok(dropped),
+            Err(WriteFault) => Err(FeedFault::Extract(Fault::Write)),
+        }
+    }
+
+    /// Its prepared extract, without the dates on which a key clashes, if that is asked for.
+    fn prepare_if<'a>(
+        &'a self,
+        alloc: Global,
+        holidays: &Holidays,
+        drops_clashes: bool,
+    ) -> Result<(Prepared<'a>, Dropped), AllocError>
+        ensures { IfOk result (λ done. IsPreparedAs holidays.now drops_clashes (published_parts self.now) done.0 done.1) }
+    {
+        if drops_clashes {
+            return self.prepare_without_clashes(alloc, holidays);
+        }
+        let prepared = self.prepare(alloc, holidays)?;
+        Ok((prepared, Dropped::none(alloc)))
+    }
+
     /// Its prepared extract, with these holidays. A code that they don't name cuts nothing; an extract
     /// that is read with `Holidays::codes` has none.
     pub fn prepare<'a>(
@@ -146,6 +219,20 @@ impl<'a> Prepared<'a> {
         let associations = find_clash_dates(alloc, self.associations.as_slice(), &window, told)?;
         let trains = find_clash_dates(alloc, self.schedules.as_slice(), &window, told)?;
         Ok((associations, trains))
+    }
+}
+
+/// For what stands for each key that clashes, the dates on which it does.
+pub(crate) type ClashDates<R> = BTreeMap<R, Vec<Day>>;
+
+/// The dates on which the key of the entry clashes.
+pub(crate) fn dates_of<'d, E: Entry>(dates: &'d ClashDates<E::Rank>, entry: &E) -> &'d [Day]
+    ensures { (days : E.Key → List ℕ) → ReadsDates E.stands_for days (get E.Rank.cmp dates.now)
+        → result.now ≡ days (E.key entry.now) }
+{
+    match dates.get(&entry.rank()) {
+        Some(days) => days.as_slice(),
+        None => &[],
     }
 }
 

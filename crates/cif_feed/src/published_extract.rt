@@ -1,23 +1,42 @@
-//! Published extracts: reading and writing them.
-ghost use Rattle.std.specs.Prelude.{◌≡◌, ◌≤◌, ◌+◌, IfOk};
+//! Published extracts: their records, reading and writing them.
+ghost use Rattle.std.specs.Prelude.{◌≡◌, ◌≢◌, ◌≤◌, ◌+◌, ◌++◌, ◌∷◌, [], IfOk, IsTrue};
 ghost use Rattle.cif_columns.specs.Line.{ArePrintable};
 ghost use Rattle.cif_columns.specs.declared.line_reader.TheConstants.{MAX_LINES};
 ghost use Rattle.cif_extract.specs.ReadCall.{IsResultOf};
-ghost use Rattle.cif_feed.specs.PublishedParts.{with_code, with_columns, with_open_end};
-ghost use Rattle.cif_feed.specs.SpellsFeed.{feed_parts};
-ghost use Rattle.cif_feed.specs.Steps.Marked.{HasMarks};
+ghost use Rattle.cif_feed.specs.FromLines.{ArePairs, AreTriples};
+ghost use Rattle.cif_feed.specs.LastDay.{last_day};
+ghost use Rattle.cif_feed.specs.WrittenOver.{with_code, with_columns, with_open_end};
 
 use crate::feed_reading::{FeedExtract, read_feed};
-use crate::from_lines::{FromLine, from_lines};
-use crate::mark::{Numbered, RecordMark};
+use crate::mark::RecordMark;
 use crate::written::{Written, write_records, write_schedule};
-use crate::{
-    Feed, FeedFault, HolidayCode, HolidayCodes, Passed, PublishedAssociation, PublishedSchedule,
-};
+use crate::{Feed, FeedFault, HolidayCode, HolidayCodes, Passed};
 use cif_columns::{Line, LineTexts, ReadDevice, Sink, Source, WriteDevice, WriteFault};
 use cif_extract::{Extract, Fault, Schedule};
 use cif_records::{Association, Header, Tiploc};
 use std::alloc::{AllocError, Global};
+
+/// An association of a published extract.
+#[derive(Debug, Drop, PartialEq, Eq)]
+pub struct PublishedAssociation {
+    /// The association of this profile. Where its end is open, its last date is the last day there is.
+    pub association: Association,
+    /// Whether its end is open: its last date is written `999999`.
+    pub open_end: bool,
+    ghost closed: { IsTrue open_end → association.last ≡ last_day },
+}
+
+/// A schedule of a published extract.
+#[derive(Debug, Drop, PartialEq, Eq)]
+pub struct PublishedSchedule {
+    /// The schedule of this profile. Where its end is open, its last date is the last day there is.
+    pub schedule: Schedule,
+    /// Whether its end is open: its last date is written `999999`.
+    pub open_end: bool,
+    /// Its holiday code, column 29 of its BS.
+    pub code: Option<HolidayCode>,
+    ghost closed: { IsTrue open_end → schedule.last ≡ last_day },
+}
 
 /// A published extract: the records of a full extract, in their order and with repeats, with open ends and
 /// holiday codes.
@@ -36,8 +55,10 @@ pub struct PublishedExtract {
 }
 
 impl PublishedExtract {
-    ghost use Rattle.cif_feed.specs.PublishedParts.{SayPublished, published_parts};
-    ghost use Rattle.cif_feed.specs.PublishedParts.{reading_published};
+    ghost use Rattle.cif_columns.specs.Sink.{Writes};
+    ghost use Rattle.cif_feed.specs.PublishedParts.{SayPublished, published_parts, published_text, reading_published};
+    ghost use Rattle.cif_feed.specs.SpellsFeed.{feed_parts};
+    ghost use Rattle.cif_feed.specs.Steps.Marks.{HasMarks};
 
     /// The published extract that the source's contents spell, of which at most `max_lines` may come.
     /// `allowed` are the holiday codes that may stand in it.
@@ -68,17 +89,9 @@ impl PublishedExtract {
     fn of_lines(alloc: Global, lines: FeedExtract) -> Result<PublishedExtract, AllocError>
         requires { HasMarks (feed_parts lines) }
         ensures says { IfOk result (λ x. SayPublished (feed_parts lines) (published_parts x)) }
-        ensures passed { IfOk result (λ x. x.passed ≡ lines.passed) }
+        ensures passed { IfOk result (λ x. x.passed ≡ lines.marks.passed) }
     {
-        let FeedExtract {
-            extract,
-            header_line: _,
-            tiploc_marks: _,
-            association_marks,
-            schedule_marks,
-            counts: _,
-            passed,
-        } = lines;
+        let FeedExtract { extract, marks } = lines;
         let Extract {
             header,
             tiplocs,
@@ -88,16 +101,11 @@ impl PublishedExtract {
         Ok(PublishedExtract {
             header,
             tiplocs,
-            associations: from_lines(alloc, associations, association_marks)?,
-            schedules: from_lines(alloc, schedules, schedule_marks)?,
-            passed,
+            associations: from_lines(alloc, associations, marks.associations)?,
+            schedules: from_lines(alloc, schedules, marks.schedules)?,
+            passed: marks.passed,
         })
     }
-}
-
-impl PublishedExtract {
-    ghost use Rattle.cif_columns.specs.Sink.{Writes};
-    ghost use Rattle.cif_feed.specs.PublishedParts.{published_parts, published_text};
 
     /// Appends its text, each line with a line feed: plain lines, but for open ends and holiday codes. It
     /// takes no memory.
@@ -112,32 +120,6 @@ impl PublishedExtract {
             self.schedules.as_slice(),
             sink,
         )
-    }
-}
-
-impl PublishedAssociation {
-    ghost use Rattle.cif_feed.specs.PublishedParts.{published_association_line};
-
-    /// Its line: plain, but for an open end.
-    fn line(&self) -> Line
-        ensures { result ≡ published_association_line self.now }
-    {
-        let association = &self.association;
-        let line = association.line_on(association.first, association.last);
-        with_open_end(self.open_end, 22, &line)
-    }
-}
-
-impl PublishedSchedule {
-    ghost use Rattle.cif_feed.specs.PublishedParts.{published_basic_line};
-
-    /// The line of its BS: plain, but for an open end and a holiday code.
-    fn basic_line(&self) -> Line
-        ensures { result ≡ published_basic_line self.now }
-    {
-        let schedule = &self.schedule;
-        let line = schedule.line_on(schedule.first, schedule.last);
-        with_code(self.code, &with_open_end(self.open_end, 16, &line))
     }
 }
 
@@ -186,7 +168,9 @@ impl Written for PublishedAssociation {
         _texts: &mut LineTexts,
         sink: &mut Sink<W>,
     ) -> Result<(), WriteFault> {
-        sink.write_line(&self.line())
+        let association = &self.association;
+        let line = association.line_on(association.first, association.last);
+        sink.write_line(&with_open_end(self.open_end, 22, &line))
     }
 }
 
@@ -200,7 +184,57 @@ impl Written for PublishedSchedule {
         texts: &mut LineTexts,
         sink: &mut Sink<W>,
     ) -> Result<(), WriteFault> {
-        write_schedule(&self.basic_line(), self.schedule.body.as_ref(), texts, sink)
+        let schedule = &self.schedule;
+        let line = schedule.line_on(schedule.first, schedule.last);
+        let basic = with_code(self.code, &with_open_end(self.open_end, 16, &line));
+        write_schedule(&basic, schedule.body.as_ref(), texts, sink)
+    }
+}
+
+/// What is made of a record and the mark of its line.
+pub(crate) trait FromLine {
+    /// The record of the line.
+    type Record: Drop;
+
+    ghost use Rattle.cif_feed.specs.declared.mark.RecordMark.{RecordMark};
+
+    // The record and the mark can be those of one line.
+    ghost may: { Self.Record → RecordMark → Type 0 };
+
+    // It is made of them.
+    ghost is_of: { Self.Record → RecordMark → Self → Type 0 };
+
+    /// What is made of this record and this mark.
+    fn from_line(entry: Self::Record, mark: RecordMark) -> Self
+        requires { may entry mark }
+        ensures { is_of entry mark result };
+}
+
+/// What is made of these records and the marks of their lines, one by one.
+pub(crate) fn from_lines<T: FromLine + Drop>(
+    alloc: Global,
+    mut entries: Vec<T::Record>,
+    mut marks: Vec<RecordMark>,
+) -> Result<Vec<T>, AllocError>
+    requires { ArePairs T.may entries.items marks.items }
+    ensures { IfOk result (λ made. AreTriples T.is_of entries.items marks.items made.items) }
+{
+    let mut made = Vec::with_capacity(alloc, entries.len())?;
+    while let Some(entry) = entries.pop() {
+        made.push(T::from_line(entry, last_of(&mut marks)))?;
+    }
+    made.reverse();
+    Ok(made)
+}
+
+/// Takes the last of the marks.
+pub(crate) fn last_of<M: Drop>(marks: &mut Vec<M>) -> M
+    requires { marks.old.items ≢ [] }
+    ensures { marks.old.items ≡ marks.new.items ++ result ∷ [] }
+{
+    match marks.pop() {
+        Some(mark) => mark,
+        None => unreachable!(),
     }
 }
 
@@ -208,16 +242,16 @@ impl FromLine for PublishedAssociation {
     type Record = Association;
 
     ghost use Rattle.cif_feed.specs.PublishedParts.{IsPublishedAssociation};
-    ghost use Rattle.cif_feed.specs.Steps.Marked.{IsClosed, last_of_association};
+    ghost use Rattle.cif_feed.specs.Steps.Marks.{IsClosed, last_of_association};
 
     ghost may = { IsClosed last_of_association };
 
     ghost is_of = { IsPublishedAssociation };
 
-    fn from_line(association: Association, mark: Numbered<RecordMark>) -> PublishedAssociation {
+    fn from_line(association: Association, mark: RecordMark) -> PublishedAssociation {
         PublishedAssociation {
             association,
-            open_end: mark.mark.open_end,
+            open_end: mark.open_end,
         }
     }
 }
@@ -226,17 +260,17 @@ impl FromLine for PublishedSchedule {
     type Record = Schedule;
 
     ghost use Rattle.cif_feed.specs.PublishedParts.{IsPublishedSchedule};
-    ghost use Rattle.cif_feed.specs.Steps.Marked.{IsClosed, last_of_schedule};
+    ghost use Rattle.cif_feed.specs.Steps.Marks.{IsClosed, last_of_schedule};
 
     ghost may = { IsClosed last_of_schedule };
 
     ghost is_of = { IsPublishedSchedule };
 
-    fn from_line(schedule: Schedule, mark: Numbered<RecordMark>) -> PublishedSchedule {
+    fn from_line(schedule: Schedule, mark: RecordMark) -> PublishedSchedule {
         PublishedSchedule {
             schedule,
-            open_end: mark.mark.open_end,
-            code: mark.mark.code,
+            open_end: mark.open_end,
+            code: mark.code,
         }
     }
 }

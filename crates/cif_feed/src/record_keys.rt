@@ -1,11 +1,11 @@
 //! The keys by which an update finds records.
 ghost use Rattle.std.specs.Prelude.{◌≡◌};
-ghost use Rattle.cif_feed.specs.RecordKeys.{association_key, schedule_rank, tiploc_key};
+ghost use Rattle.cif_feed.specs.RecordKeys.{schedule_rank, tiploc_key};
 
 use crate::{Keyed, PublishedAssociation, PublishedSchedule};
 use cif_calendar::uid_number;
 use cif_columns::{Day, Stp, Uid};
-use cif_records::{AssocKey, Association, Tiploc};
+use cif_records::{AssocKey, Tiploc};
 
 /// The key of a location: its TIPLOC.
 pub(crate) fn tiploc_key(tiploc: &Tiploc) -> [u8; 7]
@@ -14,17 +14,6 @@ pub(crate) fn tiploc_key(tiploc: &Tiploc) -> [u8; 7]
     let mut key = [0; 7];
     key.copy_from_slice(&tiploc.columns[..7]);
     key
-}
-
-/// The key of an association: its own key, its first date and its letter.
-fn association_key(association: &Association) -> (AssocKey, Day, Stp)
-    ensures { result ≡ association_key association.now }
-{
-    (
-        association.key.copy(),
-        association.first,
-        association.letter,
-    )
 }
 
 /// The rank of the key of a schedule: of its UID, its first date and its letter.
@@ -74,7 +63,12 @@ impl Keyed for PublishedAssociation {
     ghost rank = { λ k. k };
 
     fn rank(&self) -> (AssocKey, Day, Stp) {
-        association_key(&self.association)
+        let association = &self.association;
+        (
+            association.key.copy(),
+            association.first,
+            association.letter,
+        )
     }
 
     fn rank_of(known: &(AssocKey, Day, Stp)) -> (AssocKey, Day, Stp) {

@@ -1,23 +1,21 @@
 //! Updates: reading one, and doing what it says to a published extract.
-ghost use Rattle.std.specs.Prelude.{◌≡◌, ◌≤◌, ◌++◌, ◌∷◌, [], IfOk, length, reverse};
-ghost use Rattle.std.specs.Prelude.{if◌then◌else◌};
+ghost use Rattle.std.specs.Prelude.{◌≡◌, ◌≤◌, ◌++◌, ◌∷◌, [], IfOk, length, reverse, if◌then◌else◌};
 ghost use Rattle.cif_columns.specs.declared.line_reader.TheConstants.{MAX_LINES};
 ghost use Rattle.cif_extract.specs.ReadCall.{IsResultOf};
 ghost use Rattle.cif_feed.specs.PublishedParts.{published_parts};
 ghost use Rattle.cif_feed.specs.SpellsFeed.{feed_parts};
-ghost use Rattle.cif_feed.specs.Steps.Marked.{HasMarks};
+ghost use Rattle.cif_feed.specs.Steps.Marks.{HasMarks};
 ghost use Rattle.cif_feed.specs.UpdateParts.{change_by, tiploc_changes, tiploc_changes_by};
 ghost use Rattle.cif_feed.specs.Updated.{told_once};
-ghost use Rattle.cif_feed.specs.Sequence.{follows};
+ghost use Rattle.cif_feed.specs.Sequence.{current_reference, follows, last_reference};
 ghost use Rattle.cif_feed.specs.declared.changes.Unfit.TheVariants as unfit;
 ghost use Rattle.cif_feed.specs.Steps.Changes.{IsDone, last_line};
-ghost use Rattle.cif_feed.specs.declared.feed.Feed.TheVariants as feed;
+ghost use Rattle.cif_feed.specs.declared.feed_line.Feed.TheVariants as feed;
 
 use crate::feed_reading::{FeedExtract, read_feed};
-use crate::from_lines::{FromLine, from_lines, last_of};
-use crate::mark::{Numbered, RecordMark, TiplocMark};
+use crate::mark::{RecordMark, TiplocMark};
+use crate::published_extract::{FromLine, from_lines, last_of};
 use crate::record_keys::tiploc_key;
-use crate::sequence::follows;
 use crate::{
     Action, Change, Feed, FeedFault, HolidayCodes, Passed, PublishedAssociation, PublishedExtract,
     PublishedSchedule, RefusedLine, Transaction, Unfit, UpdateCounts, apply,
@@ -47,8 +45,7 @@ pub struct Update {
 }
 
 impl Update {
-    ghost use Rattle.cif_feed.specs.UpdateParts.{reading_update};
-    ghost use Rattle.cif_feed.specs.UpdateParts.{SayUpdate, update_parts};
+    ghost use Rattle.cif_feed.specs.UpdateParts.{reading_update, SayUpdate, update_parts};
 
     /// The update that the source's contents spell, of which at most `max_lines` may come.
     ///
@@ -77,18 +74,10 @@ impl Update {
     fn of_lines(alloc: Global, lines: FeedExtract) -> Result<Update, AllocError>
         requires { HasMarks (feed_parts lines) }
         ensures says { IfOk result (λ update. SayUpdate (feed_parts lines) (update_parts update)) }
-        ensures counts { IfOk result (λ update. update.counts ≡ lines.counts) }
-        ensures passed { IfOk result (λ update. update.passed ≡ lines.passed) }
+        ensures counts { IfOk result (λ update. update.counts ≡ lines.marks.counts) }
+        ensures passed { IfOk result (λ update. update.passed ≡ lines.marks.passed) }
     {
-        let FeedExtract {
-            extract,
-            header_line,
-            tiploc_marks,
-            association_marks,
-            schedule_marks,
-            counts,
-            passed,
-        } = lines;
+        let FeedExtract { extract, marks } = lines;
         let Extract {
             header,
             tiplocs,
@@ -97,20 +86,19 @@ impl Update {
         } = extract;
         Ok(Update {
             header,
-            header_line,
-            tiplocs: tiploc_changes(alloc, tiplocs, tiploc_marks)?,
-            associations: from_lines(alloc, associations, association_marks)?,
-            schedules: from_lines(alloc, schedules, schedule_marks)?,
-            counts,
-            passed,
+            header_line: marks.header_line,
+            tiplocs: tiploc_changes(alloc, tiplocs, marks.tiplocs)?,
+            associations: from_lines(alloc, associations, marks.associations)?,
+            schedules: from_lines(alloc, schedules, marks.schedules)?,
+            counts: marks.counts,
+            passed: marks.passed,
         })
     }
 }
 
 impl PublishedExtract {
-    ghost use Rattle.cif_feed.specs.Updated.{updating};
+    ghost use Rattle.cif_feed.specs.Updated.{updating, AreRefusedLines, IsUpdated};
     ghost use Rattle.cif_feed.specs.UpdateParts.{update_parts};
-    ghost use Rattle.cif_feed.specs.Updated.{AreRefusedLines, IsUpdated};
 
     /// Applies the update. Returns the lines that don't fit, that of its header first, if it doesn't follow,
     /// and then the others in their order, each once; they are applied anyway.
@@ -168,6 +156,32 @@ impl PublishedExtract {
             Err(fault) => Err(fault),
         }
     }
+}
+
+/// The current reference of an extract with this header, columns 33 to 39.
+pub fn current_reference(header: &Header) -> [u8; 7]
+    ensures { result ≡ current_reference header.now }
+{
+    let mut reference = [0; 7];
+    reference.copy_from_slice(&header.columns[30..37]);
+    reference
+}
+
+/// The last reference of an extract with this header, columns 40 to 46.
+pub fn last_reference(header: &Header) -> [u8; 7]
+    ensures { result ≡ last_reference header.now }
+{
+    let mut reference = [0; 7];
+    reference.copy_from_slice(&header.columns[37..44]);
+    reference
+}
+
+/// Whether an update with the one header follows an extract with the other.
+fn follows(update: &Header, extract: &Header) -> bool
+    ensures { result ≡ follows update.now extract.now }
+{
+    let last = last_reference(update);
+    last == *b"       " || last == current_reference(extract)
 }
 
 /// The line of an update's header, if that doesn't follow an extract with this other header.
@@ -245,7 +259,7 @@ fn tell_once(
 fn tiploc_changes(
     alloc: Global,
     mut tiplocs: Vec<Tiploc>,
-    mut marks: Vec<Numbered<TiplocMark>>,
+    mut marks: Vec<TiplocMark>,
 ) -> Result<Vec<Change<[u8; 7], Tiploc>>, AllocError>
     requires { length marks.items ≡ length tiplocs.items }
     ensures { IfOk result (λ changes. changes.items ≡ tiploc_changes tiplocs.items marks.items) }
@@ -262,14 +276,14 @@ fn tiploc_changes(
 fn push_reversed(
     changes: &mut Vec<Change<[u8; 7], Tiploc>>,
     tiploc: Tiploc,
-    mark: Numbered<TiplocMark>,
+    mark: TiplocMark,
 ) -> Result<(), AllocError>
     ensures { IfOk result (λ _. changes.new.items ≡ changes.old.items
-        ++ reverse (tiploc_changes_by mark.mark.transaction mark.number mark.mark.tiploc tiploc)) }
+        ++ reverse (tiploc_changes_by mark.transaction mark.line mark.tiploc tiploc)) }
 {
-    let line = mark.number;
-    let own = mark.mark.tiploc;
-    match mark.mark.transaction {
+    let line = mark.line;
+    let own = mark.tiploc;
+    match mark.transaction {
         Transaction::New => push(changes, line, Action::New(tiploc)),
         Transaction::Deleted => push(changes, line, Action::Deleted(own)),
         Transaction::Revised => {
@@ -311,7 +325,7 @@ fn change_by<K: Drop, R: Drop>(transaction: Transaction, line: u64, key: K, put:
 impl FromLine for Change<(AssocKey, Day, Stp), PublishedAssociation> {
     type Record = Association;
 
-    ghost use Rattle.cif_feed.specs.Steps.Marked.{IsClosed, last_of_association};
+    ghost use Rattle.cif_feed.specs.Steps.Marks.{IsClosed, last_of_association};
     ghost use Rattle.cif_feed.specs.UpdateParts.{IsAssociationChange};
 
     ghost may = { IsClosed last_of_association };
@@ -320,18 +334,18 @@ impl FromLine for Change<(AssocKey, Day, Stp), PublishedAssociation> {
 
     fn from_line(
         association: Association,
-        mark: Numbered<RecordMark>,
+        mark: RecordMark,
     ) -> Change<(AssocKey, Day, Stp), PublishedAssociation> {
-        let key = (association.key.copy(), association.first, mark.mark.letter);
+        let key = (association.key.copy(), association.first, mark.letter);
         let published = PublishedAssociation::from_line(association, mark);
-        change_by(mark.mark.transaction, mark.number, key, published)
+        change_by(mark.transaction, mark.line, key, published)
     }
 }
 
 impl FromLine for Change<(Uid, Day, Stp), PublishedSchedule> {
     type Record = Schedule;
 
-    ghost use Rattle.cif_feed.specs.Steps.Marked.{IsClosed, last_of_schedule};
+    ghost use Rattle.cif_feed.specs.Steps.Marks.{IsClosed, last_of_schedule};
     ghost use Rattle.cif_feed.specs.UpdateParts.{IsScheduleChange};
 
     ghost may = { IsClosed last_of_schedule };
@@ -340,10 +354,10 @@ impl FromLine for Change<(Uid, Day, Stp), PublishedSchedule> {
 
     fn from_line(
         schedule: Schedule,
-        mark: Numbered<RecordMark>,
+        mark: RecordMark,
     ) -> Change<(Uid, Day, Stp), PublishedSchedule> {
-        let key = (schedule.uid, schedule.first, mark.mark.letter);
+        let key = (schedule.uid, schedule.first, mark.letter);
         let published = PublishedSchedule::from_line(schedule, mark);
-        change_by(mark.mark.transaction, mark.number, key, published)
+        change_by(mark.transaction, mark.line, key, published)
     }
 }

@@ -19,7 +19,7 @@ use Rattle.cif_feed.specs.HolidayText.{IsHolidayFault, is_holiday_read, reading_
 use Rattle.cif_feed.specs.WrittenPrepared.{FeedWrites, IsDeviceOrMemory, IsPrepareFault as IsOnePrepareFault, IsPreparedText, Prepares}
 use Rattle.cif_feed.specs.WrittenPrepared.{codes_named, preparing}
 use Rattle.cif_feed.specs.declared.dropped.Dropped.{Dropped}
-use Rattle.cif_feed.specs.declared.feed.Feed.TheVariants.{Full}
+use Rattle.cif_feed.specs.declared.feed_line.Feed.TheVariants.{Full}
 use Rattle.cif_feed.specs.declared.feed.FeedFault.{FeedFault}
 use Rattle.cif_feed.specs.declared.feed.FeedFault.TheVariants.{BadTransaction, Extract, NotUpdate}
 use Rattle.cif_feed.specs.declared.holiday_text.HolidayFault.{HolidayFault}

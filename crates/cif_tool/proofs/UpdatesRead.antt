@@ -25,7 +25,7 @@ use Rattle.cif_feed.specs.declared.changes.Unfit.TheVariants as unfit
 use Rattle.cif_feed.specs.declared.feed.FeedFault.{FeedFault}
 use Rattle.cif_feed.specs.declared.feed.FeedFault.TheVariants.{AlreadyThere, BadHoliday, BadTransaction, Extract, NotThere}
 use Rattle.cif_feed.specs.declared.feed.FeedFault.TheVariants.{NotUpdate, OutOfSequence}
-use Rattle.cif_feed.specs.declared.holiday_code.HolidayCodes.{HolidayCodes}
+use Rattle.cif_feed.specs.declared.holidays.HolidayCodes.{HolidayCodes}
 use Rattle.cif_feed.specs.declared.published_extract.PublishedExtract.{PublishedExtract}
 use Rattle.cif_feed.specs.declared.update.Outcome.{Outcome}
 use Rattle.cif_tool.specs.FeedAnswer.{AreDoneInTurn, AreGiven, AreUpdatesRead, EndsAs, FeedAnswers, FeedFinishes, IsTold}

@@ -7,8 +7,8 @@ use Rattle.cif_records.specs.declared.basic.Basic.{Basic}
 use Rattle.cif_records.specs.declared.basic.BasicTerms.{BasicTerms}
 use Rattle.cif_records.specs.declared.record.Record.TheVariants as of
 use Rattle.cif_feed.specs.FeedLine.{SpellsInFeed}
-use Rattle.cif_feed.specs.declared.feed.Feed.{Feed}
-use Rattle.cif_feed.specs.declared.holiday_code.HolidayCodes.{HolidayCodes}
+use Rattle.cif_feed.specs.declared.feed_line.Feed.{Feed}
+use Rattle.cif_feed.specs.declared.holidays.HolidayCodes.{HolidayCodes}
 
 -- the line spells a basic schedule with these terms, whose detail, if it has one, stands in its columns
 pub record ReadsBasic (feed : Feed) (allowed : HolidayCodes) (line : List ℕ) (t : BasicTerms) : Type 0 where

@@ -1,73 +1,31 @@
 -- What the reading of a feed has come to, content by content.
-use Rattle.std.specs.Prelude.{◌≡◌, ℕ, ◌+◌, ◌==◌, true, false, not, ◌&&◌, List, [], ◌∷◌, ◌++◌, Option, Some, None, Result, Ok, Err}
-use Rattle.std.specs.Prelude.{if◌then◌else◌}
+use Rattle.std.specs.Prelude.{◌≡◌, ℕ, ◌+◌, true, false, not, ◌&&◌, List, [], ◌∷◌, ◌++◌, Option, Some, None, Result, Ok, Err}
 use Rattle.std.specs.List.{list_any}
 use Rattle.cif_columns.specs.Comment.{is_comment}
 use Rattle.cif_columns.specs.Line.{IsLine}
-use Rattle.cif_records.specs.Kind.{kind_in}
 use Rattle.cif_columns.specs.declared.refusal.Refusal.TheVariants.{OutOfOrder}
 use Rattle.cif_extract.specs.Steps.Reading.{IsTakenAs, Progress, progress_of}
 use Rattle.cif_extract.specs.Taken.{HasTaken, refusal_at}
 use Rattle.cif_extract.specs.declared.reading.TakeFault.{TakeFault}
 use Rattle.cif_extract.specs.declared.reading.TakeFault.TheVariants.{Refused, Memory}
+use Rattle.cif_records.specs.Kind.{kind_in}
 use Rattle.cif_records.specs.declared.record.Kind.{Kind}
 use Rattle.cif_records.specs.declared.record.Kind.TheVariants.{Hd, Ti, Ta, Td, Aa, Bs}
 use Rattle.cif_feed.specs.FeedLayouts.{feed_layouts}
 use Rattle.cif_feed.specs.FeedLine.{SpellsInFeed}
-use Rattle.cif_feed.specs.RecordLines.{association_mark, is_basic, is_header, is_trailer, marks, record_lines, schedule_mark}
-use Rattle.cif_feed.specs.RecordLines.{tiploc_mark}
-use Rattle.cif_feed.specs.Counts.{counts_of}
-use Rattle.cif_feed.specs.SpellsFeed.{header_line, passed_of}
 use Rattle.cif_feed.specs.FeedRefusal.{line_refusal}
-use Rattle.cif_feed.specs.declared.feed.Feed.{Feed}
-use Rattle.cif_feed.specs.declared.feed.Feed.TheVariants.{Update}
+use Rattle.cif_feed.specs.Marks.{mark_parts, marks_in}
+use Rattle.cif_feed.specs.RecordLines.{is_basic, is_trailer, record_lines}
+use Rattle.cif_feed.specs.declared.feed_line.Feed.{Feed}
+use Rattle.cif_feed.specs.declared.feed_line.Feed.TheVariants.{Update}
 use Rattle.cif_feed.specs.declared.feed_reading.FeedReading.{FeedReading}
-use Rattle.cif_feed.specs.declared.holiday_code.HolidayCodes.{HolidayCodes}
-use Rattle.cif_feed.specs.declared.mark.LineMark.{LineMark}
-use Rattle.cif_feed.specs.declared.mark.Numbered.{Numbered}
-use Rattle.cif_feed.specs.declared.mark.RecordMark.{RecordMark}
-use Rattle.cif_feed.specs.declared.mark.TiplocMark.{TiplocMark}
-
--- the marks so far
-pub record Marks : Type 0 where
-  pub tiplocs : List (Numbered TiplocMark)
-  pub associations : List (Numbered RecordMark)
-  pub schedules : List (Numbered RecordMark)
-
-abbrev pub marks_of : FeedReading → Marks
-marks_of r = record {
-  tiplocs = r.tiploc_marks.items;
-  associations = r.association_marks.items;
-  schedules = r.schedule_marks.items;
-}
-
--- the marks of contents
-abbrev pub marks_in : Feed → HolidayCodes → List (List ℕ) → Marks
-marks_in feed allowed contents = record {
-  tiplocs = marks tiploc_mark feed allowed contents;
-  associations = marks association_mark feed allowed contents;
-  schedules = marks schedule_mark feed allowed contents;
-}
-
--- the marks and what the line of this number leaves out
-abbrev pub with_mark : Marks → ℕ → LineMark → Marks
-with_mark m number mark = record {
-  tiplocs = m.tiplocs ++ tiploc_mark number mark;
-  associations = m.associations ++ association_mark number mark;
-  schedules = m.schedules ++ schedule_mark number mark;
-}
-
--- the number of the first header, where it was this one, and then a line of this kind has this number
-abbrev pub header_behind : ℕ → Option Kind → ℕ → ℕ
-header_behind so_far kind number = if is_header kind && (so_far == 0) then number else so_far
+use Rattle.cif_feed.specs.declared.holidays.HolidayCodes.{HolidayCodes}
+use Rattle.cif_feed.specs.declared.mark.Passed.{Passed}
 
 -- the reading has taken these contents
 pub record HasTakenFeed (feed : Feed) (allowed : HolidayCodes) (contents : List (List ℕ)) (r : FeedReading) : Type 0 where
   pub taken : HasTaken (feed_layouts feed allowed) (record_lines contents) (progress_of r.reading)
-  pub header_line : r.header_line ≡ header_line contents
-  pub marked : marks_of r ≡ marks_in feed allowed contents
-  pub counts : r.counts ≡ counts_of contents
-  pub passed : r.passed ≡ passed_of contents
+  pub marks : mark_parts r.marks ≡ marks_in allowed contents
   pub basic : r.has_basic ≡ list_any (λ content. is_basic (kind_in content)) contents
   pub trailer : r.has_trailer ≡ list_any (λ content. is_trailer (kind_in content)) contents
 
@@ -106,19 +64,13 @@ pub record IsStopTaken (feed : Feed) (allowed : HolidayCodes) (contents : List (
   pub stands : line_refusal feed allowed contents line ≡ None
   pub taken : HasTakenFeed feed allowed (contents ++ (line ∷ [])) r
 
+-- the reading with these contents passed over
+abbrev pub with_passed : FeedReading → Passed → FeedReading
+with_passed r passed = record r { marks = record r.marks { passed = passed } }
+
 -- a note was counted, or none may stand
 abbrev pub IsNoteTaken : FeedReading → Result Unit TakeFault → FeedReading → Type 0
-IsNoteTaken old (Ok done) new =
-    ((old.has_basic && not old.has_trailer) ≡ true) × (new ≡ record old { passed = record old.passed { notes = old.passed.notes + 1 } })
+IsNoteTaken old (Ok done) new = ((old.has_basic && not old.has_trailer) ≡ true)
+    × (new ≡ with_passed old (record old.marks.passed { notes = old.marks.passed.notes + 1 }))
 IsNoteTaken old (Err (Refused why)) new = ((old.has_basic && not old.has_trailer) ≡ false) × (why ≡ OutOfOrder)
 IsNoteTaken old (Err Memory) new = ⊥
-
--- a mark more
-pub record IsMarked (old : FeedReading) (number : ℕ) (mark : LineMark) (new : FeedReading) : Type 0 where
-  pub marked : marks_of new ≡ with_mark (marks_of old) number mark
-  pub reading : new.reading ≡ old.reading
-  pub header_line : new.header_line ≡ old.header_line
-  pub counts : new.counts ≡ old.counts
-  pub passed : new.passed ≡ old.passed
-  pub basic : new.has_basic ≡ old.has_basic
-  pub trailer : new.has_trailer ≡ old.has_trailer

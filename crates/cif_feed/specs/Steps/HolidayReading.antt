@@ -2,7 +2,7 @@
 use Rattle.std.specs.Prelude.{◌≡◌, ◌⊎◌, ◌↔◌, ℕ, List, All}
 use Rattle.cif_feed.specs.HolidayText.{IsDate, IsHolidayLine, LineNames, LineSays}
 use Rattle.cif_feed.specs.Holidays.{IsHoliday, Names}
-use Rattle.cif_feed.specs.declared.holiday_code.HolidayCode.{HolidayCode}
+use Rattle.cif_feed.specs.declared.holidays.HolidayCode.{HolidayCode}
 use Rattle.cif_feed.specs.declared.holiday_text.HolidayFault.{HolidayFault}
 use Rattle.cif_feed.specs.declared.holiday_text.HolidayFault.TheVariants.{BadHoliday, Read, Memory}
 use Rattle.cif_feed.specs.declared.holidays.Holidays.{Holidays}

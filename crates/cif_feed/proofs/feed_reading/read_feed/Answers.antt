@@ -7,11 +7,11 @@ use Rattle.cif_columns.proofs.ReadSources.{read_nothing, read_on_both}
 use Rattle.cif_columns.specs.Comment.{is_comment}
 use Rattle.cif_columns.specs.LineReader.{given}
 use Rattle.cif_records.specs.Kind.{kind_in}
+use Rattle.cif_feed.specs.Marks.{MarkParts}
 use Rattle.cif_feed.specs.RecordLines.{is_note}
-use Rattle.cif_feed.specs.declared.feed_reading.Passed.{Passed}
 use Rattle.cif_feed.proofs.FeedRuns.{at_feed_line, comes-end, comes-line_fault, comes-memory, comes-untaken, comment_fine, feed_comment}
 use Rattle.cif_feed.proofs.FeedRuns.{feed_line, feed_reason, fewer, line_why, none_more, none_none, room_more}
-use Rattle.cif_feed.proofs.HeldMarks.{marked_result}
+use Rattle.cif_feed.proofs.SaidLines.{marked_result}
 use Rattle.cif_feed.proofs.feed_reading.read_feed.Goals as goal
 
 pub loop-columns-init : goal.loop-columns-init
@@ -51,7 +51,7 @@ take-requires-clause-room g c =
     omega (
       arith,
       more,
-      ap (λ (p : Passed). p.notes) taken.passed,
+      ap (λ (m : MarkParts). m.passed.notes) taken.marks,
       fewer is_note cs,
       so_far.counted,
       c.read_content.new.self.counted,
@@ -63,7 +63,7 @@ take-requires-clause-counts g c =
     let (cs, so_far, taken, fine, read_on) = c.loop-columns.invariant in
     let got = rw c.in-Ok-Line.field-0-is at c.in-Ok-Line.ensures in
     let more : given c.read_content.new.self ≡ given c.loop-columns.lines + 1 = got.0.counted in
-    room_more cs c.loop-columns.reading.counts taken.counts
+    room_more cs c.loop-columns.reading.marks.counts (ap (λ (m : MarkParts). m.counts) taken.marks)
     (omega (arith, more, so_far.counted, c.read_content.new.self.counted, c.read_content.new.self.limited))
 
 pub loop-columns-preserved-in-Ok-take : goal.loop-columns-preserved-in-Ok-take
@@ -94,7 +94,7 @@ pass_comment-requires g c =
     omega (
       arith,
       more,
-      ap (λ (p : Passed). p.comments) taken.passed,
+      ap (λ (m : MarkParts). m.passed.comments) taken.marks,
       fewer is_comment cs,
       so_far.counted,
       c.read_content.new.self.counted,

@@ -1,6 +1,5 @@
 -- The lines of a feed say one extract, and leave out what they leave out.
-use Rattle.cif_feed.proofs.SaidPublished.{one_published}
-use Rattle.cif_feed.proofs.SaidUpdate.{one_update}
+use Rattle.cif_feed.proofs.SpelledFeeds.{one_published, one_update}
 use Rattle.cif_feed.proofs.laws.contents_spell_one_feed.Goals as goal
 
 pub returns-clause-published : goal.returns-clause-published

@@ -4,8 +4,8 @@ use Rattle.cif_columns.specs.Contents.{contents_of}
 use Rattle.cif_extract.proofs.SpelledBytes.{one_spelled}
 use Rattle.cif_feed.specs.PreparedDays.{SayAsPublished}
 use Rattle.cif_feed.specs.WrittenPrepared.{AreDroppedIf, codes_named}
-use Rattle.cif_feed.proofs.PreparedDays.{says-published}
-use Rattle.cif_feed.proofs.SaidPublished.{one_published}
+use Rattle.cif_feed.proofs.PreparedRuns.{says-published}
+use Rattle.cif_feed.proofs.SpelledFeeds.{one_published}
 use Rattle.cif_feed.proofs.laws.prepared_texts_say_what_was_published.Goals as goal
 
 pub returns : goal.returns

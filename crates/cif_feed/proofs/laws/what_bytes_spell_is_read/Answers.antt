@@ -1,9 +1,8 @@
 -- There is one at most, and what is spelled isn't blamed.
-use Rattle.cif_feed.proofs.HolidayReadings.{holidays_as}
+use Rattle.cif_feed.proofs.HolidayLines.{holidays_as}
 use Rattle.cif_feed.proofs.JudgedRuns.{judged_as}
-use Rattle.cif_feed.proofs.SaidPublished.{published_as}
-use Rattle.cif_feed.proofs.SaidUpdate.{update_as}
-use Rattle.cif_feed.proofs.UpdatesDone.{updated_blames_none}
+use Rattle.cif_feed.proofs.SpelledFeeds.{published_as, update_as}
+use Rattle.cif_feed.proofs.UpdatesInTurn.{updated_blames_none}
 use Rattle.cif_feed.proofs.WrittenPrepared.{prepared_blames_none}
 use Rattle.cif_feed.proofs.laws.what_bytes_spell_is_read.Goals as goal
 

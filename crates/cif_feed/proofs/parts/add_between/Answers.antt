@@ -7,8 +7,8 @@ use Rattle.cif_columns.specs.Day.{weekday_of}
 use Rattle.cif_columns.specs.DaysRun.{RunsOn}
 use Rattle.cif_feed.specs.Parts.{ended}
 use Rattle.cif_feed.specs.Steps.PartsSoFar.{IsLeftFrom, records_on}
-use Rattle.cif_feed.proofs.CutAt.{IsCutUpTo, cut-behind, cut-end, cut-last, cut-next, cut-nothing, cut-passed, never-cut, pushed-added}
-use Rattle.cif_feed.proofs.CutAt.{pushed-from}
+use Rattle.cif_feed.proofs.PartLists.{IsCutUpTo, cut-behind, cut-end, cut-last, cut-next, cut-nothing, cut-passed, never-cut, pushed-added}
+use Rattle.cif_feed.proofs.PartLists.{pushed-from}
 use Rattle.cif_feed.proofs.parts.add_between.Goals as goal
 use Rattle.cif_feed.proofs.parts.add_between.Goals.{then-has+in_ok-add_before+in-Some-next_up_to, else-has}
 

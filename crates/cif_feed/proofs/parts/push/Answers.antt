@@ -1,6 +1,6 @@
 -- It is the one that was made.
 use Rattle.std.proofs.Common.{refl}
-use Rattle.cif_feed.proofs.CutAt.{pushed-is}
+use Rattle.cif_feed.proofs.PartLists.{pushed-is}
 use Rattle.cif_feed.proofs.parts.push.Goals as goal
 
 pub returns : goal.returns

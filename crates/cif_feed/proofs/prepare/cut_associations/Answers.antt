@@ -5,7 +5,7 @@ use Rattle.cif_feed.specs.Prepared.{ArePrepared}
 use Rattle.cif_feed.specs.PreparedParts.{association_on}
 use Rattle.cif_feed.specs.PublishedParts.{published_association_terms, published_associations}
 use Rattle.cif_feed.specs.Steps.Dropping.{IsStopAmong}
-use Rattle.cif_feed.specs.declared.published.PublishedAssociation.{PublishedAssociation}
+use Rattle.cif_feed.specs.declared.published_extract.PublishedAssociation.{PublishedAssociation}
 use Rattle.cif_feed.proofs.PreparedLists.{added-associations, added-more}
 use Rattle.cif_feed.proofs.prepare.cut_associations.Goals as goal
 

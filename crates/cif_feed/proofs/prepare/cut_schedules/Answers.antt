@@ -5,7 +5,7 @@ use Rattle.cif_feed.specs.Prepared.{ArePrepared}
 use Rattle.cif_feed.specs.PreparedParts.{schedule_on}
 use Rattle.cif_feed.specs.PublishedParts.{published_schedule_terms, published_schedules}
 use Rattle.cif_feed.specs.Steps.Dropping.{IsStopAmong}
-use Rattle.cif_feed.specs.declared.published.PublishedSchedule.{PublishedSchedule}
+use Rattle.cif_feed.specs.declared.published_extract.PublishedSchedule.{PublishedSchedule}
 use Rattle.cif_feed.proofs.PreparedLists.{added-more, added-schedules}
 use Rattle.cif_feed.proofs.prepare.cut_schedules.Goals as goal
 

@@ -6,7 +6,7 @@ use Rattle.cif_feed.specs.Steps.Changes.{last_line}
 use Rattle.cif_feed.specs.Updated.{told_once}
 use Rattle.cif_feed.specs.declared.changes.RefusedLine.{RefusedLine}
 use Rattle.cif_feed.specs.declared.changes.Unfit.TheVariants.{OutOfSequence}
-use Rattle.cif_feed.proofs.ToldLines.{last-more, told-more}
+use Rattle.cif_feed.proofs.UpdatesInTurn.{last-more, told-more}
 use Rattle.cif_feed.proofs.update.tell_once.Goals as goal
 use Rattle.cif_feed.proofs.update.tell_once.Goals.{then-line-last+in_ok-push, else-line-last}
 

@@ -1,7 +1,7 @@
 -- The last of the locations and of the marks go to the front.
 use Rattle.std.proofs.Common.{◌≡◌, ◌++◌, ◌∷◌, [], ap, refl, sym, ◌∙◌, append-nil, append_assoc, arith, length, length-append, reverse}
 use Rattle.std.proofs.lemmas.List.{nil_from_length, reverse-append, reverse-reverse}
-use Rattle.cif_feed.specs.UpdateParts.{tiploc_changes, tiploc_changes_by}
+use Rattle.cif_feed.specs.UpdateParts.{tiploc_changes, tiploc_changes_of}
 use Rattle.cif_feed.proofs.update.tiploc_changes.Goals as goal
 
 pub loop-tiploc-init : goal.loop-tiploc-init
@@ -24,7 +24,7 @@ pub loop-tiploc-preserved : goal.loop-tiploc-preserved
 loop-tiploc-preserved c =
     let (long, tiplocs, marks, tiplocs_are, marks_are, made) = c.loop-tiploc.invariant in
     let m = c.last_of.result in
-    let own = tiploc_changes_by m.mark.transaction m.number m.mark.tiploc c.in-Some.tiploc in (
+    let own = tiploc_changes_of m c.in-Some.tiploc in (
       omega (
         arith,
         long,

@@ -2,13 +2,12 @@
 use Rattle.std.proofs.Common.{◌≡◌, List, ◌++◌, length, reverse}
 use Rattle.cif_records.specs.declared.tiploc.Tiploc.{Tiploc}
 use Rattle.cif_feed.specs.UpdateParts.{tiploc_changes}
-use Rattle.cif_feed.specs.declared.mark.Numbered.{Numbered}
 use Rattle.cif_feed.specs.declared.mark.TiplocMark.{TiplocMark}
 use Rattle.cif_feed.proofs.update.tiploc_changes.Given as goal
 
 abbrev pub invariant-loop-tiploc : goal.invariant-loop-tiploc
 invariant-loop-tiploc l = (length l.marks.items ≡ length l.tiplocs.items)
-    × (tiplocs : List Tiploc) × (marks : List (Numbered TiplocMark)) × (l.initial.tiplocs.items ≡ l.tiplocs.items ++ tiplocs)
+    × (tiplocs : List Tiploc) × (marks : List TiplocMark) × (l.initial.tiplocs.items ≡ l.tiplocs.items ++ tiplocs)
     × (l.initial.marks.items ≡ l.marks.items ++ marks) × (reverse l.changes.items ≡ tiploc_changes tiplocs marks)
 
 abbrev pub decreases-loop-tiploc : goal.decreases-loop-tiploc

@@ -1,10 +1,9 @@
--- A note is counted (`note_taken`); of a line that is taken its mark is kept (`line_marked`).
-use Rattle.std.proofs.Common.{◌||◌, ap, refl, sym, ◌∙◌}
-use Rattle.cif_feed.specs.FeedLine.{mark_by}
+-- A note is counted (`note_taken`); of a line that is taken its mark is kept (`line_taken`).
+use Rattle.std.proofs.Common.{◌||◌, ap, sym, ◌∙◌}
+use Rattle.cif_feed.specs.Marks.{mark_parts}
 use Rattle.cif_feed.specs.RecordLines.{is_basic, is_trailer}
-use Rattle.cif_feed.specs.Steps.FeedReading.{header_behind}
-use Rattle.cif_feed.specs.Steps.Counts.{with_line}
-use Rattle.cif_feed.proofs.FeedSteps.{line_marked, line_untaken, note_taken}
+use Rattle.cif_feed.specs.Steps.Marks.{with_line}
+use Rattle.cif_feed.proofs.FeedSteps.{line_taken, line_untaken, note_taken}
 use Rattle.cif_feed.proofs.feed_reading.FeedReading.take.Goals as goal
 
 pub returns-then-is_note-clause-taken : goal.returns-then-is_note-clause-taken
@@ -15,29 +14,22 @@ returns-then-is_note-clause-taken c = λ cs so_far at.
 pub take_record-requires-clause-read : goal.take_record-requires-clause-read
 take_record-requires-clause-read c = (c.requires.taken.1.taken.records, c.requires.taken.1.taken.read)
 
-pub returns-in-Ok-clause-taken : goal.returns-in-Ok-clause-taken
-returns-in-Ok-clause-taken c = λ cs so_far at.
+pub returns-in-Ok-add-clause-taken : goal.returns-in-Ok-add-clause-taken
+returns-in-Ok-add-clause-taken c = λ cs so_far at.
     let a = c.args in
-    line_marked a.feed a.allowed cs a.line.now a.number c.mark_of.result c.push_mark.result a.self.now
-    (record a.self.now {
+    line_taken a.feed a.allowed cs a.line.now a.number a.self.now (record {
       reading = c.take_record.new.reading;
-      header_line = c.header_behind-self.result;
-      counts = c.add.new.self;
+      marks = c.add.new.self;
       has_basic = a.self.now.has_basic || c.is_basic.result;
       has_trailer = a.self.now.has_trailer || c.is_trailer.result;
-    })
-    c.push_mark.new.self at so_far (record {
+    }) at so_far (record {
       no_comment = c.requires.no_comment;
       no_note = sym c.is_note.ensures.note ∙ c.if-is_note.false;
-      header_line = c.header_behind-self.ensures
-          ∙ ap (λ kind. header_behind a.self.now.header_line kind a.number) c.kind_of-kind.ensures.kind;
-      marks = refl;
-      counts = c.add.ensures ∙ ap (λ kind. with_line a.self.now.counts kind a.line.now) c.kind_of-kind.ensures.kind;
-      passed = refl;
+      marks = c.in-Ok-add.ensures ∙ ap (λ kind. with_line (mark_parts a.self.now.marks) a.allowed kind (a.number, a.line.now))
+          c.kind_of-kind.ensures.kind;
       basic = ap (λ b. a.self.now.has_basic || b) (c.is_basic.ensures ∙ ap is_basic c.kind_of-kind.ensures.kind);
       trailer = ap (λ b. a.self.now.has_trailer || b) (c.is_trailer.ensures ∙ ap is_trailer c.kind_of-kind.ensures.kind);
     }) c.in-Ok.ensures
-    (c.mark_of.ensures ∙ ap (λ kind. mark_by a.feed a.allowed kind a.line.now) c.kind_of-kind.ensures.kind) c.push_mark.ensures
 
 pub returns-in-Err-clause-taken : goal.returns-in-Err-clause-taken
 returns-in-Err-clause-taken c = λ cs so_far at.

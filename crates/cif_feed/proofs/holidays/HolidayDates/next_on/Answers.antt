@@ -2,7 +2,7 @@
 -- (`date-found`).
 use Rattle.std.proofs.Common.{inr, ℕ, ◌<◌, rules, arith, ◌∙◌, ap, drop, subst}
 use Rattle.std.proofs.lemmas.List.{get_or_read, take_rest}
-use Rattle.cif_feed.proofs.DatesFrom.{date-found, from-late, none-found}
+use Rattle.cif_feed.proofs.PartLists.{date-found, from-late, none-found}
 use Rattle.cif_feed.proofs.holidays.HolidayDates.next_on.Goals as goal
 
 pub returns-then-gt : goal.returns-then-gt

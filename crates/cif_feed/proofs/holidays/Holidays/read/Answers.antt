@@ -6,8 +6,8 @@ use Rattle.cif_columns.proofs.ReadSources.{read_nothing, read_on_both}
 use Rattle.cif_columns.specs.ContentReader.{content}
 use Rattle.cif_feed.specs.HolidayText.{IsHolidayLine}
 use Rattle.cif_feed.specs.Steps.HolidayReading.{HasLineMore, IsLineFault}
-use Rattle.cif_feed.proofs.HolidayReadings.{AreLinesAndRest, are-none, are-push, comes-bad, comes-end, comes-line_fault}
-use Rattle.cif_feed.proofs.HolidayReadings.{comes-overlong, line-more}
+use Rattle.cif_feed.proofs.HolidayLines.{AreLinesAndRest, are-none, are-push, comes-bad, comes-end, comes-line_fault, comes-overlong}
+use Rattle.cif_feed.proofs.HolidayLines.{line-more}
 use Rattle.cif_feed.proofs.holidays.Holidays.read.Goals as goal
 
 pub loop-lines-init : goal.loop-lines-init

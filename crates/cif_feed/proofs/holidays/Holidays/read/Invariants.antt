@@ -4,7 +4,7 @@ use Rattle.cif_columns.specs.ContentReader.{given, limit}
 use Rattle.cif_columns.specs.Source.{HasReadOn}
 use Rattle.cif_columns.proofs.ContentRuns.{HasGiven}
 use Rattle.cif_feed.specs.HolidayText.{AreHolidaysOf}
-use Rattle.cif_feed.proofs.HolidayReadings.{AreLinesAndRest}
+use Rattle.cif_feed.proofs.HolidayLines.{AreLinesAndRest}
 use Rattle.cif_feed.proofs.holidays.Holidays.read.Given as goal
 
 abbrev pub invariant-loop-lines : goal.invariant-loop-lines

@@ -9,7 +9,7 @@ use Rattle.cif_columns.specs.Source.{source_ended}
 use Rattle.cif_columns.specs.declared.refusal.Refusal.TheVariants.{BadLength}
 use Rattle.cif_extract.proofs.ReadCalls.{of_any}
 use Rattle.cif_feed.proofs.JudgedRuns.{comes-finished, comes-line_fault, comes-memory, overlong_ok}
-use Rattle.cif_feed.proofs.OwnReasons.{own_of_long, some_has_here}
+use Rattle.cif_feed.proofs.ToldReasons.{own_of_long, some_has_here}
 use Rattle.cif_feed.proofs.judged.Judged.read.Goals as goal
 
 pub loop-contents-init : goal.loop-contents-init

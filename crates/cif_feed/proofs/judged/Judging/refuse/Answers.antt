@@ -2,7 +2,7 @@
 use Rattle.std.proofs.Common.{◌+◌, ◌∙◌, Some, ap, sym, subst}
 use Rattle.std.proofs.lemmas.List.{length-map}
 use Rattle.cif_feed.specs.Reasons.{TellReasons, own_reason, reasons_of}
-use Rattle.cif_feed.proofs.OwnReasons.{reasons_of_more, some_has_here}
+use Rattle.cif_feed.proofs.ToldReasons.{reasons_of_more, some_has_here}
 use Rattle.cif_feed.proofs.judged.Judging.refuse.Goals as goal
 
 pub returns : goal.returns

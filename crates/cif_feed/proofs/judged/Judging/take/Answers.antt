@@ -2,7 +2,7 @@
 use Rattle.std.proofs.Common.{◌∙◌, ap, sym}
 use Rattle.cif_records.specs.Record.{record_refusal}
 use Rattle.cif_feed.proofs.JudgedRuns.{line_judged}
-use Rattle.cif_feed.proofs.OwnReasons.{judged_line, own_of_judged, own_of_line}
+use Rattle.cif_feed.proofs.ToldReasons.{judged_line, own_of_judged, own_of_line}
 use Rattle.cif_feed.proofs.judged.Judging.take.Goals as goal
 
 pub returns-in-None-clause-judged : goal.returns-in-None-clause-judged

@@ -5,7 +5,7 @@ use Rattle.cif_extract.proofs.ReadingRuns.{taken_behind}
 use Rattle.cif_extract.specs.Layouts.{own_layouts}
 use Rattle.cif_extract.specs.Steps.Reading.{progress_of}
 use Rattle.cif_extract.specs.declared.reading.TakeFault.TheVariants.{Refused}
-use Rattle.cif_feed.proofs.OwnReasons.{none_has_more, none_refused_more, refused_here, some_has_more}
+use Rattle.cif_feed.proofs.ToldReasons.{none_has_more, none_refused_more, refused_here, some_has_more}
 use Rattle.cif_feed.proofs.judged.Order.take.Goals as goal
 
 pub take-requires : goal.take-requires

@@ -6,7 +6,7 @@ use Rattle.cif_records.specs.declared.association.AssocKey.{AssocKey}
 use Rattle.cif_feed.specs.CutCount.{AppliesOnAny, IsCountOf}
 use Rattle.cif_feed.specs.PublishedParts.{published_association_terms}
 use Rattle.cif_feed.specs.Steps.Dropping.{ReadsAssociations}
-use Rattle.cif_feed.specs.declared.published.PublishedAssociation.{PublishedAssociation}
+use Rattle.cif_feed.specs.declared.published_extract.PublishedAssociation.{PublishedAssociation}
 use Rattle.cif_feed.proofs.published_extract.PublishedExtract.count_clashing_associations.Given as goal
 
 abbrev pub invariant-loop-one : goal.invariant-loop-one

@@ -5,7 +5,7 @@ use Rattle.std.specs.Ordering.{nat_cmp}
 use Rattle.cif_feed.specs.CutCount.{AppliesOnAny, IsCountOf}
 use Rattle.cif_feed.specs.PublishedParts.{published_schedule_terms}
 use Rattle.cif_feed.specs.Steps.Dropping.{ReadsTrains}
-use Rattle.cif_feed.specs.declared.published.PublishedSchedule.{PublishedSchedule}
+use Rattle.cif_feed.specs.declared.published_extract.PublishedSchedule.{PublishedSchedule}
 use Rattle.cif_feed.proofs.published_extract.PublishedExtract.count_clashing_schedules.Given as goal
 
 abbrev pub invariant-loop-one : goal.invariant-loop-one

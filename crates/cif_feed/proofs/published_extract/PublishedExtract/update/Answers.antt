@@ -4,7 +4,7 @@ use Rattle.cif_feed.specs.Steps.Changes.{last_line}
 use Rattle.cif_feed.specs.PublishedParts.{published_parts}
 use Rattle.cif_feed.specs.UpdateParts.{update_parts}
 use Rattle.cif_feed.specs.Updated.{refused_header, told_once}
-use Rattle.cif_feed.proofs.ToldLines.{told-three}
+use Rattle.cif_feed.proofs.UpdatesInTurn.{told-three}
 use Rattle.cif_feed.proofs.published_extract.PublishedExtract.update.Goals as goal
 
 pub returns-clause-updated : goal.returns-clause-updated

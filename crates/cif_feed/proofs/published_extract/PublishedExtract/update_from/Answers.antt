@@ -2,7 +2,7 @@
 use Rattle.std.proofs.Common.{refl}
 use Rattle.cif_extract.proofs.ReadCalls.{goes-on, hands-on}
 use Rattle.cif_feed.specs.PublishedParts.{published_parts}
-use Rattle.cif_feed.proofs.UpdatesDone.{reads-updating, updates}
+use Rattle.cif_feed.proofs.UpdatesInTurn.{reads-updating, updates}
 use Rattle.cif_feed.proofs.published_extract.PublishedExtract.update_from.Goals as goal
 
 pub returns-in-Ok-update : goal.returns-in-Ok-update

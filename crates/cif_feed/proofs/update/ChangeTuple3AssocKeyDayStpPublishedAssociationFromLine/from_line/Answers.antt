@@ -9,7 +9,7 @@ returns c = record {
   published = c.from_line-published.result;
   is = c.from_line-published.ensures;
   change = c.change_by.ensures
-      ∙ ap (λ (k : AssocKey). change_by c.args.mark.mark.transaction c.args.mark.number
-      (k, c.args.association.first, c.args.mark.mark.letter)
+      ∙ ap (λ (k : AssocKey). change_by c.args.mark.transaction c.args.mark.line
+      (k, c.args.association.first, c.args.mark.letter)
       c.from_line-published.result) c.copy.ensures;
 }

@@ -1,7 +1,7 @@
 -- It is taken as a line of an extract of this profile is (`own_taken`).
 use Rattle.cif_extract.specs.Steps.Reading.{progress_of}
-use Rattle.cif_feed.proofs.RecordsTaken.{own_taken}
-use Rattle.cif_feed.proofs.record_taking.take_own.Goals as goal
+use Rattle.cif_feed.proofs.FeedSteps.{own_taken}
+use Rattle.cif_feed.proofs.feed_reading.take_own.Goals as goal
 
 pub returns : goal.returns
 returns c = λ allowed.

@@ -3,9 +3,9 @@ use Rattle.std.proofs.Common.{◌∙◌, ◌∷◌, ◌==◌, ℕ, List, ap, ari
 use Rattle.std.proofs.lemmas.List.{take_rest}
 use Rattle.std.specs.List.{before_first}
 use Rattle.cif_feed.specs.Words.{words_in}
-use Rattle.cif_feed.proofs.WordLists.{first-none, first-some, words-space_at}
-use Rattle.cif_feed.proofs.words.first_word.Goals as goal
-use Rattle.cif_feed.proofs.words.first_word.Goals.{then-loop-start-test+else-bytes-start-eq32, else-loop-start-test}
+use Rattle.cif_feed.proofs.HolidayLines.{first-none, first-some, words-space_at}
+use Rattle.cif_feed.proofs.holiday_text.first_word.Goals as goal
+use Rattle.cif_feed.proofs.holiday_text.first_word.Goals.{then-loop-start-test+else-bytes-start-eq32, else-loop-start-test}
 
 pub returns-clause-none : goal.returns-clause-none
 returns-clause-none c = λ empty.

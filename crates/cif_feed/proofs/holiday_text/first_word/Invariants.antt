@@ -1,7 +1,7 @@
 -- The words are those of what is left.
 use Rattle.std.proofs.Common.{◌≡◌, ◌-◌, ◌≤◌, length, drop}
 use Rattle.cif_feed.specs.Words.{words_in}
-use Rattle.cif_feed.proofs.words.first_word.Given as goal
+use Rattle.cif_feed.proofs.holiday_text.first_word.Given as goal
 
 abbrev pub invariant-loop-start : goal.invariant-loop-start
 invariant-loop-start l = (l.start ≤ length l.bytes) × (words_in (drop l.start l.bytes) ≡ words_in l.bytes)

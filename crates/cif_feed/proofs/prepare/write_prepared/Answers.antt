@@ -2,7 +2,7 @@
 use Rattle.std.proofs.Common.{Err, Ok, refl}
 use Rattle.cif_extract.proofs.ReadCalls.{goes-on, hands-on}
 use Rattle.cif_feed.proofs.WrittenPrepared.{prepares, read_prepared, reads-named, reads-preparing}
-use Rattle.cif_feed.proofs.written_prepared.write_prepared.Goals as goal
+use Rattle.cif_feed.proofs.prepare.write_prepared.Goals as goal
 
 pub returns-in-Ok-clause-prepared : goal.returns-in-Ok-clause-prepared
 returns-in-Ok-clause-prepared g c =

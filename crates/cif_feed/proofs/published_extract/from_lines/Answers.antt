@@ -2,8 +2,8 @@
 use Rattle.std.proofs.Common.{◌≡◌, ◌++◌, ◌∷◌, [], ap, sym, ◌∙◌, subst, append-nil, append_assoc, arith}
 use Rattle.std.proofs.lemmas.List.{nil_from_length, reverse-append}
 use Rattle.cif_feed.specs.FromLines.{ArePairs}
-use Rattle.cif_feed.proofs.LinesMade.{pairs_last, pairs_none, pairs_some}
-use Rattle.cif_feed.proofs.from_lines.from_lines.Goals as goal
+use Rattle.cif_feed.proofs.ListSteps.{pairs_last, pairs_none, pairs_some}
+use Rattle.cif_feed.proofs.published_extract.from_lines.Goals as goal
 
 pub loop-entry-init : goal.loop-entry-init
 loop-entry-init g c = (

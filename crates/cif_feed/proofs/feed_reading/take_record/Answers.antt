@@ -14,9 +14,9 @@ use Rattle.cif_feed.specs.FeedLayouts.{feed_layouts}
 use Rattle.cif_feed.specs.FeedLine.{SpellsInFeed}
 use Rattle.cif_feed.specs.LayoutRefusals.{feed_refusal_as}
 use Rattle.cif_feed.specs.Steps.FeedReading.{IsRecordTaken, read_as}
-use Rattle.cif_feed.proofs.RecordsTaken.{in_place, out_of_place, put_taken}
-use Rattle.cif_feed.proofs.record_taking.take_record.Goals as goal
-use Rattle.cif_feed.proofs.record_taking.take_record.Goals.{Else-not-allows}
+use Rattle.cif_feed.proofs.FeedSteps.{in_place, out_of_place, put_taken}
+use Rattle.cif_feed.proofs.feed_reading.take_record.Goals as goal
+use Rattle.cif_feed.proofs.feed_reading.take_record.Goals.{Else-not-allows}
 
 module _ (c : Else-not-allows) where
   named : Some c.in-Some.kind ≡ kind_in c.args.line.now

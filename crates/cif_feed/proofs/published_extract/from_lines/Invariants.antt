@@ -1,13 +1,12 @@
 -- What is made so far, the last first, is of the last records and marks.
 use Rattle.std.proofs.Common.{◌≡◌, List, ◌++◌, length, reverse}
 use Rattle.cif_feed.specs.FromLines.{ArePairs, AreTriples}
-use Rattle.cif_feed.specs.declared.mark.Numbered.{Numbered}
 use Rattle.cif_feed.specs.declared.mark.RecordMark.{RecordMark}
-use Rattle.cif_feed.proofs.from_lines.from_lines.Given as goal
+use Rattle.cif_feed.proofs.published_extract.from_lines.Given as goal
 
 abbrev pub invariant-loop-entry : goal.invariant-loop-entry
 invariant-loop-entry g l = ArePairs g.T.FromLine.may l.entries.items l.marks.items
-    × (entries : List g.row.T-Record.Denot) × (marks : List (Numbered RecordMark)) × (l.initial.entries.items ≡ l.entries.items ++ entries)
+    × (entries : List g.row.T-Record.Denot) × (marks : List RecordMark) × (l.initial.entries.items ≡ l.entries.items ++ entries)
     × (l.initial.marks.items ≡ l.marks.items ++ marks) × AreTriples g.T.FromLine.is_of entries marks (reverse l.made.items)
 
 abbrev pub decreases-loop-entry : goal.decreases-loop-entry

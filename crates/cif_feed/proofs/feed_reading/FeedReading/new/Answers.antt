@@ -1,0 +1,14 @@
+-- Nothing was read, and there is no mark.
+use Rattle.std.proofs.Common.{[], refl, subst, sym}
+use Rattle.cif_extract.proofs.ReadingRuns.{taken_none}
+use Rattle.cif_extract.specs.Taken.{HasTaken}
+use Rattle.cif_feed.specs.FeedLayouts.{feed_layouts}
+use Rattle.cif_feed.proofs.feed_reading.FeedReading.new.Goals as goal
+
+pub returns : goal.returns
+returns c = λ feed allowed. record {
+  taken = subst (HasTaken (feed_layouts feed allowed) []) (sym c.new.ensures) (taken_none (feed_layouts feed allowed));
+  marks = c.new-2.ensures allowed;
+  basic = refl;
+  trailer = refl;
+}

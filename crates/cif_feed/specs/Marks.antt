@@ -1,0 +1,87 @@
+-- What the lines of a feed say beyond their records: their marks, and how many do what.
+use Rattle.std.specs.Prelude.{ℕ, ◌+◌, List, [], ◌∷◌, Option, None, filter, length, map, unwrap_or, if◌then◌else◌}
+use Rattle.cif_columns.specs.Comment.{is_comment}
+use Rattle.cif_columns.specs.Field.{columns}
+use Rattle.cif_records.specs.Kind.{kind_in}
+use Rattle.cif_records.specs.declared.record.Kind.{Kind}
+use Rattle.cif_feed.specs.Counts.{counts_of, transaction_as}
+use Rattle.cif_feed.specs.FeedLine.{code_of, column, is_open, letter_of}
+use Rattle.cif_feed.specs.RecordLines.{is_association, is_basic, is_header, is_note, is_of_tiploc, lines_of}
+use Rattle.cif_feed.specs.Transaction.{transaction_in}
+use Rattle.cif_feed.specs.declared.holidays.HolidayCode.{HolidayCode}
+use Rattle.cif_feed.specs.declared.holidays.HolidayCodes.{HolidayCodes}
+use Rattle.cif_feed.specs.declared.mark.Marks.{Marks}
+use Rattle.cif_feed.specs.declared.mark.Passed.{Passed}
+use Rattle.cif_feed.specs.declared.mark.RecordMark.{RecordMark}
+use Rattle.cif_feed.specs.declared.mark.TiplocMark.{TiplocMark}
+use Rattle.cif_feed.specs.declared.mark.Transaction.TheVariants.{New}
+use Rattle.cif_feed.specs.declared.mark.UpdateCounts.{UpdateCounts}
+
+-- ---- of one line, by its number and its columns
+
+-- of a TI, a TA or a TD, whose transaction is by its kind
+abbrev pub tiploc_mark : Option Kind → ℕ × List ℕ → TiplocMark
+tiploc_mark kind line = record {
+  line = line.0;
+  transaction = unwrap_or (transaction_as kind line.1) New;
+  tiploc = columns 3 9 line.1;
+}
+
+-- Of an AA or a BS whose last date is in the columns from this one on. A line without a transaction is refused; of a deletion the
+-- transaction and the letter say something alone.
+abbrev pub record_mark : ℕ → Option HolidayCode → ℕ × List ℕ → RecordMark
+record_mark last code line = record {
+  line = line.0;
+  transaction = unwrap_or (transaction_in (column 3 line.1)) New;
+  letter = letter_of line.1;
+  open_end = is_open last line.1;
+  code = code;
+}
+
+abbrev pub association_mark : ℕ × List ℕ → RecordMark
+association_mark line = record_mark 22 None line
+
+abbrev pub schedule_mark : HolidayCodes → ℕ × List ℕ → RecordMark
+schedule_mark allowed line = record_mark 16 (code_of allowed line.1) line
+
+-- ---- of all lines
+
+-- the number of the first header among contents of which the first has this number; 0, if there is none
+abbrev pub header_from : ℕ → List (List ℕ) → ℕ
+header_from number [] = 0
+header_from number (content ∷ contents) = if is_header (kind_in content) then number else header_from (number + 1) contents
+
+-- how many of the contents are comments, and notes
+abbrev pub passed_of : List (List ℕ) → Passed
+passed_of contents = record { comments = length (filter is_comment contents); notes = length (filter is_note contents) }
+
+-- the number of the line of the header; the marks of locations, associations and schedules; how many lines do what; what was passed over
+pub record MarkParts : Type 0 where
+  pub header_line : ℕ
+  pub tiplocs : List TiplocMark
+  pub associations : List RecordMark
+  pub schedules : List RecordMark
+  pub counts : UpdateCounts
+  pub passed : Passed
+
+-- the parts of marks, whose vectors have capacities too
+abbrev pub mark_parts : Marks → MarkParts
+mark_parts m = record {
+  header_line = m.header_line;
+  tiplocs = m.tiplocs.items;
+  associations = m.associations.items;
+  schedules = m.schedules.items;
+  counts = m.counts;
+  passed = m.passed;
+}
+
+-- those of these contents, where these holiday codes may stand
+abbrev pub marks_in : HolidayCodes → List (List ℕ) → MarkParts
+marks_in allowed contents = record {
+  header_line = header_from 1 contents;
+  tiplocs = map (λ (line : ℕ × List ℕ). tiploc_mark (kind_in line.1) line) (lines_of is_of_tiploc contents);
+  associations = map association_mark (lines_of is_association contents);
+  schedules = map (schedule_mark allowed) (lines_of is_basic contents);
+  counts = counts_of contents;
+  passed = passed_of contents;
+}
