@@ -8,17 +8,14 @@ use Rattle.cif_columns.specs.declared.sink.Sink.{Sink}
 use Rattle.cif_columns.proofs.WrittenTexts.{failed_second, written_both}
 use Rattle.cif_columns.specs.Source.{Unread}
 use Rattle.cif_columns.specs.declared.source.Source.{Source}
-use Rattle.cif_extract.specs.ReadCall.{IsResultOf, ReadCall}
-use Rattle.cif_extract.specs.ReadFault.{is_read}
+use Rattle.cif_extract.specs.ReadCall.{IsResultOf, IsResultOfBoth, ReadCall}
+use Rattle.cif_extract.specs.ReadFault.{is_read, reading_extract}
+use Rattle.cif_extract.specs.declared.extract.Extract.{Extract}
 use Rattle.cif_extract.specs.declared.fault.Fault.{Fault}
 use Rattle.cif_extract.specs.declared.fault.Fault.TheVariants as fault
 use Rattle.cif_extract.proofs.ReadCalls.{Makes, Refuses, at-fault, goes-on, hands-on}
-use Rattle.cif_weeks.specs.declared.form.Form.{Form}
-use Rattle.cif_canon.specs.Canon.{CanonParts}
-use Rattle.cif_canon.specs.Fault.{IsNormaliseFault, IsOfReadNarrowed}
-use Rattle.cif_canon.specs.Normalised.{FaultWrites, IfWritten, reading_canon}
-use Rattle.cif_canon.specs.declared.asked.Asked.{Asked}
-use Rattle.cif_tool.specs.Answer.{Answers, Finishes, IfAnswered, answering}
+use Rattle.cif_canon.specs.Normalised.{FaultWrites, IfWritten}
+use Rattle.cif_tool.specs.Answer.{Answers, AreAnswered, Finishes, IfAnswered, IsAnswered, IsHandedOn, OfBoth, OfInput, answering}
 
 -- what holds where a text was written, and what follows from it
 pub written-then : (A P Q : Type 0) (written : Result A Fault) → (P → Q) → IfWritten written P → IfWritten written Q
@@ -48,7 +45,7 @@ module _ {W : Type 0} (contents : W → Option (List ℕ)) (errors : W → Optio
   unwritten A old _ silent = refl
 
   -- a fault before anything is written
-  pub fails-silently : (P : List ℕ → ℕ → Type 0) (old : Sink W) (result : Result ℕ Fault) (f : Fault) → result ≡ Err f →
+  fails-silently : (P : List ℕ → ℕ → Type 0) (old : Sink W) (result : Result ℕ Fault) (f : Fault) → result ≡ Err f →
       f ≢ fault.Write → Answers contents errors P old old result
   fails-silently P old result f is silent =
       subst (Answers contents errors P old old) (sym is) record {
@@ -57,11 +54,30 @@ module _ {W : Type 0} (contents : W → Option (List ℕ)) (errors : W → Optio
         answer = unanswered (P []) f silent;
       }
 
-  -- the same of a fault of reading
-  pub fails-to-read : (P : List ℕ → ℕ → Type 0) (old : Sink W) (result : Result ℕ Fault) (f : Fault) → IsErrAnd result (λ e. e ≡ f) →
-      IsOfReadNarrowed MAX_LINES f → Answers contents errors P old old result
-  fails-to-read P old result f handed of =
-      fails-silently P old result f (at-fault result f handed) (λ write. subst (IsOfReadNarrowed MAX_LINES) write of)
+  -- and there is nothing to hand on
+  module _ (holds_nothing : W → Type 0) (old : Sink W) (result : Result ℕ Fault) (f : Fault) (handed : IsErrAnd result (λ e. e ≡ f))
+      (silent : f ≢ fault.Write) {R : Type 0} (remaining : R → Option (List ℕ)) (read_errors : R → Option ℕ) where
+    none-handed : IsHandedOn holds_nothing old result
+    none-handed = subst (IsHandedOn holds_nothing old) (sym (at-fault result f handed)) tt
+
+    pub nothing-of-input : (P : List ℕ → List ℕ → ℕ → Type 0) (call : ReadCall ℕ Fault) (source source_new : Source R) →
+        IsResultOf remaining read_errors call source source_new result →
+        IsAnswered remaining read_errors contents errors holds_nothing P call source source_new old old result
+    nothing-of-input P call source source_new reads = record {
+      answer = fails-silently (OfInput remaining P source) old result f (at-fault result f handed) silent;
+      reads = reads;
+      handed_on = none-handed;
+    }
+
+    pub nothing-of-both : (P : List ℕ → List ℕ → List ℕ → ℕ → Type 0) (Makes : Extract → Extract → Result ℕ Fault → Type 0)
+        (left left_new right right_new : Source R) →
+        IsResultOfBoth remaining read_errors (reading_extract MAX_LINES) Makes left left_new right right_new result →
+        AreAnswered remaining read_errors contents errors holds_nothing P Makes left left_new right right_new old old result
+    nothing-of-both P Makes left left_new right right_new reads = record {
+      answer = fails-silently (OfBoth remaining P left right) old result f (at-fault result f handed) silent;
+      reads = reads;
+      handed_on = none-handed;
+    }
 
   module _ (P : List ℕ → ℕ → Type 0) (old : Sink W) (text : List ℕ) (status : ℕ) where
     answered : (A : Type 0) (f : Fault) → IfWritten {A = A} (Err f) (P text status) → IfAnswered (Err f) (P text)
@@ -163,6 +179,20 @@ module _ {A : Type 0} (one : ReadCall A Fault) (IsFault : List ℕ → Unread �
   unread f so same =
       hands-on one (answering IsFault) remaining errors old new f (record { fault = so; answers = λ h. tt; same = same })
 
+  module _ {W : Type 0} (contents : W → Option (List ℕ)) (write_errors : W → Option ℕ) (holds_nothing : W → Type 0)
+      (IsAnswer : List ℕ → List ℕ → ℕ → Type 0) (sink : Sink W) where
+    abbrev Is : Sink W → Result ℕ Fault → Type 0
+    Is = IsAnswered remaining errors contents write_errors holds_nothing IsAnswer (answering IsFault) old new sink
+
+    -- so there is no answer
+    pub not-answered : (f : Fault) → ((bytes : List ℕ) (after : Unread) → one.IsFault bytes after f → IsFault bytes after f) →
+        one.is_read f ≡ is_read f → ¬ one.MayFail fault.Write → IsResultOf remaining errors one old new (Err f) →
+        (result : Result ℕ Fault) → IsErrAnd result (λ e. e ≡ f) → Is sink result
+    not-answered f so same never call result handed =
+        nothing-of-input contents write_errors holds_nothing sink result f handed
+        (λ write. never (subst one.MayFail write call.answers)) remaining errors IsAnswer (answering IsFault) old new
+        (unread f so same call result handed)
+
   module _ (x : A) (whole : one.IsWhole x) (call : IsResultOf remaining errors one old new (Ok x)) (result : Result ℕ Fault) where
     -- one of what was read
     pub record Blames (f : Fault) : Type 0 where
@@ -181,18 +211,34 @@ module _ {A : Type 0} (one : ReadCall A Fault) (IsFault : List ℕ → Unread �
         IfErr result (λ f. f ≡ fault.Write) → Comes result
     ends-written so is = ends (only-write Blames result is (record { fault = so; other = λ e. cc }))
 
--- ---- a command that reads a canonical form, and writes what it has of it
+    module _ {W : Type 0} (contents : W → Option (List ℕ)) (write_errors : W → Option ℕ) (holds_nothing : W → Type 0)
+        (IsAnswer : List ℕ → List ℕ → ℕ → Type 0) (sink mid sink_new : Sink W) (text : List ℕ) (written : Result (Unit {0}) Fault)
+        (on : IsHandedOn holds_nothing sink_new result) where
+      abbrev Shows : Type 0
+      Shows = IsAnswered remaining errors contents write_errors holds_nothing IsAnswer (answering IsFault) old new sink sink_new result
 
-module _ (form : Form) (asked : Asked) {R : Type 0} (remaining : R → Option (List ℕ)) (errors : R → Option ℕ) (old new : Source R)
-    (result : Result ℕ Fault) where
-  pub canon-unread : (f : Fault) → IsResultOf remaining errors (reading_canon form asked MAX_LINES) old new (Err f) →
-      IsErrAnd result (λ e. e ≡ f) → IsResultOf remaining errors (answering (IsNormaliseFault MAX_LINES asked)) old new result
-  canon-unread f call handed =
-      unread (reading_canon form asked MAX_LINES) (IsNormaliseFault MAX_LINES asked) remaining errors old new f (λ bytes after h. h) refl
-      call result handed
+      -- a call that fails only by Write writes the text of the answer
+      pub text-shown : (status s : ℕ) → s ≡ status → Writes contents write_errors text sink mid written →
+          IfErr written (λ f. f ≡ fault.Write) → OfInput remaining IsAnswer old text status →
+          ((bytes : List ℕ) (after : Unread) → one.IsAnswer bytes x → IsFault bytes after fault.Write) →
+          Finishes contents write_errors s written mid sink_new result → Shows
+      text-shown status s same writes only answer so finishes = record {
+        answer = handed-text contents write_errors (OfInput remaining IsAnswer old) sink text status (Unit {0}) s written mid sink_new
+            result same writes only answer finishes;
+        reads = ends-written so
+            (only-fails contents write_errors (Unit {0}) (λ f. f ≡ fault.Write) s written mid sink_new result only refl finishes);
+        handed_on = on;
+      }
 
-  pub canon-written : (c : CanonParts) → IsResultOf remaining errors (reading_canon form asked MAX_LINES) old new (Ok c) →
-      IfErr result (λ f. f ≡ fault.Write) → IsResultOf remaining errors (answering (IsNormaliseFault MAX_LINES asked)) old new result
-  canon-written c call =
-      ends-written (reading_canon form asked MAX_LINES) (IsNormaliseFault MAX_LINES asked) remaining errors old new c tt call result
-      (λ bytes after is. tt)
+      -- a view writes it, or has none for a fault of its own
+      pub view-shown : (View : Type 0) (IsViewFault : Fault → Type 0) → FaultWrites contents write_errors text sink mid written →
+          IfWritten written View → (View → OfInput remaining IsAnswer old text 0) → (View → IsViewFault fault.Write) →
+          IfErr written IsViewFault → ((f : Fault) → IsViewFault f → Blames f) →
+          Finishes contents write_errors 0 written mid sink_new result → Shows
+      view-shown View IsViewFault writes view answer may faults blames finishes = record {
+        answer = handed contents write_errors (OfInput remaining IsAnswer old) sink text 0 (Unit {0}) written mid sink_new result writes
+            (written-then (Unit {0}) View _ written answer view) finishes;
+        reads = ends (handed-fault contents write_errors (Unit {0}) IsViewFault Blames 0 written mid sink_new result blames faults
+            (written-then (Unit {0}) View _ written may view) finishes);
+        handed_on = on;
+      }

@@ -1,5 +1,5 @@
 -- What `check --all` answers, by what its calls answer: of bytes that are known.
-use Rattle.std.proofs.Common.{◌≡◌, ℕ, false, List, Option, IfErr, IfOk, IfSome, Result, Ok, Err, ap, inl, inr, refl}
+use Rattle.std.proofs.Common.{◌≡◌, ◌≢◌, ℕ, false, List, Option, IfErr, IfOk, IfSome, Result, Ok, Err, inl, inr, refl}
 use Rattle.std.specs.Prelude.{MatchResult}
 use Rattle.cif_columns.specs.declared.line_reader.TheConstants.{MAX_LINES}
 use Rattle.cif_columns.proofs.GivenLinesLaws.{known_so}
@@ -16,7 +16,6 @@ use Rattle.cif_canon.specs.Counts.{counts_line}
 use Rattle.cif_canon.specs.Fault.{IsNormaliseFault}
 use Rattle.cif_canon.specs.Normalised.{HasCanon}
 use Rattle.cif_canon.specs.declared.asked.Asked.{Asked}
-use Rattle.cif_canon.specs.declared.canonical_form.Counts.{Counts}
 use Rattle.cif_canon.proofs.Normalising.{canon-blamed, is-normalised, of-canon}
 use Rattle.cif_feed.specs.Judged.{HaveNone, HaveReasons, IsJudgedFault, judging}
 use Rattle.cif_feed.specs.Reasons.{told_text}
@@ -43,9 +42,8 @@ module _ (start : Option (List ℕ)) (job : CanonicalJob) where
 
   -- counts
   pub counts_answer : (x : ExtractParts) (c : CanonParts) → HasCanon job.form job.asked x (Ok c)
-      → IfSome start (λ bytes. HaveNone MAX_LINES bytes x) → (counts : Counts) → counts ≡ c.counts
-      → IfSome start (λ bytes. IsCheckAllAnswer job bytes (counts_line counts) 0)
-  counts_answer x c has h counts same =
+      → IfSome start (λ bytes. HaveNone MAX_LINES bytes x) → IfSome start (λ bytes. IsCheckAllAnswer job bytes (counts_line c.counts) 0)
+  counts_answer x c has h =
       known_so start _ _ (λ bytes is. inr (
         is.none,
         record {
@@ -53,7 +51,7 @@ module _ (start : Option (List ℕ)) (job : CanonicalJob) where
           counts = c.counts;
           normalised = is-normalised MAX_LINES job.asked bytes job.form has.0
               (record { whole = x; spelled = is.spell; narrowed = has.1 }) c has.2;
-          text_is = ap counts_line same;
+          text_is = refl;
           status_is = refl;
         },
       )) h
@@ -97,3 +95,8 @@ module _ (asked : Asked) (after : Unread) where
       answers = tt;
       other = of-canon MAX_LINES asked form (extract_parts x) (λ f. is_read f ≡ false) (λ clash. refl) refl refl refl f has;
     }
+
+    -- and nothing was written
+    pub counts-silent : (form : Form) (f : Fault) → HasCanon form asked (extract_parts x) (Err f) → f ≢ fault.Write
+    counts-silent form f has =
+        of-canon MAX_LINES asked form (extract_parts x) (λ f. f ≢ fault.Write) (λ clash is. cc) (λ is. cc) (λ is. cc) (λ is. cc) f has

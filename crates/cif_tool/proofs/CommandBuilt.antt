@@ -8,11 +8,10 @@ use Rattle.clap.specs.Simple.{app_of_fields}
 use Rattle.clap.specs.declared.Command.{Command}
 use Rattle.clap.specs.declared.builder.arg.Arg.{Arg}
 use Rattle.clap.specs.declared.Command.TheViews.{out-Command}
-use Rattle.cif_tool.specs.CommandLine.{IsCommand, argument, cif, given, program, taken, taking, with_subcommands}
+use Rattle.cif_tool.specs.CommandLine.{IsCommand, Parts, argument, cif, given, program, taken, taking, with_subcommands}
 use Rattle.cif_tool.specs.declared.command_line.Argument.{Argument}
 use Rattle.cif_tool.specs.declared.command_line.Argument.TheVariants.{Verbose}
 use Rattle.cif_tool.specs.declared.command_line.Choices.{Choices}
-use Rattle.cif_tool.specs.declared.command_line.Parts.{Parts}
 
 -- `clap` says exactly what it makes of the command's words
 pub is_simple_cif : (choices : Choices) → is_simple (cif choices) ≡ true
@@ -43,6 +42,16 @@ program_made name version made versioned requires is v r = record {
 pub record IsTaking (choices : Choices) (whole : App) (rest : List Argument) (c : Command) : Type 0 where
   pub app : taking choices (app_of c) rest ≡ whole
   pub local : (out-Command c).has_globals ≡ false
+
+-- its first argument
+pub first_taken : (choices : Choices) (a : App) (first : Argument) (rest : List Argument) (made : Command) (r : Arg) (new : Command) →
+    IsCommand a made → rule_of r ≡ argument choices (given first) → r.global ≡ false → AddsArg made r new →
+    IsTaking choices (taking choices a (first ∷ rest)) rest new
+first_taken choices a first rest made r new is rule local added = record {
+  app = ap (λ (b : App). taking choices b rest) (added.shape local ∙ (ap (with_rule (app_of made)) rule
+      ∙ ap (λ (b : App). with_rule b (argument choices (given first))) is.app));
+  local = added.globals ∙ ap₂ (λ x y. x || y) is.local local;
+}
 
 -- one more argument
 pub argument_taken : (choices : Choices) (whole : App) (xs : List Argument) (i : ℕ) → i < length xs → (old : Command) (r : Arg)

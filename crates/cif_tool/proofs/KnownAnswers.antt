@@ -18,26 +18,29 @@ use Rattle.cif_extract.proofs.ReadCalls.{both-go-on, both-hand-on}
 use Rattle.cif_canon.specs.Accepted.{SpellsNarrowed}
 use Rattle.cif_canon.specs.Canon.{CanonParts}
 use Rattle.cif_canon.specs.Comparison.{AreCompared, IsCompareFault, comparison_line}
-use Rattle.cif_canon.specs.Counts.{counts_line}
 use Rattle.cif_canon.specs.Differences.{AreDifferences, AreNone, DifferencesParts}
 use Rattle.cif_canon.specs.Fault.{IsNormaliseFault, IsReadNarrowedFault}
+use Rattle.cif_canon.specs.Lines.{ExtractLines, lines_of}
 use Rattle.cif_canon.specs.Normalised.{IsCanonOfInput}
 use Rattle.cif_canon.specs.Pair.{IsNarrowedPair, SpellPair}
 use Rattle.cif_canon.specs.Views.{IsTrainFault}
 use Rattle.cif_canon.specs.declared.asked.Asked.{Asked}
 use Rattle.cif_canon.specs.declared.comparison.Comparison.{Comparison}
-use Rattle.cif_canon.specs.declared.canonical_form.Counts.{Counts}
+use Rattle.cif_canon.specs.declared.rows.Format.{Format}
 use Rattle.cif_canon.proofs.Normalising.{canon-fault, is-normalised}
 use Rattle.cif_views.specs.Clashes.{AreAllClashes, clashes_text}
 use Rattle.cif_views.specs.Explanation.{IsExplanation}
 use Rattle.cif_views.specs.Listing.{IsDayListing, IsTrainListing}
 use Rattle.cif_views.specs.TableText.{table_text}
 use Rattle.cif_views.specs.WeekCalendar.{IsWeekCalendar, IsWeekCalendarFault}
-use Rattle.cif_tool.specs.Answer.{AreComparedAs, CalendarJob, CanonicalJob, CompareJob, DayJob, DiffJob, ExplainJob, IsCalendarAnswer}
-use Rattle.cif_tool.specs.Answer.{IsCheckAnswer, IsClashesAnswer, IsClashlessRefusal, IsCompareAnswer, IsDayAnswer, IsDiffAnswer}
-use Rattle.cif_tool.specs.Answer.{IsExplainAnswer, IsListedStatus, IsNormaliseAnswer, IsTableAnswer, IsTrainAnswer, TableJob, TrainJob}
+use Rattle.cif_tool.specs.Answer.{AreComparedAs, CalendarJob, CanonicalJob, CompareJob, DayJob, ExplainJob, IsCalendarAnswer}
+use Rattle.cif_tool.specs.Answer.{IsClashesAnswer, IsClashlessRefusal, IsCompareAnswer, IsDayAnswer, IsDiffAnswer}
+use Rattle.cif_tool.specs.Answer.{IsCanonicalAnswer, IsExplainAnswer, IsListedStatus, IsTrainAnswer}
+use Rattle.cif_tool.specs.Answer.{TrainJob, canonical_text}
 use Rattle.cif_tool.specs.Answer.{differences_in}
 use Rattle.cif_tool.specs.Status.{listed_status, outcome_of}
+use Rattle.cif_tool.specs.declared.answers.CanonicalOutput.{CanonicalOutput}
+use Rattle.cif_tool.specs.declared.answers.CanonicalOutput.TheVariants as output
 
 -- the status of a list, of which it is told whether there is none
 pub listed : (None : Type 0) (none : Bool) → IsTrue none ↔ None → IsListedStatus None (listed_status none)
@@ -46,37 +49,24 @@ listed None false tells = inr (refl, λ n. true≢false (sym (tells.1 n)))
 
 module _ (start : Option (List ℕ)) where
   -- the canonical form of what is read: its text, its counts, or a table of it
-  module _ (job : CanonicalJob) (c : CanonParts) (read : IfSome start (λ bytes. IsCanonOfInput job.form job.asked MAX_LINES bytes c)) where
-    abbrev canon : List ℕ → Type 0
-    canon bytes = IsCanonOfInput job.form job.asked MAX_LINES bytes c
-
-    pub normalise-answer : IfSome start (λ bytes. IsNormaliseAnswer job bytes c.text 0)
-    normalise-answer = known_so start canon (λ bytes. IsNormaliseAnswer job bytes c.text 0) (λ bytes h. record {
-      counts = c.counts;
-      normalised = is-normalised MAX_LINES job.asked bytes job.form h.meant h.spelled c h.is_canon;
-      status_is = refl;
-    }) read
-
-    pub check-answer : (counts : Counts) → counts ≡ c.counts → IfSome start (λ bytes. IsCheckAnswer job bytes (counts_line counts) 0)
-    check-answer counts same = known_so start canon (λ bytes. IsCheckAnswer job bytes (counts_line counts) 0) (λ bytes h. record {
-      canonical = c.text;
-      counts = c.counts;
-      normalised = is-normalised MAX_LINES job.asked bytes job.form h.meant h.spelled c h.is_canon;
-      text_is = ap counts_line same;
-      status_is = refl;
-    }) read
-
-  pub table-answer : (job : TableJob) (c : CanonParts) → IfSome start (λ bytes. IsCanonOfInput job.form job.asked MAX_LINES bytes c) →
-      IfSome start (λ bytes. IsTableAnswer job bytes (table_text job.table c.lines) 0)
-  table-answer job c read =
+  pub canonical-answer : (o : CanonicalOutput) (job : CanonicalJob) (c : CanonParts) →
+      IfSome start (λ bytes. IsCanonOfInput job.form job.asked MAX_LINES bytes c) →
+      IfSome start (λ bytes. IsCanonicalAnswer o job bytes (canonical_text o c) 0)
+  canonical-answer o job c read =
       known_so start (λ bytes. IsCanonOfInput job.form job.asked MAX_LINES bytes c)
-      (λ bytes. IsTableAnswer job bytes (table_text job.table c.lines) 0) (λ bytes h. record {
+      (λ bytes. IsCanonicalAnswer o job bytes (canonical_text o c) 0) (λ bytes h. record {
         canonical = c.text;
         counts = c.counts;
         normalised = is-normalised MAX_LINES job.asked bytes job.form h.meant h.spelled c h.is_canon;
-        text_is = ap (table_text job.table) h.is_canon.lines_are;
+        text_is = same o (lines_of h.is_canon.canonical.made) h.is_canon.lines_are;
         status_is = refl;
       }) read
+    where
+      same : (o : CanonicalOutput) (lines : ExtractLines) → c.lines ≡ lines →
+          canonical_text o c ≡ canonical_text o (record { text = c.text; lines = lines; counts = c.counts })
+      same output.Extract lines are = refl
+      same output.Counts lines are = refl
+      same (output.Table table) lines are = ap (table_text table) are
 
   module _ (x : ExtractParts) (spelled : IfSome start (λ bytes. BytesSpellWithin MAX_LINES bytes x)) where
     pub day-answer : (job : DayJob) (text : List ℕ) → IsDayListing job.listing x job.day text →
@@ -158,12 +148,12 @@ module _ {R : Type 0} (remaining : R → Option (List ℕ)) (errors : R → Opti
         status_is = refl;
       })
 
-  pub diff-answer : (job : DiffJob) → AreRead job.asked job.common → (d : DifferencesParts) (none : Bool) →
+  pub diff-answer : (format : Format) (job : CompareJob) → AreRead job.asked job.common → (d : DifferencesParts) (none : Bool) →
       AreDifferences (extract_parts x) (extract_parts y) d → IsTrue none ↔ AreNone d →
       IfSome (remaining (reader_of left)) (λ a. IfSome (remaining (reader_of right))
-      (λ b. IsDiffAnswer job a b (differences_in job.format d) (listed_status none)))
-  diff-answer job read d none are tells =
-      known-pair job.asked job.common read (λ a b. IsDiffAnswer job a b (differences_in job.format d) (listed_status none))
+      (λ b. IsDiffAnswer format job a b (differences_in format d) (listed_status none)))
+  diff-answer format job read d none are tells =
+      known-pair job.asked job.common read (λ a b. IsDiffAnswer format job a b (differences_in format d) (listed_status none))
       (λ a b spelled. record {
         left = extract_parts x;
         right = extract_parts y;

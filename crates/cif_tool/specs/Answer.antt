@@ -21,6 +21,7 @@ use Rattle.cif_extract.specs.declared.fault.Clash.{Clash}
 use Rattle.cif_views.specs.Clashes.{AreAllClashes, clashes_text}
 use Rattle.cif_views.specs.DifferenceTable.{difference_table}
 use Rattle.cif_views.specs.WeekCalendar.{IsWeekCalendar}
+use Rattle.cif_canon.specs.Canon.{CanonParts}
 use Rattle.cif_canon.specs.Comparison.{AreCompared, IsCompareFault, comparison_line}
 use Rattle.cif_canon.specs.Counts.{counts_line}
 use Rattle.cif_canon.specs.Differences.{AreDifferences, AreNone, DifferencesParts, differences_text}
@@ -42,10 +43,12 @@ pub use Rattle.cif_tool.specs.declared.job.CalendarJob.{CalendarJob}
 pub use Rattle.cif_tool.specs.declared.job.CanonicalJob.{CanonicalJob}
 pub use Rattle.cif_tool.specs.declared.job.CompareJob.{CompareJob}
 pub use Rattle.cif_tool.specs.declared.job.DayJob.{DayJob}
-pub use Rattle.cif_tool.specs.declared.job.DiffJob.{DiffJob}
 pub use Rattle.cif_tool.specs.declared.job.ExplainJob.{ExplainJob}
 use Rattle.cif_tool.specs.declared.job.Job.{Job}
-pub use Rattle.cif_tool.specs.declared.job.TableJob.{TableJob}
+use Rattle.cif_tool.specs.declared.answers.CanonicalOutput.{CanonicalOutput}
+use Rattle.cif_tool.specs.declared.answers.CanonicalOutput.TheVariants as output
+use Rattle.cif_tool.specs.declared.answers.PairOutput.{PairOutput}
+use Rattle.cif_tool.specs.declared.answers.PairOutput.TheVariants as pair
 pub use Rattle.cif_tool.specs.declared.job.TrainJob.{TrainJob}
 use Rattle.cif_tool.specs.declared.job.Job.TheVariants.{Calendar, Check, CheckAll, Clashes, Compare, Day, Diff, Explain}
 use Rattle.cif_tool.specs.declared.job.Job.TheVariants.{Normalise, Table, Train}
@@ -74,26 +77,20 @@ abbrev pub OfBoth : {R : Type 0} → (R → Option (List ℕ)) → (List ℕ →
 OfBoth remaining IsAnswer left right =
     OfInput remaining (λ left_bytes text status. OfInput remaining (IsAnswer left_bytes) right text status) left
 
--- `normalise` answers these bytes by their canonical text.
-pub record IsNormaliseAnswer (job : CanonicalJob) (bytes text : List ℕ) (status : ℕ) : Type 0 where
-  pub counts : Counts
-  pub normalised : IsNormalised job.form job.asked MAX_LINES bytes text counts
-  pub status_is : status ≡ 0
+-- what is written of a canonical form
+abbrev pub canonical_text : CanonicalOutput → CanonParts → List ℕ
+canonical_text output.Extract canon = canon.text
+canonical_text output.Counts canon = counts_line canon.counts
+canonical_text (output.Table table) canon = table_text table canon.lines
 
--- `check` answers these bytes by how many records their canonical text has.
-pub record IsCheckAnswer (job : CanonicalJob) (bytes text : List ℕ) (status : ℕ) : Type 0 where
+-- `normalise`, `check` and `table` answer these bytes by their canonical text, by how many records it has, and by a table of the extract
+-- that it is.
+pub record IsCanonicalAnswer (output : CanonicalOutput) (job : CanonicalJob) (bytes text : List ℕ) (status : ℕ) : Type 0 where
   pub canonical : List ℕ
   pub counts : Counts
   pub normalised : IsNormalised job.form job.asked MAX_LINES bytes canonical counts
-  pub text_is : text ≡ counts_line counts
-  pub status_is : status ≡ 0
-
--- `table` answers these bytes by a table of the extract that is their canonical text.
-pub record IsTableAnswer (job : TableJob) (bytes text : List ℕ) (status : ℕ) : Type 0 where
-  pub canonical : List ℕ
-  pub counts : Counts
-  pub normalised : IsNormalised job.form job.asked MAX_LINES bytes canonical counts
-  pub text_is : text ≡ table_text job.table (lines_of normalised.canonical.made)
+  pub text_is : text ≡ canonical_text output
+      (record { text = canonical; lines = lines_of normalised.canonical.made; counts = counts })
   pub status_is : status ≡ 0
 
 -- Some of the lines of these bytes have a reason to be refused, each judged by itself, and the text says which.
@@ -107,7 +104,7 @@ pub record AreReasons (bytes text : List ℕ) (status : ℕ) : Type 0 where
 -- `check --all` answers these bytes by these reasons, or, where there is none, as `check` does.
 abbrev pub IsCheckAllAnswer : CanonicalJob → List ℕ → List ℕ → ℕ → Type 0
 IsCheckAllAnswer job bytes text status =
-    AreReasons bytes text status ⊎ (NoneHasReason (judged_contents bytes) × IsCheckAnswer job bytes text status)
+    AreReasons bytes text status ⊎ (NoneHasReason (judged_contents bytes) × IsCanonicalAnswer output.Counts job bytes text status)
 
 -- `day` answers these bytes by what runs on the day, in this listing.
 pub record IsDayAnswer (job : DayJob) (bytes text : List ℕ) (status : ℕ) : Type 0 where
@@ -143,14 +140,19 @@ differences_in Text differences = differences_text differences
 differences_in Tsv differences = difference_table differences
 
 -- `diff` answers two inputs by their differences in the window that is asked for, in this format.
-pub record IsDiffAnswer (job : DiffJob) (left_bytes right_bytes text : List ℕ) (status : ℕ) : Type 0 where
+pub record IsDiffAnswer (format : Format) (job : CompareJob) (left_bytes right_bytes text : List ℕ) (status : ℕ) : Type 0 where
   pub left : ExtractParts
   pub right : ExtractParts
   pub spelled : SpellPair job.asked job.common left_bytes right_bytes left right
   pub differences : DifferencesParts
   pub are_differences : AreDifferences left right differences
-  pub text_is : text ≡ differences_in job.format differences
+  pub text_is : text ≡ differences_in format differences
   pub status_is : IsListedStatus (AreNone differences) status
+
+-- one of these two, by what is said of the inputs
+abbrev pub IsPairAnswer : PairOutput → CompareJob → List ℕ → List ℕ → List ℕ → ℕ → Type 0
+IsPairAnswer pair.Comparison job = IsCompareAnswer job
+IsPairAnswer (pair.Differences format) job = IsDiffAnswer format job
 
 -- `explain` answers these bytes by why the train runs on the day, or doesn't, in this format.
 pub record IsExplainAnswer (job : ExplainJob) (bytes text : List ℕ) (status : ℕ) : Type 0 where
@@ -223,18 +225,35 @@ abbrev pub IsHandedOn : {W A E : Type 0} → (W → Type 0) → Sink W → Resul
 IsHandedOn holds_nothing new (Ok done) = holds_nothing (writer_of new)
 IsHandedOn holds_nothing new (Err fault) = ⊤
 
+-- What a command with one input owes its sink, what comes of its source, and that nothing is held back.
+pub record IsAnswered {R W : Type 0} (remaining : R → Option (List ℕ)) (read_errors : R → Option ℕ) (contents : W → Option (List ℕ))
+    (write_errors : W → Option ℕ) (holds_nothing : W → Type 0) (IsAnswer : List ℕ → List ℕ → ℕ → Type 0) (call : ReadCall ℕ Fault)
+    (source source_new : Source R) (sink sink_new : Sink W) (result : Result ℕ Fault) : Type 0 where
+  pub answer : Answers contents write_errors (OfInput remaining IsAnswer source) sink sink_new result
+  pub reads : IsResultOf remaining read_errors call source source_new result
+  pub handed_on : IsHandedOn holds_nothing sink_new result
+
+-- the same of a command with two, of which it makes this once both are whole extracts
+pub record AreAnswered {R W : Type 0} (remaining : R → Option (List ℕ)) (read_errors : R → Option ℕ) (contents : W → Option (List ℕ))
+    (write_errors : W → Option ℕ) (holds_nothing : W → Type 0) (IsAnswer : List ℕ → List ℕ → List ℕ → ℕ → Type 0)
+    (Makes : Extract → Extract → Result ℕ Fault → Type 0) (left left_new right right_new : Source R) (sink sink_new : Sink W)
+    (result : Result ℕ Fault) : Type 0 where
+  pub answer : Answers contents write_errors (OfBoth remaining IsAnswer left right) sink sink_new result
+  pub reads : IsResultOfBoth remaining read_errors (reading_extract MAX_LINES) Makes left left_new right right_new result
+  pub handed_on : IsHandedOn holds_nothing sink_new result
+
 -- what the job's command answers of what the readers of its input and of a second one give
 abbrev pub IsJobAnswer : {R : Type 0} → (R → Option (List ℕ)) → Job → Source R → Source R → List ℕ → ℕ → Type 0
-IsJobAnswer remaining (Normalise job) source right = OfInput remaining (IsNormaliseAnswer job) source
-IsJobAnswer remaining (Check job) source right = OfInput remaining (IsCheckAnswer job) source
+IsJobAnswer remaining (Normalise job) source right = OfInput remaining (IsCanonicalAnswer output.Extract job) source
+IsJobAnswer remaining (Check job) source right = OfInput remaining (IsCanonicalAnswer output.Counts job) source
 IsJobAnswer remaining (CheckAll job) source right = OfInput remaining (IsCheckAllAnswer job) source
 IsJobAnswer remaining (Compare job) source right = OfBoth remaining (IsCompareAnswer job) source right
-IsJobAnswer remaining (Diff job) source right = OfBoth remaining (IsDiffAnswer job) source right
+IsJobAnswer remaining (Diff job) source right = OfBoth remaining (IsDiffAnswer job.format job.compared) source right
 IsJobAnswer remaining (Day job) source right = OfInput remaining (IsDayAnswer job) source
 IsJobAnswer remaining (Train job) source right = OfInput remaining (IsTrainAnswer job) source
 IsJobAnswer remaining (Explain job) source right = OfInput remaining (IsExplainAnswer job) source
 IsJobAnswer remaining (Clashes asked) source right = OfInput remaining (IsClashesAnswer asked) source
-IsJobAnswer remaining (Table job) source right = OfInput remaining (IsTableAnswer job) source
+IsJobAnswer remaining (Table job) source right = OfInput remaining (IsCanonicalAnswer (output.Table job.table) job.canonical) source
 IsJobAnswer remaining (Calendar job) source right = OfInput remaining (IsCalendarAnswer job) source
 
 -- why a command with one input has none
@@ -243,7 +262,7 @@ IsJobFault (CheckAll job) = IsCheckAllFault job.asked
 IsJobFault (Normalise job) = IsNormaliseFault MAX_LINES job.asked
 IsJobFault (Check job) = IsNormaliseFault MAX_LINES job.asked
 IsJobFault (Train job) = IsNormaliseFault MAX_LINES job.asked
-IsJobFault (Table job) = IsNormaliseFault MAX_LINES job.asked
+IsJobFault (Table job) = IsNormaliseFault MAX_LINES job.canonical.asked
 IsJobFault (Day job) = IsDayRefusal job.day
 IsJobFault (Explain job) = IsExplainRefusal job.day
 IsJobFault (Clashes asked) = IsClashlessRefusal asked
@@ -257,7 +276,7 @@ abbrev pub IsJobResult : {R : Type 0} → (R → Option (List ℕ)) → (R → O
 IsJobResult remaining errors (Compare job) =
     IsResultOfBoth remaining errors (reading_extract MAX_LINES) (AreComparedAs job.asked job.common)
 IsJobResult remaining errors (Diff job) =
-    IsResultOfBoth remaining errors (reading_extract MAX_LINES) (AreComparedAs job.asked job.common)
+    IsResultOfBoth remaining errors (reading_extract MAX_LINES) (AreComparedAs job.compared.asked job.compared.common)
 IsJobResult remaining errors (CheckAll job) = λ source source_new right right_new result.
     IsResultOf remaining errors (answering_all job.asked) source source_new result × (right_new ≡ right)
 IsJobResult remaining errors job = λ source source_new right right_new result.

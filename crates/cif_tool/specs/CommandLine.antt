@@ -14,7 +14,6 @@ use Rattle.cif_tool.specs.declared.command_line.Argument.TheVariants.{Form, Form
 use Rattle.cif_tool.specs.declared.command_line.Choices.{Choices}
 use Rattle.cif_tool.specs.declared.command_line.Syntax.{Syntax}
 use Rattle.cif_tool.specs.declared.command_line.Syntax.TheVariants as syntax
-use Rattle.cif_tool.specs.declared.command_line.Parts.{Parts}
 
 -- a word that may not be left out
 abbrev pub required : Text → Rule
@@ -143,9 +142,13 @@ prepare = Verbose ∷ File ∷ Holidays ∷ DropClashes ∷ []
 abbrev pub update : List Argument
 update = Verbose ∷ Full ∷ Updates ∷ Lenient ∷ []
 
--- a subcommand's name, and what it takes
+-- how the program keeps a subcommand: its name, its help, and what it takes besides `--verbose`
+abbrev pub Parts : Type 0
+Parts = Bor Text × Bor Text × Bor (List Argument)
+
+-- its name, and all that it takes
 abbrev pub taken : Parts → Text × List Argument
-taken parts = (parts.name.now, parts.arguments.now)
+taken parts = (parts.0.now, Verbose ∷ parts.2.now)
 
 -- a program with these subcommands too
 abbrev pub with_subcommands : Choices → App → List (Text × List Argument) → App

@@ -123,7 +123,7 @@ IsChosen (CheckAll job) met = (met.0 ≡ codes "check") × (has_flag (codes "all
     × AreCanonicalWords met.1 job.asked job.form
 IsChosen (Compare job) met = (met.0 ≡ codes "compare") × AreComparedWords met.1 job.asked job.common
 IsChosen (Diff job) met = (met.0 ≡ codes "diff")
-    × AreComparedWords met.1 job.asked job.common
+    × AreComparedWords met.1 job.compared.asked job.compared.common
     × (job.format ≡ format_of (first_of (codes "format") met.1))
 IsChosen (Day job) met = (met.0 ≡ codes "day")
     × StandsInYymmdd (required_word (codes "YYMMDD") met.1) job.day
@@ -139,7 +139,7 @@ IsChosen (Explain job) met = (met.0 ≡ codes "explain")
 IsChosen (Clashes asked) met = (met.0 ≡ codes "clashes") × IsAskedBy met.1 asked
 IsChosen (Table job) met = (met.0 ≡ codes "table")
     × (job.table ≡ table_of (required_word (codes "TABLE") met.1))
-    × AreCanonicalWords met.1 job.asked job.form
+    × AreCanonicalWords met.1 job.canonical.asked job.canonical.form
 IsChosen (Calendar job) met = (met.0 ≡ codes "calendar")
     × IsUidWord (required_word (codes "UID") met.1) job.uid
     × IsAskedBy met.1 job.asked

@@ -34,6 +34,10 @@ IsNoUid word = ¬ IsUid word
 abbrev pub HasBadDate : Text → List Row → Type 0
 HasBadDate id rows = IsSomeAnd (first_of id rows) NamesNoDay
 
+-- a word of `--from` or `--to` names no day
+abbrev pub HasBadWindow : List Row → Type 0
+HasBadWindow rows = HasBadDate (codes "from") rows ⊎ HasBadDate (codes "to") rows
+
 -- the subcommand takes a day, and its word names none
 abbrev pub HasBadDay : Text × List Row → Type 0
 HasBadDay met = ((met.0 ≡ codes "day") ⊎ (met.0 ≡ codes "explain")) × NamesNoDay (required_word (codes "YYMMDD") met.1)
@@ -66,7 +70,7 @@ abbrev pub IsWordFault : JobFault → Text × List Row → Type 0
 IsWordFault NoCommand met = IsNoneOf subcommands met.0
 IsWordFault BadUid met = HasBadUid met
 IsWordFault BadDate met = ¬ HasBadUid met
-    × (HasBadDay met ⊎ (HasBadDate (codes "from") met.1 ⊎ HasBadDate (codes "to") met.1))
+    × (HasBadDay met ⊎ HasBadWindow met.1)
 IsWordFault (StandardInputTwice inputs) met = IsStandardTwice inputs met
 IsWordFault Memory met = ⊤
 IsWordFault (Usage error) met = ⊥

@@ -3,31 +3,27 @@ ghost use Rattle.std.specs.Prelude.{◌≡◌, IfErr};
 ghost use Rattle.cif_canon.specs.Fault.{IsNormaliseFault};
 ghost use Rattle.cif_columns.specs.Sink.{Writes};
 ghost use Rattle.cif_columns.specs.declared.line_reader.TheConstants.{MAX_LINES};
-ghost use Rattle.cif_extract.specs.ReadCall.{IsResultOf, IsResultOfBoth};
-ghost use Rattle.cif_extract.specs.ReadFault.{reading_extract};
 ghost use Rattle.cif_extract.specs.declared.fault.Fault.TheVariants.{Write};
-ghost use Rattle.cif_tool.specs.Answer.{Answers, AreComparedAs, Finishes, IsCalendarAnswer};
-ghost use Rattle.cif_tool.specs.Answer.{IsCheckAllAnswer, IsCheckAnswer, IsClashesAnswer};
-ghost use Rattle.cif_tool.specs.Answer.{IsClashlessRefusal, IsCompareAnswer};
-ghost use Rattle.cif_tool.specs.Answer.{IsDayAnswer, IsDayRefusal, IsDiffAnswer};
+ghost use Rattle.cif_tool.specs.Answer.{Answers, AreAnswered, AreComparedAs, Finishes, IsAnswered};
+ghost use Rattle.cif_tool.specs.Answer.{IsCalendarAnswer, IsCheckAllAnswer, IsClashesAnswer};
+ghost use Rattle.cif_tool.specs.Answer.{IsClashlessRefusal, IsCanonicalAnswer};
+ghost use Rattle.cif_tool.specs.Answer.{IsDayAnswer, IsDayRefusal, IsPairAnswer};
 ghost use Rattle.cif_tool.specs.Answer.{IsExplainAnswer, IsExplainRefusal, IsHandedOn, IsJobAnswer};
-ghost use Rattle.cif_tool.specs.Answer.{IsJobResult, IsNormaliseAnswer, IsTableAnswer, IsTrainAnswer};
-ghost use Rattle.cif_tool.specs.Answer.{OfBoth, OfInput, answering, answering_all, differences_in};
+ghost use Rattle.cif_tool.specs.Answer.{IsJobResult, IsTrainAnswer, answering, answering_all};
+ghost use Rattle.cif_tool.specs.Answer.{canonical_text, differences_in};
 
-use crate::job::{
-    CalendarJob, CanonicalJob, CompareJob, DayJob, DiffJob, ExplainJob, Job, TableJob, TrainJob,
-};
+use crate::job::{CalendarJob, CanonicalJob, CompareJob, DayJob, ExplainJob, Job, TrainJob};
 use crate::status::{DONE, REFUSED, listed, outcome};
 use cif_canon::{
-    Asked, Differences, Format, compare, differences, narrowed_canon, read_canon, read_narrowed,
-    read_pair, write_comparison, write_counts,
+    Asked, Canon, Differences, Format, compare, differences, narrowed_canon, read_canon,
+    read_narrowed, read_pair, write_comparison, write_counts,
 };
 use cif_columns::{MAX_LINES, ReadDevice, Sink, Source, WriteDevice};
 use cif_extract::{Extract, Fault, read_extract};
 use cif_feed::{Judged, Reasons};
 use cif_views::{
-    clashes, day_listing, explain_listing, train_listing, week_calendar, write_difference_table,
-    write_table,
+    Table, clashes, day_listing, explain_listing, train_listing, week_calendar,
+    write_difference_table, write_table,
 };
 use std::alloc::Global;
 
@@ -42,44 +38,50 @@ pub struct Kept {
     pub reasons: Option<Reasons>,
 }
 
-/// Writes the canonical extract of what the source gives, and answers status 0.
-pub fn answer_normalise<R: ReadDevice, W: WriteDevice>(
-    alloc: Global,
-    source: &mut Source<R>,
-    sink: &mut Sink<W>,
-    job: &CanonicalJob,
-    kept: &mut Option<Extract>,
-) -> Result<u8, Fault>
-    ensures answer { Answers W.contents W.write_errors
-        (OfInput R.remaining (IsNormaliseAnswer job.now) source.old)
-        sink.old sink.new result }
-    ensures reads { IsResultOf R.remaining R.read_errors (answering (IsNormaliseFault MAX_LINES job.now.asked))
-        source.old source.new result }
-    ensures handed_on { IsHandedOn W.holds_nothing sink.new result }
-{
-    let canon = read_canon(alloc, source, MAX_LINES, &job.asked, job.form, kept)?;
-    finish(canon.write(sink), sink, DONE)
+/// What is written of a canonical extract.
+#[derive(Clone, Copy)]
+pub enum CanonicalOutput {
+    /// Its text.
+    Extract,
+    /// How many records it has.
+    Counts,
+    /// This table of it.
+    Table(Table),
 }
 
-/// Writes how many records the canonical extract of what the source gives has, and answers
-/// status 0.
-pub fn answer_check<R: ReadDevice, W: WriteDevice>(
+/// Writes this of the canonical extract of what the source gives, and answers status 0.
+pub fn answer_canonical<R: ReadDevice, W: WriteDevice>(
     alloc: Global,
     source: &mut Source<R>,
     sink: &mut Sink<W>,
     job: &CanonicalJob,
+    output: CanonicalOutput,
     kept: &mut Option<Extract>,
 ) -> Result<u8, Fault>
-    ensures answer { Answers W.contents W.write_errors
-        (OfInput R.remaining (IsCheckAnswer job.now) source.old)
-        sink.old sink.new result }
-    ensures reads { IsResultOf R.remaining R.read_errors (answering (IsNormaliseFault MAX_LINES job.now.asked))
-        source.old source.new result }
-    ensures handed_on { IsHandedOn W.holds_nothing sink.new result }
+    ensures { IsAnswered R.remaining R.read_errors W.contents W.write_errors W.holds_nothing
+        (IsCanonicalAnswer output job.now) (answering (IsNormaliseFault MAX_LINES job.now.asked))
+        source.old source.new sink.old sink.new result }
 {
     let canon = read_canon(alloc, source, MAX_LINES, &job.asked, job.form, kept)?;
-    let written = write_counts(&canon.counts(), sink).map_err(Fault::from);
+    let written = write_canonical(&canon, output, sink);
     finish(written, sink, DONE)
+}
+
+/// Writes this of the canonical form.
+fn write_canonical<W: WriteDevice>(
+    canon: &Canon<'_>,
+    output: CanonicalOutput,
+    sink: &mut Sink<W>,
+) -> Result<(), Fault>
+    ensures writes { Writes W.contents W.write_errors (canonical_text output canon.now)
+        sink.old sink.new result }
+    ensures fault { IfErr result (λ fault. fault ≡ Write) }
+{
+    match output {
+        CanonicalOutput::Extract => canon.write(sink),
+        CanonicalOutput::Counts => write_counts(&canon.counts(), sink).map_err(Fault::from),
+        CanonicalOutput::Table(table) => write_table(canon, table, sink),
+    }
 }
 
 /// Judges each line by itself, and writes each reason with the number of lines that have it and the first
@@ -91,12 +93,9 @@ pub fn answer_check_all<R: ReadDevice, W: WriteDevice>(
     job: &CanonicalJob,
     kept: &mut Kept,
 ) -> Result<u8, Fault>
-    ensures answer { Answers W.contents W.write_errors
-        (OfInput R.remaining (IsCheckAllAnswer job.now) source.old)
-        sink.old sink.new result }
-    ensures reads { IsResultOf R.remaining R.read_errors (answering_all job.now.asked)
-        source.old source.new result }
-    ensures handed_on { IsHandedOn W.holds_nothing sink.new result }
+    ensures { IsAnswered R.remaining R.read_errors W.contents W.write_errors W.holds_nothing
+        (IsCheckAllAnswer job.now) (answering_all job.now.asked)
+        source.old source.new sink.old sink.new result }
 {
     match Judged::read(alloc, source, MAX_LINES)? {
         Judged::Reasons(reasons) => {
@@ -106,61 +105,51 @@ pub fn answer_check_all<R: ReadDevice, W: WriteDevice>(
         }
         Judged::Extract(extract) => {
             let canon = narrowed_canon(alloc, extract, &job.asked, job.form, &mut kept.left)?;
-            let written = write_counts(&canon.counts(), sink).map_err(Fault::from);
+            let written = write_canonical(&canon, CanonicalOutput::Counts, sink);
             finish(written, sink, DONE)
         }
     }
 }
 
-/// Writes how the extracts of two sources compare, and answers 0 where they say the same, else 1.
-/// The right one isn't touched before the left one is read to its end and no line of it is refused.
-pub fn answer_compare<R: ReadDevice, W: WriteDevice>(
+/// What is said of two extracts.
+#[derive(Clone, Copy)]
+pub enum PairOutput {
+    /// How they compare.
+    Comparison,
+    /// In what they differ, in this format.
+    Differences(Format),
+}
+
+/// Writes this of the extracts of two sources, and answers 0 where they say the same, else 1. The right one isn't
+/// touched before the left one is read to its end and no line of it is refused.
+pub fn answer_pair<R: ReadDevice, W: WriteDevice>(
     alloc: Global,
     left: &mut Source<R>,
     right: &mut Source<R>,
     sink: &mut Sink<W>,
     job: &CompareJob,
+    output: PairOutput,
     kept: &mut Kept,
 ) -> Result<u8, Fault>
-    ensures answer { Answers W.contents W.write_errors
-        (OfBoth R.remaining (IsCompareAnswer job.now) left.old right.old)
-        sink.old sink.new result }
-    ensures reads { IsResultOfBoth R.remaining R.read_errors (reading_extract MAX_LINES)
-        (AreComparedAs job.now.asked job.now.common) left.old left.new right.old right.new result }
-    ensures handed_on { IsHandedOn W.holds_nothing sink.new result }
+    ensures { AreAnswered R.remaining R.read_errors W.contents W.write_errors W.holds_nothing
+        (IsPairAnswer output job.now) (AreComparedAs job.now.asked job.now.common)
+        left.old left.new right.old right.new sink.old sink.new result }
 {
     let (left, right) = read_pair(alloc, left, right, &job.asked, job.common)?;
     let left = kept.left.insert(left);
     let right = kept.right.insert(right);
-    let comparison = compare(alloc, left, right)?;
-    let written = write_comparison(&comparison, sink).map_err(Fault::from);
-    finish(written, sink, outcome(&comparison))
-}
-
-/// Writes in what the extracts of two sources differ, in this format, and answers 0 where they don't,
-/// else 1. The right one isn't touched before the left one is read to its end and no line of it is
-/// refused.
-pub fn answer_diff<R: ReadDevice, W: WriteDevice>(
-    alloc: Global,
-    left: &mut Source<R>,
-    right: &mut Source<R>,
-    sink: &mut Sink<W>,
-    job: &DiffJob,
-    kept: &mut Kept,
-) -> Result<u8, Fault>
-    ensures answer { Answers W.contents W.write_errors
-        (OfBoth R.remaining (IsDiffAnswer job.now) left.old right.old)
-        sink.old sink.new result }
-    ensures reads { IsResultOfBoth R.remaining R.read_errors (reading_extract MAX_LINES)
-        (AreComparedAs job.now.asked job.now.common) left.old left.new right.old right.new result }
-    ensures handed_on { IsHandedOn W.holds_nothing sink.new result }
-{
-    let (left, right) = read_pair(alloc, left, right, &job.asked, job.common)?;
-    let left = kept.left.insert(left);
-    let right = kept.right.insert(right);
-    let found = differences(alloc, left, right)?;
-    let written = write_differences(&found, job.format, sink);
-    finish(written, sink, listed(found.is_empty()))
+    match output {
+        PairOutput::Comparison => {
+            let comparison = compare(alloc, left, right)?;
+            let written = write_comparison(&comparison, sink).map_err(Fault::from);
+            finish(written, sink, outcome(&comparison))
+        }
+        PairOutput::Differences(format) => {
+            let found = differences(alloc, left, right)?;
+            let written = write_differences(&found, format, sink);
+            finish(written, sink, listed(found.is_empty()))
+        }
+    }
 }
 
 /// Appends the differences in this format.
@@ -187,12 +176,9 @@ pub fn answer_day<R: ReadDevice, W: WriteDevice>(
     job: &DayJob,
     kept: &mut Option<Extract>,
 ) -> Result<u8, Fault>
-    ensures answer { Answers W.contents W.write_errors
-        (OfInput R.remaining (IsDayAnswer job.now) source.old)
-        sink.old sink.new result }
-    ensures reads { IsResultOf R.remaining R.read_errors (answering (IsDayRefusal job.now.day))
-        source.old source.new result }
-    ensures handed_on { IsHandedOn W.holds_nothing sink.new result }
+    ensures { IsAnswered R.remaining R.read_errors W.contents W.write_errors W.holds_nothing
+        (IsDayAnswer job.now) (answering (IsDayRefusal job.now.day))
+        source.old source.new sink.old sink.new result }
 {
     let extract = read_extract(alloc, source, MAX_LINES)?;
     let extract = kept.insert(extract);
@@ -208,12 +194,9 @@ pub fn answer_train<R: ReadDevice, W: WriteDevice>(
     job: &TrainJob,
     kept: &mut Option<Extract>,
 ) -> Result<u8, Fault>
-    ensures answer { Answers W.contents W.write_errors
-        (OfInput R.remaining (IsTrainAnswer job.now) source.old)
-        sink.old sink.new result }
-    ensures reads { IsResultOf R.remaining R.read_errors (answering (IsNormaliseFault MAX_LINES job.now.asked))
-        source.old source.new result }
-    ensures handed_on { IsHandedOn W.holds_nothing sink.new result }
+    ensures { IsAnswered R.remaining R.read_errors W.contents W.write_errors W.holds_nothing
+        (IsTrainAnswer job.now) (answering (IsNormaliseFault MAX_LINES job.now.asked))
+        source.old source.new sink.old sink.new result }
 {
     let extract = read_narrowed(alloc, source, MAX_LINES, &job.asked)?;
     let extract = kept.insert(extract);
@@ -229,12 +212,9 @@ pub fn answer_explain<R: ReadDevice, W: WriteDevice>(
     job: &ExplainJob,
     kept: &mut Option<Extract>,
 ) -> Result<u8, Fault>
-    ensures answer { Answers W.contents W.write_errors
-        (OfInput R.remaining (IsExplainAnswer job.now) source.old)
-        sink.old sink.new result }
-    ensures reads { IsResultOf R.remaining R.read_errors (answering (IsExplainRefusal job.now.day))
-        source.old source.new result }
-    ensures handed_on { IsHandedOn W.holds_nothing sink.new result }
+    ensures { IsAnswered R.remaining R.read_errors W.contents W.write_errors W.holds_nothing
+        (IsExplainAnswer job.now) (answering (IsExplainRefusal job.now.day))
+        source.old source.new sink.old sink.new result }
 {
     let extract = read_extract(alloc, source, MAX_LINES)?;
     let extract = kept.insert(extract);
@@ -249,35 +229,13 @@ pub fn answer_clashes<R: ReadDevice, W: WriteDevice>(
     sink: &mut Sink<W>,
     asked: &Asked,
 ) -> Result<u8, Fault>
-    ensures answer { Answers W.contents W.write_errors
-        (OfInput R.remaining (IsClashesAnswer asked.now) source.old)
-        sink.old sink.new result }
-    ensures reads { IsResultOf R.remaining R.read_errors (answering (IsClashlessRefusal asked.now))
-        source.old source.new result }
-    ensures handed_on { IsHandedOn W.holds_nothing sink.new result }
+    ensures { IsAnswered R.remaining R.read_errors W.contents W.write_errors W.holds_nothing
+        (IsClashesAnswer asked.now) (answering (IsClashlessRefusal asked.now))
+        source.old source.new sink.old sink.new result }
 {
     let extract = read_narrowed(alloc, source, MAX_LINES, asked)?;
     let found = clashes(alloc, &extract)?;
     finish(found.write(sink), sink, listed(found.is_empty()))
-}
-
-/// Writes this table of the canonical extract of what the source gives, and answers status 0.
-pub fn answer_table<R: ReadDevice, W: WriteDevice>(
-    alloc: Global,
-    source: &mut Source<R>,
-    sink: &mut Sink<W>,
-    job: &TableJob,
-    kept: &mut Option<Extract>,
-) -> Result<u8, Fault>
-    ensures answer { Answers W.contents W.write_errors
-        (OfInput R.remaining (IsTableAnswer job.now) source.old)
-        sink.old sink.new result }
-    ensures reads { IsResultOf R.remaining R.read_errors (answering (IsNormaliseFault MAX_LINES job.now.asked))
-        source.old source.new result }
-    ensures handed_on { IsHandedOn W.holds_nothing sink.new result }
-{
-    let canon = read_canon(alloc, source, MAX_LINES, &job.asked, job.form, kept)?;
-    finish(write_table(&canon, job.table, sink), sink, DONE)
 }
 
 /// Writes the calendar of the train, and answers status 0.
@@ -288,12 +246,9 @@ pub fn answer_calendar<R: ReadDevice, W: WriteDevice>(
     job: &CalendarJob,
     kept: &mut Option<Extract>,
 ) -> Result<u8, Fault>
-    ensures answer { Answers W.contents W.write_errors
-        (OfInput R.remaining (IsCalendarAnswer job.now) source.old)
-        sink.old sink.new result }
-    ensures reads { IsResultOf R.remaining R.read_errors (answering (IsClashlessRefusal job.now.asked))
-        source.old source.new result }
-    ensures handed_on { IsHandedOn W.holds_nothing sink.new result }
+    ensures { IsAnswered R.remaining R.read_errors W.contents W.write_errors W.holds_nothing
+        (IsCalendarAnswer job.now) (answering (IsClashlessRefusal job.now.asked))
+        source.old source.new sink.old sink.new result }
 {
     let extract = read_narrowed(alloc, source, MAX_LINES, &job.asked)?;
     let extract = kept.insert(extract);
@@ -331,16 +286,50 @@ pub fn answer<R: ReadDevice, W: WriteDevice>(
     ensures handed_on { IsHandedOn W.holds_nothing sink.new result }
 {
     match job {
-        Job::Normalise(job) => answer_normalise(alloc, source, sink, job, &mut kept.left),
-        Job::Check(job) => answer_check(alloc, source, sink, job, &mut kept.left),
+        Job::Normalise(job) => {
+            answer_canonical(
+                alloc,
+                source,
+                sink,
+                job,
+                CanonicalOutput::Extract,
+                &mut kept.left,
+            )
+        }
+        Job::Check(job) => {
+            answer_canonical(
+                alloc,
+                source,
+                sink,
+                job,
+                CanonicalOutput::Counts,
+                &mut kept.left,
+            )
+        }
         Job::CheckAll(job) => answer_check_all(alloc, source, sink, job, kept),
-        Job::Compare(job) => answer_compare(alloc, source, right, sink, job, kept),
-        Job::Diff(job) => answer_diff(alloc, source, right, sink, job, kept),
+        Job::Compare(job) => {
+            answer_pair(
+                alloc,
+                source,
+                right,
+                sink,
+                job,
+                PairOutput::Comparison,
+                kept,
+            )
+        }
+        Job::Diff(job) => {
+            let output = PairOutput::Differences(job.format);
+            answer_pair(alloc, source, right, sink, &job.compared, output, kept)
+        }
         Job::Day(job) => answer_day(alloc, source, sink, job, &mut kept.left),
         Job::Train(job) => answer_train(alloc, source, sink, job, &mut kept.left),
         Job::Explain(job) => answer_explain(alloc, source, sink, job, &mut kept.left),
         Job::Clashes(asked) => answer_clashes(alloc, source, sink, asked),
-        Job::Table(job) => answer_table(alloc, source, sink, job, &mut kept.left),
+        Job::Table(job) => {
+            let output = CanonicalOutput::Table(job.table);
+            answer_canonical(alloc, source, sink, &job.canonical, output, &mut kept.left)
+        }
         Job::Calendar(job) => answer_calendar(alloc, source, sink, job, &mut kept.left),
     }
 }

@@ -92,14 +92,8 @@ impl Argument {
     }
 }
 
-/// What a subcommand is called, what help says of it, and what it takes.
-#[derive(Clone, Copy)]
-struct Parts<'a> {
-    name: &'a str,
-    about: &'a str,
-    more: &'a str,
-    arguments: &'a [Argument],
-}
+/// What a subcommand is called, what help says of it, and what it takes besides `--verbose`.
+type Parts<'a> = (&'a str, &'a str, &'a [Argument]);
 
 /// The words that name a form, those that name a format, and those that name a table.
 #[derive(Clone, Copy)]
@@ -161,10 +155,11 @@ fn arg_of<'a>(alloc: Global, given: (&'a str, Syntax, &'a str), choices: &Choice
     }
 }
 
-/// A command of this name, and what help says of it.
-fn described<'a>(alloc: Global, name: &'a str, about: &'a str, more: &'a str) -> Command<'a>
+/// A command of this name, and what help says of it: in its first line what the list of commands says.
+fn described<'a>(alloc: Global, name: &'a str, help: &'a str) -> Command<'a>
     ensures { IsCommand (new_app name.entry.now) result }
 {
+    let (about, more) = help.split_once('\n').unwrap_or((help, ""));
     Command::new(alloc, name).about(about).after_help(more)
 }
 
@@ -177,10 +172,12 @@ fn with_parts<'a>(
 ) -> Result<Command<'a>, AllocError>
     requires { (out-Command command).has_globals ≡ false }
     ensures { IfOk result (IsCommand (with_subcommand (app_of command.entry)
-        (taking choices.now (new_app parts.now.name.now) parts.now.arguments.now).top)) }
+        (taking choices.now (new_app (taken parts.now).0) (taken parts.now).1).top)) }
 {
-    let mut subcommand = described(alloc, parts.name, parts.about, parts.more);
-    for which in parts.arguments {
+    let (name, help, arguments) = *parts;
+    let mut subcommand = described(alloc, name, help);
+    subcommand = subcommand.arg(arg_of(alloc, Verbose.given(), choices))?;
+    for which in arguments {
         subcommand = subcommand.arg(arg_of(alloc, which.given(), choices))?;
     }
     command.subcommand(subcommand)
@@ -191,78 +188,22 @@ fn subcommands() -> &'static [Parts<'static>]
     ensures { map taken result.now ≡ subcommands }
 {
     &[
-        Parts {
-            name: "normalise",
-            about: help::NORMALISE,
-            more: help::NORMALISE_MORE,
-            arguments: &[Verbose, File, From, To, Form],
-        },
-        Parts {
-            name: "check",
-            about: help::CHECK,
-            more: help::CHECK_MORE,
-            arguments: &[Verbose, File, From, To, Form, All],
-        },
-        Parts {
-            name: "compare",
-            about: help::COMPARE,
-            more: help::COMPARE_MORE,
-            arguments: &[Verbose, Left, Right, From, To, Common],
-        },
-        Parts {
-            name: "diff",
-            about: help::DIFF,
-            more: help::DIFF_MORE,
-            arguments: &[Verbose, Left, Right, From, To, Common, Format],
-        },
-        Parts {
-            name: "day",
-            about: help::DAY,
-            more: help::DAY_MORE,
-            arguments: &[Verbose, Date, File, Stops, Format],
-        },
-        Parts {
-            name: "train",
-            about: help::TRAIN,
-            more: help::TRAIN_MORE,
-            arguments: &[Verbose, Uid, File, From, To, Form, Stops, Format],
-        },
-        Parts {
-            name: "explain",
-            about: help::EXPLAIN,
-            more: help::EXPLAIN_MORE,
-            arguments: &[Verbose, Uid, Date, File, Format],
-        },
-        Parts {
-            name: "clashes",
-            about: help::CLASHES,
-            more: help::CLASHES_MORE,
-            arguments: &[Verbose, File, From, To],
-        },
-        Parts {
-            name: "table",
-            about: help::TABLE,
-            more: help::TABLE_MORE,
-            arguments: &[Verbose, Table, File, From, To, Form],
-        },
-        Parts {
-            name: "calendar",
-            about: help::CALENDAR,
-            more: help::CALENDAR_MORE,
-            arguments: &[Verbose, Uid, File, From, To],
-        },
-        Parts {
-            name: "prepare",
-            about: help::PREPARE,
-            more: help::PREPARE_MORE,
-            arguments: &[Verbose, File, Holidays, DropClashes],
-        },
-        Parts {
-            name: "update",
-            about: help::UPDATE,
-            more: help::UPDATE_MORE,
-            arguments: &[Verbose, Full, Updates, Lenient],
-        },
+        ("normalise", help::NORMALISE, &[File, From, To, Form]),
+        ("check", help::CHECK, &[File, From, To, Form, All]),
+        ("compare", help::COMPARE, &[Left, Right, From, To, Common]),
+        ("diff", help::DIFF, &[Left, Right, From, To, Common, Format]),
+        ("day", help::DAY, &[Date, File, Stops, Format]),
+        (
+            "train",
+            help::TRAIN,
+            &[Uid, File, From, To, Form, Stops, Format],
+        ),
+        ("explain", help::EXPLAIN, &[Uid, Date, File, Format]),
+        ("clashes", help::CLASHES, &[File, From, To]),
+        ("table", help::TABLE, &[Table, File, From, To, Form]),
+        ("calendar", help::CALENDAR, &[Uid, File, From, To]),
+        ("prepare", help::PREPARE, &[File, Holidays, DropClashes]),
+        ("update", help::UPDATE, &[Full, Updates, Lenient]),
     ]
 }
 
@@ -270,7 +211,7 @@ fn subcommands() -> &'static [Parts<'static>]
 fn program<'a>(alloc: Global, choices: &Choices<'a>) -> Result<Command<'a>, AllocError>
     ensures { IfOk result (IsCommand (cif choices.now)) }
 {
-    let mut command = described(alloc, "cif", help::CIF, help::CIF_MORE)
+    let mut command = described(alloc, "cif", help::CIF)
         .version("0.2.0")
         .subcommand_required(true);
     for parts in subcommands() {

@@ -1,26 +1,28 @@
 //! What the program reads and writes: its inputs, the output, and a line that is read again.
 ghost use Rattle.std.specs.Io.{ReadsAtMost};
 
+use crate::message::Escaped;
 use crate::words::is_standard;
 use arrayvec::ArrayVec;
 use cif_columns::{Content, LINE_WIDTH, Line, LineReader, ReadDevice, Sink, Source, WriteDevice};
 use cif_extract::Fault;
 use cif_records::Header;
 use std::alloc::Global;
+use std::fmt::{Display, Formatter};
 use std::fs::OpenFile;
-use std::io::{BufWriter, Read, Seek, SeekFrom, Write};
+use std::io::{BufRead, BufReader, BufWriter, Read, Seek, SeekFrom, Write};
 use std::mem::ManuallyDrop;
 use std::rt::Files;
-use std::{fs, io};
+use std::{fmt, fs, io};
 
 /// How many bytes are kept of what was read first: a line and its ending.
-pub(crate) const START: usize = LINE_WIDTH + 2;
+const START: usize = LINE_WIDTH + 2;
 
 /// The standard input, or a file. Neither is touched before it is read first, and a file that can't
 /// be opened is one that can't be read.
 #[derive(Drop)]
 pub(crate) struct ExtractInput<'a, R: Files + Input> {
-    /// What the user knows it by: of several inputs which one it is, as `LEFT (`, and the file's name.
+    /// What the user knows it by: of several inputs which one it is, as `LEFT`, and the file's name.
     side: &'static str,
     name: &'a str,
     device: Device<'a, R>,
@@ -69,21 +71,6 @@ impl<'a, R: Files + Input> ExtractInput<'a, R> {
         }
     }
 
-    /// Of several inputs which one it is, and a bracket that opens.
-    pub(crate) fn side(&self) -> &str {
-        self.side
-    }
-
-    /// The file's name.
-    pub(crate) fn name(&self) -> &str {
-        self.name
-    }
-
-    /// The bracket that closes behind the name, if `side` opens one.
-    pub(crate) fn side_end(&self) -> &str {
-        if self.side.is_empty() { "" } else { ")" }
-    }
-
     /// Whether it was read.
     pub(crate) fn is_touched(&self) -> bool {
         match self.device {
@@ -100,9 +87,10 @@ impl<'a, R: Files + Input> ExtractInput<'a, R> {
 
     /// Column 47 of the header that stands behind the first comments of a file, of which there are at most a
     /// hundred.
-    pub(crate) fn letter_of_header(&self) -> Option<u8> {
-        for number in 1..=MOST_COMMENTS {
-            let line = line_again(&mut self.again()?, number, MOST_LOOKED_AT)?;
+    pub(crate) fn letter_of_header(&self, alloc: Global) -> Option<u8> {
+        let mut file = BufReader::new(alloc, self.again()?).ok()?;
+        for _ in 0..MOST_COMMENTS {
+            let line = LineAgain::read(alloc, &mut file, MOST_LOOKED_AT)?;
             if line.bytes.starts_with(b"HD") {
                 return line.bytes.get(46).copied();
             }
@@ -113,9 +101,24 @@ impl<'a, R: Files + Input> ExtractInput<'a, R> {
         None
     }
 
+    /// The line of this number, counted from 1, if it is still known: of a file, or the first of the standard input.
+    pub(crate) fn line_again(&self, alloc: Global, number: u64) -> Option<LineAgain> {
+        let Some(file) = self.again() else {
+            return match number {
+                1 => LineAgain::read(alloc, &mut self.start.as_slice(), START),
+                _ => None,
+            };
+        };
+        let mut file = BufReader::new(alloc, file).ok()?;
+        for _ in 1..number {
+            file.skip_until(b'\n').ok()?;
+        }
+        LineAgain::read(alloc, &mut file, MOST_LOOKED_AT)
+    }
+
     /// The file, to be read again from its beginning: none where the input isn't a file that allows
     /// it.
-    pub(crate) fn again(&self) -> Option<R::File> {
+    fn again(&self) -> Option<R::File> {
         match &self.device {
             Device::Ended { files, name } => fs::open(*files, *name).ok()?.try_clone().ok(),
             Device::Opened { file, .. } => {
@@ -124,6 +127,22 @@ impl<'a, R: Files + Input> ExtractInput<'a, R> {
                 Some(file)
             }
             _ => None,
+        }
+    }
+}
+
+/// Of several inputs which one it is, and the file's name.
+impl<R: Files + Input> Display for ExtractInput<'_, R> {
+    fn fmt<W: fmt::Write>(&self, f: &mut Formatter<W>) -> fmt::Result {
+        let side = self.side;
+        let name = Escaped {
+            text: self.name,
+            has_lines: false,
+        };
+        if side.is_empty() {
+            write!(f, "{name}")
+        } else {
+            write!(f, "{side} ({name})")
         }
     }
 }
@@ -290,80 +309,36 @@ pub(crate) const MOST_LOOKED_AT: usize = 4096;
 /// The comments behind which a header is looked for.
 const MOST_COMMENTS: u64 = 100;
 
-/// The bytes of a line that are kept: those of the longest line of holidays.
-pub(crate) const MOST_KEPT: usize = 1000;
-
-/// A line of an input that is read again.
+/// A line of an input that is read again, without its ending.
 #[derive(Drop)]
 pub(crate) struct LineAgain {
-    /// How many lines come before it.
-    before: u64,
-    /// Its first bytes.
-    pub(crate) bytes: ArrayVec<u8, MOST_KEPT>,
-    /// How many it has, up to `MOST_LOOKED_AT`.
-    pub(crate) length: usize,
-    /// From how many on not all of them are known.
-    pub(crate) known: usize,
-    /// The byte that was taken last.
-    last: u8,
+    /// Its bytes, or the first of them.
+    pub(crate) bytes: Vec<u8>,
+    /// Whether these are known to be all.
+    pub(crate) is_whole: bool,
 }
 
 impl LineAgain {
+    /// The next line, if there is one. Fewer bytes than `known` are all of it.
+    fn read<B: BufRead>(alloc: Global, file: &mut B, known: usize) -> Option<LineAgain> {
+        let mut bytes = Vec::new(alloc);
+        let mut line = file.by_ref().take((known as u64).saturating_add(1));
+        if line.read_until(b'\n', &mut bytes).ok()? == 0 {
+            return None;
+        }
+        let length = match bytes.as_slice() {
+            [line @ .., b'\r', b'\n'] | [line @ .., b'\n'] | line => line.len(),
+        };
+        bytes.truncate(length);
+        let is_whole = length < known;
+        Some(LineAgain { bytes, is_whole })
+    }
+
     /// Whether it is a comment: the reader that passes over comments decides it.
     pub(crate) fn is_comment(&self) -> bool {
         let mut source = Source::new(self.bytes.as_slice());
         let content = LineReader::new(1).read_content(&mut source, &mut Line::blank());
-        // Of a longer line no more bytes are known than a comment can have.
-        self.length <= LINE_WIDTH && matches!(content, Ok(Content::Comment))
+        // Of a longer line no more bytes may be known than a comment can have.
+        self.bytes.len() <= LINE_WIDTH && matches!(content, Ok(Content::Comment))
     }
-
-    /// Takes the next byte of the input. Whether the line ends with it.
-    fn take(&mut self, byte: u8) -> bool {
-        if self.before > 0 {
-            if byte == b'\n' {
-                self.before -= 1;
-            }
-            return false;
-        }
-        if byte == b'\n' {
-            if self.last == b'\r' {
-                self.length = self.length.saturating_sub(1);
-                self.bytes.truncate(self.length);
-            }
-            return true;
-        }
-        if self.length == MOST_LOOKED_AT {
-            return true;
-        }
-        let _ = self.bytes.try_push(byte);
-        self.length = self.length.saturating_add(1);
-        self.last = byte;
-        false
-    }
-}
-
-/// The line of this number, counted from 1, without its ending. Fewer bytes than `known` are all of it.
-pub(crate) fn line_again<F: Read>(file: &mut F, number: u64, known: usize) -> Option<LineAgain> {
-    let mut line = LineAgain {
-        before: number.saturating_sub(1),
-        bytes: ArrayVec::new(),
-        length: 0,
-        known,
-        last: 0,
-    };
-    let mut chunk = [0; MOST_LOOKED_AT];
-    for _ in 0..u64::MAX {
-        match file.read(&mut chunk) {
-            Ok(0) => break,
-            Ok(count) => {
-                for byte in &chunk[..count] {
-                    if line.take(*byte) {
-                        return Some(line);
-                    }
-                }
-            }
-            Err(_) => return None,
-        }
-    }
-    if line.before == 0 { Some(line) } else { None }
 }

@@ -1,6 +1,5 @@
 //! From a call that reads published extracts to its status: its inputs are opened here, and `--verbose` says more.
 //! What is read, done, written and told is said by the clauses of the functions that are called.
-use crate::advice::{add_feed_fault, add_out_of_sequence, add_window};
 use crate::devices::{ExtractInput, Output, Written, buffered};
 use crate::feed_answers::{
     DoneUpdate, KeptPrepare, KeptUpdate, ReadFeed, answer_prepare, answer_update,
@@ -8,15 +7,14 @@ use crate::feed_answers::{
 use crate::job::{Call, FeedJob, InputNames};
 use crate::message::Message;
 use crate::told::{end_prepare, end_update};
-use arrayvec::ArrayString;
-use cif_columns::{ReadDevice, Sink, Source, WriteDevice};
+use cif_columns::{Sink, Source, WriteDevice};
 use cif_extract::Fault;
-use cif_feed::{Dropped, FeedFault, Passed, current_reference, last_reference};
-use std::alloc::{AllocError, Global};
-use std::fmt::Write;
-use std::io;
+use cif_feed::{FeedFault, current_reference, last_reference};
+use std::alloc::AllocError;
+use std::fmt::{Display, Formatter};
 use std::mem::ManuallyDrop;
 use std::rt::Files;
+use std::{fmt, io};
 
 /// Does what the call asks for, and returns the status to exit with.
 // Inlined, it would keep its inputs on the stack while an extract is read.
@@ -44,6 +42,22 @@ fn source_of<'a, R: Files + Input>(
     Source::new(ExtractInput::of(rt, side, Some(name.as_str())))
 }
 
+/// The first input, and the others, each with what it is called.
+// Inlined, it would keep copies of inputs on the stack of its caller.
+#[inline(never)]
+fn sources_of<'a, R: Files + Input + AllocGlobal>(
+    rt: &'a R,
+    first: (&'static str, &'a String),
+    others: (&'static str, &'a [String]),
+) -> Result<Vec<Source<ExtractInput<'a, R>>>, AllocError> {
+    let mut sources = Vec::new(rt.alloc());
+    sources.push(source_of(rt, first.0, first.1))?;
+    for name in others.1 {
+        sources.push(source_of(rt, others.0, name))?;
+    }
+    Ok(sources)
+}
+
 // ---- prepare
 
 /// The holidays, the input before the extract, if there is one.
@@ -53,7 +67,7 @@ fn source_of_holidays<'a, R: Files + Input>(
     inputs: &'a InputNames,
 ) -> Option<Source<ExtractInput<'a, R>>> {
     inputs.rest.first()?;
-    Some(source_of(rt, "holidays (", &inputs.first))
+    Some(source_of(rt, "holidays", &inputs.first))
 }
 
 /// Writes the prepared extract of the last input, with the holidays of the one before it, if there is one.
@@ -67,7 +81,8 @@ fn prepare<R: Files + Input + Print + AllocGlobal, W: WriteDevice>(
 ) -> u8 {
     let alloc = rt.alloc();
     let mut holidays = source_of_holidays(rt, &call.inputs);
-    let Ok(mut sources) = sources_of_prepare(rt, &call.inputs) else {
+    let file = call.inputs.rest.first().unwrap_or(&call.inputs.first);
+    let Ok(mut sources) = sources_of(rt, ("", file), ("", &[])) else {
         return end_prepare(&Err(FeedFault::Extract(Fault::Memory)), errors);
     };
     let mut written = Written::new();
@@ -80,15 +95,22 @@ fn prepare<R: Files + Input + Print + AllocGlobal, W: WriteDevice>(
         extract: None,
         holidays: None,
     });
-    let extract = sources.as_mut_slice();
-    let answer = prepared(
-        alloc,
-        &mut holidays,
-        extract,
-        output,
-        drop_clashes,
-        &mut kept,
-    );
+    let answer = match buffered(alloc, output) {
+        Ok(mut output) => match sources.first_mut() {
+            Some(source) => {
+                answer_prepare(
+                    alloc,
+                    &mut holidays,
+                    source,
+                    &mut output,
+                    drop_clashes,
+                    &mut kept,
+                )
+            }
+            None => Err(FeedFault::Extract(Fault::Memory)),
+        },
+        Err(fault) => Err(FeedFault::Extract(fault)),
+    };
     let status = end_prepare(&answer, errors);
     if call.verbose {
         let mut message = Message::new(alloc);
@@ -99,48 +121,16 @@ fn prepare<R: Files + Input + Print + AllocGlobal, W: WriteDevice>(
                     add_prepared(source.reader(), &kept, clashing, &mut message);
                 }
             }
-            Err(fault) => match (last_touched(sources.as_slice()), &holidays) {
-                (Some(input), _) => add_feed_fault(alloc, fault, input, &written, &mut message),
-                (None, Some(holidays)) => {
-                    add_feed_fault(alloc, fault, holidays.reader(), &written, &mut message);
+            Err(fault) => {
+                let holidays = holidays.as_ref().map(Source::reader);
+                if let Some(input) = last_touched(sources.as_slice()).or(holidays) {
+                    input.add_feed_fault(fault, &written, &mut message);
                 }
-                (None, None) => {}
-            },
+            }
         }
         message.tell(errors);
     }
     status
-}
-
-/// The extract, the last input.
-// Inlined, it would keep copies of it on the stack of its caller.
-#[inline(never)]
-fn sources_of_prepare<'a, R: Files + Input + AllocGlobal>(
-    rt: &'a R,
-    inputs: &'a InputNames,
-) -> Result<Vec<Source<ExtractInput<'a, R>>>, AllocError> {
-    let file = inputs.rest.first().unwrap_or(&inputs.first);
-    let mut sources = Vec::new(rt.alloc());
-    sources.push(source_of(rt, "", file))?;
-    Ok(sources)
-}
-
-/// Writes the prepared extract of the first source on the output, through a buffer.
-// Inlined, it would keep what is read ahead on the stack of its caller.
-#[inline(never)]
-fn prepared<R: ReadDevice, W: WriteDevice + Drop>(
-    alloc: Global,
-    holidays: &mut Option<Source<R>>,
-    sources: &mut [Source<R>],
-    output: W,
-    drop_clashes: bool,
-    kept: &mut KeptPrepare,
-) -> Result<Dropped, FeedFault> {
-    let mut output = buffered(alloc, output).map_err(FeedFault::Extract)?;
-    match sources.first_mut() {
-        Some(source) => answer_prepare(alloc, holidays, source, &mut output, drop_clashes, kept),
-        None => Err(FeedFault::Extract(Fault::Memory)),
-    }
 }
 
 /// Adds what was read of the extract that was prepared, and how many of its records were cut: by holidays, and by
@@ -155,17 +145,14 @@ fn add_prepared<R: Files + Input>(
         && let Some(holidays) = &kept.holidays
     {
         let read = ReadFeed::of(extract);
-        let mut text = counts_of(&read.passed, read.open_ends);
-        let _ = write!(
-            text,
-            ", records cut by holidays: {}",
-            extract.count_cut(holidays)
-        );
-        if let Some(clashing) = clashing {
-            let _ = write!(text, ", records cut by clashes: {clashing}");
+        input.add_window(&read.header, message);
+        let cut = extract.count_cut(holidays);
+        match clashing {
+            None => message.line(format_args!("{input}: {read}, records cut by holidays: {cut}")),
+            Some(clashing) => message.line(format_args!(
+                "{input}: {read}, records cut by holidays: {cut}, records cut by clashes: {clashing}"
+            )),
         }
-        add_window(input, &read.header, message);
-        add_of(input, text.as_str(), message);
     }
 }
 
@@ -180,7 +167,8 @@ fn update<R: Files + Input + Print + AllocGlobal, W: WriteDevice>(
     errors: &mut Sink<W>,
 ) -> u8 {
     let alloc = rt.alloc();
-    let Ok(mut sources) = sources_of_update(rt, &call.inputs) else {
+    let InputNames { first, rest } = &call.inputs;
+    let Ok(mut sources) = sources_of(rt, ("FULL", first), ("UPDATE", rest.as_slice())) else {
         return end_update(&Err(FeedFault::Extract(Fault::Memory)), &[], errors);
     };
     let mut written = Written::new();
@@ -194,7 +182,15 @@ fn update<R: Files + Input + Print + AllocGlobal, W: WriteDevice>(
         full: None,
         done: Vec::new(alloc),
     });
-    let answer = updated(alloc, sources.as_mut_slice(), output, lenient, &mut kept);
+    let answer = match buffered(alloc, output) {
+        Ok(mut output) => match sources.split_first_mut() {
+            Some((full, updates)) => {
+                answer_update(alloc, full, updates, &mut output, lenient, &mut kept)
+            }
+            None => Ok(()),
+        },
+        Err(fault) => Err(FeedFault::Extract(fault)),
+    };
     let status = end_update(&answer, kept.done.as_slice(), errors);
     if call.verbose {
         let mut message = Message::new(alloc);
@@ -205,43 +201,13 @@ fn update<R: Files + Input + Print + AllocGlobal, W: WriteDevice>(
                     if let FeedFault::OutOfSequence { line } = fault {
                         add_references(input, *line, &kept, &mut message);
                     }
-                    add_feed_fault(alloc, fault, input, &written, &mut message);
+                    input.add_feed_fault(fault, &written, &mut message);
                 }
             }
         }
         message.tell(errors);
     }
     status
-}
-
-/// The full extract, and the updates.
-// Inlined, it would keep copies of inputs on the stack of its caller.
-#[inline(never)]
-fn sources_of_update<'a, R: Files + Input + AllocGlobal>(
-    rt: &'a R,
-    inputs: &'a InputNames,
-) -> Result<Vec<Source<ExtractInput<'a, R>>>, AllocError> {
-    let mut sources = Vec::new(rt.alloc());
-    sources.push(source_of(rt, "FULL (", &inputs.first))?;
-    for name in &inputs.rest {
-        sources.push(source_of(rt, "UPDATE (", name))?;
-    }
-    Ok(sources)
-}
-
-/// Writes what the updates make of the full extract, the first source, on the output, through a buffer.
-fn updated<R: ReadDevice, W: WriteDevice + Drop>(
-    alloc: Global,
-    sources: &mut [Source<R>],
-    output: W,
-    lenient: bool,
-    kept: &mut KeptUpdate,
-) -> Result<(), FeedFault> {
-    let mut output = buffered(alloc, output).map_err(FeedFault::Extract)?;
-    match sources.split_first_mut() {
-        Some((full, updates)) => { answer_update(alloc, full, updates, &mut output, lenient, kept) }
-        None => Ok(()),
-    }
 }
 
 /// The input that was read last, if one was.
@@ -266,9 +232,9 @@ fn add_updated<R: Files + Input>(
     if let Some((full, updates)) = sources.split_first()
         && let Some(read) = &kept.full
     {
-        add_window(full.reader(), &read.header, message);
-        let text = counts_of(&read.passed, read.open_ends);
-        add_of(full.reader(), text.as_str(), message);
+        let input = full.reader();
+        input.add_window(&read.header, message);
+        message.line(format_args!("{input}: {read}"));
         for (update, done) in updates.iter().zip(&kept.done) {
             add_done(update.reader(), done, message);
         }
@@ -281,23 +247,23 @@ fn add_done<R: Files + Input>(
     done: &DoneUpdate,
     message: &mut Message,
 ) {
-    let DoneUpdate { header, outcome } = done;
+    let outcome = &done.outcome;
     let counts = &outcome.counts;
-    let mut text = counts_of(&outcome.passed, counts.open_ends);
-    let _ = write!(
-        text,
-        ", lines new: {}, revised: {}, deleted: {}, waived: {}",
+    let read = ReadFeed {
+        header: done.header,
+        passed: outcome.passed,
+        open_ends: counts.open_ends,
+    };
+    input.add_window(&read.header, message);
+    message.line(format_args!(
+        "{input}: {read}, lines new: {}, revised: {}, deleted: {}, waived: {}",
         counts.put,
         counts.revised,
         counts.taken_out,
         outcome.waived.len()
-    );
-    add_window(input, header, message);
-    add_of(input, text.as_str(), message);
+    ));
     for line in &outcome.waived {
-        let mut text = Counts::new();
-        let _ = write!(text, "waived: {}", line.fault().text().as_str());
-        add_of(input, text.as_str(), message);
+        message.line(format_args!("{input}: waived: {}", line.fault().text()));
     }
 }
 
@@ -317,30 +283,19 @@ fn add_references<R: Files + Input>(
         && let Some(extract) = &kept.extract
     {
         let last = last_reference(&extract.header);
-        add_out_of_sequence(input, line, &last, &current_reference(before), message);
+        input.add_out_of_sequence(line, &last, &current_reference(before), message);
     }
 }
 
-// ---- what `--verbose` says where all was done
-
-/// The bytes of the longest text of counts.
-const LONGEST_COUNTS: usize = 256;
-
-/// A text of counts.
-type Counts = ArrayString<LONGEST_COUNTS>;
-
 /// How many comments, notes and open ends there are.
-fn counts_of(passed: &Passed, open_ends: u64) -> Counts {
-    let mut text = Counts::new();
-    let _ = write!(
-        text,
-        "comments: {}, notes: {}, open ends: {}",
-        passed.comments, passed.notes, open_ends
-    );
-    text
-}
-
-/// Adds this text of an input.
-fn add_of<R: Files + Input>(input: &ExtractInput<'_, R>, text: &str, message: &mut Message) {
-    message.line(&[input.side(), input.name(), input.side_end(), ": ", text]);
+impl Display for ReadFeed {
+    fn fmt<W: fmt::Write>(&self, f: &mut Formatter<W>) -> fmt::Result {
+        let comments = self.passed.comments;
+        let notes = self.passed.notes;
+        let open_ends = self.open_ends;
+        write!(
+            f,
+            "comments: {comments}, notes: {notes}, open ends: {open_ends}"
+        )
+    }
 }

@@ -1,8 +1,8 @@
-//! What the help of `cif` says, in lines of at most 80 columns.
+//! What the help of `cif` says, in lines of at most 80 columns. The first line of a command's is what the list of
+//! commands says of it.
 
-pub(crate) const CIF: &str = "Works out what runs on each date of a CIF timetable extract";
-
-pub(crate) const CIF_MORE: &str = "\
+pub(crate) const CIF: &str = "\
+Works out what runs on each date of a CIF timetable extract
 Each command reads full extracts: lines of 80 columns, from HD to ZZ. Those
 with holiday codes, open end dates, notes or comments go through `cif prepare`
 first, and update extracts through `cif update`. A date is six digits, YYMMDD.
@@ -19,9 +19,8 @@ Statuses:
   3  an input is refused, or its window doesn't fit what was asked for
   4  reading or writing failed, or memory ran out";
 
-pub(crate) const NORMALISE: &str = "Writes the canonical extract of what the input says";
-
-pub(crate) const NORMALISE_MORE: &str = "\
+pub(crate) const NORMALISE: &str = "\
+Writes the canonical extract of what the input says
 Prints an extract of permanent records only. On each date at most one record of
 a train or an association applies. If the input is refused, prints nothing.
 Form 1 joins weeks that have the same days. Form 2 also joins a week that the
@@ -36,9 +35,8 @@ Statuses:
   3  the input is refused, or the dates asked for don't fit its window
   4  reading or writing failed, or memory ran out";
 
-pub(crate) const CHECK: &str = "Says whether an extract is accepted, and counts its records";
-
-pub(crate) const CHECK_MORE: &str = "\
+pub(crate) const CHECK: &str = "\
+Says whether an extract is accepted, and counts its records
 Prints one line, with the numbers of records in the canonical extract:
   accepted: T tiplocs, A associations, S schedules
 With --all each line is judged by itself first, even if an earlier one is
@@ -58,9 +56,8 @@ Statuses:
      with --all also: lines are refused
   4  reading or writing failed, or memory ran out";
 
-pub(crate) const COMPARE: &str = "Says whether two extracts differ, and where first";
-
-pub(crate) const COMPARE_MORE: &str = "\
+pub(crate) const COMPARE: &str = "\
+Says whether two extracts differ, and where first
 Prints one line: `same`, or the first difference. Tiplocs come first, then
 associations, then trains. Of the headers only the windows are compared.
 With --common, the common window goes from the later of the two first dates
@@ -80,9 +77,8 @@ Statuses:
   3  one is refused, or their windows differ or don't fit the dates asked for
   4  reading or writing failed, or memory ran out";
 
-pub(crate) const DIFF: &str = "Lists all differences of two extracts";
-
-pub(crate) const DIFF_MORE: &str = "\
+pub(crate) const DIFF: &str = "\
+Lists all differences of two extracts
 Prints the records of what only one of the two says: its lines begin with `< `
 if that is LEFT, and with `> ` if it is RIGHT. Locations come first, then
 associations, then schedules. If there is no difference, prints nothing.
@@ -104,9 +100,8 @@ Statuses:
   3  one is refused, or their windows differ or don't fit the dates asked for
   4  reading or writing failed, or memory ran out";
 
-pub(crate) const DAY: &str = "Lists the associations and the trains of one date";
-
-pub(crate) const DAY_MORE: &str = "\
+pub(crate) const DAY: &str = "\
+Lists the associations and the trains of one date
 Prints a line for each association that holds, then one for each train:
   AA BASE OTHER CATEGORY INDICATOR LOCATION SUFFIX SUFFIX DIAGRAM KIND
   BS UID IDENTITY ORIGIN DEPARTURE PLATFORM TERMINUS ARRIVAL PLATFORM
@@ -127,9 +122,8 @@ Statuses:
   3  the input is refused, or the date isn't in its window
   4  reading or writing failed, or memory ran out";
 
-pub(crate) const TRAIN: &str = "Lists the schedules of one train";
-
-pub(crate) const TRAIN_MORE: &str = "\
+pub(crate) const TRAIN: &str = "\
+Lists the schedules of one train
 Prints a line for each schedule that the train has in the canonical extract:
   FIRST LAST DAYS IDENTITY ORIGIN DEPARTURE PLATFORM TERMINUS ARRIVAL PLATFORM
 --stops and --format tsv work as in `cif day`.
@@ -145,9 +139,8 @@ Statuses:
   3  the input is refused, or the dates asked for don't fit its window
   4  reading or writing failed, or memory ran out";
 
-pub(crate) const EXPLAIN: &str = "Says why a train runs on a date, or why it doesn't";
-
-pub(crate) const EXPLAIN_MORE: &str = "\
+pub(crate) const EXPLAIN: &str = "\
+Says why a train runs on a date, or why it doesn't
 Prints a line for each record of the train that applies on the date, those of
 its associations first:
   MARK AA LETTER FIRST LAST DAYS and what `cif day` prints after AA
@@ -165,9 +158,8 @@ Statuses:
   3  the input is refused, or the date isn't in its window
   4  reading or writing failed, or memory ran out";
 
-pub(crate) const CLASHES: &str = "Lists the clashes of an extract";
-
-pub(crate) const CLASHES_MORE: &str = "\
+pub(crate) const CLASHES: &str = "\
+Lists the clashes of an extract
 Prints a line for each train or association with a clash in the window, with
 the first date on which two winning records differ:
   association [BASE][OTHER][LOCATION][SUFFIX][SUFFIX] on YYMMDD
@@ -184,9 +176,8 @@ Statuses:
   3  the input is refused, or the dates asked for don't fit its window
   4  reading or writing failed, or memory ran out";
 
-pub(crate) const TABLE: &str = "Writes a table of the canonical extract";
-
-pub(crate) const TABLE_MORE: &str = "\
+pub(crate) const TABLE: &str = "\
+Writes a table of the canonical extract
 Prints field names in the first line, and then a row for each of these:
   header        the header
   tiplocs       a location (TI)
@@ -212,9 +203,8 @@ Statuses:
   3  the input is refused, or the dates asked for don't fit its window
   4  reading or writing failed, or memory ran out";
 
-pub(crate) const CALENDAR: &str = "Shows week by week on which dates a train runs";
-
-pub(crate) const CALENDAR_MORE: &str = "\
+pub(crate) const CALENDAR: &str = "\
+Shows week by week on which dates a train runs
 Prints a line for each week that has a date of the window: the date of its
 Monday, and a character for each day from Monday to Sunday.
          MTWTFSS
@@ -235,9 +225,8 @@ Statuses:
   3  the input is refused, or the dates asked for don't fit its window
   4  reading or writing failed, or memory ran out";
 
-pub(crate) const PREPARE: &str = "Turns a published extract into one that all commands read";
-
-pub(crate) const PREPARE_MORE: &str = "\
+pub(crate) const PREPARE: &str = "\
+Turns a published extract into one that all commands read
 Prints an extract in which the same runs on each date of the window, without
 comments, notes, open end dates and holiday codes. An open end becomes the last
 date of the window, or the record's first date if that is later. A record with
@@ -261,9 +250,8 @@ Statuses:
   3  the extract or the holidays are refused
   4  reading or writing failed, or memory ran out";
 
-pub(crate) const UPDATE: &str = "Applies update extracts to a full extract";
-
-pub(crate) const UPDATE_MORE: &str = "\
+pub(crate) const UPDATE: &str = "\
+Applies update extracts to a full extract
 Prints the full extract that the updates, one after the other, make of FULL,
 which may be a published one, with holiday codes, open end dates, notes and
 comments. Keep the output: it is the FULL of the next update. `cif prepare`

@@ -1,7 +1,7 @@
 //! What a call of `cif` asks for, or why it asks for nothing.
 ghost use Rattle.std.specs.Prelude.{◌≡◌, option_map};
 
-use crate::message::escaped;
+use crate::message::Escaped;
 use crate::status::{DONE, FAILED, USAGE_ERROR};
 use cif_canon::{Asked, Format};
 use cif_columns::{Day, Sink, Uid, WriteDevice};
@@ -63,14 +63,14 @@ pub enum Job {
     Calendar(CalendarJob),
 }
 
-/// Which canonical extract `normalise` and `check` are asked for.
+/// Of which canonical extract `normalise`, `check` and `table` are asked for something.
 #[derive(Drop)]
 pub struct CanonicalJob {
     pub asked: Asked,
     pub form: Form,
 }
 
-/// What `compare` is asked for. With `common`, dates that aren't asked for are those of the window that both
+/// What `compare` and `diff` are asked for. With `common`, dates that aren't asked for are those of the window that both
 /// extracts have in common.
 #[derive(Drop)]
 pub struct CompareJob {
@@ -78,11 +78,10 @@ pub struct CompareJob {
     pub common: bool,
 }
 
-/// What `diff` is asked for. `common` is as of `compare`.
+/// What `diff` is asked for.
 #[derive(Drop)]
 pub struct DiffJob {
-    pub asked: Asked,
-    pub common: bool,
+    pub compared: CompareJob,
     pub format: Format,
 }
 
@@ -114,8 +113,7 @@ pub struct ExplainJob {
 #[derive(Drop)]
 pub struct TableJob {
     pub table: Table,
-    pub asked: Asked,
-    pub form: Form,
+    pub canonical: CanonicalJob,
 }
 
 /// What `calendar` is asked for.
@@ -255,5 +253,10 @@ impl JobFault {
 
 /// The text of `clap`, which may have words of the call, with what hides or turns text escaped.
 fn text_of_error(alloc: Global, error: &clap::Error) -> Result<String, AllocError> {
-    escaped(alloc, error.to_string(alloc)?.as_str())
+    let text = error.to_string(alloc)?;
+    let escaped = Escaped {
+        text: text.as_str(),
+        has_lines: true,
+    };
+    escaped.to_string(alloc)
 }

@@ -1,13 +1,15 @@
 //! Lines on standard error: those of a message, and what is escaped in them.
-use arrayvec::ArrayString;
 use cif_columns::{Sink, WriteDevice};
-use std::alloc::{AllocError, Global};
-use std::fmt::Write;
+use std::alloc::Global;
+use std::fmt;
+use std::fmt::{Display, Formatter};
+use std::io::Write;
 
 /// The lines that follow a fault line on standard error. They are gathered, so that one write takes them
 /// all.
 #[derive(Drop)]
 pub(crate) struct Message {
+    pub(crate) alloc: Global,
     text: Vec<u8>,
 }
 
@@ -15,28 +17,17 @@ impl Message {
     /// No line yet.
     pub(crate) fn new(alloc: Global) -> Self {
         Message {
+            alloc,
             text: Vec::new(alloc),
         }
     }
 
-    /// Adds the parts as one line, indented by two spaces, if there is memory for it. Characters that
-    /// hide or turn text, which a file's name or an argument may have, are escaped.
-    pub(crate) fn line(&mut self, parts: &[&str]) {
+    /// Adds the text as one line, indented by two spaces, if there is memory for it.
+    pub(crate) fn line<T: Display + Drop>(&mut self, text: T) {
         let length = self.text.len();
-        if self.add(parts).is_err() {
+        if writeln!(self.text, "  {text}").is_err() {
             self.text.truncate(length);
         }
-    }
-
-    /// Adds the line, or a prefix of it where memory runs out.
-    fn add(&mut self, parts: &[&str]) -> Result<(), AllocError> {
-        self.text.extend_from_slice(b"  ")?;
-        for part in parts {
-            for c in part.chars() {
-                self.text.extend_from_slice(escape(c).as_bytes())?;
-            }
-        }
-        self.text.extend_from_slice(b"\n")
     }
 
     /// Writes all lines. That they can't be written changes nothing.
@@ -45,40 +36,29 @@ impl Message {
     }
 }
 
-/// The text with its characters escaped that hide or turn text, but not its line feeds.
-pub(crate) fn escaped(alloc: Global, text: &str) -> Result<String, AllocError> {
-    let mut shown = String::new(alloc);
-    for c in text.chars() {
-        if c == '\n' {
-            shown.push_str("\n")?;
-        } else {
-            shown.push_str(escape(c).as_str())?;
-        }
-    }
-    Ok(shown)
+/// A text with what stands for its characters that hide or turn text, as those of a file's name or an argument may: for a
+/// control character `\t` or `\x1b`, and for a line separator or a mark of direction `\u{202e}`.
+#[derive(Clone, Copy)]
+pub(crate) struct Escaped<'a> {
+    pub(crate) text: &'a str,
+    /// Whether the text has lines, whose line feeds stay.
+    pub(crate) has_lines: bool,
 }
 
-/// The bytes of the longest escape.
-const LONGEST_ESCAPE: usize = 8;
-
-/// The character, or what stands for it if it hides or turns text: a control character as `\t` or
-/// `\x1b`, and a line separator or a mark of direction as `\u{202e}`.
-fn escape(c: char) -> ArrayString<LONGEST_ESCAPE> {
-    let mut shown = ArrayString::new();
-    let code = u32::from(c);
-    match c {
-        '\t' => shown.push_str("\\t"),
-        '\n' => shown.push_str("\\n"),
-        '\r' => shown.push_str("\\r"),
-        '\u{2028}'..='\u{202E}' | '\u{2066}'..='\u{2069}' => {
-            let _ = write!(shown, "\\u{{{code:x}}}");
+impl Display for Escaped<'_> {
+    fn fmt<W: fmt::Write>(&self, f: &mut Formatter<W>) -> fmt::Result {
+        for c in self.text.chars() {
+            let code = u32::from(c);
+            match c {
+                '\n' if self.has_lines => f.write_str("\n"),
+                '\t' => f.write_str("\\t"),
+                '\n' => f.write_str("\\n"),
+                '\r' => f.write_str("\\r"),
+                '\u{2028}'..='\u{202E}' | '\u{2066}'..='\u{2069}' => write!(f, "\\u{{{code:x}}}"),
+                _ if c.is_control() => write!(f, "\\x{code:02x}"),
+                _ => write!(f, "{c}"),
+            }?;
         }
-        _ if c.is_control() => {
-            let _ = write!(shown, "\\x{code:02x}");
-        }
-        _ => {
-            let _ = shown.try_push(c);
-        }
+        Ok(())
     }
-    shown
 }

@@ -1,15 +1,14 @@
 //! From the words of the process to its status. No clause says what is done here: the rows of `tests/`
 //! show it on the built program.
-use crate::advice::{DoneJob, advise_on_word, must_be};
+use crate::advice::{DoneJob, advise_on_word};
 use crate::answers::{Kept, answer};
 use crate::devices::{ExtractInput, Output, Written, buffered};
 use crate::feeds::feed_task;
 use crate::job::{Call, Job, JobFault, Task};
 use crate::status::{USAGE_ERROR, end};
 use crate::words::task_of;
-use cif_columns::{ReadDevice, Sink, Source, WriteDevice};
+use cif_columns::{Sink, Source, WriteDevice};
 use cif_extract::Fault;
-use std::alloc::Global;
 use std::env::Env;
 use std::io::ErrorKind;
 use std::mem::ManuallyDrop;
@@ -51,7 +50,8 @@ fn run_words<R: Env + Files + Input + Print + AllocGlobal, W: WriteDevice>(
     }
 }
 
-/// Says why the words ask for nothing, and returns the status to exit with.
+/// Says why the words ask for nothing, and returns the status to exit with: help and the version go to the output, all else to
+/// `errors`.
 // Inlined, it would keep its faults on the stack while the task is done.
 #[inline(never)]
 fn refused<R: Env + Print + AllocGlobal, W: WriteDevice>(
@@ -59,12 +59,14 @@ fn refused<R: Env + Print + AllocGlobal, W: WriteDevice>(
     fault: JobFault,
     errors: &mut Sink<W>,
 ) -> u8 {
-    let answer = explained(rt.alloc(), &fault, io::writer(rt), errors);
-    let status = end(&answer, errors);
-    if let Some(must) = must_be(&fault) {
-        if let Ok(words) = words_of(rt) {
-            advise_on_word(rt.alloc(), words.as_slice(), &fault, must, errors);
-        }
+    let alloc = rt.alloc();
+    let explained = match buffered(alloc, io::writer(rt)) {
+        Ok(mut output) => fault.explain(alloc, &mut output, errors),
+        Err(fault) => Err(fault),
+    };
+    let status = end(&explained, errors);
+    if let Ok(words) = words_of(rt) {
+        advise_on_word(alloc, words.as_slice(), &fault, errors);
     }
     status
 }
@@ -86,7 +88,7 @@ fn done<R: Files + Input + Print + AllocGlobal, W: WriteDevice>(
     // Of a job with one input `right` stands for no file, and is never touched.
     let right_file = call.inputs.rest.first().map(String::as_str);
     let (side, right_side) = match right_file {
-        Some(_) => ("LEFT (", "RIGHT ("),
+        Some(_) => ("LEFT", "RIGHT"),
         None => ("", ""),
     };
     let alloc = rt.alloc();
@@ -104,39 +106,19 @@ fn done<R: Files + Input + Print + AllocGlobal, W: WriteDevice>(
         right: None,
         reasons: None,
     });
-    let answer = answered(alloc, job, &mut left, &mut right, output, &mut kept);
-    let status = end(&answer, errors);
-    let done_job = DoneJob {
-        job,
-        verbose: call.verbose,
-        written: &written,
-        left: left.reader(),
-        right: right.reader(),
+    let answered = match buffered(alloc, output) {
+        Ok(mut output) => answer(alloc, job, &mut left, &mut right, &mut output, &mut kept),
+        Err(fault) => Err(fault),
     };
-    done_job.advise(alloc, &answer, &mut kept, errors);
+    let status = end(&answered, errors);
+    if call.verbose {
+        let done_job = DoneJob {
+            job,
+            written: &written,
+            left: left.reader(),
+            right: right.reader(),
+        };
+        done_job.advise(alloc, &answered, &mut kept, errors);
+    }
     status
-}
-
-/// Answers the job on the output.
-fn answered<R: ReadDevice, W: WriteDevice + Drop>(
-    alloc: Global,
-    job: &Job,
-    left: &mut Source<R>,
-    right: &mut Source<R>,
-    output: W,
-    kept: &mut Kept,
-) -> Result<u8, Fault> {
-    let mut output = buffered(alloc, output)?;
-    answer(alloc, job, left, right, &mut output, kept)
-}
-
-/// Says why the words ask for nothing: help and the version on the output, all else on `errors`.
-fn explained<O: WriteDevice + Drop, W: WriteDevice>(
-    alloc: Global,
-    fault: &JobFault,
-    output: O,
-    errors: &mut Sink<W>,
-) -> Result<u8, Fault> {
-    let mut output = buffered(alloc, output)?;
-    fault.explain(alloc, &mut output, errors)
 }

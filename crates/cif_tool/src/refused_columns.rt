@@ -1,71 +1,38 @@
 //! Which columns of a line a refusal is about, and what must stand there.
+use crate::words::day_of_word;
 use cif_columns::{Day, PublicTime, Refusal, WorkTime, is_printable};
 use cif_feed::HolidayCode;
 
-const IDENTITY: &str = "no kind of record has this identity";
-
-const PLACE: &str = "a record of this kind can't stand here";
-
-const DDMMYY: &str = "must be a valid date as six digits, DDMMYY";
-
 pub(crate) const YYMMDD: &str = "must be a valid date as six digits, YYMMDD";
 
-const OPEN: &str = "999999 is an open end, not a date";
-
-const REVERSED: &str = "the first date is after the last";
-
-const DAYS: &str = "a day is 0 or 1";
-
-const HOLIDAY_CODE: &str = "a code is X, E or G";
-
-const BANK_HOLIDAY: &str = "bank holiday running must be a space";
-
-const STP: &str = "the STP indicator is P, N, O or C";
-
-const WORKING: &str = "a working time is HHMM, then a space or H";
-
-const PUBLIC: &str = "a public time is HHMM";
-
-const FULL_HEADER: &str = "must be F, of a full extract";
-
-const FULL_RECORD: &str = "must be N, of a full extract";
-
-const UPDATE: &str = "this is an update extract, not a full one";
-
-/// For which columns a reason can refuse a line: with which letters the line begins, the reason, the first and the
-/// last column, counted from 1, and what must stand there. Those of one reason are in their order.
-static TABLE: [(&str, Refusal, usize, usize, &str); 31] = [
-    ("", Refusal::UnknownRecord, 1, 2, IDENTITY),
-    ("", Refusal::OutOfOrder, 1, 2, PLACE),
-    ("HD", Refusal::NotFull, 47, 47, FULL_HEADER),
-    ("AA", Refusal::NotFull, 3, 3, FULL_RECORD),
-    ("BS", Refusal::NotFull, 3, 3, FULL_RECORD),
-    ("T", Refusal::NotFull, 1, 2, UPDATE),
-    ("HD", Refusal::BadDate, 49, 54, DDMMYY),
-    ("HD", Refusal::BadDate, 55, 60, DDMMYY),
-    ("HD", Refusal::DatesReversed, 49, 60, REVERSED),
-    ("AA", Refusal::BadDate, 16, 21, YYMMDD),
-    ("AA", Refusal::BadDate, 22, 27, YYMMDD),
-    ("AA", Refusal::OpenEnd, 22, 27, OPEN),
-    ("AA", Refusal::DatesReversed, 16, 27, REVERSED),
-    ("AA", Refusal::BadDays, 28, 34, DAYS),
-    ("AA", Refusal::BadStp, 80, 80, STP),
-    ("BS", Refusal::BadDate, 10, 15, YYMMDD),
-    ("BS", Refusal::BadDate, 16, 21, YYMMDD),
-    ("BS", Refusal::OpenEnd, 16, 21, OPEN),
-    ("BS", Refusal::DatesReversed, 10, 21, REVERSED),
-    ("BS", Refusal::BadDays, 22, 28, DAYS),
-    ("BS", Refusal::BankHoliday, 29, 29, BANK_HOLIDAY),
-    ("BS", Refusal::BadStp, 80, 80, STP),
-    ("LO", Refusal::BadTime, 11, 15, WORKING),
-    ("LO", Refusal::BadTime, 16, 19, PUBLIC),
-    ("LI", Refusal::BadTime, 11, 15, WORKING),
-    ("LI", Refusal::BadTime, 16, 20, WORKING),
-    ("LI", Refusal::BadTime, 21, 25, WORKING),
-    ("LI", Refusal::BadTime, 26, 29, PUBLIC),
-    ("LI", Refusal::BadTime, 30, 33, PUBLIC),
-    ("LT", Refusal::BadTime, 11, 15, WORKING),
-    ("LT", Refusal::BadTime, 16, 19, PUBLIC),
+/// For which columns a reason can refuse a line: the reason, with which letters the line begins, and the first and the
+/// last column of each, counted from 1.
+static TABLE: [(Refusal, &str, &[(usize, usize)]); 21] = [
+    (Refusal::UnknownRecord, "", &[(1, 2)]),
+    (Refusal::OutOfOrder, "", &[(1, 2)]),
+    (Refusal::NotFull, "HD", &[(47, 47)]),
+    (Refusal::NotFull, "AA", &[(3, 3)]),
+    (Refusal::NotFull, "BS", &[(3, 3)]),
+    (Refusal::NotFull, "T", &[(1, 2)]),
+    (Refusal::BadDate, "HD", &[(49, 54), (55, 60)]),
+    (Refusal::BadDate, "AA", &[(16, 21), (22, 27)]),
+    (Refusal::BadDate, "BS", &[(10, 15), (16, 21)]),
+    (Refusal::OpenEnd, "AA", &[(22, 27)]),
+    (Refusal::OpenEnd, "BS", &[(16, 21)]),
+    (Refusal::DatesReversed, "HD", &[(49, 60)]),
+    (Refusal::DatesReversed, "AA", &[(16, 27)]),
+    (Refusal::DatesReversed, "BS", &[(10, 21)]),
+    (Refusal::BadDays, "AA", &[(28, 34)]),
+    (Refusal::BadDays, "BS", &[(22, 28)]),
+    (Refusal::BankHoliday, "BS", &[(29, 29)]),
+    (Refusal::BadStp, "", &[(80, 80)]),
+    (Refusal::BadTime, "LO", &[(11, 15), (16, 19)]),
+    (
+        Refusal::BadTime,
+        "LI",
+        &[(11, 15), (16, 20), (21, 25), (26, 29), (30, 33)],
+    ),
+    (Refusal::BadTime, "LT", &[(11, 15), (16, 19)]),
 ];
 
 /// The first and the last column for which the line is refused, and what must stand there.
@@ -74,65 +41,17 @@ pub(crate) fn columns_refused(line: &[u8], why: Refusal) -> Option<(usize, usize
         let column = bad_byte(line)?;
         return Some((column, column, "a byte is 0x20 to 0x7E"));
     }
-    for (kind, reason, first, last, what) in &TABLE {
-        if *reason == why
-            && line.starts_with(kind.as_bytes())
-            && let Some(columns) = line.get(first.saturating_sub(1)..*last)
-            && is_refused(kind, why, columns)
-        {
-            return Some((*first, *last, what));
-        }
-    }
-    None
-}
-
-/// The column of the first byte that isn't printable.
-pub(crate) fn bad_byte(line: &[u8]) -> Option<usize> {
-    let mut column: usize = 0;
-    for byte in line {
-        column = column.saturating_add(1);
-        if !is_printable(*byte) {
-            return Some(column);
-        }
-    }
-    None
-}
-
-/// The first and the last column of the first word of a line of holidays, shown up to its remark, that is
-/// neither its code nor a date, and what must stand there.
-pub(crate) fn holiday_refused(line: &str) -> Option<(usize, usize, &'static str)> {
-    let mut before: usize = 0;
-    let mut is_first = true;
-    for word in line.split(' ') {
-        let last = before.saturating_add(word.len());
-        if !word.is_empty() {
-            if is_first && !is_code(word.as_bytes()) {
-                return Some((before.saturating_add(1), last, HOLIDAY_CODE));
+    for (reason, kind, places) in &TABLE {
+        if *reason == why && line.starts_with(kind.as_bytes()) {
+            for (first, last) in *places {
+                let columns = line.get(first.saturating_sub(1)..*last)?;
+                if is_refused(kind, why, columns) {
+                    return Some((*first, *last, must_stand(kind, why, columns.len())));
+                }
             }
-            if !is_first && !is_date(word.as_bytes()) {
-                return Some((before.saturating_add(1), last, YYMMDD));
-            }
-            is_first = false;
         }
-        before = last.saturating_add(1);
     }
     None
-}
-
-/// Whether the word is a holiday code.
-fn is_code(word: &[u8]) -> bool {
-    match word {
-        [letter] => HolidayCode::read(*letter).is_some(),
-        _ => false,
-    }
-}
-
-/// Whether the word is a date, YYMMDD.
-fn is_date(word: &[u8]) -> bool {
-    match <[u8; 6]>::try_from(word) {
-        Ok(date) => Day::from_yymmdd(&date).is_some(),
-        Err(_) => false,
-    }
 }
 
 /// Whether these columns of a line that begins so are refused.
@@ -150,4 +69,58 @@ fn is_refused(kind: &str, why: Refusal, columns: &[u8]) -> bool {
         },
         _ => true,
     }
+}
+
+/// What must stand in so many columns of a line that begins so, which is refused for this reason.
+fn must_stand(kind: &str, why: Refusal, width: usize) -> &'static str {
+    match (why, kind) {
+        (Refusal::UnknownRecord, _) => "no kind of record has this identity",
+        (Refusal::OutOfOrder, _) => "a record of this kind can't stand here",
+        (Refusal::NotFull, "HD") => "must be F, of a full extract",
+        (Refusal::NotFull, "T") => "this is an update extract, not a full one",
+        (Refusal::NotFull, _) => "must be N, of a full extract",
+        (Refusal::BadDate, "HD") => "must be a valid date as six digits, DDMMYY",
+        (Refusal::BadDate, _) => YYMMDD,
+        (Refusal::OpenEnd, _) => "999999 is an open end, not a date",
+        (Refusal::DatesReversed, _) => "the first date is after the last",
+        (Refusal::BadDays, _) => "a day is 0 or 1",
+        (Refusal::BankHoliday, _) => "bank holiday running must be a space",
+        (Refusal::BadStp, _) => "the STP indicator is P, N, O or C",
+        (Refusal::BadTime, _) if width == 5 => "a working time is HHMM, then a space or H",
+        (Refusal::BadTime, _) => "a public time is HHMM",
+        _ => "",
+    }
+}
+
+/// The column of the first byte that isn't printable.
+pub(crate) fn bad_byte(line: &[u8]) -> Option<usize> {
+    let before = line.iter().position(|byte| !is_printable(*byte))?;
+    Some(before.saturating_add(1))
+}
+
+/// The first and the last column of the first word of a line of holidays, shown up to its remark, that is
+/// neither its code nor a date, and what must stand there.
+pub(crate) fn holiday_refused(line: &str) -> Option<(usize, usize, &'static str)> {
+    let mut before: usize = 0;
+    let mut is_first = true;
+    for word in line.split(' ') {
+        let last = before.saturating_add(word.len());
+        if !word.is_empty() {
+            let first = before.saturating_add(1);
+            if is_first && !is_code(word.as_bytes()) {
+                return Some((first, last, "a code is X, E or G"));
+            }
+            if !is_first && day_of_word(word).is_none() {
+                return Some((first, last, YYMMDD));
+            }
+            is_first = false;
+        }
+        before = last.saturating_add(1);
+    }
+    None
+}
+
+/// Whether the word is a holiday code.
+fn is_code(word: &[u8]) -> bool {
+    matches!(word, [letter] if HolidayCode::read(*letter).is_some())
 }

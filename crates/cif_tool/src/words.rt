@@ -5,13 +5,14 @@ ghost use Rattle.clap.specs.Words.{all_of, first_of, found_of, kind_of, rows_of}
 ghost use Rattle.clap.specs.Words.{subcommand_rows_of};
 ghost use Rattle.cif_columns.specs.Day.{StandsInYymmdd};
 ghost use Rattle.cif_tool.specs.CommandLine.{feed_subcommands};
-ghost use Rattle.cif_tool.specs.Job.{AreCanonicalWords, Asks, IsAskedBy, IsCallChosen, IsChosen};
+ghost use Rattle.cif_tool.specs.Job.{AreCanonicalWords, AreComparedWords, Asks, IsAskedBy};
+ghost use Rattle.cif_tool.specs.Job.{IsCallChosen, IsChosen};
 ghost use Rattle.cif_tool.specs.Job.{IsDateOf, IsTaskChosen, IsUidWord, file_of, form_of};
 ghost use Rattle.cif_tool.specs.Job.{format_of, has_flag, inputs_of, is_standard, listing_of};
 ghost use Rattle.cif_tool.specs.Job.{names_of, required_word, standard_inputs};
 ghost use Rattle.cif_tool.specs.Job.{table_of};
-ghost use Rattle.cif_tool.specs.JobFault.{HasBadDate, IsAskedFor, IsEnteredFault, IsFaultOf};
-ghost use Rattle.cif_tool.specs.JobFault.{IsNoUid, IsNoneOf, NamesNoDay, several_of};
+ghost use Rattle.cif_tool.specs.JobFault.{HasBadDate, HasBadWindow, IsAskedFor, IsEnteredFault};
+ghost use Rattle.cif_tool.specs.JobFault.{IsFaultOf, IsNoUid, IsNoneOf, NamesNoDay, several_of};
 
 use crate::command_line::{all_choices, matches_of};
 use crate::job::{
@@ -139,14 +140,35 @@ fn named_job(name: &str, matches: &ArgMatches<'_>) -> Result<Job, JobFault>
         "normalise" => Ok(Job::Normalise(canonical_job(matches)?)),
         "check" if has_flag(matches, "all") => Ok(Job::CheckAll(canonical_job(matches)?)),
         "check" => Ok(Job::Check(canonical_job(matches)?)),
-        "compare" => compare_job(matches),
-        "diff" => diff_job(matches),
-        "day" => day_job(matches),
-        "train" => train_job(matches),
-        "explain" => explain_job(matches),
+        "compare" => Ok(Job::Compare(compare_job(matches)?)),
+        "diff" => Ok(Job::Diff(DiffJob {
+            compared: compare_job(matches)?,
+            format: format_of(matches),
+        })),
+        "day" => Ok(Job::Day(DayJob {
+            day: day_of(matches)?,
+            listing: listing_of(matches),
+        })),
+        "train" => Ok(Job::Train(TrainJob {
+            uid: uid_of(matches)?,
+            asked: asked_of(matches)?,
+            form: form_of(matches),
+            listing: listing_of(matches),
+        })),
+        "explain" => Ok(Job::Explain(ExplainJob {
+            uid: uid_of(matches)?,
+            day: day_of(matches)?,
+            format: format_of(matches),
+        })),
         "clashes" => Ok(Job::Clashes(asked_of(matches)?)),
-        "table" => table_job(matches),
-        "calendar" => calendar_job(matches),
+        "table" => Ok(Job::Table(TableJob {
+            table: table_of(required_word(matches, "TABLE")),
+            canonical: canonical_job(matches)?,
+        })),
+        "calendar" => Ok(Job::Calendar(CalendarJob {
+            uid: uid_of(matches)?,
+            asked: asked_of(matches)?,
+        })),
         _ => Err(JobFault::NoCommand),
     }
 }
@@ -155,8 +177,7 @@ fn named_job(name: &str, matches: &ArgMatches<'_>) -> Result<Job, JobFault>
 fn canonical_job(matches: &ArgMatches<'_>) -> Result<CanonicalJob, JobFault>
     ensures ok { IfOk result (λ job. AreCanonicalWords (rows_of (found_of matches.now)) job.asked job.form) }
     ensures err { IfErr result (λ fault. (fault ≡ JobFault.BadDate)
-        × (HasBadDate (codes "from") (rows_of (found_of matches.now))
-        ⊎ HasBadDate (codes "to") (rows_of (found_of matches.now)))) }
+        × HasBadWindow (rows_of (found_of matches.now))) }
 {
     Ok(CanonicalJob {
         asked: asked_of(matches)?,
@@ -164,79 +185,16 @@ fn canonical_job(matches: &ArgMatches<'_>) -> Result<CanonicalJob, JobFault>
     })
 }
 
-/// What `compare` asks for.
-fn compare_job(matches: &ArgMatches<'_>) -> Result<Job, JobFault>
-    ensures { IsAskedFor IsChosen (codes "compare", rows_of (found_of matches.now)) result }
+/// The window that the words ask for, of both extracts.
+fn compare_job(matches: &ArgMatches<'_>) -> Result<CompareJob, JobFault>
+    ensures ok { IfOk result (λ job. AreComparedWords (rows_of (found_of matches.now)) job.asked job.common) }
+    ensures err { IfErr result (λ fault. (fault ≡ JobFault.BadDate)
+        × HasBadWindow (rows_of (found_of matches.now))) }
 {
-    Ok(Job::Compare(CompareJob {
+    Ok(CompareJob {
         asked: asked_of(matches)?,
         common: has_flag(matches, "common"),
-    }))
-}
-
-/// What `diff` asks for.
-fn diff_job(matches: &ArgMatches<'_>) -> Result<Job, JobFault>
-    ensures { IsAskedFor IsChosen (codes "diff", rows_of (found_of matches.now)) result }
-{
-    Ok(Job::Diff(DiffJob {
-        asked: asked_of(matches)?,
-        common: has_flag(matches, "common"),
-        format: format_of(matches),
-    }))
-}
-
-/// What `day` asks for.
-fn day_job(matches: &ArgMatches<'_>) -> Result<Job, JobFault>
-    ensures { IsAskedFor IsChosen (codes "day", rows_of (found_of matches.now)) result }
-{
-    Ok(Job::Day(DayJob {
-        day: day_of(matches)?,
-        listing: listing_of(matches),
-    }))
-}
-
-/// What `train` asks for.
-fn train_job(matches: &ArgMatches<'_>) -> Result<Job, JobFault>
-    ensures { IsAskedFor IsChosen (codes "train", rows_of (found_of matches.now)) result }
-{
-    Ok(Job::Train(TrainJob {
-        uid: uid_of(matches)?,
-        asked: asked_of(matches)?,
-        form: form_of(matches),
-        listing: listing_of(matches),
-    }))
-}
-
-/// What `explain` asks for.
-fn explain_job(matches: &ArgMatches<'_>) -> Result<Job, JobFault>
-    ensures { IsAskedFor IsChosen (codes "explain", rows_of (found_of matches.now)) result }
-{
-    Ok(Job::Explain(ExplainJob {
-        uid: uid_of(matches)?,
-        day: day_of(matches)?,
-        format: format_of(matches),
-    }))
-}
-
-/// What `table` asks for.
-fn table_job(matches: &ArgMatches<'_>) -> Result<Job, JobFault>
-    ensures { IsAskedFor IsChosen (codes "table", rows_of (found_of matches.now)) result }
-{
-    Ok(Job::Table(TableJob {
-        table: table_of(required_word(matches, "TABLE")),
-        asked: asked_of(matches)?,
-        form: form_of(matches),
-    }))
-}
-
-/// What `calendar` asks for.
-fn calendar_job(matches: &ArgMatches<'_>) -> Result<Job, JobFault>
-    ensures { IsAskedFor IsChosen (codes "calendar", rows_of (found_of matches.now)) result }
-{
-    Ok(Job::Calendar(CalendarJob {
-        uid: uid_of(matches)?,
-        asked: asked_of(matches)?,
-    }))
+    })
 }
 
 // ---- the inputs
@@ -363,8 +321,7 @@ pub(crate) fn is_standard(word: &str) -> bool
 fn asked_of(matches: &ArgMatches<'_>) -> Result<Asked, JobFault>
     ensures ok { IfOk result (IsAskedBy (rows_of (found_of matches.now))) }
     ensures err { IfErr result (λ fault. (fault ≡ JobFault.BadDate)
-        × (HasBadDate (codes "from") (rows_of (found_of matches.now))
-        ⊎ HasBadDate (codes "to") (rows_of (found_of matches.now)))) }
+        × HasBadWindow (rows_of (found_of matches.now))) }
 {
     let from = date_of(matches, "from")?;
     let to = date_of(matches, "to")?;
@@ -465,7 +422,7 @@ fn table_of(word: &str) -> Table
 }
 
 /// The day that six digits YYMMDD name.
-fn day_of_word(word: &str) -> Option<Day>
+pub(crate) fn day_of_word(word: &str) -> Option<Day>
     ensures { MatchOption result (NamesNoDay word.now) (StandsInYymmdd word.now) }
 {
     match <[u8; 6]>::try_from(word.as_bytes()) {

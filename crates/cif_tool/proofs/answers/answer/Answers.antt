@@ -5,12 +5,12 @@ use Rattle.cif_tool.proofs.answers.answer.Goals as goal
 
 pub returns-in-Normalise : goal.returns-in-Normalise
 returns-in-Normalise g c =
-    let e = c.answer_normalise.ensures in
+    let e = c.answer_canonical.ensures in
     rw c.in-Normalise.is record { answer = e.answer; reads = (e.reads, refl); handed_on = e.handed_on }
 
 pub returns-in-Check : goal.returns-in-Check
 returns-in-Check g c =
-    let e = c.answer_check.ensures in
+    let e = c.answer_canonical-in-Check.ensures in
     rw c.in-Check.is record { answer = e.answer; reads = (e.reads, refl); handed_on = e.handed_on }
 
 pub returns-in-CheckAll : goal.returns-in-CheckAll
@@ -20,15 +20,13 @@ returns-in-CheckAll g c =
 
 pub returns-in-Compare : goal.returns-in-Compare
 returns-in-Compare g c =
-    let e = c.answer_compare.ensures in
-    rw c.in-Compare.is
-    record { answer = e.answer; reads = e.reads; handed_on = e.handed_on }
+    let e = c.answer_pair.ensures in
+    rw c.in-Compare.is record { answer = e.answer; reads = e.reads; handed_on = e.handed_on }
 
 pub returns-in-Diff : goal.returns-in-Diff
 returns-in-Diff g c =
-    let e = c.answer_diff.ensures in
-    rw c.in-Diff.is
-    record { answer = e.answer; reads = e.reads; handed_on = e.handed_on }
+    let e = c.answer_pair-in-Diff.ensures in
+    rw c.in-Diff.is record { answer = e.answer; reads = e.reads; handed_on = e.handed_on }
 
 pub returns-in-Day : goal.returns-in-Day
 returns-in-Day g c =
@@ -57,5 +55,5 @@ returns-in-Clashes g c =
 
 pub returns-in-Table : goal.returns-in-Table
 returns-in-Table g c =
-    let e = c.answer_table.ensures in
+    let e = c.answer_canonical-in-Table.ensures in
     rw c.in-Table.is record { answer = e.answer; reads = (e.reads, refl); handed_on = e.handed_on }

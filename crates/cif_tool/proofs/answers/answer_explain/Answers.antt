@@ -1,41 +1,33 @@
--- The text has to be named: that of the view, flushed or a prefix; of known bytes `explain-answer` says that it answers.
--- `read`: what was read, of the extract that is kept.
+-- What the listing writes is an answer (`explain-answer`). `view`: of the extract that was read, which is kept.
 use Rattle.std.proofs.Common.{inl, inr, refl, subst}
 use Rattle.cif_columns.specs.declared.line_reader.TheConstants.{MAX_LINES}
 use Rattle.cif_extract.specs.ExtractParts.{extract_parts}
 use Rattle.cif_extract.specs.ReadFault.{reading_extract}
 use Rattle.cif_views.specs.Explanation.{IsExplanationFault}
 use Rattle.cif_tool.specs.Answer.{IsExplainRefusal}
-use Rattle.cif_tool.proofs.Answered.{ends, handed, handed-fault, unread, written-then}
+use Rattle.cif_tool.proofs.Answered.{not-answered, view-shown}
 use Rattle.cif_tool.proofs.KnownAnswers.{explain-answer}
 use Rattle.cif_tool.proofs.answers.answer_explain.Goals as goal
 
-pub returns-clause-answer : goal.returns-clause-answer
-returns-clause-answer g c =
-    let read = rw (← c.insert-extract.ensures.value) at c.in_ok-extract.ensures.ok in
-    let call = c.explain_listing-written in
-    let view = call.ensures.view in
-    let x = extract_parts c.insert-extract.result.now in
-    handed _ _ _ _ view.0 0 _ call.result call.new.sink c.finish.new.sink c.finish.result view.1
-    (written-then _ _ _ call.result (explain-answer _ x read c.args.job.now view.0) view.2)
-    c.finish.ensures.finishes
-
-pub returns-in_err-extract-clause-reads : goal.returns-in_err-extract-clause-reads
-returns-in_err-extract-clause-reads g c =
-    let f = c.in_err-extract.field-0.0 in
-    unread (reading_extract MAX_LINES) (IsExplainRefusal c.args.job.now.day) _ _ _ _ f (λ bytes after. inl) refl c.in_err-extract.ensures _
+pub returns-in_err-extract : goal.returns-in_err-extract
+returns-in_err-extract g c =
+    not-answered (reading_extract MAX_LINES) (IsExplainRefusal c.args.job.now.day) _ _ _ _ _ _ _ _ c.args.sink.now
+    c.in_err-extract.field-0.0 (λ bytes after. inl) refl (λ h. h) c.in_err-extract.ensures c.from_residual.result
     c.from_residual.ensures.1
 
-pub returns-clause-reads : goal.returns-clause-reads
-returns-clause-reads g c =
-    let day = c.args.job.now.day in
+pub returns : goal.returns
+returns g c =
+    let job = c.args.job.now in
     let whole = c.in_ok-extract.extract in
     let x = extract_parts whole in
     let call = c.explain_listing-written in
     let faults = rw c.insert-extract.ensures.value at call.ensures.fault in
     let view = rw c.insert-extract.ensures.value at call.ensures.view in
-    ends (reading_extract MAX_LINES) (IsExplainRefusal day) _ _ _ _ whole tt c.in_ok-extract.ensures c.finish.result
-    (handed-fault _ _ _ (IsExplanationFault x day) _ 0 call.result call.new.sink c.finish.new.sink c.finish.result (λ f is. record {
+    view-shown (reading_extract MAX_LINES) (IsExplainRefusal job.day) _ _ _ _ whole tt c.in_ok-extract.ensures c.finish.result
+    _ _ _ _ c.args.sink.now call.new.sink c.finish.new.sink view.0 call.result c.finish.ensures.handed_on _
+    (IsExplanationFault x job.day) view.1 view.2
+    (explain-answer _ x c.in_ok-extract.ensures.ok job view.0) (λ view. view.within) faults
+    (λ f is. record {
       fault = λ bytes after spelled. inr (x, spelled, is);
-      other = λ read. subst (IsExplanationFault x day) read is;
-    }) faults (written-then _ _ _ call.result (λ view. view.within) view.2) c.finish.ensures.finishes)
+      other = λ read. subst (IsExplanationFault x job.day) read is;
+    }) c.finish.ensures.finishes

@@ -4,19 +4,20 @@ use Rattle.std.proofs.lemmas.List.{at_drop_all}
 use Rattle.std.proofs.lemmas.Result.{IfOk-weaker}
 use Rattle.clap.specs.Words.{App, app_of, with_subcommand}
 use Rattle.cif_tool.specs.CommandLine.{argument, taking}
-use Rattle.cif_tool.proofs.CommandBuilt.{argument_taken}
+use Rattle.cif_tool.specs.declared.command_line.Argument.TheVariants.{Verbose}
+use Rattle.cif_tool.proofs.CommandBuilt.{argument_taken, first_taken}
 use Rattle.cif_tool.proofs.command_line.with_parts.Goals as goal
 
 pub loop-which-init : goal.loop-which-init
-loop-which-init c = record {
-  app = ap (λ (a : App). taking c.args.choices.now a c.args.parts.now.arguments.now) c.described-subcommand.ensures.app;
-  local = c.described-subcommand.ensures.local;
-}
+loop-which-init c =
+    first_taken _ _ Verbose _ _ _ _ c.described-subcommand.ensures
+    (c.arg_of.ensures.rule ∙ ap (argument c.args.choices.now) c.given.ensures) c.arg_of.ensures.local c.in_ok-subcommand.ensures
 
 pub loop-which-preserved : goal.loop-which-preserved
 loop-which-preserved c =
     argument_taken _ _ _ _ c.loop-which-test.true _ _ _ c.loop-which.invariant
-    (c.arg_of.ensures.rule ∙ ap (argument c.args.choices.now) c.given.ensures) c.arg_of.ensures.local c.in_ok-subcommand.ensures
+    (c.arg_of-in-loop-which.ensures.rule ∙ ap (argument c.args.choices.now) c.given-in-loop-which.ensures)
+    c.arg_of-in-loop-which.ensures.local c.in_ok-subcommand-2.ensures
 
 pub returns : goal.returns
 returns c =

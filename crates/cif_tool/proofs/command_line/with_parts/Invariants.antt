@@ -1,11 +1,10 @@
 -- With the arguments that are left, the subcommand takes all.
 use Rattle.std.proofs.Common.{drop}
 use Rattle.clap.specs.Words.{new_app}
-use Rattle.cif_tool.specs.CommandLine.{taking}
+use Rattle.cif_tool.specs.CommandLine.{taken, taking}
 use Rattle.cif_tool.proofs.CommandBuilt.{IsTaking}
 use Rattle.cif_tool.proofs.command_line.with_parts.Given as goal
 
 abbrev pub invariant-loop-which : goal.invariant-loop-which
 invariant-loop-which l =
-    IsTaking l.choices (taking l.choices (new_app l.parts.name.now) l.parts.arguments.now)
-    (drop l.which-index l.parts.arguments.now) l.subcommand
+    IsTaking l.choices (taking l.choices (new_app (taken l.parts).0) (taken l.parts).1) (drop l.which-index l.arguments) l.subcommand
