@@ -16,6 +16,4 @@ pub use call::{Call, Calls};
 pub use extract::{Extract, Schedule};
 pub use fault::{Clash, Fault};
 pub use reading::{Reading, TakeFault, read_extract};
-pub use writing::{
-    ScheduleWriter, write_association, write_head, write_schedule, write_tiploc, write_trailer,
-};
+pub use writing::{ScheduleWriter, write_head, write_schedule, write_tiploc, write_trailer};

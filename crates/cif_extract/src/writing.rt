@@ -5,14 +5,13 @@ ghost use Rattle.cif_columns.specs.Sink.{Writes};
 ghost use Rattle.cif_columns.specs.declared.stp.Stp.TheVariants.{P};
 ghost use Rattle.cif_columns.specs.Contents.{lines_text};
 ghost use Rattle.cif_extract.specs.Texts.{body_tables, schedule_lines};
-ghost use Rattle.cif_records.specs.Association.{association_rows};
 ghost use Rattle.cif_records.specs.Header.{header_table};
 ghost use Rattle.cif_records.specs.Tiploc.{tiploc_table};
 ghost use Rattle.cif_records.specs.Trailer.{trailer_table};
 
 use crate::Body;
 use cif_columns::{Day, DaysRun, Line, LineSlice, LineTexts, Sink, Uid, WriteDevice, WriteFault};
-use cif_records::{AssocBody, AssocKey, Association, Basic, Header, Tiploc, Trailer};
+use cif_records::{Basic, Header, Tiploc, Trailer};
 use std::marker::Model;
 
 /// Appends the plain line of the header and a line feed.
@@ -29,23 +28,6 @@ pub fn write_tiploc<W: WriteDevice>(tiploc: &Tiploc, sink: &mut Sink<W>) -> Resu
         (plain_line (tiploc_table tiploc.now) ++ 10 ∷ []) sink.old sink.new result }
 {
     sink.write_line(&tiploc.write())
-}
-
-/// Appends the plain line of a permanent association and a line feed: transaction type `N`, letter
-/// `P`.
-pub fn write_association<W: WriteDevice>(
-    key: &AssocKey,
-    body: &AssocBody,
-    first: Day,
-    last: Day,
-    days: DaysRun,
-    sink: &mut Sink<W>,
-) -> Result<(), WriteFault>
-    requires { first ≤ last }
-    ensures { Writes W.contents W.write_errors
-        (plain_line (association_rows key.now first last days P (Some body.now)) ++ 10 ∷ []) sink.old sink.new result }
-{
-    sink.write_line(&Association::permanent_line(key, body, first, last, days))
 }
 
 /// Appends the plain lines of a permanent schedule, each with a line feed: BS (transaction type `N`,

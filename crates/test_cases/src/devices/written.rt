@@ -3,9 +3,7 @@ ghost use Rattle.std.specs.Prelude.{◌≤◌};
 
 use crate::case::LINE_BYTES;
 use cif_columns::{Day, DaysRun, Sink, WriteDevice, WriteFault};
-use cif_extract::{
-    Extract, Schedule, write_association, write_head, write_schedule, write_tiploc, write_trailer,
-};
+use cif_extract::{Extract, Schedule, write_head, write_schedule, write_tiploc, write_trailer};
 use cif_records::Association;
 
 /// What is written at once.
@@ -91,7 +89,13 @@ fn write_dated_association<W: WriteDevice>(
 ) -> Result<(), WriteFault> {
     let Dates { first, last, days } = *dates;
     match &association.body {
-        Some(body) => write_association(&association.key, body, first, last, days, sink),
+        Some(body) => sink.write_line(&Association::permanent_line(
+            &association.key,
+            body,
+            first,
+            last,
+            days,
+        )),
         None => Ok(()),
     }
 }
