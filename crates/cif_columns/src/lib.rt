@@ -23,7 +23,7 @@ mod trials;
 pub use activities::Activities;
 pub use ahead::{ContentReader, NextContent, line_of};
 pub use clock::{PublicTime, WorkTime};
-pub use day::{DAYS_IN_WEEK, Day};
+pub use day::{DAYS_IN_WEEK, Day, digits_of};
 pub use days_run::DaysRun;
 pub use field::{Field, activities_at, columns_at, field_at, text_at, uid_at};
 pub use line::{LINE_WIDTH, Line, LineBuilder, are_printable, as_text, is_printable};
