@@ -5,11 +5,11 @@ ghost use Rattle.cif_calendar.specs.Source.{IsChosen};
 ghost use Rattle.cif_calendar.specs.Steps.Stretches.{AddsIfDisputed, AreStretchesOf, IsStretch};
 ghost use Rattle.cif_calendar.specs.declared.standing.Standing.TheVariants.{Disputed, Nobody};
 
+use crate::applies::Window;
 use crate::entry::Entry;
 use crate::members::Members;
 use crate::standing::{Standing, Standings};
 use crate::stretch::{Stretch, stretches_of};
-use crate::window::Window;
 use cif_columns::Day;
 use std::alloc::{AllocError, Global};
 

@@ -5,11 +5,11 @@ ghost use Rattle.cif_calendar.specs.Source.{IsChosen};
 ghost use Rattle.cif_calendar.specs.Steps.Standing.{IsBelow, Stands};
 ghost use Rattle.cif_calendar.specs.Steps.Stretches.{AreStretchesOf, IsStretch};
 
+use crate::applies::Window;
 use crate::entry::Entry;
 use crate::members::Members;
 use crate::standing::Standing;
 use crate::stretch::{Stretch, stretches_of};
-use crate::window::Window;
 use cif_columns::{Day, Stp};
 use std::alloc::{AllocError, Global};
 

@@ -2,7 +2,7 @@
 ghost use Rattle.std.specs.Prelude.{◌≡◌, ◌≤◌, ◌+◌, Contains, Some};
 ghost use Rattle.cif_calendar.specs.Pieces.{Tiles, source_at, winner_of};
 
-use crate::window::Window;
+use crate::applies::Window;
 use cif_columns::{Day, as_text};
 use std::alloc::AllocError;
 use std::error::Error;

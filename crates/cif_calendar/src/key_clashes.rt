@@ -4,11 +4,11 @@ ghost use Rattle.cif_calendar.specs.Clashes.{TellClashes};
 ghost use Rattle.cif_calendar.specs.Keys.{ArePositionsOf, keyed};
 ghost use Rattle.cif_calendar.specs.Steps.Clashes.{IsAddedOfKey, IsFaultAdded};
 
+use crate::applies::Window;
 use crate::by_key::{count_of_first_key, positions_by_key};
 use crate::entry::Entry;
 use crate::key_calendar::CalendarFault;
 use crate::pieces::calendar;
-use crate::window::Window;
 use cif_columns::Day;
 use std::alloc::{AllocError, Global};
 

@@ -14,9 +14,8 @@ mod named_clashes;
 mod pieces;
 mod standing;
 mod stretch;
-mod window;
 
-pub use applies::{Dates, precedence};
+pub use applies::{Dates, Window, precedence};
 pub use by_key::{FirstKey, count_of_first_key, first_key, positions_by_key, positions_of_key};
 pub use clashing_dates::clash_dates;
 pub use day_state::{DayState, day_states};
@@ -25,4 +24,3 @@ pub use key_calendar::{Calendar, CalendarFault, Piece};
 pub use key_clashes::{KeyClash, clashing_keys};
 pub use named_clashes::{NamedEntry, add_named};
 pub use pieces::calendar;
-pub use window::Window;

@@ -6,12 +6,12 @@ ghost use Rattle.cif_calendar.specs.Pieces.{IsPiece};
 ghost use Rattle.cif_calendar.specs.Source.{IsChosen};
 ghost use Rattle.cif_calendar.specs.Steps.Stretches.{AreStretchesOf, IsStretch};
 
+use crate::applies::Window;
 use crate::entry::Entry;
 use crate::key_calendar::{Calendar, CalendarFault, Piece};
 use crate::members::Members;
 use crate::standing::winner_by;
 use crate::stretch::{Stretch, stretches_of};
-use crate::window::Window;
 use cif_columns::Day;
 use std::alloc::Global;
 

@@ -4,11 +4,10 @@ ghost use Rattle.std.specs.Prelude.{◌<◌, ◌≤◌, ◌+◌, map, IfOk};
 ghost use Rattle.cif_calendar.specs.Steps.Standing.{AreAlike};
 ghost use Rattle.cif_calendar.specs.Steps.Stretches.{AreBehind, AreStretchesOf, IsPart, IsStretch};
 
-use crate::applies::Dates;
+use crate::applies::{Dates, Window};
 use crate::entry::Entry;
 use crate::members::Members;
 use crate::standing::{Standing, Standings, look_at};
-use crate::window::Window;
 use cif_columns::{Day, DaysRun};
 use std::alloc::{AllocError, Global};
 

@@ -72,7 +72,7 @@ pub use Rattle.cif_weeks.specs.WhatRuns.{HasBody}
 pub use Rattle.cif_weeks.specs.Window.{IsWithin, Window, window_from}
 pub use Rattle.cif_weeks.specs.declared.form.Form.{Form}
 pub use Rattle.cif_weeks.specs.declared.form.Form.TheVariants.{Two}
-pub use Rattle.cif_weeks.specs.declared.run.Run.{Run}
+pub use Rattle.cif_weeks.specs.declared.form.Run.{Run}
 pub use Rattle.cif_canon.specs.Accepted.{IsClearExtract}
 pub use Rattle.cif_canon.specs.Appended.{IsAppended}
 pub use Rattle.cif_canon.specs.Asked.{AskedDatesAreWithin, IsNarrowed, IsNarrowingFault, header_window, window_asked}

@@ -6,8 +6,9 @@ ghost use Rattle.cif_canon.specs.Appended.{IsAppended};
 ghost use Rattle.cif_canon.specs.Lines.{line_of_tiploc};
 ghost use Rattle.cif_canon.specs.Steps.Texts.{HasRecord, numbered_text};
 
-use crate::canon_record::{CanonRecord, CanonSchedule, record_of};
-use crate::canonical_form::{Canon, look_ahead_at, write_runs};
+use crate::canonical_form::{
+    Canon, CanonRecord, CanonSchedule, look_ahead_at, record_of, write_runs,
+};
 use crate::writing::Texts;
 use cif_columns::{Line, Sink, WriteDevice};
 use cif_extract::Schedule;

@@ -1,4 +1,4 @@
-//! The canonical form of an extract: its counts and its lines.
+//! The canonical form of an extract: its records, its counts and its text.
 ghost use Rattle.std.specs.Prelude.{◌≡◌, ◌<◌, All, IfErr, Some, length};
 ghost use Rattle.std.specs.List.{flat_map};
 ghost use Rattle.cif_calendar.specs.Keys.{keyed};
@@ -6,20 +6,18 @@ ghost use Rattle.cif_columns.specs.Sink.{Writes};
 ghost use Rattle.cif_extract.specs.declared.fault.Fault.TheVariants.{Write};
 ghost use Rattle.cif_canon.specs.Counts.{counts_line};
 ghost use Rattle.cif_calendar.specs.Entries.{schedule_entries};
-ghost use Rattle.cif_canon.specs.Steps.Texts.{HasRecord, body_at, run_text, schedule_run_text};
+ghost use Rattle.cif_canon.specs.Steps.Texts.{HasRecord, body_at, record_at, run_text, schedule_run_text};
 ghost use Rattle.cif_canon.specs.Appended.{IsAppended};
 
-use crate::canon_record::{CanonRecord, record_of};
 use crate::records::AT_ONCE;
 use crate::writing::{Texts, answer, write_each};
 use arrayvec::ArrayString;
 use cif_calendar::Entry;
-use cif_columns::{Sink, WriteDevice, WriteFault};
+use cif_columns::{Line, LineSlice, Sink, Uid, WriteDevice, WriteFault};
 use cif_extract::{
-    Body, Extract, Fault, Schedule, ScheduleWriter, write_association, write_head, write_tiploc,
-    write_trailer,
+    Body, Extract, Fault, Schedule, ScheduleWriter, write_head, write_tiploc, write_trailer,
 };
-use cif_records::{AssocBody, AssocKey, Tiploc};
+use cif_records::{AssocBody, AssocKey, Association, Basic, Tiploc};
 use cif_weeks::Run;
 use itoa::Buffer;
 use std::marker::Model;
@@ -135,6 +133,81 @@ fn line_of(counts: &Counts) -> ArrayString<LONGEST_COUNTS>
     line.push_str(Buffer::new().format(counts.schedules));
     line.push_str(" schedules\n");
     line
+}
+
+/// A record of a canonical form, with its key. A clause sees both.
+#[derive(Drop)]
+pub struct CanonRecord<'a, K, B> {
+    pub(crate) key: &'a K,
+    pub(crate) body: &'a B,
+    pub(crate) run: &'a Run,
+}
+
+impl<'a, K, B> Model for CanonRecord<'a, K, B> {
+    ghost use Rattle.std.specs.Prelude.{◌≤◌};
+    ghost use Rattle.cif_weeks.specs.Permanent.{Permanent};
+    ghost use Rattle.cif_weeks.specs.Runs.{record_of};
+
+    ghost Value = { K × Permanent B };
+
+    ghost view = { λ r. (r.key.now, record_of r.run.now r.body.now) };
+
+    ghost invariant = { λ r. r.run.now.first ≤ r.run.now.last };
+}
+
+/// The record of a run, whose source is an entry with its key and its body.
+pub(crate) fn record_of<'a, E: Entry>(
+    entries: &'a [E],
+    run: &'a Run,
+) -> CanonRecord<'a, E::Key, E::Body>
+    requires within { run.now.source < length entries.now }
+    requires record { HasRecord (keyed E.key E.terms entries.now) run.now }
+    ensures { record_at (keyed E.key E.terms entries.now) run.now ≡ Some result }
+{
+    let entry = &entries[run.source];
+    match entry.body() {
+        Some(body) => CanonRecord {
+            key: entry.key(),
+            body,
+            run,
+        },
+        None => unreachable!(),
+    }
+}
+
+impl<'a> CanonRecord<'a, AssocKey, AssocBody> {
+    ghost use Rattle.cif_canon.specs.Lines.{association_plain};
+
+    /// The line of an association.
+    pub fn line(&self) -> Line
+        ensures { result ≡ association_plain self.now }
+    {
+        let run = self.run;
+        Association::permanent_line(self.key, self.body, run.first, run.last, run.days)
+    }
+}
+
+/// A schedule of a canonical form.
+pub type CanonSchedule<'a> = CanonRecord<'a, Uid, Body>;
+
+impl<'a> CanonRecord<'a, Uid, Body> {
+    ghost use Rattle.cif_canon.specs.Lines.{schedule_plain};
+
+    /// The line of the BS of a schedule.
+    pub fn basic(&self) -> Line
+        ensures { result ≡ (schedule_plain self.now).basic }
+    {
+        let run = self.run;
+        let detail = self.body.detail_line();
+        Basic::permanent_line(self.key, &detail, run.first, run.last, run.days)
+    }
+
+    /// The lines that follow its BS.
+    pub fn further(&self) -> LineSlice<'a>
+        ensures { result ≡ (schedule_plain self.now).further }
+    {
+        self.body.further_lines()
+    }
 }
 
 /// Appends the texts of the runs' records.
@@ -261,7 +334,6 @@ impl<'a> Texts<CanonRecord<'a, AssocKey, AssocBody>> for PlainLines {
         item: &CanonRecord<'a, AssocKey, AssocBody>,
         sink: &mut Sink<W>,
     ) {
-        let run = item.run;
-        let _ = write_association(item.key, item.body, run.first, run.last, run.days, sink);
+        let _ = sink.write_line(&item.line());
     }
 }

@@ -3,7 +3,7 @@ ghost use Rattle.std.specs.Prelude.{◌≡◌, ◌↔◌, ◌<◌, IfErr, IfOk, 
 ghost use Rattle.cif_calendar.specs.Keys.{keyed};
 ghost use Rattle.cif_extract.specs.ExtractParts.{extract_parts};
 ghost use Rattle.cif_weeks.specs.Runs.{AreSources};
-ghost use Rattle.cif_weeks.specs.declared.run.Run.{Run};
+ghost use Rattle.cif_weeks.specs.declared.form.Run.{Run};
 ghost use Rattle.cif_canon.specs.Asked.{header_window};
 ghost use Rattle.cif_canon.specs.Comparison.{IsCompareFault};
 ghost use Rattle.cif_canon.specs.Differences.{AreDifferences, AreNone, TurnLeftIntoRight};

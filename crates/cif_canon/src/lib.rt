@@ -4,7 +4,6 @@
 
 mod asked;
 mod canon_lines;
-mod canon_record;
 mod canonical_form;
 mod comparison;
 mod differing;
@@ -22,11 +21,10 @@ pub mod writing;
 
 pub use asked::{Asked, check_within, narrow};
 pub use canon_lines::CanonListing;
-pub use canon_record::{CanonRecord, CanonSchedule, ListedRecord};
-pub use canonical_form::{Canon, Counts, write_counts};
+pub use canonical_form::{Canon, CanonRecord, CanonSchedule, Counts, write_counts};
 pub use comparison::{Comparison, compare, write_comparison};
 pub use differing::differences;
-pub use listed_differences::{Differences, Side, Sided};
+pub use listed_differences::{Differences, ListedRecord, Side, Sided};
 pub use normal_form::{canon, check, narrowed_canon, normalise, read_canon, read_narrowed, report};
 pub use pair::read_pair;
 pub use rows::{Format, Shape};

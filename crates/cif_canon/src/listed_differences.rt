@@ -1,5 +1,5 @@
 //! The differences of two extracts, and their lines, each behind the mark of its side.
-ghost use Rattle.std.specs.Prelude.{◌<◌, ◌≡◌, ◌∷◌, [], ◌↔◌, IfOk, All, IfErr, IsTrue, length};
+ghost use Rattle.std.specs.Prelude.{◌<◌, ◌≡◌, ◌∷◌, [], ◌↔◌, IfOk, All, IfErr, IsTrue, Some, length};
 ghost use Rattle.std.specs.List.{flat_map};
 ghost use Rattle.cif_calendar.specs.Keys.{keyed};
 ghost use Rattle.cif_columns.specs.Sink.{Writes};
@@ -7,9 +7,10 @@ ghost use Rattle.cif_extract.specs.declared.fault.Fault.TheVariants.{Write};
 ghost use Rattle.cif_canon.specs.Differences.{at_side, mark, marked_text};
 ghost use Rattle.cif_canon.specs.Steps.OnlySides.{HasMovedOf};
 ghost use Rattle.cif_canon.specs.Steps.Sides.{HasSidedRecord, sided_run_text};
+ghost use Rattle.cif_canon.specs.Steps.Texts.{record_at};
 ghost use Rattle.cif_canon.specs.Appended.{IsAppended};
 
-use crate::canon_record::{CanonRecord, CanonSchedule, sided_record};
+use crate::canonical_form::{CanonRecord, CanonSchedule, record_of};
 use crate::writing::{Texts, answer, append, write_each};
 use cif_calendar::Entry;
 use cif_columns::{Line, LineSlice, Sink, WriteDevice};
@@ -47,6 +48,41 @@ pub struct Sided<T> {
     pub side: Side,
     /// What it is.
     pub it: T,
+}
+
+/// What is listed of differences: a record of one side, and that of the other which makes a pair with it.
+/// A clause sees both.
+#[derive(Drop)]
+pub struct ListedRecord<'a, K, B> {
+    /// The side of the record.
+    pub side: Side,
+    /// The record.
+    pub one: CanonRecord<'a, K, B>,
+    /// That of the other side, if they are a pair.
+    pub other: Option<CanonRecord<'a, K, B>>,
+}
+
+impl<'a, K, B> Model for ListedRecord<'a, K, B> {
+    ghost use Rattle.cif_weeks.specs.Permanent.{Permanent};
+    ghost use Rattle.cif_canon.specs.Pairs.{Listed};
+
+    ghost Value = { Listed (K × Permanent B) };
+
+    ghost view = { λ l. (record { side = l.side; it = l.one }, l.other) };
+}
+
+/// The record of a run of its side.
+pub(crate) fn sided_record<'a, E: Entry>(
+    left: &'a [E],
+    right: &'a [E],
+    run: &'a Sided<Run>,
+) -> CanonRecord<'a, E::Key, E::Body>
+    requires within { run.now.it.source < length (at_side left.now right.now run.now.side) }
+    requires record { HasSidedRecord (keyed E.key E.terms left.now) (keyed E.key E.terms right.now) run.now }
+    ensures { record_at (at_side (keyed E.key E.terms left.now) (keyed E.key E.terms right.now) run.now.side) run.now.it
+        ≡ Some result }
+{
+    record_of(run.side.of(left, right), &run.it)
 }
 
 /// Appends the first item of this side, and gives the others of both sides.

@@ -8,8 +8,8 @@ ghost use Rattle.cif_canon.specs.Pairs.{ArePair, by_pairs};
 ghost use Rattle.cif_canon.specs.Steps.ByPairs.{HasWrittenFirst, IsListedFirst};
 ghost use Rattle.cif_canon.specs.Steps.Sides.{HasSidedRecord, sided_records};
 
-use crate::canon_record::{CanonRecord, ListedRecord, sided_record};
-use crate::listed_differences::{Differences, Side, Sided};
+use crate::canonical_form::CanonRecord;
+use crate::listed_differences::{Differences, ListedRecord, Side, Sided, sided_record};
 use crate::writing::{Texts, write_each};
 use cif_calendar::Entry;
 use cif_columns::{Sink, Uid, WriteDevice};

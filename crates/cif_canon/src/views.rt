@@ -10,8 +10,7 @@ ghost use Rattle.cif_canon.specs.Views.{IsDayFault, IsDayListed, IsDayView, IsTr
 ghost use Rattle.cif_canon.specs.Views.{IsTrainListed, IsTrainView};
 
 use crate::asked::check_within;
-use crate::canon_record::CanonRecord;
-use crate::canonical_form::write_runs;
+use crate::canonical_form::{CanonRecord, write_runs};
 use crate::records::extract_runs;
 use crate::rows::{Format, LONGEST_ROW, association_row, schedule_row, train_row};
 use crate::writing::{Texts, answer, append};

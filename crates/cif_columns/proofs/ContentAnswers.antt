@@ -7,7 +7,7 @@ use Rattle.cif_columns.specs.Contents.{AreUndecided, DecideNoContent}
 use Rattle.cif_columns.specs.LineReader.{GivenDecideContent}
 use Rattle.cif_columns.specs.declared.ahead.NextContent.{NextContent}
 use Rattle.cif_columns.specs.declared.ahead.NextContent.TheVariants.{Content, Overlong, End}
-use Rattle.cif_columns.specs.declared.content_reader.ContentReader.{ContentReader}
+use Rattle.cif_columns.specs.declared.ahead.ContentReader.{ContentReader}
 use Rattle.cif_columns.specs.declared.refusal.LineFault.TheVariants.{Refused, Read}
 use Rattle.cif_columns.specs.declared.refusal.Refusal.TheVariants.{TooManyLines}
 use Rattle.cif_columns.specs.declared.source.ReadFault.{ReadFault}

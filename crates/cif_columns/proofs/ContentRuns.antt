@@ -5,7 +5,7 @@ use Rattle.cif_columns.specs.ContentReader.{IsNextOf, content, given, held, left
 use Rattle.cif_columns.specs.Contents.{ComesFirst}
 use Rattle.cif_columns.specs.Source.{reader_of}
 use Rattle.cif_columns.specs.declared.ahead.NextContent.TheVariants.{Content, End}
-use Rattle.cif_columns.specs.declared.content_reader.ContentReader.{ContentReader}
+use Rattle.cif_columns.specs.declared.ahead.ContentReader.{ContentReader}
 use Rattle.cif_columns.specs.declared.source.Source.{Source}
 use Rattle.cif_columns.proofs.GivenLinesLaws.{all_given, known_none, with_answer}
 

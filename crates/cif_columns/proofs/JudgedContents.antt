@@ -16,7 +16,7 @@ use Rattle.cif_columns.specs.GivenLines.{AreWholeContentsAndRest, EndsLine}
 use Rattle.cif_columns.specs.JudgedContents.{IsGiven, MayGoOn, has_overlong, is_overlong, judged_contents, parts_of, up_to_overlong}
 use Rattle.cif_columns.specs.Source.{reader_of, source_ended}
 use Rattle.cif_columns.specs.declared.ahead.NextContent.TheVariants.{Overlong, End}
-use Rattle.cif_columns.specs.declared.content_reader.ContentReader.{ContentReader}
+use Rattle.cif_columns.specs.declared.ahead.ContentReader.{ContentReader}
 use Rattle.cif_columns.specs.declared.refusal.LineFault.TheVariants.{Refused, Read}
 use Rattle.cif_columns.specs.declared.refusal.Refusal.{Refusal}
 use Rattle.cif_columns.specs.declared.refusal.Refusal.TheVariants.{TooManyLines}

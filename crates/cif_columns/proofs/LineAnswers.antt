@@ -13,7 +13,7 @@ use Rattle.cif_columns.specs.LineReader.{GivenDecide, GivenDecideContent, HasPas
 use Rattle.cif_columns.specs.LineReader.{given, held, left, limit, past}
 use Rattle.cif_columns.specs.Source.{HasFailedToRead, HasReadOn, reader_of, source_ended, source_failed}
 use Rattle.cif_columns.specs.declared.ahead.NextContent.TheVariants.{Content, Overlong, End}
-use Rattle.cif_columns.specs.declared.content_reader.ContentReader.{ContentReader}
+use Rattle.cif_columns.specs.declared.ahead.ContentReader.{ContentReader}
 use Rattle.cif_columns.specs.declared.line.Line.{Line}
 use Rattle.cif_columns.specs.declared.line_reader.LineReader.{LineReader}
 use Rattle.cif_columns.specs.declared.line_reader.Past.TheVariants.{Reading, Ended, Faulted}

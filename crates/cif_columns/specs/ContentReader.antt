@@ -6,7 +6,7 @@ use Rattle.cif_columns.specs.Contents.{BeginOverlong, DecideNoContent}
 use Rattle.cif_columns.specs.Source.{HasFailedToRead, HasReadOn, reader_of, source_ended, source_failed}
 use Rattle.cif_columns.specs.declared.ahead.NextContent.{NextContent}
 use Rattle.cif_columns.specs.declared.ahead.NextContent.TheVariants.{Content, Overlong, End}
-use Rattle.cif_columns.specs.declared.content_reader.ContentReader.{ContentReader}
+use Rattle.cif_columns.specs.declared.ahead.ContentReader.{ContentReader}
 use Rattle.cif_columns.specs.declared.refusal.LineFault.{LineFault}
 use Rattle.cif_columns.specs.declared.refusal.LineFault.TheVariants.{Refused, Read}
 use Rattle.cif_columns.specs.declared.refusal.Refusal.TheVariants.{TooManyLines}

@@ -6,8 +6,7 @@ ghost use Rattle.cif_columns.specs.Text.{IsText, left_justified as justified};
 ghost use Rattle.cif_columns.specs.declared.line_reader.TheConstants.{MAX_LINES};
 
 use crate::day::Day;
-use crate::text::Text;
-use crate::uid::Uid;
+use crate::text::{Text, Uid};
 
 /// The most lines that may be asked for.
 pub fn most_lines()

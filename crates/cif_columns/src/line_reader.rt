@@ -2,8 +2,7 @@
 ghost use Rattle.std.specs.Prelude.{◌≡◌, ◌<◌, ◌≤◌, ◌+◌, [], ℕ, List, IfSome, IsTrue, false};
 ghost use Rattle.cif_columns.specs.declared.line_reader.TheConstants.{LONGEST_LINE, MAX_LINES};
 
-use crate::ahead::{NextContent, is_comment, line_of};
-use crate::content_reader::ContentReader;
+use crate::ahead::{ContentReader, NextContent, is_comment, line_of};
 use crate::line::{LINE_WIDTH, Line};
 use crate::refusal::{LineFault, Refusal};
 use crate::source::{ReadDevice, Source};

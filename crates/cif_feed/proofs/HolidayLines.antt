@@ -35,7 +35,7 @@ use Rattle.cif_columns.specs.GivenLines.{AreWholeContentsAndRest}
 use Rattle.cif_columns.specs.LineReader.{GivenDecideContent}
 use Rattle.cif_columns.specs.Source.{HasReadOn, Unread, reader_of, source_ended}
 use Rattle.cif_columns.specs.declared.ahead.NextContent.TheVariants.{Content, Overlong, End}
-use Rattle.cif_columns.specs.declared.content_reader.ContentReader.{ContentReader}
+use Rattle.cif_columns.specs.declared.ahead.ContentReader.{ContentReader}
 use Rattle.cif_columns.specs.declared.refusal.LineFault.{LineFault}
 use Rattle.cif_columns.specs.declared.refusal.LineFault.TheVariants as line_fault
 use Rattle.cif_columns.specs.declared.source.Source.{Source}

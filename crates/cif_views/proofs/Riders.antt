@@ -1,9 +1,8 @@
 -- What the activities of a call say of riders, one by one.
 use Rattle.std.proofs.Common.{◌≡◌, ℕ, ◌-◌, ◌≤◌, Bool, true, false, not, ◌&&◌, ◌||◌, List, [], ◌∷◌, ◌∙◌, ap, arith}
-use Rattle.std.proofs.Common.{codes, cond, drop, get_or, length, nat_eq, refl, sym, take}
-use Rattle.std.specs.Cmp.Lexicographic.{pointwise}
-use Rattle.std.proofs.Math.Bool.{and_assoc, or_assoc}
-use Rattle.std.proofs.lemmas.Bool.{false≢true}
+use Rattle.std.proofs.Common.{codes, cond, drop, eqb, get_or, length, refl, sym, take}
+use Rattle.std.proofs.Math.Bool.{and-true, and_assoc, or-false, or_assoc}
+use Rattle.std.proofs.lemmas.Bool.{eqb-true}
 use Rattle.std.proofs.lemmas.List.{take_rest}
 use Rattle.cif_columns.specs.Activities.{codes_in, has_code}
 use Rattle.cif_views.specs.PublicCalls.{said_by}
@@ -67,26 +66,41 @@ joined-assoc r s t =
       or_assoc r.on_request s.on_request t.on_request,
     ) refl
 
--- two columns that aren't spaces are a code
-a-code : (s t : Bool) (code : List ℕ) (others : List (List ℕ)) → not (s && (t && true)) ≡ true →
-    cond (s && t) others (code ∷ others) ≡ code ∷ others
-a-code true true code others is = absurd (false≢true is)
-a-code true false code others is = refl
-a-code false t code others is = refl
+-- Two columns say what they do as an activity: two spaces say nothing.
+two-said : (a b : ℕ) (s t : Bool) (rest : List ℕ) → eqb a 32 ≡ s → eqb b 32 ≡ t →
+    said_by (cond (s && t) (codes_in rest) ((a ∷ b ∷ []) ∷ codes_in rest)) ≡ joined (said_by ((a ∷ b ∷ []) ∷ [])) (said_by (codes_in rest))
+two-said a b true true rest one other = rw (eqb-true a 32 one) refl
+two-said a b true false rest one other = said-more (a ∷ b ∷ []) (codes_in rest)
+two-said a b false t rest one other = said-more (a ∷ b ∷ []) (codes_in rest)
 
--- One activity of the columns that are left is joined.
+said-two : (a b : ℕ) (rest : List ℕ) → said_by (codes_in (a ∷ b ∷ rest)) ≡ joined (said_by ((a ∷ b ∷ []) ∷ [])) (said_by (codes_in rest))
+said-two a b rest = two-said a b (eqb a 32) (eqb b 32) rest refl refl
+
+-- What columns say is what the first four do, two and two, and what the others do.
+pub said-columns : (columns others : List ℕ) (one two riders : Riders) → 4 ≤ length columns →
+    one ≡ said_by ((get_or columns 0 0 ∷ get_or columns 1 0 ∷ []) ∷ []) → two ≡ said_by ((get_or columns 2 0 ∷ get_or columns 3 0 ∷ []) ∷ []) →
+    riders ≡ joined one two → others ≡ drop 4 columns → joined riders (said_by (codes_in others)) ≡ said_by (codes_in columns)
+said-columns [] others one two riders four one_is two_is both left = absurd (omega (arith, four))
+said-columns (a ∷ []) others one two riders four one_is two_is both left = absurd (omega (arith, four))
+said-columns (a ∷ b ∷ []) others one two riders four one_is two_is both left = absurd (omega (arith, four))
+said-columns (a ∷ b ∷ c ∷ []) others one two riders four one_is two_is both left = absurd (omega (arith, four))
+said-columns (a ∷ b ∷ c ∷ d ∷ rest) others one two riders four one_is two_is both left =
+    rw (both, one_is, two_is, left) (
+    joined-assoc (said_by ((a ∷ b ∷ []) ∷ [])) (said_by ((c ∷ d ∷ []) ∷ [])) (said_by (codes_in rest))
+    ∙ ap (joined (said_by ((a ∷ b ∷ []) ∷ []))) (sym (said-two c d rest))
+    ∙ sym (said-two a b (c ∷ d ∷ rest))
+    )
+
+pub nothing-joined : (r : Riders) → joined r (said_by []) ≡ r
+nothing-joined r = rw (and-true r.advertised, or-false r.set_down, or-false r.pick_up, or-false r.on_request) refl
+
+-- What two of the columns that are left say is joined.
 pub said-next : (r : Riders) (rest : List ℕ) (one next whole : Riders) → 2 ≤ length rest →
-    not (pointwise nat_eq (get_or rest 0 0 ∷ get_or rest 1 0 ∷ []) (codes "  ")) ≡ true →
     one ≡ said_by ((get_or rest 0 0 ∷ get_or rest 1 0 ∷ []) ∷ []) → next ≡ joined r one → joined r (said_by (codes_in rest)) ≡ whole →
     joined next (said_by (codes_in (take (length rest - 2) (drop 2 rest)))) ≡ whole
-said-next r [] one next whole two kept one_is next_is is = absurd (omega (arith, two))
-said-next r (a ∷ []) one next whole two kept one_is next_is is = absurd (omega (arith, two))
-said-next r (a ∷ b ∷ rest) one next whole two kept one_is next_is is =
-    let code : List ℕ = a ∷ b ∷ [] in
-    let all : codes_in (a ∷ b ∷ rest) ≡ code ∷ codes_in rest = a-code (nat_eq a 32) (nat_eq b 32) code (codes_in rest) kept in
+said-next r [] one next whole two one_is next_is is = absurd (omega (arith, two))
+said-next r (a ∷ []) one next whole two one_is next_is is = absurd (omega (arith, two))
+said-next r (a ∷ b ∷ rest) one next whole two one_is next_is is =
     rw (next_is, one_is, take_rest (a ∷ b ∷ rest) 2) (
-    joined-assoc r (said_by (code ∷ [])) (said_by (codes_in rest))
-    ∙ ap (joined r) (sym (said-more code (codes_in rest)))
-    ∙ ap (λ cs. joined r (said_by cs)) (sym all)
-    ∙ is
+    joined-assoc r (said_by ((a ∷ b ∷ []) ∷ [])) (said_by (codes_in rest)) ∙ ap (joined r) (sym (said-two a b rest)) ∙ is
     )

@@ -6,7 +6,7 @@ ghost use Rattle.cif_views.specs.Moments.{IsBy, IsOnTheWay, in_day_from, midnigh
 use crate::table_row::TableRow;
 use arrayvec::ArrayString;
 use cif_canon::Shape;
-use cif_columns::as_text;
+use cif_columns::{as_text, digits_of};
 use itoa::Buffer;
 use std::marker::Model;
 
@@ -178,15 +178,8 @@ fn clock_text(hour: u8, seconds: u32) -> [u8; 8]
     requires { hour < 100 }
     ensures { result ≡ two_digits hour ++ ((58 ∷ two_digits (seconds / 60 % 60)) ++ (58 ∷ two_digits (seconds % 60))) }
 {
-    let (minute, second) = ((seconds / 60 % 60) as u8, (seconds % 60) as u8);
-    [
-        b'0' + hour / 10,
-        b'0' + hour % 10,
-        b':',
-        b'0' + minute / 10,
-        b'0' + minute % 10,
-        b':',
-        b'0' + second / 10,
-        b'0' + second % 10,
-    ]
+    let [a, b] = digits_of(hour);
+    let [c, d] = digits_of((seconds / 60 % 60) as u8);
+    let [e, f] = digits_of((seconds % 60) as u8);
+    [a, b, b':', c, d, b':', e, f]
 }

@@ -164,6 +164,9 @@ fn advertised(line: &Line, first: usize) -> Option<TimeOfDay>
     Some(TimeOfDay::new(time.seconds()?))
 }
 
+/// The columns of activities behind the second, where there are no more.
+const NO_MORE: &[u8] = b"        ";
+
 /// What the activities of a call say of riders.
 #[derive(Clone, Copy)]
 struct Riders {
@@ -215,16 +218,30 @@ impl Riders {
     }
 
     /// What the activities in these columns say. Two spaces say nothing.
+    // Few calls have more than two.
     fn in_columns(columns: &[u8; 12]) -> Riders
         ensures { result ≡ said_by (codes_in columns.now) }
     {
+        let riders = Riders::of_one([columns[0], columns[1]]).join(Riders::of_one([
+            columns[2], columns[3],
+        ]));
+        let (_, others) = columns.split_at(4);
+        if others == NO_MORE {
+            riders
+        } else {
+            riders.join(Riders::in_others(others))
+        }
+    }
+
+    /// What the activities in further columns say.
+    #[inline(never)]
+    fn in_others(columns: &[u8]) -> Riders
+        ensures { result ≡ said_by (codes_in columns.now) }
+    {
         let mut riders = Riders::of_none();
-        let mut rest: &[u8] = columns;
+        let mut rest = columns;
         while let [a, b, after @ ..] = rest {
-            let code = [*a, *b];
-            if code != *b"  " {
-                riders = riders.join(Riders::of_one(code));
-            }
+            riders = riders.join(Riders::of_one([*a, *b]));
             rest = after;
         }
         riders
@@ -323,8 +340,7 @@ fn push_public_call(
     push_platform(row, kind_of_line(line), line);
     shown.arrival.push_to(row);
     shown.departure.push_to(row);
-    row.push(Shape::Whole, &[set_down]);
-    row.push(Shape::Whole, &[pick_up]);
+    row.push(Shape::Whole, &[set_down, b'\t', pick_up]);
 }
 
 /// Appends the row of the line, which is of this kind, if it is a public call. The journey goes on behind it.

@@ -28,6 +28,6 @@ pub use Rattle.cif_weeks.specs.Steps.WeekMasks.{IsLastDay, IsMask, MasksAgree, M
 pub use Rattle.cif_weeks.specs.Window.{IsWithin, Window, window_from}
 pub use Rattle.cif_weeks.specs.declared.form.Form.{Form}
 pub use Rattle.cif_weeks.specs.declared.form.Form.TheVariants.{One, Two}
-pub use Rattle.cif_weeks.specs.declared.run.Run.{Run}
+pub use Rattle.cif_weeks.specs.declared.form.Run.{Run}
 pub use Rattle.cif_weeks.specs.declared.span.Span.{Span}
 pub use Rattle.cif_weeks.specs.declared.span.Weeks.{Weeks}

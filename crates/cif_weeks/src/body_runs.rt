@@ -8,11 +8,10 @@ ghost use Rattle.cif_columns.specs.Day.{IsDay, week_of};
 ghost use Rattle.cif_weeks.specs.Steps.BodyRuns.{AreGrownTo, AreNextWeeks, AreRunsOfBody};
 ghost use Rattle.cif_weeks.specs.Steps.Spans.{AgreeOn, HaveOneMask, IsDisputed, Leads, Shows};
 ghost use Rattle.cif_weeks.specs.Window.{IsWithin, window_from};
-ghost use Rattle.cif_weeks.specs.declared.run.Run.{Run};
+ghost use Rattle.cif_weeks.specs.declared.form.Run.{Run};
 ghost use Rattle.cif_weeks.specs.declared.span.Span.{Span};
 
-use crate::form::Joining;
-use crate::run::Run;
+use crate::form::{Joining, Run};
 use crate::span::{Span, Weeks, no_days};
 use cif_columns::Day;
 use std::alloc::AllocError;

@@ -10,13 +10,12 @@ ghost use Rattle.cif_weeks.specs.Steps.PieceSpans.{AreBySource, AreSpansBefore};
 ghost use Rattle.cif_weeks.specs.Steps.PieceSpans.{HasBodyOn, IsWinnerOn, named};
 ghost use Rattle.cif_weeks.specs.Steps.Spans.{IsAgreed, Shows};
 ghost use Rattle.cif_weeks.specs.Window.{IsWithin, window_from};
-ghost use Rattle.cif_weeks.specs.declared.run.Run.{Run};
+ghost use Rattle.cif_weeks.specs.declared.form.Run.{Run};
 ghost use Rattle.cif_weeks.specs.declared.span.Span.{Span};
 
 use crate::body_runs::add_body_runs;
 use crate::few::{have_one_body, source_of};
-use crate::form::{Form, Joining};
-use crate::run::{Run, sort_by_first};
+use crate::form::{Form, Joining, Run, sort_by_first};
 use crate::span::{Span, no_days};
 use cif_calendar::{Calendar, Entry, Piece};
 use cif_columns::{DaysRun, Stp};

@@ -10,8 +10,7 @@ ghost use Rattle.cif_weeks.specs.Steps.Spans.{IsDisputed, IsSourceAmong, Shows};
 ghost use Rattle.cif_weeks.specs.Window.{IsWithin, window_from};
 
 use crate::body_runs::add_body_runs;
-use crate::form::{Form, Joining};
-use crate::run::{Run, sort_by_first};
+use crate::form::{Form, Joining, Run, sort_by_first};
 use crate::span::Span;
 use arrayvec::ArrayVec;
 use cif_calendar::{Entry, Window, same_body};

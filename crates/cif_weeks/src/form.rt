@@ -1,11 +1,34 @@
-//! The two canonical forms, and whether two weeks that follow one another are joined in them.
+//! Canonical records by the position of their bodies, their two forms, and whether two weeks that follow
+//! one another are joined in these.
 
-ghost use Rattle.std.specs.Prelude.{◌≡◌, ◌<◌, ◌+◌, ◌↔◌, ℕ, IsTrue, MatchBool};
+ghost use Rattle.std.specs.Prelude.{◌≡◌, ◌<◌, ◌+◌, ◌↔◌, ℕ, IsPermutation, IsTrue, MatchBool};
+ghost use Rattle.std.specs.List.Sorted.{IsNonDecreasingBy};
 ghost use Rattle.cif_weeks.specs.Steps.WeekMasks.{Counts, MasksAgree, MasksDiffer};
 ghost use Rattle.cif_weeks.specs.Window.{window_from};
 
 use cif_calendar::Window;
-use cif_columns::{DAYS_IN_WEEK, DaysRun};
+use cif_columns::{DAYS_IN_WEEK, Day, DaysRun};
+
+/// The dates of one canonical record, and where its body stands.
+#[derive(Clone, Copy, Debug, PartialEq, Eq)]
+pub struct Run {
+    /// The first date.
+    pub first: Day,
+    /// The last date.
+    pub last: Day,
+    /// The weekdays on which the body runs between them.
+    pub days: DaysRun,
+    /// The position of an entry with the body, which is a winner of the first date.
+    pub source: usize,
+}
+
+/// Sorts the runs by their first dates.
+pub(crate) fn sort_by_first(runs: &mut Vec<Run>)
+    ensures permutation { IsPermutation runs.old.items runs.new.items }
+    ensures order { IsNonDecreasingBy (λ r. r.first) runs.new.items }
+{
+    runs.sort_unstable_by_key(|run| run.first);
+}
 
 /// How the dates on which a body runs are written as records.
 ///

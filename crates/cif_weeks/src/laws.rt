@@ -6,7 +6,7 @@ ghost use Rattle.cif_calendar.specs.Terms.{Terms};
 ghost use Rattle.cif_calendar.specs.Source.{IsWinnerAt};
 ghost use Rattle.cif_calendar.specs.Calendar.{CalendarParts, IsCalendar};
 ghost use Rattle.cif_weeks.specs.Runs.{AreSources, AreCanonicalRuns};
-ghost use Rattle.cif_weeks.specs.declared.run.Run.{Run};
+ghost use Rattle.cif_weeks.specs.declared.form.Run.{Run};
 ghost use Rattle.cif_weeks.specs.declared.form.Form.{Form};
 ghost use Rattle.cif_weeks.specs.Window.{Window, IsWithin};
 ghost use Rattle.cif_weeks.specs.Permanent.{Permanent};

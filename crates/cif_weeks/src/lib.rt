@@ -7,10 +7,8 @@ mod calendar_runs;
 mod few;
 mod form;
 pub mod laws;
-mod run;
 mod span;
 
 pub use calendar_runs::runs;
 pub use few::runs_of_few;
-pub use form::Form;
-pub use run::Run;
+pub use form::{Form, Run};

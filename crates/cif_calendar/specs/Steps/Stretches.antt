@@ -5,7 +5,7 @@ use Rattle.cif_calendar.specs.Terms.{Terms}
 use Rattle.cif_calendar.specs.Source.{IsChosen}
 use Rattle.cif_calendar.specs.Pieces.{ChangesOn, IsUnbroken}
 use Rattle.cif_calendar.specs.Steps.Standing.{AreBelow, Combines, Stands}
-use Rattle.cif_calendar.specs.declared.window.Window.{Window}
+use Rattle.cif_calendar.specs.declared.applies.Window.{Window}
 use Rattle.cif_calendar.specs.declared.standing.Standing.{Standing}
 use Rattle.cif_calendar.specs.declared.standing.Standing.TheVariants.{Disputed, Nobody}
 use Rattle.cif_calendar.specs.declared.stretch.Stretch.{Stretch}

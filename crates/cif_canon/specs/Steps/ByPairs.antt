@@ -4,7 +4,7 @@ use Rattle.std.specs.declared.cmp.Ordering.{Ordering}
 use Rattle.cif_calendar.specs.Terms.{Terms}
 use Rattle.cif_columns.specs.declared.sink.Sink.{Sink}
 use Rattle.cif_weeks.specs.Permanent.{Permanent}
-use Rattle.cif_weeks.specs.declared.run.Run.{Run}
+use Rattle.cif_weeks.specs.declared.form.Run.{Run}
 use Rattle.cif_canon.specs.Appended.{IsAppended}
 use Rattle.cif_canon.specs.Pairs.{Listed, by_pairs}
 use Rattle.cif_canon.specs.Steps.Sides.{sided_records}

@@ -19,7 +19,7 @@ use Rattle.cif_weeks.specs.Permanent.{Permanent}
 use Rattle.cif_weeks.specs.Runs.{IsRunOf as IsCalendarRun, window_of}
 use Rattle.cif_weeks.specs.Window.{Window}
 use Rattle.cif_weeks.specs.declared.form.Form.TheVariants.{Two}
-use Rattle.cif_weeks.specs.declared.run.Run.{Run}
+use Rattle.cif_weeks.specs.declared.form.Run.{Run}
 use Rattle.cif_canon.specs.Comparison.{IsFirstDifference}
 use Rattle.cif_canon.specs.Differences.{AreDifferentRecords, IsOnlyIn, TurnInto, at_side, of_side}
 use Rattle.cif_canon.specs.Steps.Records.{AreRunsOf, IsRunOf}

@@ -19,7 +19,7 @@ use Rattle.cif_weeks.specs.Runs.{record_of}
 use Rattle.cif_weeks.specs.WhatRuns.{HasBody}
 use Rattle.cif_weeks.specs.Window.{Window, IsWithin}
 use Rattle.cif_weeks.specs.declared.form.Form.{Form}
-use Rattle.cif_weeks.specs.declared.run.Run.{Run}
+use Rattle.cif_weeks.specs.declared.form.Run.{Run}
 
 -- The run has the dates and the mask of the record of e, and its source is the position of an entry with e's key and the record's
 -- body.

@@ -2,7 +2,7 @@
 use Rattle.std.specs.Prelude.{ℕ, List, [], ◌∷◌, Option, None, Some}
 use Rattle.cif_calendar.specs.Terms.{Terms}
 use Rattle.cif_weeks.specs.Permanent.{Permanent}
-use Rattle.cif_weeks.specs.declared.run.Run.{Run}
+use Rattle.cif_weeks.specs.declared.form.Run.{Run}
 use Rattle.cif_canon.specs.Differences.{at_side}
 use Rattle.cif_canon.specs.Steps.Texts.{HasRecord, record_at, run_text}
 use Rattle.cif_canon.specs.declared.listed_differences.Side.{Side}

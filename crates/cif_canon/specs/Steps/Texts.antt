@@ -19,7 +19,7 @@ use Rattle.cif_records.specs.declared.association.AssocKey.{AssocKey}
 use Rattle.cif_records.specs.declared.tiploc.Tiploc.{Tiploc}
 use Rattle.cif_weeks.specs.Permanent.{Permanent}
 use Rattle.cif_weeks.specs.Runs.{record_of}
-use Rattle.cif_weeks.specs.declared.run.Run.{Run}
+use Rattle.cif_weeks.specs.declared.form.Run.{Run}
 use Rattle.cif_calendar.specs.Entries.{association_entries, schedule_entries}
 use Rattle.cif_canon.specs.Lines.{ExtractLines, ScheduleLines, association_plain, line_of_tiploc, schedule_plain}
 

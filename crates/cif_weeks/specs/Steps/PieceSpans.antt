@@ -10,7 +10,7 @@ use Rattle.cif_calendar.specs.Source.{body_at}
 use Rattle.cif_calendar.specs.Terms.{Terms}
 use Rattle.cif_calendar.specs.declared.key_calendar.Piece.{Piece}
 use Rattle.cif_weeks.specs.Steps.Spans.{HasDay}
-use Rattle.cif_weeks.specs.declared.run.Run.{Run}
+use Rattle.cif_weeks.specs.declared.form.Run.{Run}
 use Rattle.cif_weeks.specs.declared.span.Span.{Span}
 
 -- the source of day n, and none outside the window

@@ -21,9 +21,8 @@ returns-clause-text c =
     let h3 = more-pushed _ _ _ _ ((Whole, arrival) ∷ []) h2 (as-field _ _ Whole arrival c.push_to.ensures.text) in
     let h4 = more-pushed _ _ _ _ ((Whole, departure) ∷ []) h3 (as-field _ _ Whole departure c.push_to-2.ensures.text) in
     let answers = c.answers_of-set_down.result in
-    let h5 = more-pushed _ _ _ _ ((Whole, answers.0 ∷ []) ∷ []) h4 (as-field _ _ Whole (answers.0 ∷ []) c.push-2.ensures.text) in
-    let h6 = more-pushed _ _ _ _ ((Whole, answers.1 ∷ []) ∷ []) h5 (as-field _ _ Whole (answers.1 ∷ []) c.push-3.ensures.text) in
-    h6.text
+    let h5 = more-pushed _ _ _ _ ((Whole, answers.0 ∷ []) ∷ (Whole, answers.1 ∷ []) ∷ []) h4 c.push-2.ensures.text in
+    h5.text
     ∙ ap (λ (fs : List Field). c.args.row.now ++ after Tsv fs)
     (own-fields _ c.args.call line c.args.shown.now _ _ c.kind_of_line.ensures
     (own-set-down line _ _ _ c.requires.riders c.requires.times c.answers_of-set_down.ensures.set_down)

@@ -1,7 +1,7 @@
 -- The line is that of the key and of the record.
 use Rattle.std.proofs.Common.{ap, ◌∙◌}
 use Rattle.cif_canon.proofs.Words.{association_plain}
-use Rattle.cif_canon.proofs.canon_record.CanonRecord+AssocKey+AssocBody.line.Goals as goal
+use Rattle.cif_canon.proofs.canonical_form.CanonRecord+AssocKey+AssocBody.line.Goals as goal
 
 pub returns : goal.returns
 returns c = c.permanent_line.ensures.plain ∙ ap association_plain c.self.view_is

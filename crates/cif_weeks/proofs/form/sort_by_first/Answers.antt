@@ -2,7 +2,7 @@
 use Rattle.std.proofs.Common.{rules}
 use Rattle.std.proofs.lemmas.List.Sorted.{IsNonDecreasingBy-from_sort_by_key}
 use Rattle.cif_weeks.proofs.Words.{Run}
-use Rattle.cif_weeks.proofs.run.sort_by_first.Goals as goal
+use Rattle.cif_weeks.proofs.form.sort_by_first.Goals as goal
 
 pub returns-clause-order : goal.returns-clause-order
 returns-clause-order c = IsNonDecreasingBy-from_sort_by_key (λ (r : Run). r.first) _ c.sort_unstable_by_key.ensures.sorted

@@ -2,7 +2,7 @@
 use Rattle.std.proofs.Common.{ap, ◌∙◌, List, ℕ}
 use Rattle.cif_extract.specs.Body.{detail_of}
 use Rattle.cif_canon.proofs.Words.{BodyLines, Permanent, schedule_plain}
-use Rattle.cif_canon.proofs.canon_record.CanonRecord+Uid+Body.basic.Goals as goal
+use Rattle.cif_canon.proofs.canonical_form.CanonRecord+Uid+Body.basic.Goals as goal
 
 pub returns : goal.returns
 returns c =

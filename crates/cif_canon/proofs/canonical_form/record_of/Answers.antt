@@ -3,7 +3,7 @@ use Rattle.std.proofs.Common.{◌∙◌, Some, ap, sym}
 use Rattle.cif_calendar.proofs.Winning.{terms_at}
 use Rattle.cif_canon.proofs.Words.{keyed, option_copied, record_of}
 use Rattle.cif_canon.proofs.RunTexts.{has-body, record-of_entry}
-use Rattle.cif_canon.proofs.canon_record.record_of.Goals as goal
+use Rattle.cif_canon.proofs.canonical_form.record_of.Goals as goal
 
 pub unreachable-requires : goal.unreachable-requires
 unreachable-requires g c =

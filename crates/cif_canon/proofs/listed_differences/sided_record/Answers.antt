@@ -1,7 +1,7 @@
 -- The run's record is that of its side.
 use Rattle.cif_canon.proofs.Words.{keyed}
 use Rattle.cif_canon.proofs.MergedSides.{at_side-made}
-use Rattle.cif_canon.proofs.canon_record.sided_record.Goals as goal
+use Rattle.cif_canon.proofs.listed_differences.sided_record.Goals as goal
 
 pub record_of-requires-clause-within : goal.record_of-requires-clause-within
 record_of-requires-clause-within g c = rw c.of.ensures c.requires.within

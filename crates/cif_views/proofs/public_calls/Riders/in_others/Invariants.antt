@@ -3,7 +3,7 @@ use Rattle.std.proofs.Common.{◌≡◌, length}
 use Rattle.cif_columns.specs.Activities.{codes_in}
 use Rattle.cif_views.specs.PublicCalls.{said_by}
 use Rattle.cif_views.specs.Steps.PublicRows.{joined}
-use Rattle.cif_views.proofs.public_calls.Riders.in_columns.Given as goal
+use Rattle.cif_views.proofs.public_calls.Riders.in_others.Given as goal
 
 abbrev pub invariant-loop-rest : goal.invariant-loop-rest
 invariant-loop-rest l = joined l.riders (said_by (codes_in l.rest)) ≡ said_by (codes_in l.fn.columns)

@@ -4,7 +4,7 @@ use Rattle.std.proofs.Common.{◌<◌, arith}
 use Rattle.std.proofs.lemmas.Bool.Decides.{nat_tests}
 use Rattle.cif_columns.proofs.ContentAnswers.{ends_next, fails_next, gives_next, none_begun, none_with_room}
 use Rattle.cif_columns.proofs.ContentAnswers.{refuses_next}
-use Rattle.cif_columns.proofs.content_reader.ContentReader.next.Goals as goal
+use Rattle.cif_columns.proofs.ahead.ContentReader.next.Goals as goal
 
 pub returns-in-End : goal.returns-in-End
 returns-in-End g c = ends_next _ _ c.args.self.now _ _ _ refl refl (rw c.in-End.is at c.in-Ok.ensures) c.if-self.true refl

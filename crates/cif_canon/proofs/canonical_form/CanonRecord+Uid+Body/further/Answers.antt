@@ -1,7 +1,7 @@
 -- These are the lines of the record that the view is.
 use Rattle.std.proofs.Common.{ap, ◌∙◌, List, ℕ}
 use Rattle.cif_canon.proofs.Words.{BodyLines, Permanent, schedule_plain}
-use Rattle.cif_canon.proofs.canon_record.CanonRecord+Uid+Body.further.Goals as goal
+use Rattle.cif_canon.proofs.canonical_form.CanonRecord+Uid+Body.further.Goals as goal
 
 pub returns : goal.returns
 returns c = c.further_lines.ensures ∙ ap (λ (e : List ℕ × Permanent BodyLines). (schedule_plain e).further) c.self.view_is
