@@ -78,7 +78,8 @@ said-two a b rest = two-said a b (eqb a 32) (eqb b 32) rest refl refl
 
 -- What columns say is what the first four do, two and two, and what the others do.
 pub said-columns : (columns others : List ℕ) (one two riders : Riders) → 4 ≤ length columns →
-    one ≡ said_by ((get_or columns 0 0 ∷ get_or columns 1 0 ∷ []) ∷ []) → two ≡ said_by ((get_or columns 2 0 ∷ get_or columns 3 0 ∷ []) ∷ []) →
+    one ≡ said_by ((get_or columns 0 0 ∷ get_or columns 1 0 ∷ []) ∷ []) →
+    two ≡ said_by ((get_or columns 2 0 ∷ get_or columns 3 0 ∷ []) ∷ []) →
     riders ≡ joined one two → others ≡ drop 4 columns → joined riders (said_by (codes_in others)) ≡ said_by (codes_in columns)
 said-columns [] others one two riders four one_is two_is both left = absurd (omega (arith, four))
 said-columns (a ∷ []) others one two riders four one_is two_is both left = absurd (omega (arith, four))

@@ -164,9 +164,6 @@ fn advertised(line: &Line, first: usize) -> Option<TimeOfDay>
     Some(TimeOfDay::new(time.seconds()?))
 }
 
-/// The columns of activities behind the second, where there are no more.
-const NO_MORE: &[u8] = b"        ";
-
 /// What the activities of a call say of riders.
 #[derive(Clone, Copy)]
 struct Riders {
@@ -225,10 +222,10 @@ impl Riders {
         let riders = Riders::of_one([columns[0], columns[1]]).join(Riders::of_one([
             columns[2], columns[3],
         ]));
-        let (_, others) = columns.split_at(4);
-        if others == NO_MORE {
+        if columns.ends_with(b"        ") {
             riders
         } else {
+            let (_, others) = columns.split_at(4);
             riders.join(Riders::in_others(others))
         }
     }
