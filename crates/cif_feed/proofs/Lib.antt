@@ -1,5 +1,4 @@
 pub mod ListSteps
-pub mod ChangeLaws
 pub mod PreparedLists
 pub mod FoundKeys
 pub mod GrownHolidays
@@ -16,7 +15,7 @@ pub mod ToldReasons
 pub mod JudgedRuns
 pub mod WrittenItems
 pub mod CutCounts
-pub mod LastWords
+pub mod ChangeLaws
 pub mod OwnParts
 pub mod PublishedLines
 pub mod PublishedTexts

@@ -34,28 +34,13 @@ pub prepared-schedules : (xs : List (PreparedRecord Schedule ℕ))
     → records_on {K = List ℕ} {B = BodyLines} (λ (s : Schedule). s.uid) schedule_terms xs ≡ schedule_entries (map schedule_on xs)
 prepared-schedules xs = sym (map-map schedule_entry schedule_on xs)
 
-pub added-associations : (Stops : ℕ → Type 0) (a : Association) (last : ℕ) (old new : List (PreparedRecord Association ℕ))
-    → AreAdded Stops a.key (ended last (association_terms a))
-    (records_on {K = AssocKey} {B = AssocBody} (λ (x : Association). x.key) association_terms old)
-    (records_on {K = AssocKey} {B = AssocBody} (λ (x : Association). x.key) association_terms new)
-    → AreAdded Stops a.key (ended last (association_terms a)) (association_entries (map association_on old))
-    (association_entries (map association_on new))
-added-associations Stops a last old new added =
-    subst (λ (l : List (AssocKey × Terms AssocBody)). AreAdded Stops a.key (ended last (association_terms a))
-    (association_entries (map association_on old)) l) (prepared-associations new)
-    (subst (λ (l : List (AssocKey × Terms AssocBody)). AreAdded Stops a.key (ended last (association_terms a)) l
-    (records_on {K = AssocKey} {B = AssocBody} (λ (x : Association). x.key) association_terms new)) (prepared-associations old) added)
-
-pub added-schedules : (Stops : ℕ → Type 0) (s : Schedule) (last : ℕ) (old new : List (PreparedRecord Schedule ℕ))
-    → AreAdded Stops s.uid (ended last (schedule_terms s))
-    (records_on {K = List ℕ} {B = BodyLines} (λ (x : Schedule). x.uid) schedule_terms old)
-    (records_on {K = List ℕ} {B = BodyLines} (λ (x : Schedule). x.uid) schedule_terms new)
-    → AreAdded Stops s.uid (ended last (schedule_terms s)) (schedule_entries (map schedule_on old)) (schedule_entries (map schedule_on new))
-added-schedules Stops s last old new added =
-    subst (λ (l : List (List ℕ × Terms BodyLines)). AreAdded Stops s.uid (ended last (schedule_terms s))
-    (schedule_entries (map schedule_on old)) l) (prepared-schedules new)
-    (subst (λ (l : List (List ℕ × Terms BodyLines)). AreAdded Stops s.uid (ended last (schedule_terms s)) l
-    (records_on {K = List ℕ} {B = BodyLines} (λ (x : Schedule). x.uid) schedule_terms new)) (prepared-schedules old) added)
+-- those that are added to them
+pub added-as : {E K B : Type 0} (key : E → K) (terms : E → Terms B) (entries : List (PreparedRecord E ℕ) → List (K × Terms B))
+    → ((l : List (PreparedRecord E ℕ)) → records_on key terms l ≡ entries l) → (Stops : ℕ → Type 0) (k : K) (r : Terms B)
+    (old new : List (PreparedRecord E ℕ)) → AreAdded Stops k r (records_on key terms old) (records_on key terms new)
+    → AreAdded Stops k r (entries old) (entries new)
+added-as key terms entries same Stops k r old new added =
+    subst (AreAdded Stops k r (entries old)) (same new) (subst (λ l. AreAdded Stops k r l (records_on key terms new)) (same old) added)
 
 -- days that stop where others do leave the same
 pub prepared-same : {K B : Type 0} (S T : K → Option HolidayCode → ℕ → Type 0)

@@ -18,7 +18,7 @@ use Rattle.cif_feed.specs.declared.feed.FeedFault.{FeedFault}
 use Rattle.cif_feed.specs.declared.feed.FeedFault.TheVariants.{AlreadyThere, NotThere, OutOfSequence}
 use Rattle.cif_feed.specs.declared.update.Outcome.{Outcome}
 use Rattle.cif_feed.specs.declared.update.Update.{Update}
-use Rattle.cif_feed.proofs.ChangeLaws.{refusals-alike, same_alike, after_all-alike}
+use Rattle.cif_feed.proofs.ChangeLaws.{after_all-alike, refusals-alike, same_alike}
 use Rattle.cif_feed.proofs.SpelledFeeds.{one_update, update_blames_none, one_published, spelled_first}
 use Rattle.std.proofs.lemmas.List.{append_cancel_left}
 use Rattle.cif_extract.specs.Texts.{FitsColumns}

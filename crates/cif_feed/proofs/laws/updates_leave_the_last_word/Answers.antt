@@ -1,5 +1,5 @@
 -- Each kind of records is changed by itself.
-use Rattle.cif_feed.proofs.LastWords.{have_last_word}
+use Rattle.cif_feed.proofs.ChangeLaws.{have_last_word}
 use Rattle.cif_feed.proofs.laws.updates_leave_the_last_word.Goals as goal
 
 pub returns-clause-locations : goal.returns-clause-locations

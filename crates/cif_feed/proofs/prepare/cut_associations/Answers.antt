@@ -1,19 +1,22 @@
 -- One association more is cut at the clash dates of its key (`added-more`).
 use Rattle.std.proofs.Common.{◌⊎◌, ℕ, List, [], None, Contains, map, refl, subst, take_all}
-use Rattle.cif_calendar.specs.Entries.{association_entries}
+use Rattle.cif_calendar.specs.Entries.{association_entries, association_terms}
+use Rattle.cif_records.specs.declared.association.Association.{Association}
+use Rattle.cif_feed.specs.Parts.{ended}
 use Rattle.cif_feed.specs.Prepared.{ArePrepared}
 use Rattle.cif_feed.specs.PreparedParts.{association_on}
 use Rattle.cif_feed.specs.PublishedParts.{published_association_terms, published_associations}
 use Rattle.cif_feed.specs.Steps.Dropping.{IsStopAmong}
 use Rattle.cif_feed.specs.declared.published_extract.PublishedAssociation.{PublishedAssociation}
-use Rattle.cif_feed.proofs.PreparedLists.{added-associations, added-more}
+use Rattle.cif_feed.proofs.PreparedLists.{added-as, added-more, prepared-associations}
 use Rattle.cif_feed.proofs.prepare.cut_associations.Goals as goal
 
 pub loop-one-preserved : goal.loop-one-preserved
 loop-one-preserved c = λ h days reads.
     let a = c.one-item.result.association in
     let last = c.prepared_last-last.result in
-    let added = added-associations (λ (d : ℕ). Contains [] d ⊎ Contains c.dates_of-dates.result.now d) a last
+    let added = added-as (λ (x : Association). x.key) association_terms (λ l. association_entries (map association_on l))
+    prepared-associations (λ (d : ℕ). Contains [] d ⊎ Contains c.dates_of-dates.result.now d) a.key (ended last (association_terms a))
     c.loop-one.prepared.items c.add_parts.new.prepared.items c.in_ok-add_parts.ensures in
     added-more (λ (x : PublishedAssociation). (x.association.key, published_association_terms x)) h days c.args.window_last
     c.args.associations.now c.loop-one.one-index c.one-item.result (association_entries (map association_on c.loop-one.prepared.items))

@@ -1,12 +1,14 @@
 -- One schedule more is cut at the holidays of its code and at the clash dates of its train (`added-more`).
 use Rattle.std.proofs.Common.{◌⊎◌, ℕ, List, Contains, map, subst, take_all}
-use Rattle.cif_calendar.specs.Entries.{schedule_entries}
+use Rattle.cif_calendar.specs.Entries.{schedule_entries, schedule_terms}
+use Rattle.cif_extract.specs.declared.extract.Schedule.{Schedule}
+use Rattle.cif_feed.specs.Parts.{ended}
 use Rattle.cif_feed.specs.Prepared.{ArePrepared}
 use Rattle.cif_feed.specs.PreparedParts.{schedule_on}
 use Rattle.cif_feed.specs.PublishedParts.{published_schedule_terms, published_schedules}
 use Rattle.cif_feed.specs.Steps.Dropping.{IsStopAmong}
 use Rattle.cif_feed.specs.declared.published_extract.PublishedSchedule.{PublishedSchedule}
-use Rattle.cif_feed.proofs.PreparedLists.{added-more, added-schedules}
+use Rattle.cif_feed.proofs.PreparedLists.{added-as, added-more, prepared-schedules}
 use Rattle.cif_feed.proofs.prepare.cut_schedules.Goals as goal
 
 pub loop-one-preserved : goal.loop-one-preserved
@@ -15,7 +17,8 @@ loop-one-preserved c = λ days reads.
     let last = c.prepared_last-last.result in
     let holidays = c.of.result.now in
     let dates = c.dates_of-dates.result.now in
-    let added = added-schedules (λ (d : ℕ). Contains holidays d ⊎ Contains dates d) s last c.loop-one.prepared.items
+    let added = added-as (λ (x : Schedule). x.uid) schedule_terms (λ l. schedule_entries (map schedule_on l)) prepared-schedules
+    (λ (d : ℕ). Contains holidays d ⊎ Contains dates d) s.uid (ended last (schedule_terms s)) c.loop-one.prepared.items
     c.add_parts.new.prepared.items c.in_ok-add_parts.ensures in
     added-more (λ (x : PublishedSchedule). (x.schedule.uid, published_schedule_terms x)) c.args.holidays.now days c.args.window_last
     c.args.schedules.now c.loop-one.one-index c.one-item.result (schedule_entries (map schedule_on c.loop-one.prepared.items))
