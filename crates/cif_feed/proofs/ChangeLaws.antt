@@ -14,7 +14,7 @@ use Rattle.cif_feed.specs.declared.changes.Action.{Action}
 use Rattle.cif_feed.specs.declared.changes.Action.TheVariants.{New, Revised, Deleted}
 use Rattle.cif_feed.specs.declared.changes.Change.{Change}
 use Rattle.cif_feed.proofs.ListSteps.{filter-map}
-use Rattle.cif_feed.proofs.OwnParts.{same_all}
+use Rattle.cif_extract.proofs.OneExtract.{same_values}
 
 module _ {A : Type 0} where
   -- a filter after a filter
@@ -181,7 +181,7 @@ module _ {K R : Type 0} (key : R → K) (same : K → K → Bool) (tells : Tells
   of_key-filter rs = filter-map (λ (r : K × R). same r.0 k) (λ (r : R). (key r, r)) rs
 
   same_records : (xs ys : List R) → with_keys key xs ≡ with_keys key ys → xs ≡ ys
-  same_records = same_all (λ (r : R). (key r, r)) (λ x y e. ap (λ (v : K × R). v.1) e)
+  same_records = same_values (λ (r : R). (key r, r)) (λ x y e. ap (λ (v : K × R). v.1) e)
 
   -- changes of other keys
   others : (cs : List (Change K R)) (b : List (K × R)) → All (λ d. key_of key d.action ≢ k) cs → last_word same b (changes_of key cs) k ≡ b
