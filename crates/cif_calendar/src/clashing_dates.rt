@@ -7,8 +7,7 @@ ghost use Rattle.cif_calendar.specs.declared.standing.Standing.TheVariants.{Disp
 
 use crate::applies::Window;
 use crate::entry::Entry;
-use crate::members::Members;
-use crate::standing::{Standing, Standings};
+use crate::standing::{Members, Standing, Standings};
 use crate::stretch::{Stretch, stretches_of};
 use cif_columns::Day;
 use std::alloc::{AllocError, Global};

@@ -7,8 +7,7 @@ ghost use Rattle.cif_calendar.specs.Steps.Stretches.{AreStretchesOf, IsStretch};
 
 use crate::applies::Window;
 use crate::entry::Entry;
-use crate::members::Members;
-use crate::standing::Standing;
+use crate::standing::{Members, Standing};
 use crate::stretch::{Stretch, stretches_of};
 use cif_columns::{Day, Stp};
 use std::alloc::{AllocError, Global};

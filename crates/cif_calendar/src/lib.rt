@@ -9,7 +9,6 @@ mod entry;
 mod key_calendar;
 mod key_clashes;
 pub mod laws;
-mod members;
 mod named_clashes;
 mod pieces;
 mod standing;

@@ -1,25 +1,45 @@
-//! Who leads on each weekday, where some members are looked at together.
+//! Some entries, and who leads on each weekday where they are looked at together.
 //!
 //! Members that are known to have one body aren't compared again. A list, `alike`, has for a member
 //! the number of an earlier one with its body, where that is known: links from number to number,
 //! which fall.
 
-ghost use Rattle.std.specs.Prelude.{◌≡◌, ◌<◌, ◌↔◌, ◌⊎◌, ℕ, Some, None, length, map};
+ghost use Rattle.std.specs.Prelude.{◌≡◌, ◌<◌, ◌↔◌, ◌⊎◌, ℕ, All, Some, None, length, map};
 ghost use Rattle.std.specs.Prelude.{IsTrue, MatchResult, slice_index_or};
 ghost use Rattle.cif_columns.specs.Stp.{letter};
 ghost use Rattle.cif_calendar.specs.Clash.{IsClash, IsClear};
 ghost use Rattle.cif_calendar.specs.Source.{IsChosen, IsSource};
 ghost use Rattle.cif_calendar.specs.Steps.Standing.{AreAlike, AreBelow, Combines};
 ghost use Rattle.cif_calendar.specs.Steps.Standing.{HaveOneBody, IsBelow, IsRank, LooksAt};
-ghost use Rattle.cif_calendar.specs.Steps.Standing.{Stands};
+ghost use Rattle.cif_calendar.specs.Steps.Standing.{Stands, StandsAt};
 ghost use Rattle.cif_calendar.specs.declared.key_calendar.CalendarFault.TheVariants.{Ambiguous};
 ghost use Rattle.cif_calendar.specs.declared.standing.Standing.TheVariants.{Nobody};
 
 use crate::applies::precedence;
 use crate::entry::{Entry, same_body};
 use crate::key_calendar::CalendarFault;
-use crate::members::Members;
 use cif_columns::{Day, DaysRun};
+
+/// Some of a list's entries, which are read together. A member's number is its place among them, from 0 on.
+#[derive(Drop)]
+pub(crate) struct Members<'a, E> {
+    /// The entries.
+    pub(crate) entries: &'a [E],
+    /// The positions of the members among them.
+    pub(crate) positions: &'a [usize],
+    ghost within: { All (λ i. i < length entries.now) positions.now },
+}
+
+impl<'a, E: Entry> Members<'a, E> {
+    /// The member with this number.
+    pub(crate) fn entry(&self, number: usize) -> &'a E
+        requires { number < length self.now.positions.now }
+        ensures { StandsAt (map E.terms self.now.entries.now) self.now.positions.now number
+            (E.terms result.now) }
+    {
+        &self.entries[self.positions[number]]
+    }
+}
 
 /// Who leads among the members that were looked at.
 #[derive(Clone, Copy)]

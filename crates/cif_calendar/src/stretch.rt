@@ -6,8 +6,7 @@ ghost use Rattle.cif_calendar.specs.Steps.Stretches.{AreBehind, AreStretchesOf, 
 
 use crate::applies::{Dates, Window};
 use crate::entry::Entry;
-use crate::members::Members;
-use crate::standing::{Standing, Standings, look_at};
+use crate::standing::{Members, Standing, Standings, look_at};
 use cif_columns::{Day, DaysRun};
 use std::alloc::{AllocError, Global};
 

@@ -1,8 +1,7 @@
 //! How views lay out what runs: its fields, as text or as the row of a table.
-ghost use Rattle.std.specs.Prelude.{◌≡◌, ◌<◌, ◌≤◌, ◌+◌, ◌++◌, ◌∷◌, [], cond, length, map, replicate, slice_index};
+ghost use Rattle.std.specs.Prelude.{◌≡◌, ◌≤◌, ◌+◌, ◌++◌, ◌∷◌, [], length, map, replicate};
 ghost use Rattle.arrayvec.specs.ArrayString.{array_string_len};
 ghost use Rattle.cif_columns.specs.Line.{ArePrintable};
-ghost use Rattle.cif_columns.specs.Lines.{is_space, used};
 ghost use Rattle.cif_weeks.specs.Runs.{record_of};
 ghost use Rattle.cif_canon.specs.Fields.{AreFields, CanBeShown, after, century, fields_text, in_table};
 ghost use Rattle.cif_canon.specs.Fields.{left_out, long_date, row_start, separator, shown, width, width_of};
@@ -11,7 +10,7 @@ ghost use Rattle.cif_canon.specs.Rows.{location_fields, place_fields, schedule_r
 ghost use Rattle.cif_canon.specs.Rows.{train_row};
 
 use arrayvec::ArrayString;
-use cif_columns::{Text, Uid, WorkTime, as_text};
+use cif_columns::{Text, Uid, WorkTime, as_text, used_columns};
 use cif_extract::Body;
 use cif_records::{AssocBody, AssocKey};
 use cif_weeks::Run;
@@ -315,41 +314,6 @@ fn push_in_table<const N: usize>(line: &mut ArrayString<N>, shape: Shape, column
         Shape::Whole => line.push_str(as_text(columns)),
         Shape::Date => line.push_str(as_text(&long_date(columns))),
     }
-}
-
-/// How many columns there are up to the last that is no space.
-// Most wide fields end in spaces, and one comparison of eight columns takes less time than eight.
-#[inline(always)]
-pub fn used_columns(columns: &[u8]) -> usize
-    ensures value { result ≡ used columns.now }
-    ensures bound { result ≤ length columns.now }
-{
-    match columns.strip_suffix(b"        ") {
-        Some(columns) => count_used(columns),
-        None => count_used(columns),
-    }
-}
-
-/// The same, column by column.
-#[inline(always)]
-fn count_used(columns: &[u8]) -> usize
-    ensures value { result ≡ used columns.now }
-    ensures bound { result ≤ length columns.now }
-{
-    let mut count = 0;
-    for i in 0..columns.len() {
-        count = used_up_to(columns, i, count);
-    }
-    count
-}
-
-/// How many columns there are up to this one, or `count` if it is a space.
-#[inline(always)]
-fn used_up_to(columns: &[u8], i: usize, count: usize) -> usize
-    requires { i < length columns.now }
-    ensures { result ≡ cond (is_space (slice_index columns.now i)) count (i + 1) }
-{
-    if columns[i] == b' ' { count } else { i + 1 }
 }
 
 /// The date YYYY-MM-DD of six digits YYMMDD.

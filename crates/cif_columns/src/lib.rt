@@ -28,7 +28,7 @@ pub use days_run::DaysRun;
 pub use field::{Field, activities_at, columns_at, field_at, text_at, uid_at};
 pub use line::{LINE_WIDTH, Line, LineBuilder, are_printable, as_text, is_printable};
 pub use line_reader::{Content, LineReader, MAX_LINES};
-pub use lines::{LineSlice, LineTexts, Lines};
+pub use lines::{LineSlice, LineTexts, Lines, used_columns};
 pub use plain_test::PlainTest;
 pub use refusal::{LineFault, Refusal};
 pub use sink::{Sink, WriteDevice, WriteFault};

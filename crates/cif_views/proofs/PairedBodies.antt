@@ -34,8 +34,8 @@ use Rattle.cif_views.specs.Steps.DifferenceRows.{call_counts, count_of_calls}
 use Rattle.cif_views.specs.Tables.{category_fields, detail_fields, extra_fields, extra_identity, extra_in, is_call, is_extra}
 use Rattle.cif_views.specs.Tables.{journey_kind, kind_of_line, row_fields, type_fields}
 use Rattle.cif_views.specs.Steps.Columns.{association_columns, basic_columns, extra_columns}
-use Rattle.cif_views.specs.declared.tables.JourneyKind.{JourneyKind}
-use Rattle.cif_views.specs.declared.tables.JourneyKind.TheVariants as kinds_of
+use Rattle.cif_views.specs.declared.columns.JourneyKind.{JourneyKind}
+use Rattle.cif_views.specs.declared.columns.JourneyKind.TheVariants as kinds_of
 use Rattle.cif_views.proofs.Words.{AllFit, AllStandIn, AssocBody, AssocKey, At, BodyLines, Call, Column, Detail, IsLine, Left, P, Permanent}
 use Rattle.cif_views.proofs.Words.{Row, StandsIn, Tsv, Turn, after, association_plain, columns, fields_in, journeys_behind, own_columns}
 use Rattle.cif_views.proofs.Words.{place_behind, places_behind, same_places, schedule_plain, shown, spare, text, trimmed}

@@ -63,6 +63,6 @@ pub use Rattle.cif_views.specs.Tables.{is_change, journey_kind, kind_of_line, na
 pub use Rattle.cif_views.specs.Tables.{row_fields, row_line, schedule_fields, text_at, tiploc_fields, yymmdd_from}
 pub use Rattle.cif_views.specs.WeekCalendar.{calendar_text, week_line}
 pub use Rattle.cif_views.specs.declared.marks.Mark.{Mark}
-pub use Rattle.cif_views.specs.declared.tables.JourneyKind.{JourneyKind}
-pub use Rattle.cif_views.specs.declared.tables.JourneyKind.TheVariants.{Change, Origin, Other, Stop, Terminus}
+pub use Rattle.cif_views.specs.declared.columns.JourneyKind.{JourneyKind}
+pub use Rattle.cif_views.specs.declared.columns.JourneyKind.TheVariants.{Change, Origin, Other, Stop, Terminus}
 pub use Rattle.cif_views.specs.TableText.{table_rows}

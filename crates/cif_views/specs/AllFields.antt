@@ -21,7 +21,7 @@ use Rattle.cif_views.specs.Tables.{TableFields, association_fields, basic_fields
 use Rattle.cif_views.specs.Tables.{header_fields, kind_of_line, location_and_suffix, names, own_call_fields, own_change_fields, row_fields}
 use Rattle.cif_views.specs.Tables.{schedule_fields, tiploc_fields}
 use Rattle.cif_views.specs.declared.listing.Listing.{Listing}
-use Rattle.cif_views.specs.declared.tables.JourneyKind.TheVariants as kind
+use Rattle.cif_views.specs.declared.columns.JourneyKind.TheVariants as kind
 
 -- as many fields as names
 abbrev pub HasAll : List (List ℕ) → List Field → Type 0

@@ -18,8 +18,8 @@ use Rattle.cif_views.specs.declared.public_calls.Journey.{Journey}
 use Rattle.cif_views.specs.declared.public_calls.Riders.{Riders}
 use Rattle.cif_views.specs.declared.public_calls.Shown.{Shown}
 use Rattle.cif_views.specs.declared.public_calls.Stay.{Stay}
-use Rattle.cif_views.specs.declared.tables.JourneyKind.{JourneyKind}
-use Rattle.cif_views.specs.declared.tables.JourneyKind.TheVariants.{Origin, Stop, Terminus}
+use Rattle.cif_views.specs.declared.columns.JourneyKind.{JourneyKind}
+use Rattle.cif_views.specs.declared.columns.JourneyKind.TheVariants.{Origin, Stop, Terminus}
 
 -- ---- what is read of a call's line
 

@@ -10,8 +10,8 @@ use Rattle.cif_canon.specs.Fields.{Field, line_of, nothing}
 use Rattle.cif_canon.specs.Lines.{ScheduleLines}
 use Rattle.cif_canon.specs.declared.rows.Format.TheVariants.{Tsv}
 use Rattle.cif_canon.specs.declared.rows.Shape.TheVariants.{Date, Trimmed, Whole}
-use Rattle.cif_views.specs.declared.tables.JourneyKind.{JourneyKind}
-use Rattle.cif_views.specs.declared.tables.JourneyKind.TheVariants.{Change, Origin, Other, Stop, Terminus}
+use Rattle.cif_views.specs.declared.columns.JourneyKind.{JourneyKind}
+use Rattle.cif_views.specs.declared.columns.JourneyKind.TheVariants.{Change, Origin, Other, Stop, Terminus}
 
 -- the columns of a table: each has a name, and what stands there in a row
 abbrev pub TableFields : Type 0 → Type 0

@@ -1,8 +1,25 @@
-//! The columns of the tables: the name of each field, and where it stands in a line.
-ghost use Rattle.std.specs.Prelude.{◌≡◌};
+//! The columns of the tables: the name of each field, and where it stands in a line of each kind.
+ghost use Rattle.std.specs.Prelude.{◌≡◌, ◌+◌, ◌≤◌, ◌^◌, cond};
 ghost use Rattle.cif_views.specs.Steps.Columns.{span_in};
+ghost use Rattle.cif_views.specs.Tables.{extra_in, is_call, kind_of_line};
 
-use crate::tables::JourneyKind;
+use cif_columns::{Line, LineSlice};
+use cif_records::{Kind, kind_of};
+
+/// The lines of a journey, by kind.
+#[derive(Clone, Copy)]
+pub(crate) enum JourneyKind {
+    /// LO.
+    Origin,
+    /// LI.
+    Stop,
+    /// LT.
+    Terminus,
+    /// CR.
+    Change,
+    /// None of them.
+    Other,
+}
 
 /// Columns of a line, from one to another, which are counted from 1.
 pub(crate) type Span = (usize, usize);
@@ -237,5 +254,43 @@ pub(crate) fn span_in(kind: JourneyKind, place: &Place) -> Span
             JourneyKind::Terminus => *terminus,
             JourneyKind::Change | JourneyKind::Other => NOWHERE,
         },
+    }
+}
+
+/// The kind of a line of a journey.
+pub(crate) fn kind_of_line(line: &Line) -> JourneyKind
+    ensures { result ≡ kind_of_line line.now }
+{
+    match kind_of(line) {
+        Some(Kind::Lo) => JourneyKind::Origin,
+        Some(Kind::Li) => JourneyKind::Stop,
+        Some(Kind::Lt) => JourneyKind::Terminus,
+        Some(Kind::Cr) => JourneyKind::Change,
+        _ => JourneyKind::Other,
+    }
+}
+
+/// The number of the next call after a line of this kind, where before it that number is `call`.
+pub(crate) fn call_after(call: usize, kind: JourneyKind) -> usize
+    requires { call ≤ 2 ^ 63 }
+    ensures { result ≡ cond (is_call kind) (call + 1) call }
+{
+    match kind {
+        JourneyKind::Origin | JourneyKind::Stop | JourneyKind::Terminus => call + 1,
+        JourneyKind::Change | JourneyKind::Other => call,
+    }
+}
+
+/// The BX that stands first among the lines, or a line of spaces.
+pub(crate) fn extra_among(lines: &LineSlice<'_>) -> Line
+    ensures { result ≡ extra_in lines.now }
+{
+    if lines.is_empty() {
+        return Line::blank();
+    }
+    let first = lines.first();
+    match kind_of(&first) {
+        Some(Kind::Bx) => first,
+        _ => Line::blank(),
     }
 }

@@ -15,18 +15,16 @@ ghost use Rattle.cif_canon.specs.declared.listed_differences.Side.TheVariants.{L
 ghost use Rattle.cif_views.specs.Steps.Columns.{are_within, column, fields_in, is_span, named, room_for, row_behind};
 ghost use Rattle.cif_views.specs.Steps.DifferenceRows.{are_texts, count_of_calls, field_row, is_text, journeys_behind};
 ghost use Rattle.cif_views.specs.Steps.DifferenceRows.{own_columns, place_behind, places_behind, same_places};
-ghost use Rattle.cif_views.specs.declared.tables.JourneyKind.TheVariants.{Other};
+ghost use Rattle.cif_views.specs.declared.columns.JourneyKind.TheVariants.{Other};
 
 use crate::columns::{
-    ASSOCIATION, ASSOCIATION_HEAD, BASIC, BASIC_HEAD, CALL, CHANGE, Column, EXTRA, Span,
-    TIPLOC_HEAD, span_in,
+    ASSOCIATION, ASSOCIATION_HEAD, BASIC, BASIC_HEAD, CALL, CHANGE, Column, EXTRA, JourneyKind,
+    Span, TIPLOC_HEAD, call_after, extra_among, kind_of_line, span_in,
 };
 use crate::table_row::{TableRow, columns_of};
-use crate::tables::{JourneyKind, call_after, extra_among, kind_of_line};
-use cif_canon::rows::used_columns;
 use cif_canon::writing::{Texts, answer, append};
 use cif_canon::{CanonSchedule, Differences, ListedRecord, Shape, Side, Sided};
-use cif_columns::{Line, LineSlice, Sink, Uid, WriteDevice, columns_at};
+use cif_columns::{Line, LineSlice, Sink, Uid, WriteDevice, columns_at, used_columns};
 use cif_extract::{Body, Fault};
 use cif_records::{AssocBody, AssocKey, Kind, Tiploc, kind_of};
 

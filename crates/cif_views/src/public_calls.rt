@@ -14,9 +14,9 @@ ghost use Rattle.cif_views.specs.Steps.PublicRows.{IsJourneyBy, IsStayBy, IsToSh
 ghost use Rattle.cif_views.specs.Steps.PublicRows.{shown_in};
 ghost use Rattle.cif_views.specs.Tables.{kind_of_line, numbered_from, row_line};
 
+use crate::columns::{JourneyKind, call_after, kind_of_line};
 use crate::moment::{Moment, TimeOfDay};
 use crate::table_row::TableRow;
-use crate::tables::{JourneyKind, call_after, kind_of_line};
 use cif_canon::Shape;
 use cif_columns::{Line, LineSlice, PublicTime, Sink, WorkTime, WriteDevice, columns_at};
 

@@ -9,11 +9,10 @@ ghost use Rattle.cif_views.specs.Steps.Columns.{name_fields, named, room_for, ro
 ghost use Rattle.cif_views.specs.DifferenceTable.{text};
 ghost use Rattle.cif_views.specs.Tables.{number, yymmdd_from};
 
-use crate::columns::{Column, Place, Span, span_in};
-use crate::tables::JourneyKind;
+use crate::columns::{Column, JourneyKind, Place, Span, span_in};
 use cif_canon::Shape;
-use cif_canon::rows::{long_date, used_columns};
-use cif_columns::{Line, Sink, WriteDevice};
+use cif_canon::rows::long_date;
+use cif_columns::{Line, Sink, WriteDevice, used_columns};
 use itoa::Buffer;
 use std::marker::Model;
 

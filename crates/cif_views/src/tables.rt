@@ -13,10 +13,11 @@ ghost use Rattle.cif_views.specs.Steps.TableRows.{call_kind, has_row, journey_co
 ghost use Rattle.cif_views.specs.Tables.{extra_in, is_call, kind_of_line, number, numbered_schedule, row_line, schedule_fields};
 ghost use Rattle.cif_views.specs.TableText.{table_heading, table_text};
 ghost use Rattle.cif_views.specs.Tables.{tiploc_fields};
-ghost use Rattle.cif_views.specs.declared.tables.JourneyKind.TheVariants.{Other};
+ghost use Rattle.cif_views.specs.declared.columns.JourneyKind.TheVariants.{Other};
 
 use crate::columns::{
-    ASSOCIATION, BASIC, CALL, CHANGE, Column, EXTRA, HEADER, NUMBERS, PUBLIC, TIPLOC,
+    ASSOCIATION, BASIC, CALL, CHANGE, Column, EXTRA, HEADER, JourneyKind, NUMBERS, PUBLIC, TIPLOC,
+    call_after, extra_among, kind_of_line,
 };
 use crate::public_calls::write_public_calls;
 use crate::table_row::TableRow;
@@ -24,7 +25,7 @@ use cif_canon::writing::answer;
 use cif_canon::{Canon, CanonListing, CanonSchedule};
 use cif_columns::{Line, LineSlice, Sink, WriteDevice};
 use cif_extract::Fault;
-use cif_records::{Kind, Tiploc, kind_of};
+use cif_records::Tiploc;
 
 /// The tables of a canonical extract. All but the last together say what it says.
 #[derive(Clone, Copy, Debug, PartialEq, Eq)]
@@ -43,21 +44,6 @@ pub enum Table {
     Changes,
     /// A row for each call that riders can use, and when.
     Public,
-}
-
-/// The lines of a journey, by kind.
-#[derive(Clone, Copy)]
-pub(crate) enum JourneyKind {
-    /// LO.
-    Origin,
-    /// LI.
-    Stop,
-    /// LT.
-    Terminus,
-    /// CR.
-    Change,
-    /// None of them.
-    Other,
 }
 
 /// Appends the table of the canonical form: a line of names, and a line for each row.
@@ -176,20 +162,6 @@ fn write_schedule<W: WriteDevice>(number: usize, schedule: &CanonSchedule<'_>, s
     row.write(sink);
 }
 
-/// The BX that stands first among the lines, or a line of spaces.
-pub(crate) fn extra_among(lines: &LineSlice<'_>) -> Line
-    ensures { result ≡ extra_in lines.now }
-{
-    if lines.is_empty() {
-        return Line::blank();
-    }
-    let first = lines.first();
-    match kind_of(&first) {
-        Some(Kind::Bx) => first,
-        _ => Line::blank(),
-    }
-}
-
 /// Appends the rows of a schedule's calls, or of its changes. They all begin with its number.
 fn write_journey<W: WriteDevice>(
     calls: bool,
@@ -210,30 +182,6 @@ fn write_journey<W: WriteDevice>(
         write_numbered(calls, &mut row, call, kind, &line, sink);
         call = call_after(call, kind);
         lines = lines.rest();
-    }
-}
-
-/// The kind of a line of a journey.
-pub(crate) fn kind_of_line(line: &Line) -> JourneyKind
-    ensures { result ≡ kind_of_line line.now }
-{
-    match kind_of(line) {
-        Some(Kind::Lo) => JourneyKind::Origin,
-        Some(Kind::Li) => JourneyKind::Stop,
-        Some(Kind::Lt) => JourneyKind::Terminus,
-        Some(Kind::Cr) => JourneyKind::Change,
-        _ => JourneyKind::Other,
-    }
-}
-
-/// The number of the next call after a line of this kind, where before it that number is `call`.
-pub(crate) fn call_after(call: usize, kind: JourneyKind) -> usize
-    requires { call ≤ 2 ^ 63 }
-    ensures { result ≡ cond (is_call kind) (call + 1) call }
-{
-    match kind {
-        JourneyKind::Origin | JourneyKind::Stop | JourneyKind::Terminus => call + 1,
-        JourneyKind::Change | JourneyKind::Other => call,
     }
 }
 

@@ -1,19 +1,17 @@
 //! The canonical runs of few records, body by body and without a calendar.
 
-ghost use Rattle.std.specs.Prelude.{◌≡◌, ◌≢◌, ◌<◌, ◌↔◌, ◌⊎◌, [], All, IfOk, IsTrue, MatchBool};
-ghost use Rattle.std.specs.Prelude.{ℕ, Some, length, map};
+ghost use Rattle.std.specs.Prelude.{◌≡◌, ◌≢◌, ◌<◌, ◌⊎◌, [], All, IfOk, MatchBool, ℕ, length, map};
 ghost use Rattle.std.specs.List.Sorted.{IsNonDecreasingBy};
-ghost use Rattle.cif_calendar.specs.Source.{body_at};
 ghost use Rattle.cif_weeks.specs.MemberRuns.{AreRunsOfMembers, HaveClash};
 ghost use Rattle.cif_weeks.specs.Steps.BodyRuns.{AreRunsOfSpans, HasBody, HasSource};
-ghost use Rattle.cif_weeks.specs.Steps.Spans.{IsDisputed, IsSourceAmong, Shows};
+ghost use Rattle.cif_weeks.specs.Steps.Spans.{IsDisputed, Shows};
 ghost use Rattle.cif_weeks.specs.Window.{IsWithin, window_from};
 
 use crate::body_runs::add_body_runs;
 use crate::form::{Form, Joining, Run, sort_by_first};
-use crate::span::Span;
+use crate::span::{Span, source_of};
 use arrayvec::ArrayVec;
-use cif_calendar::{Entry, Window, same_body};
+use cif_calendar::{Entry, Window};
 use cif_columns::Stp;
 use std::alloc::AllocError;
 
@@ -58,46 +56,6 @@ fn add_all_runs(runs: &mut Vec<Run>, spans: &[Span], joining: &Joining) -> Resul
     }
     sort_by_first(runs);
     Ok(true)
-}
-
-/// Whether the entries at two positions have one body.
-pub(crate) fn have_one_body<E: Entry>(entries: &[E], one: usize, other: usize) -> bool
-    requires one { one < length entries.now }
-    requires other { other < length entries.now }
-    ensures { IsTrue result ↔ (body_at (map E.terms entries.now) (Some one)
-        ≡ body_at (map E.terms entries.now) (Some other)) }
-{
-    one == other || same_body(&entries[one], &entries[other])
-}
-
-/// The position that stands for the body of the entry at `position`: the source of a span with this
-/// body, or `position` itself if there is none. Spans that end before the week before `week` don't
-/// count; where there are any, the spans rise by their last weeks.
-pub(crate) fn source_of<E: Entry>(
-    entries: &[E],
-    spans: &[Span],
-    week: u32,
-    position: usize,
-) -> usize
-    requires position { position < length entries.now }
-    requires sources { All (λ s. s.source < length entries.now) spans.now }
-    requires order { 0 < week → IsNonDecreasingBy (λ s. s.last_week) spans.now }
-    ensures body { body_at (map E.terms entries.now) (Some result)
-        ≡ body_at (map E.terms entries.now) (Some position) }
-    ensures source { IsSourceAmong (map E.terms entries.now) spans.now week position result }
-{
-    let mut place = spans.len();
-    while 0 < place {
-        place -= 1;
-        let span = &spans[place];
-        if span.last_week + 1 < week {
-            break;
-        }
-        if have_one_body(entries, span.source, position) {
-            return span.source;
-        }
-    }
-    position
 }
 
 /// Makes the runs of the canonical records that say what runs by the entries at `members`, rising by

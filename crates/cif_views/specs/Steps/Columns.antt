@@ -11,8 +11,8 @@ use Rattle.cif_views.specs.Tables.{yymmdd_from}
 use Rattle.cif_views.specs.declared.columns.Place.{Place}
 use Rattle.cif_views.specs.declared.columns.Place.TheVariants.{Call, Date, DayFirst, Text, Whole}
 use Rattle.cif_views.specs.declared.columns.TheConstants.{ASSOCIATION, BASIC, CALL, CHANGE, EXTRA}
-use Rattle.cif_views.specs.declared.tables.JourneyKind.{JourneyKind}
-use Rattle.cif_views.specs.declared.tables.JourneyKind.TheVariants.{Change, Origin, Other, Stop, Terminus}
+use Rattle.cif_views.specs.declared.columns.JourneyKind.{JourneyKind}
+use Rattle.cif_views.specs.declared.columns.JourneyKind.TheVariants.{Change, Origin, Other, Stop, Terminus}
 
 -- a field of a table: its name, and its place; and fields as the code has them
 abbrev pub Column : Type 0

@@ -11,8 +11,8 @@ use Rattle.cif_views.specs.Steps.Columns.{Column, call_columns, change_columns, 
 use Rattle.cif_views.specs.Tables.{is_call, is_change, kind_of_line, number}
 use Rattle.cif_views.specs.declared.columns.Place.{Place}
 use Rattle.cif_views.specs.declared.columns.Place.TheVariants.{Call, Date, DayFirst, Text, Whole}
-use Rattle.cif_views.specs.declared.tables.JourneyKind.{JourneyKind}
-use Rattle.cif_views.specs.declared.tables.JourneyKind.TheVariants.{Other}
+use Rattle.cif_views.specs.declared.columns.JourneyKind.{JourneyKind}
+use Rattle.cif_views.specs.declared.columns.JourneyKind.TheVariants.{Other}
 
 -- fields that are shown as text, and whose names are short
 abbrev pub is_text_place : Place → Bool

@@ -3,8 +3,8 @@ use Rattle.std.specs.Prelude.{ℕ, Bool, true, false, List, [], ◌∷◌, cond,
 use Rattle.std.specs.List.{flat_map}
 use Rattle.cif_views.specs.Steps.Columns.{Column, call_columns, change_columns, fields_in, row_behind}
 use Rattle.cif_views.specs.Tables.{Numbered, call_fields, change_fields, is_call, is_change, kind_of_line, number, numbered_from, row_line}
-use Rattle.cif_views.specs.declared.tables.JourneyKind.{JourneyKind}
-use Rattle.cif_views.specs.declared.tables.JourneyKind.TheVariants.{Origin, Stop, Terminus}
+use Rattle.cif_views.specs.declared.columns.JourneyKind.{JourneyKind}
+use Rattle.cif_views.specs.declared.columns.JourneyKind.TheVariants.{Origin, Stop, Terminus}
 
 -- the kinds of calls by number
 abbrev pub call_kind : ℕ → JourneyKind

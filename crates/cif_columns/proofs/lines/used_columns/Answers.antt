@@ -1,17 +1,16 @@
--- One column more by `used_more`; at the end these are all columns.
-use Rattle.std.proofs.Common.{ap, arith, take_all, ◌∙◌}
-use Rattle.cif_columns.specs.Lines.{used}
-use Rattle.cif_columns.proofs.KeptLines.{used_more}
+-- Spaces at the end change nothing (`used-behind`).
+use Rattle.std.proofs.Common.{◌≡◌, ◌++◌, ◌∙◌, ℕ, List, [], ◌∷◌, Some, ap, codes, refl, sym}
+use Rattle.std.proofs.lemmas.Bool.Decides.{Decides-eqb}
+use Rattle.std.proofs.lemmas.Slice.Eq.{strip_suffix_is}
+use Rattle.cif_columns.specs.Lines.{is_space, used, used_with}
 use Rattle.cif_columns.proofs.lines.used_columns.Goals as goal
 
-pub loop-i-preserved : goal.loop-i-preserved
-loop-i-preserved c =
-    let below = c.loop-i-test.true in
-    c.max-count.ensures
-    ∙ used_more c.args.columns.now c.loop-i.i c.loop-i.count c.end_of.result (omega (arith, below, c.told-columns)) c.loop-i.invariant
-    c.end_of.ensures
+-- columns behind which spaces stand
+used-behind : (columns spaces : List ℕ) → used spaces ≡ 0 → used (columns ++ spaces) ≡ used columns
+used-behind [] spaces none = none
+used-behind (c ∷ columns) spaces none = ap (used_with (is_space c)) (used-behind columns spaces none)
 
-pub returns : goal.returns
-returns c =
-    let over = c.loop-i-test.false in
-    c.loop-i.invariant ∙ ap used (take_all c.loop-i.i c.args.columns.now (omega (arith, over, c.told-columns)))
+pub returns-in-Some-clause-value : goal.returns-in-Some-clause-value
+returns-in-Some-clause-value c =
+    let is = strip_suffix_is Decides-eqb c.args.columns.now (codes "        ") (Some c.in-Some.columns) c.in-Some.ensures.cases in
+    c.count_used.ensures.value ∙ sym (ap used is ∙ used-behind c.in-Some.columns.now (codes "        ") refl)

@@ -16,9 +16,9 @@ appended c =
     let extended : c.extend_from_slice.new.self.items ≡ pushed ++ line = rw fits at c.extend_from_slice.ensures.items in
     one_more old c.truncate.new.self.items c.args.self.now line (keep_view old c.args.self.now c.self.invariant c.self.view_is)
     (record { width = c.told-columns; printable = c.requires })
-    (kept_behind old pushed c.extend_from_slice.new.self.items c.truncate.new.self.items line c.used_columns-count.result
-    (length c.as_slice.result.now + c.from.result) c.used_columns-count.ensures
-    (c.push_reserved.ensures.items ∙ ap (λ l. l ++ c.used_columns-count.result ∷ []) c.reserve.ensures.items) extended
+    (kept_behind old pushed c.extend_from_slice.new.self.items c.truncate.new.self.items line c.used_in_line-count.result
+    (length c.as_slice.result.now + c.from.result) c.used_in_line-count.ensures
+    (c.push_reserved.ensures.items ∙ ap (λ l. l ++ c.used_in_line-count.result ∷ []) c.reserve.ensures.items) extended
     (omega (arith, ap length c.as_slice.ensures.value, c.from.ensures)) c.truncate.ensures.items)
 
 pub invariant_of-self-2 : goal.invariant_of-self-2

@@ -1,6 +1,6 @@
 -- Both positions are those of entries.
 use Rattle.cif_calendar.proofs.Winning.{terms_at}
-use Rattle.cif_weeks.proofs.few.have_one_body.Goals as goal
+use Rattle.cif_weeks.proofs.span.have_one_body.Goals as goal
 
 pub returns-else-one-other : goal.returns-else-one-other
 returns-else-one-other g c = rw (

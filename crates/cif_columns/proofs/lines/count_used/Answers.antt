@@ -2,7 +2,7 @@
 use Rattle.std.proofs.Common.{ap, cond, get_or, length, subst, sym, take_all, ◌+◌, ◌∙◌, ◌≤◌}
 use Rattle.cif_columns.specs.Lines.{is_space, used}
 use Rattle.cif_columns.proofs.KeptLines.{used_few, used_next}
-use Rattle.cif_canon.proofs.rows.count_used.Goals as goal
+use Rattle.cif_columns.proofs.lines.count_used.Goals as goal
 
 pub loop-i-preserved : goal.loop-i-preserved
 loop-i-preserved c =

@@ -1,7 +1,7 @@
 -- None of the spans from `place` on has a source with the body.
 use Rattle.std.proofs.Common.{◌≡◌, ◌≢◌, ℕ, ◌<◌, ◌≤◌, Some, get_or, length, map}
 use Rattle.cif_weeks.proofs.Words.{body_at, Span}
-use Rattle.cif_weeks.proofs.few.source_of.Given as goal
+use Rattle.cif_weeks.proofs.span.source_of.Given as goal
 
 abbrev pub invariant-loop-place : goal.invariant-loop-place
 invariant-loop-place g l = let xs = map g.E.Entry.terms l.entries in record {

@@ -3,7 +3,7 @@ use Rattle.std.proofs.Common.{◌≡◌, ◌≢◌, ◌-◌, Some, arith, ap, ge
 use Rattle.std.proofs.lemmas.Bool.{cases_lt, iff_false}
 use Rattle.std.proofs.lemmas.List.{get_or_default}
 use Rattle.cif_weeks.proofs.Words.{body_at, Span}
-use Rattle.cif_weeks.proofs.few.source_of.Goals as goal
+use Rattle.cif_weeks.proofs.span.source_of.Goals as goal
 
 pub returns-then-have_one_body-clause-source : goal.returns-then-have_one_body-clause-source
 returns-then-have_one_body-clause-source g c = inl (

@@ -3,7 +3,7 @@ use Rattle.std.proofs.Common.{get_or}
 use Rattle.std.proofs.lemmas.List.{get_or_default}
 use Rattle.std.proofs.lemmas.Option.{slice_get-get_or}
 use Rattle.cif_calendar.proofs.Winning.{terms_at}
-use Rattle.cif_calendar.proofs.members.Members.entry.Goals as goal
+use Rattle.cif_calendar.proofs.standing.Members.entry.Goals as goal
 
 pub returns : goal.returns
 returns g c =
