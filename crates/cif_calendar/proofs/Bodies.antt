@@ -1,30 +1,7 @@
 -- Which members are known to have one body.
-use Rattle.std.proofs.Common.{
-  ◌≡◌,
-  ℕ,
-  ◌<◌,
-  max,
-  min,
-  List,
-  Option,
-  Some,
-  None,
-  get_or,
-  length,
-  replicate,
-  ⊎_elim,
-  sym,
-  ◌∙◌,
-  subst,
-  ◌⊎◌,
-  ◌↔◌,
-  arith,
-}
-use Rattle.std.proofs.lemmas.Bool.{cases_lt}
-use Rattle.std.proofs.lemmas.List.{get_or-replicate, get_or_past, length-replicate}
-use Rattle.std.proofs.lemmas.Option.{same_Some}
-use Rattle.cif_calendar.proofs.Words.{Terms}
-use Rattle.cif_calendar.specs.Steps.Standing.{AreAlike, HaveOneBody, StandsAt}
+use Rattle.cif_calendar.proofs.Names.{AreAlike, HaveOneBody, List, None, Option, Some, StandsAt, Terms, arith, cases_lt, get_or}
+use Rattle.cif_calendar.proofs.Names.{get_or-replicate, get_or_past, length, length-replicate, max, min, replicate, same_Some, subst, sym}
+use Rattle.cif_calendar.proofs.Names.{ℕ, ⊎_elim, ◌<◌, ◌↔◌, ◌∙◌, ◌≡◌, ◌⊎◌}
 use Rattle.cif_calendar.proofs.Winning.{body-at}
 
 module _ {B : Type 0} (xs : List (Terms B)) (members : List ℕ) where

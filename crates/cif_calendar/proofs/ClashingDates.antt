@@ -1,15 +1,8 @@
 -- The days with a clash, one after another.
-use Rattle.std.proofs.Common.{◌≡◌, ⊎_elim, ℕ, ◌+◌, ◌<◌, ◌≤◌, List, [], ◌∷◌, ◌++◌, arith, get_or, length, refl, sym, ◌∙◌, ap, subst}
-use Rattle.std.proofs.Common.{Contains, slice_get}
-use Rattle.std.proofs.lemmas.Bool.{cases_lt}
-use Rattle.std.proofs.lemmas.List.{get_or_default}
-use Rattle.std.proofs.lemmas.Option.{same_Some}
-use Rattle.std.proofs.lemmas.List.Elements.{Contains-append_left, Contains-get_or, Contains-push, Contains-push_cases}
-use Rattle.std.proofs.lemmas.List.Quantifiers.{all_pairs_push}
-use Rattle.cif_calendar.specs.ClashDates.{AreClashDates, IsClashBetween}
-use Rattle.cif_calendar.specs.Steps.Standing.{Stands}
-use Rattle.cif_calendar.specs.Steps.Stretches.{AddsIfDisputed}
-use Rattle.cif_calendar.proofs.Words.{Disputed, IsChosen, IsClash, IsClear, Leader, Nobody, Records, Standing, Terms}
+use Rattle.cif_calendar.proofs.Names.{AddsIfDisputed, AreClashDates, Contains, Contains-append_left, Contains-get_or, Contains-push}
+use Rattle.cif_calendar.proofs.Names.{Contains-push_cases, Disputed, IsChosen, IsClash, IsClashBetween, IsClear, Leader, List, Nobody}
+use Rattle.cif_calendar.proofs.Names.{Records, Standing, Stands, Terms, [], all_pairs_push, ap, arith, cases_lt, get_or, get_or_default}
+use Rattle.cif_calendar.proofs.Names.{length, refl, same_Some, slice_get, subst, sym, ℕ, ⊎_elim, ◌++◌, ◌+◌, ◌<◌, ◌∙◌, ◌∷◌, ◌≡◌, ◌≤◌}
 
 -- ---- one day
 

@@ -1,15 +1,10 @@
 -- What stands on the days of one stretch after another.
-use Rattle.std.proofs.Common.{◌≡◌, ⊎_elim, ℕ, ◌+◌, ◌<◌, ◌≤◌, List, [], ◌∷◌, ◌++◌, drop, length, get_or, arith, refl, sym, subst}
-use Rattle.std.proofs.lemmas.Bool.{cases_lt}
-use Rattle.std.proofs.Math.Seq.{get_or-append_seam}
-use Rattle.std.proofs.lemmas.List.{drop_more, get_or_append_left, length-append}
-use Rattle.cif_calendar.specs.DayState.{AreDayStates, IsDayState}
-use Rattle.cif_calendar.specs.Steps.Stretches.{AreStretches, IsStretch}
+use Rattle.cif_calendar.proofs.Names.{AreDayStates, AreStretches, IsDayState, IsStretch, List, Records, SameRecords, Stretch, Terms, []}
+use Rattle.cif_calendar.proofs.Names.{arith, cases_lt, drop, drop_more, get_or, get_or-append_seam, get_or_append_left, length}
+use Rattle.cif_calendar.proofs.Names.{length-append, refl, subst, sym, ℕ, ⊎_elim, ◌++◌, ◌+◌, ◌<◌, ◌∷◌, ◌≡◌, ◌≤◌}
+use Rattle.cif_calendar.proofs.Sets.{IsClash-same, IsClear-same, Wins-same}
 use Rattle.cif_calendar.specs.declared.day_state.DayState.{DayState}
 use Rattle.cif_calendar.specs.declared.day_state.DayState.TheVariants as state
-use Rattle.cif_calendar.specs.declared.stretch.Stretch.{Stretch}
-use Rattle.cif_calendar.proofs.Sets.{IsClash-same, IsClear-same, Wins-same}
-use Rattle.cif_calendar.proofs.Words.{Records, SameRecords, Terms}
 
 -- ---- one state
 

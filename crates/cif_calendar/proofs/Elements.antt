@@ -1,5 +1,5 @@
 -- The elements of a list with one more in front.
-use Rattle.std.proofs.Common.{◌≡◌, zero, suc, ◌<◌, List, ◌∷◌, length, refl, arith, inl, inr, Contains, ◌⊎◌}
+use Rattle.cif_calendar.proofs.Names.{Contains, List, arith, inl, inr, length, refl, suc, zero, ◌<◌, ◌∷◌, ◌≡◌, ◌⊎◌}
 
 module _ {X : Type 0} (y : X) (ys : List X) where
   pub Contains-first : Contains (y ∷ ys) y

@@ -1,9 +1,6 @@
 -- How many pieces there can be: each begins at an end of a record that the ones before have not used.
-use Rattle.std.proofs.Common.{◌≡◌, ℕ, ◌+◌, ◌*◌, ◌≤◌, List, [], ◌∷◌, length, Option, None, Some, cond, arith, ⊎_elim, ltb, leb, ap, ◌∙◌}
-use Rattle.std.proofs.Common.{Contains, slice_get, ◌⊎◌}
-use Rattle.std.proofs.lemmas.Bool.Decides.{nat_tests}
-use Rattle.cif_calendar.proofs.Words.{Terms, IsChosen}
-use Rattle.cif_calendar.specs.Pieces.{ChangesOn}
+use Rattle.cif_calendar.proofs.Names.{ChangesOn, Contains, IsChosen, List, None, Option, Some, Terms, [], ap, arith, cond, leb, length, ltb}
+use Rattle.cif_calendar.proofs.Names.{nat_tests, slice_get, ℕ, ⊎_elim, ◌*◌, ◌+◌, ◌∙◌, ◌∷◌, ◌≡◌, ◌≤◌, ◌⊎◌}
 use Rattle.cif_calendar.proofs.Elements.{Contains-cases}
 
 -- how many of a record's two breaks come after a piece that begins on day d has begun

@@ -1,11 +1,7 @@
 -- A clash is what a clear day has not, and the first clash is one.
-use Rattle.std.proofs.Common.{◌≡◌, ℕ, ◌<◌, List, arith, refl, sym, ◌∙◌, ap, subst, Bool, IsTrue, ◌↔◌, is_eq}
-use Rattle.std.specs.Cmp.{IsTotalOrder}
-use Rattle.std.specs.Ordering.{ordering_reverse}
-use Rattle.std.specs.declared.cmp.Ordering.{Ordering}
-use Rattle.std.specs.declared.cmp.Ordering.TheVariants.{Less, Equal, Greater}
-use Rattle.cif_calendar.proofs.Words.{Terms, Records, IsClear, IsClash, IsClearFrom, IsFirstClash}
-use Rattle.cif_calendar.specs.Keys.{IsFirstClashOf, AreClear, of_key}
+use Rattle.cif_calendar.proofs.Names.{AreClear, Bool, Equal, Greater, IsClash, IsClear, IsClearFrom, IsFirstClash, IsFirstClashOf}
+use Rattle.cif_calendar.proofs.Names.{IsTotalOrder, IsTrue, Less, List, Ordering, Records, Terms, ap, arith, is_eq, of_key}
+use Rattle.cif_calendar.proofs.Names.{ordering_reverse, refl, subst, sym, ℕ, ◌<◌, ◌↔◌, ◌∙◌, ◌≡◌}
 
 pub clash-clear : {B : Type 0} (records : Records B) (d : ℕ) → IsClash records d → IsClear records d → ⊥
 clash-clear records d c clear = c.bodies_differ (clear.agree c.one c.other c.one_wins c.other_wins)

@@ -1,14 +1,7 @@
 -- The entry with the least key of two lists of positions, each in the order of its keys.
-use Rattle.std.proofs.Common.{◌≡◌, inl, inr, ℕ, ◌<◌, ◌≤◌, List, length, get_or, refl, sym, ◌∙◌, subst, arith}
-use Rattle.std.specs.Prelude.{All, Bool, true, false}
-use Rattle.std.specs.Cmp.{IsTotalOrder}
-use Rattle.std.specs.Ordering.{is_gt, is_lt}
-use Rattle.std.proofs.lemmas.List.Elements.{Contains-get_or}
-use Rattle.std.specs.declared.cmp.Ordering.{Ordering}
-use Rattle.std.specs.declared.cmp.Ordering.TheVariants.{Less, Equal, Greater}
-use Rattle.cif_calendar.specs.Keys.{keyed}
-use Rattle.cif_calendar.specs.Terms.{Terms}
-use Rattle.cif_calendar.specs.ByKey.{AnyHasKey, AreFrom, HasKey, IsFirstOfBoth, IsRising}
+use Rattle.cif_calendar.proofs.Names.{All, AnyHasKey, AreFrom, Bool, Contains-get_or, Equal, Greater, HasKey, IsFirstOfBoth, IsRising}
+use Rattle.cif_calendar.proofs.Names.{IsTotalOrder, Less, List, Ordering, Terms, arith, false, get_or, inl, inr, is_gt, is_lt, keyed}
+use Rattle.cif_calendar.proofs.Names.{length, refl, subst, sym, true, ℕ, ◌<◌, ◌∙◌, ◌≡◌, ◌≤◌}
 use Rattle.cif_calendar.proofs.KeyPositions.{has-key, not_gt}
 use Rattle.cif_calendar.proofs.KeyTurns.{from-first, from-lower}
 

@@ -1,32 +1,17 @@
 -- The clashes are found key by key, over positions in the order of their keys.
-use Rattle.std.proofs.Common.{◌≡◌, inl, inr, ℕ, ◌<◌, List, [], ◌∷◌, ◌++◌, Option, Some, map, take, drop, length, get_or}
-use Rattle.std.proofs.Common.{refl, sym, ◌∙◌, ap, ap₂, subst, arith, ⊎_elim}
-use Rattle.std.specs.Prelude.{All, AllPairs, Contains}
-use Rattle.std.specs.Cmp.{IsTotalOrder}
-use Rattle.std.specs.Option.{option_map}
-use Rattle.std.specs.declared.cmp.Ordering.{Ordering}
-use Rattle.std.specs.declared.cmp.Ordering.TheVariants.{Less, Equal}
-use Rattle.std.proofs.lemmas.Option.{slice_get_within}
-use Rattle.std.proofs.lemmas.List.{map-append}
-use Rattle.std.proofs.lemmas.List.Elements.{All-push, Contains-append_left, Contains-get_or, Contains-push, Contains-push_cases}
-use Rattle.std.proofs.lemmas.List.Quantifiers.{all_pairs_push}
-use Rattle.cif_calendar.specs.ByKey.{AnyHasKey, AreOfFirstKey, IsRising}
-use Rattle.cif_calendar.specs.Calendar.{IsFault}
-use Rattle.cif_calendar.specs.Clash.{IsClearFrom, IsFirstClash}
-use Rattle.cif_calendar.specs.Clashes.{AreClashes, TellClashes, told}
-use Rattle.cif_calendar.specs.Keys.{keyed, of_key, ArePositionsOf}
-use Rattle.cif_calendar.specs.Source.{IsChosen}
-use Rattle.cif_calendar.specs.Steps.Clashes.{IsAddedOfKey, IsFaultAdded}
-use Rattle.cif_calendar.specs.Terms.{Terms}
-use Rattle.cif_calendar.specs.declared.key_calendar.CalendarFault.{CalendarFault}
-use Rattle.cif_calendar.specs.declared.key_calendar.CalendarFault.TheVariants.{Ambiguous, Memory}
-use Rattle.cif_calendar.specs.declared.key_clashes.KeyClash.{KeyClash}
+use Rattle.cif_calendar.proofs.Names.{All, All-push, AllPairs, Ambiguous, AnyHasKey, AreOfFirstKey, ArePositionsOf, CalendarFault, Contains}
+use Rattle.cif_calendar.proofs.Names.{Contains-append_left, Contains-get_or, Contains-push, Contains-push_cases, Equal, IsAddedOfKey}
+use Rattle.cif_calendar.proofs.Names.{IsChosen, IsClearFrom, IsFault, IsFaultAdded, IsFirstClash, IsRising, IsTotalOrder, KeyClash, Less}
+use Rattle.cif_calendar.proofs.Names.{List, Memory, Option, Ordering, Some, Terms, [], all_pairs_push, ap, ap₂, arith, drop, get_or, inl}
+use Rattle.cif_calendar.proofs.Names.{inr, keyed, length, map, map-append, of_key, option_map, refl, slice_get_within, subst, sym, take, ℕ}
+use Rattle.cif_calendar.proofs.Names.{⊎_elim, ◌++◌, ◌<◌, ◌∙◌, ◌∷◌, ◌≡◌}
 use Rattle.cif_calendar.proofs.KeyTurns.{decided, first-leads, no-entry, rising-after}
 use Rattle.cif_calendar.proofs.NoEntries.{none-clear}
 use Rattle.cif_calendar.proofs.PassedKeys.{HasPassed, key-or-later, later-less, left-before, passed-more, turn}
 use Rattle.cif_calendar.proofs.Positions.{positions-records}
 use Rattle.cif_calendar.proofs.RisingLists.{Contains-none}
 use Rattle.cif_calendar.proofs.Sets.{IsFirstClash-same}
+use Rattle.cif_calendar.specs.Clashes.{AreClashes, TellClashes, told}
 
 module _ {K B : Type 0} (cmp : K → K → Ordering) (es : List (K × Terms B)) (first last : ℕ) where
   -- the clashes of all keys but the ones with entries at `rest`, which are after them

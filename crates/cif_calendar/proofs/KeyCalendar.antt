@@ -1,16 +1,10 @@
 -- A calendar of all of a key's entries says what runs for the key.
-use Rattle.std.proofs.Common.{◌≡◌, ℕ, ◌≤◌, List, Option, Some, map, sym, ◌∙◌, subst, IsNone, IsSome, slice_get, ◌↔◌}
-use Rattle.std.proofs.lemmas.Option.{same_Some}
-use Rattle.cif_columns.specs.declared.stp.Stp.TheVariants.{C}
-use Rattle.cif_calendar.proofs.Words.{Terms, Wins, IsClearFrom, Runs, IsChosen, IsSource, IsWinnerAt}
-use Rattle.cif_calendar.specs.Pieces.{source_at}
-use Rattle.cif_calendar.specs.Calendar.{CalendarParts, IsCalendar, IsFault, body_on}
-use Rattle.cif_calendar.specs.Keys.{keyed, of_key, ArePositionsOf}
-use Rattle.cif_calendar.specs.declared.key_calendar.CalendarFault.{CalendarFault}
-use Rattle.cif_calendar.specs.declared.key_calendar.CalendarFault.TheVariants.{Ambiguous, Memory}
+use Rattle.cif_calendar.proofs.Names.{Ambiguous, ArePositionsOf, C, CalendarFault, CalendarParts, IsCalendar, IsChosen, IsClearFrom}
+use Rattle.cif_calendar.proofs.Names.{IsFault, IsNone, IsSome, IsSource, IsWinnerAt, List, Memory, Option, Runs, Some, Terms, Wins, body_on}
+use Rattle.cif_calendar.proofs.Names.{keyed, map, of_key, same_Some, slice_get, source_at, subst, sym, ℕ, ◌↔◌, ◌∙◌, ◌≡◌, ◌≤◌}
 use Rattle.cif_calendar.proofs.Meaning.{Runs-unique}
 use Rattle.cif_calendar.proofs.Positions.{AreLawful-of_key, positions-records, terms_at-keyed}
-use Rattle.cif_calendar.proofs.Sets.{Wins-same, Runs-same, IsClearFrom-same, IsFirstClash-same}
+use Rattle.cif_calendar.proofs.Sets.{IsClearFrom-same, IsFirstClash-same, Runs-same, Wins-same}
 
 module _ {E K B : Type 0} (key : E → K) (terms : E → Terms B) (es : List E) (k : K) (members : List ℕ)
     (p : ArePositionsOf (keyed key terms es) k members) where

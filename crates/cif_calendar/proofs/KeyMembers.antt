@@ -1,12 +1,7 @@
 -- The positions of one key, one entry after another.
-use Rattle.std.proofs.Common.{◌≡◌, ⊎_elim, ℕ, ◌+◌, ◌<◌, ◌≤◌, List, [], ◌∷◌, ◌++◌, Some, length, arith, sym, ◌∙◌, ap, subst, slice_get}
-use Rattle.std.specs.Prelude.{All, Contains}
-use Rattle.std.proofs.lemmas.Bool.{cases_lt}
-use Rattle.std.proofs.lemmas.List.Elements.{All-push, Contains-append_left, Contains-push, Contains-push_cases}
-use Rattle.std.proofs.lemmas.Option.{same_Some, slice_get_within}
-use Rattle.cif_calendar.specs.ByKey.{HasKey}
-use Rattle.cif_calendar.specs.Keys.{ArePositionsOf}
-use Rattle.cif_calendar.specs.Terms.{Terms}
+use Rattle.cif_calendar.proofs.Names.{All, All-push, ArePositionsOf, Contains, Contains-append_left, Contains-push, Contains-push_cases}
+use Rattle.cif_calendar.proofs.Names.{HasKey, List, Some, Terms, [], ap, arith, cases_lt, length, same_Some, slice_get, slice_get_within}
+use Rattle.cif_calendar.proofs.Names.{subst, sym, ℕ, ⊎_elim, ◌++◌, ◌+◌, ◌<◌, ◌∙◌, ◌∷◌, ◌≡◌, ◌≤◌}
 use Rattle.cif_calendar.proofs.RisingLists.{Contains-none}
 
 -- the positions before n of the records of key k

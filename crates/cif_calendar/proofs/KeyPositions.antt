@@ -1,17 +1,8 @@
 -- Positions in the order of their keys.
-use Rattle.std.proofs.Common.{◌≡◌, ℕ, ◌+◌, ◌<◌, List, false, length, get_or}
-use Rattle.std.proofs.Common.{refl, arith}
-use Rattle.std.specs.Prelude.{Contains, All}
-use Rattle.std.specs.List.{range_with_len}
-use Rattle.std.specs.Ordering.{is_gt, is_lt, ordering_reverse}
-use Rattle.std.specs.declared.cmp.Ordering.{Ordering}
-use Rattle.std.specs.declared.cmp.Ordering.TheVariants.{Less, Equal, Greater}
-use Rattle.std.proofs.lemmas.List.{length-map}
-use Rattle.std.proofs.lemmas.List.FromFn.{length-range_with_len, get_or-range_with_len}
-use Rattle.cif_calendar.specs.Terms.{Terms}
-use Rattle.cif_calendar.specs.Keys.{keyed}
+use Rattle.cif_calendar.proofs.Names.{All, Contains, Equal, Greater, HasKey, Less, List, Ordering, Terms, arith, false, get_or, is_gt}
+use Rattle.cif_calendar.proofs.Names.{is_lt, keyed, length, length-map, ordering_reverse, range_with_len, refl, ℕ, ◌+◌, ◌<◌, ◌≡◌}
+use Rattle.std.proofs.lemmas.List.FromFn.{get_or-range_with_len, length-range_with_len}
 use Rattle.cif_calendar.proofs.Winning.{terms_at}
-use Rattle.cif_calendar.specs.ByKey.{HasKey}
 
 -- the numbers below n
 pub range-within : (n : ℕ) → All (λ i. i < n) (range_with_len 0 n)

@@ -1,20 +1,11 @@
 -- How many positions have the first key, where they are in the order of their keys.
-use Rattle.std.proofs.Common.{◌≡◌, ◌⊎◌, inl, inr, ℕ, zero, suc, ◌+◌, ◌-◌, ◌<◌, ◌≤◌, List, false, true≢false, take, drop, length, get_or}
-use Rattle.std.proofs.Common.{refl, sym, ◌∙◌, ap, subst, arith, ⊎_elim}
-use Rattle.std.specs.Prelude.{All, Contains}
-use Rattle.std.specs.Ordering.{is_gt}
-use Rattle.std.specs.Cmp.{IsTotalOrder, alike_right, tied_itself}
-use Rattle.std.specs.declared.cmp.Ordering.{Ordering}
-use Rattle.std.specs.declared.cmp.Ordering.TheVariants.{Less, Equal, Greater}
-use Rattle.std.proofs.lemmas.Bool.{cases_lt}
-use Rattle.std.proofs.lemmas.Option.{same_Some, slice_get_within}
-use Rattle.std.proofs.lemmas.List.{length-drop, length-take-le, get_or-drop, get_or_default, take-append-drop}
-use Rattle.std.proofs.lemmas.List.Elements.{All-contains, Contains-append_left, Contains-get_or}
-use Rattle.cif_calendar.specs.Keys.{of_key}
+use Rattle.cif_calendar.proofs.Names.{All, All-contains, AnyHasKey, AreFrom, AreOfFirstKey, Contains, Contains-append_left, Contains-get_or}
+use Rattle.cif_calendar.proofs.Names.{Equal, Greater, HasKey, IsCountOfKey, IsNotAfter, IsRising, IsTotalOrder, Less, List, Ordering, Terms}
+use Rattle.cif_calendar.proofs.Names.{alike_right, ap, arith, cases_lt, drop, false, get_or, get_or-drop, get_or_default, inl, inr, is_gt}
+use Rattle.cif_calendar.proofs.Names.{length, length-drop, length-take-le, of_key, refl, same_Some, slice_get_within, subst, suc, sym, take}
+use Rattle.cif_calendar.proofs.Names.{take-append-drop, tied_itself, true≢false, zero, ℕ, ⊎_elim, ◌+◌, ◌-◌, ◌<◌, ◌∙◌, ◌≡◌, ◌≤◌, ◌⊎◌}
 use Rattle.cif_calendar.proofs.Positions.{at-contains}
-use Rattle.cif_calendar.specs.Terms.{Terms}
 use Rattle.cif_calendar.proofs.RisingLists.{not_less}
-use Rattle.cif_calendar.specs.ByKey.{AnyHasKey, AreFrom, HasKey, AreOfFirstKey, IsCountOfKey, IsNotAfter, IsRising}
 
 -- a position has one key
 pub one-key : {K B : Type 0} (es : List (K × Terms B)) (i : ℕ) (j k : K) → HasKey es i j → HasKey es i k → j ≡ k

@@ -1,20 +1,14 @@
 -- The pieces of a window so far.
-use Rattle.std.proofs.Common.{◌≡◌, ℕ, ◌+◌, ◌*◌, ◌<◌, ◌≤◌, List, [], ◌∷◌, ◌++◌, length, length-append, All, subst, sym, ap, arith, ⊎_elim}
-use Rattle.std.proofs.Common.{inl, inr, refl, Ok, Err, Option, None, Some, drop, SomeIff, unwrap_or, get_or, ◌∙◌, ◌⊎◌, IsErrAnd, Result}
-use Rattle.std.proofs.lemmas.List.{drop_more}
-use Rattle.std.proofs.lemmas.Bool.{cases_lt}
-use Rattle.std.proofs.lemmas.List.Elements.{All-nil, All-push, All-contains}
-use Rattle.cif_calendar.proofs.Words.{Terms, IsClear, IsClearFrom, IsFirstClash, IsChosen, IsSource, Piece}
-use Rattle.cif_calendar.specs.Pieces.{IsPiece, IsBoundary, ChangesOn, BeginsPiece, Tiles, source_at}
-use Rattle.cif_calendar.specs.Calendar.{CalendarParts, IsAnswer, IsFault}
-use Rattle.cif_calendar.specs.Steps.Stretches.{AreStretches, IsStretch}
-use Rattle.cif_calendar.specs.declared.stretch.Stretch.{Stretch}
-use Rattle.cif_calendar.specs.declared.key_calendar.CalendarFault.{CalendarFault}
-use Rattle.cif_calendar.specs.declared.key_calendar.CalendarFault.TheVariants.{Ambiguous, Memory}
+use Rattle.cif_calendar.proofs.Names.{All, All-contains, All-nil, All-push, Ambiguous, AreStretches, BeginsPiece, CalendarFault}
+use Rattle.cif_calendar.proofs.Names.{CalendarParts, ChangesOn, Err, IsAnswer, IsBoundary, IsChosen, IsClear, IsClearFrom, IsErrAnd}
+use Rattle.cif_calendar.proofs.Names.{IsFault, IsFirstClash, IsPiece, IsSource, IsStretch, List, Memory, None, Ok, Option, Piece, Result}
+use Rattle.cif_calendar.proofs.Names.{Some, SomeIff, Stretch, Terms, Tiles, [], ap, arith, cases_lt, drop, drop_more, get_or, inl, inr}
+use Rattle.cif_calendar.proofs.Names.{length, length-append, refl, source_at, subst, sym, unwrap_or, ℕ, ⊎_elim, ◌*◌, ◌++◌, ◌+◌, ◌<◌, ◌∙◌}
+use Rattle.cif_calendar.proofs.Names.{◌∷◌, ◌≡◌, ◌≤◌, ◌⊎◌}
+use Rattle.cif_calendar.proofs.FewPieces.{left, left-le, left-next}
 use Rattle.cif_calendar.proofs.FirstClash.{IsFirstClash-unique, first_clash-clear}
 use Rattle.cif_calendar.proofs.Meaning.{Runs-from_source}
-use Rattle.cif_calendar.proofs.PieceLists.{IsInPiece, tiles-push, tiles-find, tiles-from, source_at-piece}
-use Rattle.cif_calendar.proofs.FewPieces.{left, left-le, left-next}
+use Rattle.cif_calendar.proofs.PieceLists.{IsInPiece, source_at-piece, tiles-find, tiles-from, tiles-push}
 
 -- the next day, where there is one
 pub next-day : (o : Option ℕ) (P : Type 0) (day first : ℕ) → SomeIff o P day → P → unwrap_or o first ≡ day

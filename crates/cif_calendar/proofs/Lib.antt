@@ -15,7 +15,6 @@ pub mod FewPieces
 pub mod LaidPieces
 pub mod Stretches
 pub mod Bodies
-pub mod Words
 pub mod RisingLists
 pub mod KeyTurns
 pub mod KeyPositions
@@ -27,3 +26,4 @@ pub mod NamedClashes
 pub mod DayStates
 pub mod ClashingDates
 pub mod KeyMembers
+pub mod Names

@@ -1,7 +1,7 @@
 -- What runs on a day is one thing, and the source of the day has it.
-use Rattle.std.proofs.Common.{◌≡◌, ℕ, List, Option, None, Some, sym, ◌∙◌, ap, subst, refl, IsNone, IsSome, ◌↔◌, option_and_then, is_some}
-use Rattle.cif_columns.specs.declared.stp.Stp.TheVariants.{C}
-use Rattle.cif_calendar.proofs.Words.{Terms, Records, IsClear, Runs, BodyRuns, NothingRuns, IsChosen, IsSource, body_at, Wins, AreLawful}
+use Rattle.cif_calendar.proofs.Names.{AreLawful, BodyRuns, C, IsChosen, IsClear, IsNone, IsSome, IsSource, List, None, NothingRuns, Option}
+use Rattle.cif_calendar.proofs.Names.{Records, Runs, Some, Terms, Wins, ap, body_at, is_some, option_and_then, refl, subst, sym, ℕ, ◌↔◌}
+use Rattle.cif_calendar.proofs.Names.{◌∙◌, ◌≡◌}
 
 none-some : {B : Type 0} (r : Terms B) (b : B) → r.body ≡ Some b → IsNone r.body → ⊥
 none-some r b e n = let h = rw e at n in cc

@@ -1,18 +1,11 @@
 -- Clashes that are told by positions, and their names one after another.
-use Rattle.std.proofs.Common.{◌≡◌, ℕ, ◌+◌, ◌<◌, ◌≤◌, List, [], ◌∷◌, ◌++◌, Some, map, take, length, get_or}
-use Rattle.std.proofs.Common.{sym, ◌∙◌, ap, append_assoc, append-nil}
-use Rattle.std.specs.List.{flat_map}
-use Rattle.std.specs.Option.{option_map}
-use Rattle.std.proofs.lemmas.Grind.{flat_map-append}
-use Rattle.std.proofs.lemmas.List.{take_all, take_more}
+use Rattle.cif_calendar.proofs.Names.{HasKey, KeyClash, List, Some, Terms, [], ap, append-nil, append_assoc, flat_map, flat_map-append}
+use Rattle.cif_calendar.proofs.Names.{get_or, length, map, named, named_if, option_map, sym, take, take_all, take_more, ℕ, ◌++◌, ◌+◌, ◌<◌}
+use Rattle.cif_calendar.proofs.Names.{◌∙◌, ◌∷◌, ◌≡◌, ◌≤◌}
 use Rattle.std.proofs.lemmas.List.Concat.{flat_map_single}
 use Rattle.std.proofs.lemmas.List.Folds.{flat_map-map}
-use Rattle.cif_calendar.specs.ByKey.{HasKey}
-use Rattle.cif_calendar.specs.Clashes.{told}
-use Rattle.cif_calendar.specs.Terms.{Terms}
-use Rattle.cif_calendar.specs.declared.key_clashes.KeyClash.{KeyClash}
 use Rattle.cif_extract.specs.declared.fault.Clash.{Clash}
-use Rattle.cif_calendar.specs.Steps.Clashes.{named, named_if}
+use Rattle.cif_calendar.specs.Clashes.{told}
 
 module _ {K B : Type 0} (name : K → ℕ → Clash) (es : List (K × Terms B)) (known : List Clash) (found : List KeyClash) where
   -- the name of a clash, by the key at its position

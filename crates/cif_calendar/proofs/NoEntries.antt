@@ -1,6 +1,5 @@
 -- Of a key without entries nothing runs.
-use Rattle.std.proofs.Common.{ℕ}
-use Rattle.cif_calendar.proofs.Words.{Terms, Records, IsClearFrom}
+use Rattle.cif_calendar.proofs.Names.{IsClearFrom, Records, Terms, ℕ}
 
 module _ {B : Type 0} (records : Records B) (none : (r : Terms B) → records r → ⊥) where
   pub none-clear : (first last : ℕ) → IsClearFrom records first last

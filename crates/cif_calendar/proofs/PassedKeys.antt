@@ -1,14 +1,7 @@
 -- Entries of which those at the first positions have been looked at, in the order of their keys.
-use Rattle.std.proofs.Common.{◌≡◌, ◌⊎◌, inl, inr, ℕ, List, take, drop, refl, sym, ⊎_elim, subst}
-use Rattle.std.specs.Prelude.{Contains}
-use Rattle.std.specs.Cmp.{IsTotalOrder}
-use Rattle.std.specs.declared.cmp.Ordering.{Ordering}
-use Rattle.std.specs.declared.cmp.Ordering.TheVariants.{Less}
-use Rattle.std.proofs.lemmas.List.{take-append-drop}
-use Rattle.std.proofs.lemmas.List.Elements.{All-contains, Contains-append_right, Contains-append_cases}
-use Rattle.cif_calendar.specs.Terms.{Terms}
-use Rattle.cif_calendar.specs.ByKey.{AnyHasKey, HasKey, IsCountOfKey}
-use Rattle.cif_calendar.specs.Keys.{ArePositionsOf}
+use Rattle.cif_calendar.proofs.Names.{All-contains, AnyHasKey, ArePositionsOf, Contains, Contains-append_cases, Contains-append_right}
+use Rattle.cif_calendar.proofs.Names.{HasKey, IsCountOfKey, IsTotalOrder, Less, List, Ordering, Terms, drop, inl, inr, refl, subst, sym}
+use Rattle.cif_calendar.proofs.Names.{take, take-append-drop, ℕ, ⊎_elim, ◌≡◌, ◌⊎◌}
 use Rattle.cif_calendar.proofs.KeyTurns.{one-key}
 use Rattle.cif_calendar.proofs.RisingLists.{not_less}
 

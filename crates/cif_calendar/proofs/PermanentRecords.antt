@@ -1,8 +1,6 @@
 -- Records that are all permanent.
-use Rattle.std.proofs.Common.{◌≡◌, ℕ, sym, ◌∙◌, ap, arith, true≢false, IsSome}
-use Rattle.cif_columns.specs.Stp.{letter}
-use Rattle.cif_columns.specs.declared.stp.Stp.TheVariants.{P, C}
-use Rattle.cif_calendar.proofs.Words.{Terms, Records, Applies, Wins, AreLawful}
+use Rattle.cif_calendar.proofs.Names.{Applies, AreLawful, C, IsSome, P, Records, Terms, Wins, ap, arith, letter, sym, true≢false, ℕ, ◌∙◌}
+use Rattle.cif_calendar.proofs.Names.{◌≡◌}
 
 module _ {B : Type 0} (records : Records B) where
   -- each that applies wins

@@ -1,11 +1,10 @@
 -- Pieces one after another, and the source of a day.
-use Rattle.std.proofs.Common.{◌≡◌, ℕ, zero, suc, ◌+◌, ◌<◌, ◌≤◌, List, [], ◌∷◌, ◌++◌, length, Bool, cond, refl, sym, ◌∙◌, ap, arith, ⊎_elim}
-use Rattle.std.proofs.Common.{get_or, ltb, ltb-true, ltb-false, true, false, Contains}
-use Rattle.std.specs.List.Sorted.{IsNonDecreasingBy, IsPartitionPoint}
+use Rattle.cif_calendar.proofs.Names.{Bool, Contains, List, Piece, Tiles, [], ap, arith, cond, false, get_or, length, ltb, ltb-false}
+use Rattle.cif_calendar.proofs.Names.{ltb-true, refl, source_at, suc, sym, true, winner_of, zero, ℕ, ⊎_elim, ◌++◌, ◌+◌, ◌<◌, ◌∙◌, ◌∷◌, ◌≡◌}
+use Rattle.cif_calendar.proofs.Names.{◌≤◌}
 use Rattle.std.proofs.lemmas.Bool.Decides.{leb_tells}
-use Rattle.cif_calendar.specs.Pieces.{Tiles, source_at, winner_of}
-use Rattle.cif_calendar.proofs.Words.{Piece}
-use Rattle.cif_calendar.proofs.Elements.{Contains-first, Contains-rest, Contains-cases}
+use Rattle.std.specs.List.Sorted.{IsNonDecreasingBy, IsPartitionPoint}
+use Rattle.cif_calendar.proofs.Elements.{Contains-cases, Contains-first, Contains-rest}
 
 pub tiles-push : (ps : List Piece) (a b : ℕ) (p : Piece) → Tiles ps a b → p.first ≡ b → p.first ≤ p.last →
     Tiles (ps ++ p ∷ []) a (p.last + 1)

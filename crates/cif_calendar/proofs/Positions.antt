@@ -1,9 +1,7 @@
 -- The records at a key's positions are the records of the key.
-use Rattle.std.proofs.Common.{◌≡◌, ℕ, List, Option, None, Some, map, sym, ◌∙◌, ap, subst, Contains, slice_get, IsNone, ◌↔◌, option_map}
-use Rattle.cif_columns.specs.declared.stp.Stp.TheVariants.{C}
-use Rattle.std.proofs.lemmas.Option.{same_Some, slice_get-map, slice_get-get_or, slice_get_within, get_or_from_slice_get}
-use Rattle.cif_calendar.proofs.Words.{Terms, SameRecords, AreLawful, IsChosen}
-use Rattle.cif_calendar.specs.Keys.{keyed, of_key, ArePositionsOf}
+use Rattle.cif_calendar.proofs.Names.{AreLawful, ArePositionsOf, C, Contains, IsChosen, IsNone, List, None, Option, SameRecords, Some}
+use Rattle.cif_calendar.proofs.Names.{Terms, ap, get_or_from_slice_get, keyed, map, of_key, option_map, same_Some, slice_get}
+use Rattle.cif_calendar.proofs.Names.{slice_get-get_or, slice_get-map, slice_get_within, subst, sym, ℕ, ◌↔◌, ◌∙◌, ◌≡◌}
 
 -- an element that a look-up finds is in the list, and an element of the list is found
 pub contains-at : {X : Type 0} (xs : List X) (i : ℕ) (x : X) → slice_get xs i ≡ Some x → Contains xs x

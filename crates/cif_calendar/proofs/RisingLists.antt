@@ -1,11 +1,7 @@
 -- Lists in a strict order: with the same members they are equal.
-use Rattle.std.proofs.Common.{◌≡◌, ◌⊎◌, inl, inr, suc, List, [], ◌∷◌, arith, refl, sym, ◌∙◌, subst, AllPairs, Contains}
-use Rattle.std.specs.declared.cmp.Ordering.{Ordering}
-use Rattle.std.specs.declared.cmp.Ordering.TheVariants.{Less, Equal}
-use Rattle.std.specs.Ordering.{ordering_reverse}
-use Rattle.std.specs.Cmp.{IsTotalOrder}
-use Rattle.std.proofs.lemmas.Cmp.{tied_itself}
-use Rattle.cif_calendar.proofs.Elements.{Contains-first, Contains-rest, Contains-cases}
+use Rattle.cif_calendar.proofs.Names.{AllPairs, Contains, Equal, IsTotalOrder, Less, List, Ordering, [], arith, inl, inr, ordering_reverse}
+use Rattle.cif_calendar.proofs.Names.{refl, subst, suc, sym, tied_itself, ◌∙◌, ◌∷◌, ◌≡◌, ◌⊎◌}
+use Rattle.cif_calendar.proofs.Elements.{Contains-cases, Contains-first, Contains-rest}
 
 -- an empty list has no member
 pub Contains-none : {X : Type 0} (x : X) → Contains [] x → ⊥

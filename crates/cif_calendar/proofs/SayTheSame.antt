@@ -1,9 +1,7 @@
 -- When two lists of records say the same.
-use Rattle.std.proofs.Common.{ℕ, ◌≤◌, List, ◌↔◌}
-use Rattle.cif_calendar.proofs.Words.{Terms, AreLawful, BodyRuns}
-use Rattle.cif_calendar.specs.Keys.{of_key}
-use Rattle.cif_calendar.specs.Meaning.{EntriesSayTheSame}
+use Rattle.cif_calendar.proofs.Names.{AreLawful, BodyRuns, List, Terms, of_key, ℕ, ◌↔◌, ◌≤◌}
 use Rattle.cif_calendar.proofs.Meaning.{Runs-from_bodies}
+use Rattle.cif_calendar.specs.Meaning.{EntriesSayTheSame}
 
 module _ {K B : Type 0} where
   pub EntriesSayTheSame-refl : (xs : List (K × Terms B)) (first last : ℕ) → EntriesSayTheSame xs xs first last

@@ -1,6 +1,6 @@
 -- Sets with the same records have the same winners, the same clashes and the same runs.
-use Rattle.std.proofs.Common.{ℕ, Option, None, Some}
-use Rattle.cif_calendar.proofs.Words.{Terms, Records, Wins, IsClear, IsClash, IsClearFrom, IsFirstClash, Runs, SameRecords}
+use Rattle.cif_calendar.proofs.Names.{IsClash, IsClear, IsClearFrom, IsFirstClash, None, Option, Records, Runs, SameRecords, Some, Terms}
+use Rattle.cif_calendar.proofs.Names.{Wins, ℕ}
 
 module _ {B : Type 0} (xs ys : Records B) (e : SameRecords xs ys) where
   pub Wins-same : (d : ℕ) (r : Terms B) → Wins xs d r → Wins ys d r

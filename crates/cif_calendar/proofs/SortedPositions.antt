@@ -1,19 +1,10 @@
 -- Positions that are sorted by what stands for the keys of their entries rise.
-use Rattle.std.proofs.Common.{◌≡◌, ◌∙◌, ℕ, zero, suc, ◌+◌, ◌≤◌, ◌<◌, List, [], ◌∷◌, ◌++◌, Bool, length, map}
-use Rattle.std.proofs.Common.{ap, arith, refl, sym, subst}
-use Rattle.std.specs.Prelude.{All, Contains}
-use Rattle.std.specs.Cmp.{IsTotalOrder}
-use Rattle.std.specs.List.{range_with_len}
-use Rattle.std.specs.List.Sorted.{IsPermutation, IsSortedBy}
-use Rattle.std.specs.Ordering.{is_gt, is_lt}
-use Rattle.std.specs.declared.cmp.Ordering.{Ordering}
-use Rattle.std.proofs.lemmas.List.{get_or-map, length-map, map-append}
-use Rattle.std.proofs.lemmas.List.Elements.{All-nil, All-push, All-same}
-use Rattle.std.proofs.lemmas.List.Sorted.{All-permutation, Contains-permutation, IsPermutation-map, ranks_by, sorted_far}
-use Rattle.cif_calendar.specs.Terms.{Terms}
-use Rattle.cif_calendar.specs.Ranks.{AreRanked}
-use Rattle.cif_calendar.specs.ByKey.{AreAllByKey, HasKey, IsRising}
-use Rattle.cif_calendar.proofs.KeyPositions.{not_gt, range-within, range-whole}
+use Rattle.cif_calendar.proofs.Names.{All, All-nil, All-permutation, All-push, All-same, AreAllByKey, AreRanked, Bool, Contains}
+use Rattle.cif_calendar.proofs.Names.{Contains-permutation, HasKey, IsPermutation, IsPermutation-map, IsRising, IsSortedBy, IsTotalOrder}
+use Rattle.cif_calendar.proofs.Names.{List, Ordering, Terms, [], ap, arith, get_or-map, is_gt, is_lt, length, length-map, map, map-append}
+use Rattle.cif_calendar.proofs.Names.{range_with_len, ranks_by, refl, sorted_far, subst, suc, sym, zero, ℕ, ◌++◌, ◌+◌, ◌<◌, ◌∙◌, ◌∷◌, ◌≡◌}
+use Rattle.cif_calendar.proofs.Names.{◌≤◌}
+use Rattle.cif_calendar.proofs.KeyPositions.{not_gt, range-whole, range-within}
 
 range-more : (a n b : ℕ) → a + n ≡ b → range_with_len a (n + 1) ≡ range_with_len a n ++ b ∷ []
 range-more a zero b is = ap (λ i. i ∷ []) (omega arith)

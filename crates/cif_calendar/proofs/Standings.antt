@@ -1,12 +1,9 @@
 -- Who leads on each weekday, as more members are looked at.
-use Rattle.std.proofs.Common.{◌≡◌, ℕ, ◌+◌, ◌<◌, ◌≤◌, List, [], ◌∷◌, ◌++◌, Some, replicate, length-set, get_or, set, ◌≢◌, ◌⊎◌, inl, inr}
-use Rattle.std.proofs.Common.{arith, refl, ⊎_elim, sym, ◌∙◌, ap, subst, true, false, slice_get}
-use Rattle.std.proofs.lemmas.Bool.{cases_lt}
-use Rattle.std.proofs.lemmas.Option.{slice_get-get_or}
+use Rattle.cif_calendar.proofs.Names.{Applies, AreBelow, Combines, IsBelow, IsChosen, Leader, List, LooksAt, Nobody, Some, Standing, Stands}
+use Rattle.cif_calendar.proofs.Names.{Terms, [], ap, arith, cases_lt, false, get_or, get_or-replicate, get_or-set_other, get_or_past, inl}
+use Rattle.cif_calendar.proofs.Names.{inr, length-set, refl, replicate, set, set-get_or, slice_get, slice_get-get_or, subst, sym, true}
+use Rattle.cif_calendar.proofs.Names.{weekday_of, ℕ, ⊎_elim, ◌++◌, ◌+◌, ◌<◌, ◌∙◌, ◌∷◌, ◌≡◌, ◌≢◌, ◌≤◌, ◌⊎◌}
 use Rattle.std.proofs.lemmas.Grind.{get_or-set_at}
-use Rattle.std.proofs.lemmas.List.{get_or-set_other, get_or_past, get_or-replicate, set-get_or}
-use Rattle.cif_calendar.proofs.Words.{weekday_of, Terms, Applies, IsChosen, Standing, Nobody, Leader}
-use Rattle.cif_calendar.specs.Steps.Standing.{AreBelow, Combines, IsBelow, LooksAt, Stands}
 use Rattle.cif_calendar.proofs.Winning.{nobody-combines, one-leads, one-none}
 
 -- The weekdays one by one: each before k has had a step, and the others are as they were.

@@ -1,13 +1,9 @@
 -- Stretches one after another, and those of two sets of members together.
-use Rattle.std.proofs.Common.{◌≡◌, ℕ, ◌+◌, ◌-◌, ◌<◌, ◌≤◌, List, [], ◌∷◌, ◌++◌, Some, length, get_or, All, replicate, arith, refl, ⊎_elim}
-use Rattle.std.proofs.Common.{inl, inr, sym, ◌∙◌, ap, subst, nat_cmp, is_le, rules, Bool, true, false, ◌⊎◌, slice_get}
-use Rattle.std.proofs.lemmas.Option.{slice_get-get_or}
-use Rattle.std.specs.Ordering.{ord_min}
-use Rattle.cif_calendar.proofs.Words.{weekday_of, Applies, Terms, Records, IsChosen, Standing, Nobody, Leader}
-use Rattle.cif_calendar.specs.Pieces.{ChangesOn, IsUnbroken}
-use Rattle.cif_calendar.specs.Steps.Standing.{AreBelow, LooksAt, Stands}
-use Rattle.cif_calendar.specs.Steps.Stretches.{AreBehind, AreStretches, IsJoint, IsPart, IsStretch}
-use Rattle.cif_calendar.specs.declared.stretch.Stretch.{Stretch}
+use Rattle.cif_calendar.proofs.Names.{All, Applies, AreBehind, AreBelow, AreStretches, Bool, ChangesOn, IsChosen, IsJoint, IsPart}
+use Rattle.cif_calendar.proofs.Names.{IsStretch, IsUnbroken, Leader, List, LooksAt, Nobody, Records, Some, Standing, Stands, Stretch, Terms}
+use Rattle.cif_calendar.proofs.Names.{[], ap, arith, false, get_or, inl, inr, is_le, length, nat_cmp, ord_min, refl, replicate, rules}
+use Rattle.cif_calendar.proofs.Names.{slice_get, slice_get-get_or, subst, sym, true, weekday_of, ℕ, ⊎_elim, ◌++◌, ◌+◌, ◌-◌, ◌<◌, ◌∙◌, ◌∷◌}
+use Rattle.cif_calendar.proofs.Names.{◌≡◌, ◌≤◌, ◌⊎◌}
 use Rattle.cif_calendar.proofs.Standings.{below-same, stands-more, stands-none, stands-skip}
 use Rattle.cif_calendar.proofs.Winning.{IsUnion, chosen-one, chosen-union, one-chosen, union-swap}
 

@@ -1,11 +1,7 @@
 -- In an unbroken stretch a record applies on all days of a weekday or on none, so the winners of the first week are those of all days.
-use Rattle.std.proofs.Common.{◌≡◌, ℕ, ◌+◌, ◌-◌, ◌<◌, ◌≤◌, ◌%◌, List, Option, None, Some, subst, sym, arith, min, get_or}
-use Rattle.std.proofs.Common.{◌↔◌, length, ◌∙◌, ⊎_elim, set}
-use Rattle.std.proofs.lemmas.Bool.{cases_lt}
-use Rattle.std.proofs.lemmas.List.{get_or-set_same, get_or-set_other}
-use Rattle.cif_calendar.proofs.Words.{weekday_of, Terms, Records, Applies, Wins, IsClear, IsChosen, IsSource, Piece}
-use Rattle.cif_columns.specs.DaysRun.{RunsOn}
-use Rattle.cif_calendar.specs.Pieces.{IsUnbroken, IsPiece}
+use Rattle.cif_calendar.proofs.Names.{Applies, IsChosen, IsClear, IsPiece, IsSource, IsUnbroken, List, None, Option, Piece, Records, RunsOn}
+use Rattle.cif_calendar.proofs.Names.{Some, Terms, Wins, arith, cases_lt, get_or, get_or-set_other, get_or-set_same, length, min, set}
+use Rattle.cif_calendar.proofs.Names.{subst, sym, weekday_of, ℕ, ⊎_elim, ◌%◌, ◌+◌, ◌-◌, ◌<◌, ◌↔◌, ◌∙◌, ◌≡◌, ◌≤◌}
 
 -- d and e are days of one weekday in the stretch
 record AreAlike (first last d e : ℕ) : Type 0 where

@@ -1,16 +1,12 @@
 -- Members that are looked at together: who wins, and who leads.
-use Rattle.std.proofs.Common.{◌≡◌, ℕ, ◌<◌, ◌≤◌, List, [], ◌∷◌, ◌++◌, Option, Some, length, get_or, map, ap, subst, sym, ◌∙◌}
-use Rattle.std.proofs.Common.{arith, refl, ⊎_elim, inl, inr, IsSome, IsNone, slice_get, ◌⊎◌, option_map, option_and_then}
-use Rattle.std.proofs.lemmas.List.Elements.{Contains-append_left, Contains-append_right, Contains-append_cases, Contains-get_or}
-use Rattle.std.proofs.lemmas.Option.{same_Some, slice_get-get_or, slice_get-map, slice_get_read}
-use Rattle.cif_columns.specs.Stp.{letter}
-use Rattle.cif_columns.specs.declared.stp.Stp.{Stp}
-use Rattle.cif_columns.specs.declared.stp.Stp.TheVariants.{P, N, O, C}
-use Rattle.cif_calendar.proofs.Words.{Terms, Records, Applies, IsClear, NothingRuns, Wins, IsChosen, IsWinnerAt, body_at, Standing, Nobody}
-use Rattle.cif_calendar.proofs.Words.{Leader, Disputed, AreLawful}
-use Rattle.cif_calendar.specs.Wins.{precedence}
-use Rattle.cif_calendar.specs.Steps.Standing.{Combines, IsDisputed, IsRank, Leads, NoneApplies, Stands, StandsAt}
-use Rattle.cif_calendar.proofs.Elements.{Contains-first, Contains-cases}
+use Rattle.cif_calendar.proofs.Names.{Applies, AreLawful, C, Combines, Contains-append_cases, Contains-append_left, Contains-append_right}
+use Rattle.cif_calendar.proofs.Names.{Contains-get_or, Disputed, IsChosen, IsClear, IsDisputed, IsNone, IsRank, IsSome, IsWinnerAt, Leader}
+use Rattle.cif_calendar.proofs.Names.{Leads, List, Nobody, NoneApplies, NothingRuns, Option, P, Records, Some, Standing, Stands, StandsAt}
+use Rattle.cif_calendar.proofs.Names.{Stp, Terms, Wins, [], ap, arith, body_at, get_or, inl, inr, length, letter, map, option_and_then}
+use Rattle.cif_calendar.proofs.Names.{option_map, precedence, refl, same_Some, slice_get, slice_get-get_or, slice_get-map, slice_get_read}
+use Rattle.cif_calendar.proofs.Names.{subst, sym, ℕ, ⊎_elim, ◌++◌, ◌<◌, ◌∙◌, ◌∷◌, ◌≡◌, ◌≤◌, ◌⊎◌}
+use Rattle.cif_columns.specs.declared.stp.Stp.TheVariants.{N, O}
+use Rattle.cif_calendar.proofs.Elements.{Contains-cases, Contains-first}
 
 -- what an index reads, as a look-up among the terms
 pub terms_at : {X Y : Type 0} (f : X → Y) (xs : List X) (i : ℕ) (x : X) → i < length xs → x ≡ get_or xs i x →

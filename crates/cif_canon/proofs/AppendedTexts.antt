@@ -1,11 +1,9 @@
 -- Texts that are appended one after another to a sink, which keeps its failure.
-use Rattle.std.proofs.Common.{◌≡◌, ℕ, ◌+◌, ◌<◌, ◌≤◌, Bool, true, false, List, [], ◌++◌, Option, Result, Ok, Err, IfErr, inl, inr, ◌∷◌}
-use Rattle.std.proofs.Common.{append-nil, get_or, length, take, refl, sym, ap, ◌∙◌, subst}
-use Rattle.std.proofs.KnownBytes.{Appends-nil}
-use Rattle.cif_columns.specs.Sink.{HasFailed, Writes, sink_failed, writer_of}
-use Rattle.cif_columns.proofs.WrittenTexts.{failed_first, failed_second, written_both, written_nothing}
-use Rattle.cif_canon.specs.Normalised.{FaultWrites}
-use Rattle.cif_canon.proofs.Words.{Fault, IsAppended, OnOk, Sink, Write, false≢true, flat_map, flat_map-append, take_all, take_more}
+use Rattle.cif_canon.proofs.Names.{Appends-nil, Bool, Err, Fault, FaultWrites, HasFailed, IfErr, IsAppended, List, Ok, OnOk, Option, Result}
+use Rattle.cif_canon.proofs.Names.{Sink, Write, Writes, [], ap, append-nil, failed_first, false, false≢true, flat_map, flat_map-append}
+use Rattle.cif_canon.proofs.Names.{get_or, inl, inr, length, refl, sink_failed, subst, sym, take, take_all, take_more, true, writer_of, ℕ}
+use Rattle.cif_canon.proofs.Names.{◌++◌, ◌+◌, ◌<◌, ◌∙◌, ◌∷◌, ◌≡◌, ◌≤◌}
+use Rattle.cif_columns.proofs.WrittenTexts.{failed_second, written_both, written_nothing}
 
 module _ {W : Type 0} (contents : W → Option (List ℕ)) (errors : W → Option ℕ) where
   -- by a call that answers whether it was

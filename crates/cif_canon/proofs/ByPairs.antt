@@ -1,14 +1,12 @@
 -- The function takes the pairs of records that are in order: nothing stands between the two of a pair.
-use Rattle.std.proofs.Common.{◌≡◌, ◌⊎◌, inl, inr, Bool, false, List, [], ◌∷◌, None, Some, ap, arith, refl, subst, sym, true≢false}
-use Rattle.std.proofs.Common.{⊎_elim, ◌∙◌, ap₂, rules}
-use Rattle.std.specs.Ordering.{ordering_then}
-use Rattle.cif_canon.specs.Pairs.{AreByPairs}
-use Rattle.cif_canon.proofs.Words.{AllPairs, AreDifferences, ArePair, AssocKey, ComesBefore, Contains, Contains-cases, Contains-first}
-use Rattle.cif_canon.proofs.Words.{Contains-none, Contains-rest, Decides, DifferencesParts, Equal, ExtractParts, Greater, IsTotalOrder}
-use Rattle.cif_canon.proofs.Words.{IsTrue, Left, Less, Listed, Option, Ordering, Permanent, Precedes, Right, Side, Sided, ℕ, are_pair}
-use Rattle.cif_canon.proofs.Words.{by_pairs, bytes_decides, common_steps, cond_both, false≢true, is_eq, is_side, key_cmp, nat_cmp, nat_eq}
-use Rattle.cif_canon.proofs.Words.{nat_list_cmp_total, not_less, pointwise, pointwise_decides, same_Some, same_key-cmp, slice_cmp}
-use Rattle.cif_canon.proofs.Words.{texts_ties, ⊤, ◌&&◌, ◌↔◌}
+use Rattle.cif_canon.proofs.Names.{AllPairs, AreByPairs, AreDifferences, ArePair, AssocKey, Bool, ComesBefore, Contains, Contains-cases}
+use Rattle.cif_canon.proofs.Names.{Contains-first, Contains-none, Contains-rest, Decides, DifferencesParts, Equal, ExtractParts, Greater}
+use Rattle.cif_canon.proofs.Names.{IsTotalOrder, IsTrue, Left, Less, List, Listed, None, Option, Ordering, Permanent, Precedes, Right, Side}
+use Rattle.cif_canon.proofs.Names.{Sided, Some, [], ap, ap₂, are_pair, arith, by_pairs, bytes_decides, common_steps, cond_both, false}
+use Rattle.cif_canon.proofs.Names.{false≢true, inl, inr, is_eq, is_side, key_cmp, nat_cmp, nat_eq, nat_list_cmp_total, not_less}
+use Rattle.cif_canon.proofs.Names.{ordering_then, pointwise, pointwise_decides, refl, rules, same_Some, same_key-cmp, slice_cmp, subst, sym}
+use Rattle.cif_canon.proofs.Names.{texts_ties, true≢false, ℕ, ⊎_elim, ◌&&◌, ◌↔◌, ◌∙◌, ◌∷◌, ◌≡◌, ◌⊎◌}
+use Rattle.std.specs.Prelude.{⊤}
 use Rattle.cif_canon.proofs.MergedSides.{pairs-head, pairs-tail}
 use Rattle.cif_canon.proofs.PairedRecords.{keys-decided, pair-decided}
 use Rattle.cif_canon.proofs.Unique.{keys-total}

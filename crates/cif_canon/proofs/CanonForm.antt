@@ -1,19 +1,17 @@
 -- The runs of an extract's canonical records, and its locations, make its canonical form.
-use Rattle.std.proofs.Common.{◌≡◌, ℕ, List, length, sym, ap₂, ◌∙◌, subst}
-use Rattle.std.proofs.lemmas.Slice.Zip.{AllZip-long}
+use Rattle.cif_canon.proofs.Names.{All, AllZip-long, AreCanonicalRecords, AreClear, AreDistinct, BytesSpell, Counts, ExtractParts, Fault}
+use Rattle.cif_canon.proofs.Names.{FitsColumns, Form, HasRecord, Header, IsCanonFault, IsCanonOf, IsCanonicalOf, IsFirstClashIn}
+use Rattle.cif_canon.proofs.Names.{IsRecordsFault, IsRunOf, List, Run, Tiploc, Window, ap₂, association_entries, canon_lines, canon_text}
+use Rattle.cif_canon.proofs.Names.{extract_text, header_window, key_cmp, length, lines_of, nat_cmp, schedule_entries, slice_cmp, subst, sym}
+use Rattle.cif_canon.proofs.Names.{text-spells, window_from, ℕ, ◌∙◌, ◌≡◌}
 use Rattle.cif_extract.specs.declared.fault.Clash.TheVariants as named
 use Rattle.cif_extract.specs.declared.fault.Fault.TheVariants as fault
-use Rattle.cif_canon.specs.Counts.{counts_of}
-use Rattle.cif_extract.proofs.PlainTexts.{text-spells}
-use Rattle.cif_canon.proofs.Words.{All, AreCanonicalRecords, AreClear, AreDistinct, BytesSpell, Counts, ExtractParts, Fault, FitsColumns}
-use Rattle.cif_canon.proofs.Words.{Form, HasRecord, Header, IsCanonFault, IsCanonOf, IsCanonicalOf, IsFirstClashIn, IsRecordsFault, IsRunOf}
-use Rattle.cif_canon.proofs.Words.{Run, Tiploc, Window, association_entries, canon_lines, canon_text, extract_text, header_window, key_cmp}
-use Rattle.cif_canon.proofs.Words.{lines_of, nat_cmp, schedule_entries, slice_cmp, window_from}
 use Rattle.cif_canon.proofs.CanonLines.{written-lines}
 use Rattle.cif_canon.proofs.CanonTexts.{have-records, number-of_associations, number-of_schedules, written-text}
 use Rattle.cif_canon.proofs.KeptExtract.{canonical_of, dated-associations, dated-schedules, is-canonical, same-meaning}
 use Rattle.cif_canon.proofs.MadeFits.{made-fits}
 use Rattle.cif_canon.proofs.NormalForms.{its-own, normal-unique, reached}
+use Rattle.cif_canon.specs.Counts.{counts_of}
 
 -- what is said of a slice's entries, in the window of these dates, is said of those of a list, in the header's window
 pub of_slice : {X : Type 0} (says : Window → List X → Type 0) (h : Header) (first last : ℕ) (xs ys : List X) →

@@ -1,18 +1,15 @@
 -- The lines of a canonical form's runs are those of the canonical extract, and what is listed of them.
-use Rattle.std.proofs.Common.{◌≡◌, ℕ, ◌+◌, ◌<◌, List, [], ◌∷◌, ◌++◌, Option, None, Some, map, refl, sym, ap, ap₂, ◌∙◌, append-nil, arith}
-use Rattle.std.proofs.Common.{get_or, length}
+use Rattle.cif_canon.proofs.Names.{All, All-head, All-tail, AreCanonicalRecords, AreDistinct, AssocBody, AssocKey, BodyLines, ExtractParts}
+use Rattle.cif_canon.proofs.Names.{Form, HasRecord, List, None, Option, Permanent, Run, ScheduleLines, Some, Terms, Tiploc, [], ap}
+use Rattle.cif_canon.proofs.Names.{append-nil, ap₂, arith, association_entries, association_plain, canon_lines, enumerate_from, flat_map}
+use Rattle.cif_canon.proofs.Names.{flat_map-append, get_or, get_or-enumerate_from, header_table, header_window, key_cmp, length}
+use Rattle.cif_canon.proofs.Names.{line_of_association, line_of_tiploc, lines_of, lines_of_schedule, map, nat_cmp, numbered_text, of_run}
+use Rattle.cif_canon.proofs.Names.{plain_line, record_at, refl, run_text, schedule_entries, schedule_plain, slice_cmp, sym, text_if, ℕ}
+use Rattle.cif_canon.proofs.Names.{◌++◌, ◌+◌, ◌<◌, ◌∙◌, ◌∷◌, ◌≡◌}
 use Rattle.std.proofs.lemmas.List.Concat.{flat_map_single}
-use Rattle.std.proofs.lemmas.List.FromFn.{get_or-enumerate_from}
-use Rattle.cif_canon.specs.Lines.{line_of_association, lines_of_schedule}
-use Rattle.cif_canon.specs.Steps.Texts.{of_run}
-use Rattle.cif_canon.proofs.Words.{All, All-head, All-tail, AreCanonicalRecords, AreDistinct, AssocBody, AssocKey, BodyLines, ExtractParts}
-use Rattle.cif_canon.proofs.Words.{Form, HasRecord, Permanent, Run, ScheduleLines, Terms, Tiploc, association_entries, association_plain}
-use Rattle.cif_canon.proofs.Words.{canon_lines, enumerate_from, flat_map, flat_map-append, header_table, header_window, key_cmp}
-use Rattle.cif_canon.proofs.Words.{line_of_tiploc, lines_of, nat_cmp, numbered_text, plain_line, record_at, run_text, schedule_entries}
-use Rattle.cif_canon.proofs.Words.{schedule_plain, slice_cmp, text_if}
 use Rattle.cif_canon.proofs.CanonTexts.{texts-of_runs}
-use Rattle.cif_canon.proofs.MadeExtract.{IsDated, associations_of, schedules_of}
 use Rattle.cif_canon.proofs.KeptExtract.{canonical_of, dated-associations, dated-schedules}
+use Rattle.cif_canon.proofs.MadeExtract.{IsDated, associations_of, schedules_of}
 
 -- the lines of associations, and of schedules
 lines-of_associations : (es : List (AssocKey × Permanent AssocBody)) (h : All IsDated es) →

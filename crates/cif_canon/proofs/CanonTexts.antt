@@ -1,17 +1,14 @@
 -- The text that is written of an extract's runs is that of the canonical extract.
-use Rattle.std.proofs.Common.{◌≡◌, ℕ, suc, List, [], ◌∷◌, ◌++◌, map, length, refl, sym, ap, ◌∙◌}
-use Rattle.cif_columns.specs.Contents.{lines_text}
-use Rattle.cif_canon.specs.Lines.{line_of_association}
-use Rattle.cif_canon.specs.Steps.Texts.{association_text}
-use Rattle.cif_canon.proofs.Words.{All, All-cons, All-head, All-nil, All-tail, AllZip, AreCanonicalRecords, AreDistinct, AssocBody}
-use Rattle.cif_canon.proofs.Words.{AssocKey, BodyLines, ExtractParts, Form, HasRecord, IsRunOf, Permanent, Run, Terms, Tiploc}
-use Rattle.cif_canon.proofs.Words.{association_entries, association_run_text, canon_text, extract_text, flat_map}
-use Rattle.cif_canon.proofs.Words.{flat_map-append, header_table, header_window, key_cmp, nat_cmp, plain_line, record_at}
-use Rattle.cif_canon.proofs.Words.{schedule_entries, schedule_lines, schedule_run_text, schedule_text, slice_cmp, text_if}
-use Rattle.cif_canon.proofs.Words.{line_of_tiploc, plain_lines_of, tiploc_text, trailer_table}
+use Rattle.cif_canon.proofs.Names.{All, All-cons, All-head, All-nil, All-tail, AllZip, AreCanonicalRecords, AreDistinct, AssocBody}
+use Rattle.cif_canon.proofs.Names.{AssocKey, BodyLines, ExtractParts, Form, HasRecord, IsRunOf, List, Permanent, Run, Terms, Tiploc, [], ap}
+use Rattle.cif_canon.proofs.Names.{association_entries, association_run_text, association_text, canon_text, extract_text, flat_map}
+use Rattle.cif_canon.proofs.Names.{flat_map-append, header_table, header_window, key_cmp, length, line_of_association, line_of_tiploc}
+use Rattle.cif_canon.proofs.Names.{lines_text, map, nat_cmp, plain_line, plain_lines_of, record_at, refl, schedule_entries, schedule_lines}
+use Rattle.cif_canon.proofs.Names.{schedule_run_text, schedule_text, slice_cmp, suc, sym, text_if, tiploc_text, trailer_table, ℕ, ◌++◌, ◌∙◌}
+use Rattle.cif_canon.proofs.Names.{◌∷◌, ◌≡◌}
+use Rattle.cif_canon.proofs.KeptExtract.{canonical_of, dated-associations, dated-schedules}
 use Rattle.cif_canon.proofs.MadeExtract.{IsDated, associations_of, schedule_of, schedules_of}
 use Rattle.cif_canon.proofs.RunTexts.{record-of_run}
-use Rattle.cif_canon.proofs.KeptExtract.{canonical_of, dated-associations, dated-schedules}
 
 -- ---- the runs of records
 

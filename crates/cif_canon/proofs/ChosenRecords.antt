@@ -1,7 +1,7 @@
 -- The elements that a test chooses, and their lines.
-use Rattle.std.proofs.Common.{◌≡◌, Bool, true, false, cond, List, [], ◌∷◌, ◌++◌, map, refl, sym, ap, ◌∙◌, subst, ⊎_elim}
-use Rattle.cif_canon.proofs.Words.{All-contains, All-contains_itself, All-filter, Contains, Contains-cases, Contains-first, Contains-none}
-use Rattle.cif_canon.proofs.Words.{Contains-rest, ℕ, cond_both, false≢true, filter, filter_passes, flat_map, if◌then◌else◌}
+use Rattle.cif_canon.proofs.Names.{All-contains, All-contains_itself, All-filter, Bool, Contains, Contains-cases, Contains-first}
+use Rattle.cif_canon.proofs.Names.{Contains-none, Contains-rest, List, [], ap, cond, cond_both, false, false≢true, filter, filter_passes}
+use Rattle.cif_canon.proofs.Names.{flat_map, if◌then◌else◌, map, refl, subst, sym, true, ℕ, ⊎_elim, ◌++◌, ◌∙◌, ◌∷◌, ◌≡◌}
 
 module _ {X : Type 0} (test : X → Bool) where
   -- the chosen elements are those that pass the test

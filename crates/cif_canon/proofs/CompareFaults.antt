@@ -1,8 +1,7 @@
 -- Why two extracts aren't compared.
-use Rattle.std.proofs.Common.{◌≡◌, ◌⊎◌, Bool, false, not, eqb, sym, ap, ◌∙◌}
+use Rattle.cif_canon.proofs.Names.{Bool, Clash, ExtractParts, Fault, Header, IsCanonFault, IsClearExtract, IsCompareFault, IsFirstClashIn}
+use Rattle.cif_canon.proofs.Names.{ap, eqb, eqb-true, false, header_window, not, not-false, sym, window_from, ◌∙◌, ◌≡◌, ◌⊎◌}
 use Rattle.cif_extract.specs.declared.fault.Fault.TheVariants as fault
-use Rattle.cif_canon.proofs.Words.{Clash, ExtractParts, Fault, Header, IsCanonFault, IsClearExtract, IsCompareFault, IsFirstClashIn}
-use Rattle.cif_canon.proofs.Words.{eqb-true, header_window, not-false, window_from}
 
 -- headers whose dates aren't found to differ have one window
 pub one-window : (h k : Header) (firsts lasts : Bool) → firsts ≡ not (eqb h.first k.first) → firsts ≡ false →

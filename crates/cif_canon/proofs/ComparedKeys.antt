@@ -1,10 +1,10 @@
 -- Two lists are compared key by key, over their positions in the order of their keys.
-use Rattle.std.proofs.Common.{◌≡◌, ◌⊎◌, inl, inr, ℕ, zero, suc, ◌+◌, ◌-◌, ◌<◌, List, [], take, drop, length, refl, sym, ⊎_elim, arith}
-use Rattle.std.proofs.Common.{subst}
-use Rattle.cif_calendar.proofs.PassedKeys.{HasPassed, key-or-later, later-less, left-before, passed-more, turn}
-use Rattle.cif_canon.proofs.Words.{All-contains, AnyHasKey, AreAllByKey, ArePositionsOf, Contains-none, Equal, HasKey, IsCountOfKey}
-use Rattle.cif_canon.proofs.Words.{IsFirstOfBoth, IsRising, IsTotalOrder, Less, Ordering, Terms, decided, length-drop, no-entry, not_less}
-use Rattle.cif_canon.proofs.Words.{of_key, rising-after, slice_get_within}
+use Rattle.cif_canon.proofs.Names.{All-contains, AnyHasKey, AreAllByKey, ArePositionsOf, Contains-none, Equal, HasKey, HasPassed}
+use Rattle.cif_canon.proofs.Names.{IsCountOfKey, IsFirstOfBoth, IsRising, IsTotalOrder, Less, List, Ordering, Terms, [], arith, drop, inl}
+use Rattle.cif_canon.proofs.Names.{inr, key-or-later, later-less, left-before, length, length-drop, no-entry, not_less, of_key, passed-more}
+use Rattle.cif_canon.proofs.Names.{refl, rising-after, slice_get_within, subst, suc, sym, take, turn, zero, ℕ, ⊎_elim, ◌+◌, ◌-◌, ◌<◌, ◌≡◌}
+use Rattle.cif_canon.proofs.Names.{◌⊎◌}
+use Rattle.cif_calendar.proofs.KeyTurns.{decided}
 
 module _ {K B : Type 0} (cmp : K → K → Ordering) where
   -- one of the keys at these positions of a list, or of those of another

@@ -1,12 +1,9 @@
 -- The days on which two calendars have the same bodies.
-use Rattle.std.proofs.Common.{◌≡◌, ℕ, ◌+◌, ◌-◌, ◌%◌, ◌<◌, ◌≤◌, List, Option, Some, None, map, sym, ap, ◌∙◌, subst, arith, ⊎_elim}
-use Rattle.std.proofs.Common.{get_or, length}
-use Rattle.cif_calendar.proofs.Winning.{terms_at}
-use Rattle.cif_calendar.proofs.PieceLists.{source_at-piece, tiles-ends}
-use Rattle.cif_canon.specs.Steps.Differences.{HasBodies}
-use Rattle.cif_canon.proofs.Words.{AreAlikeBy, AreSources, Bool, CalendarParts, Contains, HoldsFrom, IsSome, IsTrue, Piece, Terms, Tiles}
-use Rattle.cif_canon.proofs.Words.{body_at, body_on, cases_lt, false≢true, length-map, option_and_then, slice_get_past, weekday_of}
-use Rattle.cif_canon.proofs.Words.{winner_of, ◌↔◌}
+use Rattle.cif_canon.proofs.Names.{AreAlikeBy, AreSources, Bool, CalendarParts, Contains, HasBodies, HoldsFrom, IsSome, IsTrue, List, None}
+use Rattle.cif_canon.proofs.Names.{Option, Piece, Some, Terms, Tiles, ap, arith, body_on, cases_lt, false≢true, get_or, length, length-map}
+use Rattle.cif_canon.proofs.Names.{map, option_and_then, slice_get_past, source_at-piece, subst, sym, terms_at, tiles-ends, weekday_of}
+use Rattle.cif_canon.proofs.Names.{winner_of, ℕ, ⊎_elim, ◌%◌, ◌+◌, ◌-◌, ◌<◌, ◌↔◌, ◌∙◌, ◌≡◌, ◌≤◌}
+use Rattle.cif_calendar.specs.Source.{body_at}
 
 -- a day and the one of its weekday in the seven days from another
 pub in-week : (first d : ℕ) → first ≤ d → (e : ℕ) × (first ≤ e) × (e < first + 7) × (e ≤ d) × (weekday_of e ≡ weekday_of d)

@@ -1,12 +1,10 @@
 -- Locations by their columns, and the first that only one of two lists has.
-use Rattle.std.proofs.Common.{◌≡◌, ◌⊎◌, inl, inr, List, [], ◌∷◌, Some, None, refl, ap, subst, ◌∙◌, ⊎_elim}
-use Rattle.std.specs.Ordering.{ordering_reverse}
-use Rattle.std.proofs.lemmas.Cmp.{on_total}
-use Rattle.cif_records.proofs.Tiplocs.{same_tiploc}
-use Rattle.cif_canon.specs.Comparison.{IsFirstTiploc}
-use Rattle.cif_canon.proofs.Words.{AreDifferentTiplocs, Contains, Contains-cases, Contains-first, Contains-none, Contains-rest, Equal}
-use Rattle.cif_canon.proofs.Words.{Greater, IsOnlyIn, Left, Less, Right, Side, Sided, Tiploc, bytes_decides, decided, is_eq, less_one_way}
-use Rattle.cif_canon.proofs.Words.{nat_cmp, nat_list_cmp_total, not_less, same_Some, slice_cmp, slice_get, texts_ties, ◌↔◌}
+use Rattle.cif_canon.proofs.Names.{AreDifferentTiplocs, Contains, Contains-cases, Contains-first, Contains-none, Contains-rest, Equal}
+use Rattle.cif_canon.proofs.Names.{Greater, IsFirstTiploc, IsOnlyIn, Left, Less, List, None, Right, Side, Sided, Some, Tiploc, [], ap}
+use Rattle.cif_canon.proofs.Names.{bytes_decides, inl, inr, is_eq, less_one_way, nat_cmp, nat_list_cmp_total, not_less, on_total}
+use Rattle.cif_canon.proofs.Names.{ordering_reverse, refl, same_Some, same_tiploc, slice_cmp, slice_get, subst, texts_ties, ⊎_elim, ◌↔◌}
+use Rattle.cif_canon.proofs.Names.{◌∙◌, ◌∷◌, ◌≡◌, ◌⊎◌}
+use Rattle.cif_calendar.proofs.KeyTurns.{decided}
 use Rattle.cif_canon.proofs.MergedSides.{pairs-head}
 
 -- one location comes before another

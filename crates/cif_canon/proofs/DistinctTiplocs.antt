@@ -1,15 +1,12 @@
 -- Locations that are sorted, and each kept once, rise strictly and are the same.
-use Rattle.std.proofs.Common.{◌≡◌, nat_eq, List, [], ◌∷◌, sym, subst, arith, IsPermutation}
-use Rattle.std.specs.List.Retain.{IsFiltered, DiffersFromLast}
-use Rattle.std.specs.List.Sorted.{IsSorted, IsStrictlySortedBy}
-use Rattle.std.specs.Cmp.Lexicographic.{on_texts_equal}
-use Rattle.std.proofs.lemmas.Cmp.{on_total}
+use Rattle.cif_canon.proofs.Names.{All, All-cons, All-nil, AllByRecursion, AllPairs, AllPairs-cons, AreDistinct, Contains-dedup}
+use Rattle.cif_canon.proofs.Names.{Contains-from_dedup, Contains-permutation, IsPermutation, IsPermutation-sym, IsSorted}
+use Rattle.cif_canon.proofs.Names.{IsStrictlySortedBy-dedup, Less, List, Ordering, Tiploc, [], arith, bytes_decides, dedup, nat_cmp, nat_eq}
+use Rattle.cif_canon.proofs.Names.{nat_list_cmp_total, on_texts_equal, on_total, pointwise, same_tiploc, slice_cmp, subst, sym, texts_ties}
+use Rattle.cif_canon.proofs.Names.{◌∷◌, ◌≡◌}
 use Rattle.std.proofs.lemmas.List.Filters.{dedup_is}
-use Rattle.std.proofs.lemmas.List.Kept.{AllPairs-cons, Contains-dedup, Contains-from_dedup, IsStrictlySortedBy-dedup}
-use Rattle.std.proofs.lemmas.List.Sorted.{Contains-permutation, IsPermutation-sym}
-use Rattle.cif_records.proofs.Tiplocs.{same_tiploc}
-use Rattle.cif_canon.proofs.Words.{All, All-cons, All-nil, AllByRecursion, AllPairs, AreDistinct, Less, Ordering, Tiploc, bytes_decides}
-use Rattle.cif_canon.proofs.Words.{dedup, nat_cmp, nat_list_cmp_total, pointwise, slice_cmp, texts_ties}
+use Rattle.std.specs.List.Retain.{DiffersFromLast, IsFiltered}
+use Rattle.std.specs.List.Sorted.{IsStrictlySortedBy}
 
 -- what is sorted strictly rises strictly
 all-from : {X : Type 0} (P : X → Type 0) (xs : List X) → AllByRecursion P xs → All P xs

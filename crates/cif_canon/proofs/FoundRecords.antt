@@ -1,26 +1,19 @@
 -- The differences of two lists are found key by key.
-use Rattle.std.proofs.Common.{◌≡◌, ◌≢◌, ◌⊎◌, inl, inr, ℕ, ◌<◌, ◌≤◌, List, [], ◌∷◌, ◌++◌, Option, None, Some, drop, length, refl, sym, ap}
-use Rattle.std.proofs.Common.{◌∙◌, subst, arith, ⊎_elim, get_or, take}
-use Rattle.std.proofs.lemmas.Slice.Zip.{AllZip-long}
-use Rattle.cif_calendar.proofs.NoEntries.{none-clear}
-use Rattle.cif_calendar.specs.Runs.{NothingRuns, Runs}
-use Rattle.cif_calendar.specs.Terms.{Records}
-use Rattle.cif_weeks.proofs.AlignedDays.{tight}
-use Rattle.cif_weeks.proofs.KeyByKey.{canonical-more, canonical-none}
-use Rattle.cif_canon.specs.Differences.{AreOnlyRecords, RunsApplied, SaysNothing, SaysSomething}
-use Rattle.cif_canon.specs.declared.differing.Extent.{Extent}
-use Rattle.cif_canon.specs.declared.differing.Extent.TheVariants.{FirstKey}
-use Rattle.cif_canon.proofs.Words.{AllKeys, AllPairs, AllPairs-append, AllZip, AllZip-append, AreAllByKey, AreCanonical, AreClear}
-use Rattle.cif_canon.proofs.Words.{AreDifferentRuns, ArePositionsOf, AreRunsOf, AreSame, ComesBefore, Contains, Contains-append_cases}
-use Rattle.cif_canon.proofs.Words.{Contains-cases, Contains-first, Contains-from_map, Contains-get_or, Contains-none, EntriesSayTheSame}
-use Rattle.cif_canon.proofs.Words.{Equal, HasBody, IsClearFrom, IsCountOfKey, IsFirstDifference, IsFirstFound, IsFirstOfBoth, IsRunOf}
-use Rattle.cif_canon.proofs.Words.{IsSidedRunOf, IsTotalOrder, IsWithin, Left, Less, OnlySays, Ordering, Permanent, Right, Run}
-use Rattle.cif_canon.proofs.Words.{RunComesBefore, Side, Sided, Terms, TurnInto, Two, Window, at_side, if◌then◌else◌, is_side, less_one_way}
-use Rattle.cif_canon.proofs.Words.{none-some, not_less, of_key, of_side, with_key, zip-back, ◌↔◌}
+use Rattle.cif_canon.proofs.Names.{AllKeys, AllPairs, AllPairs-append, AllZip, AllZip-append, AllZip-long, AreAllByKey, AreCanonical}
+use Rattle.cif_canon.proofs.Names.{AreClear, AreDifferentRuns, AreOnlyRecords, ArePositionsOf, AreRunsOf, AreSame, ComesBefore, Contains}
+use Rattle.cif_canon.proofs.Names.{Contains-append_cases, Contains-cases, Contains-first, Contains-from_map, Contains-get_or, Contains-none}
+use Rattle.cif_canon.proofs.Names.{EntriesSayTheSame, Equal, FirstKey, HasBody, IsClearFrom, IsCountOfKey, IsFirstDifference, IsFirstFound}
+use Rattle.cif_canon.proofs.Names.{IsFirstOfBoth, IsRunOf, IsSidedRunOf, IsTotalOrder, IsWithin, Left, Less, List, None, NothingRuns}
+use Rattle.cif_canon.proofs.Names.{OnlySays, Option, Ordering, Permanent, Records, Right, Run, RunComesBefore, Runs, RunsApplied}
+use Rattle.cif_canon.proofs.Names.{SaysNothing, SaysSomething, Side, Sided, Some, Terms, TurnInto, Two, Window, [], ap, arith, at_side}
+use Rattle.cif_canon.proofs.Names.{canonical-more, canonical-none, drop, get_or, if◌then◌else◌, inl, inr, is_side, length, less_one_way}
+use Rattle.cif_canon.proofs.Names.{none-clear, none-some, not_less, of_key, of_side, refl, subst, sym, take, tight, with_key, zip-back, ℕ}
+use Rattle.cif_canon.proofs.Names.{⊎_elim, ◌++◌, ◌<◌, ◌↔◌, ◌∙◌, ◌∷◌, ◌≡◌, ◌≢◌, ◌≤◌, ◌⊎◌}
 use Rattle.cif_canon.proofs.ComparedKeys.{ArePassed, AreTurns, IsLeft, nobody, pass, passed-nothing, turns}
 use Rattle.cif_canon.proofs.KeyRecords.{bodies-other, bodies-own, zip-keyed}
 use Rattle.cif_canon.proofs.MergedSides.{at_other, by-side, from-side, of_side-append, other, pairs-head, side-member}
 use Rattle.cif_canon.proofs.OnlyRuns.{pairs-zip}
+use Rattle.cif_canon.specs.declared.differing.Extent.{Extent}
 
 -- the runs are those of the canonical records of what only the first list says of key k
 abbrev pub AreOnlyOfKey : {K B : Type 0} → Window → List (K × Terms B) → List (K × Terms B) → K → List Run → Type 0

@@ -1,9 +1,8 @@
 -- Canonical records make a canonical extract that says what the extract says.
-use Rattle.std.proofs.Common.{List, refl, sym, subst}
-use Rattle.cif_canon.proofs.Words.{All, AreCanonicalRecords, AreDistinct, EntriesSayTheSame, ExtractParts, Form, IsCanonicalExtract, Run}
-use Rattle.cif_canon.proofs.Words.{SameMeaning, Tiploc, association_entries, canonical-dated, header_window, key_cmp, nat_cmp}
-use Rattle.cif_canon.proofs.Words.{schedule_entries, slice_cmp}
-use Rattle.cif_canon.proofs.MadeExtract.{IsDated, associations_of, schedules_of, entries-of_associations, entries-of_schedules}
+use Rattle.cif_canon.proofs.Names.{All, AreCanonicalRecords, AreDistinct, EntriesSayTheSame, ExtractParts, Form, IsCanonicalExtract, List}
+use Rattle.cif_canon.proofs.Names.{Run, SameMeaning, Tiploc, association_entries, canonical-dated, header_window, key_cmp, nat_cmp, refl}
+use Rattle.cif_canon.proofs.Names.{schedule_entries, slice_cmp, subst, sym}
+use Rattle.cif_canon.proofs.MadeExtract.{IsDated, associations_of, entries-of_associations, entries-of_schedules, schedules_of}
 
 -- the records don't end before they begin
 pub dated-associations : (form : Form) (x : ExtractParts) (runs : List Run)

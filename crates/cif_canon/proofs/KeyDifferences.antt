@@ -1,15 +1,12 @@
 -- What only one of a key's two calendars says is what only one list says of the key.
-use Rattle.std.proofs.Common.{◌≡◌, ◌≢◌, ◌⊎◌, inl, inr, ℕ, Bool, true, false, List, Option, None, Some, map, refl, sym, ap, ◌∙◌, subst}
-use Rattle.cif_calendar.proofs.KeyCalendar.{key-clear, key-runs}
-use Rattle.cif_weeks.specs.Runs.{IsRunOf as IsCalendarRun, window_of}
-use Rattle.cif_calendar.specs.Runs.{Runs}
-use Rattle.cif_canon.specs.Steps.OnlySides.{AreKeyDifferences}
-use Rattle.cif_canon.proofs.Words.{AreOnlyRuns, ArePositionsOf, C, CalendarParts, IsCalendar, IsClearFrom, IsNone, IsRunOf, IsTrue}
-use Rattle.cif_canon.proofs.Words.{IsWithin, Left, OnlySays, Right, Run, Side, Sided, Terms, Two, at_side, body_on, false≢true, keyed}
-use Rattle.cif_canon.proofs.Words.{of_key, same_Some, window_from, ◌↔◌}
+use Rattle.cif_canon.proofs.Names.{AreKeyDifferences, AreOnlyRuns, ArePositionsOf, Bool, C, CalendarParts, IsCalendar, IsClearFrom, IsNone}
+use Rattle.cif_canon.proofs.Names.{IsRunOf, IsTrue, IsWithin, Left, List, None, OnlySays, Option, Right, Run, Runs, Side, Sided, Some}
+use Rattle.cif_canon.proofs.Names.{Terms, Two, ap, at_side, body_on, false, false≢true, inl, inr, key-clear, key-runs, keyed, map, of_key}
+use Rattle.cif_canon.proofs.Names.{refl, same_Some, subst, sym, true, window_from, window_of, ℕ, ◌↔◌, ◌∙◌, ◌≡◌, ◌≢◌, ◌⊎◌}
+use Rattle.cif_weeks.specs.Runs.{IsRunOf as IsCalendarRun}
 use Rattle.cif_canon.proofs.FoundRecords.{AreOfKey, AreOnlyOfKey}
-use Rattle.cif_canon.proofs.MergedSides.{by-side, other}
 use Rattle.cif_canon.proofs.KeyRecords.{key-run, runs-as, window-is}
+use Rattle.cif_canon.proofs.MergedSides.{by-side, other}
 
 -- two bodies, or none, are the same or they aren't
 module _ {B : Type 0} (eq : B → B → Bool) (law : (a b : B) → IsTrue (eq a b) ↔ (a ≡ b)) where

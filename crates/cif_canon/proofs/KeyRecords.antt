@@ -1,24 +1,15 @@
 -- The runs of a key's calendar are those of the key's canonical records.
-use Rattle.std.proofs.Common.{◌≡◌, inl, inr, ℕ, ◌<◌, List, ◌++◌, Some, map, length, get_or, refl, sym, ◌∙◌, ap, subst, ⊎_elim}
-use Rattle.cif_calendar.specs.Terms.{SameRecords}
-use Rattle.cif_calendar.specs.Calendar.{IsFault}
+use Rattle.cif_canon.proofs.Names.{AllZip, AreCanonicalRuns, ArePositionsOf, AreRunsOf, AreRunsOfKey, AreRunsOfMembers, BodyRuns, C}
+use Rattle.cif_canon.proofs.Names.{CalendarParts, Clash, Contains, Form, HasBody, HasBody-more, IsCalendar, IsChosen, IsFault, IsKeyFault}
+use Rattle.cif_canon.proofs.Names.{IsMembersRun, IsNone, IsRunOf, IsWithin, List, Permanent, Permanents, Run, SameRecords, Some, Terms}
+use Rattle.cif_canon.proofs.Names.{Window, ap, body_on, extract_fault, get_or, has-key, inl, inr, key-clear, key-fault, key-runs}
+use Rattle.cif_canon.proofs.Names.{key-source, keyed, length, map, of_key, of_key-more, one-key, option_and_then, positions-records, refl}
+use Rattle.cif_canon.proofs.Names.{subst, sym, terms_at-keyed, tight, window_from, window_of, with_key, zip-back, zip-map, zip-with, ℕ}
+use Rattle.cif_canon.proofs.Names.{⊎_elim, ◌++◌, ◌<◌, ◌↔◌, ◌∙◌, ◌≡◌}
+use Rattle.cif_calendar.proofs.Sets.{IsClearFrom-same, Runs-same}
 use Rattle.cif_calendar.specs.declared.key_calendar.CalendarFault.{CalendarFault}
 use Rattle.cif_calendar.specs.declared.key_calendar.CalendarFault.TheVariants.{Ambiguous, Memory}
-use Rattle.cif_calendar.specs.Runs.{BodyRuns}
-use Rattle.cif_calendar.specs.Source.{IsChosen}
-use Rattle.cif_calendar.proofs.KeyCalendar.{key-clear, key-runs, key-source, key-fault}
-use Rattle.cif_calendar.proofs.Positions.{positions-records, terms_at-keyed}
-use Rattle.cif_calendar.proofs.Sets.{IsClearFrom-same, Runs-same}
-use Rattle.cif_weeks.specs.MemberRuns.{AreRunsOfMembers, IsMembersRun}
-use Rattle.cif_weeks.specs.Permanent.{Permanents}
 use Rattle.cif_weeks.specs.Runs.{IsRunOf as IsCalendarRun}
-use Rattle.cif_weeks.proofs.AlignedDays.{tight}
-use Rattle.cif_weeks.proofs.KeyByKey.{HasBody-more, of_key-more}
-use Rattle.cif_canon.specs.Steps.Records.{extract_fault}
-use Rattle.cif_canon.proofs.Words.{AllZip, AreCanonicalRuns, ArePositionsOf, AreRunsOf, AreRunsOfKey, C, CalendarParts, Clash, Contains}
-use Rattle.cif_canon.proofs.Words.{Form, HasBody, IsCalendar, IsKeyFault, IsNone, IsRunOf, IsWithin, Permanent, Run, Terms, Window, body_on}
-use Rattle.cif_canon.proofs.Words.{has-key, keyed, of_key, one-key, option_and_then, window_from, window_of, with_key, zip-back, zip-map}
-use Rattle.cif_canon.proofs.Words.{zip-with, ◌↔◌}
 
 -- sets with the same records say the same
 same-bodies : {B : Type 0} (us vs : Permanents B) → ((r : Permanent B) → us r ↔ vs r) → (d : ℕ) (b : B) → HasBody us d b ↔ HasBody vs d b

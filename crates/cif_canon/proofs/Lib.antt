@@ -35,4 +35,4 @@ pub mod ViewLines
 pub mod ViewTexts
 pub mod WrittenCanon
 pub mod WrittenDifferences
-pub mod Words
+pub mod Names

@@ -1,13 +1,12 @@
 -- The differences of two extracts, from those of their locations, their associations and their schedules.
-use Rattle.std.proofs.Common.{◌≡◌, ◌⊎◌, inl, inr, ◌≤◌, ◌<◌, List, [], ◌∷◌, Option, None, Some, length, refl, sym, ap, ◌∙◌, subst, ⊎_elim}
-use Rattle.cif_weeks.proofs.AlignedDays.{tight}
-use Rattle.cif_canon.specs.Differences.{AreDifferentRecords, TurnLeftIntoRight}
-use Rattle.cif_canon.proofs.Words.{Agree, All, AllKeys, AllZip, AreClear, AreDifferences, AreDifferentRuns, AreDifferentTiplocs, AreNone}
-use Rattle.cif_canon.proofs.Words.{AreSame, Contains, Contains-get_or, DifferencesParts, EntriesSayTheSame, ExtractParts, HasKey}
-use Rattle.cif_canon.proofs.Words.{HasSidedRecord, IsClearExtract, IsFirstDifference, IsFirstFound, IsOnlyIn, IsSidedRunOf, Left, Ordering}
-use Rattle.cif_canon.proofs.Words.{Permanent, Right, Run, Side, Sided, Terms, Tiploc, TurnInto, Two, Window, association_entries, at_side}
-use Rattle.cif_canon.proofs.Words.{header_window, key_cmp, keyed, nat_cmp, of_side, one-key, same_Some, schedule_entries, sided_records}
-use Rattle.cif_canon.proofs.Words.{slice_cmp, slice_get, slice_get_within, within-entries, ◌↔◌}
+use Rattle.cif_canon.proofs.Names.{Agree, All, AllKeys, AllZip, AreClear, AreDifferences, AreDifferentRecords, AreDifferentRuns}
+use Rattle.cif_canon.proofs.Names.{AreDifferentTiplocs, AreNone, AreSame, Contains, Contains-get_or, DifferencesParts, EntriesSayTheSame}
+use Rattle.cif_canon.proofs.Names.{ExtractParts, HasKey, HasSidedRecord, IsClearExtract, IsFirstDifference, IsFirstFound, IsOnlyIn}
+use Rattle.cif_canon.proofs.Names.{IsSidedRunOf, Left, List, None, Option, Ordering, Permanent, Right, Run, Side, Sided, Some, Terms}
+use Rattle.cif_canon.proofs.Names.{Tiploc, TurnInto, TurnLeftIntoRight, Two, Window, [], ap, association_entries, at_side, header_window}
+use Rattle.cif_canon.proofs.Names.{inl, inr, key_cmp, keyed, length, nat_cmp, of_side, one-key, refl, same_Some, schedule_entries}
+use Rattle.cif_canon.proofs.Names.{sided_records, slice_cmp, slice_get, slice_get_within, subst, sym, tight, within-entries, ⊎_elim, ◌<◌}
+use Rattle.cif_canon.proofs.Names.{◌↔◌, ◌∙◌, ◌∷◌, ◌≡◌, ◌≤◌, ◌⊎◌}
 use Rattle.cif_canon.proofs.DifferentTiplocs.{has-or-not, no-tiploc, with_side}
 use Rattle.cif_canon.proofs.FoundRecords.{no-member}
 use Rattle.cif_canon.proofs.MergedSides.{at_side-made, from-side, side-member}

@@ -1,8 +1,7 @@
 -- The extract of canonical records.
-use Rattle.std.proofs.Common.{◌≡◌, ℕ, ◌≤◌, List, [], ◌∷◌, Some, refl, ap}
-use Rattle.cif_weeks.specs.Permanent.{terms_of}
-use Rattle.cif_canon.proofs.Words.{All, All-head, All-tail, AssocBody, AssocKey, Association, BodyLines, P, Permanent, Schedule}
-use Rattle.cif_canon.proofs.Words.{association_entries, permanent_entries, schedule_entries}
+use Rattle.cif_canon.proofs.Names.{All, All-head, All-tail, AssocBody, AssocKey, BodyLines, List, P, Permanent, Schedule, Some, [], ap}
+use Rattle.cif_canon.proofs.Names.{association_entries, permanent_entries, refl, schedule_entries, terms_of, ℕ, ◌∷◌, ◌≡◌, ◌≤◌}
+use Rattle.cif_records.specs.declared.association.Association.{Association}
 
 -- a record that doesn't end before it begins
 abbrev pub IsDated : {K B : Type 0} → K × Permanent B → Type 0

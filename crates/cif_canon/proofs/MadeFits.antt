@@ -1,24 +1,15 @@
 -- What a canonical extract says fits the columns of lines, where what it is made of does.
-use Rattle.std.proofs.Common.{◌≡◌, ℕ, zero, suc, Bool, List, [], ◌∷◌, map, length, get_or, IfSome, Some, refl, ap, ◌∙◌, subst, arith}
-use Rattle.std.specs.Option.{option_map}
-use Rattle.std.proofs.lemmas.List.Elements.{All-contains}
-use Rattle.cif_columns.specs.Day.{IsDay}
-use Rattle.cif_columns.specs.Field.{AllFit}
-use Rattle.cif_columns.specs.declared.stp.Stp.{Stp}
-use Rattle.cif_extract.specs.Body.{IsBody, detail_of}
-use Rattle.cif_extract.specs.Texts.{ScheduleFits}
-use Rattle.cif_records.specs.Association.{association_rows}
-use Rattle.cif_records.specs.declared.detail.Detail.{Detail}
+use Rattle.cif_canon.proofs.Names.{All, All-cons, All-contains, All-head, All-nil, All-tail, AllFit, AllZip, AreCanonical}
+use Rattle.cif_canon.proofs.Names.{AreCanonicalRecords, AreDistinct, AssocBody, AssocKey, BodyLines, Bool, Contains-get_or, Detail}
+use Rattle.cif_canon.proofs.Names.{ExtractParts, FitsColumns, Form, IfSome, IsAligned, IsBody, IsDay, IsRunOf, IsWithin, List, One}
+use Rattle.cif_canon.proofs.Names.{Ordering, P, Permanent, Run, Schedule, ScheduleFits, Some, Stp, Terms, Tiploc, Two, Window, [], ap}
+use Rattle.cif_canon.proofs.Names.{arith, association_entries, association_entry, association_rows, association_table, basic_rows}
+use Rattle.cif_canon.proofs.Names.{detail_of, get_or, header_window, key_cmp, length, map, nat_cmp, option_map, refl, schedule_entries}
+use Rattle.cif_canon.proofs.Names.{schedule_entry, slice_cmp, slice_get, subst, suc, tiploc_table, zero, ℕ, ◌∙◌, ◌∷◌, ◌≡◌}
 use Rattle.cif_records.proofs.Headers as headers
-use Rattle.cif_weeks.specs.Aligned.{IsAligned}
-use Rattle.cif_weeks.specs.declared.form.Form.TheVariants.{One}
-use Rattle.cif_canon.proofs.Words.{All, All-cons, All-head, All-nil, All-tail, AllZip, AreCanonical, AreCanonicalRecords, AreDistinct, AssocBody, AssocKey}
-use Rattle.cif_canon.proofs.Words.{Association, BodyLines, Contains-get_or, ExtractParts, FitsColumns, Form, IsRunOf, IsWithin}
-use Rattle.cif_canon.proofs.Words.{Ordering, P, Permanent, Run, Schedule, Terms, Tiploc, Two, Window, association_entries}
-use Rattle.cif_canon.proofs.Words.{association_entry, association_table, basic_rows, header_window, key_cmp, nat_cmp}
-use Rattle.cif_canon.proofs.Words.{schedule_entries, schedule_entry, slice_cmp, slice_get, tiploc_table}
-use Rattle.cif_canon.proofs.MadeExtract.{IsDated, association_of, associations_of, schedule_of, schedules_of}
+use Rattle.cif_records.specs.declared.association.Association.{Association}
 use Rattle.cif_canon.proofs.KeptExtract.{canonical_of, dated-associations, dated-schedules}
+use Rattle.cif_canon.proofs.MadeExtract.{IsDated, association_of, associations_of, schedule_of, schedules_of}
 
 -- ---- a permanent record with dates and a mask of its own
 

@@ -1,17 +1,14 @@
 -- The canonical records are made key by key, over positions in the order of their keys.
-use Rattle.std.proofs.Common.{◌≡◌, ◌⊎◌, inl, inr, ℕ, ◌<◌, List, [], ◌++◌, take, drop, length, refl, sym, subst, ⊎_elim}
-use Rattle.cif_calendar.specs.Terms.{AreLawful}
-use Rattle.cif_calendar.proofs.NoEntries.{none-clear}
-use Rattle.cif_calendar.proofs.PassedKeys.{HasPassed, key-or-later, later-less, left-before, passed-more, turn}
+use Rattle.cif_canon.proofs.Names.{AllZip, AllZip-append, AnyHasKey, AreCanonical, AreCanonicalRecords, AreLawful, AreOfFirstKey}
+use Rattle.cif_canon.proofs.Names.{ArePositionsOf, AreRunsOfKey, AreSaid, Contains, Contains-none, Equal, Fault, Form, HasPassed}
+use Rattle.cif_canon.proofs.Names.{IsKeyFault, IsRecordsFault, IsRising, IsRunOf, IsTotalOrder, Less, List, Ordering, Permanent, Run, Terms}
+use Rattle.cif_canon.proofs.Names.{Window, [], canonical-more, canonical-none, drop, first-leads, inl, inr, key-or-later, later-less}
+use Rattle.cif_canon.proofs.Names.{left-before, length, less_one_way, no-entry, none-clear, not_less, of_key, of_key-more, passed-more}
+use Rattle.cif_canon.proofs.Names.{records-meaning, refl, rising-after, slice_get_within, subst, sym, take, turn, with_key, ℕ, ⊎_elim, ◌++◌}
+use Rattle.cif_canon.proofs.Names.{◌<◌, ◌≡◌, ◌⊎◌}
 use Rattle.cif_extract.specs.declared.fault.Clash as named
 use Rattle.cif_extract.specs.declared.fault.Fault.TheVariants as fault
-use Rattle.cif_weeks.proofs.KeyByKey.{canonical-none, of_key-more, canonical-more}
-use Rattle.cif_canon.specs.Steps.Records.{AreSaid}
-use Rattle.cif_calendar.specs.ByKey.{AreOfFirstKey}
-use Rattle.cif_canon.proofs.Words.{AllZip, AllZip-append, AnyHasKey, AreCanonical, AreCanonicalRecords, ArePositionsOf, AreRunsOfKey}
-use Rattle.cif_canon.proofs.Words.{Contains, Contains-none, Equal, Fault, Form, IsKeyFault, IsRecordsFault, IsRising, IsRunOf, IsTotalOrder}
-use Rattle.cif_canon.proofs.Words.{Less, Ordering, Permanent, Run, Terms, Window, decided, first-leads, less_one_way, no-entry, not_less}
-use Rattle.cif_canon.proofs.Words.{of_key, records-meaning, rising-after, slice_get_within, with_key}
+use Rattle.cif_calendar.proofs.KeyTurns.{decided}
 use Rattle.cif_canon.proofs.KeyRecords.{bodies-other, bodies-own, zip-keyed}
 
 module _ {K B : Type 0} (cmp : K → K → Ordering) (form : Form) (window : Window) (es : List (K × Terms B)) where

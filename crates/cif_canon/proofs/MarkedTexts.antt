@@ -1,7 +1,6 @@
 -- Lines behind a mark.
-use Rattle.std.proofs.Common.{◌≡◌, ℕ, List, [], ◌∷◌, ◌++◌, sym, ◌∙◌, append_assoc, append-nil, refl, ap}
-use Rattle.cif_canon.specs.Differences.{mark, marked_schedule}
-use Rattle.cif_canon.proofs.Words.{BodyLines, Permanent, Side, flat_map, marked_text, schedule_lines, schedule_plain}
+use Rattle.cif_canon.proofs.Names.{BodyLines, List, Permanent, Side, [], ap, append-nil, append_assoc, flat_map, mark, marked_schedule}
+use Rattle.cif_canon.proofs.Names.{marked_text, refl, schedule_lines, schedule_plain, sym, ℕ, ◌++◌, ◌∙◌, ◌∷◌, ◌≡◌}
 
 -- the text of one line
 pub marked-line : (side : Side) (line : List ℕ) → mark side ++ (line ++ (10 ∷ [])) ≡ marked_text side (line ∷ [])

@@ -1,12 +1,10 @@
 -- Runs of both sides in one list.
-use Rattle.std.proofs.Common.{◌≡◌, inl, inr, zero, suc, ◌+◌, ◌<◌, ◌≤◌, Bool, true, false, List, [], ◌∷◌, ◌++◌, Some, None, refl, sym}
-use Rattle.std.proofs.Common.{ap, ◌∙◌, subst, arith, get_or, length, ⊎_elim, append_assoc, append-nil, true≢false}
-use Rattle.std.proofs.Math.Nat.{eq-or-lt_of_le}
-use Rattle.std.proofs.lemmas.List.Quantifiers.{all_pairs_push}
-use Rattle.cif_canon.specs.Steps.OnlySides.{IsFirstSide}
-use Rattle.cif_canon.proofs.Words.{AllPairs, AreAppendedRuns, AreMerging, AreRisingRuns, Contains, Contains-cases, Contains-first}
-use Rattle.cif_canon.proofs.Words.{Contains-get_or, Contains-none, Contains-push_cases, Contains-rest, Decides, HasMovedOf, Left, Right}
-use Rattle.cif_canon.proofs.Words.{Run, RunComesBefore, Side, Sided, at_side, cond_both, if◌then◌else◌, is_side, of_side}
+use Rattle.cif_canon.proofs.Names.{AllPairs, AreAppendedRuns, AreMerging, AreRisingRuns, Bool, Contains, Contains-cases, Contains-first}
+use Rattle.cif_canon.proofs.Names.{Contains-get_or, Contains-none, Contains-push_cases, Contains-rest, Decides, HasMovedOf, IsFirstSide}
+use Rattle.cif_canon.proofs.Names.{Left, List, None, Right, Run, RunComesBefore, Side, Sided, Some, [], all_pairs_push, ap, append-nil}
+use Rattle.cif_canon.proofs.Names.{append_assoc, arith, at_side, cond_both, eq-or-lt_of_le, false, get_or, if◌then◌else◌, inl, inr, is_side}
+use Rattle.cif_canon.proofs.Names.{length, of_side, refl, subst, suc, sym, true, true≢false, zero, ⊎_elim, ◌++◌, ◌+◌, ◌<◌, ◌∙◌, ◌∷◌, ◌≡◌}
+use Rattle.cif_canon.proofs.Names.{◌≤◌}
 
 -- ---- lists with sides
 

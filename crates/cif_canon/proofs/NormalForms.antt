@@ -1,24 +1,16 @@
 -- Canonical bytes are the only ones that say what they say, their own canonical form, and reached from each form.
-use Rattle.std.proofs.Common.{◌≡◌, ℕ, ◌≤◌, List, [], ◌∷◌, ◌++◌, map, length, Option, None, Some, IfSome, refl, sym, ap, ◌∙◌, subst, arith}
-use Rattle.std.proofs.Common.{length-append}
-use Rattle.cif_columns.specs.Contents.{contents_of, lines_text}
-use Rattle.cif_columns.proofs.Parts.{length-plain_line}
-use Rattle.cif_extract.proofs.PlainTexts.{text-spells, spelled-fits}
-use Rattle.cif_extract.proofs.SpelledBytes.{one_spelled}
-use Rattle.cif_records.specs.HeaderColumns.{with_window}
+use Rattle.cif_canon.proofs.Names.{Agree, AreClear, Asked, AskedDatesAreWithin, BytesSpell, ExtractParts, FitsColumns, Form, Header, IfSome}
+use Rattle.cif_canon.proofs.Names.{IsAccepted, IsCanonicalExtract, IsCanonicalOf, IsClearExtract, IsNarrowed, IsWithin, List, None, Option}
+use Rattle.cif_canon.proofs.Names.{SameMeaning, Schedule, Some, Tiploc, Window, [], ap, arith, canonical-clear, contents_of, drop_at}
+use Rattle.cif_canon.proofs.Names.{extract_text, flat_map, header_table, header_window, key_cmp, length, length-append, length-plain_line}
+use Rattle.cif_canon.proofs.Names.{line_of_association, line_of_tiploc, lines_text, map, nat_cmp, nothing_asked, one_spelled, plain_line}
+use Rattle.cif_canon.proofs.Names.{plain_lines_of, refl, same_extract_parts, slice_cmp, spelled-fits, subst, sym, text-spells}
+use Rattle.cif_canon.proofs.Names.{trailer_table, unwrap_or, window_asked, with_window, ℕ, ◌++◌, ◌∙◌, ◌∷◌, ◌≡◌, ◌≤◌}
 use Rattle.cif_records.proofs.Headers as headers
-use Rattle.cif_canon.specs.Accepted.{IsAccepted}
-use Rattle.cif_canon.specs.Asked.{nothing_asked}
-use Rattle.cif_canon.specs.Lines.{line_of_association}
-use Rattle.cif_canon.specs.NormalForm.{IsNormalFormAgain, IsNormalFormOf, IsReachedFromForms, IsUnique, after_first_line}
-use Rattle.cif_extract.proofs.OneExtract.{same_extract_parts}
-use Rattle.cif_canon.proofs.Words.{Agree, AreClear, Asked, AskedDatesAreWithin, Association, BytesSpell, ExtractParts, FitsColumns, Form}
-use Rattle.cif_canon.proofs.Words.{Header, IsCanonicalExtract, IsCanonicalOf, IsClearExtract, IsNarrowed, IsWithin, SameMeaning, Schedule}
-use Rattle.cif_canon.proofs.Words.{Tiploc, Window, canonical-clear, drop_at, extract_text, flat_map, header_table}
-use Rattle.cif_canon.proofs.Words.{header_window, key_cmp, nat_cmp, line_of_tiploc, plain_line, plain_lines_of, slice_cmp, trailer_table}
-use Rattle.cif_canon.proofs.Words.{unwrap_or, window_asked}
+use Rattle.cif_records.specs.declared.association.Association.{Association}
 use Rattle.cif_canon.proofs.SameExtracts.{agree-sym, agree-trans, agree-with_header, one-window, same-sym, same-trans}
 use Rattle.cif_canon.proofs.Unique.{extracts-unique, one-associations, one-schedules, one-tiplocs}
+use Rattle.cif_canon.specs.NormalForm.{IsNormalFormAgain, IsNormalFormOf, IsReachedFromForms, IsUnique, after_first_line}
 
 -- ---- what is accepted is one extract
 

@@ -1,20 +1,15 @@
 -- What an input that is read and narrowed comes to.
-use Rattle.std.proofs.Common.{◌≡◌, ◌≢◌, ◌≤◌, ℕ, false, List, [], Option, Result, Ok, Err, inr, refl, sym, ap, ◌∙◌, subst, arith, ⊎_elim}
-use Rattle.cif_columns.specs.Sink.{HasFailed, HasWritten}
-use Rattle.cif_columns.proofs.GivenLinesLaws.{known_so}
-use Rattle.cif_extract.specs.ReadFault.{is_read, reading_extract}
-use Rattle.cif_extract.specs.declared.extract.Extract.{Extract}
-use Rattle.cif_extract.specs.declared.fault.Clash.TheVariants.{Association, Train}
+use Rattle.cif_canon.proofs.Names.{Asked, AskedDatesAreWithin, BytesSpellWithin, CanonParts, Clash, Counts, Err, Extract, ExtractParts}
+use Rattle.cif_canon.proofs.Names.{Fault, FaultWrites, Form, HandsOn, HasCanon, HasFailed, HasWritten, IfErr, IfOk, IfSome}
+use Rattle.cif_canon.proofs.Names.{IsAcceptedWithin, IsCanonFault, IsCanonOf, IsCanonOfInput, IsClearExtract, IsDeviceOrMemory, IsErrAnd}
+use Rattle.cif_canon.proofs.Names.{IsFirstClashIn, IsNarrowed, IsNarrowingFault, IsNormaliseFault, IsNormalised, IsOfCheck}
+use Rattle.cif_canon.proofs.Names.{IsReadNarrowedFault, List, Makes, MatchResult, Normalises, Ok, Option, Refuses, Result, Sink}
+use Rattle.cif_canon.proofs.Names.{SpellsNarrowed, Train, Unread, [], ap, arith, at-fault, checking, extract_parts, false}
+use Rattle.cif_canon.proofs.Names.{first_clash-clear, inr, is_read, known_so, normalising, of_any, one_spelled, reading_canon}
+use Rattle.cif_canon.proofs.Names.{reading_extract, reading_narrowed, refl, spelled-refused, subst, sym, window_asked, ℕ, ⊎_elim, ◌∙◌, ◌≡◌}
+use Rattle.cif_canon.proofs.Names.{◌≢◌, ◌≤◌}
+use Rattle.cif_extract.specs.declared.fault.Clash.TheVariants.{Association}
 use Rattle.cif_extract.specs.declared.fault.Fault.TheVariants as fault
-use Rattle.cif_extract.proofs.SpelledBytes.{one_spelled, spelled-refused}
-use Rattle.cif_canon.specs.Accepted.{IsAcceptedWithin, SpellsNarrowed}
-use Rattle.cif_canon.specs.Fault.{IsDeviceOrMemory, IsNormaliseFault, IsReadNarrowedFault, reading_narrowed}
-use Rattle.cif_canon.specs.Normalised.{FaultWrites, HasCanon, IsCanonOfInput, IsNormalised, Normalises, checking, normalising}
-use Rattle.cif_canon.specs.Normalised.{reading_canon}
-use Rattle.cif_canon.proofs.Words.{Asked, AskedDatesAreWithin, BytesSpellWithin, CanonParts, Clash, Counts, ExtractParts, Fault, Form}
-use Rattle.cif_canon.proofs.Words.{HandsOn, IfErr, IfOk, IfSome, IsCanonFault, IsCanonOf, IsClearExtract, IsErrAnd, IsFirstClashIn}
-use Rattle.cif_canon.proofs.Words.{IsNarrowed, IsNarrowingFault, IsOfCheck, Makes, MatchResult, Refuses, Sink, Unread, at-fault}
-use Rattle.cif_canon.proofs.Words.{extract_parts, first_clash-clear, of_any, window_asked}
 use Rattle.cif_canon.proofs.NormalForms.{one-narrowed}
 
 module _ (max : ℕ) (asked : Asked) (bytes : List ℕ) where

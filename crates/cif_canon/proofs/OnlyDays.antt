@@ -1,10 +1,9 @@
 -- What is left of a calendar where another one has the same bodies on some days.
-use Rattle.std.proofs.Common.{◌≡◌, ◌≢◌, ◌⊎◌, ℕ, ◌+◌, ◌<◌, ◌≤◌, List, [], ◌∷◌, ◌++◌, Option, None, length, sym, ap, ◌∙◌, subst, arith}
-use Rattle.std.proofs.Common.{⊎_elim, set, get_or}
-use Rattle.cif_calendar.proofs.PieceLists.{source_at-piece, tiles-find, tiles-push}
-use Rattle.cif_canon.specs.Steps.OnlySides.{AreOnlyWinners}
-use Rattle.cif_canon.proofs.Words.{CalendarParts, Contains, Contains-append_left, Contains-append_right, Contains-first, IsOnlySource}
-use Rattle.cif_canon.proofs.Words.{Piece, Terms, Tiles, cases_lt, get_or-set_other, get_or-set_same, source_at, weekday_of, winner_of}
+use Rattle.cif_canon.proofs.Names.{AreOnlyWinners, CalendarParts, Contains, Contains-append_left, Contains-append_right, Contains-first}
+use Rattle.cif_canon.proofs.Names.{IsOnlySource, List, None, Option, Piece, Terms, Tiles, [], ap, arith, cases_lt, get_or, get_or-set_other}
+use Rattle.cif_canon.proofs.Names.{get_or-set_same, length, set, source_at, source_at-piece, subst, sym, weekday_of, winner_of, ℕ, ⊎_elim}
+use Rattle.cif_canon.proofs.Names.{◌++◌, ◌+◌, ◌<◌, ◌∙◌, ◌∷◌, ◌≡◌, ◌≢◌, ◌≤◌, ◌⊎◌}
+use Rattle.cif_calendar.proofs.PieceLists.{tiles-find, tiles-push}
 use Rattle.cif_canon.proofs.DifferentDays.{in-week}
 
 weekday-below : (d : ℕ) → weekday_of d < 7

@@ -1,10 +1,10 @@
 -- The runs of what is left of a calendar are those of what only it says.
-use Rattle.std.proofs.Common.{◌≡◌, ◌≢◌, ◌≤◌, ◌<◌, ℕ, List, [], None, Some, sym, ◌∙◌, ap, subst, arith, get_or, ⊎_elim}
+use Rattle.cif_canon.proofs.Names.{AllPairs, AllZip, AreCanonicalRuns, AreOnlyRuns, AreRisingRuns, AreSources, CalendarParts, Contains-none}
+use Rattle.cif_canon.proofs.Names.{IsOnlyCalendar, IsWithin, List, None, Permanent, Run, Some, Terms, Two, [], ap, arith, body_on, get_or}
+use Rattle.cif_canon.proofs.Names.{get_or_from_slice_get, slice_get-get_or, slice_get_within, source_at, subst, sym, window_from, window_of}
+use Rattle.cif_canon.proofs.Names.{zip-at, ℕ, ⊎_elim, ◌<◌, ◌↔◌, ◌∙◌, ◌≡◌, ◌≢◌, ◌≤◌}
+use Rattle.cif_calendar.specs.Source.{body_at}
 use Rattle.cif_weeks.specs.Runs.{IsRunOf as IsCalendarRun}
-use Rattle.cif_canon.specs.Steps.OnlySides.{IsOnlyCalendar}
-use Rattle.cif_canon.proofs.Words.{AllPairs, AllZip, AreCanonicalRuns, AreOnlyRuns, AreRisingRuns, AreSources, CalendarParts, Contains-none}
-use Rattle.cif_canon.proofs.Words.{IsWithin, Permanent, Run, Terms, Two, body_at, body_on, get_or_from_slice_get, slice_get-get_or}
-use Rattle.cif_canon.proofs.Words.{slice_get_within, source_at, window_from, window_of, zip-at, ◌↔◌}
 use Rattle.cif_canon.proofs.KeyRecords.{runs-as}
 
 -- what holds of the pairs of one list holds of those of another that goes with it one by one

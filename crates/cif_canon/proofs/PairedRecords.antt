@@ -1,12 +1,12 @@
 -- Records by pairs: the first one is listed by itself, or with the next one if they are a pair.
-use Rattle.std.proofs.Common.{◌≡◌, ℕ, ◌-◌, ◌<◌, Bool, true, false, List, [], ◌∷◌, Option, None, Some, ap, arith, drop, get_or, length}
-use Rattle.std.proofs.Common.{refl, sym, take, ◌∙◌}
+use Rattle.cif_canon.proofs.Names.{ArePair, Bool, Decides, Decides-and, Decides-eqb, IsAppended, IsTrue, Left, List, Listed, None, Option}
+use Rattle.cif_canon.proofs.Names.{Ordering, Permanent, Right, Run, Sided, Sink, Some, Terms, [], ap, are_pair, arith, at_side, by_pairs}
+use Rattle.cif_canon.proofs.Names.{drop, false, get_or, if◌then◌else◌, is_eq, length, length-drop, pointwise_decides, record_at, refl}
+use Rattle.cif_canon.proofs.Names.{same_from_decides, sided_records, sym, take, take_all, true, with_record, ℕ, ◌-◌, ◌<◌, ◌↔◌, ◌∙◌, ◌∷◌}
+use Rattle.cif_canon.proofs.Names.{◌≡◌}
 use Rattle.std.specs.Cmp.{booleans_Decides}
-use Rattle.cif_canon.specs.Steps.ByPairs.{HasWrittenFirst, IsListedFirst}
 use Rattle.cif_canon.proofs.MergedSides.{side-decided}
-use Rattle.cif_canon.proofs.Words.{ArePair, Decides, Decides-and, Decides-eqb, IsAppended, IsTrue, Left, Listed, Ordering, Permanent, Right}
-use Rattle.cif_canon.proofs.Words.{Run, Sided, Sink, Terms, are_pair, at_side, by_pairs, if◌then◌else◌, is_eq, length-drop}
-use Rattle.cif_canon.proofs.Words.{pointwise_decides, record_at, same_from_decides, sided_records, take_all, with_record, ◌↔◌}
+use Rattle.cif_canon.specs.Steps.ByPairs.{HasWrittenFirst, IsListedFirst}
 
 -- ---- the test of a pair
 

@@ -1,14 +1,10 @@
 -- Two extracts, narrowed to what is asked for of both, or why they aren't.
-use Rattle.std.proofs.Common.{◌≡◌, ℕ, Bool, List, Option, Result, Ok, Err, inl, inr, subst, sym, ⊎_elim}
+use Rattle.cif_canon.proofs.Names.{Asked, Bool, Err, Extract, ExtractParts, Fault, IsErrAnd, IsNarrowed, IsNarrowingFault, IsOfReadNarrowed}
+use Rattle.cif_canon.proofs.Names.{IsOfReading, IsResultOfBoth, List, Ok, Option, Result, Source, at-fault, extract_parts, inl, inr}
+use Rattle.cif_canon.proofs.Names.{reading_extract, subst, sym, ℕ, ⊎_elim, ◌≡◌}
 use Rattle.cif_columns.specs.declared.line_reader.TheConstants.{MAX_LINES}
-use Rattle.cif_columns.specs.declared.source.Source.{Source}
-use Rattle.cif_extract.specs.ReadCall.{IsResultOfBoth}
-use Rattle.cif_extract.specs.ReadFault.{IsOfReading, reading_extract}
-use Rattle.cif_extract.specs.declared.extract.Extract.{Extract}
-use Rattle.cif_canon.specs.Fault.{IsOfReadNarrowed}
 use Rattle.cif_canon.proofs.Normalising.{narrows-not, reads-narrowed}
 use Rattle.cif_canon.specs.Pair.{IsNarrowedPair, IsPairRefusal, asked_of_both}
-use Rattle.cif_canon.proofs.Words.{Asked, ExtractParts, Fault, IsErrAnd, IsNarrowed, IsNarrowingFault, at-fault, extract_parts}
 
 module _ (asked : Asked) (common : Bool) (left right : Extract) (wanted : Asked)
     (is : wanted ≡ asked_of_both common asked (extract_parts left) (extract_parts right)) where

@@ -1,10 +1,9 @@
 -- What is written of a run is the text of its record.
-use Rattle.std.proofs.Common.{◌≡◌, ℕ, ◌<◌, ◌≤◌, List, Option, None, Some, map, length, get_or, refl, sym, ap, ◌∙◌, arith, subst}
-use Rattle.std.specs.Option.{option_and_then, option_map}
-use Rattle.cif_calendar.proofs.Winning.{terms_at}
-use Rattle.cif_canon.specs.Steps.Texts.{HasRecord, body_at, record_at, run_text, text_if}
-use Rattle.cif_canon.proofs.Words.{All, BodyLines, IsRunOf, Permanent, Run, Schedule, Terms, length-map, option_and_then_some, record_of}
-use Rattle.cif_canon.proofs.Words.{same_Some, schedule_entries, schedule_entry, slice_get, slice_get_read, slice_get_within}
+use Rattle.cif_canon.proofs.Names.{All, BodyLines, HasRecord, IsRunOf, List, None, Option, Permanent, Run, Schedule, Some, Terms, ap, arith}
+use Rattle.cif_canon.proofs.Names.{get_or, length, length-map, map, option_and_then, option_and_then_some, option_map, record_at, record_of}
+use Rattle.cif_canon.proofs.Names.{refl, run_text, same_Some, schedule_entries, schedule_entry, slice_get, slice_get_read, slice_get_within}
+use Rattle.cif_canon.proofs.Names.{subst, sym, terms_at, text_if, ℕ, ◌<◌, ◌∙◌, ◌≡◌, ◌≤◌}
+use Rattle.cif_canon.specs.Steps.Texts.{body_at}
 
 -- the record of a run whose source is an entry with a body
 pub record-of_entry : {K B : Type 0} (entries : List (K × Terms B)) (run : Run) (e : K × Terms B) (b : B) →

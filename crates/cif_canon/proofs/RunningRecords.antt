@@ -1,16 +1,12 @@
 -- Which canonical records apply on a day, and which are those of one key.
-use Rattle.std.proofs.Common.{◌≡◌, ◌<◌, ℕ, zero, suc, Bool, true, false, List, [], ◌∷◌, map, get_or, refl, sym, ap, ◌∙◌, subst, ⊎_elim}
-use Rattle.std.proofs.Common.{arith}
-use Rattle.cif_columns.specs.DaysRun.{RunsOn}
-use Rattle.std.proofs.lemmas.List.Kept.{AllPairs-filter}
-use Rattle.cif_calendar.specs.Applies.{IsAmongDates}
+use Rattle.cif_canon.proofs.Names.{AllPairs, AllPairs-filter, AllPairs-map, AreCanonicalRecords, AreRunning, Bool, Contains}
+use Rattle.cif_canon.proofs.Names.{Contains-from_map, Contains-get_or, Contains-map, Decides, Decides-and, Decides-like, Form, IsAmongDates}
+use Rattle.cif_canon.proofs.Names.{IsTotalOrder, IsTrue, IsWithin, Less, List, Ordering, Permanent, Precedes, Run, RunsOn, Some, Terms}
+use Rattle.cif_canon.proofs.Names.{Window, [], ap, applies_on, arith, bytes_decides, false, false≢true, filter, get_or, le-leb, leb-true}
+use Rattle.cif_canon.proofs.Names.{map, nat_eq, nat_le, not_less, of_key, pointwise, record_of, refl, runs-applies, same_Some}
+use Rattle.cif_canon.proofs.Names.{same_from_decides, slice_index_or, subst, suc, sym, true, weekday_of, zero, ℕ, ⊎_elim, ◌&&◌, ◌<◌, ◌↔◌}
+use Rattle.cif_canon.proofs.Names.{◌∙◌, ◌∷◌, ◌≡◌}
 use Rattle.cif_weeks.specs.Applies.{Applies}
-use Rattle.cif_canon.specs.Views.{AreRunning}
-use Rattle.cif_canon.proofs.Words.{AllPairs, AllPairs-map, AreCanonicalRecords, Contains, Contains-from_map, Contains-get_or, Contains-map}
-use Rattle.cif_canon.proofs.Words.{Decides, Decides-and, Decides-like, Form, IsTotalOrder, IsTrue, IsWithin, Less, Ordering, Permanent}
-use Rattle.cif_canon.proofs.Words.{Precedes, Run, Some, Terms, Window, applies_on, bytes_decides, false≢true, filter, le-leb, leb-true}
-use Rattle.cif_canon.proofs.Words.{nat_eq, nat_le, not_less, of_key, pointwise, record_of, runs-applies, same_Some, same_from_decides}
-use Rattle.cif_canon.proofs.Words.{slice_index_or, weekday_of, ◌&&◌, ◌↔◌}
 use Rattle.cif_canon.proofs.ChosenRecords.{chosen, chosen-from}
 
 -- ---- the test of a day

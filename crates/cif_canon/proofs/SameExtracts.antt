@@ -1,12 +1,11 @@
 -- Extracts with equal parts, and that saying the same is an equivalence.
-use Rattle.std.proofs.Common.{◌≡◌, ℕ, List, sym, ap, ◌∙◌, subst}
-use Rattle.cif_calendar.proofs.SayTheSame.{EntriesSayTheSame-refl, EntriesSayTheSame-sym, EntriesSayTheSame-trans}
-use Rattle.cif_extract.proofs.OneExtract.{same_values}
-use Rattle.cif_extract.proofs.Schedules.{same_schedule}
+use Rattle.cif_canon.proofs.Names.{Agree, AssocBody, AssocKey, BodyLines, ExtractParts, Header, List, SameMeaning, Schedule, Terms, Window}
+use Rattle.cif_canon.proofs.Names.{ap, association_entries, association_entry, header_window, same_header, same_values, schedule_entries}
+use Rattle.cif_canon.proofs.Names.{schedule_entry, subst, sym, ℕ, ◌∙◌, ◌≡◌}
 use Rattle.cif_records.proofs.Associations.{same_association}
-use Rattle.cif_records.proofs.Headers.{same_header}
-use Rattle.cif_canon.proofs.Words.{Agree, AssocBody, AssocKey, Association, BodyLines, ExtractParts, Header, SameMeaning, Schedule, Terms}
-use Rattle.cif_canon.proofs.Words.{Window, association_entries, association_entry, header_window, schedule_entries, schedule_entry}
+use Rattle.cif_records.specs.declared.association.Association.{Association}
+use Rattle.cif_extract.proofs.Schedules.{same_schedule}
+use Rattle.cif_calendar.proofs.SayTheSame.{EntriesSayTheSame-refl, EntriesSayTheSame-sym, EntriesSayTheSame-trans}
 
 -- ---- equal parts
 

@@ -1,9 +1,8 @@
 -- The records of runs with their sides, and their text.
-use Rattle.std.proofs.Common.{◌≡◌, ℕ, ◌<◌, ◌≤◌, Bool, get_or, length, map, List, [], ◌∷◌, ◌++◌, Option, None, Some, refl, sym, ap, ◌∙◌}
-use Rattle.std.proofs.Common.{subst}
-use Rattle.cif_canon.proofs.Words.{All, All-cons, All-head, All-nil, All-tail, AllZip, AreNone, AssocBody, AssocKey, BodyLines, HasRecord}
-use Rattle.cif_canon.proofs.Words.{HasSidedRecord, IsSidedRunOf, IsTrue, Permanent, Run, Side, Sided, Terms, Tiploc, at_side, flat_map}
-use Rattle.cif_canon.proofs.Words.{nil_from_length, record_at, sided_records, sided_run_text, text_if, with_record, ◌↔◌}
+use Rattle.cif_canon.proofs.Names.{All, All-cons, All-head, All-nil, All-tail, AllZip, AreNone, AssocBody, AssocKey, BodyLines, Bool}
+use Rattle.cif_canon.proofs.Names.{HasRecord, HasSidedRecord, IsSidedRunOf, IsTrue, List, None, Option, Permanent, Run, Side, Sided, Some}
+use Rattle.cif_canon.proofs.Names.{Terms, Tiploc, [], ap, at_side, flat_map, get_or, length, map, nil_from_length, record_at, refl}
+use Rattle.cif_canon.proofs.Names.{sided_records, sided_run_text, subst, sym, text_if, with_record, ℕ, ◌++◌, ◌<◌, ◌↔◌, ◌∙◌, ◌∷◌, ◌≡◌, ◌≤◌}
 use Rattle.cif_canon.proofs.MergedSides.{at_side-made}
 use Rattle.cif_canon.proofs.RunTexts.{record-of_run, record-within}
 

@@ -1,11 +1,9 @@
 -- The locations that only one of two rising lists has are found one by one.
-use Rattle.std.proofs.Common.{◌≡◌, ◌⊎◌, inl, inr, ◌+◌, ◌<◌, List, [], ◌∷◌, ◌++◌, Some, None, length, drop, refl, sym, ap, subst, arith}
-use Rattle.std.proofs.Common.{⊎_elim, get_or}
-use Rattle.std.proofs.lemmas.List.Quantifiers.{all_pairs_push}
-use Rattle.cif_canon.proofs.Words.{AllPairs, AreDifferentTiplocs, AreDistinct, AreSifting, Contains, Contains-append_left, Contains-cases}
-use Rattle.cif_canon.proofs.Words.{Contains-first, Contains-get_or, Contains-none, Contains-push, Contains-push_cases, Contains-rest, Equal}
-use Rattle.cif_canon.proofs.Words.{Greater, HasMovedOf, IsFirstOrder, IsOnlyIn, Left, Less, Right, Side, Sided, Tiploc, at_side}
-use Rattle.cif_canon.proofs.Words.{nat_list_cmp_total, ◌↔◌}
+use Rattle.cif_canon.proofs.Names.{AllPairs, AreDifferentTiplocs, AreDistinct, AreSifting, Contains, Contains-append_left, Contains-cases}
+use Rattle.cif_canon.proofs.Names.{Contains-first, Contains-get_or, Contains-none, Contains-push, Contains-push_cases, Contains-rest, Equal}
+use Rattle.cif_canon.proofs.Names.{Greater, HasMovedOf, IsFirstOrder, IsOnlyIn, Left, Less, List, None, Right, Side, Sided, Some, Tiploc}
+use Rattle.cif_canon.proofs.Names.{[], all_pairs_push, ap, arith, at_side, drop, get_or, inl, inr, length, nat_list_cmp_total, refl, subst}
+use Rattle.cif_canon.proofs.Names.{sym, ⊎_elim, ◌++◌, ◌+◌, ◌<◌, ◌↔◌, ◌∷◌, ◌≡◌, ◌⊎◌}
 use Rattle.cif_canon.proofs.DifferentTiplocs.{Before, before-greater, equal-tiplocs, not-itself, with_side}
 use Rattle.cif_canon.proofs.MergedSides.{from-sides, pairs-head, pairs-tail, to-sides}
 

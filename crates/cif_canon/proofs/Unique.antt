@@ -1,13 +1,11 @@
 -- Canonical extracts that say the same are equal.
-use Rattle.std.proofs.Common.{◌≡◌, List, sym, ◌∙◌, ap, subst}
-use Rattle.std.proofs.lemmas.Cmp.{on_total, then_total}
-use Rattle.cif_records.proofs.Headers.{same_header}
+use Rattle.cif_canon.proofs.Names.{Agree, AreCanonicalEntries, AssocKey, EntriesSayTheSame, ExtractParts, Form, IsCanonicalExtract}
+use Rattle.cif_canon.proofs.Names.{IsOneWay, IsTotalOrder, Less, List, Ordering, SameMeaning, Terms, Tiploc, Window, ap}
+use Rattle.cif_canon.proofs.Names.{association_entries, header_window, key_cmp, less_one_way, nat_cmp, nat_list_cmp_total, on_total}
+use Rattle.cif_canon.proofs.Names.{permanent_entries, same_extract_parts, same_header, same_members, schedule_entries, slice_cmp, subst}
+use Rattle.cif_canon.proofs.Names.{sym, then_total, ◌∙◌, ◌≡◌}
+use Rattle.cif_weeks.proofs.PermanentEntries.{same-meaning}
 use Rattle.cif_weeks.proofs.UniqueByKey.{unique_same}
-use Rattle.cif_canon.specs.Canonical.{AreCanonicalEntries}
-use Rattle.cif_extract.proofs.OneExtract.{same_extract_parts}
-use Rattle.cif_canon.proofs.Words.{Agree, AssocKey, EntriesSayTheSame, ExtractParts, Form, IsCanonicalExtract, IsOneWay, IsTotalOrder, Less}
-use Rattle.cif_canon.proofs.Words.{Ordering, SameMeaning, Terms, Tiploc, Window, association_entries, header_window, key_cmp, less_one_way}
-use Rattle.cif_canon.proofs.Words.{nat_cmp, nat_list_cmp_total, permanent_entries, same-meaning, same_members, schedule_entries, slice_cmp}
 use Rattle.cif_canon.proofs.SameExtracts.{one-window, same-associations, same-schedules}
 
 module _ {K B : Type 0} (cmp : K → K → Ordering) (total : IsTotalOrder cmp) (form : Form) (window : Window) where

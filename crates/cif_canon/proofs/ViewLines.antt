@@ -1,17 +1,14 @@
 -- Fields that are appended one by one, or group by group, make a line.
-use Rattle.std.proofs.Common.{◌≡◌, ℕ, zero, suc, ◌+◌, ◌<◌, ◌≤◌, List, [], ◌∷◌, ◌++◌, Bor, codes, drop, get_or, length, map, refl, sym, ap}
-use Rattle.std.proofs.Common.{◌∙◌, append-nil, append_assoc, arith, subst, Bool, true, false, nat_lt, if◌then◌else◌}
-use Rattle.std.specs.Prelude.{replicate}
-use Rattle.std.proofs.lemmas.Grind.{flat_map-append}
+use Rattle.cif_canon.proofs.Names.{All-cons, All-from_recursion, All-replicate, AreFields, ArePrintable, Bool, Bor, Field, IsPrintable}
+use Rattle.cif_canon.proofs.Names.{List, Trimmed, [], after, ap, append-nil, append_assoc, arith, century, codes, drop, false, fields_text}
+use Rattle.cif_canon.proofs.Names.{flat_map-append, get_or, if◌then◌else◌, length, line_of, long_date, map, nat_lt, refl, replicate}
+use Rattle.cif_canon.proofs.Names.{row_start, separator, shown, subst, suc, sym, true, width, width_of, with_first, zero, ℕ, ◌++◌, ◌+◌, ◌<◌}
+use Rattle.cif_canon.proofs.Names.{◌∙◌, ◌∷◌, ◌≡◌, ◌≤◌}
 use Rattle.std.proofs.lemmas.List.{at_drop_all, at_drop_more}
-use Rattle.std.proofs.lemmas.List.Elements.{All-cons, All-from_recursion, All-replicate}
-use Rattle.cif_columns.specs.Line.{ArePrintable, IsPrintable}
-use Rattle.cif_canon.specs.Fields.{AreFields, Field, after, century, fields_text, line_of, long_date, nothing, row_start, separator, shown}
-use Rattle.cif_canon.specs.Fields.{with_first, width, width_of}
+use Rattle.cif_canon.specs.Fields.{nothing}
 use Rattle.cif_canon.specs.declared.rows.Format.{Format}
 use Rattle.cif_canon.specs.declared.rows.Format.TheVariants.{Text, Tsv}
 use Rattle.cif_canon.specs.declared.rows.Shape.{Shape}
-use Rattle.cif_canon.specs.declared.rows.Shape.TheVariants.{Trimmed}
 
 module _ (format : Format) where
   -- fields behind fields

@@ -1,11 +1,9 @@
 -- What is listed of records is the text of a view.
-use Rattle.std.proofs.Common.{◌≡◌, ℕ, List, ◌++◌, map, Result, Ok, Err, ap, ◌∙◌, length, ◌<◌}
-use Rattle.cif_canon.specs.Normalised.{IfWritten}
-use Rattle.cif_canon.specs.Views.{IsDayListed, IsTrainListed}
-use Rattle.cif_canon.proofs.Words.{All, AreCanonicalRecords, AssocBody, AssocKey, BodyLines, DayTexts, ExtractParts, Fault, Form, HasRecord}
-use Rattle.cif_canon.proofs.Words.{IsWithin, Ordering, Permanent, Run, Terms, TrainTexts, Window, Write, applies_on, association_entries}
-use Rattle.cif_canon.proofs.Words.{canonical-dated, flat_map, header_window, key_cmp, listed_of, listed_on, nat_cmp, nat_eq}
-use Rattle.cif_canon.proofs.Words.{nat_list_cmp_total, pointwise, run_text, schedule_entries, slice_cmp}
+use Rattle.cif_canon.proofs.Names.{All, AreCanonicalRecords, AssocBody, AssocKey, BodyLines, DayTexts, Err, ExtractParts, Fault, Form}
+use Rattle.cif_canon.proofs.Names.{HasRecord, IfWritten, IsDayListed, IsTrainListed, IsWithin, List, Ok, Ordering, Permanent, Result, Run}
+use Rattle.cif_canon.proofs.Names.{Terms, TrainTexts, Window, Write, ap, applies_on, association_entries, canonical-dated, flat_map}
+use Rattle.cif_canon.proofs.Names.{header_window, key_cmp, length, listed_of, listed_on, map, nat_cmp, nat_eq, nat_list_cmp_total}
+use Rattle.cif_canon.proofs.Names.{pointwise, run_text, schedule_entries, slice_cmp, ℕ, ◌++◌, ◌<◌, ◌∙◌, ◌≡◌}
 use Rattle.cif_canon.proofs.CanonTexts.{have-records, texts-of_runs}
 use Rattle.cif_canon.proofs.ChosenRecords.{chosen-text}
 use Rattle.cif_canon.proofs.RunTexts.{sources-slices}

@@ -1,8 +1,8 @@
 -- The parts of the text of differences, appended one after another.
-use Rattle.std.proofs.Common.{ℕ, List, ◌++◌, Option}
-use Rattle.cif_canon.specs.Differences.{marked_association, marked_schedule}
-use Rattle.cif_canon.proofs.Words.{Association, IsAppended, Run, Schedule, Sided, Sink, Tiploc, association_entries, flat_map}
-use Rattle.cif_canon.proofs.Words.{marked_tiploc, schedule_entries, sided_records, sided_run_text}
+use Rattle.cif_canon.proofs.Names.{IsAppended, List, Option, Run, Schedule, Sided, Sink, Tiploc, association_entries, flat_map}
+use Rattle.cif_canon.proofs.Names.{marked_association, marked_schedule, marked_tiploc, schedule_entries, sided_records, sided_run_text, ℕ}
+use Rattle.cif_canon.proofs.Names.{◌++◌}
+use Rattle.cif_records.specs.declared.association.Association.{Association}
 use Rattle.cif_canon.proofs.AppendedTexts.{both, text-is}
 use Rattle.cif_canon.proofs.SidedTexts.{sided-text}
 

@@ -1,11 +1,7 @@
 -- Reads of the columns of a line.
-use Rattle.std.proofs.Common.{◌≡◌, ℕ, zero, suc, ◌+◌, ◌-◌, ◌<◌, ◌≤◌, true, List, [], ◌∷◌, length, get_or, drop, refl, sym, ap, subst, ◌∙◌}
-use Rattle.std.proofs.Common.{arith, length-take}
-use Rattle.std.proofs.lemmas.List.{get_or-take, get_or-drop, length-drop}
-use Rattle.std.proofs.lemmas.Slice.Eq.{bytes_eq-Decides}
-use Rattle.cif_columns.specs.Clock.{is_blank}
-use Rattle.cif_columns.specs.Field.{columns}
-use Rattle.cif_columns.specs.PlainTest.{are}
+use Rattle.cif_columns.proofs.Names.{List, [], ap, are, arith, bytes_eq-Decides, columns, drop, get_or, get_or-drop, get_or-take, is_blank}
+use Rattle.cif_columns.proofs.Names.{length, length-drop, length-take, refl, subst, suc, sym, true, zero, ℕ, ◌+◌, ◌-◌, ◌<◌, ◌∙◌, ◌∷◌, ◌≡◌}
+use Rattle.cif_columns.proofs.Names.{◌≤◌}
 
 -- a read of columns is one of the line
 pub read : (line : List ℕ) (from to k : ℕ) → k < to - (from - 1) → get_or (columns from to line) k 0 ≡ get_or line (from - 1 + k) 0

@@ -1,13 +1,7 @@
 -- Where no comment stands first.
-use Rattle.std.proofs.Common.{◌≡◌, ◌≢◌, ℕ, ◌<◌, true, false, nat_le, List, ◌++◌, length, take, Option, None, Some, IfSome, sym, ap}
-use Rattle.std.proofs.Common.{◌∙◌, arith, get_or, codes, length-append}
-use Rattle.std.proofs.lemmas.Bool.{and_parts, false_from_ne_true}
-use Rattle.std.proofs.lemmas.Bool.Decides.{nat_tests}
-use Rattle.std.proofs.lemmas.List.{get_or-take, get_or_append_left}
-use Rattle.std.proofs.lemmas.Slice.Eq.{bytes_eq-Decides}
-use Rattle.std.specs.Io.KnownBytes.{prepend_known}
-use Rattle.cif_columns.specs.Comment.{is_comment}
-use Rattle.cif_columns.specs.LineReader.{BeginWithoutComment}
+use Rattle.cif_columns.proofs.Names.{BeginWithoutComment, IfSome, List, None, Option, Some, and_parts, ap, arith, bytes_eq-Decides, codes}
+use Rattle.cif_columns.proofs.Names.{false, false_from_ne_true, get_or, get_or-take, get_or_append_left, is_comment, length, length-append}
+use Rattle.cif_columns.proofs.Names.{nat_le, nat_tests, prepend_known, sym, take, true, ℕ, ◌++◌, ◌<◌, ◌∙◌, ◌≡◌, ◌≢◌}
 use Rattle.cif_columns.proofs.FirstContents.{begins_as, comes_first, content_first}
 
 starts : (content : List ℕ) → is_comment content ≡ true → get_or content 0 0 ≡ 47

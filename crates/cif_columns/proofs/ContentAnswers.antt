@@ -1,19 +1,12 @@
 -- What a `ContentReader` answers, by what its held bytes and its source gave.
-use Rattle.std.proofs.Common.{◌≡◌, ◌≢◌, ℕ, ◌+◌, ◌<◌, List, length, Option, Ok, Err, refl, ap, arith}
-use Rattle.std.proofs.lemmas.List.{nil_from_length}
-use Rattle.cif_columns.specs.Ahead.{AnswersNext, CutsNext, GivenDecided}
-use Rattle.cif_columns.specs.ContentReader.{HoldsNext, IsNextOf, content, given, held, left, limit, most_of}
-use Rattle.cif_columns.specs.Contents.{AreUndecided, DecideNoContent}
-use Rattle.cif_columns.specs.LineReader.{GivenDecideContent}
-use Rattle.cif_columns.specs.declared.ahead.NextContent.{NextContent}
-use Rattle.cif_columns.specs.declared.ahead.NextContent.TheVariants.{Content, Overlong, End}
-use Rattle.cif_columns.specs.declared.ahead.ContentReader.{ContentReader}
-use Rattle.cif_columns.specs.declared.refusal.LineFault.TheVariants.{Refused, Read}
-use Rattle.cif_columns.specs.declared.refusal.Refusal.TheVariants.{TooManyLines}
-use Rattle.cif_columns.specs.declared.source.ReadFault.{ReadFault}
-use Rattle.cif_columns.specs.declared.source.Source.{Source}
+use Rattle.cif_columns.proofs.Names.{AnswersNext, AreUndecided, Content, ContentReader, CutsNext, DecideNoContent, Err, GivenDecideContent}
+use Rattle.cif_columns.proofs.Names.{GivenDecided, HoldsNext, IsNextOf, List, NextContent, Ok, Option, Overlong, Read, ReadFault, Refused}
+use Rattle.cif_columns.proofs.Names.{Source, TooManyLines, ap, arith, content, length, most_of, nil_from_length, refl, ℕ, ◌+◌, ◌<◌, ◌≡◌}
+use Rattle.cif_columns.proofs.Names.{◌≢◌}
 use Rattle.cif_columns.proofs.FirstContents.{first_some}
 use Rattle.cif_columns.proofs.GivenLinesLaws.{known_so}
+use Rattle.cif_columns.specs.ContentReader.{given, held, left, limit}
+use Rattle.cif_columns.specs.declared.ahead.NextContent.TheVariants.{End}
 
 -- what decides a content decides it where so many may come
 pub given_decide : {most m max count : ℕ} {bytes unread : Option (List ℕ)}

@@ -1,13 +1,9 @@
 -- The contents that a `ContentReader` has given so far, and how that ends.
-use Rattle.std.proofs.Common.{◌≡◌, ℕ, ◌≤◌, List, [], ◌∷◌, ◌++◌, length, Option, Some, IfSome, IsSomeAnd, Ok}
-use Rattle.std.proofs.Common.{sym, ◌∙◌, arith, length-append, subst}
-use Rattle.cif_columns.specs.ContentReader.{IsNextOf, content, given, held, left, limit, most_of}
-use Rattle.cif_columns.specs.Contents.{ComesFirst}
-use Rattle.cif_columns.specs.Source.{reader_of}
-use Rattle.cif_columns.specs.declared.ahead.NextContent.TheVariants.{Content, End}
-use Rattle.cif_columns.specs.declared.ahead.ContentReader.{ContentReader}
-use Rattle.cif_columns.specs.declared.source.Source.{Source}
+use Rattle.cif_columns.proofs.Names.{ComesFirst, Content, ContentReader, IfSome, IsNextOf, IsSomeAnd, List, Ok, Option, Some, Source, []}
+use Rattle.cif_columns.proofs.Names.{arith, content, length, length-append, most_of, reader_of, subst, sym, ℕ, ◌++◌, ◌∙◌, ◌∷◌, ◌≡◌, ◌≤◌}
 use Rattle.cif_columns.proofs.GivenLinesLaws.{all_given, known_none, with_answer}
+use Rattle.cif_columns.specs.ContentReader.{given, held, left, limit}
+use Rattle.cif_columns.specs.declared.ahead.NextContent.TheVariants.{End}
 
 -- These are the contents that the reader has given so far, of at most max. Of the bytes at the start, where they are known, K says that
 -- they are these contents and what is left.

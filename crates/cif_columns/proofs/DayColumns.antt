@@ -1,8 +1,7 @@
 -- The six digits that name a day, and the day that six digits name.
-use Rattle.std.proofs.Common.{◌≡◌, ℕ, ◌<◌, List, [], ◌∷◌, length, get_or, Option, Some, None, IfSome, refl, sym, ◌∙◌, arith, rules}
-use Rattle.std.proofs.lemmas.Slice.Eq.{text_from_reads}
-use Rattle.jiff_core.proofs.CalendarLemmas.{days_in_month_bounds}
-use Rattle.cif_columns.specs.Day.{IsDated, StandsInYymmdd, StandsInDdmmyy, day_number, day_from, yymmdd_in, ddmmyy_in}
+use Rattle.cif_columns.proofs.Names.{IfSome, IsDated, List, None, Option, Some, StandsInDdmmyy, StandsInYymmdd, [], arith, day_from}
+use Rattle.cif_columns.proofs.Names.{day_number, days_in_month_bounds, ddmmyy_in, get_or, length, refl, rules, sym, text_from_reads}
+use Rattle.cif_columns.proofs.Names.{yymmdd_in, ℕ, ◌<◌, ◌∙◌, ◌∷◌, ◌≡◌}
 use Rattle.cif_columns.proofs.Dates.{day_number-dated, is_dated-day_number}
 use Rattle.cif_columns.proofs.DigitsLemmas.{number_in-two_digits, two_digits-number_in}
 

@@ -1,17 +1,10 @@
 -- The digits that counting gives are those that name the day.
-use Rattle.std.proofs.Common.{◌≡◌, ℕ, zero, suc, ◌+◌, ◌%◌, ◌<◌, ◌≤◌, Bool, true, false, cond, nat_lt, arith, refl, sym, ap, ◌∙◌, List}
-use Rattle.std.proofs.Common.{ℤ, pos, subst}
-use Rattle.std.proofs.lemmas.Bool.Decides.{nat_tests}
-use Rattle.jiff.specs.Types.{Date}
-use Rattle.jiff.specs.Words.{days_in_month}
-use Rattle.jiff_core.specs.Calendar.{day_count}
-use Rattle.jiff_core.proofs.SignedLemmas.{signed_arith}
-use Rattle.jiff_core.proofs.MarchLemmas.{day_count-early}
-use Rattle.jiff_core.proofs.CalendarLemmas.{day_count-lt_year, days_from_civil-day_count, day_count-day, day_count-next_month}
-use Rattle.jiff_core.proofs.CalendarLemmas.{day_count-next_year, day_count-last_of_year, days_in_month_bounds}
-use Rattle.cif_columns.specs.Day.{IsDay, IsDated, StandsInYymmdd, StandsInDdmmyy, year_of}
-use Rattle.cif_columns.specs.DayDigits.{CalendarDate, next_date, date_of, yymmdd_of, ddmmyy_of}
-use Rattle.cif_columns.proofs.Dates.{day_count-1960, number_is_day, one_yymmdd, one_ddmmyy}
+use Rattle.cif_columns.proofs.Names.{Bool, CalendarDate, Date, IsDated, IsDay, List, StandsInDdmmyy, StandsInYymmdd, ap, arith, cond}
+use Rattle.cif_columns.proofs.Names.{date_of, day_count, day_count-day, day_count-early, day_count-last_of_year, day_count-lt_year}
+use Rattle.cif_columns.proofs.Names.{day_count-next_month, day_count-next_year, days_from_civil-day_count, days_in_month}
+use Rattle.cif_columns.proofs.Names.{days_in_month_bounds, ddmmyy_of, false, nat_lt, nat_tests, next_date, pos, refl, signed_arith, subst}
+use Rattle.cif_columns.proofs.Names.{suc, sym, true, year_of, yymmdd_of, zero, ℕ, ℤ, ◌%◌, ◌+◌, ◌<◌, ◌∙◌, ◌≡◌, ◌≤◌}
+use Rattle.cif_columns.proofs.Dates.{day_count-1960, number_is_day, one_ddmmyy, one_yymmdd}
 
 day_count-2059 : day_count (pos 2059) 12 31 ≡ 4_404_824
 day_count-2059 = omega (

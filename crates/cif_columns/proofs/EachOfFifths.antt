@@ -1,6 +1,6 @@
 -- What holds of the column with one number in each fifth of a line, for each of sixteen numbers, holds of each column.
-use Rattle.std.proofs.Common.{◌≡◌, ℕ, ◌+◌, ◌-◌, ◌<◌, ◌≤◌, ◌↔◌, ◌⊎◌, inl, inr, Bool, true, ◌&&◌, subst, arith, below_more}
-use Rattle.std.proofs.lemmas.Bool.{and_from, and_parts, cases_lt}
+use Rattle.cif_columns.proofs.Names.{Bool, and_from, and_parts, arith, below_more, cases_lt, inl, inr, subst, true, ℕ, ◌&&◌, ◌+◌, ◌-◌, ◌<◌}
+use Rattle.cif_columns.proofs.Names.{◌↔◌, ◌≡◌, ◌≤◌, ◌⊎◌}
 
 pub record InFifths (P : ℕ → Type 0) (k : ℕ) : Type 0 where
   pub first : P k

@@ -1,12 +1,11 @@
 -- One value stands in columns of a kind of field.
-use Rattle.std.proofs.Common.{◌≡◌, ℕ, List, Bool, [], ◌∷◌, Some, sym, ◌∙◌, refl}
-use Rattle.cif_columns.specs.Field.{StandsIn, exactly, text, date, weekdays, indicator}
-use Rattle.cif_columns.specs.Stp.{letter, stp_in}
-use Rattle.cif_columns.specs.declared.stp.Stp.{Stp}
+use Rattle.cif_columns.proofs.Names.{Bool, List, Some, Stp, [], date, exactly, indicator, letter, refl, stp_in, sym, text, weekdays, ℕ, ◌∙◌}
+use Rattle.cif_columns.proofs.Names.{◌∷◌, ◌≡◌}
 use Rattle.cif_columns.proofs.DayColumns.{yymmdd_in-stands}
-use Rattle.cif_columns.proofs.Letters.{stp_in-stands, one_indicator as one_letter}
+use Rattle.cif_columns.proofs.Letters.{one_indicator as one_letter, stp_in-stands}
 use Rattle.cif_columns.proofs.Masks.{one_mask}
 use Rattle.cif_columns.proofs.Texts.{one_text}
+use Rattle.cif_columns.specs.Field.{StandsIn}
 
 pub one_exactly : (columns a b : List ℕ) → StandsIn columns (exactly a) → StandsIn columns (exactly b) → a ≡ b
 one_exactly columns a b p q = sym p ∙ q

@@ -1,23 +1,15 @@
 -- The content that stands first in bytes, and bytes that decide none.
-use Rattle.std.proofs.Common.{◌≡◌, ◌≢◌, ◌⊎◌, inl, inr, ⊎_elim, ℕ, zero, suc, ◌+◌, ◌-◌, ◌<◌, ◌≤◌, ◌==◌, Bool, true, false, cond, nat_eq}
-use Rattle.std.proofs.Common.{List, [], ◌∷◌, ◌++◌, length, take, drop, get_or, map, Option, Some, None, IfSome, refl, sym, ap, ◌∙◌}
-use Rattle.std.proofs.Common.{subst, arith, All, append_assoc, append-nil, length-append, length-take, take-append-drop}
-use Rattle.std.proofs.Common.{drop-cons, drop_of_length-le}
-use Rattle.std.proofs.lemmas.Bool.{cond_both, eqb-true}
-use Rattle.std.proofs.lemmas.Bool.Decides.{nat_tests}
-use Rattle.std.proofs.lemmas.List.{get_or_append_left, take-append-le, take-take, take_all}
-use Rattle.std.proofs.lemmas.List.Elements.{All-append, All-cons, All-contains, All-nil, Contains-append_right}
+use Rattle.cif_columns.proofs.Names.{All, All-append, All-cons, All-contains, All-nil, AnswersNext, AreUndecided, BeginOverlong, Bool}
+use Rattle.cif_columns.proofs.Names.{ComesFirst, Contains-append_right, Content, EndsAtFeed, HaveNoFeed, IfSome, IsAtEnd, IsFirstContent}
+use Rattle.cif_columns.proofs.Names.{IsFirstFeed, IsLast, Keeps, List, NextContent, None, Option, Overlong, PassesFirst, Some, [], ap}
+use Rattle.cif_columns.proofs.Names.{append-nil, append_assoc, arith, cond, cond_both, contents_of, drop, drop-cons, drop_of_length-le}
+use Rattle.cif_columns.proofs.Names.{eqb-true, false, get_or, get_or_append_left, inl, inr, is_line_feed, length, length-append}
+use Rattle.cif_columns.proofs.Names.{length-take, lines, lines_of_parts, map, nat_eq, nat_tests, prepend_known, refl, slice_index}
+use Rattle.cif_columns.proofs.Names.{slice_split, strip_carriage_return, subst, suc, sym, take, take-append-drop, take-append-le, take-take}
+use Rattle.cif_columns.proofs.Names.{take_all, true, zero, ℕ, ⊎_elim, ◌++◌, ◌+◌, ◌-◌, ◌<◌, ◌==◌, ◌∙◌, ◌∷◌, ◌≡◌, ◌≢◌, ◌≤◌, ◌⊎◌}
 use Rattle.std.proofs.lemmas.List.Splits.{slice_split_at, slice_split_none}
-use Rattle.std.specs.Io.KnownBytes.{IsAtEnd, Keeps, prepend_known}
-use Rattle.std.specs.List.{slice_index, slice_split}
-use Rattle.std.specs.Str.Lines.{lines, lines_of_parts, strip_carriage_return}
-use Rattle.cif_columns.specs.Ahead.{AnswersNext, IsLast, PassesFirst}
-use Rattle.cif_columns.specs.Contents.{AreUndecided, BeginOverlong, ComesFirst, EndsAtFeed, HaveNoFeed, IsFirstContent, IsFirstFeed}
-use Rattle.cif_columns.specs.Contents.{contents_of}
-use Rattle.cif_columns.specs.FirstLine.{is_line_feed}
-use Rattle.cif_columns.specs.declared.ahead.NextContent.{NextContent}
-use Rattle.cif_columns.specs.declared.ahead.NextContent.TheVariants.{Content, Overlong, End}
 use Rattle.cif_columns.proofs.WholeLines.{lines_to_feed}
+use Rattle.cif_columns.specs.declared.ahead.NextContent.TheVariants.{End}
 
 -- ---- parts
 

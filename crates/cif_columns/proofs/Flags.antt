@@ -1,21 +1,13 @@
 -- Which weekdays are in a set that is kept as the bits of a number.
-use Rattle.std.proofs.Common.{◌≡◌, ◌≢◌, ℕ, zero, suc, ◌+◌, ◌-◌, ◌*◌, ◌/◌, ◌%◌, ◌^◌, ◌<◌, ◌≤◌, Bool, true, false, cond, nat_eq, Some, List}
-use Rattle.std.proofs.Common.{[], ◌∷◌, length, get_or, refl, sym, subst, ap, ◌∙◌, arith, inl, inr, ⊎_elim}
-use Rattle.std.specs.Prelude.{◌↔◌, ◌⊎◌, slice_get, IsTrue}
-use Rattle.std.specs.Int.{bit_at, trailing_zeros, leading_zeros, w8}
-use Rattle.std.specs.Int.RustNames.{bit_or}
-use Rattle.std.specs.Int.Bits.{bit_and}
-use Rattle.std.proofs.lemmas.Bool.{cases_lt}
-use Rattle.std.proofs.lemmas.Bool.Decides.{nat_tests}
-use Rattle.std.proofs.lemmas.Nat.Bits.{bit_at_and, bit_at_or, bit_at_not, bit_at-lt, bit_at_above, bit_at-trailing_zeros}
-use Rattle.std.proofs.lemmas.Nat.Bits.{bit_at_mask_inside, bit_at_mask_below, bit_at_mask_above, bit_at_cat_high}
-use Rattle.std.proofs.lemmas.Nat.Bits.{bit_at-pow_same, bit_at-pow_other, shr_and_one}
-use Rattle.std.proofs.lemmas.List.{get_or_default, same_lists}
-use Rattle.std.proofs.lemmas.Nat.{leading_top}
+use Rattle.cif_columns.proofs.Names.{Bool, IsFirstOf, IsLastOf, IsTrue, List, RunsOn, Some, [], ap, arith, bit_and, bit_or, bits_of}
+use Rattle.cif_columns.proofs.Names.{bits_of-flags, cases_lt, cond, false, flag, flags, get_or, get_or_default, inl, inr, leading_top}
+use Rattle.cif_columns.proofs.Names.{length, nat_eq, nat_tests, refl, same_Some, same_lists, slice_get, slice_get_within, subst, suc, sym}
+use Rattle.cif_columns.proofs.Names.{true, w8, zero, ℕ, ⊎_elim, ◌%◌, ◌*◌, ◌+◌, ◌-◌, ◌/◌, ◌<◌, ◌^◌, ◌↔◌, ◌∙◌, ◌∷◌, ◌≡◌, ◌≢◌, ◌≤◌, ◌⊎◌}
 use Rattle.std.proofs.Math.Nat.{pow-le-pow_right}
-use Rattle.std.proofs.lemmas.Option.{same_Some, slice_get_within}
-use Rattle.cif_columns.specs.DaysRun.{RunsOn, IsFirstOf, IsLastOf, flag, flags, bits_of}
-use Rattle.cif_columns.specs.Laws.Flags.{bits_of-flags}
+use Rattle.std.proofs.lemmas.Nat.Bits.{bit_at-lt, bit_at-pow_other, bit_at-pow_same, bit_at-trailing_zeros, bit_at_above, bit_at_and}
+use Rattle.std.proofs.lemmas.Nat.Bits.{bit_at_cat_high, bit_at_mask_above, bit_at_mask_below, bit_at_mask_inside, bit_at_not, bit_at_or}
+use Rattle.std.proofs.lemmas.Nat.Bits.{shr_and_one}
+use Rattle.std.specs.Int.{bit_at, leading_zeros, trailing_zeros}
 
 -- what holds of each of the numbers below seven
 pub each_of_seven : (P : ℕ → Type 0) → P 0 → P 1 → P 2 → P 3 → P 4 → P 5 → P 6 → (k : ℕ) → k < 7 → P k

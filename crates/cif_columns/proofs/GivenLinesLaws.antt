@@ -1,23 +1,14 @@
 -- A run of `next`: one step for each answer.
-use Rattle.std.proofs.Common.{◌≡◌, ℕ, ◌+◌, ◌≤◌, All, Bool, false, List, [], ◌∷◌, ◌++◌, length, Option, None, Some, IfSome, IsSomeAnd}
-use Rattle.std.proofs.Common.{Ok, Err, refl, sym, ap, ◌∙◌, arith, subst, append_assoc, append-nil, length-append}
-use Rattle.std.proofs.lemmas.List.Elements.{All-push}
-use Rattle.std.specs.Io.KnownBytes.{prepend_known}
-use Rattle.std.specs.Str.Lines.{lines}
-use Rattle.cif_columns.specs.declared.refusal.LineFault.{LineFault}
-use Rattle.cif_columns.specs.declared.refusal.LineFault.TheVariants.{Refused, Read}
-use Rattle.cif_columns.specs.declared.line_reader.LineReader.{LineReader}
-use Rattle.cif_columns.specs.declared.line_reader.Past.TheVariants.{Reading}
-use Rattle.cif_columns.specs.declared.refusal.Refusal.{Refusal}
-use Rattle.cif_columns.specs.declared.source.Source.{Source}
-use Rattle.cif_columns.specs.Contents.{contents_of, HasLineReason, DecideNoContent, DecidesNothing, IsFirstContent}
-use Rattle.cif_columns.specs.Source.{source_ended, unread_of}
-use Rattle.cif_columns.specs.LineReader.{held, given, limit, past, left, GivenDecide, GivenDecideContent, IsNext, Answers}
-use Rattle.cif_columns.specs.GivenLines.{AreAllContents, AreContentsToFailure, AreContentsToFault, AreContentsToRefusal}
-use Rattle.cif_columns.specs.GivenLines.{AreContentsToCut, AreWholeContentsAndRest, EndsLine, IsContentDecided, IsContentDecidedWithin}
-use Rattle.cif_columns.specs.Line.{IsLine}
-use Rattle.cif_columns.proofs.WholeLines.{lines_whole, piece_of, ends_after, ends_before, lines_piece}
-use mathlib.Core.Logic.{◌⊎◌, inl, inr}
+use Rattle.cif_columns.proofs.Names.{All, All-push, Answers, AreAllContents, AreContentsToCut, AreContentsToFailure, AreContentsToFault}
+use Rattle.cif_columns.proofs.Names.{AreContentsToRefusal, AreWholeContentsAndRest, Bool, DecideNoContent, DecidesNothing, EndsLine, Err}
+use Rattle.cif_columns.proofs.Names.{GivenDecide, GivenDecideContent, HasLineReason, IfSome, IsContentDecided, IsContentDecidedWithin}
+use Rattle.cif_columns.proofs.Names.{IsFirstContent, IsLine, IsNext, IsSomeAnd, LineFault, LineReader, List, None, Ok, Option, Read}
+use Rattle.cif_columns.proofs.Names.{Reading, Refusal, Refused, Some, Source, [], ap, append-nil, append_assoc, arith, contents_of, false}
+use Rattle.cif_columns.proofs.Names.{length, length-append, lines, past, prepend_known, refl, source_ended, subst, sym, unread_of, ℕ, ◌++◌}
+use Rattle.cif_columns.proofs.Names.{◌+◌, ◌∙◌, ◌∷◌, ◌≡◌, ◌≤◌}
+use mathlib.Core.Logic.{inl, inr, ◌⊎◌}
+use Rattle.cif_columns.proofs.WholeLines.{ends_after, ends_before, lines_piece, lines_whole, piece_of}
+use Rattle.cif_columns.specs.LineReader.{given, held, left, limit}
 
 -- the bytes are such contents and a rest, where the bytes at the start are known, and with them what is left
 abbrev pub KnownContents : (List ℕ → Type 0) → Option (List ℕ) → List (List ℕ) → Option (List ℕ) → Type 0

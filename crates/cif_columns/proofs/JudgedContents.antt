@@ -1,31 +1,19 @@
 -- The contents of bytes that are judged, one after another.
-use Rattle.std.proofs.Common.{◌≡◌, ◌≢◌, ◌⊎◌, inl, inr, ⊎_elim, ℕ, ◌<◌, ◌≤◌, true, false, cond, List, [], ◌∷◌, ◌++◌, ◌||◌, length, map}
-use Rattle.std.proofs.Common.{◌+◌, Option, None, Some, IfSome, IsSomeAnd, Ok, Err, refl, sym, ap, ◌∙◌}
-use Rattle.std.proofs.Common.{arith, append_assoc, append-nil, length-append, ne_eqb, subst}
-use Rattle.std.proofs.lemmas.Bool.{cases_lt, or_parts}
-use Rattle.std.proofs.lemmas.Bool.Decides.{nat_tests}
-use Rattle.std.proofs.lemmas.List.Folds.{list_any-append}
-use Rattle.std.proofs.lemmas.List.Elements.{All-nil}
-use Rattle.std.specs.Io.KnownBytes.{prepend_known}
-use Rattle.std.specs.List.{list_any}
-use Rattle.std.specs.Str.Lines.{lines_of_parts, strip_carriage_return}
-use Rattle.cif_columns.specs.ContentReader.{AnswersContent, IsNextOf, content, given, held, left, limit, most_of}
-use Rattle.cif_columns.specs.Contents.{BeginOverlong, ComesFirst, DecideNoContent, HaveNoFeed, contents_of}
-use Rattle.cif_columns.specs.FirstLine.{is_line_feed}
-use Rattle.cif_columns.specs.GivenLines.{AreWholeContentsAndRest, EndsLine}
-use Rattle.cif_columns.specs.JudgedContents.{IsGiven, MayGoOn, has_overlong, is_overlong, judged_contents, parts_of, up_to_overlong}
-use Rattle.cif_columns.specs.Source.{reader_of, source_ended}
-use Rattle.cif_columns.specs.declared.ahead.NextContent.TheVariants.{Overlong, End}
-use Rattle.cif_columns.specs.declared.ahead.ContentReader.{ContentReader}
-use Rattle.cif_columns.specs.declared.refusal.LineFault.TheVariants.{Refused, Read}
-use Rattle.cif_columns.specs.declared.refusal.Refusal.{Refusal}
-use Rattle.cif_columns.specs.declared.refusal.Refusal.TheVariants.{TooManyLines}
-use Rattle.cif_columns.specs.declared.source.Source.{Source}
+use Rattle.cif_columns.proofs.Names.{All-nil, AnswersContent, AreWholeContentsAndRest, BeginOverlong, ComesFirst, ContentReader}
+use Rattle.cif_columns.proofs.Names.{DecideNoContent, EndsLine, Err, HaveNoFeed, IfSome, IsNextOf, IsSomeAnd, List, None, Ok, Option}
+use Rattle.cif_columns.proofs.Names.{Overlong, Read, Refusal, Refused, Some, Source, TooManyLines, [], ap, append-nil, append_assoc, arith}
+use Rattle.cif_columns.proofs.Names.{cases_lt, cond, content, contents_of, false, inl, inr, is_line_feed, length, length-append}
+use Rattle.cif_columns.proofs.Names.{lines_of_parts, list_any, list_any-append, map, most_of, nat_tests, ne_eqb, or_parts, prepend_known}
+use Rattle.cif_columns.proofs.Names.{reader_of, refl, source_ended, strip_carriage_return, subst, sym, true, ℕ, ⊎_elim, ◌++◌, ◌+◌, ◌<◌}
+use Rattle.cif_columns.proofs.Names.{◌||◌, ◌∙◌, ◌∷◌, ◌≡◌, ◌≢◌, ◌≤◌, ◌⊎◌}
 use Rattle.cif_columns.proofs.ContentRuns.{HasGiven, at_limits, given_all, given_so, given_within}
-use Rattle.cif_columns.proofs.FirstContents.{content_at_end, content_before, feed_or_none, kept_left, one_part, overlong_part}
-use Rattle.cif_columns.proofs.FirstContents.{part_before, some_content}
+use Rattle.cif_columns.proofs.FirstContents.{content_at_end, content_before, feed_or_none, kept_left, one_part, overlong_part, part_before}
+use Rattle.cif_columns.proofs.FirstContents.{some_content}
 use Rattle.cif_columns.proofs.GivenLinesLaws.{contents_given, given_front, held_front, known_so, none_given, whole_more}
 use Rattle.cif_columns.proofs.WholeLines.{ends_before, lines_of_parts-append, lines_to_feed, parts_some, split_at_feed}
+use Rattle.cif_columns.specs.ContentReader.{given, held, left, limit}
+use Rattle.cif_columns.specs.JudgedContents.{IsGiven, MayGoOn, has_overlong, is_overlong, judged_contents, parts_of, up_to_overlong}
+use Rattle.cif_columns.specs.declared.ahead.NextContent.TheVariants.{End}
 
 -- ---- whole contents, none of which is overlong
 

@@ -1,14 +1,11 @@
 -- Lines without the spaces at their ends are what is kept of them, and determine them.
-use Rattle.std.proofs.Common.{◌≡◌, ℕ, zero, suc, ◌+◌, ◌-◌, ◌<◌, ◌≤◌, Bool, true, false, cond, List, [], ◌∷◌, ◌++◌, All, append_assoc}
-use Rattle.std.proofs.Common.{ap, arith, drop, get_or, length, length-append, max, refl, replicate, subst, sym, take, ◌∙◌}
-use Rattle.std.proofs.lemmas.Bool.{eqb-true}
-use Rattle.std.proofs.lemmas.List.{append-nil, drop_at, drop_more, length-drop, length-take-le, take_at, take_more, take-take}
-use Rattle.std.proofs.lemmas.List.Elements.{All-append, All-cons, All-drop, All-head, All-nil, All-tail, All-take, All-weaker}
-use Rattle.std.proofs.lemmas.Grind.{flat_map-append}
-use Rattle.std.proofs.Math.Seq.{take-append-add}
-use Rattle.cif_columns.specs.Line.{ArePrintable, IsLine, IsPrintable}
-use Rattle.cif_columns.specs.Text.{left_justified}
-use Rattle.cif_columns.specs.Lines.{AreKept, first_lines_in, is_space, kept, kept_text, lines_in, used, used_with, wide}
+use Rattle.cif_columns.proofs.Names.{All, All-append, All-cons, All-drop, All-head, All-nil, All-tail, All-take, All-weaker, AreKept}
+use Rattle.cif_columns.proofs.Names.{ArePrintable, Bool, IsLine, IsPrintable, List, [], ap, append-nil, append_assoc, arith, cond, drop}
+use Rattle.cif_columns.proofs.Names.{drop_at, drop_more, eqb-true, false, first_lines_in, flat_map-append, get_or, is_space, kept_text}
+use Rattle.cif_columns.proofs.Names.{left_justified, length, length-append, length-drop, length-take-le, lines_in, max, refl, replicate}
+use Rattle.cif_columns.proofs.Names.{subst, suc, sym, take, take-append-add, take-take, take_at, take_more, true, used, used_with, wide}
+use Rattle.cif_columns.proofs.Names.{zero, ℕ, ◌++◌, ◌+◌, ◌-◌, ◌<◌, ◌∙◌, ◌∷◌, ◌≡◌, ◌≤◌}
+use Rattle.cif_columns.specs.Lines.{kept}
 
 some_used : (space : Bool) (count : ℕ) → used_with space (suc count) ≡ suc (suc count)
 some_used true count = refl

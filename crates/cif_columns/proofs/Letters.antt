@@ -1,8 +1,6 @@
 -- Letters of short-term planning and the indicators that they stand for.
-use Rattle.std.proofs.Common.{◌≡◌, ℕ, Some, sym, ◌∙◌}
-use Rattle.cif_columns.specs.declared.stp.Stp.{Stp}
-use Rattle.cif_columns.specs.declared.stp.Stp.TheVariants.{P}
-use Rattle.cif_columns.specs.Stp.{StandsIn, stp_in}
+use Rattle.cif_columns.proofs.Names.{P, Some, Stp, stp_in, sym, ℕ, ◌∙◌, ◌≡◌}
+use Rattle.cif_columns.specs.Stp.{StandsIn}
 
 -- what stands in the column is found there
 pub stp_in-stands : (column : ℕ) (stp : Stp) → StandsIn column stp → stp_in column ≡ Some stp

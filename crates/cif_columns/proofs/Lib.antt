@@ -42,3 +42,4 @@ pub mod WholeLines
 pub mod WideLines
 pub mod WrittenLines
 pub mod WrittenTexts
+pub mod Names

@@ -1,31 +1,17 @@
 -- What a content is as a line, and what a `LineReader` answers of it.
-use Rattle.std.proofs.Common.{◌≡◌, ◌≢◌, ℕ, ◌+◌, ◌<◌, ◌≤◌, Bool, true, false, cond, nat_eq, List, [], ◌∷◌, length, Option, Some, None}
-use Rattle.std.proofs.Common.{IfSome, Ok, Err, refl, sym, ap, ◌∙◌, subst, arith}
-use Rattle.std.proofs.lemmas.Bool.Decides.{nat_tests}
-use Rattle.std.proofs.lemmas.Bool.{eqb-true}
-use Rattle.std.specs.List.{list_all}
-use Rattle.cif_columns.specs.Comment.{is_comment}
-use Rattle.cif_columns.specs.ContentReader.{IsNextOf, content}
-use Rattle.cif_columns.specs.Contents.{DecideNoContent, DecidesNothing, HasLineReason, IsFirstContent, IsLineReason, contents_of}
-use Rattle.cif_columns.specs.FirstLine.{is_printable, line_of}
-use Rattle.cif_columns.specs.Line.{IsLine}
-use Rattle.cif_columns.specs.LineReader.{GivenDecide, GivenDecideContent, HasPassedComment, IsNext, IsNoComment, PassesContent}
-use Rattle.cif_columns.specs.LineReader.{given, held, left, limit, past}
-use Rattle.cif_columns.specs.Source.{HasFailedToRead, HasReadOn, reader_of, source_ended, source_failed}
-use Rattle.cif_columns.specs.declared.ahead.NextContent.TheVariants.{Content, Overlong, End}
-use Rattle.cif_columns.specs.declared.ahead.ContentReader.{ContentReader}
-use Rattle.cif_columns.specs.declared.line.Line.{Line}
-use Rattle.cif_columns.specs.declared.line_reader.LineReader.{LineReader}
-use Rattle.cif_columns.specs.declared.line_reader.Past.TheVariants.{Reading, Ended, Faulted}
-use Rattle.cif_columns.specs.declared.refusal.LineFault.{LineFault}
-use Rattle.cif_columns.specs.declared.refusal.LineFault.TheVariants.{Refused, Read}
-use Rattle.cif_columns.specs.declared.refusal.Refusal.{Refusal}
-use Rattle.cif_columns.specs.declared.refusal.Refusal.TheVariants.{BadLength, BadByte}
-use Rattle.cif_columns.specs.declared.source.Source.{Source}
+use Rattle.cif_columns.proofs.Names.{BadByte, BadLength, Bool, Content, ContentReader, DecideNoContent, DecidesNothing, Ended, Err, Faulted}
+use Rattle.cif_columns.proofs.Names.{GivenDecide, GivenDecideContent, HasFailedToRead, HasLineReason, HasPassedComment, HasReadOn, IfSome}
+use Rattle.cif_columns.proofs.Names.{IsFirstContent, IsLine, IsLineReason, IsNext, IsNextOf, IsNoComment, Line, LineFault, LineReader, List}
+use Rattle.cif_columns.proofs.Names.{None, Ok, Option, Overlong, PassesContent, Read, Reading, Refusal, Refused, Some, Source, [], ap}
+use Rattle.cif_columns.proofs.Names.{arith, cond, content, contents_of, eqb-true, false, is_comment, is_printable, length, line_of}
+use Rattle.cif_columns.proofs.Names.{list_all, nat_eq, nat_tests, past, reader_of, refl, source_ended, source_failed, subst, sym, true, ℕ}
+use Rattle.cif_columns.proofs.Names.{◌+◌, ◌<◌, ◌∙◌, ◌∷◌, ◌≡◌, ◌≢◌, ◌≤◌}
 use Rattle.cif_columns.proofs.Comments.{long_no_comment}
 use Rattle.cif_columns.proofs.FirstContents.{content_first, overlong_content, some_content}
 use Rattle.cif_columns.proofs.GivenLinesLaws.{known_so}
 use Rattle.cif_columns.proofs.PrintableBytes.{printable_fact, printable_true}
+use Rattle.cif_columns.specs.LineReader.{given, held, left, limit}
+use Rattle.cif_columns.specs.declared.ahead.NextContent.TheVariants.{End}
 
 -- ---- what a content is
 

@@ -1,9 +1,7 @@
 -- A test of a line that takes one column of each fifth in a step.
-use Rattle.std.proofs.Common.{◌≡◌, ℕ, ◌+◌, ◌<◌, ◌≤◌, ◌↔◌, ◌⊎◌, inl, inr, Bool, false, ◌||◌, List, subst, arith, below_more}
-use Rattle.std.proofs.lemmas.Bool.{cases_lt, or_from, or_parts}
+use Rattle.cif_columns.proofs.Names.{Bool, IsFollowed, IsFollowedOver, IsInRange, IsTimed, List, Passes, PlainTest, arith, below_more}
+use Rattle.cif_columns.proofs.Names.{cases_lt, false, inl, inr, or_from, or_parts, subst, ℕ, ◌+◌, ◌<◌, ◌||◌, ◌↔◌, ◌≡◌, ◌≤◌, ◌⊎◌}
 use Rattle.cif_columns.proofs.EachOfFifths.{each_of_fifths, from_column}
-use Rattle.cif_columns.specs.PlainTest.{IsFollowed, IsFollowedOver, IsInRange, IsTimed, Passes}
-use Rattle.cif_columns.specs.declared.plain_test.PlainTest.{PlainTest}
 
 -- what the test asks of one of the first 64 columns
 abbrev pub MeetsFollowed : PlainTest → List ℕ → ℕ → Type 0

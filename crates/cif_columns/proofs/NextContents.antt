@@ -1,15 +1,11 @@
 -- What a call that passes the next content answers: by what was decided, by what came last, and where its source failed.
-use Rattle.std.proofs.Common.{◌≡◌, ◌⊎◌, ℕ, ◌<◌, false, true, List, length, Option, Result, Ok, Err, ap, ◌∙◌, arith, ⊎_elim}
-use Rattle.std.specs.Io.KnownBytes.{IsAtEnd, Keeps}
-use Rattle.cif_columns.specs.Ahead.{CutsNext, IsLast, PassesFirst, content_bytes, held_bytes, known_left}
-use Rattle.cif_columns.specs.Contents.{AreUndecided}
-use Rattle.cif_columns.specs.Source.{HasFailedToRead, HasReadOn, reader_of, source_ended, source_failed}
-use Rattle.cif_columns.specs.declared.ahead.Ahead.{Ahead}
-use Rattle.cif_columns.specs.declared.ahead.NextContent.{NextContent}
-use Rattle.cif_columns.specs.declared.ahead.NextContent.TheVariants.{Content, Overlong, End}
-use Rattle.cif_columns.specs.declared.source.ReadFault.{ReadFault}
-use Rattle.cif_columns.specs.declared.source.Source.{Source}
+use Rattle.cif_columns.proofs.Names.{AreUndecided, Content, CutsNext, Err, HasFailedToRead, HasReadOn, IsAtEnd, IsLast, Keeps, List}
+use Rattle.cif_columns.proofs.Names.{NextContent, Ok, Option, Overlong, PassesFirst, ReadFault, Result, Source, ap, arith, content_bytes}
+use Rattle.cif_columns.proofs.Names.{false, held_bytes, known_left, length, reader_of, source_ended, source_failed, true, ℕ, ⊎_elim, ◌<◌}
+use Rattle.cif_columns.proofs.Names.{◌∙◌, ◌≡◌, ◌⊎◌}
 use Rattle.cif_columns.proofs.FirstContents.{fed_decides, fed_some, kept_left, last_left, overlong_decides, passed_left}
+use Rattle.cif_columns.specs.declared.ahead.Ahead.{Ahead}
+use Rattle.cif_columns.specs.declared.ahead.NextContent.TheVariants.{End}
 
 -- what is held first, and what is while the source is read on
 module _ {R : Type 0} (remaining : R → Option (List ℕ)) (errors : R → Option ℕ) (most : ℕ) (first old new : Ahead) (from to : Source R)

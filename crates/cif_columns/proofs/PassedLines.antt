@@ -1,24 +1,14 @@
 -- A line that is passed where it is ahead is the next line, as `read_line` gives it, from any source.
-use Rattle.std.proofs.Common.{◌≡◌, ℕ, ◌+◌, ◌<◌, List, ◌∷◌, ◌++◌, length, drop, Ok, Some, Option}
-use Rattle.std.proofs.Common.{sym, ap, ◌∙◌, arith, drop-cons, length-take, take-append-drop}
-use Rattle.std.proofs.KnownBytes.{Keeps-refl}
-use Rattle.std.specs.Io.KnownBytes.{prepend_known}
-use Rattle.cif_columns.specs.Ahead.{BeginWithLine}
-use Rattle.cif_columns.specs.Contents.{EndsAtFeed}
-use Rattle.cif_columns.specs.Line.{ArePrintable, IsLine}
-use Rattle.cif_columns.specs.LineReader.{AreAhead, HasPassed, IsNext, given, held, left, limit, past}
-use Rattle.cif_columns.specs.Source.{reader_of}
-use Rattle.cif_columns.specs.declared.ahead.NextContent.TheVariants.{Content}
-use Rattle.cif_columns.specs.declared.line.Line.{Line}
-use Rattle.cif_columns.specs.declared.line_reader.LineReader.{LineReader}
-use Rattle.cif_columns.specs.declared.line_reader.Past.TheVariants.{Reading}
-use Rattle.cif_columns.specs.declared.source.Source.{Source}
+use Rattle.cif_columns.proofs.Names.{AreAhead, ArePrintable, BeginWithLine, Content, EndsAtFeed, HasPassed, IsLine, IsNext, Keeps-refl}
+use Rattle.cif_columns.proofs.Names.{Line, LineReader, List, Ok, Option, Reading, Some, Source, ap, arith, drop, drop-cons, length}
+use Rattle.cif_columns.proofs.Names.{length-take, past, prepend_known, reader_of, sym, take-append-drop, ℕ, ◌++◌, ◌+◌, ◌<◌, ◌∙◌, ◌∷◌, ◌≡◌}
 use Rattle.cif_columns.proofs.ContentAnswers.{none_decided}
 use Rattle.cif_columns.proofs.FirstContents.{content_first, fed_decides, passed_left}
 use Rattle.cif_columns.proofs.GivenLinesLaws.{known_so}
 use Rattle.cif_columns.proofs.LineAnswers.{gives_line}
 use Rattle.cif_columns.proofs.PlainLines.{unstripped}
 use Rattle.cif_columns.proofs.ReadSources.{read_nothing}
+use Rattle.cif_columns.specs.LineReader.{given, held, left, limit}
 
 -- eighty bytes of a line and a line feed
 module _ (bytes line : List ℕ) (begins : BeginWithLine bytes line) where

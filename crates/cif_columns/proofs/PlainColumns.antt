@@ -1,19 +1,16 @@
 -- Columns that are filled as in a plain line, and that a line of such columns is the plain line of its table.
-use Rattle.std.proofs.Common.{◌≡◌, ◌≤◌, ℕ, zero, suc, ◌+◌, ◌-◌, Bool, ◌&&◌, true, false, nat_eq, List, [], ◌∷◌, ◌++◌, length, drop, get_or}
-use Rattle.std.proofs.Common.{replicate, refl, sym, ap, ◌∙◌, arith, subst, length-append, length-drop}
-use Rattle.std.proofs.lemmas.Bool.Decides.{nat_tests}
-use Rattle.std.proofs.lemmas.List.{append-nil, drop-drop, length-replicate, nil_from_length, take-append-drop}
-use Rattle.cif_columns.specs.Activities.{codes_columns, codes_in}
-use Rattle.cif_columns.specs.Clock.{is_blank}
-use Rattle.cif_columns.specs.Field.{AllStandIn, FieldValue, Row, StandsIn, columns, is_whole_from, plain_columns, plain_line}
-use Rattle.cif_columns.specs.Field.{exactly, text, activity_codes, working_time, public_time, date, weekdays, indicator, spare}
-use Rattle.cif_columns.specs.Line.{IsLine}
-use Rattle.cif_columns.specs.Text.{IsTrimmed, left_justified, text_of}
+use Rattle.cif_columns.proofs.Names.{AllStandIn, Bool, FieldValue, IsLine, IsTrimmed, List, Row, [], activity_codes, ap, append-nil, arith}
+use Rattle.cif_columns.proofs.Names.{codes_columns, codes_in, columns, date, drop, drop-drop, exactly, false, get_or, indicator, is_blank}
+use Rattle.cif_columns.proofs.Names.{is_whole_from, left_justified, length, length-append, length-drop, length-replicate, nat_eq, nat_tests}
+use Rattle.cif_columns.proofs.Names.{nil_from_length, plain_columns, plain_line, public_time, refl, replicate, spare, subst, suc, sym}
+use Rattle.cif_columns.proofs.Names.{take-append-drop, text, text_of, true, weekdays, working_time, zero, ℕ, ◌&&◌, ◌++◌, ◌+◌, ◌-◌, ◌∙◌, ◌∷◌}
+use Rattle.cif_columns.proofs.Names.{◌≡◌, ◌≤◌}
 use Rattle.cif_columns.proofs.Codes.{codes_in-stands}
 use Rattle.cif_columns.proofs.DayDigits.{yymmdd_of-stands}
 use Rattle.cif_columns.proofs.Masks.{days_columns-stands}
 use Rattle.cif_columns.proofs.Parts.{whole-first}
 use Rattle.cif_columns.proofs.Texts.{is_text_of, trim-text}
+use Rattle.cif_columns.specs.Field.{StandsIn}
 
 -- blank columns are spaces
 pub spaces-blank : (c : List ℕ) → is_blank c ≡ true → replicate (length c) 32 ≡ c

@@ -1,30 +1,18 @@
 -- A plain line is a line, a line feed ends it, and what a line says fits its columns.
-use Rattle.std.proofs.Common.{◌≡◌, ℕ, ◌+◌, ◌-◌, ◌%◌, ◌<◌, ◌≤◌, Bool, true, false, cond, nat_eq, List, [], ◌∷◌, ◌++◌, length, map, replicate}
-use Rattle.std.proofs.Common.{drop, length-take, All, append_assoc, get_or, refl, ap, ◌∙◌, arith, subst, length-append}
-use Rattle.std.proofs.lemmas.Bool.Decides.{nat_tests}
-use Rattle.std.proofs.lemmas.List.{length-drop, get_or_append_left, get_or-append_right}
-use Rattle.std.proofs.lemmas.List.Elements.{All-nil, All-cons, All-append, All-replicate, All-head, All-tail, All-take, All-drop}
-use Rattle.std.specs.List.{slice_split, onto_first}
-use Rattle.std.specs.Prelude.{pos}
-use Rattle.std.specs.Str.Lines.{lines, strip_carriage_return}
-use Rattle.jiff_core.proofs.CalendarLemmas.{days_in_month_bounds}
-use Rattle.cif_columns.specs.Activities.{packed}
-use Rattle.cif_columns.specs.Contents.{contents_of, lines_text}
-use Rattle.cif_columns.specs.DayDigits.{yymmdd_of, date_of}
-use Rattle.cif_columns.specs.DaysRun.{days_columns}
-use Rattle.cif_columns.specs.Digits.{two_digits}
-use Rattle.cif_columns.specs.Field.{columns, FieldValue, Row, Fits, AllFit, StandsIn, plain_columns, plain_line, width_of, is_whole_from}
-use Rattle.cif_columns.specs.Field.{exactly, text, activity_codes, working_time, public_time, date, weekdays, indicator, spare}
-use Rattle.cif_columns.specs.FirstLine.{is_line_feed}
-use Rattle.cif_columns.specs.Line.{IsPrintable, ArePrintable, IsLine}
-use Rattle.cif_columns.specs.declared.stp.Stp.{Stp}
-use Rattle.cif_columns.specs.declared.stp.Stp.TheVariants.{P}
-use Rattle.cif_columns.specs.Stp.{letter}
+use Rattle.cif_columns.proofs.Names.{All, All-append, All-cons, All-drop, All-head, All-nil, All-replicate, All-tail, All-take, AllFit}
+use Rattle.cif_columns.proofs.Names.{ArePrintable, Bool, FieldValue, Fits, IsLine, IsPrintable, List, P, Row, Stp, [], activity_codes, ap}
+use Rattle.cif_columns.proofs.Names.{append_assoc, arith, columns, cond, contents_of, date, date_of, days_columns, days_in_month_bounds}
+use Rattle.cif_columns.proofs.Names.{drop, exactly, false, get_or, get_or-append_right, get_or_append_left, indicator, is_line_feed}
+use Rattle.cif_columns.proofs.Names.{is_whole_from, length, length-append, length-drop, length-take, letter, lines, lines_text, map, nat_eq}
+use Rattle.cif_columns.proofs.Names.{nat_tests, onto_first, packed, plain_columns, plain_line, pos, public_time, refl, replicate}
+use Rattle.cif_columns.proofs.Names.{slice_split, spare, strip_carriage_return, subst, text, true, two_digits, weekdays, width_of}
+use Rattle.cif_columns.proofs.Names.{working_time, yymmdd_of, ℕ, ◌%◌, ◌++◌, ◌+◌, ◌-◌, ◌<◌, ◌∙◌, ◌∷◌, ◌≡◌, ◌≤◌}
 use Rattle.cif_columns.proofs.Codes.{printable-packed}
 use Rattle.cif_columns.proofs.DayDigits.{counted}
 use Rattle.cif_columns.proofs.Parts.{length-plain_line}
 use Rattle.cif_columns.proofs.Times.{digits_printable, public_printable, work_printable}
 use Rattle.cif_columns.proofs.WholeLines.{lines_to_feed}
+use Rattle.cif_columns.specs.Field.{StandsIn}
 
 spaces_printable : (n : ℕ) → ArePrintable (replicate n 32)
 spaces_printable n = All-replicate IsPrintable n 32 (omega arith, omega arith)

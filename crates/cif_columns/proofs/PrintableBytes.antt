@@ -1,13 +1,8 @@
 -- Printable bytes by the test and by the fact.
-use Rattle.std.proofs.Common.{◌≡◌, ℕ, true, List, length, cond, Option, Some, None, IsTrue, ◌↔◌, Ok, Err, sym, ap, ◌∙◌, arith}
-use Rattle.std.proofs.Common.{refl, eq-eqb, false, Bool}
-use Rattle.std.proofs.lemmas.Bool.Decides.{nat_tests}
+use Rattle.cif_columns.proofs.Names.{ArePrintable, BadByte, BadLength, Bool, Err, IsPrintable, IsTrue, List, None, Ok, Option, Some}
+use Rattle.cif_columns.proofs.Names.{SomeIff, ap, arith, cond, eq-eqb, false, is_printable, length, line_of, list_all, nat_tests, ok_or}
+use Rattle.cif_columns.proofs.Names.{refl, sym, true, ℕ, ◌↔◌, ◌∙◌, ◌≡◌}
 use Rattle.std.proofs.lemmas.List.Sums.{AllPass-from_list_all, list_all-from_AllPass}
-use Rattle.std.specs.List.{list_all}
-use Rattle.std.specs.Option.{SomeIff, ok_or}
-use Rattle.cif_columns.specs.declared.refusal.Refusal.TheVariants.{BadLength, BadByte}
-use Rattle.cif_columns.specs.Line.{IsPrintable, ArePrintable}
-use Rattle.cif_columns.specs.FirstLine.{is_printable, line_of}
 
 test_true : (b : ℕ) → IsPrintable b → is_printable b ≡ true
 test_true b h = grind (arith, nat_tests)

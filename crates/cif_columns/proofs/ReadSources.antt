@@ -1,11 +1,6 @@
 -- Calls that read, one after another.
-use Rattle.std.proofs.Common.{ℕ, Option, Err, refl, subst, ◌∙◌}
-use Rattle.cif_columns.specs.Devices.{OneError}
-use Rattle.cif_columns.specs.LineReader.{LineReads}
-use Rattle.cif_columns.specs.Source.{HasFailedToRead, HasReadOn, reader_of}
-use Rattle.cif_columns.specs.declared.refusal.LineFault.{LineFault}
-use Rattle.cif_columns.specs.declared.refusal.LineFault.TheVariants.{Refused, Read}
-use Rattle.cif_columns.specs.declared.source.Source.{Source}
+use Rattle.cif_columns.proofs.Names.{Err, HasFailedToRead, HasReadOn, LineFault, LineReads, OneError, Option, Read, Refused, Source}
+use Rattle.cif_columns.proofs.Names.{reader_of, refl, subst, ℕ, ◌∙◌}
 
 module _ {R : Type 0} (errors : R → Option ℕ) where
   -- nothing is read

@@ -1,17 +1,14 @@
 -- What stands in the columns of a line fits them.
-use Rattle.std.proofs.Common.{◌≡◌, ◌≤◌, ℕ, ◌+◌, ◌-◌, ◌&&◌, ◌==◌, Bool, true, List, [], ◌∷◌, length, subst, arith}
-use Rattle.std.proofs.lemmas.Bool.{and_parts, eqb-true}
-use Rattle.cif_columns.specs.Activities.{AreCodes}
-use Rattle.cif_columns.specs.Field.{AllFit, AllStandIn, FieldValue, Fits, Row, StandsIn, columns, is_whole_from, width_of}
-use Rattle.cif_columns.specs.Field.{exactly, text, activity_codes, working_time, public_time, date, weekdays, indicator, spare}
-use Rattle.cif_columns.specs.Line.{IsLine}
-use Rattle.cif_columns.specs.PublicTime.{IsPublicTime}
-use Rattle.cif_columns.specs.WorkTime.{IsWorkTime}
+use Rattle.cif_columns.proofs.Names.{AllFit, AllStandIn, AreCodes, Bool, FieldValue, Fits, IsLine, IsPublicTime, IsWorkTime, List, Row, []}
+use Rattle.cif_columns.proofs.Names.{activity_codes, and_parts, arith, columns, date, eqb-true, exactly, indicator, is_whole_from, length}
+use Rattle.cif_columns.proofs.Names.{public_time, spare, subst, text, true, weekdays, width_of, working_time, ℕ, ◌&&◌, ◌+◌, ◌-◌, ◌==◌, ◌∷◌}
+use Rattle.cif_columns.proofs.Names.{◌≡◌, ◌≤◌}
 use Rattle.cif_columns.proofs.Codes.{are_codes-codes_in, codes_in-stands}
 use Rattle.cif_columns.proofs.DayDigits.{is_day-yymmdd}
 use Rattle.cif_columns.proofs.Parts.{whole-first}
 use Rattle.cif_columns.proofs.PlainColumns.{whole-within}
 use Rattle.cif_columns.proofs.PlainLines.{fits-exactly_at, fits-text_at, length-columns, printable-columns}
+use Rattle.cif_columns.specs.Field.{StandsIn}
 
 -- a value of this kind can take so many columns
 abbrev pub has_width : ℕ → FieldValue → Bool

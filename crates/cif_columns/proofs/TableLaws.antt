@@ -1,19 +1,13 @@
 -- A line's columns have one value of each row's kind, so a line has one table of a form.
-use Rattle.std.proofs.Common.{◌≡◌, ℕ, List, [], ◌∷◌, Option, Some, refl, sym, ap, ◌∙◌}
-use Rattle.std.specs.Option.{option_map}
-use Rattle.std.specs.Prelude.{slice_index}
-use Rattle.cif_columns.specs.Activities.{codes_in}
-use Rattle.cif_columns.specs.Day.{yymmdd_in}
-use Rattle.cif_columns.specs.DaysRun.{days_of}
-use Rattle.cif_columns.specs.Field.{AllStandIn, FieldValue, Row, StandsIn, columns}
-use Rattle.cif_columns.specs.Field.{exactly, text, activity_codes, working_time, public_time, date, weekdays, indicator, spare}
-use Rattle.cif_columns.specs.Stp.{stp_in}
-use Rattle.cif_columns.specs.Text.{text_of}
+use Rattle.cif_columns.proofs.Names.{AllStandIn, FieldValue, List, Option, Row, Some, [], activity_codes, ap, codes_in, columns, date}
+use Rattle.cif_columns.proofs.Names.{days_of, exactly, indicator, option_map, public_time, refl, slice_index, spare, stp_in, sym, text}
+use Rattle.cif_columns.proofs.Names.{text_of, weekdays, working_time, yymmdd_in, ℕ, ◌∙◌, ◌∷◌, ◌≡◌}
 use Rattle.cif_columns.proofs.Codes.{codes_in-stands}
 use Rattle.cif_columns.proofs.DayColumns.{yymmdd_in-stands}
 use Rattle.cif_columns.proofs.FieldLaws.{stp_in-letter}
 use Rattle.cif_columns.proofs.Masks.{days_of-stands}
 use Rattle.cif_columns.proofs.Texts.{trim-text}
+use Rattle.cif_columns.specs.Field.{StandsIn}
 
 -- the value in columns, of the same kind as this one
 abbrev pub read_as : FieldValue → List ℕ → Option FieldValue

@@ -1,10 +1,6 @@
 -- Columns that pass a test of bytes of lines are a line.
-use Rattle.std.proofs.Common.{◌≡◌, ℕ, ◌<◌, ◌≤◌, ◌⊎◌, inl, inr, true, List, length, subst, sym, arith}
-use Rattle.std.proofs.lemmas.Bool.{and_parts}
-use Rattle.std.proofs.lemmas.List.{get_or_default}
-use Rattle.cif_columns.specs.Line.{IsLine, IsPrintable}
-use Rattle.cif_columns.specs.PlainTest.{Passes, asks_printable}
-use Rattle.cif_columns.specs.declared.plain_test.PlainTest.{PlainTest}
+use Rattle.cif_columns.proofs.Names.{IsLine, IsPrintable, List, Passes, PlainTest, and_parts, arith, asks_printable, get_or_default, inl}
+use Rattle.cif_columns.proofs.Names.{inr, length, subst, sym, true, ℕ, ◌<◌, ◌≡◌, ◌≤◌, ◌⊎◌}
 use Rattle.cif_columns.proofs.PrintableBytes.{printable_fact}
 
 in_range : (least most also b : ℕ) → IsPrintable least → IsPrintable most → IsPrintable also

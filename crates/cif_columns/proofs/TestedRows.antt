@@ -1,29 +1,23 @@
 -- A line that passes a test spells each table that the test asks for, and is its plain line.
-use Rattle.std.proofs.Common.{◌≡◌, ℕ, ◌+◌, ◌-◌, ◌<◌, ◌≤◌, ◌⊎◌, inl, inr, true, nat_eq, List, [], ◌∷◌}
-use Rattle.std.proofs.Common.{length, get_or, refl, sym, ap, subst, ◌∙◌, arith, rules, replicate, codes}
-use Rattle.std.proofs.lemmas.Bool.{and_parts, eqb-true, false≢true, leb-true, or_cases}
-use Rattle.std.proofs.lemmas.List.{ext_get_or, length-replicate}
-use Rattle.std.proofs.lemmas.Slice.Eq.{text_from_reads}
-use Rattle.cif_columns.specs.Activities.{codes_in, packed}
-use Rattle.cif_columns.specs.Field.{AllStandIn, FieldValue, Row, StandsIn, columns, is_whole_from}
-use Rattle.cif_columns.specs.Field.{exactly, text, activity_codes, working_time, public_time, spare}
-use Rattle.cif_columns.specs.Line.{IsLine}
-use Rattle.cif_columns.specs.PlainTest.{IsPlainLineOf, Passes, are, asks, asks_all, asks_bytes, asks_clock, asks_left, asks_rows}
-use Rattle.cif_columns.specs.PlainTest.{asks_spaces, read_off, read_value}
-use Rattle.cif_columns.specs.PublicTime.{StandsIn as PublicTimeStandsIn, is_public_time}
-use Rattle.cif_columns.specs.Text.{left_justified, text_of}
-use Rattle.cif_columns.specs.WorkTime.{StandsIn as WorkTimeStandsIn, is_work_time}
-use Rattle.cif_columns.specs.declared.plain_test.PlainTest.{PlainTest}
+use Rattle.cif_columns.proofs.Names.{AllStandIn, FieldValue, IsLine, IsPlainLineOf, List, Passes, PlainTest, Row, [], activity_codes}
+use Rattle.cif_columns.proofs.Names.{and_parts, ap, are, arith, asks, asks_all, asks_bytes, asks_clock, asks_left, asks_rows, asks_spaces}
+use Rattle.cif_columns.proofs.Names.{codes, codes_in, columns, eqb-true, exactly, ext_get_or, false≢true, get_or, inl, inr, is_public_time}
+use Rattle.cif_columns.proofs.Names.{is_whole_from, is_work_time, leb-true, left_justified, length, length-replicate, nat_eq, or_cases}
+use Rattle.cif_columns.proofs.Names.{packed, public_time, read_off, read_value, refl, replicate, rules, spare, subst, sym, text}
+use Rattle.cif_columns.proofs.Names.{text_from_reads, text_of, true, working_time, ℕ, ◌+◌, ◌-◌, ◌<◌, ◌∙◌, ◌∷◌, ◌≡◌, ◌≤◌, ◌⊎◌}
 use Rattle.cif_columns.proofs.Codes.{stands-codes_in}
 use Rattle.cif_columns.proofs.ColumnReads.{asked_at, read, width}
 use Rattle.cif_columns.proofs.PackedCodes.{AreLeft, left_same}
 use Rattle.cif_columns.proofs.Parts.{whole-first}
-use Rattle.cif_columns.proofs.PlainColumns.{ArePlain, IsPlain, IsPlainActivities, IsPlainText, blank-spaces, plain-blank}
-use Rattle.cif_columns.proofs.PlainColumns.{plain_already, whole-within}
+use Rattle.cif_columns.proofs.PlainColumns.{ArePlain, IsPlain, IsPlainActivities, IsPlainText, blank-spaces, plain-blank, plain_already}
+use Rattle.cif_columns.proofs.PlainColumns.{whole-within}
 use Rattle.cif_columns.proofs.TestedTexts.{text_part}
 use Rattle.cif_columns.proofs.TestedTimes.{InOrSpace, IsClockOrBlank, public_passes, work_passes}
 use Rattle.cif_columns.proofs.Texts.{is_text_of}
 use Rattle.cif_columns.proofs.Times.{five, four, public-stands, work-stands}
+use Rattle.cif_columns.specs.Field.{StandsIn}
+use Rattle.cif_columns.specs.PublicTime.{StandsIn as PublicTimeStandsIn}
+use Rattle.cif_columns.specs.WorkTime.{StandsIn as WorkTimeStandsIn}
 
 twelve : (xs : List ℕ) → length xs ≡ 12 → xs ≡ get_or xs 0 0 ∷ get_or xs 1 0 ∷ get_or xs 2 0 ∷ get_or xs 3 0 ∷ get_or xs 4 0
     ∷ get_or xs 5 0 ∷ get_or xs 6 0 ∷ get_or xs 7 0 ∷ get_or xs 8 0 ∷ get_or xs 9 0 ∷ get_or xs 10 0 ∷ get_or xs 11 0 ∷ []

@@ -1,14 +1,9 @@
 -- Texts that stand at the left of their columns.
-use Rattle.std.proofs.Common.{◌≡◌, ℕ, ◌+◌, ◌-◌, ◌<◌, ◌≤◌, Bool, true, false, nat_eq, List, length, get_or, refl, sym, ap, subst, ◌∙◌}
-use Rattle.std.proofs.Common.{arith, replicate}
-use Rattle.std.proofs.lemmas.Bool.Decides.{nat_tests}
-use Rattle.std.proofs.lemmas.List.{get_or-replicate}
-use Rattle.cif_columns.specs.Field.{columns}
-use Rattle.cif_columns.specs.Text.{left_justified, text_of}
-use Rattle.cif_columns.proofs.PlainColumns.{IsPlainText, plain-blank, plain-text}
-use Rattle.cif_columns.specs.declared.plain_test.PlainTest.{PlainTest}
-use Rattle.cif_columns.specs.PlainTest.{Passes, are}
+use Rattle.cif_columns.proofs.Names.{Bool, List, Passes, PlainTest, ap, are, arith, columns, false, get_or, get_or-replicate}
+use Rattle.cif_columns.proofs.Names.{left_justified, length, nat_eq, nat_tests, refl, replicate, subst, sym, text_of, true, ℕ, ◌+◌, ◌-◌}
+use Rattle.cif_columns.proofs.Names.{◌<◌, ◌∙◌, ◌≡◌, ◌≤◌}
 use Rattle.cif_columns.proofs.ColumnReads.{asked_at, blank_from_reads, read, spaces_on, width}
+use Rattle.cif_columns.proofs.PlainColumns.{IsPlainText, plain-blank, plain-text}
 
 -- columns in which a space is always followed by a space
 left_text : (c : List ℕ) → 1 ≤ length c → ((k : ℕ) → k + 1 < length c → get_or c k 0 ≡ 32 → get_or c (k + 1) 0 ≡ 32)

@@ -1,11 +1,7 @@
 -- Times, by what stands in each of their columns.
-use Rattle.std.proofs.Common.{◌≡◌, ℕ, ◌+◌, ◌-◌, ◌*◌, ◌<◌, ◌≤◌, ◌⊎◌, inl, inr, Bool, ◌&&◌, ◌||◌, true, false, nat_eq, nat_lt, [], ◌∷◌}
-use Rattle.std.proofs.Common.{refl, arith}
-use Rattle.std.proofs.lemmas.Bool.{or_right}
-use Rattle.std.proofs.lemmas.Bool.Decides.{nat_tests}
+use Rattle.cif_columns.proofs.Names.{Bool, [], arith, false, inl, inr, is_ascii_digit, is_blank, is_clock, nat_eq, nat_lt, nat_tests}
+use Rattle.cif_columns.proofs.Names.{or_right, refl, true, ℕ, ◌&&◌, ◌*◌, ◌+◌, ◌-◌, ◌<◌, ◌||◌, ◌∷◌, ◌≡◌, ◌≤◌, ◌⊎◌}
 use Rattle.std.specs.Cmp.Derive.{both_true}
-use Rattle.std.specs.Char.{is_ascii_digit}
-use Rattle.cif_columns.specs.Clock.{is_clock, is_blank}
 
 -- a byte in a range, or a space
 abbrev pub InOrSpace : ℕ → ℕ → ℕ → Type 0

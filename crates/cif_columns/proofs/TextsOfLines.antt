@@ -1,11 +1,7 @@
 -- The texts of lines, each a line with its line feed.
-use Rattle.std.proofs.Common.{◌≡◌, ℕ, zero, suc, ◌+◌, ◌<◌, List, [], ◌∷◌, ◌++◌, ap, append_assoc, arith, drop, get_or, length, refl, set}
-use Rattle.std.proofs.Common.{sym, take, ◌∙◌}
-use Rattle.std.specs.List.{flat_map}
-use Rattle.std.proofs.lemmas.Grind.{flat_map-append}
-use Rattle.std.proofs.lemmas.List.{append-nil, drop-append-le, drop_more, length-take-le, take_more_set}
-use Rattle.std.proofs.Math.Seq.{take-append_seam}
-use Rattle.cif_columns.specs.Contents.{lines_text}
+use Rattle.cif_columns.proofs.Names.{List, [], ap, append-nil, append_assoc, arith, drop, drop-append-le, drop_more, flat_map}
+use Rattle.cif_columns.proofs.Names.{flat_map-append, get_or, length, length-take-le, lines_text, refl, set, suc, sym, take}
+use Rattle.cif_columns.proofs.Names.{take-append_seam, take_more_set, zero, ℕ, ◌++◌, ◌+◌, ◌<◌, ◌∙◌, ◌∷◌, ◌≡◌}
 
 -- the line of a text, in front of its line feed
 pub front_of_text : (line : List ℕ) → length line ≡ 80 → take 80 (line ++ (10 ∷ [])) ≡ line

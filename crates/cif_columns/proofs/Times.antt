@@ -1,15 +1,9 @@
 -- What the form of a time says of its columns, and that the tests of it are right.
-use Rattle.std.proofs.Common.{Bool, ◌&&◌, ◌||◌, ◌≡◌, ℕ, ◌+◌, ◌-◌, ◌*◌, ◌/◌, ◌%◌, ◌<◌, ◌≤◌, ◌⊎◌, inl, inr, true, false, nat_eq, nat_lt}
-use Rattle.std.proofs.Common.{List, [], ◌∷◌, length, get_or, replicate, Some, None, refl, sym, ap, arith, rules, cond, subst, ⊎_elim}
-use Rattle.std.proofs.lemmas.Bool.{and_from, and_parts, eqb-true, ltb-true, or_cases, or_right}
-use Rattle.std.proofs.lemmas.Bool.Decides.{nat_tests}
-use Rattle.std.proofs.lemmas.List.Elements.{All-nil, All-cons, All-append, All-replicate}
-use Rattle.std.proofs.lemmas.Slice.Eq.{text_from_reads}
-use Rattle.std.specs.Char.{is_ascii_digit}
-use Rattle.std.specs.Cmp.Lexicographic.{pointwise}
-use Rattle.cif_columns.specs.Clock.{IsHourMinute, is_clock, is_blank}
-use Rattle.cif_columns.specs.Digits.{two_digits}
-use Rattle.cif_columns.specs.Line.{IsPrintable, ArePrintable}
+use Rattle.cif_columns.proofs.Names.{All-append, All-cons, All-nil, All-replicate, ArePrintable, Bool, IsHourMinute, IsPrintable, List}
+use Rattle.cif_columns.proofs.Names.{None, Some, [], and_from, and_parts, ap, arith, cond, eqb-true, false, get_or, inl, inr}
+use Rattle.cif_columns.proofs.Names.{is_ascii_digit, is_blank, is_clock, length, ltb-true, nat_eq, nat_lt, nat_tests, or_cases, or_right}
+use Rattle.cif_columns.proofs.Names.{pointwise, refl, replicate, rules, subst, sym, text_from_reads, true, two_digits, ℕ, ⊎_elim, ◌%◌, ◌&&◌}
+use Rattle.cif_columns.proofs.Names.{◌*◌, ◌+◌, ◌-◌, ◌/◌, ◌<◌, ◌||◌, ◌∷◌, ◌≡◌, ◌≤◌, ◌⊎◌}
 use Rattle.cif_columns.proofs.DigitsLemmas.{digit_is}
 use Rattle.cif_columns.specs.PublicTime as public
 use Rattle.cif_columns.specs.WorkTime as work

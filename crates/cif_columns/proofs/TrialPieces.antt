@@ -1,16 +1,11 @@
 -- A piece that a trial reader gives is consumed, and its failures are counted.
-use Rattle.std.proofs.Common.{◌≡◌, ℕ, ◌+◌, ◌-◌, ◌^◌, ◌<◌, min, Bool, true, false, cond, nat_lt, List, ◌++◌, length, Result, Ok, Err, Some}
-use Rattle.std.proofs.Common.{None, IfSome, ap, arith, refl, sym, ◌∙◌}
-use Rattle.std.proofs.lemmas.Bool.{ltb-true}
-use Rattle.std.proofs.lemmas.Bool.Decides.{nat_tests}
-use Rattle.std.proofs.lemmas.List.{take-append-le}
+use Rattle.cif_columns.proofs.Names.{Bool, Err, IfSome, IsSomeAnd, List, None, Ok, OneError, ReadConsumes, Result, Some, ap, arith, cond}
+use Rattle.cif_columns.proofs.Names.{false, length, ltb-true, min, nat_lt, nat_tests, refl, sym, take-append-le, told_count, true, ℕ, ◌++◌}
+use Rattle.cif_columns.proofs.Names.{◌+◌, ◌-◌, ◌<◌, ◌^◌, ◌∙◌, ◌≡◌}
 use Rattle.std.specs.Io.{ReadsAtMost}
-use Rattle.std.specs.Io.KnownBytes.{ReadConsumes}
-use Rattle.std.specs.Option.{IsSomeAnd}
-use Rattle.cif_columns.specs.Devices.{OneError, told_count}
-use Rattle.cif_columns.specs.declared.trials.End.{End}
-use Rattle.cif_columns.specs.declared.trials.End.TheVariants.{Stop, Fail, Again}
 use Rattle.cif_columns.specs.End.{bytes_left}
+use Rattle.cif_columns.specs.declared.trials.End.{End}
+use Rattle.cif_columns.specs.declared.trials.End.TheVariants.{Again, Fail, Stop}
 
 -- what a slice gives to the front of a buffer is consumed, if there is room in front where there is some
 module _ {E : Type 0} (rest left piece more : List ℕ) (room : 0 < length (piece ++ more) → 0 < length piece) where

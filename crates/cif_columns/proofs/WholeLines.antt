@@ -1,13 +1,8 @@
 -- Whole lines at the front of bytes: their contents come first.
-use Rattle.std.proofs.Common.{◌≡◌, ℕ, Bool, true, false, cond, List, [], ◌∷◌, ◌++◌, length, map, refl, sym, ap, ◌∙◌, arith, append_assoc}
-use Rattle.std.proofs.Common.{append-nil, length-append}
-use Rattle.std.proofs.lemmas.List.{append_cancel_right, nil_from_length}
-use Rattle.std.specs.List.{slice_split, onto_first}
-use Rattle.std.specs.Str.Lines.{lines, lines_of_parts, strip_carriage_return}
-use Rattle.cif_columns.specs.Contents.{StandsFirst}
-use Rattle.cif_columns.specs.FirstLine.{is_line_feed}
-use Rattle.cif_columns.specs.GivenLines.{EndsLine}
-use mathlib.Core.Logic.{◌⊎◌, inl, inr, ⊎_elim}
+use Rattle.cif_columns.proofs.Names.{Bool, EndsLine, List, StandsFirst, [], ap, append-nil, append_assoc, append_cancel_right, arith, cond}
+use Rattle.cif_columns.proofs.Names.{false, is_line_feed, length, length-append, lines, lines_of_parts, map, nil_from_length, onto_first}
+use Rattle.cif_columns.proofs.Names.{refl, slice_split, strip_carriage_return, sym, true, ℕ, ◌++◌, ◌∙◌, ◌∷◌, ◌≡◌}
+use mathlib.Core.Logic.{inl, inr, ⊎_elim, ◌⊎◌}
 
 -- bytes have a part
 pub parts_some : (p : ℕ → Bool) (bytes : List ℕ) → (first : List ℕ) × (others : List (List ℕ)) × (slice_split p bytes ≡ first ∷ others)

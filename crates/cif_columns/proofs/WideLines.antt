@@ -1,13 +1,8 @@
 -- The columns of a line that is widened: those that are used, and then spaces.
-use Rattle.std.proofs.Common.{◌≡◌, ℕ, ◌+◌, ◌-◌, ◌<◌, ◌≤◌, ◌⊎◌, inl, inr, List, [], ◌∷◌, ◌++◌, ap, arith, drop, get_or, length}
-use Rattle.std.proofs.Common.{length-append, max, min, replicate, set, sym, take, ◌∙◌}
-use Rattle.std.specs.List.{flat_map}
-use Rattle.std.proofs.lemmas.Bool.{cases_lt}
-use Rattle.std.proofs.lemmas.List.{append-nil, get_or-append_right, get_or-drop, get_or-replicate, get_or-take, get_or_append_left}
-use Rattle.std.proofs.lemmas.List.{length-replicate, length-set, length-take-le, take_all, take_more, take_more_set}
-use Rattle.std.proofs.lemmas.List.Elements.{All-get_or}
-use Rattle.cif_columns.specs.Line.{ArePrintable, IsPrintable}
-use Rattle.cif_columns.specs.Lines.{wide}
+use Rattle.cif_columns.proofs.Names.{All-get_or, ArePrintable, IsPrintable, List, [], ap, append-nil, arith, cases_lt, drop, flat_map}
+use Rattle.cif_columns.proofs.Names.{get_or, get_or-append_right, get_or-drop, get_or-replicate, get_or-take, get_or_append_left, inl, inr}
+use Rattle.cif_columns.proofs.Names.{length, length-append, length-replicate, length-set, length-take-le, max, min, replicate, set, sym}
+use Rattle.cif_columns.proofs.Names.{take, take_all, take_more, take_more_set, wide, ℕ, ◌++◌, ◌+◌, ◌-◌, ◌<◌, ◌∙◌, ◌∷◌, ◌≡◌, ◌≤◌, ◌⊎◌}
 
 -- some columns, and then so many bytes of one kind
 module _ (b : ℕ) (columns : List ℕ) (count n : ℕ) (width : length columns ≡ count) (i : ℕ) where

@@ -1,8 +1,6 @@
 -- Lines that are written one after another.
-use Rattle.std.proofs.Common.{◌≡◌, ◌<◌, ℕ, List, [], ◌∷◌, ◌++◌, Option, append_assoc, ap, drop, get_or, length, subst, sym, ◌∙◌}
-use Rattle.cif_columns.specs.Contents.{lines_text}
-use Rattle.cif_columns.specs.Sink.{HasFailed, HasWritten}
-use Rattle.cif_columns.specs.declared.sink.Sink.{Sink}
+use Rattle.cif_columns.proofs.Names.{HasFailed, HasWritten, List, Option, Sink, [], ap, append_assoc, drop, get_or, length, lines_text}
+use Rattle.cif_columns.proofs.Names.{subst, sym, ℕ, ◌++◌, ◌<◌, ◌∙◌, ◌∷◌, ◌≡◌}
 use Rattle.cif_columns.proofs.TextsOfLines.{first_text}
 use Rattle.cif_columns.proofs.WrittenTexts.{failed_first, failed_second}
 

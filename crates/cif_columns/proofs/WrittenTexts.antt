@@ -1,10 +1,7 @@
 -- Texts that are written one after another.
-use Rattle.std.proofs.Common.{◌≡◌, ℕ, false, List, [], ◌++◌, Option, Result, Ok, Err, IsErr, refl, sym, ap, subst, ◌∙◌, append_assoc}
-use Rattle.std.proofs.lemmas.Bool.{false≢true}
-use Rattle.std.proofs.KnownBytes.{Appends-nil, Appends-trans}
-use Rattle.cif_columns.specs.Devices.{OneError}
-use Rattle.cif_columns.specs.Sink.{HasFailed, HasWritten, Writes, sink_failed, writer_of}
-use Rattle.cif_columns.specs.declared.sink.Sink.{Sink}
+use Rattle.cif_columns.proofs.Names.{Appends-nil, Appends-trans, Err, HasFailed, HasWritten, IsErr, List, Ok, OneError, Option, Result}
+use Rattle.cif_columns.proofs.Names.{Sink, Writes, [], ap, append_assoc, false, false≢true, refl, sink_failed, subst, sym, writer_of, ℕ}
+use Rattle.cif_columns.proofs.Names.{◌++◌, ◌∙◌, ◌≡◌}
 
 module _ {W : Type 0} (contents : W → Option (List ℕ)) (errors : W → Option ℕ) where
   -- nothing is written

@@ -1,21 +1,12 @@
 -- What a BS comes to, and an LT.
-use Rattle.std.proofs.Common.{◌≡◌, ℕ, List, [], ◌∷◌, ◌++◌, Option, None, Some, Result, Ok, Err, false, is_some, ap, sym, ◌∙◌, subst}
-use Rattle.cif_columns.specs.Field.{AllStandIn, plain_line}
-use Rattle.cif_columns.specs.declared.refusal.Refusal.{Refusal}
-use Rattle.cif_extract.specs.Steps.Reading.{IsClosed, IsKeepable, IsTaken, Progress, begun, closed, kept, schedule_of, step}
-use Rattle.cif_extract.specs.declared.place.Place.TheVariants as at
-use Rattle.cif_extract.specs.declared.extract.Schedule.{Schedule}
-use Rattle.cif_extract.specs.declared.reading.TakeFault.{TakeFault}
-use Rattle.cif_extract.specs.declared.reading.TakeFault.TheVariants as untaken
-use Rattle.cif_records.specs.Basic.{terms_of}
-use Rattle.cif_records.specs.Bodies.{has_body}
-use Rattle.cif_records.specs.Detail.{detail_table}
-use Rattle.cif_records.specs.Record.{SpellsRecord}
-use Rattle.cif_records.specs.declared.basic.Basic.{Basic}
-use Rattle.cif_records.specs.declared.basic.BasicTerms.{BasicTerms}
-use Rattle.cif_records.specs.declared.detail.Detail.{Detail}
+use Rattle.cif_extract.proofs.Names.{AllStandIn, Basic, BasicTerms, Detail, Err, IsClosed, IsKeepable, IsTaken, List, None, Ok, Option}
+use Rattle.cif_extract.proofs.Names.{Progress, Refusal, Result, Schedule, Some, SpellsRecord, TakeFault, Terminus, [], ap, closed}
+use Rattle.cif_extract.proofs.Names.{detail_table, false, has_body, is_some, plain_line, schedule_of, step, subst, sym, terms_of, ℕ, ◌++◌}
+use Rattle.cif_extract.proofs.Names.{◌∙◌, ◌∷◌, ◌≡◌}
 use Rattle.cif_records.specs.declared.record.Record.TheVariants as of
-use Rattle.cif_records.specs.declared.terminus.Terminus.{Terminus}
+use Rattle.cif_extract.specs.Steps.Reading.{begun, kept}
+use Rattle.cif_extract.specs.declared.place.Place.TheVariants as at
+use Rattle.cif_extract.specs.declared.reading.TakeFault.TheVariants as untaken
 
 module _ (p : Progress) (b : Basic) (t : BasicTerms) (terms : t ≡ terms_of b) where
   pub begun_none : (d : Option Detail) (e : is_some d ≡ has_body b.letter) → d ≡ None → (s : Schedule) →

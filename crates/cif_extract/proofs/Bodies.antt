@@ -1,32 +1,18 @@
 -- What stands in the lines that keep a body.
-use Rattle.std.proofs.Common.{◌≡◌, ◌↔◌, ℕ, suc, ◌-◌, ◌<◌, true, false, cond, Option, None, Some, IfSome, is_some, Result, Ok, All, List}
-use Rattle.std.proofs.Common.{[], ◌∷◌, ◌++◌, length, map, take, get_or, length-append, Err, refl, sym, ◌∙◌, ap, subst, arith}
-use Rattle.std.specs.List.{slice_range}
+use Rattle.cif_extract.proofs.Names.{All, All-cons, All-nil, AllStandIn, BodyLines, BodyParts, Call, Detail, Err, Extra, IfSome, IsJudged}
+use Rattle.cif_extract.proofs.Names.{KeepAll, KeepBody, KeepJourney, KeepSomeBody, List, None, Ok, Option, Origin, Refusal, Result, Some}
+use Rattle.cif_extract.proofs.Names.{SpellsExtra, SpellsRecord, SpellsSomeCall, Terminus, [], ap, arith, body_of, body_records, body_tables}
+use Rattle.cif_extract.proofs.Names.{call_in, call_record, cond, detail_in-stands, detail_of, detail_table, extra_in, extra_refusal, false}
+use Rattle.cif_extract.proofs.Names.{get_or, get_or-append_seam, is_extra, is_some, journey_in, journey_records, length, length-append, map}
+use Rattle.cif_extract.proofs.Names.{parts_in, plain_line, record_table, refl, slice_range, subst, suc, sym, take, take-append_seam, true}
+use Rattle.cif_extract.proofs.Names.{ℕ, ◌++◌, ◌-◌, ◌<◌, ◌↔◌, ◌∙◌, ◌∷◌, ◌≡◌}
 use Rattle.std.specs.Result.{result_ok}
-use Rattle.std.proofs.lemmas.List.Elements.{All-nil, All-cons}
-use Rattle.std.proofs.Math.Seq.{take-append_seam, get_or-append_seam}
-use Rattle.cif_columns.specs.Field.{AllStandIn, plain_line}
-use Rattle.cif_columns.specs.declared.refusal.Refusal.{Refusal}
-use Rattle.cif_extract.specs.Body.{BodyLines, KeepAll, KeepBody, KeepJourney, KeepSomeBody, body_of, body_tables, detail_of, is_extra}
-use Rattle.cif_extract.specs.Body.{journey_in, parts_in}
-use Rattle.cif_extract.specs.BodyParts.{BodyParts, body_records, journey_records}
-use Rattle.cif_extract.specs.Call.{SpellsSomeCall, call_in, call_record}
-use Rattle.cif_extract.specs.declared.call.Call.{Call}
-use Rattle.cif_records.specs.Detail.{detail_table}
-use Rattle.cif_records.specs.Checks.{IsJudged}
-use Rattle.cif_records.specs.Extra.{SpellsExtra, extra_in, extra_refusal}
-use Rattle.cif_records.specs.Record.{SpellsRecord, record_table}
-use Rattle.cif_records.specs.declared.detail.Detail.{Detail}
-use Rattle.cif_records.specs.declared.extra.Extra.{Extra}
-use Rattle.cif_records.specs.declared.origin.Origin.{Origin}
-use Rattle.cif_records.specs.declared.record.Record.TheVariants as of
-use Rattle.cif_records.specs.declared.terminus.Terminus.{Terminus}
-use Rattle.cif_extract.proofs.CallLines.{call_in-spells}
-use Rattle.cif_extract.proofs.WrittenLines.{kept_plain}
-use Rattle.cif_records.proofs.Details.{detail_in-stands}
 use Rattle.cif_records.proofs.Extras.{extra_in-spells}
 use Rattle.cif_records.proofs.Origins.{origin_in-spells}
 use Rattle.cif_records.proofs.Termini.{terminus_in-spells}
+use Rattle.cif_records.specs.declared.record.Record.TheVariants as of
+use Rattle.cif_extract.proofs.CallLines.{call_in-spells}
+use Rattle.cif_extract.proofs.WrittenLines.{kept_plain}
 
 -- the lines from the first call to LT
 pub record Way (lines : List (List ℕ)) (calls : List Call) (terminus : Terminus) : Type 0 where

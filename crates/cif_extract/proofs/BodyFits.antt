@@ -1,14 +1,7 @@
 -- What an extract says fits the columns of lines.
-use Rattle.std.proofs.Common.{◌≡◌, ℕ, ◌+◌, ◌<◌, List, [], ◌∷◌, ◌++◌, All, length, take, get_or, sym, ap, ◌∙◌, subst}
-use Rattle.std.proofs.lemmas.List.{take_more}
-use Rattle.std.proofs.lemmas.List.Elements.{All-append, All-cons, All-nil}
-use Rattle.cif_columns.specs.Field.{AllFit}
-use Rattle.cif_extract.specs.ExtractParts.{ExtractParts}
-use Rattle.cif_extract.specs.Texts.{FitsColumns, ScheduleFits}
-use Rattle.cif_records.specs.Association.{association_table}
-use Rattle.cif_records.specs.Tiploc.{tiploc_table}
-use Rattle.cif_records.specs.declared.association.Association.{Association}
-use Rattle.cif_records.specs.declared.tiploc.Tiploc.{Tiploc}
+use Rattle.cif_extract.proofs.Names.{All, All-append, All-cons, All-nil, AllFit, Association, ExtractParts, FitsColumns, List, ScheduleFits}
+use Rattle.cif_extract.proofs.Names.{Tiploc, [], ap, association_table, get_or, length, subst, sym, take, take_more, tiploc_table, ℕ, ◌++◌}
+use Rattle.cif_extract.proofs.Names.{◌+◌, ◌<◌, ◌∙◌, ◌∷◌, ◌≡◌}
 use Rattle.cif_records.proofs.Headers as headers
 use Rattle.cif_records.proofs.Tiplocs as tiplocs
 

@@ -1,13 +1,7 @@
 -- How the lines of a body are put together.
-use Rattle.std.proofs.Common.{◌≡◌, ℕ, ◌+◌, ◌<◌, List, [], ◌∷◌, ◌++◌, length, map, take, get_or, sym, ◌∙◌, ap, subst, append_assoc}
-use Rattle.std.proofs.lemmas.List.{map-append, take_more}
-use Rattle.cif_columns.specs.Field.{Row, AllStandIn, plain_line}
-use Rattle.cif_extract.specs.Body.{KeepAll, KeepBody, KeepMore, body_tables}
-use Rattle.cif_extract.specs.BodyParts.{BodyParts, extra_records, journey_records}
-use Rattle.cif_extract.specs.Call.{call_record}
-use Rattle.cif_extract.specs.declared.call.Call.{Call}
-use Rattle.cif_records.specs.Detail.{detail_table}
-use Rattle.cif_records.specs.Record.{record_table}
+use Rattle.cif_extract.proofs.Names.{AllStandIn, BodyParts, Call, KeepAll, KeepBody, KeepMore, List, Row, [], ap, append_assoc, body_tables}
+use Rattle.cif_extract.proofs.Names.{call_record, detail_table, extra_records, get_or, journey_records, length, map, map-append, plain_line}
+use Rattle.cif_extract.proofs.Names.{record_table, subst, sym, take, take_more, ℕ, ◌++◌, ◌+◌, ◌<◌, ◌∙◌, ◌∷◌, ◌≡◌}
 
 -- a line more
 pub keep_last : (lines : List (List ℕ)) (tables : List (List Row)) (line : List ℕ) (table : List Row) → KeepAll lines tables

@@ -1,15 +1,7 @@
 -- The call that a line spells.
-use Rattle.std.proofs.Common.{◌≡◌, ℕ, suc, ◌-◌, true, false, List, sym, ap, subst, codes}
-use Rattle.std.proofs.Common.{drop, get_or, length, map, take, ◌<◌, ◌∙◌, All, [], ◌∷◌, arith}
-use Rattle.std.proofs.lemmas.List.Elements.{All-tail}
-use Rattle.std.specs.Str.{bytes_eq}
-use Rattle.cif_columns.specs.Field.{columns}
-use Rattle.cif_extract.specs.Call.{SpellsSomeCall, before_last, call_in, call_record}
-use Rattle.cif_extract.specs.declared.call.Call.{Call}
-use Rattle.cif_extract.specs.declared.call.Call.TheVariants.{At, Turn}
-use Rattle.cif_records.specs.Change.{SpellsChange, change_in}
-use Rattle.cif_records.specs.Record.{SpellsRecord}
-use Rattle.cif_records.specs.Stop.{SpellsStop, stop_in}
+use Rattle.cif_extract.proofs.Names.{All, All-tail, At, Call, List, SpellsChange, SpellsRecord, SpellsSomeCall, SpellsStop, Turn, [], ap}
+use Rattle.cif_extract.proofs.Names.{arith, before_last, bytes_eq, call_in, call_record, change_in, codes, columns, drop, false, get_or}
+use Rattle.cif_extract.proofs.Names.{length, map, stop_in, subst, suc, sym, take, true, ℕ, ◌-◌, ◌<◌, ◌∙◌, ◌∷◌, ◌≡◌}
 use Rattle.cif_records.proofs.Changes.{change_in-spells}
 use Rattle.cif_records.proofs.Stops.{stop_in-spells}
 

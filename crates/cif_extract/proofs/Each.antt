@@ -1,6 +1,5 @@
 -- What holds of each of some records.
-use Rattle.std.proofs.Common.{List, [], ◌∷◌, ◌++◌, map}
-use Rattle.cif_records.specs.declared.record.Record.{Record}
+use Rattle.cif_extract.proofs.Names.{List, Record, [], map, ◌++◌, ◌∷◌}
 
 -- P holds of each record
 abbrev pub Each : (Record → Type 0) → List Record → Type 0

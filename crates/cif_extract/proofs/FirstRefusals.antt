@@ -1,34 +1,17 @@
 -- Why a line is refused first.
-use Rattle.std.proofs.Common.{◌≡◌, ℕ, ◌+◌, ◌<◌, true, false, nat_eq, nat_lt, List, [], ◌∷◌, ◌++◌, length, take, Option, Some}
-use Rattle.std.proofs.Common.{None, IfSome, IsSomeAnd, refl, sym, ap, ◌∙◌, subst, arith, append_assoc, below_more}
-use Rattle.std.proofs.Common.{get_or, inl, length-append, ne_eqb}
+use Rattle.cif_extract.proofs.Names.{AreLinesToFailure, AreLinesToFault, AreWholeContentsAndRest, HasLineReason, IfSome, IsCutBeforeRefusal}
+use Rattle.cif_extract.proofs.Names.{IsFirstRefusal, IsLine, IsReadFault, IsReading, IsRefusedLine, IsSomeAnd, LineFault, List, None}
+use Rattle.cif_extract.proofs.Names.{NoneRefused, Option, Refusal, Some, Source, Unread, [], ap, append_assoc, arith, below_more}
+use Rattle.cif_extract.proofs.Names.{contents_given, contents_of, false, first_of, get_or, get_or-append_seam, get_or_append_left, inl}
+use Rattle.cif_extract.proofs.Names.{is_printable, kind_in, known_so, left, length, length-append, list_all, nat_eq, nat_lt, nat_tests}
+use Rattle.cif_extract.proofs.Names.{ne_eqb, of_line_fault, order_refusal, place_behind, printable_fact, record_refusal, refl, refusal_of}
+use Rattle.cif_extract.proofs.Names.{subst, sym, take, take-append-le, take-append_seam, true, with_rest, ℕ, ◌++◌, ◌+◌, ◌<◌, ◌∙◌, ◌∷◌, ◌≡◌}
 pub use Rattle.std.proofs.lemmas.Bool.{false_from_ne_true as not_true}
-use Rattle.std.proofs.lemmas.Bool.Decides.{nat_tests}
-use Rattle.std.proofs.lemmas.List.{get_or_append_left, take-append-le}
-use Rattle.std.proofs.Math.Seq.{get_or-append_seam, take-append_seam}
-use Rattle.std.specs.List.{list_all}
 use Rattle.std.specs.Option.{option_or}
-use Rattle.cif_columns.specs.Contents.{contents_of, HasLineReason}
-use Rattle.cif_columns.specs.FirstLine.{is_printable}
-use Rattle.cif_columns.specs.GivenLines.{AreLinesToFailure, AreLinesToFault, AreWholeContentsAndRest}
-use Rattle.cif_columns.specs.Line.{IsLine}
-use Rattle.cif_columns.specs.LineReader.{left}
-use Rattle.cif_columns.specs.Source.{Unread}
-use Rattle.cif_columns.specs.declared.refusal.LineFault.{LineFault}
-use Rattle.cif_columns.specs.declared.refusal.LineFault.TheVariants as line_fault
+use Rattle.cif_columns.proofs.PrintableBytes.{printable_true}
 use Rattle.cif_columns.specs.declared.line_reader.LineReader.{LineReader}
-use Rattle.cif_columns.specs.declared.refusal.Refusal.{Refusal}
+use Rattle.cif_columns.specs.declared.refusal.LineFault.TheVariants as line_fault
 use Rattle.cif_columns.specs.declared.refusal.Refusal.TheVariants as refusal
-use Rattle.cif_columns.specs.declared.source.Source.{Source}
-use Rattle.cif_columns.proofs.GivenLinesLaws.{IsReading, contents_given, known_so, with_rest}
-use Rattle.cif_columns.proofs.PrintableBytes.{printable_fact, printable_true}
-use Rattle.cif_extract.specs.Fault.{of_line_fault}
-use Rattle.cif_extract.specs.FirstRefusal.{NoneRefused, IsCutBeforeRefusal, IsFirstRefusal, IsRefusedLine, order_refusal, refusal_of}
-use Rattle.cif_extract.specs.OrderOfRecords.{place_behind}
-use Rattle.cif_extract.specs.ReadFault.{IsReadFault}
-use Rattle.cif_records.specs.Checks.{first_of}
-use Rattle.cif_records.specs.Kind.{kind_in}
-use Rattle.cif_records.specs.Record.{record_refusal}
 use Rattle.cif_records.proofs.Judging.{none-some}
 
 pub or_none : {A : Type 0} (o : Option A) → option_or o None ≡ o

@@ -1,27 +1,13 @@
 -- What may stand leads on to an extract: records that may stand as they do, from a header on, begin one.
-use Rattle.std.proofs.Common.{◌≡◌, ℕ, true, List, [], ◌∷◌, ◌++◌, replicate, refl, sym, ap, ◌∙◌, subst, arith, append_assoc}
-use Rattle.std.proofs.Common.{append-nil, codes, inl}
-use Rattle.std.proofs.lemmas.List.Elements.{All-nil}
-use Rattle.cif_columns.specs.Activities.{AreCodes, IsCode}
-use Rattle.cif_columns.specs.Field.{AllStandIn, Fits, plain_line, text}
-use Rattle.cif_columns.specs.Line.{IsPrintable}
-use Rattle.cif_columns.proofs.Parts.{stands-plain_line}
-use Rattle.cif_columns.proofs.PrintableBytes.{printable_fact}
-use Rattle.cif_extract.specs.Grammar.{AreExtract, BeginExtract}
-use Rattle.cif_extract.specs.OrderOfRecords.{may_stand}
-use Rattle.cif_extract.specs.Steps.Reading.{HasRead, HasReadAt, Progress, parts_with_header, step}
-use Rattle.cif_extract.specs.declared.place.Place.{Place}
-use Rattle.cif_extract.specs.declared.place.Place.TheVariants as at
-use Rattle.cif_records.specs.Origin.{origin_table}
-use Rattle.cif_records.specs.Terminus.{terminus_table}
-use Rattle.cif_records.specs.declared.record.Kind.TheVariants.{Bs, Lo, Lt}
-use Rattle.cif_records.specs.declared.origin.Origin.{Origin}
-use Rattle.cif_records.specs.declared.record.Record.{Record}
-use Rattle.cif_records.specs.declared.record.Record.TheVariants as of
-use Rattle.cif_records.specs.declared.terminus.Terminus.{Terminus}
+use Rattle.cif_extract.proofs.Names.{All-nil, AllStandIn, AreCodes, AreExtract, BeginExtract, Bs, Fits, HasRead, HasReadAt, IsCode}
+use Rattle.cif_extract.proofs.Names.{IsPrintable, List, Lo, Lt, Origin, Place, Progress, Record, Terminus, [], ap, append-nil, append_assoc}
+use Rattle.cif_extract.proofs.Names.{arith, codes, inl, may_stand, origin_table, parts_with_header, plain_line, printable_fact, refl}
+use Rattle.cif_extract.proofs.Names.{replicate, stands-plain_line, step, subst, sym, terminus_table, text, true, ℕ, ◌++◌, ◌∙◌, ◌∷◌, ◌≡◌}
 use Rattle.cif_records.proofs.Rows.{◌&◌}
+use Rattle.cif_records.specs.declared.record.Record.TheVariants as of
 use Rattle.cif_extract.proofs.JourneySteps.{has_read_more}
 use Rattle.cif_extract.proofs.ReadingSteps.{trailer_where}
+use Rattle.cif_extract.specs.declared.place.Place.TheVariants as at
 
 no_text : (width : ℕ) → Fits width (text [])
 no_text width = (omega arith, record { trimmed = record { start = λ e. cc; stop = λ e. cc }; printable = All-nil IsPrintable })

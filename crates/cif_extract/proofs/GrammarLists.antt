@@ -1,9 +1,6 @@
 -- Records one behind another, as the grammar has them.
-use Rattle.std.proofs.Common.{◌≡◌, List, [], ◌∷◌, ◌++◌, map, ap, refl, sym, ◌∙◌, append_assoc, append-nil}
-use Rattle.cif_extract.specs.ExtractParts.{ExtractParts}
-use Rattle.cif_extract.specs.Grammar.{AreSchedule, AreSchedules, records_before_trailer}
-use Rattle.cif_extract.specs.declared.extract.Schedule.{Schedule}
-use Rattle.cif_records.specs.declared.record.Record.{Record}
+use Rattle.cif_extract.proofs.Names.{AreSchedule, AreSchedules, ExtractParts, List, Record, Schedule, [], ap, append-nil, append_assoc, map}
+use Rattle.cif_extract.proofs.Names.{records_before_trailer, refl, sym, ◌++◌, ◌∙◌, ◌∷◌, ◌≡◌}
 use Rattle.cif_records.specs.declared.record.Record.TheVariants as of
 
 -- a schedule more

@@ -1,36 +1,20 @@
 -- The last record of a schedule, and with it any record more, where it may stand.
-use Rattle.std.proofs.Common.{◌≡◌, List, [], ◌∷◌, ◌++◌, true, Option, None, Some, ap, refl, sym, ◌∙◌, subst, append_assoc}
-use Rattle.std.proofs.Common.{append-nil, inr, ⊎_elim, true≢false}
-use Rattle.cif_columns.specs.Field.{plain_line}
-use Rattle.cif_extract.specs.Body.{KeepSomeBody, body_tables}
-use Rattle.cif_extract.specs.BodyParts.{extra_records, journey_records}
-use Rattle.cif_extract.specs.Grammar.{AreSchedule, AreSchedules, records_before_trailer}
-use Rattle.cif_extract.specs.OrderOfRecords.{may_stand}
-use Rattle.cif_extract.specs.Steps.Reading.{HasRead, HasReadAt, IsCancelled, IsKeepable, IsOpened, IsWithin}
-use Rattle.cif_extract.specs.Steps.Reading.{Progress, begun_journey, kept, parts_with_header, schedule_of, step}
-use Rattle.cif_extract.specs.declared.call.Call.{Call}
-use Rattle.cif_extract.specs.declared.call.Call.TheVariants.{At, Turn}
-use Rattle.cif_extract.specs.declared.place.Place.{Place}
-use Rattle.cif_extract.specs.declared.place.Place.TheVariants as at
-use Rattle.cif_extract.specs.declared.extract.Schedule.{Schedule}
-use Rattle.cif_records.specs.Basic.{terms_of}
-use Rattle.cif_records.specs.Bodies.{has_body}
-use Rattle.cif_records.specs.Record.{record_table}
-use Rattle.cif_records.specs.declared.basic.Basic.{Basic}
-use Rattle.cif_records.specs.declared.basic.BasicTerms.{BasicTerms}
-use Rattle.cif_records.specs.declared.extra.Extra.{Extra}
-use Rattle.cif_records.specs.declared.record.Kind.TheVariants.{Cr, Li, Lt}
-use Rattle.cif_records.specs.declared.origin.Origin.{Origin}
-use Rattle.cif_records.specs.declared.record.Record.{Record}
+use Rattle.cif_extract.proofs.Names.{AreSchedule, AreSchedules, At, Basic, BasicTerms, Call, Cr, Extra, HasRead, HasReadAt, IsCancelled}
+use Rattle.cif_extract.proofs.Names.{IsKeepable, IsOpened, IsWithin, KeepSomeBody, Li, List, Lt, None, Option, Origin, Place, Progress}
+use Rattle.cif_extract.proofs.Names.{Record, Schedule, Some, Terminus, Turn, [], ap, append-nil, append_assoc, begun_journey, body_tables}
+use Rattle.cif_extract.proofs.Names.{extra_records, has_body, inr, journey_records, may_stand, parts_with_header, plain_line, record_table}
+use Rattle.cif_extract.proofs.Names.{records_before_trailer, refl, schedule_of, step, subst, sym, terms_of, true, true≢false, ⊎_elim, ◌++◌}
+use Rattle.cif_extract.proofs.Names.{◌∙◌, ◌∷◌, ◌≡◌}
+use Rattle.cif_records.proofs.Records.{kind_of as record_kind}
 use Rattle.cif_records.specs.declared.record.Record.TheVariants as of
-use Rattle.cif_records.specs.declared.terminus.Terminus.{Terminus}
 use Rattle.cif_extract.proofs.GrammarLists.{behind_schedules, schedules_more}
 use Rattle.cif_extract.proofs.KeptLines.{journey-whole, keep_body}
 use Rattle.cif_extract.proofs.ReadingSteps.{association_where, header_where, own_at, tiploc_where, trailer_step}
-use Rattle.cif_records.proofs.Records.{kind_of as record_kind}
-use Rattle.cif_extract.proofs.Schedules.{closed_some}
 use Rattle.cif_extract.proofs.ScheduleSteps.{Again, basic_step, call_where, extra_where, origin_where}
+use Rattle.cif_extract.proofs.Schedules.{closed_some}
 use Rattle.cif_extract.proofs.WrittenLines.{kept_plain}
+use Rattle.cif_extract.specs.Steps.Reading.{kept}
+use Rattle.cif_extract.specs.declared.place.Place.TheVariants as at
 
 module _ (records : List Record) (p : Progress) (t : Terminus) where
   -- the schedules then, where they were these

@@ -1,20 +1,8 @@
 -- Lines that are kept, one after another.
-use Rattle.std.proofs.Common.{◌≡◌, ℕ, List, [], ◌∷◌, ◌++◌, map, Option, ap, sym, ◌∙◌, refl, subst, append_assoc}
-use Rattle.std.proofs.lemmas.List.{map-append}
-use Rattle.cif_columns.specs.Field.{Row, AllStandIn, plain_line}
-use Rattle.cif_extract.specs.Body.{KeepAll, KeepBody, body_tables}
-use Rattle.cif_extract.specs.BodyParts.{extra_records, journey_records}
-use Rattle.cif_extract.specs.Call.{call_record}
-use Rattle.cif_extract.specs.Steps.Reading.{begun_journey}
-use Rattle.cif_extract.specs.declared.call.Call.{Call}
-use Rattle.cif_records.specs.Detail.{detail_table}
-use Rattle.cif_records.specs.Record.{record_table}
-use Rattle.cif_records.specs.declared.detail.Detail.{Detail}
-use Rattle.cif_records.specs.declared.extra.Extra.{Extra}
-use Rattle.cif_records.specs.declared.origin.Origin.{Origin}
-use Rattle.cif_records.specs.declared.record.Record.{Record}
+use Rattle.cif_extract.proofs.Names.{AllStandIn, Call, Detail, Extra, KeepAll, KeepBody, List, Option, Origin, Record, Row, Terminus, []}
+use Rattle.cif_extract.proofs.Names.{ap, append_assoc, begun_journey, body_tables, call_record, detail_table, extra_records}
+use Rattle.cif_extract.proofs.Names.{journey_records, map, map-append, plain_line, record_table, refl, subst, sym, ℕ, ◌++◌, ◌∙◌, ◌∷◌, ◌≡◌}
 use Rattle.cif_records.specs.declared.record.Record.TheVariants as of
-use Rattle.cif_records.specs.declared.terminus.Terminus.{Terminus}
 use Rattle.cif_extract.proofs.BodyLines.{keep_last}
 
 -- one record more

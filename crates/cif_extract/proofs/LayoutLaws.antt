@@ -1,22 +1,10 @@
 -- What layouts owe: what holds of the records that a line spells by them.
-use Rattle.std.proofs.Common.{◌≡◌, ℕ, not, List, [], ◌∷◌, ◌++◌, Some, None, codes, refl, ap, ◌∙◌}
-use Rattle.std.specs.Str.{bytes_eq}
-use Rattle.cif_columns.specs.Field.{AllFit, columns}
-use Rattle.cif_columns.specs.Line.{IsLine}
-use Rattle.cif_columns.specs.Stp.{letter}
-use Rattle.cif_columns.specs.declared.stp.Stp.{Stp}
-use Rattle.cif_columns.specs.declared.stp.Stp.TheVariants.{C}
-use Rattle.cif_columns.proofs.Parts.{stands-back}
-use Rattle.cif_extract.specs.Layouts.{Layouts, cancels, own_layouts}
-use Rattle.cif_records.specs.Basic.{basic_back, basic_front}
-use Rattle.cif_records.specs.Bodies.{has_body}
-use Rattle.cif_records.specs.Detail.{detail_rows}
-use Rattle.cif_records.specs.Record.{SpellsRecord, record_table}
-use Rattle.cif_records.specs.declared.basic.Basic.{Basic}
-use Rattle.cif_records.specs.declared.record.Record.{Record}
-use Rattle.cif_records.specs.declared.record.Record.TheVariants as of
+use Rattle.cif_extract.proofs.Names.{AllFit, Basic, C, IsLine, Layouts, List, None, Record, Some, SpellsRecord, Stp, [], ap, basic_back}
+use Rattle.cif_extract.proofs.Names.{basic_front, bytes_eq, codes, columns, detail_rows, has_body, kind_of, letter, not, own_layouts}
+use Rattle.cif_extract.proofs.Names.{record_table, refl, stands-back, ℕ, ◌++◌, ◌∙◌, ◌∷◌, ◌≡◌}
 use Rattle.cif_records.proofs.Records as records
-use Rattle.cif_records.proofs.Records.{kind_of}
+use Rattle.cif_records.specs.declared.record.Record.TheVariants as of
+use Rattle.cif_extract.specs.Layouts.{cancels}
 
 pub record AreLayouts (l : Layouts) : Type 0 where
   -- the line names its kind, and cancels where it is a BS without a body

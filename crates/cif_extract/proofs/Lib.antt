@@ -25,3 +25,4 @@ pub mod SpelledBytes
 pub mod SpelledLines
 pub mod TakenLines
 pub mod WrittenLines
+pub mod Names

@@ -1,29 +1,12 @@
 -- Records are at most one extract.
-use Rattle.std.proofs.Common.{◌≡◌, ℕ, List, [], ◌∷◌, ◌++◌, map, Option, Some, None, refl, sym, ap, ◌∙◌, subst, append_assoc, ⊎_elim}
-use Rattle.cif_extract.specs.Body.{BodyLines}
-use Rattle.cif_extract.specs.BodyParts.{extra_records, journey_records}
-use Rattle.cif_extract.specs.Call.{call_record}
-use Rattle.cif_extract.specs.ExtractParts.{ExtractParts}
-use Rattle.cif_extract.specs.Grammar.{AreExtract, AreJourney, AreSchedule, AreSchedules, HaveBody, records_before_trailer}
-use Rattle.cif_extract.specs.Layouts.{Layouts}
-use Rattle.cif_extract.specs.SpellsExtract.{SpellAllBy, SpellExtractBy}
-use Rattle.cif_extract.specs.declared.call.Call.{Call}
-use Rattle.cif_extract.specs.declared.call.Call.TheVariants.{At, Turn}
-use Rattle.cif_extract.specs.declared.extract.Schedule.{Schedule}
-use Rattle.cif_records.specs.declared.association.Association.{Association}
-use Rattle.cif_records.specs.declared.basic.Basic.{Basic}
-use Rattle.cif_records.specs.declared.detail.Detail.{Detail}
-use Rattle.cif_records.specs.declared.extra.Extra.{Extra}
-use Rattle.cif_records.specs.declared.record.Kind.{Kind}
-use Rattle.cif_records.specs.declared.record.Kind.TheVariants.{Ti, Aa, Bs, Bx, Zz}
-use Rattle.cif_records.specs.declared.origin.Origin.{Origin}
-use Rattle.cif_records.specs.declared.record.Record.{Record}
+use Rattle.cif_extract.proofs.Names.{Aa, AreExtract, AreJourney, AreSchedule, AreSchedules, Association, At, Basic, BodyLines, Bs, Bx, Call}
+use Rattle.cif_extract.proofs.Names.{Detail, Extra, ExtractParts, HaveBody, Kind, Layouts, List, None, Option, Origin, Record, Schedule}
+use Rattle.cif_extract.proofs.Names.{Some, SpellAllBy, SpellExtractBy, Terminus, Ti, Tiploc, Turn, Zz, [], ap, append_assoc, call_record}
+use Rattle.cif_extract.proofs.Names.{extra_records, journey_records, kind_of, map, records_before_trailer, refl, subst, sym, ℕ, ⊎_elim}
+use Rattle.cif_extract.proofs.Names.{◌++◌, ◌∙◌, ◌∷◌, ◌≡◌}
 use Rattle.cif_records.specs.declared.record.Record.TheVariants as of
-use Rattle.cif_records.specs.declared.terminus.Terminus.{Terminus}
-use Rattle.cif_records.specs.declared.tiploc.Tiploc.{Tiploc}
-use Rattle.cif_records.proofs.Records.{kind_of}
-use Rattle.cif_extract.proofs.LayoutLaws.{AreLayouts}
 use Rattle.cif_extract.proofs.Each.{Each, each_append, each_map, each_so}
+use Rattle.cif_extract.proofs.LayoutLaws.{AreLayouts}
 use Rattle.cif_extract.proofs.Schedules.{same_schedule}
 
 -- P doesn't hold of the first record, if there is one

@@ -1,39 +1,16 @@
 -- The order of records is that of the grammar: no line of an extract is refused.
-use Rattle.std.proofs.Common.{◌≡◌, ℕ, ◌+◌, ◌<◌, ◌≤◌, Bool, true, false, List, [], ◌∷◌, ◌++◌, is_some, length, map, Option, Some, None, refl}
-use Rattle.std.proofs.Common.{sym, ap, ◌∙◌, subst, arith, cond, append_assoc, append-nil, length-append, ⊎_elim}
-use Rattle.std.proofs.lemmas.List.Elements.{All-head, All-tail}
-use Rattle.std.specs.Prelude.{All}
-use Rattle.cif_columns.specs.Line.{IsLine}
-use Rattle.cif_extract.specs.Body.{BodyLines}
-use Rattle.cif_extract.specs.BodyParts.{extra_records, journey_records}
-use Rattle.cif_extract.specs.Call.{call_record}
-use Rattle.cif_extract.specs.ExtractParts.{ExtractParts}
-use Rattle.cif_extract.specs.FirstRefusal.{NoneRefused}
-use Rattle.cif_extract.specs.Grammar.{AreExtract, AreJourney, AreSchedule, AreSchedules, HaveBody}
-use Rattle.cif_extract.specs.Layouts.{own_layouts}
-use Rattle.cif_extract.specs.OrderOfRecords.{may_stand, place_behind}
-use Rattle.cif_extract.specs.SpellsExtract.{SpellAll, SpellExtract}
-use Rattle.cif_extract.specs.declared.call.Call.{Call}
-use Rattle.cif_extract.specs.declared.call.Call.TheVariants.{At, Turn}
-use Rattle.cif_extract.specs.declared.place.Place.{Place}
-use Rattle.cif_extract.specs.declared.place.Place.TheVariants as at
-use Rattle.cif_extract.specs.declared.extract.Schedule.{Schedule}
-use Rattle.cif_records.specs.Bodies.{has_body}
-use Rattle.cif_records.specs.Record.{SpellsRecord}
-use Rattle.cif_records.specs.declared.association.Association.{Association}
-use Rattle.cif_records.specs.declared.basic.Basic.{Basic}
-use Rattle.cif_records.specs.declared.detail.Detail.{Detail}
-use Rattle.cif_records.specs.declared.extra.Extra.{Extra}
-use Rattle.cif_records.specs.declared.record.Kind.TheVariants.{Aa, Bs, Zz}
-use Rattle.cif_records.specs.declared.origin.Origin.{Origin}
-use Rattle.cif_records.specs.declared.record.Record.{Record}
-use Rattle.cif_records.specs.declared.record.Record.TheVariants as of
-use Rattle.cif_records.specs.declared.terminus.Terminus.{Terminus}
-use Rattle.cif_records.specs.declared.tiploc.Tiploc.{Tiploc}
+use Rattle.cif_extract.proofs.Names.{Aa, All, All-head, All-tail, AreExtract, AreJourney, AreSchedule, AreSchedules, Association, At, Basic}
+use Rattle.cif_extract.proofs.Names.{BodyLines, Bool, Bs, Call, Detail, Extra, ExtractParts, HaveBody, IsLine, List, None, NoneRefused}
+use Rattle.cif_extract.proofs.Names.{Option, Origin, Place, Record, Schedule, Some, SpellAll, SpellExtract, SpellsRecord, Terminus, Tiploc}
+use Rattle.cif_extract.proofs.Names.{Turn, Zz, [], ap, append-nil, append_assoc, arith, call_record, cond, extra_records, false, has_body}
+use Rattle.cif_extract.proofs.Names.{is_some, journey_records, length, length-append, map, may_stand, own_layouts, place_behind, refl}
+use Rattle.cif_extract.proofs.Names.{subst, sym, true, ℕ, ⊎_elim, ◌++◌, ◌+◌, ◌<◌, ◌∙◌, ◌∷◌, ◌≡◌, ◌≤◌}
 use Rattle.cif_records.proofs.Records.{kind_of as record_kind}
+use Rattle.cif_records.specs.declared.record.Record.TheVariants as of
 use Rattle.cif_extract.proofs.FirstRefusals.{none_refused-more, none_refused-none}
 use Rattle.cif_extract.proofs.LayoutLaws.{own_are}
 use Rattle.cif_extract.proofs.Places.{fine_here, place_more, place_past, refused_at}
+use Rattle.cif_extract.specs.declared.place.Place.TheVariants as at
 
 -- from one place to another these records may stand, one after another
 abbrev pub MayStand : Place → List Record → Place → Type 0

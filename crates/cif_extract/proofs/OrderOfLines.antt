@@ -1,35 +1,19 @@
 -- The lines of an extract are in the order of the table, and lines that spell records in that order begin an extract.
-use Rattle.std.proofs.Common.{◌≡◌, ℕ, Bool, true, false, List, [], ◌∷◌, ◌++◌, All, Option, Some, None, IfSome, cond, refl, sym, ap, ◌∙◌}
-use Rattle.std.proofs.Common.{subst, append_assoc, append-nil}
-use Rattle.std.proofs.lemmas.List.Elements.{All-head, All-tail}
-use Rattle.cif_columns.specs.Field.{AllFit, AllStandIn, Row, plain_line, row, spare}
-use Rattle.cif_columns.specs.Line.{IsLine}
-use Rattle.cif_columns.proofs.Parts.{fits-append, fits-front, stands-plain_line}
-use Rattle.cif_extract.specs.ExtractParts.{ExtractParts}
-use Rattle.cif_extract.specs.Grammar.{BeginExtract}
-use Rattle.cif_extract.specs.Layouts.{own_layouts}
-use Rattle.cif_extract.specs.OrderOfRecords.{AreInOrder, MayComeAfter, may_stand, place_behind}
-use Rattle.cif_extract.specs.SpellsExtract.{SpellAll, SpellExtract}
-use Rattle.cif_extract.specs.Steps.Reading.{HasRead, IsKeepable, Progress, no_progress, step}
-use Rattle.cif_extract.specs.declared.place.Place.{Place}
-use Rattle.cif_extract.specs.declared.place.Place.TheVariants as at
-use Rattle.cif_records.specs.Basic.{basic_back, basic_front}
-use Rattle.cif_records.specs.Bodies.{has_body}
-use Rattle.cif_records.specs.Detail.{detail_rows, detail_table}
-use Rattle.cif_records.specs.Kind.{kind_in}
-use Rattle.cif_records.specs.Record.{record_table}
-use Rattle.cif_records.specs.declared.basic.Basic.{Basic}
-use Rattle.cif_records.specs.declared.detail.Detail.{Detail}
-use Rattle.cif_records.specs.declared.record.Kind.{Kind}
-use Rattle.cif_records.specs.declared.record.Record.{Record}
-use Rattle.cif_records.specs.declared.record.Record.TheVariants as of
+use Rattle.cif_extract.proofs.Names.{All, All-head, All-tail, AllFit, AllStandIn, AreInOrder, Basic, BeginExtract, Bool, Detail}
+use Rattle.cif_extract.proofs.Names.{ExtractParts, HasRead, IfSome, IsKeepable, IsLine, Kind, List, MayComeAfter, None, Option, Place}
+use Rattle.cif_extract.proofs.Names.{Progress, Record, Row, Some, SpellAll, SpellExtract, [], ap, append-nil, append_assoc, basic_back}
+use Rattle.cif_extract.proofs.Names.{basic_front, cond, detail_rows, detail_table, false, fits-append, fits-front, has_body, kind_in}
+use Rattle.cif_extract.proofs.Names.{may_stand, no_progress, own_layouts, place_behind, plain_line, record_table, refl, row, spare}
+use Rattle.cif_extract.proofs.Names.{stands-plain_line, step, subst, sym, true, ℕ, ◌++◌, ◌∙◌, ◌∷◌, ◌≡◌}
 use Rattle.cif_records.proofs.Records as records
+use Rattle.cif_records.specs.declared.record.Record.TheVariants as of
 use Rattle.cif_extract.proofs.GoesOn.{read_begins}
 use Rattle.cif_extract.proofs.JourneySteps.{has_read_more}
 use Rattle.cif_extract.proofs.LayoutLaws.{own_are}
 use Rattle.cif_extract.proofs.OrderLaws.{MayStand, stand_extract}
 use Rattle.cif_extract.proofs.Places.{place_more, place_past}
 use Rattle.cif_extract.proofs.ReadingRuns.{place_step}
+use Rattle.cif_extract.specs.declared.place.Place.TheVariants as at
 
 one_kind : (line : List ℕ) (j k : Kind) → kind_in line ≡ Some j → kind_in line ≡ Some k → j ≡ k
 one_kind line j k p q = let same : ◌≡◌ {A = Option Kind} (Some j) (Some k) = sym p ∙ q in cc

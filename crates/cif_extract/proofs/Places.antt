@@ -1,19 +1,13 @@
 -- The place after a line that spells a record is the place after that record.
-use Rattle.std.proofs.Common.{◌≡◌, ℕ, ◌<◌, Bool, true, false, not, List, [], ◌∷◌, ◌++◌, length, None, Some, cond, refl, ap, ◌∙◌}
+use Rattle.cif_extract.proofs.Names.{Bool, IsLine, Layouts, List, None, Place, Record, Some, [], after_extra, ap, cond, false, has_body}
+use Rattle.cif_extract.proofs.Names.{length, may_stand, not, own_layouts, place_after, place_behind, place_behind_by, refl, refusal_at}
+use Rattle.cif_extract.proofs.Names.{refusal_of, true, ℕ, ◌++◌, ◌<◌, ◌∙◌, ◌∷◌, ◌≡◌}
 use Rattle.std.proofs.lemmas.List.Sums.{fold-append}
-use Rattle.cif_columns.specs.Line.{IsLine}
-use Rattle.cif_extract.specs.FirstRefusal.{refusal_of}
-use Rattle.cif_extract.specs.Layouts.{Layouts, own_layouts}
-use Rattle.cif_extract.specs.OrderOfRecords.{after_extra, may_stand, place_after, place_behind, place_behind_by}
-use Rattle.cif_extract.specs.Taken.{refusal_at}
-use Rattle.cif_extract.specs.declared.place.Place.{Place}
-use Rattle.cif_extract.specs.declared.place.Place.TheVariants as at
-use Rattle.cif_records.specs.Bodies.{has_body}
-use Rattle.cif_records.specs.declared.record.Record.{Record}
-use Rattle.cif_records.specs.declared.record.Record.TheVariants as of
 use Rattle.cif_records.proofs.Records.{kind_of as record_kind}
+use Rattle.cif_records.specs.declared.record.Record.TheVariants as of
 use Rattle.cif_extract.proofs.FirstRefusals.{line_refusal}
 use Rattle.cif_extract.proofs.LayoutLaws.{AreLayouts}
+use Rattle.cif_extract.specs.declared.place.Place.TheVariants as at
 
 -- why a line is refused after these, by the place behind them
 pub refused_at : (max : ℕ) (lines : List (List ℕ)) (line : List ℕ) (place : Place) → IsLine line → length lines < max →

@@ -1,18 +1,8 @@
 -- The records of an extract's plain lines.
-use Rattle.std.proofs.Common.{◌≡◌, List, [], ◌∷◌, ◌++◌, Option, Some, None, IfSome, is_some, refl, inl, ◌∙◌}
-use Rattle.std.specs.List.{flat_map}
-use Rattle.std.specs.Option.{option_map}
-use Rattle.std.specs.Prelude.{All}
-use Rattle.std.proofs.lemmas.List.Elements.{All-head, All-tail}
-use Rattle.cif_extract.specs.Body.{BodyLines, IsBody, detail_of, parts_in}
-use Rattle.cif_extract.specs.BodyParts.{extra_records, journey_records}
-use Rattle.cif_extract.specs.ExtractParts.{ExtractParts}
-use Rattle.cif_extract.specs.Grammar.{AreExtract, AreSchedule, AreSchedules, HaveBody, records_before_trailer}
-use Rattle.cif_extract.specs.Texts.{FitsColumns, ScheduleFits}
-use Rattle.cif_extract.specs.declared.extract.Schedule.{Schedule}
-use Rattle.cif_records.specs.declared.basic.Basic.{Basic}
-use Rattle.cif_records.specs.declared.extra.Extra.{Extra}
-use Rattle.cif_records.specs.declared.record.Record.{Record}
+use Rattle.cif_extract.proofs.Names.{All, All-head, All-tail, AreExtract, AreSchedule, AreSchedules, Basic, BodyLines, Extra, ExtractParts}
+use Rattle.cif_extract.proofs.Names.{FitsColumns, HaveBody, IfSome, IsBody, List, None, Option, Record, Schedule, ScheduleFits, Some, []}
+use Rattle.cif_extract.proofs.Names.{detail_of, extra_records, flat_map, inl, is_some, journey_records, option_map, parts_in}
+use Rattle.cif_extract.proofs.Names.{records_before_trailer, refl, ◌++◌, ◌∙◌, ◌∷◌, ◌≡◌}
 use Rattle.cif_records.specs.declared.record.Record.TheVariants as of
 use Rattle.cif_extract.proofs.Bodies.{body_of-parts_in}
 

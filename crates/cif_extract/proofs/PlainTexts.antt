@@ -1,33 +1,17 @@
 -- What an extract that is spelled says fits its columns, and the text of an extract that fits them spells it.
-use Rattle.std.proofs.Common.{◌≡◌, ℕ, Bool, List, [], ◌∷◌, ◌++◌, ap₂, map, Option, None, Some, IfSome, All, refl, sym, ap, ◌∙◌, subst}
-use Rattle.std.specs.List.{flat_map}
-use Rattle.std.specs.Option.{option_map}
-use Rattle.std.proofs.lemmas.List.{map-append}
-use Rattle.std.proofs.lemmas.List.Elements.{All-nil, All-cons, All-head, All-tail}
-use Rattle.cif_columns.specs.Contents.{contents_of}
-use Rattle.cif_columns.specs.Field.{AllFit, plain_line, row, spare}
-use Rattle.cif_columns.specs.Line.{IsLine}
-use Rattle.cif_columns.specs.declared.stp.Stp.{Stp}
-use Rattle.cif_columns.proofs.Parts.{fits-append, fits-front, stands-plain_line}
-use Rattle.cif_columns.proofs.PlainLines.{contents-lines_text, line-plain_line}
-use Rattle.cif_extract.specs.Body.{BodyLines, IsBody, KeepAll, KeepBody, body_of, body_tables, detail_of, parts_in}
-use Rattle.cif_extract.specs.BodyParts.{BodyParts, body_records, extra_records}
-use Rattle.cif_extract.specs.ExtractParts.{ExtractParts}
-use Rattle.cif_extract.specs.Grammar.{AreExtract, AreSchedule, AreSchedules, HaveBody}
-use Rattle.cif_extract.specs.Layouts.{Layouts, own_layouts}
-use Rattle.cif_extract.specs.SpellsExtract.{BytesSpell, SpellAll, SpellAllBy, SpellExtract, SpellExtractBy}
-use Rattle.cif_extract.specs.Texts.{FitsColumns, ScheduleFits, extract_lines, extract_text, further_lines, plain_lines_of}
-use Rattle.cif_extract.specs.declared.extract.Schedule.{Schedule}
-use Rattle.cif_records.specs.Basic.{basic_back, basic_rows}
-use Rattle.cif_records.specs.Detail.{detail_rows, detail_table}
-use Rattle.cif_records.specs.Record.{record_table}
-use Rattle.cif_records.specs.declared.detail.Detail.{Detail}
-use Rattle.cif_records.specs.declared.extra.Extra.{Extra}
-use Rattle.cif_records.specs.declared.record.Record.{Record}
-use Rattle.cif_records.specs.declared.record.Record.TheVariants as of
+use Rattle.cif_extract.proofs.Names.{All, All-cons, All-head, All-nil, All-tail, AllFit, AreExtract, AreSchedule, AreSchedules, BodyLines}
+use Rattle.cif_extract.proofs.Names.{BodyParts, Bool, BytesSpell, Detail, Extra, ExtractParts, FitsColumns, HaveBody, IfSome, IsBody}
+use Rattle.cif_extract.proofs.Names.{IsLine, KeepAll, KeepBody, Layouts, List, None, Option, Record, Schedule, ScheduleFits, Some, SpellAll}
+use Rattle.cif_extract.proofs.Names.{SpellAllBy, SpellExtract, SpellExtractBy, Stp, [], ap, ap₂, basic_back, basic_rows, body_of}
+use Rattle.cif_extract.proofs.Names.{body_records, body_tables, contents_of, detail_of, detail_rows, detail_table, extra_records}
+use Rattle.cif_extract.proofs.Names.{extract_lines, extract_text, fits-append, fits-front, flat_map, further_lines, line-plain_line, map}
+use Rattle.cif_extract.proofs.Names.{map-append, option_map, own_layouts, parts_in, plain_line, plain_lines_of, record_table, refl, row}
+use Rattle.cif_extract.proofs.Names.{spare, stands-plain_line, subst, sym, ℕ, ◌++◌, ◌∙◌, ◌∷◌, ◌≡◌}
+use Rattle.cif_columns.proofs.PlainLines.{contents-lines_text}
 use Rattle.cif_records.proofs.Details as details
 use Rattle.cif_records.proofs.Records as records
 use Rattle.cif_records.proofs.Trailers as trailers
+use Rattle.cif_records.specs.declared.record.Record.TheVariants as of
 use Rattle.cif_extract.proofs.Bodies.{body_of-parts_in, keeps_parts_in, parts_in-keeps}
 use Rattle.cif_extract.proofs.Each.{Each, each_append, each_back, each_front}
 use Rattle.cif_extract.proofs.LayoutLaws.{AreLayouts, own_are}

@@ -1,13 +1,8 @@
 -- What a call that reads comes to, by what the calls in it do.
-use Rattle.std.proofs.Common.{◌≡◌, ◌∙◌, ℕ, false, List, Option, Some, None, Result, Ok, Err, IfErr, IfSome, ap, inl, inr, subst, sym}
-use Rattle.std.proofs.Common.{⊎_elim}
-use Rattle.std.specs.Prelude.{IsErrAnd, MatchResult}
-use Rattle.std.specs.Bool.{MatchBool}
-use Rattle.std.proofs.lemmas.Result.{err_from_is_err_and}
-use Rattle.cif_columns.proofs.GivenLinesLaws.{known_so}
-use Rattle.cif_columns.specs.Source.{HasFailedToRead, HasReadOn, Unread, reader_of, source_failed, unread_of}
-use Rattle.cif_columns.specs.declared.source.Source.{Source}
-use Rattle.cif_extract.specs.ReadCall.{IsOwed, IsReadWhole, IsResultOf, IsResultOfBoth, ReadCall}
+use Rattle.cif_extract.proofs.Names.{Err, HasFailedToRead, HasReadOn, IfErr, IfSome, IsErrAnd, IsOwed, IsReadWhole, IsResultOf}
+use Rattle.cif_extract.proofs.Names.{IsResultOfBoth, List, MatchBool, MatchResult, None, Ok, Option, ReadCall, Result, Some, Source, Unread}
+use Rattle.cif_extract.proofs.Names.{ap, err_from_is_err_and, false, inl, inr, known_so, reader_of, source_failed, subst, sym, unread_of, ℕ}
+use Rattle.cif_extract.proofs.Names.{⊎_elim, ◌∙◌, ◌≡◌}
 
 -- a fact of any bytes
 pub of_any : (start : Option (List ℕ)) (P : List ℕ → Type 0) → ((bytes : List ℕ) → P bytes) → IfSome start P

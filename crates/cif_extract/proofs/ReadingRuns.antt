@@ -1,54 +1,28 @@
 -- What the lines so far have come to, line by line.
-use Rattle.std.proofs.Common.{◌≡◌, ◌≢◌, ◌≤◌, ℕ, ◌<◌, Bool, true, false, List, [], ◌∷◌, ◌++◌, length, Option, Some, None, Result, Ok, Err}
-use Rattle.std.proofs.Common.{arith, refl, sym, ap, ◌∙◌, subst, is_some, cond, IfSome, IfErr, IfOk, inr, ◌+◌, true≢false}
-use Rattle.std.proofs.lemmas.List.Elements.{All-cons, All-nil, All-append}
-use Rattle.std.specs.Prelude.{All}
-use Rattle.cif_columns.specs.GivenLines.{AreAllLines, AreLinesToFault, IsDecided}
-use Rattle.cif_columns.specs.Line.{IsLine}
-use Rattle.cif_columns.specs.LineReader.{IsNextFault, LineReads}
-use Rattle.cif_columns.specs.Source.{HasReadOn, reader_of, source_failed, unread_of}
+use Rattle.cif_extract.proofs.Names.{All, All-append, All-cons, All-nil, AreAllLines, AreExtract, AreLinesToFault, Basic, Bool}
+use Rattle.cif_extract.proofs.Names.{BytesSpellWithin, Detail, Err, Extract, ExtractParts, Fault, HasRead, HasReadAt, HasReadOn, HasTaken}
+use Rattle.cif_extract.proofs.Names.{Header, IfErr, IfOk, IfSome, IsDecided, IsFirstRefusal, IsLine, IsNextFault, IsNoTrailer, IsReadFault}
+use Rattle.cif_extract.proofs.Names.{IsReadWhole, IsResultOf, IsTaken, IsTakenAs, IsTakenBehind, IsWhole, Kind, Layouts, LineFault}
+use Rattle.cif_extract.proofs.Names.{LineReads, List, None, NoneRefused, Ok, Option, Place, Progress, Record, Refusal, Result, Some, Source}
+use Rattle.cif_extract.proofs.Names.{SpellAllBy, SpellExtract, TakeFault, Zz, [], ap, arith, cond, extract_parts, failed_after, false}
+use Rattle.cif_extract.proofs.Names.{fault_at_line, first_of, has_body, inr, is_some, known_so, length, may_stand, no_progress}
+use Rattle.cif_extract.proofs.Names.{of_line_fault, order_refusal, own_layouts, parts_with_header, read_on_both, reader_of, reading_extract}
+use Rattle.cif_extract.proofs.Names.{refl, refusal_at, refusal_behind, refusal_of, source_failed, step, subst, sym, true, true≢false}
+use Rattle.cif_extract.proofs.Names.{unless, unread_of, ℕ, ◌++◌, ◌+◌, ◌<◌, ◌∙◌, ◌∷◌, ◌≡◌, ◌≢◌, ◌≤◌}
 use Rattle.cif_columns.specs.declared.line.Line.{Line}
-use Rattle.cif_columns.specs.declared.refusal.LineFault.{LineFault}
 use Rattle.cif_columns.specs.declared.refusal.LineFault.TheVariants as line_fault
-use Rattle.cif_columns.specs.declared.refusal.Refusal.{Refusal}
 use Rattle.cif_columns.specs.declared.refusal.Refusal.TheVariants as refusal
-use Rattle.cif_columns.specs.declared.source.Source.{Source}
-use Rattle.cif_columns.proofs.GivenLinesLaws.{known_so}
-use Rattle.cif_columns.proofs.ReadSources.{failed_after, read_on_both}
-use Rattle.cif_extract.specs.ExtractParts.{ExtractParts, extract_parts}
-use Rattle.cif_extract.specs.Fault.{of_line_fault}
-use Rattle.cif_extract.specs.FirstRefusal.{NoneRefused, IsFirstRefusal, order_refusal, refusal_of}
-use Rattle.cif_extract.specs.Grammar.{AreExtract}
-use Rattle.cif_extract.specs.Layouts.{Layouts, own_layouts}
-use Rattle.cif_extract.specs.OrderOfRecords.{may_stand}
-use Rattle.cif_extract.specs.ReadCall.{IsResultOf, IsReadWhole}
-use Rattle.cif_extract.specs.ReadFault.{IsReadFault, reading_extract}
-use Rattle.cif_extract.specs.Steps.Reading.{HasRead, HasReadAt, IsTaken, IsTakenAs, IsWhole, Progress, begun, no_progress}
-use Rattle.cif_extract.specs.Steps.Reading.{fault_at_line, parts_with_header, step}
-use Rattle.cif_extract.specs.SpellsExtract.{BytesSpellWithin, SpellAllBy, SpellExtract}
-use Rattle.cif_extract.specs.Taken.{HasTaken, IsNoTrailer, IsTakenBehind, refusal_at, refusal_behind}
-use Rattle.cif_extract.specs.declared.extract.Extract.{Extract}
-use Rattle.cif_extract.specs.declared.fault.Fault.{Fault}
-use Rattle.cif_extract.specs.declared.fault.Fault.TheVariants as fault
-use Rattle.cif_extract.specs.declared.place.Place.{Place}
-use Rattle.cif_extract.specs.declared.place.Place.TheVariants as at
-use Rattle.cif_extract.specs.declared.reading.TakeFault.{TakeFault}
-use Rattle.cif_extract.specs.declared.reading.TakeFault.TheVariants as untaken
-use Rattle.cif_records.specs.Bodies.{has_body}
-use Rattle.cif_records.specs.Checks.{first_of, unless}
-use Rattle.cif_records.specs.declared.basic.Basic.{Basic}
-use Rattle.cif_records.specs.declared.detail.Detail.{Detail}
-use Rattle.cif_records.specs.declared.header.Header.{Header}
-use Rattle.cif_records.specs.declared.record.Kind.{Kind}
-use Rattle.cif_records.specs.declared.record.Kind.TheVariants.{Zz}
-use Rattle.cif_records.specs.declared.record.Record.{Record}
+use Rattle.cif_records.proofs.Records.{kind_of as record_kind}
 use Rattle.cif_records.specs.declared.record.Record.TheVariants as of
 use Rattle.cif_extract.proofs.FirstRefusals.{at_fault, none_refused-more, none_refused-none}
 use Rattle.cif_extract.proofs.JourneySteps.{has_read_more}
 use Rattle.cif_extract.proofs.LayoutLaws.{AreLayouts, own_are}
-use Rattle.cif_extract.proofs.ReadCalls.{answers, of_any, refuses}
 use Rattle.cif_extract.proofs.Places.{place_more, place_past, refused_at}
-use Rattle.cif_records.proofs.Records.{kind_of as record_kind}
+use Rattle.cif_extract.proofs.ReadCalls.{answers, of_any, refuses}
+use Rattle.cif_extract.specs.Steps.Reading.{begun}
+use Rattle.cif_extract.specs.declared.fault.Fault.TheVariants as fault
+use Rattle.cif_extract.specs.declared.place.Place.TheVariants as at
+use Rattle.cif_extract.specs.declared.reading.TakeFault.TheVariants as untaken
 
 -- the lines so far came to this, and none of them is refused
 pub record HasCome (max : ℕ) (lines : List (List ℕ)) (p : Progress) : Type 0 where

@@ -1,23 +1,11 @@
 -- One record more, where it may stand.
-use Rattle.std.proofs.Common.{◌≡◌, List, [], ◌∷◌, ◌++◌, map, true, Option, None, Some, ap, refl, sym, ◌∙◌, subst, append_assoc}
-use Rattle.std.proofs.Common.{append-nil, inl, true≢false}
-use Rattle.std.proofs.lemmas.List.{map-append}
-use Rattle.cif_extract.specs.BodyParts.{extra_records}
-use Rattle.cif_extract.specs.Grammar.{AreSchedule, AreSchedules, records_before_trailer}
-use Rattle.cif_extract.specs.OrderOfRecords.{may_stand}
-use Rattle.cif_extract.specs.Steps.Reading.{HasOwn, HasRead, HasReadAt, IsCancelled, IsWithin, Progress, parts_with_header, step}
-use Rattle.cif_extract.specs.declared.place.Place.{Place}
-use Rattle.cif_extract.specs.declared.place.Place.TheVariants as at
-use Rattle.cif_extract.specs.declared.extract.Schedule.{Schedule}
-use Rattle.cif_records.specs.declared.basic.Basic.{Basic}
-use Rattle.cif_records.specs.declared.extra.Extra.{Extra}
-use Rattle.cif_records.specs.declared.header.Header.{Header}
-use Rattle.cif_records.specs.declared.record.Kind.TheVariants.{Hd, Ti, Aa, Bs, Zz}
-use Rattle.cif_records.specs.declared.record.Record.{Record}
+use Rattle.cif_extract.proofs.Names.{Aa, AreSchedule, AreSchedules, Association, Basic, Bs, Extra, HasOwn, HasRead, HasReadAt, Hd, Header}
+use Rattle.cif_extract.proofs.Names.{IsCancelled, IsWithin, List, None, Option, Place, Progress, Record, Schedule, Some, Ti, Tiploc, Zz, []}
+use Rattle.cif_extract.proofs.Names.{ap, append-nil, append_assoc, extra_records, inl, map, map-append, may_stand, parts_with_header}
+use Rattle.cif_extract.proofs.Names.{records_before_trailer, refl, step, subst, sym, true, true≢false, ◌++◌, ◌∙◌, ◌∷◌, ◌≡◌}
 use Rattle.cif_records.specs.declared.record.Record.TheVariants as of
-use Rattle.cif_records.specs.declared.association.Association.{Association}
-use Rattle.cif_records.specs.declared.tiploc.Tiploc.{Tiploc}
 use Rattle.cif_extract.proofs.GrammarLists.{behind_schedules, schedules_more}
+use Rattle.cif_extract.specs.declared.place.Place.TheVariants as at
 
 -- no schedule is being read
 pub record AreClosed (records : List Record) (p : Progress) : Type 0 where

@@ -1,31 +1,15 @@
 -- One record more of a schedule, where it may stand.
-use Rattle.std.proofs.Common.{◌≡◌, ◌⊎◌, ℕ, List, [], ◌∷◌, ◌++◌, true, Option, None, Some, is_some, ap, refl, ◌∙◌, subst, append_assoc}
-use Rattle.std.proofs.Common.{inl, inr, ⊎_elim, IfSome, sym, true≢false}
-use Rattle.cif_columns.specs.Field.{AllStandIn, plain_line}
-use Rattle.cif_extract.specs.BodyParts.{extra_records}
-use Rattle.cif_extract.specs.Call.{call_record}
-use Rattle.cif_extract.specs.Grammar.{records_before_trailer}
-use Rattle.cif_extract.specs.OrderOfRecords.{after_extra, may_stand}
-use Rattle.cif_extract.specs.Steps.Reading.{HasOwn, HasRead, HasReadAt, IsCancelled, IsKeepable, IsOpened, IsWithin}
-use Rattle.cif_extract.specs.Steps.Reading.{Progress, begun, begun_journey, kept, parts_with_header, step}
-use Rattle.cif_extract.specs.declared.call.Call.{Call}
-use Rattle.cif_extract.specs.declared.place.Place.{Place}
-use Rattle.cif_extract.specs.declared.place.Place.TheVariants as at
-use Rattle.cif_extract.specs.declared.extract.Schedule.{Schedule}
-use Rattle.cif_records.specs.Basic.{terms_of}
-use Rattle.cif_records.specs.Bodies.{has_body}
-use Rattle.cif_records.specs.Detail.{detail_table}
-use Rattle.cif_records.specs.Record.{record_table}
-use Rattle.cif_records.specs.declared.basic.Basic.{Basic}
-use Rattle.cif_records.specs.declared.basic.BasicTerms.{BasicTerms}
-use Rattle.cif_records.specs.declared.detail.Detail.{Detail}
-use Rattle.cif_records.specs.declared.extra.Extra.{Extra}
-use Rattle.cif_records.specs.declared.record.Kind.TheVariants.{Bs, Bx, Lo, Li}
-use Rattle.cif_records.specs.declared.origin.Origin.{Origin}
-use Rattle.cif_records.specs.declared.record.Record.{Record}
+use Rattle.cif_extract.proofs.Names.{AllStandIn, Basic, BasicTerms, Bs, Bx, Call, Detail, Extra, HasOwn, HasRead, HasReadAt, IfSome}
+use Rattle.cif_extract.proofs.Names.{IsCancelled, IsKeepable, IsOpened, IsWithin, Li, List, Lo, None, Option, Origin, Place, Progress}
+use Rattle.cif_extract.proofs.Names.{Record, Schedule, Some, [], after_extra, ap, append_assoc, begun_journey, call_record, detail_table}
+use Rattle.cif_extract.proofs.Names.{extra_records, has_body, inl, inr, is_some, may_stand, parts_with_header, plain_line, record_table}
+use Rattle.cif_extract.proofs.Names.{records_before_trailer, refl, step, subst, sym, terms_of, true, true≢false, ℕ, ⊎_elim, ◌++◌, ◌∙◌, ◌∷◌}
+use Rattle.cif_extract.proofs.Names.{◌≡◌, ◌⊎◌}
 use Rattle.cif_records.specs.declared.record.Record.TheVariants as of
 use Rattle.cif_extract.proofs.KeptLines.{journey-more, kept-more}
 use Rattle.cif_extract.proofs.ReadingSteps.{AreClosed, closed_where, own_at}
+use Rattle.cif_extract.specs.Steps.Reading.{begun, kept}
+use Rattle.cif_extract.specs.declared.place.Place.TheVariants as at
 
 -- the plain line of the record spells it
 abbrev pub Again : Record → Type 0

@@ -1,13 +1,7 @@
 -- Schedules with the same fields are the same; and the one that is closed.
-use Rattle.std.proofs.Common.{◌≡◌, ◌≤◌, ℕ, Bool, true, false, List, [], ◌∷◌, ◌++◌, Option, Some, is_some, refl, ap}
-use Rattle.std.proofs.Props.{props}
+use Rattle.cif_extract.proofs.Names.{BasicTerms, BodyLines, Bool, List, Option, Schedule, Some, Stp, [], ap, closed, false, has_body}
+use Rattle.cif_extract.proofs.Names.{is_some, props, refl, schedule_of, true, with_schedule, ℕ, ◌++◌, ◌∷◌, ◌≡◌, ◌≤◌}
 use mathlib.Core.HLevel.{Σ_prop_path}
-use Rattle.cif_columns.specs.declared.stp.Stp.{Stp}
-use Rattle.cif_extract.specs.Body.{BodyLines}
-use Rattle.cif_extract.specs.Steps.Reading.{closed, schedule_of, with_schedule}
-use Rattle.cif_extract.specs.declared.extract.Schedule.{Schedule}
-use Rattle.cif_records.specs.Bodies.{has_body}
-use Rattle.cif_records.specs.declared.basic.BasicTerms.{BasicTerms}
 
 -- what the type keeps of its fields
 abbrev Facts : List ℕ × ℕ × ℕ × List Bool × Stp × Option BodyLines → Type 0

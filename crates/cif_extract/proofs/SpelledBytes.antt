@@ -1,21 +1,13 @@
 -- Bytes that spell an extract aren't refused, and spell no other.
-use Rattle.std.proofs.Common.{◌≡◌, ℕ, List, Result, Ok, Err, IfErr, IfOk, ⊎_elim}
-use Rattle.cif_columns.specs.Contents.{contents_of}
-use Rattle.cif_columns.specs.Source.{Unread}
-use Rattle.cif_columns.specs.declared.refusal.Refusal.{Refusal}
-use Rattle.cif_extract.specs.ExtractParts.{ExtractParts, extract_parts}
-use Rattle.cif_extract.specs.FirstRefusal.{IsFirstRefusal, IsTruncated}
-use Rattle.cif_extract.specs.Layouts.{own_layouts}
-use Rattle.cif_extract.specs.ReadFault.{IsReadAs, IsReadFault}
-use Rattle.cif_extract.specs.SpellsExtract.{BytesSpell, BytesSpellWithin}
-use Rattle.cif_extract.specs.declared.extract.Extract.{Extract}
-use Rattle.cif_extract.specs.declared.fault.Fault.{Fault}
-use Rattle.cif_extract.specs.declared.fault.Fault.TheVariants as fault
+use Rattle.cif_extract.proofs.Names.{BytesSpell, BytesSpellWithin, Err, Extract, ExtractParts, Fault, IfErr, IfOk, IsFirstRefusal, IsReadAs}
+use Rattle.cif_extract.proofs.Names.{IsReadFault, IsTruncated, List, Ok, Refusal, Result, Unread, contents_of, extract_parts, own_layouts}
+use Rattle.cif_extract.proofs.Names.{ℕ, ⊎_elim, ◌≡◌}
 use Rattle.cif_extract.proofs.FirstRefusals.{fine-refused}
 use Rattle.cif_extract.proofs.LayoutLaws.{own_are}
 use Rattle.cif_extract.proofs.OneExtract.{one_extract}
 use Rattle.cif_extract.proofs.OrderLaws.{spelled_fine}
 use Rattle.cif_extract.proofs.SpelledLines.{spelled_trailer}
+use Rattle.cif_extract.specs.declared.fault.Fault.TheVariants as fault
 
 -- bytes spell one extract at most
 pub one_spelled : (bytes : List ℕ) (x y : ExtractParts) → BytesSpell bytes x → BytesSpell bytes y → x ≡ y

@@ -1,20 +1,12 @@
 -- The lines of an extract, one by one: none is refused behind those before it, and one is a trailer.
-use Rattle.std.proofs.Common.{◌≡◌, ℕ, List, [], ◌∷◌, ◌++◌, None, refl, sym, ap, ◌∙◌, subst, append_assoc, append-nil, arith}
-use Rattle.std.proofs.lemmas.List.Elements.{All-tail}
-use Rattle.std.specs.Prelude.{All}
-use Rattle.cif_extract.specs.ExtractParts.{ExtractParts}
-use Rattle.cif_extract.specs.Grammar.{records_before_trailer}
-use Rattle.cif_extract.specs.Layouts.{Layouts}
-use Rattle.cif_extract.specs.OrderOfRecords.{place_behind_by}
-use Rattle.cif_extract.specs.SpellsExtract.{SpellAllBy, SpellExtractBy}
-use Rattle.cif_extract.specs.Taken.{IsNoTrailer, refusal_at, refusal_behind}
-use Rattle.cif_extract.specs.declared.place.Place.{Place}
-use Rattle.cif_extract.specs.declared.place.Place.TheVariants as at
-use Rattle.cif_records.specs.declared.record.Record.{Record}
+use Rattle.cif_extract.proofs.Names.{All, All-tail, ExtractParts, IsNoTrailer, Layouts, List, None, Place, Record, SpellAllBy}
+use Rattle.cif_extract.proofs.Names.{SpellExtractBy, [], ap, append-nil, append_assoc, arith, place_behind_by, records_before_trailer, refl}
+use Rattle.cif_extract.proofs.Names.{refusal_at, refusal_behind, subst, sym, ℕ, ◌++◌, ◌∙◌, ◌∷◌, ◌≡◌}
 use Rattle.cif_records.specs.declared.record.Record.TheVariants as of
 use Rattle.cif_extract.proofs.LayoutLaws.{AreLayouts}
 use Rattle.cif_extract.proofs.OrderLaws.{MayStand, stand_extract}
 use Rattle.cif_extract.proofs.Places.{fine_here, place_more, place_past}
+use Rattle.cif_extract.specs.declared.place.Place.TheVariants as at
 
 module _ (layouts : Layouts) (laws : AreLayouts layouts) where
   fine_at : (front : List (List ℕ)) (place : Place) (before : List (List ℕ)) (line : List ℕ) (after : List (List ℕ))

@@ -1,26 +1,14 @@
 -- What a line that is taken comes to, by its kind.
-use Rattle.std.proofs.Common.{◌≡◌, ◌∙◌, ℕ, true, List, [], ◌∷◌, None, Option, Result, Err, Ok, Some, ap, refl, subst, sym}
-use Rattle.cif_columns.specs.Field.{AllStandIn, plain_line}
-use Rattle.cif_columns.specs.declared.refusal.Refusal.{Refusal}
-use Rattle.cif_extract.specs.FirstRefusal.{order_refusal}
-use Rattle.cif_extract.specs.Layouts.{own_layouts}
-use Rattle.cif_extract.specs.OrderOfRecords.{after_further, may_stand}
-use Rattle.cif_extract.specs.Steps.Reading.{GoesOnPlainly, IsFurther, IsKeepable, IsTaken, Progress, keeping, kept, step}
-use Rattle.cif_extract.specs.Steps.Reading.{IsKept, UnlessMemory, UnlessRefused, with_kept}
-use Rattle.cif_extract.specs.Taken.{refusal_at}
-use Rattle.cif_extract.specs.declared.place.Place.{Place}
-use Rattle.cif_extract.specs.declared.reading.TakeFault.{TakeFault}
-use Rattle.cif_extract.specs.declared.reading.TakeFault.TheVariants as untaken
-use Rattle.cif_records.specs.Checks.{IsJudged, first_of}
-use Rattle.cif_records.specs.Kind.{kind_in}
-use Rattle.cif_records.specs.Record.{IsPlainOf, record_refusal, record_table, refusal_as, SpellsRecord}
-use Rattle.cif_records.specs.declared.record.Kind.{Kind}
-use Rattle.cif_records.specs.declared.record.Kind.TheVariants.{Li, Lt}
-use Rattle.cif_records.specs.declared.record.Record.{Record}
+use Rattle.cif_extract.proofs.Names.{AllStandIn, Err, GoesOnPlainly, IsFurther, IsJudged, IsKeepable, IsKept, IsPlainOf, IsTaken, Kind, Li}
+use Rattle.cif_extract.proofs.Names.{List, Lt, None, Ok, Option, Place, Progress, Record, Refusal, Result, Some, SpellsRecord, TakeFault}
+use Rattle.cif_extract.proofs.Names.{Terminus, UnlessMemory, UnlessRefused, [], after_further, ap, first_of, keeping, kind_in, may_stand}
+use Rattle.cif_extract.proofs.Names.{no_refusal, order_refusal, own_layouts, plain_line, record_refusal, record_table, refl, refusal-kind}
+use Rattle.cif_extract.proofs.Names.{refusal_as, refusal_at, step, subst, sym, true, with_kept, ℕ, ◌∙◌, ◌∷◌, ◌≡◌}
+use Rattle.cif_records.proofs.Records.{kind_of as record_kind, kind_there as spelled_kind}
 use Rattle.cif_records.specs.declared.record.Record.TheVariants as of
-use Rattle.cif_records.specs.declared.terminus.Terminus.{Terminus}
-use Rattle.cif_records.proofs.Records.{kind_of as record_kind, kind_there as spelled_kind, no_refusal, refusal-kind}
 use Rattle.cif_extract.proofs.FirstRefusals.{or_none}
+use Rattle.cif_extract.specs.Steps.Reading.{kept}
+use Rattle.cif_extract.specs.declared.reading.TakeFault.TheVariants as untaken
 
 -- where a kind may stand, a line of it is refused for its fields alone
 pub refusal_of_record : (place : Place) (line : List ℕ) (kind : Kind) → kind_in line ≡ Some kind → may_stand place kind ≡ true →

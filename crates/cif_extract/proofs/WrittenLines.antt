@@ -1,11 +1,7 @@
 -- What is written, line by line.
-use Rattle.std.proofs.Common.{◌≡◌, ℕ, List, [], ◌∷◌, ◌++◌, Option, Result, append_assoc, map, sym, ◌∙◌, ap, refl, subst}
-use Rattle.cif_columns.specs.Field.{Row, plain_line}
-use Rattle.cif_columns.specs.Sink.{HasFailed, HasWritten, Writes}
+use Rattle.cif_extract.proofs.Names.{HasFailed, HasWritten, KeepAll, List, Option, Result, Row, Writes, [], ap, append_assoc, failed_first}
+use Rattle.cif_extract.proofs.Names.{lines_text, map, plain_line, refl, subst, sym, writes_on, ℕ, ◌++◌, ◌∙◌, ◌∷◌, ◌≡◌}
 use Rattle.cif_columns.specs.declared.sink.Sink.{Sink}
-use Rattle.cif_columns.proofs.WrittenTexts.{failed_first, writes_on}
-use Rattle.cif_extract.specs.Body.{KeepAll}
-use Rattle.cif_columns.specs.Contents.{lines_text}
 
 -- lines that are kept are the plain lines of their tables
 pub kept_plain : (lines : List (List ℕ)) (tables : List (List Row)) → KeepAll lines tables → lines ≡ map plain_line tables

@@ -1,20 +1,12 @@
 -- What changes leave of each key, and in which order.
-use Rattle.std.proofs.Common.{◌≡◌, ◌↔◌, Bool, true, false, not, cond, ◌&&◌, ◌||◌, List, [], ◌∷◌, ◌++◌, Option, None, Some, refl, sym, ap}
-use Rattle.std.proofs.Common.{◌∙◌, append_assoc, append-nil, IsTrue, ◌≢◌, All}
-use Rattle.std.specs.Cmp.{IsEquivalence}
-use Rattle.std.specs.Ordering.{eq_by_cmp}
-use Rattle.std.specs.declared.cmp.Ordering.{Ordering}
-use Rattle.std.specs.Prelude.{filter, option_to_list}
-use Rattle.std.proofs.lemmas.List.Elements.{filter-append, filter_agree, All-head, All-tail}
-use Rattle.cif_feed.specs.Changes.{ChangeParts, TellsSame, after_all, after_change, is_changed, is_there, key_of, keyed_record, last_word}
-use Rattle.cif_feed.specs.Changes.{of_key, put_last, put_of, refusal, refusals, untouched, with_keys, without_key, AreAfter, HaveLastWord}
-use Rattle.cif_feed.specs.Changes.{changes_of}
-use Rattle.cif_feed.specs.Steps.Changes.{same_by}
-use Rattle.cif_feed.specs.declared.changes.Action.{Action}
-use Rattle.cif_feed.specs.declared.changes.Action.TheVariants.{New, Revised, Deleted}
-use Rattle.cif_feed.specs.declared.changes.Change.{Change}
+use Rattle.cif_feed.proofs.Names.{Action, All, All-head, All-tail, AreAfter, Bool, Change, ChangeParts, HaveLastWord, IsEquivalence, IsTrue}
+use Rattle.cif_feed.proofs.Names.{List, None, Option, Ordering, Some, TellsSame, [], after_all, after_change, ap, append-nil, append_assoc}
+use Rattle.cif_feed.proofs.Names.{changes_of, cond, eq_by_cmp, false, filter, filter-append, filter_agree, is_changed, is_there, key_of}
+use Rattle.cif_feed.proofs.Names.{keyed_record, last_word, not, option_to_list, put_last, put_of, refl, refusal, refusals, same_by}
+use Rattle.cif_feed.proofs.Names.{same_values, sym, true, untouched, with_keys, without_key, ◌&&◌, ◌++◌, ◌||◌, ◌↔◌, ◌∙◌, ◌∷◌, ◌≡◌, ◌≢◌}
 use Rattle.cif_feed.proofs.ListSteps.{filter-map}
-use Rattle.cif_extract.proofs.OneExtract.{same_values}
+use Rattle.cif_feed.specs.Changes.{of_key}
+use Rattle.cif_feed.specs.declared.changes.Action.TheVariants.{Deleted, New, Revised}
 
 module _ {A : Type 0} where
   -- a filter after a filter

@@ -1,25 +1,15 @@
 -- The changes of an update, one after another.
-use Rattle.std.proofs.Common.{◌≡◌, ℕ, ◌+◌, ◌<◌, ◌≤◌, ◌==◌, Bool, true, false, not, cond, ◌&&◌, ◌||◌, List, [], ◌∷◌, ◌++◌}
-use Rattle.std.proofs.Common.{length, get_or, take, drop, Option, None, Some, is_some, unwrap_or, refl, sym, ap, ◌∙◌}
-use Rattle.std.proofs.Common.{arith, append-nil, append_assoc, eq-eqb, length-take, take-append-drop}
-use Rattle.std.specs.Cmp.{IsEquivalence}
-use Rattle.std.specs.List.{items_where_true, list_any}
+use Rattle.cif_feed.proofs.Names.{AreLast, Bool, Change, ChangeParts, IsEquivalence, List, None, Option, SaysAlone, SaysThere, Some, []}
+use Rattle.cif_feed.proofs.Names.{after_all, after_change, ap, append-nil, append_assoc, arith, changes_of, cond, drop, eq-eqb, false}
+use Rattle.cif_feed.proofs.Names.{filter, filter_agree, get_or, get_or-map, is_changed, is_position, is_some, is_there, items_where_true}
+use Rattle.cif_feed.proofs.Names.{keyed_record, last_from, length, length-map, length-take, list_any, list_any-append, list_any_at, map}
+use Rattle.cif_feed.proofs.Names.{map-append, map_more, nat_tests, not, option_or, option_to_list, or-false, or-true, or_none, put_last}
+use Rattle.cif_feed.proofs.Names.{refl, refusal, refusals, same_Some, sym, take, take-append-drop, true, untouched, unwrap_or, with_keys, ℕ}
+use Rattle.cif_feed.proofs.Names.{◌&&◌, ◌++◌, ◌+◌, ◌<◌, ◌==◌, ◌||◌, ◌∙◌, ◌∷◌, ◌≡◌, ◌≤◌}
 use Rattle.std.specs.List.Retain.{IsFiltered, ReturnsInTurn}
-use Rattle.std.specs.Option.{option_or}
-use Rattle.std.specs.Prelude.{filter, map, option_to_list}
-use Rattle.std.proofs.Math.Bool.{or-false, or-true}
-use Rattle.std.proofs.lemmas.Bool.Decides.{nat_tests}
-use Rattle.std.proofs.lemmas.List.{get_or-map, length-map, map-append, map_more}
-use Rattle.std.proofs.lemmas.List.Elements.{filter_agree}
-use Rattle.std.proofs.lemmas.List.Folds.{list_any-append, list_any_at}
-use Rattle.std.proofs.lemmas.Option.{same_Some}
-use Rattle.cif_extract.proofs.FirstRefusals.{or_none}
-use Rattle.cif_feed.specs.Changes.{ChangeParts, after_all, after_change, changes_of, is_changed, is_there, keyed_record, of_key}
-use Rattle.cif_feed.specs.Changes.{parts_of, put_last, refusal, refusals, untouched, with_keys}
-use Rattle.cif_feed.specs.Steps.Changes.{AreLast, SaysAlone, SaysThere, is_position, last_from}
-use Rattle.cif_feed.specs.declared.changes.Change.{Change}
 use Rattle.cif_feed.proofs.ChangeLaws.{of_key-after, put_keys}
 use Rattle.cif_feed.proofs.ListSteps.{filter-map}
+use Rattle.cif_feed.specs.Changes.{of_key, parts_of}
 
 -- ---- options and tests
 

@@ -1,48 +1,22 @@
 -- What is found in a prepared extract that only holidays cut: the clash days of the published one.
-use Rattle.std.proofs.Common.{◌≡◌, ◌↔◌, ℕ, ◌+◌, ◌<◌, ◌≤◌, List, [], ◌∷◌, ◌++◌, Option, Vec, Global, Contains, map, length}
-use Rattle.std.specs.Prelude.{◌==◌, codes, decimal}
+use Rattle.cif_feed.proofs.Names.{AppliesOnAny, AreAllFound, AreClashDates, AreClashDays, AreDropped, AreFound, AssocBody, AssocKey}
+use Rattle.cif_feed.proofs.Names.{Association, BodyLines, Clash, Contains, Contains-none, Dropped, DroppedKey, ExtractParts, Global, Header}
+use Rattle.cif_feed.proofs.Names.{Holidays, IsClashDay, IsCountOf, IsCutAt, IsPrepared, List, Option, Ordering, PreparedRecord}
+use Rattle.cif_feed.proofs.Names.{PublishedAssociation, PublishedExtract, PublishedParts, PublishedSchedule, PublishedTerms}
+use Rattle.cif_feed.proofs.Names.{ReadsAssociations, ReadsTrains, Schedule, Terms, Vec, [], ap, append_assoc, arith, association_entries}
+use Rattle.cif_feed.proofs.Names.{association_on, association_terms, codes, cond, decimal, dropped_text, false, key_cmp, last_day}
+use Rattle.cif_feed.proofs.Names.{last_is_day, length, map, more_text, nat_cmp, prepared_parts, published_association_terms}
+use Rattle.cif_feed.proofs.Names.{published_associations, published_schedule_terms, published_schedules, records_on, refl, schedule_entries}
+use Rattle.cif_feed.proofs.Names.{schedule_on, schedule_terms, slice_cmp, subst, sym, true, ℕ, ◌++◌, ◌+◌, ◌<◌, ◌==◌, ◌↔◌, ◌∙◌, ◌∷◌, ◌≡◌}
+use Rattle.cif_feed.proofs.Names.{◌≤◌}
 use Rattle.cif_extract.specs.Clash.{clash_text}
-use Rattle.cif_feed.specs.Dropped.{dropped_text, more_text}
-use Rattle.std.proofs.Common.{true, false, cond, append_assoc, refl, sym, ap, ◌∙◌, subst, arith}
-use Rattle.cif_calendar.specs.ClashDates.{AreClashDates}
-use Rattle.cif_calendar.specs.Entries.{association_entries, association_terms, schedule_entries, schedule_terms}
-use Rattle.cif_calendar.specs.Ranks.{IsNumberOf}
-use Rattle.cif_calendar.specs.Terms.{Terms}
-use Rattle.std.specs.Ordering.{nat_cmp}
-use Rattle.std.specs.Cmp.Lexicographic.{slice_cmp}
-use Rattle.std.specs.declared.cmp.Ordering.{Ordering}
-use Rattle.cif_extract.specs.declared.extract.Schedule.{Schedule}
-use Rattle.cif_extract.specs.declared.fault.Clash.{Clash}
-use Rattle.cif_records.specs.AssocKey.{key_cmp}
-use Rattle.cif_records.specs.declared.association.Association.{Association}
-use Rattle.cif_feed.specs.declared.parts.PreparedRecord.{PreparedRecord}
-use Rattle.cif_feed.specs.declared.published_extract.PublishedExtract.{PublishedExtract}
-use Rattle.cif_feed.proofs.PreparedLists.{prepared-associations, prepared-schedules}
-use Rattle.cif_feed.specs.Steps.PartsSoFar.{records_on}
-use Rattle.cif_calendar.specs.Keys.{of_key}
-use Rattle.cif_calendar.proofs.RisingLists.{Contains-none}
-use Rattle.cif_extract.specs.ExtractParts.{ExtractParts}
 use Rattle.cif_extract.specs.declared.fault.Clash.TheVariants as clash
-use Rattle.cif_records.proofs.Headers.{last_is_day}
-use Rattle.cif_extract.specs.Body.{BodyLines}
-use Rattle.cif_records.specs.declared.association.AssocBody.{AssocBody}
-use Rattle.cif_records.specs.declared.association.AssocKey.{AssocKey}
-use Rattle.cif_records.specs.declared.header.Header.{Header}
-use Rattle.cif_feed.specs.CutCount.{AppliesOnAny, IsCountOf}
-use Rattle.cif_feed.specs.Dropped.{AreClashDays, AreDropped, told_as}
-use Rattle.cif_feed.specs.LastDay.{last_day}
-use Rattle.cif_feed.specs.PreparedParts.{IsPrepared, association_on, prepared_parts, schedule_on}
-use Rattle.cif_feed.specs.Published.{IsClashDay, PublishedTerms}
-use Rattle.cif_feed.specs.PublishedParts.{PublishedParts, published_association_terms, published_associations, published_schedule_terms}
-use Rattle.cif_feed.specs.PublishedParts.{published_schedules}
-use Rattle.cif_feed.specs.Steps.Dropping.{AreAllFound, AreFound, IsCutAt, ReadsAssociations, ReadsTrains}
-use Rattle.cif_feed.specs.declared.dropped.Dropped.{Dropped}
-use Rattle.cif_feed.specs.declared.dropped.DroppedKey.{DroppedKey}
-use Rattle.cif_feed.specs.declared.holidays.Holidays.{Holidays}
-use Rattle.cif_feed.specs.declared.published_extract.PublishedAssociation.{PublishedAssociation}
-use Rattle.cif_feed.specs.declared.published_extract.PublishedSchedule.{PublishedSchedule}
+use Rattle.cif_calendar.specs.Keys.{of_key}
+use Rattle.cif_calendar.specs.Ranks.{IsNumberOf}
 use Rattle.cif_feed.proofs.CutCounts.{count-map, count-same}
+use Rattle.cif_feed.proofs.PreparedLists.{prepared-associations, prepared-schedules}
 use Rattle.cif_feed.proofs.PreparedRuns.{clash-days, closed-associations, closed-schedules, cut-prepared, cut-whole, whole-clear}
+use Rattle.cif_feed.specs.Dropped.{told_as}
 
 -- what is in no list has no days
 no-days : {K : Type 0} (keys : List K) (k : K) (days : List ℕ) → Contains keys k ↔ (0 < length days) → keys ≡ [] → days ≡ []

@@ -1,18 +1,8 @@
 -- How many records have a cut, one record after another.
-use Rattle.std.proofs.Common.{◌≡◌, ◌↔◌, inl, inr, ⊎_elim, ℕ, ◌+◌, ◌<◌, ◌≤◌, List, []}
-use Rattle.std.proofs.Common.{◌∷◌, ◌++◌, Option, None, Some, Bool, Contains, IsTrue, is_some, map, take}
-use Rattle.std.proofs.Common.{length, get_or, refl, sym, ap, ◌∙◌, subst, arith, true, false}
-use Rattle.std.proofs.lemmas.Bool.{false≢true}
-use Rattle.std.proofs.lemmas.List.{take_more}
-use Rattle.cif_feed.specs.CutCount.{AppliesOnAny, HasCut, IsCountOf}
-use Rattle.cif_feed.specs.HolidayDates.{IsFirstFrom}
-use Rattle.cif_feed.specs.Holidays.{IsHolidayOn}
-use Rattle.cif_feed.specs.Prepared.{prepared_last}
-use Rattle.cif_feed.specs.Parts.{ended}
-use Rattle.cif_feed.specs.Published.{AppliesAsPublished, IsHolidayOf, PublishedTerms}
-use Rattle.cif_feed.specs.Steps.Marks.{plus_if}
-use Rattle.cif_feed.specs.declared.holidays.HolidayCode.{HolidayCode}
-use Rattle.cif_feed.specs.declared.holidays.Holidays.{Holidays}
+use Rattle.cif_feed.proofs.Names.{AppliesAsPublished, AppliesOnAny, Bool, Contains, HasCut, HolidayCode, Holidays, IsCountOf, IsFirstFrom}
+use Rattle.cif_feed.proofs.Names.{IsHolidayOf, IsHolidayOn, IsTrue, List, None, Option, PublishedTerms, Some, [], ap, arith, ended, false}
+use Rattle.cif_feed.proofs.Names.{false≢true, get_or, inl, inr, is_some, length, map, plus_if, prepared_last, refl, subst, sym, take}
+use Rattle.cif_feed.proofs.Names.{take_more, true, ℕ, ⊎_elim, ◌++◌, ◌+◌, ◌<◌, ◌↔◌, ◌∙◌, ◌∷◌, ◌≡◌, ◌≤◌}
 
 module _ {A : Type 0} (P : A → Type 0) where
   count-yes : (xs : List A) (x : A) (n : ℕ) → P x → IsCountOf P xs n → IsCountOf P (xs ++ x ∷ []) (n + 1)

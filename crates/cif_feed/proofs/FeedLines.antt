@@ -1,61 +1,32 @@
 -- A line of a feed spells one record at most, of the kind that it names, and there is no reason to refuse a line that spells one.
-use Rattle.std.proofs.Common.{◌≡◌, ◌≤◌, ℕ, Bool, true, false, cond, not, ◌||◌, List, [], ◌∷◌, ◌++◌, length, Option, Some, None, is_some}
-use Rattle.std.proofs.Common.{codes, refl, sym, ap, ◌∙◌, subst, lit<}
-use Rattle.std.proofs.Math.Bool.{or-true}
-use Rattle.cif_columns.specs.Day.{IsDay, StandsInYymmdd}
-use Rattle.cif_columns.specs.Field.{AllFit, AllStandIn, FieldValue, Row, StandsIn, columns, spare, weekdays}
-use Rattle.cif_columns.specs.Line.{IsLine}
-use Rattle.cif_columns.specs.Stp.{letter}
-use Rattle.cif_columns.specs.declared.refusal.Refusal.{Refusal}
-use Rattle.cif_columns.specs.declared.stp.Stp.{Stp}
-use Rattle.cif_columns.proofs.DayColumns.{yymmdd_in-stands}
+use Rattle.cif_feed.proofs.Names.{AllFit, AllStandIn, AreLayouts, AssocBody, AssocKey, Association, Basic, BasicTerms, Bool, Detail, Feed}
+use Rattle.cif_feed.proofs.Names.{FieldValue, Full, HolidayCode, HolidayCodes, IsClosedAt, IsDay, IsDeletion, IsLine, Kind, List, None}
+use Rattle.cif_feed.proofs.Names.{Option, Record, Refusal, Row, Some, SpellsAssociationBy, SpellsBasicBy, SpellsInFeed, SpellsTiplocBy}
+use Rattle.cif_feed.proofs.Names.{StandsIn, StandsInYymmdd, Stp, Ta, Td, Ti, Tiploc, Transaction, [], ap, association_refusal_by}
+use Rattle.cif_feed.proofs.Names.{association_rows, association_rows_by, association_table, basic_back, basic_front_by, basic_refusal_by}
+use Rattle.cif_feed.proofs.Names.{basic_rows, basic_table, cancels_in_feed, code_of, code_value, codes, columns, cond, dates_fine}
+use Rattle.cif_feed.proofs.Names.{dates_refusal, days_of-stands, deleted_association_rows, deleted_basic_rows, deletes, detail_rows}
+use Rattle.cif_feed.proofs.Names.{end_value, false, feed_layouts, feed_refusal_as, has_body, indicator_of, is_open, is_some, kind_in}
+use Rattle.cif_feed.proofs.Names.{kind_of, kind_read_as, length, letter_cancels, letter_of, lit<, not, one_date_value, one_exactly}
+use Rattle.cif_feed.proofs.Names.{one_weekdays, open_dates_refusal, or-true, printable_fact, put_association_rows, put_basic_front}
+use Rattle.cif_feed.proofs.Names.{put_basic_rows, record_table, refl, spare, stp_in-letter, subst, sym, terms_of, transaction_at}
+use Rattle.cif_feed.proofs.Names.{transaction_letter, true, weekdays, yymmdd_in-stands, ℕ, ◌++◌, ◌||◌, ◌∙◌, ◌∷◌, ◌≡◌, ◌≤◌}
 use Rattle.cif_columns.proofs.DayDigits.{is_day-yymmdd}
-use Rattle.cif_columns.proofs.FieldLaws.{one_date_value, one_exactly, one_weekdays, stp_in-letter}
-use Rattle.cif_columns.proofs.Masks.{days_of-stands}
-use Rattle.cif_columns.proofs.PrintableBytes.{printable_fact}
 use Rattle.cif_columns.proofs.StoodValues as stood
-use Rattle.cif_extract.specs.Layouts.{cancels}
-use Rattle.cif_extract.proofs.LayoutLaws.{AreLayouts, letter_cancels}
-use Rattle.cif_records.specs.Association.{association_rows, association_rows_by, association_table}
-use Rattle.cif_records.specs.Basic.{basic_back, basic_front_by, basic_rows, basic_table, terms_of}
-use Rattle.cif_records.specs.Bodies.{has_body}
-use Rattle.cif_records.specs.Checks.{are, date_refusal, dates_refusal, letter_refusal}
-use Rattle.cif_records.specs.Detail.{detail_rows}
-use Rattle.cif_records.specs.Kind.{identity, kind_in}
-use Rattle.cif_records.specs.Record.{record_table}
-use Rattle.cif_records.specs.declared.association.AssocBody.{AssocBody}
-use Rattle.cif_records.specs.declared.association.AssocKey.{AssocKey}
-use Rattle.cif_records.specs.declared.association.Association.{Association}
-use Rattle.cif_records.specs.declared.basic.Basic.{Basic}
-use Rattle.cif_records.specs.declared.basic.BasicTerms.{BasicTerms}
-use Rattle.cif_records.specs.declared.detail.Detail.{Detail}
-use Rattle.cif_records.specs.declared.record.Kind.{Kind}
-use Rattle.cif_records.specs.declared.record.Kind.TheVariants.{Ti, Ta, Td}
-use Rattle.cif_records.specs.declared.record.Record.{Record}
-use Rattle.cif_records.specs.declared.record.Record.TheVariants as of
-use Rattle.cif_records.specs.declared.tiploc.Tiploc.{Tiploc}
+use Rattle.cif_columns.specs.Stp.{letter}
 use Rattle.cif_records.proofs.Associations as associations
 use Rattle.cif_records.proofs.Basics as basics
 use Rattle.cif_records.proofs.Headers as headers
 use Rattle.cif_records.proofs.Identities.{only_kind}
-use Rattle.cif_records.proofs.Judging.{dates_fine}
 use Rattle.cif_records.proofs.Records as records
-use Rattle.cif_records.proofs.Records.{kind_of}
 use Rattle.cif_records.proofs.Rows.{◌&◌}
 use Rattle.cif_records.proofs.Tiplocs as tiplocs
-use Rattle.cif_feed.specs.FeedLine.{IsClosedAt, IsDeletion, SpellsAssociationBy, SpellsBasicBy, SpellsInFeed, SpellsTiplocBy}
-use Rattle.cif_feed.specs.FeedLayouts.{feed_layouts}
-use Rattle.cif_feed.specs.FeedLine.{cancels_in_feed, code_of, code_value, deleted_association_rows, deleted_basic_rows, deletes}
-use Rattle.cif_feed.specs.FeedLine.{end_value, indicator_of, is_open, letter_of, put_association_rows, put_basic_front, put_basic_rows}
-use Rattle.cif_feed.specs.FeedLine.{transaction_at}
-use Rattle.cif_feed.specs.LayoutRefusals.{association_refusal_by, basic_refusal_by, feed_refusal_as, kind_read_as, open_dates_refusal}
-use Rattle.cif_feed.specs.Transaction.{transaction_letter}
-use Rattle.cif_feed.specs.declared.feed_line.Feed.{Feed}
-use Rattle.cif_feed.specs.declared.feed_line.Feed.TheVariants.{Full, Update}
-use Rattle.cif_feed.specs.declared.holidays.HolidayCode.{HolidayCode}
-use Rattle.cif_feed.specs.declared.holidays.HolidayCodes.{HolidayCodes}
-use Rattle.cif_feed.specs.declared.mark.Transaction.{Transaction}
-use Rattle.cif_feed.specs.declared.mark.Transaction.TheVariants.{New, Revised, Deleted}
+use Rattle.cif_records.specs.Checks.{are, date_refusal, letter_refusal}
+use Rattle.cif_records.specs.Kind.{identity}
+use Rattle.cif_records.specs.declared.record.Record.TheVariants as of
+use Rattle.cif_extract.specs.Layouts.{cancels}
+use Rattle.cif_feed.specs.declared.feed_line.Feed.TheVariants.{Update}
+use Rattle.cif_feed.specs.declared.mark.Transaction.TheVariants.{Deleted, New, Revised}
 
 -- ---- values
 

@@ -1,67 +1,34 @@
 -- What the contents of a feed so far have come to, and how its reading ends.
-use Rattle.std.proofs.Common.{◌≡◌, ◌≢◌, ℕ, ◌+◌, ◌<◌, ◌≤◌, Bool, true, false, cond, nat_eq, nat_lt, List, [], ◌∷◌, ◌++◌, length, take}
-use Rattle.std.proofs.Common.{Option, Some, None, IfErr, IfOk, IfSome, IsSomeAnd, Result, Ok, Err, refl, sym, ap, ◌∙◌, arith, append_assoc}
-use Rattle.std.proofs.Common.{below_more, codes, filter, get_or, inl, inr, length-append, ne_eqb, true≢false}
-use Rattle.std.proofs.lemmas.Bool.Decides.{nat_tests}
-use Rattle.std.proofs.lemmas.List.{append_cancel_left, get_or_append_left, take-append-le}
-use Rattle.std.proofs.lemmas.List.Elements.{All-cons, All-head, All-nil, All-tail}
-use Rattle.std.proofs.lemmas.List.Sums.{count_by-le-length, length-filter}
-use Rattle.std.proofs.Math.Seq.{get_or-append_seam, take-append_seam}
-use Rattle.std.specs.List.{list_all}
-use Rattle.std.specs.Option.{option_or}
-use Rattle.std.specs.Prelude.{All, slice_index_or}
-use Rattle.cif_columns.specs.Comment.{is_comment}
-use Rattle.cif_columns.specs.Contents.{HasLineReason, IsFirstContent, contents_of}
-use Rattle.cif_columns.specs.FirstLine.{is_printable}
-use Rattle.cif_columns.specs.GivenLines.{AreAllContents, AreContentsToFailure, AreContentsToFault, AreContentsToRefusal}
-use Rattle.cif_columns.specs.GivenLines.{AreWholeContentsAndRest, IsContentDecidedOrLast}
-use Rattle.cif_columns.specs.Line.{IsLine}
-use Rattle.cif_columns.specs.LineReader.{BeginWithoutComment, HasPassedComment, IsNext, IsNextFault, IsNoComment, LineReads, left}
-use Rattle.cif_columns.specs.Source.{HasReadOn, Unread, reader_of, source_failed, unread_of}
+use Rattle.cif_feed.proofs.Names.{All, All-cons, All-head, All-nil, All-tail, AreAllContents, AreContentsToFailure, AreContentsToFault}
+use Rattle.cif_feed.proofs.Names.{AreContentsToRefusal, AreWholeContentsAndRest, BadTransaction, BeginWithoutComment, Bool, BytesSpellFeed}
+use Rattle.cif_feed.proofs.Names.{Err, Extract, Feed, FeedExtract, FeedFault, FeedReading, Full, HasLineReason, HasPassedComment, HasReadOn}
+use Rattle.cif_feed.proofs.Names.{HaveRoom, Hd, HolidayCodes, IfErr, IfOk, IfSome, IsFeedContent, IsFeedCut, IsFeedFault, IsFeedTaken}
+use Rattle.cif_feed.proofs.Names.{IsFirstContent, IsFirstOfFeed, IsLine, IsLineNumber, IsNext, IsNextFault, IsNoComment, IsNoTrailer}
+use Rattle.cif_feed.proofs.Names.{IsOfFeed, IsOwed, IsReadWhole, IsReadingContents, IsResultOf, IsSomeAnd, Kind, KnownContents, LineFault}
+use Rattle.cif_feed.proofs.Names.{LineReads, List, None, NoneOfFeedRefused, NotUpdate, Ok, Option, Refusal, Result, SayFeed, Some, Source}
+use Rattle.cif_feed.proofs.Names.{SpellFeed, TakeFault, Unread, Zz, [], answers, ap, append_assoc, append_cancel_left, arith, below_more}
+use Rattle.cif_feed.proofs.Names.{codes, cond, contents_given, contents_of, count_by-le-length, counts_of, failed_after, false, fault_for}
+use Rattle.cif_feed.proofs.Names.{feed_layouts, feed_parts, feed_refusal, filter, first_of, get_or, get_or-append_seam, get_or_append_left}
+use Rattle.cif_feed.proofs.Names.{inl, inr, is_comment, is_feed_read, is_note, is_printable, is_record_line, kind_in, kind_read_as}
+use Rattle.cif_feed.proofs.Names.{known_so, length, length-append, length-filter, list_all, nat_eq, nat_lt, nat_tests, ne_eqb, not_full}
+use Rattle.cif_feed.proofs.Names.{not_true, notes_may_stand, of_any, option_or, or_none, printable_fact, printable_true, read_on_both}
+use Rattle.cif_feed.proofs.Names.{reader_of, reading_content, reading_feed, record_lines, refl, refuses, slice_index_or, source_failed, sym}
+use Rattle.cif_feed.proofs.Names.{take, take-append-le, take-append_seam, true, true≢false, unless, unread_of, untaken_fault, ℕ, ◌++◌, ◌+◌}
+use Rattle.cif_feed.proofs.Names.{◌<◌, ◌∙◌, ◌∷◌, ◌≡◌, ◌≢◌, ◌≤◌}
+use Rattle.cif_columns.specs.GivenLines.{IsContentDecidedOrLast}
+use Rattle.cif_columns.specs.LineReader.{left}
 use Rattle.cif_columns.specs.declared.line.Line.{Line}
 use Rattle.cif_columns.specs.declared.line_reader.LineReader.{LineReader}
-use Rattle.cif_columns.specs.declared.refusal.LineFault.{LineFault}
-use Rattle.cif_columns.specs.declared.refusal.LineFault.TheVariants as line_fault
-use Rattle.cif_columns.specs.declared.refusal.Refusal.{Refusal}
-use Rattle.cif_columns.specs.declared.refusal.Refusal.TheVariants as refusal
-use Rattle.cif_columns.specs.declared.source.Source.{Source}
-use Rattle.cif_columns.proofs.GivenLinesLaws.{IsReadingContents, KnownContents, contents_given, known_so, reading_content}
-use Rattle.cif_columns.proofs.PrintableBytes.{printable_fact, printable_true}
-use Rattle.cif_columns.proofs.ReadSources.{failed_after, read_on_both}
-use Rattle.cif_extract.specs.Fault.{of_line_fault}
-use Rattle.cif_extract.specs.ReadCall.{IsOwed, IsReadWhole, IsResultOf}
-use Rattle.cif_extract.specs.ReadFault.{IsLineNumber}
-use Rattle.cif_extract.specs.Taken.{IsNoTrailer}
-use Rattle.cif_extract.specs.declared.fault.Fault.TheVariants as fault
-use Rattle.cif_extract.specs.declared.reading.TakeFault.{TakeFault}
-use Rattle.cif_extract.specs.declared.reading.TakeFault.TheVariants as untaken
-use Rattle.cif_extract.proofs.FirstRefusals.{not_true, or_none}
-use Rattle.cif_extract.proofs.ReadCalls.{answers, of_any, refuses}
-use Rattle.cif_records.specs.Checks.{first_of, unless}
-use Rattle.cif_records.specs.Kind.{kind_in}
-use Rattle.cif_records.specs.declared.record.Kind.{Kind}
-use Rattle.cif_records.specs.declared.record.Kind.TheVariants.{Hd, Zz}
-use Rattle.cif_feed.specs.FeedFault.{IsFeedFault, IsOfFeed}
-use Rattle.cif_feed.specs.FeedLayouts.{feed_layouts}
-use Rattle.cif_feed.specs.LayoutRefusals.{kind_read_as}
-use Rattle.cif_feed.specs.RecordLines.{is_note, is_record_line, notes_may_stand, record_lines}
-use Rattle.cif_feed.specs.FeedRefusal.{IsFeedContent, IsFeedCut, IsFirstOfFeed, NoneOfFeedRefused, fault_for, feed_refusal, line_refusal}
-use Rattle.cif_feed.specs.FeedRefusal.{not_full, untaken_fault}
-use Rattle.cif_feed.specs.FeedFault.{is_feed_read, reading_feed}
 use Rattle.cif_columns.specs.declared.line_reader.TheConstants.{MAX_LINES}
-use Rattle.cif_feed.specs.Counts.{counts_of}
-use Rattle.cif_feed.specs.Steps.Marks.{HaveRoom}
-use Rattle.cif_feed.specs.declared.mark.UpdateCounts.{UpdateCounts}
-use Rattle.cif_feed.specs.SpellsFeed.{BytesSpellFeed, SayFeed, SpellFeed, feed_parts}
-use Rattle.cif_feed.specs.Steps.FeedReading.{IsFeedTaken}
-use Rattle.cif_feed.specs.declared.feed_line.Feed.{Feed}
-use Rattle.cif_feed.specs.declared.feed_line.Feed.TheVariants.{Full, Update}
-use Rattle.cif_feed.specs.declared.feed.FeedFault.{FeedFault}
-use Rattle.cif_feed.specs.declared.feed.FeedFault.TheVariants.{Extract, NotUpdate, BadTransaction}
-use Rattle.cif_feed.specs.declared.holidays.HolidayCodes.{HolidayCodes}
-use Rattle.cif_feed.specs.declared.feed_reading.FeedReading.{FeedReading}
-use Rattle.cif_feed.specs.declared.feed_reading.FeedExtract.{FeedExtract}
+use Rattle.cif_columns.specs.declared.refusal.LineFault.TheVariants as line_fault
+use Rattle.cif_columns.specs.declared.refusal.Refusal.TheVariants as refusal
+use Rattle.cif_extract.specs.Fault.{of_line_fault}
+use Rattle.cif_extract.specs.declared.fault.Fault.TheVariants as fault
+use Rattle.cif_extract.specs.declared.reading.TakeFault.TheVariants as untaken
 use Rattle.cif_feed.proofs.FeedSteps.{comment_kind, named_line}
+use Rattle.cif_feed.specs.FeedRefusal.{line_refusal}
+use Rattle.cif_feed.specs.declared.feed_line.Feed.TheVariants.{Update}
+use Rattle.cif_feed.specs.declared.mark.UpdateCounts.{UpdateCounts}
 
 -- ---- why a content is refused
 

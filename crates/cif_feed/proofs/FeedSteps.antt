@@ -1,64 +1,34 @@
 -- One content more of a feed: the record that is read of it and taken, what the contents say then, and what the reading has come to.
-use Rattle.std.proofs.Common.{◌≡◌, ℕ, List, Option, Some, Result, Ok, Err, refl, sym, subst, true, false, [], ◌∷◌, ap, ◌∙◌, ◌+◌, ◌≤◌, ◌==◌}
-use Rattle.std.proofs.Common.{Bool, cond, not, ◌&&◌, ◌||◌, ◌++◌, length, filter, None, ne_eqb, take, codes, append-nil, arith}
-use Rattle.std.proofs.Common.{length-append, map}
-use Rattle.cif_columns.specs.Field.{AllStandIn, columns}
-use Rattle.cif_columns.specs.declared.refusal.Refusal.{Refusal}
-use Rattle.cif_records.specs.Basic.{basic_back}
-use Rattle.cif_records.specs.Checks.{IsJudged, first_of, unless, are}
-use Rattle.cif_records.specs.declared.association.Association.{Association}
-use Rattle.cif_records.specs.declared.basic.BasicTerms.{BasicTerms}
-use Rattle.cif_records.specs.declared.record.Kind.TheVariants.{Aa, Bs, Hd, Ti, Ta, Td, Li}
-use Rattle.cif_records.specs.declared.record.Record.TheVariants as of
+use Rattle.cif_feed.proofs.Names.{Aa, AllStandIn, Association, BasicTerms, Bool, Bs, Err, Feed, FeedReading, Full, GoesOnPlainly, HasTaken}
+use Rattle.cif_feed.proofs.Names.{HasTakenFeed, Hd, HolidayCodes, IsClosedAt, IsFeedTaken, IsJudged, IsKeepable, IsNoteTaken, IsOwn}
+use Rattle.cif_feed.proofs.Names.{IsRecordTaken, IsStopTaken, IsTaken, IsTakenAs, Kind, Li, List, MarkParts, None, Ok, Option, OutOfOrder}
+use Rattle.cif_feed.proofs.Names.{Progress, Record, Refusal, Refused, Result, Some, SpellsAssociationBy, SpellsBasicBy, SpellsInFeed}
+use Rattle.cif_feed.proofs.Names.{SpellsRecord, Ta, TakeFault, Td, Ti, Transaction, UnlessMemory, [], and_parts, ap, append-nil, arith}
+use Rattle.cif_feed.proofs.Names.{association_mark, association_refusal_by, basic_back, basic_refusal_by, bytes_eq-Decides, code_of, codes}
+use Rattle.cif_feed.proofs.Names.{columns, cond, counts_of, ends_open, enumerate_from, false, feed_layouts, feed_refusal_as, filter}
+use Rattle.cif_feed.proofs.Names.{filter-append, find, fine_so, first_of, header_behind, header_from, is_association, is_basic, is_comment}
+use Rattle.cif_feed.proofs.Names.{is_deleted, is_header, is_identity, is_new, is_note, is_of_tiploc, is_open, is_record_line, is_revised}
+use Rattle.cif_feed.proofs.Names.{is_trailer, kind_in, kind_of, kind_read_as, kinds, length, length-append, lines_of, list_any}
+use Rattle.cif_feed.proofs.Names.{list_any-append, map, map-append, mark_parts, marks_in, may_stand, ne_eqb, not, not_true, notes_may_stand}
+use Rattle.cif_feed.proofs.Names.{one_if, or_none, order_refusal, own_layouts, passed_of, plus_if, progress_of, put_basic_front}
+use Rattle.cif_feed.proofs.Names.{put_basic_rows, read_as, record_lines, record_refusal, refl, refusal_as, refusal_at, refused_behind}
+use Rattle.cif_feed.proofs.Names.{refused_so, schedule_mark, step, subst, sym, take, take-take, taken_behind, tiploc_mark, transaction_as}
+use Rattle.cif_feed.proofs.Names.{transaction_at, true, unless, with_counts, with_line, with_passed, ℕ, ◌&&◌, ◌++◌, ◌+◌, ◌==◌, ◌||◌, ◌∙◌}
+use Rattle.cif_feed.proofs.Names.{◌∷◌, ◌≡◌, ◌≤◌}
 use Rattle.cif_records.proofs.Basics.{detail_read}
 use Rattle.cif_records.proofs.Details.{basic_with, stands_by, stands_with}
-use Rattle.cif_feed.specs.FeedLine.{IsClosedAt, SpellsAssociationBy, SpellsBasicBy, code_of, is_open, put_basic_front, SpellsInFeed}
-use Rattle.cif_feed.specs.FeedLine.{put_basic_rows, transaction_at}
-use Rattle.cif_feed.specs.LayoutRefusals.{association_refusal_by, basic_refusal_by, feed_refusal_as, kind_read_as}
-use Rattle.cif_feed.specs.Steps.FeedLine.{ReadsBasic}
-use Rattle.cif_feed.specs.declared.feed_line.Feed.{Feed}
-use Rattle.cif_feed.specs.declared.holidays.HolidayCodes.{HolidayCodes}
-use Rattle.cif_feed.specs.declared.mark.Transaction.{Transaction}
-use Rattle.cif_feed.specs.declared.mark.Transaction.TheVariants.{New}
-use Rattle.cif_columns.specs.declared.refusal.Refusal.TheVariants.{OutOfOrder}
-use Rattle.cif_extract.specs.FirstRefusal.{order_refusal}
-use Rattle.cif_extract.specs.Layouts.{own_layouts}
-use Rattle.cif_extract.specs.OrderOfRecords.{may_stand}
-use Rattle.cif_extract.specs.Steps.Reading.{IsKeepable, IsTaken, IsTakenAs, Progress, UnlessMemory, step, GoesOnPlainly, progress_of}
-use Rattle.cif_extract.specs.Taken.{refusal_at, HasTaken}
-use Rattle.cif_extract.specs.declared.reading.TakeFault.{TakeFault}
-use Rattle.cif_extract.proofs.FirstRefusals.{or_none, not_true}
+use Rattle.cif_records.proofs.Records.{kind_there}
+use Rattle.cif_records.specs.Checks.{are}
+use Rattle.cif_records.specs.declared.record.Record.TheVariants as of
 use Rattle.cif_extract.proofs.Places.{fine_here}
-use Rattle.cif_extract.proofs.TakenLines.{fine_so, refused_so}
-use Rattle.cif_records.specs.Kind.{kind_in, is_identity, kinds}
-use Rattle.cif_records.specs.Record.{SpellsRecord, record_refusal, refusal_as}
-use Rattle.cif_records.specs.declared.record.Kind.{Kind}
-use Rattle.cif_records.specs.declared.record.Record.{Record}
-use Rattle.cif_records.proofs.Records.{kind_of, kind_there}
-use Rattle.cif_feed.specs.FeedLayouts.{feed_layouts}
-use Rattle.cif_feed.specs.Steps.FeedReading.{IsOwn, IsRecordTaken, read_as, HasTakenFeed, IsFeedTaken, IsNoteTaken, IsStopTaken}
-use Rattle.cif_feed.specs.Steps.FeedReading.{with_passed}
-use Rattle.cif_feed.specs.declared.feed_line.Feed.TheVariants.{Full, Update}
-use Rattle.cif_feed.proofs.FeedLines.{feed_are, kind_there as feed_kind}
-use Rattle.std.proofs.lemmas.Bool.{and_parts}
-use Rattle.std.proofs.lemmas.List.{map-append, take-take}
-use Rattle.std.proofs.lemmas.List.Elements.{filter-append}
-use Rattle.std.proofs.lemmas.List.Folds.{list_any-append}
-use Rattle.std.proofs.lemmas.Slice.Eq.{bytes_eq-Decides}
-use Rattle.std.specs.Prelude.{find}
-use Rattle.std.specs.List.{enumerate_from, list_any}
-use Rattle.cif_columns.specs.Comment.{is_comment}
-use Rattle.cif_extract.proofs.ReadingRuns.{refused_behind, taken_behind}
 use Rattle.cif_extract.specs.Steps.Reading as read
-use Rattle.cif_extract.specs.declared.reading.TakeFault.TheVariants.{Refused, Memory}
-use Rattle.cif_feed.specs.Counts.{counts_of, ends_open, is_deleted, is_new, is_revised, transaction_as}
-use Rattle.cif_feed.specs.Marks.{MarkParts, association_mark, header_from, mark_parts, marks_in, passed_of, schedule_mark, tiploc_mark}
-use Rattle.cif_feed.specs.RecordLines.{is_association, is_basic, is_header, is_note, is_of_tiploc, is_record_line, is_trailer, lines_of}
-use Rattle.cif_feed.specs.RecordLines.{notes_may_stand, record_lines}
-use Rattle.cif_feed.specs.Steps.Marks.{header_behind, one_if, plus_if, with_counts, with_line}
-use Rattle.cif_feed.specs.declared.feed_reading.FeedReading.{FeedReading}
-use Rattle.cif_feed.specs.declared.mark.Passed.{Passed}
+use Rattle.cif_extract.specs.declared.reading.TakeFault.TheVariants.{Memory}
+use Rattle.cif_feed.proofs.FeedLines.{feed_are, kind_there as feed_kind}
 use Rattle.cif_feed.proofs.ListSteps.{enumerate_append}
+use Rattle.cif_feed.specs.Steps.FeedLine.{ReadsBasic}
+use Rattle.cif_feed.specs.declared.feed_line.Feed.TheVariants.{Update}
+use Rattle.cif_feed.specs.declared.mark.Passed.{Passed}
+use Rattle.cif_feed.specs.declared.mark.Transaction.TheVariants.{New}
 
 -- ---- what the readers of AA and BS find, by the transaction
 

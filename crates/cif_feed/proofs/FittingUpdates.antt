@@ -1,32 +1,16 @@
 -- What an update leaves fits the columns of lines, where what was there does.
-use Rattle.std.proofs.Common.{ℕ, Bool, not, List, [], ◌∷◌, Option, Some, None, IfSome, sym, subst}
-use Rattle.std.proofs.lemmas.List.Elements.{All-append, All-cons, All-filter, All-head, All-map, All-nil, All-tail}
-use Rattle.std.specs.Prelude.{All}
-use Rattle.cif_columns.specs.Contents.{contents_of}
-use Rattle.cif_columns.specs.Field.{AllFit}
-use Rattle.cif_extract.specs.Texts.{FitsColumns, ScheduleFits}
-use Rattle.cif_extract.specs.declared.extract.Schedule.{Schedule}
-use Rattle.cif_extract.proofs.BodyFits.{extract_fits}
-use Rattle.cif_records.specs.Association.{association_table}
-use Rattle.cif_records.specs.declared.association.Association.{Association}
-use Rattle.cif_feed.specs.Changes.{AreAfter, ChangeParts, after_all, after_change, changes_of, keyed_record, parts_of, put_of, with_keys}
-use Rattle.cif_feed.specs.Changes.{without_key}
-use Rattle.cif_feed.specs.FromLines.{AreTriples}
-use Rattle.cif_feed.specs.HolidayCode.{all_codes}
-use Rattle.cif_feed.specs.OfProfile.{of_profile}
-use Rattle.cif_feed.specs.PublishedParts.{PublishedParts}
-use Rattle.cif_feed.specs.UpdateParts.{AssociationKey, BytesSpellUpdate, IsAssociationChange, IsScheduleChange, ScheduleKey, UpdateParts}
-use Rattle.cif_feed.specs.UpdateParts.{change_by}
-use Rattle.cif_feed.specs.Updated.{IsUpdated, published_association_key, published_schedule_key}
-use Rattle.cif_feed.specs.declared.changes.Change.{Change}
-use Rattle.cif_feed.specs.declared.feed_line.Feed.TheVariants.{Update}
-use Rattle.cif_feed.specs.declared.mark.RecordMark.{RecordMark}
-use Rattle.cif_feed.specs.declared.mark.Transaction.{Transaction}
-use Rattle.cif_feed.specs.declared.mark.Transaction.TheVariants.{Deleted}
-use Rattle.cif_feed.specs.declared.published_extract.PublishedAssociation.{PublishedAssociation}
-use Rattle.cif_feed.specs.declared.published_extract.PublishedSchedule.{PublishedSchedule}
-use Rattle.cif_feed.proofs.SaidLines.{feed_fits}
+use Rattle.cif_feed.proofs.Names.{All, All-append, All-cons, All-filter, All-head, All-map, All-nil, All-tail, AllFit, AreAfter, AreTriples}
+use Rattle.cif_feed.proofs.Names.{Association, AssociationKey, Bool, BytesSpellUpdate, Change, ChangeParts, FitsColumns, IfSome}
+use Rattle.cif_feed.proofs.Names.{IsAssociationChange, IsScheduleChange, IsUpdated, List, None, Option, PublishedAssociation}
+use Rattle.cif_feed.proofs.Names.{PublishedParts, PublishedSchedule, RecordMark, Schedule, ScheduleFits, ScheduleKey, Some, Transaction}
+use Rattle.cif_feed.proofs.Names.{UpdateParts, [], after_all, after_change, all_codes, association_table, change_by, changes_of}
+use Rattle.cif_feed.proofs.Names.{contents_of, extract_fits, keyed_record, not, of_profile, published_association_key}
+use Rattle.cif_feed.proofs.Names.{published_schedule_key, put_of, subst, sym, with_keys, without_key, ℕ, ◌∷◌}
 use Rattle.cif_feed.proofs.ListSteps.{All-from_map}
+use Rattle.cif_feed.proofs.SaidLines.{feed_fits}
+use Rattle.cif_feed.specs.Changes.{parts_of}
+use Rattle.cif_feed.specs.declared.feed_line.Feed.TheVariants.{Update}
+use Rattle.cif_feed.specs.declared.mark.Transaction.TheVariants.{Deleted}
 
 -- what follows of the third of each three, where P holds of the first
 triples-all : {A B D : Type 0} (Q : A → B → D → Type 0) (P : A → Type 0) (S : D → Type 0)

@@ -1,35 +1,18 @@
 -- Keys and their clash days are found one after another, over positions in the order of the keys.
-use Rattle.std.proofs.Common.{◌≡◌, ◌⊎◌, inl, ⊎_elim, ℕ, ◌<◌}
-use Rattle.std.proofs.Common.{cond, List, [], ◌∷◌, ◌++◌, Option, None, Vec}
-use Rattle.std.proofs.Common.{Global, Contains, map, take, drop, length, get_or, refl, sym, ◌∙◌, ap, ap₂, subst, arith, append_assoc}
-use Rattle.std.proofs.Common.{append-nil, ◌↔◌}
-use Rattle.std.specs.Prelude.{AllPairs}
-use Rattle.std.specs.BTreeMap.{BTreeMap, get}
+use Rattle.cif_feed.proofs.Names.{AllPairs, AnyHasKey, AreClashDates, AreFound, AreOfFirstKey, ArePositionsOf, BTreeMap, Clash, Contains}
+use Rattle.cif_feed.proofs.Names.{Contains-append_left, Contains-first, Contains-get_or, Contains-none, Contains-push, Contains-push_cases}
+use Rattle.cif_feed.proofs.Names.{Contains-rest, DroppedKey, Equal, Global, Greater, IsChosen, IsKeyTold, IsRising, IsTold, IsTotalOrder}
+use Rattle.cif_feed.proofs.Names.{Less, List, None, Option, Ordering, ReadsDates, Records, SameRecords, Terms, Vec, [], all_pairs_push, ap}
+use Rattle.cif_feed.proofs.Names.{append-nil, append_assoc, ap₂, arith, cond, days_in, days_with, drop, get, get_or, has-key, inl, is_eq}
+use Rattle.cif_feed.proofs.Names.{keyed, length, map, map-append, not_less, refl, slice_get_within, subst, sym, take, tied_itself, ℕ}
+use Rattle.cif_feed.proofs.Names.{⊎_elim, ◌++◌, ◌<◌, ◌↔◌, ◌∙◌, ◌∷◌, ◌≡◌, ◌⊎◌}
 use Rattle.std.specs.Map.{lookup}
-use Rattle.std.specs.Cmp.{IsTotalOrder, tied_itself}
-use Rattle.std.specs.Ordering.{is_eq}
-use Rattle.std.specs.declared.cmp.Ordering.{Ordering}
-use Rattle.std.specs.declared.cmp.Ordering.TheVariants.{Less, Equal, Greater}
-use Rattle.std.proofs.lemmas.Option.{slice_get_within}
-use Rattle.std.proofs.lemmas.List.{map-append}
-use Rattle.std.proofs.lemmas.List.Elements.{Contains-append_left, Contains-get_or, Contains-push, Contains-push_cases}
-use Rattle.std.proofs.lemmas.List.Quantifiers.{all_pairs_push}
-use Rattle.cif_calendar.specs.ByKey.{AnyHasKey, AreOfFirstKey, IsRising}
-use Rattle.cif_calendar.specs.ClashDates.{AreClashDates}
-use Rattle.cif_calendar.specs.Keys.{ArePositionsOf, keyed, of_key}
-use Rattle.cif_calendar.specs.Source.{IsChosen}
-use Rattle.cif_calendar.specs.Terms.{Records, SameRecords, Terms}
-use Rattle.cif_calendar.proofs.Elements.{Contains-first, Contains-rest}
-use Rattle.cif_calendar.proofs.KeyPositions.{has-key}
-use Rattle.cif_calendar.proofs.Positions.{positions-records}
-use Rattle.cif_calendar.proofs.KeyTurns.{one-key, decided, first-leads, no-entry, rising-after}
+use Rattle.cif_calendar.proofs.KeyTurns.{decided, first-leads, no-entry, one-key, rising-after}
 use Rattle.cif_calendar.proofs.PassedKeys.{HasPassed, key-or-later, later-less, left-before, passed-more, turn}
-use Rattle.cif_calendar.proofs.RisingLists.{Contains-none, not_less}
+use Rattle.cif_calendar.proofs.Positions.{positions-records}
 use Rattle.cif_calendar.proofs.Sets.{IsClash-same, IsClear-same}
-use Rattle.cif_extract.specs.declared.fault.Clash.{Clash}
+use Rattle.cif_calendar.specs.Keys.{of_key}
 use Rattle.cif_feed.specs.Dropped.{told_as}
-use Rattle.cif_feed.specs.Steps.Dropping.{AreFound, IsKeyTold, IsTold, ReadsDates, days_in, days_with}
-use Rattle.cif_feed.specs.declared.dropped.DroppedKey.{DroppedKey}
 
 -- ---- the clash days of sets of records
 

@@ -1,13 +1,8 @@
 -- Holidays that grow by one code, and dates by one day.
-use Rattle.std.proofs.Common.{◌≡◌, ◌⊎◌, inl, inr, ⊎_elim, ◌↔◌, ℕ, List, ◌∷◌, refl, sym, subst, Contains, IsTrue}
-use Rattle.std.specs.List.{insert}
-use Rattle.std.proofs.lemmas.List.Sorted.{Contains-permutation, IsPermutation-insert, IsPermutation-sym}
-use Rattle.cif_calendar.proofs.Elements.{Contains-cases, Contains-first, Contains-rest}
-use Rattle.cif_feed.specs.Holidays.{HasMore, IsHoliday, Names, dates_of}
-use Rattle.cif_feed.specs.declared.holidays.HolidayCode.{HolidayCode}
-use Rattle.cif_feed.specs.declared.holidays.HolidayCode.TheVariants.{X, E, G}
+use Rattle.cif_feed.proofs.Names.{Contains, Contains-cases, Contains-first, Contains-permutation, Contains-rest, E, G, HasMore, HolidayCode}
+use Rattle.cif_feed.proofs.Names.{Holidays, IsHoliday, IsPermutation-insert, IsPermutation-sym, IsTrue, List, Names, X, dates_of, inl, inr}
+use Rattle.cif_feed.proofs.Names.{insert, refl, subst, sym, ℕ, ⊎_elim, ◌↔◌, ◌∷◌, ◌≡◌, ◌⊎◌}
 use Rattle.cif_feed.specs.declared.holidays.HolidayDates.{HolidayDates}
-use Rattle.cif_feed.specs.declared.holidays.Holidays.{Holidays}
 
 -- dates with one more among them
 pub dates-inserted : (xs ys : List ℕ) (i day : ℕ) → ys ≡ insert xs i day → (d : ℕ) → Contains ys d ↔ (Contains xs d ⊎ (d ≡ day))

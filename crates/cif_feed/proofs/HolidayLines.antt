@@ -1,51 +1,29 @@
 -- The lines of holidays, word by word, and how they are read.
-use Rattle.std.proofs.Common.{◌≡◌, ℕ, ◌+◌, ◌<◌, ◌≤◌, ◌==◌, Bool, true, cond, nat_lt, List, [], ◌∷◌, length, get_or, take, drop, refl, Some}
-use Rattle.std.proofs.Common.{None, sym, ap, ◌∙◌, arith, ⊎_elim, subst, not, length-drop, ◌⊎◌, inl, inr, ◌↔◌, ◌++◌, Result, Ok, Err, IfErr}
-use Rattle.std.proofs.Common.{IfOk, All, Contains, append-nil, slice_get, false, Option, IfSome, length-append}
-use Rattle.std.specs.List.{before_first, after_first, position_or_len}
-use Rattle.std.specs.Prelude.{filter}
-use Rattle.std.proofs.lemmas.Bool.{cases_lt, eqb-true, false_from_ne_true}
-use Rattle.std.proofs.lemmas.Bool.Decides.{nat_tests}
-use Rattle.std.proofs.Math.ListN.{drop_of_length-le}
-use Rattle.std.proofs.lemmas.List.{at_drop_more, get_or-drop, nil_from_length, take_all}
-use Rattle.std.proofs.lemmas.List.Folds.{length-prefix_len}
+use Rattle.cif_feed.proofs.Names.{All, All-contains, AreCodeAndDates, AreHolidaysOf, AreRead, AreWholeContentsAndRest, Bool, Contains}
+use Rattle.cif_feed.proofs.Names.{Contains-append_left, Contains-append_right, Contains-first, Contains-push, Contains-push_cases}
+use Rattle.cif_feed.proofs.Names.{ContentReader, DecideNoContent, E, Err, G, GivenDecideContent, HasGiven, HasLineMore, HasMore, HasReadOn}
+use Rattle.cif_feed.proofs.Names.{HolidayCode, Holidays, IfErr, IfOk, IfSome, IsBadLine, IsDate, IsDateFault, IsFirstBadLine, IsHoliday}
+use Rattle.cif_feed.proofs.Names.{IsHolidayFault, IsHolidayLine, IsLineFault, IsNextOf, IsResultOf, LineFault, LineNames, LineSays, List}
+use Rattle.cif_feed.proofs.Names.{Names, NamesDay, None, Ok, Option, Result, Some, SomeLine, Source, SpellHolidays, StandsInYymmdd, Unread}
+use Rattle.cif_feed.proofs.Names.{X, [], after_first, answers, ap, append-nil, arith, at_drop_more, at_limits, before_first, cases_lt, cond}
+use Rattle.cif_feed.proofs.Names.{content, content_first, contents_given, contents_of, drop, drop_of_length-le, eqb-true, failed_after}
+use Rattle.cif_feed.proofs.Names.{fails_before_first, false, false_from_ne_true, filter, get_or, get_or-drop, given_all, given_more}
+use Rattle.cif_feed.proofs.Names.{given_within, held, inl, inr, is_space, known_both, known_cut, known_decided, known_next, known_so}
+use Rattle.cif_feed.proofs.Names.{length, length-append, length-drop, length-prefix_len, nat_lt, nat_tests, nil_from_length, not, of_any}
+use Rattle.cif_feed.proofs.Names.{one_more, overlong_content, passes_at_first, position_or_len, position_or_len_is, read_on_both, reader_of}
+use Rattle.cif_feed.proofs.Names.{reading_holidays, refl, refuses, same_Some, slice_get, some_content, source_ended, subst, sym, take}
+use Rattle.cif_feed.proofs.Names.{take_all, true, words_in, words_of, yymmdd_in-stands, ℕ, ⊎_elim, ◌++◌, ◌+◌, ◌<◌, ◌==◌, ◌↔◌, ◌∙◌, ◌∷◌, ◌≡◌}
+use Rattle.cif_feed.proofs.Names.{◌≤◌, ◌⊎◌}
 use Rattle.std.proofs.lemmas.List.Splits.{slice_split_first, slice_split_none}
-use Rattle.std.proofs.lemmas.List.Sums.{fails_before_first, passes_at_first, position_or_len_is}
-use Rattle.cif_feed.specs.Words.{is_space, words_in}
 use Rattle.memchr.specs.Find.{IsFirstByte, is_byte}
-use Rattle.std.proofs.lemmas.List.Elements.{All-contains, Contains-append_left, Contains-append_right, Contains-push, Contains-push_cases}
-use Rattle.std.proofs.lemmas.Option.{same_Some}
-use Rattle.cif_calendar.proofs.Elements.{Contains-first}
-use Rattle.cif_columns.proofs.DayColumns.{yymmdd_in-stands}
-use Rattle.cif_columns.specs.Day.{StandsInYymmdd}
-use Rattle.cif_feed.specs.HolidayCode.{letter}
-use Rattle.cif_feed.specs.HolidayText.{AreCodeAndDates, IsDate, IsHolidayLine, LineNames, NamesDay, words_of, AreHolidaysOf, AreRead}
-use Rattle.cif_feed.specs.HolidayText.{IsBadLine, IsFirstBadLine, IsHolidayFault, LineSays, SomeLine, SpellHolidays, of_line_fault}
-use Rattle.cif_feed.specs.HolidayText.{reading_holidays}
-use Rattle.cif_feed.specs.Holidays.{HasMore, IsHoliday, Names}
-use Rattle.cif_feed.specs.Steps.HolidayReading.{HasLineMore, IsDateFault, IsLineFault}
-use Rattle.cif_feed.specs.declared.holidays.HolidayCode.{HolidayCode}
-use Rattle.cif_feed.specs.declared.holidays.HolidayCode.TheVariants.{X, E, G}
-use Rattle.cif_feed.specs.declared.holiday_text.HolidayFault.{HolidayFault}
-use Rattle.cif_feed.specs.declared.holiday_text.HolidayFault.TheVariants.{BadHoliday, Read, Memory}
-use Rattle.cif_feed.specs.declared.holidays.Holidays.{Holidays}
-use Rattle.cif_columns.specs.ContentReader.{IsNextOf, content, given, held, left}
-use Rattle.cif_columns.specs.Contents.{DecideNoContent, contents_of}
-use Rattle.cif_columns.specs.GivenLines.{AreWholeContentsAndRest}
-use Rattle.cif_columns.specs.LineReader.{GivenDecideContent}
-use Rattle.cif_columns.specs.Source.{HasReadOn, Unread, reader_of, source_ended}
-use Rattle.cif_columns.specs.declared.ahead.NextContent.TheVariants.{Content, Overlong, End}
-use Rattle.cif_columns.specs.declared.ahead.ContentReader.{ContentReader}
-use Rattle.cif_columns.specs.declared.refusal.LineFault.{LineFault}
+use Rattle.cif_columns.specs.ContentReader.{given, left}
+use Rattle.cif_columns.specs.declared.ahead.NextContent.TheVariants.{Content, End, Overlong}
 use Rattle.cif_columns.specs.declared.refusal.LineFault.TheVariants as line_fault
-use Rattle.cif_columns.specs.declared.source.Source.{Source}
-use Rattle.cif_columns.proofs.ContentRuns.{HasGiven, at_limits, given_all, given_more, given_within}
-use Rattle.cif_columns.proofs.FirstContents.{content_first, overlong_content, some_content}
-use Rattle.cif_columns.proofs.GivenLinesLaws.{contents_given, known_both, known_cut, known_decided, known_next, known_so, one_more}
-use Rattle.cif_columns.proofs.ReadSources.{failed_after, read_on_both}
-use Rattle.cif_extract.specs.ReadCall.{IsResultOf}
-use Rattle.cif_extract.proofs.ReadCalls.{answers, of_any, refuses}
 use Rattle.cif_feed.proofs.ListSteps.{iff-by}
+use Rattle.cif_feed.specs.HolidayCode.{letter}
+use Rattle.cif_feed.specs.HolidayText.{of_line_fault}
+use Rattle.cif_feed.specs.declared.holiday_text.HolidayFault.{HolidayFault}
+use Rattle.cif_feed.specs.declared.holiday_text.HolidayFault.TheVariants.{BadHoliday, Memory, Read}
 
 -- ---- words
 

@@ -1,56 +1,28 @@
 -- What the judged contents so far have come to, and how their judging ends.
-use Rattle.std.proofs.Common.{◌≡◌, ◌≢◌, ◌⊎◌, ℕ, ◌+◌, ◌<◌, ◌≤◌, Bool, true, false, cond, nat_eq, nat_lt, List, [], ◌∷◌, ◌++◌, ◌||◌}
-use Rattle.std.proofs.Common.{length, take, Option, Some, None, IfErr, IfOk, IfSome, IsSomeAnd, Result, Ok, Err, refl, sym, ap, ◌∙◌, subst}
-use Rattle.std.proofs.Common.{arith, get_or, length-append, true≢false, ⊎_elim}
-use Rattle.std.proofs.lemmas.Bool.Decides.{nat_tests}
-use Rattle.std.proofs.lemmas.List.Elements.{All-contains, All-head, All-map, All-tail}
-use Rattle.std.proofs.lemmas.List.{get_or_default}
-use Rattle.std.specs.List.{list_all, list_any}
-use Rattle.std.specs.Prelude.{All, Contains, MatchResult}
-use Rattle.std.specs.Str.Lines.{lines_of_parts, strip_carriage_return}
-use Rattle.cif_columns.specs.ContentReader.{IsNextOf}
-use Rattle.cif_columns.specs.Contents.{contents_of}
-use Rattle.cif_columns.specs.FirstLine.{is_printable, line_of}
+use Rattle.cif_feed.proofs.Names.{All, All-contains, All-head, All-map, All-tail, AreAll, AreJudgedAndRest, Bool, BytesSpellWithin}
+use Rattle.cif_feed.proofs.Names.{Contains, ContentReader, Err, ExtractParts, HasGiven, HasJudged, HasReadOn, HaveReasons, IfErr, IfOk}
+use Rattle.cif_feed.proofs.Names.{IfSome, IsFinished, IsInOrder, IsJudgedAs, IsJudgedFault, IsJudgedWhole, IsLine, IsLineNumber, IsNextOf}
+use Rattle.cif_feed.proofs.Names.{IsOutOfPlace, IsReadAsJudged, IsReadWhole, IsRefusedLine, IsResultOf, IsSomeAnd, IsTruncated, LineFault}
+use Rattle.cif_feed.proofs.Names.{List, MatchResult, None, NoneHasReason, Ok, Option, Reasons, Refusal, Result, Some, SomeHasReason, Source}
+use Rattle.cif_feed.proofs.Names.{SpellExtract, TellReasons, Unread, [], answers, ap, arith, cond, contents_of, extract_parts, failed_after}
+use Rattle.cif_feed.proofs.Names.{false, first_of, get_or, get_or_default, given_failed, given_too_many, is_printable, judged_all, judging}
+use Rattle.cif_feed.proofs.Names.{kind_in, known_so, length, length-append, line_of, lines_of_parts, list_all, list_any, nat_eq, nat_lt}
+use Rattle.cif_feed.proofs.Names.{nat_tests, of_any, one_spelled, order_refusal, own_reason, place_behind, read_on_both, reader_of}
+use Rattle.cif_feed.proofs.Names.{reasons_of, record_refusal, refl, refusal_of, refuses, source_ended, source_failed, spelled-refused}
+use Rattle.cif_feed.proofs.Names.{strip_carriage_return, stripped_long, subst, sym, take, true, true≢false, unless, unread_of, ℕ, ⊎_elim}
+use Rattle.cif_feed.proofs.Names.{◌++◌, ◌+◌, ◌<◌, ◌||◌, ◌∙◌, ◌∷◌, ◌≡◌, ◌≢◌, ◌≤◌, ◌⊎◌}
 use Rattle.cif_columns.specs.JudgedContents.{IsGiven, MayGoOn, has_overlong, is_overlong, judged_contents, parts_of}
-use Rattle.cif_columns.specs.Line.{IsLine}
-use Rattle.cif_columns.specs.Source.{HasReadOn, Unread, reader_of, source_ended, source_failed, unread_of}
-use Rattle.cif_columns.specs.declared.ahead.ContentReader.{ContentReader}
-use Rattle.cif_columns.specs.declared.refusal.LineFault.{LineFault}
 use Rattle.cif_columns.specs.declared.refusal.LineFault.TheVariants as line_fault
-use Rattle.cif_columns.specs.declared.refusal.Refusal.{Refusal}
 use Rattle.cif_columns.specs.declared.refusal.Refusal.TheVariants as refusal
-use Rattle.cif_columns.specs.declared.source.Source.{Source}
-use Rattle.cif_columns.proofs.ContentRuns.{HasGiven}
-use Rattle.cif_columns.proofs.FirstContents.{stripped_long}
-use Rattle.cif_columns.proofs.GivenLinesLaws.{known_so}
-use Rattle.cif_columns.proofs.JudgedContents.{AreAll, AreJudgedAndRest, given_failed, given_too_many, judged_all}
-use Rattle.cif_columns.proofs.ReadSources.{failed_after, read_on_both}
-use Rattle.cif_extract.specs.ExtractParts.{ExtractParts, extract_parts}
+use Rattle.cif_extract.proofs.OrderLaws.{spelled_fine}
 use Rattle.cif_extract.specs.Fault.{of_line_fault}
-use Rattle.cif_extract.specs.FirstRefusal.{IsRefusedLine, IsTruncated, order_refusal, refusal_of}
-use Rattle.cif_extract.specs.OrderOfRecords.{place_behind}
-use Rattle.cif_extract.specs.ReadCall.{IsReadWhole, IsResultOf}
-use Rattle.cif_extract.specs.ReadFault.{IsLineNumber}
-use Rattle.cif_extract.specs.SpellsExtract.{BytesSpellWithin, SpellExtract}
 use Rattle.cif_extract.specs.declared.fault.Fault.{Fault}
 use Rattle.cif_extract.specs.declared.fault.Fault.TheVariants as fault
-use Rattle.cif_extract.proofs.OrderLaws.{spelled_fine}
-use Rattle.cif_extract.proofs.ReadCalls.{answers, of_any, refuses}
-use Rattle.cif_extract.proofs.SpelledBytes.{one_spelled, spelled-refused}
-use Rattle.cif_records.specs.Checks.{first_of, unless}
-use Rattle.cif_records.specs.Kind.{kind_in}
-use Rattle.cif_records.specs.Record.{record_refusal}
-use Rattle.cif_feed.specs.Judged.{HaveReasons, IsJudgedAs, IsJudgedFault, IsJudgedWhole, IsOutOfPlace, IsReadAsJudged}
-use Rattle.cif_feed.specs.Judged.{NoneHasReason}
-use Rattle.cif_feed.specs.Judged.{judging}
-use Rattle.cif_feed.specs.Reasons.{TellReasons, own_reason, reasons_of}
-use Rattle.cif_feed.specs.Steps.Judging.{HasJudged, IsFinished, IsInOrder, SomeHasReason}
-use Rattle.cif_feed.specs.declared.judged.Judging.{Judging}
-use Rattle.cif_feed.specs.declared.judged.Order.{Order}
+use Rattle.cif_feed.proofs.ToldReasons.{judged_line, own_none, own_of_line, reasons_of_more, refused_number, tell_nothing}
 use Rattle.cif_feed.specs.declared.judged.Judged.{Judged}
 use Rattle.cif_feed.specs.declared.judged.Judged.TheVariants as judged
-use Rattle.cif_feed.specs.declared.reasons.Reasons.{Reasons}
-use Rattle.cif_feed.proofs.ToldReasons.{judged_line, own_none, own_of_line, reasons_of_more, refused_number, tell_nothing}
+use Rattle.cif_feed.specs.declared.judged.Judging.{Judging}
+use Rattle.cif_feed.specs.declared.judged.Order.{Order}
 
 -- ---- contents that spell an extract
 

@@ -26,3 +26,4 @@ pub mod PreparedRuns
 pub mod ClashingKeys
 pub mod FeedSteps
 pub mod WrittenPrepared
+pub mod Names

@@ -1,11 +1,7 @@
 -- Elements of lists: those that are mapped, numbered, or filtered, and those of two and of three lists, one by one.
-use Rattle.std.proofs.Common.{◌≡◌, ◌≢◌, ◌↔◌, ◌∙◌, ℕ, ◌+◌, Bool, true, false, cond, ⊎_elim, List, [], ◌∷◌, ◌++◌, Contains, ap, arith, filter}
-use Rattle.std.proofs.Common.{◌<◌, All, length, map, refl, subst, suc, sym}
-use Rattle.std.specs.List.{enumerate_from}
-use Rattle.std.proofs.lemmas.List.{get_or-map, length-map}
-use Rattle.cif_calendar.proofs.Elements.{Contains-cases, Contains-first, Contains-rest}
-use Rattle.cif_calendar.proofs.RisingLists.{Contains-none}
-use Rattle.cif_feed.specs.FromLines.{ArePairs, AreTriples}
+use Rattle.cif_feed.proofs.Names.{All, ArePairs, AreTriples, Bool, Contains, Contains-cases, Contains-first, Contains-none, Contains-rest}
+use Rattle.cif_feed.proofs.Names.{List, [], ap, arith, cond, enumerate_from, false, filter, get_or-map, length, length-map, map, refl}
+use Rattle.cif_feed.proofs.Names.{subst, suc, sym, true, ℕ, ⊎_elim, ◌++◌, ◌+◌, ◌<◌, ◌↔◌, ◌∙◌, ◌∷◌, ◌≡◌, ◌≢◌}
 
 module _ {A B : Type 0} (f : A → B) where
   pub Contains-map : (xs : List A) (x : A) → Contains xs x → Contains (map f xs) (f x)

@@ -1,25 +1,12 @@
 -- An extract of this profile is its own prepared extract, and has no other.
-use Rattle.std.proofs.Common.{◌≡◌, ◌↔◌, ℕ, ◌+◌, ◌<◌, ◌≤◌, false, List, [], ◌∷◌}
-use Rattle.std.proofs.Common.{◌++◌, map, Option, None, refl, sym, ap, ◌∙◌, subst, ⊎_elim, arith}
-use Rattle.cif_calendar.specs.Entries.{association_entries, association_entry, schedule_entries, schedule_entry}
-use Rattle.cif_calendar.specs.Terms.{Terms}
-use Rattle.cif_extract.specs.Body.{BodyLines}
-use Rattle.cif_extract.specs.ExtractParts.{ExtractParts}
-use Rattle.cif_extract.specs.declared.extract.Schedule.{Schedule}
-use Rattle.cif_extract.proofs.OneExtract.{same_extract_parts, same_values}
-use Rattle.cif_extract.proofs.Schedules.{same_schedule}
-use Rattle.cif_records.specs.declared.association.AssocBody.{AssocBody}
-use Rattle.cif_records.specs.declared.association.AssocKey.{AssocKey}
-use Rattle.cif_records.specs.declared.association.Association.{Association}
+use Rattle.cif_feed.proofs.Names.{AreParts, ArePrepared, AssocBody, AssocKey, Association, BodyLines, ExtractParts, HolidayCode, Holidays}
+use Rattle.cif_feed.proofs.Names.{IsPart, IsPrepared, IsStop, List, None, Option, Part, PublishedTerms, Schedule, Terms, [], ap, arith}
+use Rattle.cif_feed.proofs.Names.{as_published, association_as_published, association_entries, association_entry, false, map, part_terms}
+use Rattle.cif_feed.proofs.Names.{published_associations, published_schedules, published_terms, refl, same_extract_parts, same_values}
+use Rattle.cif_feed.proofs.Names.{schedule_as_published, schedule_entries, schedule_entry, subst, sym, ℕ, ⊎_elim, ◌++◌, ◌+◌, ◌<◌, ◌↔◌, ◌∙◌}
+use Rattle.cif_feed.proofs.Names.{◌∷◌, ◌≡◌, ◌≤◌}
 use Rattle.cif_records.proofs.Associations.{same_association}
-use Rattle.cif_feed.specs.OfProfile.{as_published, association_as_published, schedule_as_published}
-use Rattle.cif_feed.specs.Parts.{AreParts, IsPart, Part}
-use Rattle.cif_feed.specs.Prepared.{ArePrepared, part_terms, published_terms}
-use Rattle.cif_feed.specs.PreparedParts.{IsPrepared}
-use Rattle.cif_feed.specs.Published.{IsStop, PublishedTerms}
-use Rattle.cif_feed.specs.PublishedParts.{published_associations, published_schedules}
-use Rattle.cif_feed.specs.declared.holidays.HolidayCode.{HolidayCode}
-use Rattle.cif_feed.specs.declared.holidays.Holidays.{Holidays}
+use Rattle.cif_extract.proofs.Schedules.{same_schedule}
 use Rattle.cif_feed.proofs.PartLists.{parts-whole}
 
 -- ---- the one part of a record without a code

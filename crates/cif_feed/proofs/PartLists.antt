@@ -1,22 +1,12 @@
 -- The parts of a record, one cut after another, among days that don't fall.
-use Rattle.std.proofs.Common.{◌≡◌, ℕ, ◌+◌, ◌-◌, ◌<◌, ◌≤◌, Bool, List, length, get_or, drop, None, Some, sym, ap, ◌∙◌, subst, arith}
-use Rattle.std.proofs.Common.{Contains, ◌⊎◌, ⊎_elim, length-drop, inl, inr, [], ◌∷◌, ◌++◌, ◌↔◌, refl, true, false, cond, nat_lt, append-nil}
-use Rattle.std.proofs.Common.{ltb-true, ltb-false, map, append_assoc}
-use Rattle.std.proofs.lemmas.Bool.{cases_lt}
-use Rattle.std.proofs.lemmas.List.{get_or-drop, get_or_default, map-append}
-use Rattle.std.specs.List.Sorted.{IsNonDecreasing}
-use Rattle.cif_columns.specs.Day.{weekday_of}
-use Rattle.cif_columns.specs.DaysRun.{RunsOn}
-use Rattle.cif_feed.specs.HolidayDates.{IsFirstFrom, IsDateOnDaysRun}
-use Rattle.std.proofs.lemmas.List.Elements.{All-contains, All-push, All-weaker, Contains-append_left, Contains-push}
-use Rattle.std.proofs.lemmas.List.Quantifiers.{all_pairs_push}
-use Rattle.cif_calendar.specs.Terms.{Terms}
-use Rattle.cif_feed.specs.Parts.{AreParts, IsBefore, IsCut, IsPart, Part}
-use Rattle.cif_feed.specs.Steps.PartsSoFar.{ArePartsBefore, MayBegin, before_cut, AreAdded, IsAdded, IsLeftFrom, IsPushed, added_before}
-use Rattle.cif_feed.specs.Steps.PartsSoFar.{records_on}
-use Rattle.cif_feed.specs.Prepared.{part_entry}
+use Rattle.cif_feed.proofs.Names.{All-contains, All-push, All-weaker, AreAdded, AreParts, ArePartsBefore, Bool, Contains}
+use Rattle.cif_feed.proofs.Names.{Contains-append_left, Contains-push, IsAdded, IsBefore, IsCut, IsDateOnDaysRun, IsFirstFrom, IsLeftFrom}
+use Rattle.cif_feed.proofs.Names.{IsNonDecreasing, IsPart, IsPushed, List, MayBegin, None, Part, PreparedRecord, RunsOn, Some, Terms, []}
+use Rattle.cif_feed.proofs.Names.{added_before, all_pairs_push, ap, append-nil, append_assoc, arith, before_cut, cases_lt, cond, drop}
+use Rattle.cif_feed.proofs.Names.{false, get_or, get_or-drop, get_or_default, inl, inr, length, length-drop, ltb-false, ltb-true, map}
+use Rattle.cif_feed.proofs.Names.{map-append, nat_lt, part_entry, records_on, refl, subst, sym, true, weekday_of, ℕ, ⊎_elim, ◌++◌, ◌+◌, ◌-◌}
+use Rattle.cif_feed.proofs.Names.{◌<◌, ◌↔◌, ◌∙◌, ◌∷◌, ◌≡◌, ◌≤◌, ◌⊎◌}
 use Rattle.cif_feed.specs.PreparedRecord.{terms_on}
-use Rattle.cif_feed.specs.declared.parts.PreparedRecord.{PreparedRecord}
 
 -- ---- the first of the dates from a day on
 

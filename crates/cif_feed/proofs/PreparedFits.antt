@@ -1,33 +1,11 @@
 -- What a prepared extract says fits the columns of lines, where the published one does.
-use Rattle.std.proofs.Common.{ℕ, ◌+◌, max, Bool, IfSome, Option, List, [], ◌∷◌, map, refl, sym, subst, arith}
-use Rattle.std.proofs.lemmas.Bool.{cond_both}
-use Rattle.std.proofs.lemmas.List.Elements.{All-append, All-head, All-map, All-nil, All-tail, All-weaker}
-use Rattle.std.specs.Option.{option_map}
-use Rattle.std.specs.Prelude.{All}
-use Rattle.cif_columns.specs.Day.{IsDay}
-use Rattle.cif_columns.specs.Field.{AllFit}
-use Rattle.cif_calendar.specs.Entries.{association_entries, association_entry, schedule_entries, schedule_entry}
-use Rattle.cif_calendar.specs.Terms.{Terms}
-use Rattle.cif_extract.specs.Body.{BodyLines, IsBody, detail_of}
-use Rattle.cif_extract.specs.ExtractParts.{ExtractParts}
-use Rattle.cif_extract.specs.Texts.{FitsColumns, ScheduleFits}
-use Rattle.cif_extract.proofs.BodyFits.{extract_fits}
-use Rattle.cif_records.specs.Association.{association_rows}
-use Rattle.cif_records.specs.Basic.{basic_rows}
-use Rattle.cif_records.specs.declared.association.AssocBody.{AssocBody}
-use Rattle.cif_records.specs.declared.association.AssocKey.{AssocKey}
-use Rattle.cif_records.proofs.Headers.{last_is_day}
-use Rattle.cif_feed.specs.OfProfile.{of_profile}
-use Rattle.cif_feed.specs.Parts.{IsPart, Part, ended}
-use Rattle.cif_feed.specs.Prepared.{ArePrepared, part_terms, prepared_last}
-use Rattle.cif_feed.specs.PreparedParts.{IsPrepared}
-use Rattle.cif_feed.specs.Published.{IsStop, PublishedTerms}
-use Rattle.cif_feed.specs.PublishedParts.{PublishedParts, published_association_terms, published_associations, published_schedule_terms}
-use Rattle.cif_feed.specs.PublishedParts.{published_schedules}
-use Rattle.cif_feed.specs.declared.holidays.HolidayCode.{HolidayCode}
-use Rattle.cif_feed.specs.declared.holidays.Holidays.{Holidays}
-use Rattle.cif_feed.specs.declared.published_extract.PublishedAssociation.{PublishedAssociation}
-use Rattle.cif_feed.specs.declared.published_extract.PublishedSchedule.{PublishedSchedule}
+use Rattle.cif_feed.proofs.Names.{All, All-append, All-head, All-map, All-nil, All-tail, All-weaker, AllFit, ArePrepared, AssocBody}
+use Rattle.cif_feed.proofs.Names.{AssocKey, BodyLines, Bool, ExtractParts, FitsColumns, HolidayCode, Holidays, IfSome, IsBody, IsDay}
+use Rattle.cif_feed.proofs.Names.{IsPart, IsPrepared, IsStop, List, Option, Part, PublishedAssociation, PublishedParts, PublishedSchedule}
+use Rattle.cif_feed.proofs.Names.{PublishedTerms, ScheduleFits, Terms, [], arith, association_entries, association_entry, association_rows}
+use Rattle.cif_feed.proofs.Names.{basic_rows, cond_both, detail_of, ended, extract_fits, last_is_day, map, max, of_profile, option_map}
+use Rattle.cif_feed.proofs.Names.{part_terms, prepared_last, published_association_terms, published_associations, published_schedule_terms}
+use Rattle.cif_feed.proofs.Names.{published_schedules, refl, schedule_entries, schedule_entry, subst, sym, ℕ, ◌+◌, ◌∷◌}
 use Rattle.cif_feed.proofs.FittingUpdates.{AssociationFits}
 use Rattle.cif_feed.proofs.ListSteps.{All-from_map}
 

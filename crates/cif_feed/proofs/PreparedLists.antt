@@ -1,27 +1,10 @@
 -- The prepared records of one published record more, and of all where the same days stop them.
-use Rattle.std.proofs.Common.{◌≡◌, ◌↔◌, ◌⊎◌, inl, inr, ⊎_elim, ℕ, ◌+◌, ◌<◌}
-use Rattle.std.proofs.Common.{List, [], ◌∷◌, ◌++◌, Option, None, Some, Contains, map, take}
-use Rattle.std.proofs.Common.{length, get_or, refl, sym, ap, ◌∙◌, subst, append_assoc, append-nil, arith}
-use Rattle.std.proofs.lemmas.List.{map-append, take_more}
-use Rattle.std.proofs.lemmas.Simd.{map-map}
-use Rattle.cif_calendar.specs.Entries.{association_entries, association_entry, association_terms, schedule_entries, schedule_entry}
-use Rattle.cif_calendar.specs.Entries.{schedule_terms}
-use Rattle.cif_calendar.specs.Terms.{Terms}
-use Rattle.cif_extract.specs.Body.{BodyLines}
-use Rattle.cif_extract.specs.declared.extract.Schedule.{Schedule}
-use Rattle.cif_records.specs.declared.association.AssocBody.{AssocBody}
-use Rattle.cif_records.specs.declared.association.AssocKey.{AssocKey}
-use Rattle.cif_records.specs.declared.association.Association.{Association}
-use Rattle.cif_feed.specs.Holidays.{holidays_of}
-use Rattle.cif_feed.specs.Parts.{AreParts, Part, ended}
-use Rattle.cif_feed.specs.Prepared.{ArePartsOf, ArePrepared, part_entry, prepared_last}
-use Rattle.cif_feed.specs.PreparedParts.{association_on, schedule_on}
-use Rattle.cif_feed.specs.Published.{IsHolidayOf, PublishedTerms}
-use Rattle.cif_feed.specs.Steps.Dropping.{IsStopAmong}
-use Rattle.cif_feed.specs.Steps.PartsSoFar.{AreAdded, records_on}
-use Rattle.cif_feed.specs.declared.holidays.HolidayCode.{HolidayCode}
-use Rattle.cif_feed.specs.declared.holidays.Holidays.{Holidays}
-use Rattle.cif_feed.specs.declared.parts.PreparedRecord.{PreparedRecord}
+use Rattle.cif_feed.proofs.Names.{AreAdded, AreParts, ArePartsOf, ArePrepared, AssocBody, AssocKey, Association, BodyLines, Contains}
+use Rattle.cif_feed.proofs.Names.{HolidayCode, Holidays, IsHolidayOf, IsStopAmong, List, None, Option, Part, PreparedRecord, PublishedTerms}
+use Rattle.cif_feed.proofs.Names.{Schedule, Some, Terms, [], ap, append-nil, append_assoc, arith, association_entries, association_entry}
+use Rattle.cif_feed.proofs.Names.{association_on, association_terms, ended, get_or, holidays_of, inl, inr, length, map, map-append, map-map}
+use Rattle.cif_feed.proofs.Names.{part_entry, prepared_last, records_on, refl, schedule_entries, schedule_entry, schedule_on}
+use Rattle.cif_feed.proofs.Names.{schedule_terms, subst, sym, take, take_more, ℕ, ⊎_elim, ◌++◌, ◌+◌, ◌<◌, ◌↔◌, ◌∙◌, ◌∷◌, ◌≡◌, ◌⊎◌}
 use Rattle.cif_feed.proofs.PartLists.{parts-same}
 
 -- the prepared records as those of an extract

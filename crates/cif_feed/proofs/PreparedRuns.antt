@@ -1,36 +1,16 @@
 -- What runs by the prepared records is what runs by the published ones.
-use Rattle.std.proofs.Common.{◌≡◌, ⊎_elim, ◌↔◌, ℕ, ◌≤◌, ◌<◌, Bool, true, false, List, [], ◌∷◌, map, max, Option, Some, None, cond, refl}
-use Rattle.std.proofs.Common.{sym, ap, ◌∙◌, subst, arith, get_or, Contains, IsTrue, ◌⊎◌, inl, inr, ◌+◌}
-use Rattle.std.proofs.lemmas.List.Elements.{All-contains, All-map, Contains-append_cases, Contains-append_left, Contains-append_right}
-use Rattle.cif_calendar.proofs.Elements.{Contains-cases, Contains-first, Contains-rest}
-use Rattle.cif_calendar.specs.Applies.{Applies}
-use Rattle.cif_calendar.specs.Clash.{IsClear, IsClash}
-use Rattle.cif_calendar.specs.Keys.{of_key}
-use Rattle.cif_calendar.specs.Runs.{Runs}
-use Rattle.cif_calendar.specs.Terms.{Records, Terms}
-use Rattle.cif_calendar.specs.Wins.{Wins}
+use Rattle.cif_feed.proofs.Names.{All-contains, All-map, Applies, AreClashDates, AreClashDays, AreClosed, AreDropped, AreParts, ArePrepared}
+use Rattle.cif_feed.proofs.Names.{Bool, Contains, Contains-append_cases, Contains-append_left, Contains-append_right, Contains-cases}
+use Rattle.cif_feed.proofs.Names.{Contains-first, Contains-none, Contains-rest, CountOn, Dropped, ExtractParts, HolidayCode, Holidays}
+use Rattle.cif_feed.proofs.Names.{IsClash, IsClashDay, IsClear, IsHolidayOf, IsPart, IsPreparedAs, IsStop, IsStopAmong, IsTrue, List, None}
+use Rattle.cif_feed.proofs.Names.{Option, Part, PublishedAssociation, PublishedParts, PublishedSchedule, PublishedTerms, Records, Runs}
+use Rattle.cif_feed.proofs.Names.{SayAsPublished, SayOfDay, SayTheSame, Some, Terms, WinAlso, Wins, [], ap, arith, association_entries}
+use Rattle.cif_feed.proofs.Names.{cases_lt, cond, ended, false, false≢true, get_or, inl, inr, last_day, last_is_day, map, max, part_terms}
+use Rattle.cif_feed.proofs.Names.{prepared_last, published_associations, published_schedules, refl, schedule_entries, subst, sym, true, ℕ}
+use Rattle.cif_feed.proofs.Names.{⊎_elim, ◌+◌, ◌<◌, ◌↔◌, ◌∙◌, ◌∷◌, ◌≡◌, ◌≤◌, ◌⊎◌}
 use Rattle.cif_columns.specs.Stp.{letter}
-use Rattle.cif_feed.specs.Parts.{AreParts, IsPart, Part, ended}
-use Rattle.cif_feed.specs.LastDay.{last_day}
-use Rattle.cif_feed.specs.Prepared.{AreClosed, ArePrepared, SayTheSame, part_terms, prepared_last, WinAlso}
-use Rattle.cif_feed.specs.Published.{CountOn, IsHolidayOf, PublishedTerms, IsClashDay, IsStop}
-use Rattle.cif_feed.specs.PublishedParts.{published_associations, published_schedules, PublishedParts}
-use Rattle.cif_feed.specs.declared.holidays.HolidayCode.{HolidayCode}
-use Rattle.cif_feed.specs.declared.holidays.Holidays.{Holidays}
-use Rattle.cif_feed.specs.declared.published_extract.PublishedAssociation.{PublishedAssociation}
-use Rattle.cif_feed.specs.declared.published_extract.PublishedSchedule.{PublishedSchedule}
+use Rattle.cif_calendar.specs.Keys.{of_key}
 use Rattle.cif_feed.proofs.ListSteps.{Contains-from_map, Contains-map}
-use Rattle.std.proofs.lemmas.Bool.{cases_lt, false≢true}
-use Rattle.cif_calendar.specs.ClashDates.{AreClashDates}
-use Rattle.cif_calendar.specs.Entries.{association_entries, schedule_entries}
-use Rattle.cif_calendar.proofs.RisingLists.{Contains-none}
-use Rattle.cif_extract.specs.ExtractParts.{ExtractParts}
-use Rattle.cif_records.proofs.Headers.{last_is_day}
-use Rattle.cif_feed.specs.Dropped.{AreClashDays, AreDropped}
-use Rattle.cif_feed.specs.PreparedDays.{SayAsPublished, SayOfDay}
-use Rattle.cif_feed.specs.Steps.Dropping.{IsStopAmong}
-use Rattle.cif_feed.specs.WrittenPrepared.{IsPreparedAs}
-use Rattle.cif_feed.specs.declared.dropped.Dropped.{Dropped}
 use Rattle.cif_feed.proofs.PreparedLists.{prepared-same}
 
 -- ---- two sets of records

@@ -1,57 +1,30 @@
 -- Lines that spell records of a published extract: those whose records are known, those that are written, and those of this profile.
-use Rattle.std.proofs.Common.{◌≡◌, ℕ, true, false, cond, not, ◌&&◌, List, [], ◌∷◌, refl, sym, ap, ◌∙◌, subst, inl, ◌+◌, ◌-◌, Bool, ◌++◌}
-use Rattle.std.proofs.Common.{length, take, drop, Option, Some, None, codes, arith, IsTrue, slice_index, length-append}
-use Rattle.std.proofs.lemmas.List.Elements.{All-cons, All-nil, All-head, All-tail}
-use Rattle.std.specs.Prelude.{All}
-use Rattle.cif_columns.specs.Comment.{is_comment}
-use Rattle.cif_columns.specs.Line.{IsLine}
-use Rattle.cif_extract.specs.ExtractParts.{ExtractParts}
-use Rattle.cif_extract.specs.Grammar.{AreExtract}
-use Rattle.cif_extract.specs.SpellsExtract.{SpellAllBy, BytesSpellWithin, SpellAll, SpellExtract, SpellExtractBy}
-use Rattle.cif_records.specs.declared.record.Record.{Record}
-use Rattle.cif_records.proofs.Records.{kind_of, kind_there}
-use Rattle.cif_feed.specs.FeedLine.{SpellsInFeed, IsClosedAt, SpellsAssociationBy, SpellsBasicBy, code_of, code_value, end_value}
-use Rattle.cif_feed.specs.FeedLine.{if_allowed, is_open, put_association_rows, put_basic_rows, transaction_at}
-use Rattle.cif_feed.specs.FromLines.{ArePairs}
-use Rattle.cif_feed.specs.Marks.{marks_in, association_mark, schedule_mark}
-use Rattle.cif_feed.specs.RecordLines.{is_note, is_record_line, record_lines, is_association, is_basic, lines_of}
-use Rattle.cif_feed.specs.SpellsFeed.{FeedParts, SpellFeed}
-use Rattle.cif_feed.specs.declared.feed_line.Feed.TheVariants.{Full}
-use Rattle.cif_feed.specs.declared.holidays.HolidayCodes.{HolidayCodes}
+use Rattle.cif_feed.proofs.Names.{All, All-cons, All-head, All-nil, All-tail, AllFit, AllStandIn, AreExtract, ArePairs, Association, Basic}
+use Rattle.cif_feed.proofs.Names.{Bool, BytesSpellPublished, BytesSpellWithin, E, ExtractParts, FeedParts, FieldValue, Fits, Full, G}
+use Rattle.cif_feed.proofs.Names.{HolidayCode, HolidayCodes, IsClosedAt, IsLine, IsPublishedAssociation, IsPublishedSchedule, IsTrue, Kind}
+use Rattle.cif_feed.proofs.Names.{List, None, Option, PublishedAssociation, PublishedSchedule, Record, Row, SayPublished, Schedule, Some}
+use Rattle.cif_feed.proofs.Names.{SpellAll, SpellAllBy, SpellExtract, SpellExtractBy, SpellFeed, SpellsAssociationBy, SpellsBasicBy}
+use Rattle.cif_feed.proofs.Names.{SpellsInFeed, SpellsRecord, StandsIn, X, [], ap, arith, as_published, association_as_published}
+use Rattle.cif_feed.proofs.Names.{association_mark, association_table, code_in, code_of, code_value, codes, columns, cond, contents_of}
+use Rattle.cif_feed.proofs.Names.{date, drop, drop-append-add, end_value, exactly, false, has_code, if_allowed, inl, is_association}
+use Rattle.cif_feed.proofs.Names.{is_basic, is_comment, is_note, is_open, is_record_line, is_whole_from, kind_in, kind_of, length}
+use Rattle.cif_feed.proofs.Names.{length-append, length-plain_line, line-plain_line, lines_of, marks_in, no_open_end, not, plain_columns}
+use Rattle.cif_feed.proofs.Names.{plain_line, plain_line-append, printable_fact, published_association_line, published_basic_line}
+use Rattle.cif_feed.proofs.Names.{put_association_rows, put_basic_rows, record_lines, refl, row, rows_on, schedule_as_published}
+use Rattle.cif_feed.proofs.Names.{schedule_mark, slice_index, stands-plain_line, subst, sym, take, take-append_seam, terms_of}
+use Rattle.cif_feed.proofs.Names.{transaction_at, true, width_of, with_code, with_columns, with_open_end, ℕ, ◌&&◌, ◌++◌, ◌+◌, ◌-◌, ◌∙◌, ◌∷◌}
+use Rattle.cif_feed.proofs.Names.{◌≡◌}
+use Rattle.cif_columns.proofs.Parts.{length-plain_columns, length_behind}
+use Rattle.cif_records.proofs.Records.{kind_there}
+use Rattle.cif_records.specs.Checks.{are}
+use Rattle.cif_records.specs.declared.record.Record.TheVariants as of
+use Rattle.cif_extract.proofs.PlainRecords.{basic_of}
 use Rattle.cif_feed.proofs.FeedLines.{kind_there as feed_kind}
 use Rattle.cif_feed.proofs.FeedSteps.{named_line}
-use Rattle.std.proofs.Math.Seq.{drop-append-add, take-append_seam}
-use Rattle.cif_columns.specs.Field.{AllFit, AllStandIn, FieldValue, Fits, Row, StandsIn, columns, date, exactly, is_whole_from}
-use Rattle.cif_columns.specs.Field.{plain_columns, plain_line, row, width_of}
-use Rattle.cif_columns.proofs.Parts.{length-plain_columns, length-plain_line, length_behind, plain_line-append, stands-plain_line}
-use Rattle.cif_columns.proofs.PlainLines.{line-plain_line}
-use Rattle.cif_columns.proofs.PrintableBytes.{printable_fact}
-use Rattle.cif_extract.specs.Texts.{rows_on}
-use Rattle.cif_extract.proofs.PlainRecords.{basic_of}
-use Rattle.cif_records.specs.Association.{association_table}
-use Rattle.cif_records.specs.Basic.{terms_of}
-use Rattle.cif_records.specs.Checks.{are}
-use Rattle.cif_records.specs.declared.association.Association.{Association}
-use Rattle.cif_records.specs.declared.basic.Basic.{Basic}
-use Rattle.cif_records.specs.declared.record.Record.TheVariants as of
-use Rattle.cif_records.proofs.Judging.{no_open_end}
-use Rattle.cif_feed.specs.HolidayCode.{code_in, has_code, letter}
-use Rattle.cif_feed.specs.PublishedParts.{published_association_line, published_basic_line, BytesSpellPublished, IsPublishedAssociation}
-use Rattle.cif_feed.specs.PublishedParts.{IsPublishedSchedule, SayPublished}
-use Rattle.cif_feed.specs.WrittenOver.{with_code, with_columns, with_open_end}
-use Rattle.cif_feed.specs.declared.holidays.HolidayCode.{HolidayCode}
-use Rattle.cif_feed.specs.declared.holidays.HolidayCode.TheVariants.{X, E, G}
-use Rattle.cif_feed.specs.declared.mark.Transaction.TheVariants.{New}
-use Rattle.cif_feed.specs.declared.published_extract.PublishedAssociation.{PublishedAssociation}
-use Rattle.cif_feed.specs.declared.published_extract.PublishedSchedule.{PublishedSchedule}
-use Rattle.cif_columns.specs.Contents.{contents_of}
-use Rattle.cif_extract.specs.declared.extract.Schedule.{Schedule}
-use Rattle.cif_records.specs.Kind.{kind_in}
-use Rattle.cif_records.specs.Record.{SpellsRecord}
-use Rattle.cif_records.specs.declared.record.Kind.{Kind}
-use Rattle.cif_feed.specs.OfProfile.{as_published, association_as_published, schedule_as_published}
 use Rattle.cif_feed.proofs.ListSteps.{triples-of}
 use Rattle.cif_feed.proofs.SaidLines.{IsScheduleLine, IsTest, SpellsAssociation, associations_spelled, schedules_spelled}
+use Rattle.cif_feed.specs.HolidayCode.{letter}
+use Rattle.cif_feed.specs.declared.mark.Transaction.TheVariants.{New}
 
 -- ---- contents whose records are known
 

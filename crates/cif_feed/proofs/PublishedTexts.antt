@@ -1,61 +1,34 @@
 -- The text of a published extract spells it.
-use Rattle.std.proofs.Common.{◌≡◌, ℕ, ◌+◌, ◌≤◌, List, [], ◌∷◌, ◌++◌, length, map, Option, Some, None, refl, sym, ap, ◌∙◌, subst}
-use Rattle.std.proofs.Common.{All, Bool, IfSome, IsTrue, append-nil, filter}
-use Rattle.std.proofs.lemmas.List.Elements.{All-head, All-tail, filter-append}
-use Rattle.std.specs.List.{enumerate_from, flat_map}
-use Rattle.cif_columns.specs.Contents.{contents_of}
-use Rattle.cif_columns.specs.Field.{AllFit, plain_line}
+use Rattle.cif_feed.proofs.Names.{Aa, All, All-head, All-tail, AllFit, ArePairs, AreTriples, Association, BodyLines, Bool, Bs}
+use Rattle.cif_feed.proofs.Names.{BytesSpellPublished, E, Each, Extra, FeedParts, FitsColumns, Full, G, HolidayCode, HolidayCodes, IfSome}
+use Rattle.cif_feed.proofs.Names.{IsBody, IsPublishedAssociation, IsPublishedSchedule, IsTrue, Kind, List, None, Option}
+use Rattle.cif_feed.proofs.Names.{PublishedAssociation, PublishedParts, PublishedSchedule, Record, RecordFits, SayPublished, Schedule}
+use Rattle.cif_feed.proofs.Names.{ScheduleFits, Some, SpellPublished, Tiploc, X, [], all_codes, ap, append-nil, association_mark}
+use Rattle.cif_feed.proofs.Names.{call_record, code_of, contents_of, each_append, each_map, enumerate_from, extra_records, filter}
+use Rattle.cif_feed.proofs.Names.{filter-append, flat_map, further-fit, further-lines, further_lines, has_code, is_association, is_basic}
+use Rattle.cif_feed.proofs.Names.{is_open, kind_in, kind_of, laid_out, length, line_of_tiploc, lines_of, map, of_profile, one_if, parts_in}
+use Rattle.cif_feed.proofs.Names.{plain_line, published_association_line, published_basic_line, published_lines, published_schedule_lines}
+use Rattle.cif_feed.proofs.Names.{published_text, record_table, refl, rows_on, same_extract_parts, schedule_mark, subst, sym, ℕ, ◌++◌, ◌+◌}
+use Rattle.cif_feed.proofs.Names.{◌∙◌, ◌∷◌, ◌≡◌, ◌≤◌}
 use Rattle.cif_columns.proofs.PlainLines.{contents-lines_text}
-use Rattle.cif_extract.specs.Body.{BodyLines, IsBody, parts_in}
-use Rattle.cif_extract.specs.BodyParts.{extra_records}
-use Rattle.cif_extract.specs.Call.{call_record}
-use Rattle.cif_extract.specs.Texts.{FitsColumns, ScheduleFits, further_lines, line_of_tiploc, rows_on}
-use Rattle.cif_extract.specs.declared.call.Call.{Call}
-use Rattle.cif_extract.specs.declared.call.Call.TheVariants.{At, Turn}
-use Rattle.cif_extract.specs.declared.extract.Schedule.{Schedule}
-use Rattle.cif_extract.proofs.Each.{Each, each_append, each_map}
-use Rattle.cif_extract.proofs.OneExtract.{laid_out, same_extract_parts}
-use Rattle.cif_extract.proofs.PlainRecords.{are-extract, basic_of, plain_records, records_of, records_of_body}
-use Rattle.cif_extract.proofs.PlainTexts.{RecordFits, further-fit, further-lines, lines_of as record_lines}
-use Rattle.cif_records.specs.Kind.{kind_in}
-use Rattle.cif_records.specs.Record.{record_table}
-use Rattle.cif_records.specs.declared.association.Association.{Association}
-use Rattle.cif_records.specs.declared.extra.Extra.{Extra}
-use Rattle.cif_records.specs.declared.record.Kind.{Kind}
-use Rattle.cif_records.specs.declared.record.Kind.TheVariants.{Aa, Bs}
-use Rattle.cif_records.specs.declared.record.Record.{Record}
-use Rattle.cif_records.specs.declared.record.Record.TheVariants as of
-use Rattle.cif_records.specs.declared.tiploc.Tiploc.{Tiploc}
 use Rattle.cif_records.proofs.Headers as headers
+use Rattle.cif_records.proofs.Records.{kind_there}
 use Rattle.cif_records.proofs.Records as records
-use Rattle.cif_records.proofs.Records.{kind_of, kind_there}
 use Rattle.cif_records.proofs.Tiplocs as locations
 use Rattle.cif_records.proofs.Trailers as trailers
-use Rattle.cif_feed.specs.FromLines.{ArePairs, AreTriples}
-use Rattle.cif_feed.specs.HolidayCode.{all_codes, has_code}
-use Rattle.cif_feed.specs.OfProfile.{of_profile}
-use Rattle.cif_feed.specs.FeedLine.{code_of, is_open}
-use Rattle.cif_feed.specs.Marks.{association_mark, schedule_mark}
-use Rattle.cif_feed.specs.RecordLines.{is_association, is_basic, lines_of}
-use Rattle.cif_feed.specs.Steps.Marks.{one_if}
-use Rattle.cif_feed.specs.PublishedParts.{BytesSpellPublished, IsPublishedAssociation, IsPublishedSchedule, PublishedParts, SayPublished}
-use Rattle.cif_feed.specs.PublishedParts.{SpellPublished, published_association_line, published_basic_line, published_lines}
-use Rattle.cif_feed.specs.PublishedParts.{published_schedule_lines, published_text}
-use Rattle.cif_feed.specs.SpellsFeed.{FeedParts}
-use Rattle.cif_feed.specs.WrittenExtracts.{CodesMayStand}
-use Rattle.cif_feed.specs.declared.feed_line.Feed.TheVariants.{Full}
-use Rattle.cif_feed.specs.declared.holidays.HolidayCode.{HolidayCode}
-use Rattle.cif_feed.specs.declared.holidays.HolidayCode.TheVariants.{X, E, G}
-use Rattle.cif_feed.specs.declared.holidays.HolidayCodes.{HolidayCodes}
-use Rattle.cif_feed.specs.declared.published_extract.PublishedAssociation.{PublishedAssociation}
-use Rattle.cif_feed.specs.declared.published_extract.PublishedSchedule.{PublishedSchedule}
+use Rattle.cif_records.specs.declared.record.Record.TheVariants as of
+use Rattle.cif_extract.proofs.PlainRecords.{are-extract, basic_of, plain_records, records_of, records_of_body}
+use Rattle.cif_extract.proofs.PlainTexts.{lines_of as record_lines}
+use Rattle.cif_extract.specs.declared.call.Call.{Call}
+use Rattle.cif_extract.specs.declared.call.Call.TheVariants.{At, Turn}
 use Rattle.cif_feed.proofs.FeedLines.{kind_there as feed_kind}
+use Rattle.cif_feed.proofs.FeedSteps.{read_back}
+use Rattle.cif_feed.proofs.FittingUpdates.{AssociationFits}
+use Rattle.cif_feed.proofs.ListSteps.{enumerate_append, pairs-append, triples-by}
 use Rattle.cif_feed.proofs.PublishedLines.{AreReadAs, IsReadAs, association_written, basic_written, own_spells, parts_read, read_are}
 use Rattle.cif_feed.proofs.PublishedLines.{spell_read}
-use Rattle.cif_feed.proofs.FittingUpdates.{AssociationFits}
 use Rattle.cif_feed.proofs.SaidLines.{feed_fits}
-use Rattle.cif_feed.proofs.ListSteps.{enumerate_append, pairs-append, triples-by}
-use Rattle.cif_feed.proofs.FeedSteps.{read_back}
+use Rattle.cif_feed.specs.WrittenExtracts.{CodesMayStand}
 
 abbrev association_of : PublishedAssociation → Association
 association_of a = a.association

@@ -1,71 +1,28 @@
 -- The records of a kind, and its lines, one by one, with the records that they spell, the changes that they say, and their marks.
-use Rattle.std.proofs.Common.{◌≡◌, List, [], ◌∷◌, ◌++◌, map, refl, ap, ◌∙◌, append-nil, ℕ, Bool, true, false, cond, not, ◌&&◌, filter}
-use Rattle.std.proofs.Common.{Option, Some, None, sym, subst, unwrap_or, length, IfOk, Result, Ok, Err, ⊎_elim}
-use Rattle.std.proofs.lemmas.Grind.{flat_map-append}
-use Rattle.std.specs.List.{flat_map, enumerate_from}
-use Rattle.cif_extract.specs.Body.{BodyLines, detail_of}
-use Rattle.cif_extract.specs.BodyParts.{extra_records}
-use Rattle.cif_extract.specs.ExtractParts.{ExtractParts}
-use Rattle.cif_extract.specs.Grammar.{AreExtract, AreSchedule, AreSchedules, records_before_trailer, HasTerms, HaveBody}
-use Rattle.cif_extract.specs.declared.extract.Schedule.{Schedule}
-use Rattle.cif_extract.proofs.Each.{Each}
-use Rattle.cif_extract.proofs.OneExtract.{Inside, further_inside}
-use Rattle.cif_records.specs.declared.association.Association.{Association}
-use Rattle.cif_records.specs.declared.basic.Basic.{Basic}
-use Rattle.cif_records.specs.declared.header.Header.{Header}
-use Rattle.cif_records.specs.declared.record.Record.{Record}
+use Rattle.cif_feed.proofs.Names.{All, All-filter, All-head, All-tail, AllFit, AllStandIn, AreExtract, ArePairs, AreSchedule, AreSchedules}
+use Rattle.cif_feed.proofs.Names.{AreTriples, Association, AssociationKey, Basic, BodyLines, Bool, Change, Detail, Each, Err, Extra}
+use Rattle.cif_feed.proofs.Names.{ExtractParts, Feed, FeedExtract, FeedFault, FeedParts, FitsColumns, Full, HasMarks, HaveBody, Header}
+use Rattle.cif_feed.proofs.Names.{HolidayCodes, IfOk, Inside, IsAssociationChange, IsClosed, IsFeedContent, IsLine, IsScheduleChange, Kind}
+use Rattle.cif_feed.proofs.Names.{List, MarkParts, None, Ok, Option, PublishedAssociation, PublishedSchedule, Record, Result, SayFeed}
+use Rattle.cif_feed.proofs.Names.{SayTiplocs, SaysAssociation, SaysSchedule, Schedule, ScheduleKey, Some, SpellAllBy, SpellExtractBy}
+use Rattle.cif_feed.proofs.Names.{SpellFeed, SpellUpdate, SpellsAssociationBy, SpellsBasicBy, SpellsInFeed, Ta, Td, Ti, Tiploc, TiplocMark}
+use Rattle.cif_feed.proofs.Names.{Transaction, UpdateParts, [], all_codes, and-false, ap, append-nil, association_mark, basic_back, code_of}
+use Rattle.cif_feed.proofs.Names.{cond, deleted_basic_rows, detail_in-stands, detail_of, detail_rows, detail_table, enumerate_from}
+use Rattle.cif_feed.proofs.Names.{extra_records, false, feed_layouts, feed_parts, filter, filter_agree, filter_passes, fits-append}
+use Rattle.cif_feed.proofs.Names.{fits-front, flat_map, flat_map-append, further_inside, is_association, is_basic, is_note, is_of_tiploc}
+use Rattle.cif_feed.proofs.Names.{is_open, is_record_line, kind_in, kind_of, kind_read_as, last_of_association, last_of_schedule}
+use Rattle.cif_feed.proofs.Names.{length-map, letter_of, lines_of, map, not, one_if, option_map, plain_line, published_association_rows}
+use Rattle.cif_feed.proofs.Names.{published_basic_rows, put_association_rows, put_basic_rows, record_lines, records_before_trailer, refl}
+use Rattle.cif_feed.proofs.Names.{row, schedule_mark, spare, spelled-fits-by, stands-plain_line, subst, sym, terms_of, tiploc_changes}
+use Rattle.cif_feed.proofs.Names.{tiploc_changes_of, tiploc_mark, transaction_at, true, unwrap_or, ℕ, ⊎_elim, ◌&&◌, ◌++◌, ◌∙◌, ◌∷◌, ◌≡◌}
 use Rattle.cif_records.specs.declared.record.Record.TheVariants as of
-use Rattle.cif_records.specs.declared.tiploc.Tiploc.{Tiploc}
-use Rattle.std.proofs.Math.Bool.{and-false}
-use Rattle.std.proofs.lemmas.List.Elements.{filter_agree, All-filter, All-head, All-tail, filter_passes}
-use Rattle.cif_extract.specs.SpellsExtract.{SpellAllBy, SpellExtractBy}
-use Rattle.cif_records.specs.Kind.{kind_in}
-use Rattle.cif_records.specs.declared.record.Kind.{Kind}
-use Rattle.cif_records.specs.declared.record.Kind.TheVariants.{Ti, Ta, Td}
-use Rattle.cif_records.proofs.Records.{kind_of}
-use Rattle.cif_feed.specs.FeedLine.{SpellsInFeed, SpellsBasicBy, code_of, deleted_basic_rows, is_open, letter_of, published_basic_rows}
-use Rattle.cif_feed.specs.FeedLine.{put_basic_rows, transaction_at, SpellsAssociationBy, published_association_rows, put_association_rows}
-use Rattle.cif_feed.specs.FromLines.{ArePairs, AreTriples}
-use Rattle.cif_feed.specs.LayoutRefusals.{kind_read_as}
-use Rattle.cif_feed.specs.RecordLines.{is_association, is_basic, is_note, is_of_tiploc, is_record_line, lines_of, record_lines}
-use Rattle.cif_feed.specs.Steps.Marks.{one_if, HasMarks, IsClosed, last_of_association, last_of_schedule}
-use Rattle.cif_feed.specs.declared.feed_line.Feed.{Feed}
-use Rattle.cif_feed.specs.declared.feed_line.Feed.TheVariants.{Full, Update}
-use Rattle.cif_feed.specs.declared.holidays.HolidayCodes.{HolidayCodes}
+use Rattle.cif_extract.specs.Grammar.{HasTerms}
 use Rattle.cif_feed.proofs.ChangeLaws.{filter-filter}
-use Rattle.cif_feed.proofs.FeedLines.{kind_there, association_closed, basic_closed, feed_are}
+use Rattle.cif_feed.proofs.FeedLines.{association_closed, basic_closed, feed_are, kind_there}
 use Rattle.cif_feed.proofs.FeedSteps.{named_line}
-use Rattle.cif_feed.proofs.ListSteps.{enumerate_filter, pairs-append, triples-said, pairs-length, pairs-mapped}
-use Rattle.std.specs.Option.{option_map}
-use Rattle.cif_columns.specs.Field.{AllFit, AllStandIn, plain_line, row, spare}
-use Rattle.cif_columns.proofs.Parts.{fits-append, fits-front, stands-plain_line}
-use Rattle.cif_records.specs.Basic.{basic_back, terms_of}
-use Rattle.cif_records.specs.Detail.{detail_rows, detail_table}
-use Rattle.cif_records.proofs.Details.{detail_in-stands}
-use Rattle.cif_records.specs.declared.detail.Detail.{Detail}
-use Rattle.cif_records.specs.declared.extra.Extra.{Extra}
-use Rattle.cif_feed.specs.HolidayCode.{all_codes}
-use Rattle.cif_feed.specs.Marks.{MarkParts, schedule_mark, association_mark, tiploc_mark}
-use Rattle.cif_feed.specs.UpdateLines.{SaysSchedule, SayTiplocs, SaysAssociation}
-use Rattle.cif_feed.specs.UpdateParts.{IsScheduleChange, ScheduleKey, SpellUpdate, UpdateParts, AssociationKey, IsAssociationChange}
-use Rattle.cif_feed.specs.UpdateParts.{tiploc_changes, tiploc_changes_of}
-use Rattle.cif_feed.specs.declared.changes.Change.{Change}
-use Rattle.cif_feed.specs.declared.mark.Transaction.{Transaction}
-use Rattle.cif_feed.specs.declared.mark.Transaction.TheVariants.{New, Revised, Deleted}
-use Rattle.cif_feed.specs.declared.published_extract.PublishedSchedule.{PublishedSchedule}
-use Rattle.cif_feed.specs.declared.mark.RecordMark.{RecordMark}
-use Rattle.cif_feed.specs.declared.mark.TiplocMark.{TiplocMark}
-use Rattle.cif_feed.specs.declared.published_extract.PublishedAssociation.{PublishedAssociation}
-use Rattle.std.proofs.lemmas.List.{length-map}
-use Rattle.std.specs.Prelude.{All}
-use Rattle.cif_columns.specs.Line.{IsLine}
-use Rattle.cif_extract.specs.Texts.{FitsColumns}
-use Rattle.cif_extract.proofs.PlainTexts.{spelled-fits-by}
-use Rattle.cif_feed.specs.FeedLayouts.{feed_layouts}
-use Rattle.cif_feed.specs.FeedRefusal.{IsFeedContent}
-use Rattle.cif_feed.specs.SpellsFeed.{FeedParts, SayFeed, SpellFeed, feed_parts}
-use Rattle.cif_feed.specs.declared.feed.FeedFault.{FeedFault}
-use Rattle.cif_feed.specs.declared.feed_reading.FeedExtract.{FeedExtract}
+use Rattle.cif_feed.proofs.ListSteps.{enumerate_filter, pairs-append, pairs-length, pairs-mapped, triples-said}
+use Rattle.cif_feed.specs.declared.feed_line.Feed.TheVariants.{Update}
+use Rattle.cif_feed.specs.declared.mark.Transaction.TheVariants.{Deleted, New, Revised}
 
 abbrev pub tiploc_of : Record → List Tiploc
 tiploc_of (of.Tiploc t) = t ∷ []

@@ -1,24 +1,13 @@
 -- Two deletions that agree in the columns that are read are the same.
-use Rattle.std.proofs.Common.{◌≡◌, ℕ, ◌+◌, List, [], ◌∷◌, None, sym, ap, ◌∙◌, arith, codes, drop, subst, take}
-use Rattle.std.proofs.lemmas.List.{drop-drop, drop-take, take-take}
-use Rattle.cif_columns.specs.Field.{AllStandIn, Row, StandsIn, columns, date, indicator, spare, text}
-use Rattle.cif_columns.specs.declared.stp.Stp.{Stp}
-use Rattle.cif_columns.proofs.FieldLaws.{one_date_value, one_exactly, one_indicator}
-use Rattle.cif_records.specs.Basic.{basic_front_by}
-use Rattle.cif_records.specs.declared.association.AssocKey.{AssocKey}
+use Rattle.cif_feed.proofs.Names.{Action, AllStandIn, AssocKey, AssociationKey, List, None, PublishedAssociation, PublishedSchedule, Row}
+use Rattle.cif_feed.proofs.Names.{ScheduleKey, StandsIn, Stp, Transaction, [], action_rows, ap, arith, basic_front_by, codes, columns, date}
+use Rattle.cif_feed.proofs.Names.{deleted_association_rows, deleted_basic_rows, drop, drop-drop, drop-take, indicator, one_date_value}
+use Rattle.cif_feed.proofs.Names.{one_exactly, one_indicator, published_association_rows, published_basic_rows, spare, subst, sym, take}
+use Rattle.cif_feed.proofs.Names.{take-take, text, transaction_letter, transaction_of, ℕ, ◌+◌, ◌∙◌, ◌∷◌, ◌≡◌}
 use Rattle.cif_records.proofs.Associations as associations
 use Rattle.cif_records.proofs.Basics as basics
-use Rattle.cif_feed.specs.Changes.{transaction_of}
-use Rattle.cif_feed.specs.FeedLine.{deleted_association_rows, deleted_basic_rows, published_association_rows, published_basic_rows}
-use Rattle.cif_feed.specs.Transaction.{transaction_letter}
-use Rattle.cif_feed.specs.UpdateLines.{action_rows}
-use Rattle.cif_feed.specs.UpdateParts.{AssociationKey, ScheduleKey}
-use Rattle.cif_feed.specs.declared.changes.Action.{Action}
-use Rattle.cif_feed.specs.declared.changes.Action.TheVariants.{New, Revised, Deleted}
-use Rattle.cif_feed.specs.declared.mark.Transaction.{Transaction}
+use Rattle.cif_feed.specs.declared.changes.Action.TheVariants.{Deleted, New, Revised}
 use Rattle.cif_feed.specs.declared.mark.Transaction.TheVariants as transaction
-use Rattle.cif_feed.specs.declared.published_extract.PublishedAssociation.{PublishedAssociation}
-use Rattle.cif_feed.specs.declared.published_extract.PublishedSchedule.{PublishedSchedule}
 
 -- columns among others
 part : (k a n m : ℕ) (l : List ℕ) → take n (drop a (take (a + (n + m)) (drop k l))) ≡ take n (drop (k + a) l)

@@ -1,59 +1,26 @@
 -- Bytes that spell a published extract, or an update, aren't refused, and spell no other: it is what its lines say.
-use Rattle.std.proofs.Common.{◌≡◌, ◌≢◌, ℕ, ◌<◌, ◌≤◌, Bool, true, false, cond, not, ◌&&◌, List, [], ◌∷◌, ◌++◌, length, Some, None, refl, sym}
-use Rattle.std.proofs.Common.{ap, ◌∙◌, subst, arith, get_or, length-append, ⊎_elim, Option, Result, Ok, Err, IfErr, IfOk, IsTrue}
-use Rattle.std.proofs.lemmas.List.Elements.{All-filter, All-weaker, filter-append}
-use Rattle.std.proofs.Math.Seq.{get_or-append_seam, take-append_seam}
-use Rattle.std.specs.Prelude.{All}
-use Rattle.cif_columns.specs.Comment.{is_comment}
-use Rattle.cif_columns.specs.Contents.{contents_of}
-use Rattle.cif_columns.specs.Line.{IsLine}
-use Rattle.cif_columns.specs.Source.{Unread}
-use Rattle.cif_columns.specs.declared.refusal.Refusal.TheVariants.{OutOfOrder}
-use Rattle.cif_extract.specs.ExtractParts.{ExtractParts}
-use Rattle.cif_extract.specs.SpellsExtract.{SpellExtractBy}
-use Rattle.cif_extract.specs.Taken.{IsNoTrailer, refusal_behind}
-use Rattle.cif_extract.specs.declared.fault.Fault.TheVariants as fault
-use Rattle.cif_extract.proofs.OneExtract.{one_extract}
-use Rattle.cif_extract.proofs.SpelledLines.{spelled_behind, spelled_trailer}
-use Rattle.cif_records.specs.Checks.{unless}
-use Rattle.cif_records.specs.Kind.{kind_in}
-use Rattle.cif_records.specs.declared.record.Kind.TheVariants.{Zz}
-use Rattle.cif_records.proofs.Judging.{none-some}
-use Rattle.cif_feed.specs.FeedFault.{IsFailure, IsFeedFault, IsReadAs, reading_feed}
-use Rattle.cif_feed.specs.FeedLayouts.{feed_layouts}
-use Rattle.cif_feed.specs.FeedLine.{SpellsInFeed}
-use Rattle.cif_feed.specs.Marks.{MarkParts}
-use Rattle.cif_feed.specs.RecordLines.{is_note, is_record_line, notes_may_stand, record_lines}
-use Rattle.cif_feed.specs.FeedRefusal.{IsFeedContent, IsFeedTruncated, IsFirstOfFeed, IsRefusedContent, line_refusal}
-use Rattle.cif_feed.specs.SpellsFeed.{BytesSpellFeed, FeedParts, SayFeed, SpellFeed, feed_parts}
-use Rattle.cif_feed.specs.declared.feed_line.Feed.{Feed}
-use Rattle.cif_feed.specs.declared.feed.FeedFault.{FeedFault}
-use Rattle.cif_feed.specs.declared.feed.FeedFault.TheVariants.{Extract, NotUpdate, BadTransaction}
-use Rattle.cif_feed.specs.declared.holidays.HolidayCodes.{HolidayCodes}
-use Rattle.cif_feed.proofs.FeedRuns.{comment_fine, line_why}
-use Rattle.cif_feed.proofs.FeedLines.{feed_are}
-use Rattle.cif_feed.proofs.FeedSteps.{read_back}
-use Rattle.std.proofs.Props.{props}
+use Rattle.cif_feed.proofs.Names.{All, All-filter, All-weaker, AreTriples, Association, AssociationKey, BadTransaction, Bool}
+use Rattle.cif_feed.proofs.Names.{BytesSpellFeed, BytesSpellPublished, BytesSpellUpdate, Change, Err, Extract, ExtractParts, Feed}
+use Rattle.cif_feed.proofs.Names.{FeedExtract, FeedFault, FeedParts, Full, HandsOn, Header, HolidayCode, HolidayCodes, IfErr, IfOk}
+use Rattle.cif_feed.proofs.Names.{IsAssociationChange, IsFailure, IsFeedContent, IsFeedFault, IsFeedTruncated, IsFirstOfFeed, IsLine}
+use Rattle.cif_feed.proofs.Names.{IsNoTrailer, IsPublishedAssociation, IsPublishedOf, IsPublishedSchedule, IsRefusedContent}
+use Rattle.cif_feed.proofs.Names.{IsScheduleChange, IsTrue, IsUpdateOf, List, Makes, MarkParts, None, NotUpdate, Ok, Option, OutOfOrder}
+use Rattle.cif_feed.proofs.Names.{PublishedAssociation, PublishedExtract, PublishedParts, PublishedSchedule, Result, SayFeed, SayPublished}
+use Rattle.cif_feed.proofs.Names.{SayUpdate, Schedule, ScheduleKey, Some, SpellExtractBy, SpellFeed, SpellPublished, SpellUpdate}
+use Rattle.cif_feed.proofs.Names.{SpellsInFeed, Tiploc, Unread, UpdateParts, Zz, [], all_codes, ap, arith, change_by, cond, contents_of}
+use Rattle.cif_feed.proofs.Names.{false, feed_layouts, feed_parts, filter-append, get_or, get_or-append_seam, is_comment, is_note}
+use Rattle.cif_feed.proofs.Names.{is_record_line, kind_in, last_day, length, length-append, none-some, not, notes_may_stand, one_extract}
+use Rattle.cif_feed.proofs.Names.{props, published_parts, reading_feed, reading_published, reading_update, record_lines, refl}
+use Rattle.cif_feed.proofs.Names.{refusal_behind, subst, sym, take-append_seam, true, unless, update_parts, ℕ, ⊎_elim, ◌&&◌, ◌++◌, ◌<◌, ◌∙◌}
+use Rattle.cif_feed.proofs.Names.{◌∷◌, ◌≡◌, ◌≢◌, ◌≤◌}
 use mathlib.Core.HLevel.{Σ_prop_path}
-use Rattle.cif_extract.specs.declared.extract.Schedule.{Schedule}
-use Rattle.cif_extract.proofs.ReadCalls.{HandsOn, Makes}
-use Rattle.cif_records.specs.declared.association.Association.{Association}
-use Rattle.cif_records.specs.declared.header.Header.{Header}
-use Rattle.cif_records.specs.declared.tiploc.Tiploc.{Tiploc}
-use Rattle.cif_feed.specs.FromLines.{AreTriples}
-use Rattle.cif_feed.specs.LastDay.{last_day}
-use Rattle.cif_feed.specs.PublishedParts.{BytesSpellPublished, IsPublishedAssociation, IsPublishedSchedule, PublishedParts, SayPublished}
-use Rattle.cif_feed.specs.PublishedParts.{SpellPublished, published_parts, IsPublishedOf, reading_published}
-use Rattle.cif_feed.specs.declared.feed_line.Feed.TheVariants.{Full}
-use Rattle.cif_feed.specs.declared.feed_reading.FeedExtract.{FeedExtract}
-use Rattle.cif_feed.specs.declared.holidays.HolidayCode.{HolidayCode}
-use Rattle.cif_feed.specs.declared.published_extract.PublishedAssociation.{PublishedAssociation}
-use Rattle.cif_feed.specs.declared.published_extract.PublishedSchedule.{PublishedSchedule}
-use Rattle.cif_feed.specs.declared.published_extract.PublishedExtract.{PublishedExtract}
-use Rattle.cif_feed.specs.HolidayCode.{all_codes}
-use Rattle.cif_feed.specs.UpdateParts.{IsUpdateOf, reading_update, AssociationKey, BytesSpellUpdate, IsAssociationChange, IsScheduleChange}
-use Rattle.cif_feed.specs.UpdateParts.{SayUpdate, ScheduleKey, SpellUpdate, UpdateParts, change_by, update_parts}
-use Rattle.cif_feed.specs.declared.changes.Change.{Change}
+use Rattle.cif_extract.proofs.SpelledLines.{spelled_behind, spelled_trailer}
+use Rattle.cif_extract.specs.declared.fault.Fault.TheVariants as fault
+use Rattle.cif_feed.proofs.FeedLines.{feed_are}
+use Rattle.cif_feed.proofs.FeedRuns.{comment_fine, line_why}
+use Rattle.cif_feed.proofs.FeedSteps.{read_back}
+use Rattle.cif_feed.specs.FeedFault.{IsReadAs}
+use Rattle.cif_feed.specs.FeedRefusal.{line_refusal}
 use Rattle.cif_feed.specs.declared.feed_line.Feed.TheVariants as feed
 use Rattle.cif_feed.specs.declared.update.Update.{Update}
 

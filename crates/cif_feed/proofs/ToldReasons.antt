@@ -1,37 +1,19 @@
 -- The reasons of lines, each by itself, and what is told of them.
-use Rattle.std.proofs.Common.{◌≡◌, ◌≢◌, ℕ, ◌+◌, ◌<◌, ◌≤◌, Bool, true, false, cond, nat_eq, nat_lt, List, [], ◌∷◌, ◌++◌, length, Option}
-use Rattle.std.proofs.Common.{Some, None, Ok, Err, refl, sym, ap, ◌∙◌, subst, arith, length-append, ne_eqb, ◌-◌, not, filter, get_or, set}
-use Rattle.std.proofs.Common.{eq-eqb}
-use Rattle.std.proofs.lemmas.Bool.{eqb-true, false≢true}
-use Rattle.std.proofs.lemmas.Bool.Decides.{nat_tests}
-use Rattle.std.proofs.lemmas.List.{map-append, get_or-set_other, get_or-set_same}
-use Rattle.std.proofs.lemmas.List.Elements.{All-append, All-cons, All-nil, Contains-append_left, Contains-push, filter-append}
-use Rattle.std.specs.List.{list_all, flat_map, position_or_len}
-use Rattle.std.specs.Prelude.{Contains}
-use Rattle.cif_columns.specs.FirstLine.{is_printable, line_of}
-use Rattle.cif_columns.specs.Line.{IsLine}
-use Rattle.cif_columns.specs.declared.refusal.Refusal.{Refusal}
-use Rattle.cif_columns.specs.declared.refusal.Refusal.TheVariants.{BadLength, BadByte, OutOfOrder, TooManyLines}
-use Rattle.cif_columns.proofs.PrintableBytes.{printable_fact, printable_true}
-use Rattle.cif_extract.specs.FirstRefusal.{IsRefusedLine, NoneRefused, order_refusal, refusal_of}
-use Rattle.cif_extract.specs.Layouts.{own_layouts}
-use Rattle.cif_extract.specs.OrderOfRecords.{may_stand, place_behind}
-use Rattle.cif_extract.specs.Taken.{refusal_behind}
-use Rattle.cif_extract.specs.declared.place.Place.{Place}
-use Rattle.cif_extract.proofs.FirstRefusals.{line_refusal, none_refused-more, or_none}
-use Rattle.cif_records.specs.Checks.{first_of, unless}
-use Rattle.cif_records.specs.Kind.{kind_in}
-use Rattle.cif_records.specs.Record.{record_refusal}
-use Rattle.cif_records.specs.declared.record.Kind.{Kind}
-use Rattle.cif_feed.specs.Judged.{NoneHasReason}
-use Rattle.cif_feed.specs.Reasons.{own_reason, reasons_of, TellReasons, first_for, first_in, is_for, lines_for, lines_in, own_reasons}
-use Rattle.cif_feed.specs.Reasons.{place_of, reason_line, reasons_text, told_text}
-use Rattle.cif_feed.specs.Steps.Judging.{SomeHasReason}
+use Rattle.cif_feed.proofs.Names.{All-append, All-cons, All-nil, BadByte, BadLength, Bool, Contains, Contains-append_left, Contains-push}
+use Rattle.cif_feed.proofs.Names.{Err, IsLine, IsRefusedLine, Kind, List, None, NoneHasReason, NoneRefused, Ok, Option, OutOfOrder, Reasons}
+use Rattle.cif_feed.proofs.Names.{Refusal, Some, SomeHasReason, TellReasons, TooManyLines, [], ap, arith, cond, eq-eqb, eqb-true, false}
+use Rattle.cif_feed.proofs.Names.{false≢true, filter, filter-append, first_for, first_in, first_of, flat_map, get_or, get_or-set_other}
+use Rattle.cif_feed.proofs.Names.{get_or-set_same, is_for, is_printable, kind_in, length, length-append, line_of, lines_for, lines_in}
+use Rattle.cif_feed.proofs.Names.{list_all, map-append, may_stand, nat_eq, nat_lt, nat_tests, ne_eqb, none_refused-more, not, or_none}
+use Rattle.cif_feed.proofs.Names.{order_refusal, own_layouts, own_reason, own_reasons, place_behind, place_of, position_or_len}
+use Rattle.cif_feed.proofs.Names.{position_or_len_push, printable_fact, printable_true, reason_line, reasons_of, reasons_text}
+use Rattle.cif_feed.proofs.Names.{record_refusal, refl, refusal_behind, refusal_of, set, subst, sym, told_text, true, unless, ℕ, ◌++◌, ◌+◌}
+use Rattle.cif_feed.proofs.Names.{◌-◌, ◌<◌, ◌∙◌, ◌∷◌, ◌≡◌, ◌≢◌, ◌≤◌}
 use Rattle.std.proofs.lemmas.List.Filters.{length-filter_both}
-use Rattle.std.proofs.lemmas.List.Folds.{position_or_len_push}
 use Rattle.cif_columns.specs.Refusal.{number_of}
 use Rattle.cif_columns.specs.declared.refusal.Refusal.TheVariants as refusal
-use Rattle.cif_feed.specs.declared.reasons.Reasons.{Reasons}
+use Rattle.cif_extract.proofs.FirstRefusals.{line_refusal}
+use Rattle.cif_extract.specs.declared.place.Place.{Place}
 
 -- ---- by itself
 

@@ -1,38 +1,21 @@
 -- An update that was read is done, or a line of it is refused; and updates are done one after another.
-use Rattle.std.proofs.Common.{◌≡◌, ℕ, ◌==◌, cond, List, [], ◌∷◌, ◌++◌, refl, sym, ap, ◌∙◌, append-nil, append_assoc, Bool, false, Some}
-use Rattle.std.proofs.Common.{Result, Ok, Err, subst, ⊎_elim, slice_get, true≢false, ◌↔◌, ◌≤◌, length, inr}
-use Rattle.cif_feed.specs.Steps.Changes.{last_line, IsDone}
-use Rattle.cif_feed.specs.Updated.{told_once, updating, AreRefusedLines, IsLineRefused, IsUpdateFault, IsUpdated, MayBeDone, refused_header}
-use Rattle.cif_feed.specs.Updated.{IsUpdatedBy}
-use Rattle.cif_feed.specs.declared.changes.RefusedLine.{RefusedLine}
-use Rattle.std.specs.Prelude.{IfOk, MatchResult}
-use Rattle.cif_columns.specs.Contents.{contents_of}
-use Rattle.cif_columns.specs.Source.{Unread}
-use Rattle.cif_extract.proofs.ReadCalls.{HandsOn, Makes, Refuses}
-use Rattle.cif_feed.specs.Changes.{AreRefused, changes_of, with_keys, AreAfter}
-use Rattle.cif_feed.specs.FeedFault.{IsFailure}
-use Rattle.cif_feed.specs.PublishedParts.{PublishedParts, BytesSpellPublished, published_lines, published_text}
-use Rattle.cif_feed.specs.UpdateParts.{IsUpdateOf, reading_update, BytesSpellUpdate, UpdateParts, update_parts}
-use Rattle.cif_feed.specs.declared.changes.Change.{Change}
-use Rattle.cif_feed.specs.declared.feed.FeedFault.{FeedFault}
-use Rattle.cif_feed.specs.declared.feed.FeedFault.TheVariants.{AlreadyThere, NotThere, OutOfSequence}
-use Rattle.cif_feed.specs.declared.update.Outcome.{Outcome}
-use Rattle.cif_feed.specs.declared.update.Update.{Update}
+use Rattle.cif_feed.proofs.Names.{AlreadyThere, AreAfter, AreRefused, AreRefusedLines, Bool, BytesSpellPublished, BytesSpellUpdate, Change}
+use Rattle.cif_feed.proofs.Names.{Err, FeedFault, FitsColumns, HandsOn, Header, IfOk, IsDone, IsFailure, IsLineRefused, IsUpdateFault}
+use Rattle.cif_feed.proofs.Names.{IsUpdateOf, IsUpdated, IsUpdatedBy, List, Makes, MatchResult, MayBeDone, NotThere, Ok}
+use Rattle.cif_feed.proofs.Names.{PublishedAssociation, PublishedParts, PublishedSchedule, RefusedLine, Refuses, Result, Some, Tiploc}
+use Rattle.cif_feed.proofs.Names.{Unread, UpdateParts, [], all_codes, ap, append-nil, append_assoc, append_cancel_left, changes_of, cond}
+use Rattle.cif_feed.proofs.Names.{contents_of, false, inr, last_line, length, of_profile, published_lines, published_text, reading_update}
+use Rattle.cif_feed.proofs.Names.{refl, refused_header, same_values, slice_get, subst, sym, told_once, true≢false, update_parts, updating}
+use Rattle.cif_feed.proofs.Names.{with_keys, ℕ, ⊎_elim, ◌++◌, ◌==◌, ◌↔◌, ◌∙◌, ◌∷◌, ◌≡◌, ◌≤◌}
 use Rattle.cif_feed.proofs.ChangeLaws.{after_all-alike, refusals-alike, same_alike}
-use Rattle.cif_feed.proofs.SpelledFeeds.{one_update, update_blames_none, one_published, spelled_first}
-use Rattle.std.proofs.lemmas.List.{append_cancel_left}
-use Rattle.cif_extract.specs.Texts.{FitsColumns}
-use Rattle.cif_extract.proofs.OneExtract.{same_values}
-use Rattle.cif_records.specs.declared.header.Header.{Header}
-use Rattle.cif_records.specs.declared.tiploc.Tiploc.{Tiploc}
-use Rattle.cif_feed.specs.HolidayCode.{all_codes}
-use Rattle.cif_feed.specs.OfProfile.{of_profile}
-use Rattle.cif_feed.specs.UpdatesInTurn.{AreUpdatesDone, IsOneRefused, IsRefused, IsRefusedFor, IsWritten}
-use Rattle.cif_feed.specs.declared.feed_line.Feed.TheVariants as feed
-use Rattle.cif_feed.specs.declared.published_extract.PublishedAssociation.{PublishedAssociation}
-use Rattle.cif_feed.specs.declared.published_extract.PublishedSchedule.{PublishedSchedule}
 use Rattle.cif_feed.proofs.FittingUpdates.{updated_fits}
 use Rattle.cif_feed.proofs.PublishedTexts.{may_any, published-lines, published-spells, said_fits}
+use Rattle.cif_feed.proofs.SpelledFeeds.{one_published, one_update, spelled_first, update_blames_none}
+use Rattle.cif_feed.specs.UpdatesInTurn.{AreUpdatesDone, IsOneRefused, IsRefused, IsRefusedFor, IsWritten}
+use Rattle.cif_feed.specs.declared.feed.FeedFault.TheVariants.{OutOfSequence}
+use Rattle.cif_feed.specs.declared.feed_line.Feed.TheVariants as feed
+use Rattle.cif_feed.specs.declared.update.Outcome.{Outcome}
+use Rattle.cif_feed.specs.declared.update.Update.{Update}
 
 -- ---- lines that are told once
 

@@ -1,10 +1,7 @@
 -- Columns that are written over those of a line.
-use Rattle.std.proofs.Common.{◌≡◌, ℕ, ◌+◌, ◌-◌, ◌≤◌, List, ◌++◌, length, take, drop, ap, ◌∙◌, arith}
-use Rattle.std.proofs.lemmas.List.{drop-drop}
-use Rattle.std.proofs.lemmas.List.Elements.{All-append, All-drop, All-take}
+use Rattle.cif_feed.proofs.Names.{All-append, All-drop, All-take, ArePrintable, IsPrintable, List, ap, arith, drop, drop-drop, length, take}
+use Rattle.cif_feed.proofs.Names.{with_columns, ℕ, ◌++◌, ◌+◌, ◌-◌, ◌∙◌, ◌≡◌, ◌≤◌}
 use borrow.Rule.Slice.PartMut.{put_mid}
-use Rattle.cif_columns.specs.Line.{ArePrintable, IsPrintable}
-use Rattle.cif_feed.specs.WrittenOver.{with_columns}
 
 pub printable-written : (from many : ℕ) (line columns : List ℕ) → ArePrintable line → ArePrintable columns
     → ArePrintable (put_mid from many line columns)

@@ -1,29 +1,13 @@
 -- Texts that are written one after another.
-use Rattle.std.proofs.Common.{◌≡◌, ℕ, ◌+◌, ◌<◌, ◌≤◌, List, [], ◌∷◌, ◌++◌, Option, map, take, drop, length, get_or, refl, sym, ap, ◌∙◌}
-use Rattle.std.proofs.Common.{ap₂, subst, append-nil, take-append-drop}
-use Rattle.std.specs.List.{flat_map}
-use Rattle.std.proofs.lemmas.Grind.{flat_map-append}
-use Rattle.std.proofs.lemmas.List.{take_all, take_more}
-use Rattle.std.proofs.lemmas.List.Folds.{flat_map-map}
-use Rattle.std.proofs.lemmas.Simd.{map-map}
-use Rattle.cif_columns.proofs.WrittenTexts.{failed_first, failed_second, written_both}
-use Rattle.cif_columns.specs.Contents.{lines_text}
-use Rattle.cif_columns.specs.Field.{plain_line}
-use Rattle.cif_columns.specs.Sink.{HasFailed, HasWritten}
-use Rattle.cif_columns.specs.declared.sink.Sink.{Sink}
-use Rattle.cif_extract.specs.Texts.{extract_text, line_of_association, line_of_tiploc, plain_lines_of}
-use Rattle.cif_extract.specs.declared.extract.Schedule.{Schedule}
-use Rattle.cif_records.specs.Header.{header_table}
+use Rattle.cif_feed.proofs.Names.{Association, HasFailed, HasWritten, Header, List, Option, PreparedRecord, PublishedExtract}
+use Rattle.cif_feed.proofs.Names.{PublishedParts, Schedule, Sink, Tiploc, [], ap, append-nil, ap₂, association_on, drop, extract_text}
+use Rattle.cif_feed.proofs.Names.{failed_first, failed_second, flat_map, flat_map-append, flat_map-map, get_or, head_text, header_table}
+use Rattle.cif_feed.proofs.Names.{length, line_of_association, line_of_tiploc, lines_text, map, map-map, plain_line, plain_lines_of}
+use Rattle.cif_feed.proofs.Names.{prepared_association_text, prepared_parts, prepared_schedule_text, published_association_line}
+use Rattle.cif_feed.proofs.Names.{published_association_text, published_schedule_lines, published_schedule_text, published_text}
+use Rattle.cif_feed.proofs.Names.{records_text, refl, schedule_on, subst, sym, take, take-append-drop, take_all, take_more, tiploc_text}
+use Rattle.cif_feed.proofs.Names.{trailer_text, written_both, ℕ, ◌++◌, ◌+◌, ◌<◌, ◌∙◌, ◌∷◌, ◌≡◌, ◌≤◌}
 use Rattle.cif_records.specs.Trailer.{trailer_table}
-use Rattle.cif_records.specs.declared.association.Association.{Association}
-use Rattle.cif_records.specs.declared.header.Header.{Header}
-use Rattle.cif_records.specs.declared.tiploc.Tiploc.{Tiploc}
-use Rattle.cif_feed.specs.PreparedParts.{association_on, prepared_parts, schedule_on}
-use Rattle.cif_feed.specs.PublishedParts.{PublishedParts, published_association_line, published_schedule_lines, published_text}
-use Rattle.cif_feed.specs.Steps.Written.{prepared_association_text, prepared_schedule_text, head_text, published_association_text}
-use Rattle.cif_feed.specs.Steps.Written.{published_schedule_text, records_text, tiploc_text, trailer_text}
-use Rattle.cif_feed.specs.declared.parts.PreparedRecord.{PreparedRecord}
-use Rattle.cif_feed.specs.declared.published_extract.PublishedExtract.{PublishedExtract}
 
 -- ---- one text more
 

@@ -1,34 +1,11 @@
 -- A prepared extract that was written, or why it wasn't.
-use Rattle.std.proofs.Common.{◌≡◌, ◌↔◌, ℕ, Bool, List, [], Option, Some, Result, Ok, Err, IfSome, IsTrue}
-use Rattle.std.proofs.Common.{refl, ap, ◌∙◌, subst}
-use Rattle.std.specs.Prelude.{MatchResult}
-use Rattle.cif_columns.specs.Contents.{contents_of}
-use Rattle.cif_columns.specs.Source.{Unread}
-use Rattle.cif_columns.specs.declared.sink.Sink.{Sink}
-use Rattle.cif_columns.specs.declared.source.Source.{Source}
-use Rattle.cif_columns.proofs.GivenLinesLaws.{known_so}
-use Rattle.cif_extract.specs.ExtractParts.{ExtractParts}
-use Rattle.cif_extract.specs.ReadCall.{IsResultOf}
-use Rattle.cif_extract.specs.Texts.{extract_text}
+use Rattle.cif_feed.proofs.Names.{Bool, BytesSpellPublished, Dropped, E, Err, Extract, ExtractParts, FeedFault, FeedWrites, Full, G}
+use Rattle.cif_feed.proofs.Names.{HandsOn, HolidayCode, HolidayCodes, Holidays, IfSome, IsDeviceOrMemory, IsPrepareFault, IsPreparedAs}
+use Rattle.cif_feed.proofs.Names.{IsPreparedText, IsPublishedOf, IsResultOf, IsTrue, List, Makes, MatchResult, Names, Ok, Option, Prepares}
+use Rattle.cif_feed.proofs.Names.{PublishedExtract, PublishedParts, Refuses, Result, Sink, Some, Source, Unread, WritesPrepared, X, [], ap}
+use Rattle.cif_feed.proofs.Names.{codes_named, contents_of, extract_text, has_code, known_so, of_any, preparing, published_parts}
+use Rattle.cif_feed.proofs.Names.{reading_published, refl, subst, text-spells, ℕ, ◌↔◌, ◌∙◌, ◌≡◌}
 use Rattle.cif_extract.specs.declared.fault.Fault.TheVariants as fault
-use Rattle.cif_extract.proofs.PlainTexts.{text-spells}
-use Rattle.cif_extract.proofs.ReadCalls.{HandsOn, Makes, Refuses, of_any}
-use Rattle.cif_feed.specs.HolidayCode.{has_code}
-use Rattle.cif_feed.specs.Holidays.{Names}
-use Rattle.cif_feed.specs.PublishedParts.{BytesSpellPublished, IsPublishedOf, PublishedParts, published_parts}
-use Rattle.cif_feed.specs.WrittenPrepared.{preparing}
-use Rattle.cif_feed.specs.PublishedParts.{reading_published}
-use Rattle.cif_feed.specs.WrittenPrepared.{FeedWrites, IsDeviceOrMemory, IsPrepareFault, IsPreparedAs, IsPreparedText}
-use Rattle.cif_feed.specs.WrittenPrepared.{Prepares, WritesPrepared, codes_named}
-use Rattle.cif_feed.specs.declared.dropped.Dropped.{Dropped}
-use Rattle.cif_feed.specs.declared.feed_line.Feed.TheVariants.{Full}
-use Rattle.cif_feed.specs.declared.feed.FeedFault.{FeedFault}
-use Rattle.cif_feed.specs.declared.feed.FeedFault.TheVariants.{Extract}
-use Rattle.cif_feed.specs.declared.holidays.HolidayCode.TheVariants.{X, E, G}
-use Rattle.cif_feed.specs.declared.holidays.HolidayCode.{HolidayCode}
-use Rattle.cif_feed.specs.declared.holidays.HolidayCodes.{HolidayCodes}
-use Rattle.cif_feed.specs.declared.holidays.Holidays.{Holidays}
-use Rattle.cif_feed.specs.declared.published_extract.PublishedExtract.{PublishedExtract}
 use Rattle.cif_feed.proofs.ChangeLaws.{bools}
 use Rattle.cif_feed.proofs.PreparedFits.{prepared_fits}
 use Rattle.cif_feed.proofs.PublishedTexts.{said_fits}

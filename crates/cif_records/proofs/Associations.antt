@@ -1,16 +1,9 @@
 -- A line spells at most one association, and there is no reason to refuse a line that spells one.
-use Rattle.std.proofs.Common.{◌≡◌, ◌≤◌, ℕ, Bool, List, Option, Some, None, is_some, refl, sym, ap, ◌∙◌, codes}
-use Rattle.std.proofs.Props.{props}
+use Rattle.cif_records.proofs.Names.{AllStandIn, AssocBody, AssocKey, Association, Bool, FieldValue, List, None, Option, Some}
+use Rattle.cif_records.proofs.Names.{SpellsAssociation, SpellsBody, SpellsKey, StandsIn, Stp, ap, association_refusal, association_rows_by}
+use Rattle.cif_records.proofs.Names.{codes, columns, date, days_of-stands, has_body, indicator, is_some, one_date_value, one_indicator}
+use Rattle.cif_records.proofs.Names.{one_text_value, one_weekdays, props, refl, stp_in-letter, sym, weekdays, ℕ, ◌∙◌, ◌≡◌, ◌≤◌}
 use mathlib.Core.HLevel.{Σ_prop_path}
-use Rattle.cif_columns.specs.Field.{AllStandIn, FieldValue, StandsIn, columns, date, indicator, weekdays}
-use Rattle.cif_columns.specs.declared.stp.Stp.{Stp}
-use Rattle.cif_columns.proofs.FieldLaws.{one_date_value, one_indicator, one_text_value, one_weekdays, stp_in-letter}
-use Rattle.cif_columns.proofs.Masks.{days_of-stands}
-use Rattle.cif_records.specs.Association.{SpellsAssociation, SpellsBody, SpellsKey, association_refusal, association_rows_by}
-use Rattle.cif_records.specs.Bodies.{has_body}
-use Rattle.cif_records.specs.declared.association.AssocBody.{AssocBody}
-use Rattle.cif_records.specs.declared.association.AssocKey.{AssocKey}
-use Rattle.cif_records.specs.declared.association.Association.{Association}
 use Rattle.cif_records.proofs.Judging.{dates_fine}
 
 pub same_body : (line : List ℕ) (a b : Option AssocBody) → is_some a ≡ is_some b → SpellsBody line a → SpellsBody line b → a ≡ b

@@ -1,17 +1,10 @@
 -- A line spells at most one basic schedule, and there is no reason to refuse a line that spells one.
-use Rattle.std.proofs.Common.{◌≡◌, ◌≤◌, ℕ, Bool, List, Option, Some, None, is_some, true, false, ◌++◌, codes, refl, sym, ap, ◌∙◌}
-use Rattle.std.proofs.Props.{props}
+use Rattle.cif_records.proofs.Names.{AllStandIn, Basic, Bool, Detail, FieldValue, List, None, Option, Row, Some, SpellsBasic, Stp, ap}
+use Rattle.cif_records.proofs.Names.{basic_back, basic_front, basic_front_by, basic_refusal, codes, date, days_of-stands, detail_in}
+use Rattle.cif_records.proofs.Names.{detail_rows, exactly, false, has_body, is_some, one_date_value, one_exactly, one_indicator}
+use Rattle.cif_records.proofs.Names.{one_weekdays, props, refl, stands-back, stands-front, stp_in-letter, sym, true, weekdays, ℕ, ◌++◌, ◌∙◌}
+use Rattle.cif_records.proofs.Names.{◌≡◌, ◌≤◌}
 use mathlib.Core.HLevel.{Σ_prop_path}
-use Rattle.cif_columns.specs.Field.{AllStandIn, FieldValue, Row, date, exactly, weekdays}
-use Rattle.cif_columns.specs.declared.stp.Stp.{Stp}
-use Rattle.cif_columns.proofs.FieldLaws.{one_date_value, one_exactly, one_indicator, one_weekdays, stp_in-letter}
-use Rattle.cif_columns.proofs.Masks.{days_of-stands}
-use Rattle.cif_columns.proofs.Parts.{stands-back, stands-front}
-use Rattle.cif_records.specs.Basic.{SpellsBasic, basic_back, basic_front, basic_front_by, basic_refusal}
-use Rattle.cif_records.specs.Bodies.{has_body}
-use Rattle.cif_records.specs.Detail.{detail_in, detail_rows}
-use Rattle.cif_records.specs.declared.basic.Basic.{Basic}
-use Rattle.cif_records.specs.declared.detail.Detail.{Detail}
 use Rattle.cif_records.proofs.Details.{detail_stands, one_detail}
 use Rattle.cif_records.proofs.Judging.{dates_fine}
 

@@ -1,9 +1,6 @@
 -- A line spells a change of a train on the way of a journey in one way at most, and there is no reason to refuse a line that spells one.
-use Rattle.std.proofs.Common.{◌≡◌, ℕ, List, Option, None, refl, ap, get_or}
-use Rattle.cif_columns.specs.Field.{FieldValue}
-use Rattle.cif_columns.proofs.TableLaws.{all_read, all_read-stands, one_table, columns_in}
-use Rattle.cif_records.specs.Change.{change_in, change_refusal, change_table, SpellsChange}
-use Rattle.cif_records.specs.declared.change.Change.{Change}
+use Rattle.cif_records.proofs.Names.{Change, FieldValue, List, None, Option, SpellsChange, all_read, all_read-stands, ap, change_in}
+use Rattle.cif_records.proofs.Names.{change_refusal, change_table, columns_in, get_or, one_table, refl, ℕ, ◌≡◌}
 
 -- the record of a table's values
 abbrev change_of : List (Option FieldValue) → Change

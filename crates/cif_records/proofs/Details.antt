@@ -1,28 +1,14 @@
 -- The detail that stands in a line, and the line that a detail has to itself.
-use Rattle.std.proofs.Common.{◌≡◌, ℕ, ◌+◌, ◌-◌, ◌<◌, ◌≤◌, List, [], ◌∷◌, ◌++◌, Some, refl, sym, ap, ◌∙◌, subst, arith}
-use Rattle.std.proofs.Common.{length, get_or, take, replicate, Bool, true, ◌&&◌, nat_le, Option, None, is_some}
-use Rattle.std.proofs.Math.Seq.{take-append_seam}
-use Rattle.std.proofs.lemmas.Bool.{and_parts}
-use Rattle.std.proofs.lemmas.Bool.Decides.{nat_tests}
-use Rattle.std.proofs.lemmas.Grind.{flat_map-append}
-use Rattle.std.proofs.lemmas.List.{ext_get_or, get_or-append-add, get_or_append_left, length-append}
-use Rattle.cif_columns.specs.Field.{AllFit, AllStandIn, FieldValue, Row, StandsIn, columns, plain_columns, plain_line, row, spare, text}
-use Rattle.cif_columns.specs.Field.{width_of}
-use Rattle.cif_columns.specs.Text.{text_of}
-use Rattle.cif_columns.specs.declared.stp.Stp.{Stp}
-use Rattle.cif_columns.specs.declared.stp.Stp.TheVariants.{C}
-use Rattle.cif_columns.specs.Line.{IsLine}
+use Rattle.cif_records.proofs.Names.{AllFit, AllStandIn, Basic, BasicTerms, Bool, C, Detail, FieldValue, IsLine, List, None, Option, Row}
+use Rattle.cif_records.proofs.Names.{Some, SpellsTerms, StandsIn, Stp, [], alone_in, and_parts, ap, arith, basic_back, basic_front, columns}
+use Rattle.cif_records.proofs.Names.{columns_in, detail_in, detail_rows, detail_table, ext_get_or, fits-front, flat_map-append, get_or}
+use Rattle.cif_records.proofs.Names.{get_or-append-add, get_or_append_left, has_body, is_some, length, length-append, nat_le, nat_tests}
+use Rattle.cif_records.proofs.Names.{one_table, plain_columns, plain_line, refl, replicate, row, spare, stands-append, stands-front, subst}
+use Rattle.cif_records.proofs.Names.{sym, take, take-append_seam, text, text_of, true, width_of, ℕ, ◌&&◌, ◌++◌, ◌+◌, ◌-◌, ◌<◌, ◌∙◌, ◌∷◌}
+use Rattle.cif_records.proofs.Names.{◌≡◌, ◌≤◌}
 use Rattle.cif_columns.proofs.ColumnReads.{read, width}
-use Rattle.cif_columns.proofs.Parts.{fits-front, stands-append, stands-front}
 use Rattle.cif_columns.proofs.StoodValues as stood
-use Rattle.cif_columns.proofs.TableLaws.{columns_in, one_table}
 use Rattle.cif_columns.proofs.Texts.{is_text_of}
-use Rattle.cif_records.specs.Basic.{basic_back, basic_front, SpellsTerms}
-use Rattle.cif_records.specs.Bodies.{has_body}
-use Rattle.cif_records.specs.Detail.{alone_in, detail_in, detail_rows, detail_table}
-use Rattle.cif_records.specs.declared.basic.Basic.{Basic}
-use Rattle.cif_records.specs.declared.basic.BasicTerms.{BasicTerms}
-use Rattle.cif_records.specs.declared.detail.Detail.{Detail}
 use Rattle.cif_records.proofs.Rows.{◌&◌}
 
 -- a detail that stands in a line of its own fits its columns

@@ -1,9 +1,6 @@
 -- A line spells further details of a schedule in one way at most, and there is no reason to refuse a line that spells one.
-use Rattle.std.proofs.Common.{◌≡◌, ℕ, List, Option, None, refl, ap, get_or}
-use Rattle.cif_columns.specs.Field.{FieldValue}
-use Rattle.cif_columns.proofs.TableLaws.{all_read, all_read-stands, one_table, columns_in}
-use Rattle.cif_records.specs.Extra.{extra_in, extra_refusal, extra_table, SpellsExtra}
-use Rattle.cif_records.specs.declared.extra.Extra.{Extra}
+use Rattle.cif_records.proofs.Names.{Extra, FieldValue, List, None, Option, SpellsExtra, all_read, all_read-stands, ap, columns_in}
+use Rattle.cif_records.proofs.Names.{extra_in, extra_refusal, extra_table, get_or, one_table, refl, ℕ, ◌≡◌}
 
 -- the record of a table's values
 abbrev extra_of : List (Option FieldValue) → Extra

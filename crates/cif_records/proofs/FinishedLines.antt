@@ -1,8 +1,6 @@
 -- Rows that are put on an empty line are the plain line of their table, which is 80 long and spells it.
-use Rattle.std.proofs.Common.{◌≡◌, ℕ, List, [], length, subst, sym, true, ◌∙◌}
-use Rattle.cif_columns.specs.Field.{AllFit, AllStandIn, Row, is_whole_from, plain_line}
-use Rattle.cif_columns.specs.LineBuilder.{put_all}
-use Rattle.cif_columns.proofs.Parts.{length-plain_line, put_all-plain_line, stands-plain_line}
+use Rattle.cif_records.proofs.Names.{AllFit, AllStandIn, List, Row, [], is_whole_from, length, length-plain_line, plain_line, put_all}
+use Rattle.cif_records.proofs.Names.{put_all-plain_line, stands-plain_line, subst, sym, true, ℕ, ◌∙◌, ◌≡◌}
 
 module _ (table : List Row) (whole : is_whole_from 1 table ≡ true) (fits : AllFit table) (line : List ℕ) (put : line ≡ put_all [] table)
   where

@@ -1,24 +1,12 @@
 -- What stands in a header's columns; a line spells at most one header, and there is no reason to refuse a line that spells one.
-use Rattle.std.proofs.Common.{◌≡◌, ◌+◌, ◌<◌, ◌≤◌, ℕ, nat_le, true, List, ◌++◌, length, Option, Some, None, refl, sym, ap, ◌∙◌, codes, arith}
-use Rattle.std.proofs.Common.{take, drop, set, subst, lit≤, length-take, length-drop, append_assoc, take-append-drop}
-use Rattle.std.proofs.Math.ListN.{length-set}
-use Rattle.std.proofs.Props.{props}
-use Rattle.std.specs.Cmp.Lexicographic.{bytes_decides}
-use Rattle.std.proofs.lemmas.Bool.Decides.{nat_tests}
-use Rattle.std.proofs.lemmas.List.{drop-drop, drop-set, drop-set-lt, drop-take, take-set-le, take-take, take_all}
-use Rattle.std.proofs.lemmas.List.Elements.{All-take, All-drop}
+use Rattle.cif_records.proofs.Names.{All-drop, All-take, AllFit, AllStandIn, ArePrintable, Header, IsDay, IsFull, IsPrintable, List, None}
+use Rattle.cif_records.proofs.Names.{Option, Some, ap, append_assoc, are, arith, bytes_decides, codes, columns, ddmmyy_in, ddmmyy_of, drop}
+use Rattle.cif_records.proofs.Names.{drop-drop, drop-set, drop-set-lt, drop-take, header_refusal_by, header_rows_by, header_table, kept}
+use Rattle.cif_records.proofs.Names.{length, length-drop, length-set, length-take, lit≤, nat_le, nat_tests, printable_fact, props, refl}
+use Rattle.cif_records.proofs.Names.{set, stands-ddmmyy_in, subst, sym, take, take-append-drop, take-set-le, take-take, take_all, true}
+use Rattle.cif_records.proofs.Names.{with_window, ℕ, ◌++◌, ◌+◌, ◌<◌, ◌∙◌, ◌≡◌, ◌≤◌}
 use mathlib.Core.HLevel.{Σ_prop_path}
-use Rattle.cif_columns.specs.Day.{IsDay, ddmmyy_in}
-use Rattle.cif_columns.specs.DayDigits.{ddmmyy_of}
-use Rattle.cif_columns.specs.Field.{AllFit, AllStandIn, columns}
-use Rattle.cif_columns.specs.Line.{IsPrintable, ArePrintable}
-use Rattle.cif_columns.proofs.DayColumns.{stands-ddmmyy_in}
 use Rattle.cif_columns.proofs.DayDigits.{ddmmyy_of-stands, is_day-ddmmyy}
-use Rattle.cif_columns.proofs.PrintableBytes.{printable_fact}
-use Rattle.cif_records.specs.HeaderColumns.{IsFull, kept, with_window}
-use Rattle.cif_records.specs.Checks.{are}
-use Rattle.cif_records.specs.Header.{header_refusal_by, header_rows_by, header_table}
-use Rattle.cif_records.specs.declared.header.Header.{Header}
 use Rattle.cif_records.proofs.Rows.{◌&◌}
 
 -- columns of the kept columns are those of the line

@@ -1,9 +1,7 @@
 -- A kind is found by its identity, and by no other.
-use Rattle.std.proofs.Common.{◌≡◌, ℕ, Bool, true, false, cond, List, [], ◌∷◌, Some, IfSome, refl, sym, find}
-use Rattle.std.specs.Cmp.Lexicographic.{bytes_decides}
-use Rattle.cif_records.specs.Kind.{identity, kinds, is_identity}
-use Rattle.cif_records.specs.declared.record.Kind.{Kind}
-use Rattle.cif_records.specs.declared.record.Kind.TheVariants.{Hd}
+use Rattle.cif_records.proofs.Names.{Bool, Hd, IfSome, Kind, List, Some, [], bytes_decides, cond, false, find, is_identity, kinds, refl}
+use Rattle.cif_records.proofs.Names.{sym, true, ℕ, ◌∷◌, ◌≡◌}
+use Rattle.cif_records.specs.Kind.{identity}
 
 -- the kind that is found has these letters
 pub found_kind : (letters : List ℕ) (among : List Kind) → IfSome (find (is_identity letters) among) (λ kind. letters ≡ identity kind)

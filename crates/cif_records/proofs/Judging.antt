@@ -1,13 +1,8 @@
 -- What a chain of checks says.
-use Rattle.std.proofs.Common.{◌≡◌, ◌≤◌, ◌<◌, ℕ, List, Option, Some, None, Result, Ok, Err, nat_le, true, false, arith, sym, ap, ◌∙◌, codes}
-use Rattle.std.specs.Cmp.Lexicographic.{bytes_decides}
-use Rattle.std.proofs.lemmas.Bool.{false_from_ne_true}
-use Rattle.std.proofs.lemmas.Bool.Decides.{nat_tests}
-use Rattle.cif_columns.specs.declared.refusal.Refusal.{Refusal}
+use Rattle.cif_records.proofs.Names.{Err, IsJudged, List, None, Ok, Option, Refusal, Result, Some, StandsInYymmdd, ap, are, arith}
+use Rattle.cif_records.proofs.Names.{bytes_decides, codes, dates_refusal, day_number, false, false_from_ne_true, last_date_refusal, nat_le}
+use Rattle.cif_records.proofs.Names.{nat_tests, sym, true, yymmdd_in, yymmdd_in-stands, ℕ, ◌<◌, ◌∙◌, ◌≡◌, ◌≤◌}
 use Rattle.cif_columns.specs.declared.refusal.Refusal.TheVariants.{DatesReversed}
-use Rattle.cif_columns.specs.Day.{StandsInYymmdd, yymmdd_in, day_number}
-use Rattle.cif_columns.proofs.DayColumns.{yymmdd_in-stands}
-use Rattle.cif_records.specs.Checks.{IsJudged, are, last_date_refusal, dates_refusal}
 
 -- the exit of a check that refused
 pub judged_err : {T : Type 0} (P : T → Type 0) (refusal : Option Refusal) (result : Result T Refusal) (why : Refusal)

@@ -16,3 +16,4 @@ pub mod Termini
 pub mod Tiplocs
 pub mod Trailers
 pub mod Windows
+pub mod Names

@@ -1,10 +1,7 @@
 -- A line spells at most one first location, and there is no reason to refuse a line that spells one.
-use Rattle.std.proofs.Common.{◌≡◌, ℕ, List, Option, None, refl, ap, get_or}
-use Rattle.cif_columns.specs.Field.{FieldValue}
-use Rattle.cif_columns.proofs.TableLaws.{all_read, all_read-stands, one_table, columns_in, codes_value}
-use Rattle.cif_columns.proofs.Times.{public_time_in-stands, work_time_in-stands}
-use Rattle.cif_records.specs.Origin.{origin_in, origin_refusal, origin_table, SpellsOrigin}
-use Rattle.cif_records.specs.declared.origin.Origin.{Origin}
+use Rattle.cif_records.proofs.Names.{FieldValue, List, None, Option, Origin, SpellsOrigin, all_read, all_read-stands, ap, codes_value}
+use Rattle.cif_records.proofs.Names.{columns_in, get_or, one_table, origin_in, origin_refusal, origin_table, public_time_in-stands, refl}
+use Rattle.cif_records.proofs.Names.{work_time_in-stands, ℕ, ◌≡◌}
 
 -- the location of a table's values
 abbrev origin_of : List (Option FieldValue) → Origin

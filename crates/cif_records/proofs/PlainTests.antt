@@ -1,9 +1,5 @@
 -- A line that passes the test of its kind.
-use Rattle.std.proofs.Common.{ℕ, List, Ok, sym}
-use Rattle.cif_columns.specs.PlainTest.{IsPlainLineOf}
-use Rattle.cif_records.specs.Checks.{IsJudged}
-use Rattle.cif_records.specs.Record.{IsPlainOf, record_refusal, record_table}
-use Rattle.cif_records.specs.declared.record.Record.{Record}
+use Rattle.cif_records.proofs.Names.{IsJudged, IsPlainLineOf, IsPlainOf, List, Ok, Record, record_refusal, record_table, sym, ℕ}
 use Rattle.cif_records.proofs.Records.{no_refusal}
 
 -- a line that is the plain line of a record, which no line spells that is refused

@@ -1,33 +1,10 @@
 -- A line spells one record at most, of the kind that it names, and there is no reason to refuse a line that spells one.
-use Rattle.std.proofs.Common.{◌≡◌, ℕ, Bool, true, List, Option, Some, None, Result, Ok, Err, codes, refl, sym, ap, ◌∙◌, subst}
-use Rattle.cif_columns.specs.Field.{AllFit, columns, is_whole_from, plain_line}
-use Rattle.cif_columns.specs.Line.{IsLine}
-use Rattle.cif_columns.specs.declared.refusal.Refusal.{Refusal}
-use Rattle.cif_columns.specs.declared.stp.Stp.{Stp}
-use Rattle.cif_columns.proofs.Parts.{stands-plain_line}
-use Rattle.cif_columns.proofs.PlainLines.{line-plain_line}
+use Rattle.cif_records.proofs.Names.{Aa, AllFit, AssocBody, AssocKey, Association, Basic, Bool, Bs, Bx, Change, Cr, Detail, Err, Extra, Hd}
+use Rattle.cif_records.proofs.Names.{Header, IsJudged, IsLine, IsPlainOf, Kind, Li, List, Lo, Lt, None, Ok, Option, Origin, Record, Refusal}
+use Rattle.cif_records.proofs.Names.{Result, Some, SpellsRecord, Stop, Stp, Terminus, Ti, Tiploc, Zz, ap, association_rows, basic_rows}
+use Rattle.cif_records.proofs.Names.{codes, columns, is_whole_from, kind_in, line-plain_line, plain_line, record_refusal, record_table}
+use Rattle.cif_records.proofs.Names.{refl, refusal_as, stands-plain_line, subst, sym, true, ℕ, ◌∙◌, ◌≡◌}
 use Rattle.cif_columns.proofs.StoodValues as stood
-use Rattle.cif_records.specs.Association.{association_rows}
-use Rattle.cif_records.specs.Basic.{basic_rows}
-use Rattle.cif_records.specs.Checks.{IsJudged}
-use Rattle.cif_records.specs.Kind.{identity, kind_in}
-use Rattle.cif_records.specs.Record.{IsPlainOf, record_refusal, record_table, refusal_as, SpellsRecord}
-use Rattle.cif_records.specs.declared.association.AssocBody.{AssocBody}
-use Rattle.cif_records.specs.declared.association.AssocKey.{AssocKey}
-use Rattle.cif_records.specs.declared.association.Association.{Association}
-use Rattle.cif_records.specs.declared.basic.Basic.{Basic}
-use Rattle.cif_records.specs.declared.change.Change.{Change}
-use Rattle.cif_records.specs.declared.detail.Detail.{Detail}
-use Rattle.cif_records.specs.declared.extra.Extra.{Extra}
-use Rattle.cif_records.specs.declared.header.Header.{Header}
-use Rattle.cif_records.specs.declared.record.Kind.{Kind}
-use Rattle.cif_records.specs.declared.record.Kind.TheVariants.{Hd, Ti, Aa, Bs, Bx, Lo, Li, Cr, Lt, Zz}
-use Rattle.cif_records.specs.declared.origin.Origin.{Origin}
-use Rattle.cif_records.specs.declared.record.Record.{Record}
-use Rattle.cif_records.specs.declared.record.Record.TheVariants as a
-use Rattle.cif_records.specs.declared.stop.Stop.{Stop}
-use Rattle.cif_records.specs.declared.terminus.Terminus.{Terminus}
-use Rattle.cif_records.specs.declared.tiploc.Tiploc.{Tiploc}
 use Rattle.cif_records.proofs.Associations as associations
 use Rattle.cif_records.proofs.Basics as basics
 use Rattle.cif_records.proofs.Changes as changes
@@ -40,6 +17,8 @@ use Rattle.cif_records.proofs.Stops as stops
 use Rattle.cif_records.proofs.Termini as termini
 use Rattle.cif_records.proofs.Tiplocs as tiplocs
 use Rattle.cif_records.proofs.Trailers as trailers
+use Rattle.cif_records.specs.Kind.{identity}
+use Rattle.cif_records.specs.declared.record.Record.TheVariants as a
 
 -- what a record of a kind holds; amended and deleted locations are never held
 abbrev Held : Kind → Type 0

@@ -1,6 +1,5 @@
 -- Facts of the rows of a table, and of the steps that put them, one after another.
-use Rattle.std.proofs.Common.{◌≡◌, ◌∙◌, ℕ, List, ap}
-use Rattle.cif_columns.specs.LineBuilder.{put}
+use Rattle.cif_records.proofs.Names.{List, ap, put, ℕ, ◌∙◌, ◌≡◌}
 
 infixr 5 ◌&◌
 -- a fact, and those of the rows behind it

@@ -1,10 +1,7 @@
 -- A line spells a location on the way of a journey in one way at most, and there is no reason to refuse a line that spells one.
-use Rattle.std.proofs.Common.{◌≡◌, ℕ, List, Option, None, refl, ap, get_or}
-use Rattle.cif_columns.specs.Field.{FieldValue}
-use Rattle.cif_columns.proofs.TableLaws.{all_read, all_read-stands, one_table, columns_in, codes_value}
-use Rattle.cif_columns.proofs.Times.{public_time_in-stands, work_time_in-stands}
-use Rattle.cif_records.specs.Stop.{SpellsStop, stop_in, stop_refusal, stop_table}
-use Rattle.cif_records.specs.declared.stop.Stop.{Stop}
+use Rattle.cif_records.proofs.Names.{FieldValue, List, None, Option, SpellsStop, Stop, all_read, all_read-stands, ap, codes_value}
+use Rattle.cif_records.proofs.Names.{columns_in, get_or, one_table, public_time_in-stands, refl, stop_in, stop_refusal, stop_table}
+use Rattle.cif_records.proofs.Names.{work_time_in-stands, ℕ, ◌≡◌}
 
 -- the record of a table's values
 abbrev stop_of : List (Option FieldValue) → Stop

@@ -1,13 +1,8 @@
 -- A line spells at most one location, and there is no reason to refuse a line that spells one.
-use Rattle.std.proofs.Common.{◌≡◌, ℕ, List, None, codes, length, refl, sym, ap, ◌∙◌}
-use Rattle.std.proofs.Props.{props}
+use Rattle.cif_records.proofs.Names.{AllFit, ArePrintable, List, None, SpellsTiploc, Tiploc, ap, codes, length, printable_fact, props, refl}
+use Rattle.cif_records.proofs.Names.{sym, tiploc_refusal, tiploc_table, ℕ, ◌∙◌, ◌≡◌}
 use mathlib.Core.HLevel.{Σ_prop_path}
-use Rattle.cif_columns.specs.Field.{AllFit}
-use Rattle.cif_columns.specs.Line.{ArePrintable}
-use Rattle.cif_columns.proofs.PrintableBytes.{printable_fact}
 use Rattle.cif_records.proofs.Rows.{◌&◌}
-use Rattle.cif_records.specs.Tiploc.{SpellsTiploc, tiploc_refusal, tiploc_table}
-use Rattle.cif_records.specs.declared.tiploc.Tiploc.{Tiploc}
 
 -- a location is determined by its columns
 pub same_tiploc : (t u : Tiploc) → t.columns ≡ u.columns → t ≡ u

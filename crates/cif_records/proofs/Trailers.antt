@@ -1,7 +1,5 @@
 -- There is no reason to refuse a line that spells a trailer.
-use Rattle.std.proofs.Common.{◌≡◌, ℕ, List, None, codes, refl}
-use Rattle.cif_columns.specs.Field.{AllFit, AllStandIn}
-use Rattle.cif_columns.proofs.PrintableBytes.{printable_fact}
+use Rattle.cif_records.proofs.Names.{AllFit, AllStandIn, List, None, codes, printable_fact, refl, ℕ, ◌≡◌}
 use Rattle.cif_records.proofs.Rows.{◌&◌}
 use Rattle.cif_records.specs.Trailer.{trailer_refusal, trailer_table}
 

@@ -1,12 +1,9 @@
 -- A header's columns with another window: the six columns of its first date, and then the six of its last date, are written over them.
-use Rattle.std.proofs.Common.{◌≡◌, ℕ, ◌≤◌, List, [], ◌++◌, length, take, drop, sym, ap, ◌∙◌, arith, length-append, append_assoc}
-use Rattle.std.proofs.Common.{subst, length-drop}
-use Rattle.std.proofs.lemmas.List.{append-nil, take_at, drop_at, take_all, drop_all, drop-drop, drop-take, take-take, length-take-le}
-use Rattle.std.proofs.lemmas.List.Elements.{All-append, All-take}
-use Rattle.std.proofs.lemmas.Slice.{take-put_mid}
+use Rattle.cif_records.proofs.Names.{All-append, All-take, ArePrintable, IsPrintable, List, [], ap, append-nil, append_assoc, arith, drop}
+use Rattle.cif_records.proofs.Names.{drop-drop, drop-take, drop_all, drop_at, kept, length, length-append, length-drop, length-take-le}
+use Rattle.cif_records.proofs.Names.{subst, sym, take, take-take, take_all, take_at, ℕ, ◌++◌, ◌∙◌, ◌≡◌, ◌≤◌}
 use borrow.Rule.Slice.PartMut.{put_mid}
-use Rattle.cif_columns.specs.Line.{IsPrintable, ArePrintable}
-use Rattle.cif_records.specs.HeaderColumns.{kept}
+use Rattle.std.proofs.lemmas.Slice.{take-put_mid}
 
 -- columns 3 to 48 are 46
 front_width : (old : List ℕ) → length old ≡ 58 → length (take 46 old) ≡ 46

@@ -1,21 +1,11 @@
 -- What a command owes its sink, by the calls that it makes.
-use Rattle.std.proofs.Common.{◌≡◌, ◌≢◌, ℕ, false, List, [], Option, Result, Ok, Err, IfOk, IfErr, refl, sym, subst, append-nil, ap, ◌∙◌}
-use Rattle.std.specs.Prelude.{IsErrAnd, MatchResult}
-use Rattle.std.proofs.lemmas.Result.{IfOk-weaker, err_from_is_err_and}
-use Rattle.cif_columns.specs.Sink.{HasFailed, HasWritten, Writes}
-use Rattle.cif_columns.specs.declared.line_reader.TheConstants.{MAX_LINES}
-use Rattle.cif_columns.specs.declared.sink.Sink.{Sink}
-use Rattle.cif_columns.proofs.WrittenTexts.{failed_second, written_both}
-use Rattle.cif_columns.specs.Source.{Unread}
-use Rattle.cif_columns.specs.declared.source.Source.{Source}
-use Rattle.cif_extract.specs.ReadCall.{IsResultOf, IsResultOfBoth, ReadCall}
-use Rattle.cif_extract.specs.ReadFault.{is_read, reading_extract}
+use Rattle.cif_tool.proofs.Names.{Answers, AreAnswered, Err, Fault, FaultWrites, Finishes, HasFailed, HasWritten, IfAnswered, IfErr, IfOk}
+use Rattle.cif_tool.proofs.Names.{IfOk-weaker, IfWritten, IsAnswered, IsErrAnd, IsHandedOn, IsResultOf, IsResultOfBoth, List, MAX_LINES}
+use Rattle.cif_tool.proofs.Names.{Makes, MatchResult, OfBoth, OfInput, Ok, Option, ReadCall, Refuses, Result, Sink, Source, Unread, Writes}
+use Rattle.cif_tool.proofs.Names.{[], answering, ap, append-nil, at-fault, err_from_is_err_and, failed_second, false, goes-on, hands-on}
+use Rattle.cif_tool.proofs.Names.{is_read, reading_extract, refl, subst, sym, written_both, ℕ, ◌∙◌, ◌≡◌, ◌≢◌}
 use Rattle.cif_extract.specs.declared.extract.Extract.{Extract}
-use Rattle.cif_extract.specs.declared.fault.Fault.{Fault}
 use Rattle.cif_extract.specs.declared.fault.Fault.TheVariants as fault
-use Rattle.cif_extract.proofs.ReadCalls.{Makes, Refuses, at-fault, goes-on, hands-on}
-use Rattle.cif_canon.specs.Normalised.{FaultWrites, IfWritten}
-use Rattle.cif_tool.specs.Answer.{Answers, AreAnswered, Finishes, IfAnswered, IsAnswered, IsHandedOn, OfBoth, OfInput, answering}
 
 -- what holds where a text was written, and what follows from it
 pub written-then : (A P Q : Type 0) (written : Result A Fault) → (P → Q) → IfWritten written P → IfWritten written Q

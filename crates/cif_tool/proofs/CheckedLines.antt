@@ -1,29 +1,15 @@
 -- What `check --all` answers, by what its calls answer: of bytes that are known.
-use Rattle.std.proofs.Common.{◌≡◌, ◌≢◌, ℕ, false, List, Option, IfErr, IfOk, IfSome, Result, Ok, Err, inl, inr, refl}
-use Rattle.std.specs.Prelude.{MatchResult}
-use Rattle.cif_columns.specs.declared.line_reader.TheConstants.{MAX_LINES}
-use Rattle.cif_columns.proofs.GivenLinesLaws.{known_so}
-use Rattle.cif_columns.specs.Source.{Unread}
-use Rattle.cif_extract.specs.ExtractParts.{ExtractParts, extract_parts}
-use Rattle.cif_extract.specs.ReadFault.{is_read}
+use Rattle.cif_tool.proofs.Names.{Asked, CanonParts, CanonicalJob, Err, ExtractParts, Fault, Form, HasCanon, HaveReasons, IfErr, IfOk}
+use Rattle.cif_tool.proofs.Names.{IfSome, IsCheckAllAnswer, IsCheckAllFault, IsJudgedFault, IsNormaliseFault, List, MAX_LINES, Makes}
+use Rattle.cif_tool.proofs.Names.{MatchResult, Ok, Option, Refuses, Result, Unread, answering_all, canon-blamed, counts_line, extract_parts}
+use Rattle.cif_tool.proofs.Names.{false, inl, inr, is-normalised, is_read, judging, known_so, of-canon, refl, told_text, ℕ, ◌≡◌, ◌≢◌}
 use Rattle.cif_extract.specs.declared.extract.Extract.{Extract}
-use Rattle.cif_extract.specs.declared.fault.Fault.{Fault}
 use Rattle.cif_extract.specs.declared.fault.Fault.TheVariants as fault
-use Rattle.cif_extract.proofs.ReadCalls.{Makes, Refuses}
-use Rattle.cif_weeks.specs.declared.form.Form.{Form}
-use Rattle.cif_canon.specs.Canon.{CanonParts}
-use Rattle.cif_canon.specs.Counts.{counts_line}
-use Rattle.cif_canon.specs.Fault.{IsNormaliseFault}
-use Rattle.cif_canon.specs.Normalised.{HasCanon}
-use Rattle.cif_canon.specs.declared.asked.Asked.{Asked}
-use Rattle.cif_canon.proofs.Normalising.{canon-blamed, is-normalised, of-canon}
-use Rattle.cif_feed.specs.Judged.{HaveNone, HaveReasons, IsJudgedFault, judging}
-use Rattle.cif_feed.specs.Reasons.{told_text}
+use Rattle.cif_feed.proofs.ToldReasons.{told_as}
+use Rattle.cif_feed.specs.Judged.{HaveNone}
 use Rattle.cif_feed.specs.declared.judged.Judged.{Judged}
 use Rattle.cif_feed.specs.declared.judged.Judged.TheVariants as judged
 use Rattle.cif_feed.specs.declared.reasons.Reasons.{Reasons}
-use Rattle.cif_feed.proofs.ToldReasons.{told_as}
-use Rattle.cif_tool.specs.Answer.{CanonicalJob, IsCheckAllAnswer, IsCheckAllFault, answering_all}
 
 -- ---- the answers
 

@@ -1,16 +1,12 @@
 -- A command that is built call by call is the one that the definition says.
-use Rattle.std.proofs.Common.{◌≡◌, ◌∙◌, ℕ, ◌+◌, ◌<◌, List, [], ◌∷◌, drop, get_or, length, Some, map, true, false, refl, sym, ap, ap₂, ◌||◌}
-use Rattle.std.proofs.lemmas.List.{at_drop_more}
-use Rattle.std.specs.Borrow.{Bor}
-use Rattle.clap.specs.Words.{AddsArg, App, Text, app_of, is_simple, is_simple_and_free, new_app, rule_of}
-use Rattle.clap.specs.Words.{with_rule}
-use Rattle.clap.specs.Simple.{app_of_fields}
+use Rattle.cif_tool.proofs.Names.{AddsArg, App, Bor, IsCommand, List, Parts, Some, Text, Verbose, [], ap, app_of, app_of_fields, ap₂}
+use Rattle.cif_tool.proofs.Names.{argument, at_drop_more, cif, drop, false, get_or, given, is_simple, is_simple_and_free, length, map}
+use Rattle.cif_tool.proofs.Names.{new_app, program, refl, rule_of, sym, taken, taking, true, with_rule, with_subcommands, ℕ, ◌+◌, ◌<◌, ◌||◌}
+use Rattle.cif_tool.proofs.Names.{◌∙◌, ◌∷◌, ◌≡◌}
 use Rattle.clap.specs.declared.Command.{Command}
-use Rattle.clap.specs.declared.builder.arg.Arg.{Arg}
 use Rattle.clap.specs.declared.Command.TheViews.{out-Command}
-use Rattle.cif_tool.specs.CommandLine.{IsCommand, Parts, argument, cif, given, program, taken, taking, with_subcommands}
+use Rattle.clap.specs.declared.builder.arg.Arg.{Arg}
 use Rattle.cif_tool.specs.declared.command_line.Argument.{Argument}
-use Rattle.cif_tool.specs.declared.command_line.Argument.TheVariants.{Verbose}
 use Rattle.cif_tool.specs.declared.command_line.Choices.{Choices}
 
 -- `clap` says exactly what it makes of the command's words

@@ -1,44 +1,20 @@
 -- What the commands answer, by what their calls answer: of bytes that are known.
-use Rattle.std.proofs.Common.{◌≡◌, ◌↔◌, ◌⊎◌, ℕ, Bool, true, false, List, [], Option, IfSome, Result, Ok, Err, IfErr, IsTrue, inl, inr}
-use Rattle.std.proofs.Common.{⊎_elim, ap, refl, sym, true≢false}
-use Rattle.std.specs.Prelude.{IsErrAnd}
-use Rattle.cif_columns.specs.Source.{Unread, reader_of}
-use Rattle.cif_columns.specs.declared.line_reader.TheConstants.{MAX_LINES}
-use Rattle.cif_columns.specs.declared.source.Source.{Source}
-use Rattle.cif_columns.proofs.GivenLinesLaws.{known_so}
-use Rattle.cif_extract.specs.ExtractParts.{ExtractParts, extract_parts}
-use Rattle.cif_extract.specs.ReadCall.{IsResultOfBoth}
-use Rattle.cif_extract.specs.ReadFault.{reading_extract}
-use Rattle.cif_extract.specs.SpellsExtract.{BytesSpellWithin}
-use Rattle.cif_extract.specs.declared.extract.Extract.{Extract}
-use Rattle.cif_extract.specs.declared.fault.Clash.{Clash}
-use Rattle.cif_extract.specs.declared.fault.Fault.{Fault}
-use Rattle.cif_extract.specs.declared.fault.Fault.TheVariants as fault
+use Rattle.cif_tool.proofs.Names.{AreAllClashes, AreCompared, AreComparedAs, AreDifferences, AreNone, Asked, Bool, BytesSpellWithin}
+use Rattle.cif_tool.proofs.Names.{CalendarJob, CanonParts, CanonicalJob, Clash, CompareJob, DayJob, DifferencesParts, Err, ExplainJob}
+use Rattle.cif_tool.proofs.Names.{ExtractLines, ExtractParts, Fault, Format, IfErr, IfSome, IsCalendarAnswer, IsCanonOfInput}
+use Rattle.cif_tool.proofs.Names.{IsCanonicalAnswer, IsClashesAnswer, IsClashlessRefusal, IsCompareAnswer, IsCompareFault, IsDayAnswer}
+use Rattle.cif_tool.proofs.Names.{IsDiffAnswer, IsErrAnd, IsExplainAnswer, IsExplanation, IsListedStatus, IsNormaliseFault}
+use Rattle.cif_tool.proofs.Names.{IsReadNarrowedFault, IsResultOfBoth, IsTrainAnswer, IsTrainFault, IsTrue, IsWeekCalendar}
+use Rattle.cif_tool.proofs.Names.{IsWeekCalendarFault, List, MAX_LINES, Ok, Option, Result, Source, SpellsNarrowed, TrainJob, Unread, []}
+use Rattle.cif_tool.proofs.Names.{ap, canon-fault, canonical_text, clashes_text, comparison_line, differences_in, extract_parts, false, inl}
+use Rattle.cif_tool.proofs.Names.{inr, is-normalised, known_so, lines_of, listed_status, outcome_of, reader_of, reading_extract, refl, sym}
+use Rattle.cif_tool.proofs.Names.{table_text, true, true≢false, ℕ, ⊎_elim, ◌↔◌, ◌≡◌, ◌⊎◌}
 use Rattle.cif_extract.proofs.ReadCalls.{both-go-on, both-hand-on}
-use Rattle.cif_canon.specs.Accepted.{SpellsNarrowed}
-use Rattle.cif_canon.specs.Canon.{CanonParts}
-use Rattle.cif_canon.specs.Comparison.{AreCompared, IsCompareFault, comparison_line}
-use Rattle.cif_canon.specs.Differences.{AreDifferences, AreNone, DifferencesParts}
-use Rattle.cif_canon.specs.Fault.{IsNormaliseFault, IsReadNarrowedFault}
-use Rattle.cif_canon.specs.Lines.{ExtractLines, lines_of}
-use Rattle.cif_canon.specs.Normalised.{IsCanonOfInput}
+use Rattle.cif_extract.specs.declared.extract.Extract.{Extract}
+use Rattle.cif_extract.specs.declared.fault.Fault.TheVariants as fault
 use Rattle.cif_canon.specs.Pair.{IsNarrowedPair, SpellPair}
-use Rattle.cif_canon.specs.Views.{IsTrainFault}
-use Rattle.cif_canon.specs.declared.asked.Asked.{Asked}
 use Rattle.cif_canon.specs.declared.comparison.Comparison.{Comparison}
-use Rattle.cif_canon.specs.declared.rows.Format.{Format}
-use Rattle.cif_canon.proofs.Normalising.{canon-fault, is-normalised}
-use Rattle.cif_views.specs.Clashes.{AreAllClashes, clashes_text}
-use Rattle.cif_views.specs.Explanation.{IsExplanation}
 use Rattle.cif_views.specs.Listing.{IsDayListing, IsTrainListing}
-use Rattle.cif_views.specs.TableText.{table_text}
-use Rattle.cif_views.specs.WeekCalendar.{IsWeekCalendar, IsWeekCalendarFault}
-use Rattle.cif_tool.specs.Answer.{AreComparedAs, CalendarJob, CanonicalJob, CompareJob, DayJob, ExplainJob, IsCalendarAnswer}
-use Rattle.cif_tool.specs.Answer.{IsClashesAnswer, IsClashlessRefusal, IsCompareAnswer, IsDayAnswer, IsDiffAnswer}
-use Rattle.cif_tool.specs.Answer.{IsCanonicalAnswer, IsExplainAnswer, IsListedStatus, IsTrainAnswer}
-use Rattle.cif_tool.specs.Answer.{TrainJob, canonical_text}
-use Rattle.cif_tool.specs.Answer.{differences_in}
-use Rattle.cif_tool.specs.Status.{listed_status, outcome_of}
 use Rattle.cif_tool.specs.declared.answers.CanonicalOutput.{CanonicalOutput}
 use Rattle.cif_tool.specs.declared.answers.CanonicalOutput.TheVariants as output
 

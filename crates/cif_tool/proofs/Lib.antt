@@ -4,3 +4,4 @@ pub mod CommandBuilt
 pub mod KnownAnswers
 pub mod PreparedRead
 pub mod UpdatesRead
+pub mod Names

@@ -1,34 +1,22 @@
 -- What comes of the sources of `prepare`, where the bytes that their readers give are known.
-use Rattle.std.proofs.Common.{◌≡◌, ◌∙◌, ◌⊎◌, ⊎_elim, ℕ, List, [], Option, None, Some, Result, Ok, Err, Bool, IfErr, IfSome}
-use Rattle.std.proofs.Common.{ap, inl, inr, refl}
-use Rattle.std.proofs.Common.{subst, sym}
-use Rattle.std.specs.Bool.{MatchBool}
-use Rattle.cif_columns.proofs.GivenLinesLaws.{known_so}
-use Rattle.cif_columns.specs.Sink.{HasFailed, HasWritten}
-use Rattle.cif_columns.specs.Source.{HasFailedToRead, HasReadOn, Unread, reader_of, unread_of}
-use Rattle.cif_columns.specs.declared.line_reader.TheConstants.{MAX_LINES}
-use Rattle.cif_columns.specs.declared.sink.Sink.{Sink}
-use Rattle.cif_columns.specs.declared.source.Source.{Source}
-use Rattle.cif_extract.proofs.ReadCalls.{goes-on, of_any, refuses}
-use Rattle.cif_extract.specs.ReadCall.{IsResultOf}
-use Rattle.cif_columns.specs.Contents.{contents_of}
+use Rattle.cif_tool.proofs.Names.{AreHolidaysGiven, AreHolidaysOf, AreHolidaysRead, BadTransaction, Bool, Err, FeedAnswers, FeedFault}
+use Rattle.cif_tool.proofs.Names.{FeedWrites, HasFailed, HasReadOn, HasWritten, IfErr, IfSome, IsBadHoliday, IsDeviceOrMemory}
+use Rattle.cif_tool.proofs.Names.{IsFirstOfFeed, IsHolidayFault, IsHolidayFeedFault, IsPrepareAnswer, IsPrepareFault, IsPreparedInTurn}
+use Rattle.cif_tool.proofs.Names.{IsPreparedText, IsResultOf, IsTold, List, MAX_LINES, MatchBool, None, NotUpdate, OfHolidays, Ok, Option}
+use Rattle.cif_tool.proofs.Names.{Prepares, PublishedExtract, Result, Sink, Some, Source, Unread, [], ap, codes_named, contents_of, goes-on}
+use Rattle.cif_tool.proofs.Names.{inl, inr, is_feed_read, known_so, of_any, preparing, reader_of, reading_as_feed, reading_holidays, refl}
+use Rattle.cif_tool.proofs.Names.{refuses, subst, sym, unread_of, ℕ, ⊎_elim, ◌∙◌, ◌≡◌, ◌⊎◌}
+use Rattle.cif_columns.specs.Source.{HasFailedToRead}
 use Rattle.cif_extract.specs.declared.fault.Fault.TheVariants as fault
-use Rattle.cif_feed.specs.FeedRefusal.{IsFirstOfFeed}
-use Rattle.cif_feed.specs.FeedFault.{is_feed_read, of_holiday_fault}
-use Rattle.cif_feed.specs.HolidayText.{IsHolidayFault, is_holiday_read, reading_holidays}
-use Rattle.cif_feed.specs.WrittenPrepared.{FeedWrites, IsDeviceOrMemory, IsPrepareFault as IsOnePrepareFault, IsPreparedText, Prepares}
-use Rattle.cif_feed.specs.WrittenPrepared.{codes_named, preparing}
+use Rattle.cif_feed.specs.FeedFault.{of_holiday_fault}
+use Rattle.cif_feed.specs.HolidayText.{is_holiday_read}
+use Rattle.cif_feed.specs.WrittenPrepared.{IsPrepareFault as IsOnePrepareFault}
 use Rattle.cif_feed.specs.declared.dropped.Dropped.{Dropped}
+use Rattle.cif_feed.specs.declared.feed.FeedFault.TheVariants.{Extract}
 use Rattle.cif_feed.specs.declared.feed_line.Feed.TheVariants.{Full}
-use Rattle.cif_feed.specs.declared.feed.FeedFault.{FeedFault}
-use Rattle.cif_feed.specs.declared.feed.FeedFault.TheVariants.{BadTransaction, Extract, NotUpdate}
 use Rattle.cif_feed.specs.declared.holiday_text.HolidayFault.{HolidayFault}
 use Rattle.cif_feed.specs.declared.holiday_text.HolidayFault.TheVariants.{BadHoliday, Memory, Read}
 use Rattle.cif_feed.specs.declared.holidays.Holidays.{Holidays}
-use Rattle.cif_feed.specs.declared.published_extract.PublishedExtract.{PublishedExtract}
-use Rattle.cif_tool.specs.FeedAnswer.{AreHolidaysGiven, AreHolidaysOf, AreHolidaysRead, FeedAnswers, IsBadHoliday, IsHolidayFeedFault}
-use Rattle.cif_tool.specs.FeedAnswer.{IsPrepareAnswer, IsPrepareFault, IsPreparedInTurn, IsTold, OfHolidays}
-use Rattle.cif_tool.specs.FeedAnswer.{reading_as_feed}
 use Rattle.cif_tool.proofs.UpdatesRead.{answer-of, fault-of}
 
 -- ---- holidays

@@ -1,36 +1,21 @@
 -- What comes of the sources of `update`, where the bytes that their readers give are known.
-use Rattle.std.proofs.Common.{◌≡◌, ◌∙◌, ◌⊎◌, ⊎_elim, ℕ, List, [], ◌∷◌, ◌++◌, Option, Some, Result, Ok, Err, Bool, IfErr, IfOk, IfSome}
-use Rattle.std.proofs.Common.{ap, append-nil, append_assoc, inl, inr, refl, subst, sym}
-use Rattle.std.specs.Prelude.{MatchResult}
-use Rattle.std.proofs.lemmas.Grind.{flat_map-append}
-use Rattle.cif_columns.proofs.WrittenTexts.{failed_second, written_both}
-use Rattle.cif_columns.specs.Sink.{HasFailed, HasWritten, Writes}
-use Rattle.cif_columns.specs.Source.{Unread, reader_of, unread_of}
-use Rattle.cif_columns.specs.declared.line_reader.TheConstants.{MAX_LINES}
-use Rattle.cif_columns.specs.declared.sink.Sink.{Sink}
+use Rattle.cif_tool.proofs.Names.{AlreadyThere, AreDoneInTurn, AreGiven, AreUpdatesRead, BadTransaction, Bool, BytesSpellPublished, EndsAs}
+use Rattle.cif_tool.proofs.Names.{Err, FeedAnswers, FeedFault, FeedFinishes, HasFailed, HasWritten, IfErr, IfOk, IfSome, IsDeviceOrMemory}
+use Rattle.cif_tool.proofs.Names.{IsPublishedOf, IsResultOf, IsTold, IsUpdateFault, List, MAX_LINES, Makes, MatchResult, NotThere}
+use Rattle.cif_tool.proofs.Names.{NotUpdate, OfUpdates, Ok, Option, OutOfSequence, PublishedExtract, PublishedParts, ReadCall, Refuses}
+use Rattle.cif_tool.proofs.Names.{Result, Sink, Some, Source, Unread, Write, Writes, [], all_codes, ap, append-nil, append_assoc, doing}
+use Rattle.cif_tool.proofs.Names.{failed_second, flat_map-append, goes-on, inl, inr, published_parts, published_text, reader_of}
+use Rattle.cif_tool.proofs.Names.{reading_published, refl, subst, sym, unread_of, updating, waived_by, written_both, ℕ, ⊎_elim, ◌++◌, ◌∙◌}
+use Rattle.cif_tool.proofs.Names.{◌∷◌, ◌≡◌, ◌⊎◌}
 use Rattle.cif_columns.specs.declared.sink.WriteFault.{WriteFault}
-use Rattle.cif_columns.specs.declared.source.Source.{Source}
-use Rattle.cif_extract.proofs.ReadCalls.{Makes, Refuses, goes-on}
-use Rattle.cif_extract.specs.ReadCall.{IsResultOf, ReadCall}
-use Rattle.cif_extract.specs.declared.fault.Fault.TheVariants.{Memory, Read, Refused, Write}
-use Rattle.cif_feed.specs.HolidayCode.{all_codes}
-use Rattle.cif_feed.specs.PublishedParts.{BytesSpellPublished, IsPublishedOf, PublishedParts, published_parts, published_text}
-use Rattle.cif_feed.specs.PublishedParts.{reading_published}
+use Rattle.cif_extract.specs.declared.fault.Fault.TheVariants.{Memory, Read, Refused}
 use Rattle.cif_feed.specs.Updated.{IsOfUpdate, IsOutcomeOf, IsUpdateFault as IsOneUpdateFault}
-use Rattle.cif_feed.specs.Updated.{updating}
 use Rattle.cif_feed.specs.UpdatesInTurn.{AreUpdatesDone, IsOneRefused, IsRefusedFor, IsWritten}
-use Rattle.cif_feed.specs.WrittenPrepared.{IsDeviceOrMemory}
 use Rattle.cif_feed.specs.declared.changes.RefusedLine.{RefusedLine}
 use Rattle.cif_feed.specs.declared.changes.Unfit.TheVariants as unfit
-use Rattle.cif_feed.specs.declared.feed.FeedFault.{FeedFault}
-use Rattle.cif_feed.specs.declared.feed.FeedFault.TheVariants.{AlreadyThere, BadHoliday, BadTransaction, Extract, NotThere}
-use Rattle.cif_feed.specs.declared.feed.FeedFault.TheVariants.{NotUpdate, OutOfSequence}
+use Rattle.cif_feed.specs.declared.feed.FeedFault.TheVariants.{BadHoliday, Extract}
 use Rattle.cif_feed.specs.declared.holidays.HolidayCodes.{HolidayCodes}
-use Rattle.cif_feed.specs.declared.published_extract.PublishedExtract.{PublishedExtract}
 use Rattle.cif_feed.specs.declared.update.Outcome.{Outcome}
-use Rattle.cif_tool.specs.FeedAnswer.{AreDoneInTurn, AreGiven, AreUpdatesRead, EndsAs, FeedAnswers, FeedFinishes, IsTold}
-use Rattle.cif_tool.specs.FeedAnswer.{IsUpdateFault, OfUpdates}
-use Rattle.cif_tool.specs.FeedAnswer.{doing, waived_by}
 use Rattle.cif_tool.specs.declared.feed_answers.DoneUpdate.{DoneUpdate}
 
 -- a call's answer, and its fault, where the bytes of its reader are known

@@ -1,14 +1,9 @@
 -- The rows of associations, and of what is explained, have all fields; and those of records have all columns.
-use Rattle.std.proofs.Common.{◌≡◌, ℕ, ◌+◌, Bool, true, false, List, [], ◌∷◌, ◌++◌, Option, None, Some, append-nil, append_assoc, ap}
-use Rattle.std.proofs.Common.{codes, drop}
-use Rattle.std.proofs.Common.{refl, sym, take, ◌∙◌}
-use Rattle.std.proofs.Math.Seq.{take-add}
-use Rattle.std.proofs.lemmas.List.{drop-drop}
-use Rattle.cif_columns.specs.Field.{columns}
+use Rattle.cif_views.proofs.Names.{AssocBody, AssocKey, BodyLines, Bool, List, Mark, None, Option, Some, Terms, Trimmed, Tsv, [], ap}
+use Rattle.cif_views.proofs.Names.{append-nil, append_assoc, association_fields_of, codes, columns, date_field, day_names, drop, drop-drop}
+use Rattle.cif_views.proofs.Names.{explanation_names, false, mark_columns, no_association, no_train, refl, said_of_association}
+use Rattle.cif_views.proofs.Names.{said_of_train, sym, take, take-add, terms_fields, true, with_first, ℕ, ◌++◌, ◌+◌, ◌∙◌, ◌∷◌, ◌≡◌}
 use Rattle.cif_views.specs.AllFields.{HasAll, TablesHaveColumns, table_with}
-use Rattle.cif_views.specs.Explanation.{explanation_names, mark_columns, said_of_association, said_of_train, terms_fields}
-use Rattle.cif_views.specs.Listing.{association_fields_of, date_field, day_names}
-use Rattle.cif_views.proofs.Words.{AssocBody, AssocKey, BodyLines, Mark, Terms, Trimmed, Tsv, no_association, no_train, with_first}
 
 pub all-of_association : (calls : Bool) (d : ℕ) (e : AssocKey × AssocBody) →
     HasAll (day_names (table_with calls)) (association_fields_of (table_with calls) (date_field d) e)

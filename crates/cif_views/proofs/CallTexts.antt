@@ -1,16 +1,13 @@
 -- The text of calls that are written one after another, and of the rows of a table that has them.
-use Rattle.std.proofs.Common.{◌≡◌, ℕ, ◌<◌, Bool, true, false, List, [], ◌∷◌, ◌++◌, codes, length, refl, sym, ap, ap₂, ◌∙◌, append-nil}
-use Rattle.std.proofs.Common.{◌+◌, ◌≤◌, Bor, append_assoc, arith, drop, get_or, if◌then◌else◌, map, subst}
-use Rattle.std.proofs.lemmas.List.{at_drop_all, at_drop_more}
-use Rattle.cif_extract.specs.Body.{parts_in}
-use Rattle.cif_views.specs.Explanation.{explanation_heading}
-use Rattle.cif_views.specs.Steps.Rows.{heading_text, row_and_calls}
-use Rattle.cif_views.specs.Listing.{association_names, if_table, lines_of_row, train_names, with_calls}
+use Rattle.cif_views.proofs.Names.{At, BodyLines, Bool, Bor, Call, Field, Format, List, Text, Trimmed, Tsv, Turn, [], ap, append-nil}
+use Rattle.cif_views.proofs.Names.{append_assoc, ap₂, arith, association_names, at_drop_all, at_drop_more, call_text, calls_text, codes}
+use Rattle.cif_views.proofs.Names.{day_names, drop, explanation_heading, false, fields_text, flat_map, get_or, heading_text, if_table}
+use Rattle.cif_views.proofs.Names.{if◌then◌else◌, joined-rows, length, line_of, lines_of_row, map, names_behind, names_line, parts_in, refl}
+use Rattle.cif_views.proofs.Names.{row_and_calls, row_lines, row_start, separator, shown, subst, sym, train_names, true, with_calls}
+use Rattle.cif_views.proofs.Names.{with_first, ℕ, ◌++◌, ◌+◌, ◌<◌, ◌∙◌, ◌∷◌, ◌≡◌, ◌≤◌}
+use Rattle.cif_canon.proofs.ViewLines.{IsGrowing}
+use Rattle.cif_canon.specs.Fields.{after}
 use Rattle.cif_views.specs.declared.listing.Listing.{Listing}
-use Rattle.cif_canon.specs.Fields.{separator}
-use Rattle.cif_canon.proofs.ViewLines.{IsGrowing, joined-rows}
-use Rattle.cif_views.proofs.Words.{At, BodyLines, Call, Field, Format, Text, Trimmed, Tsv, Turn, after, call_text, calls_text, day_names}
-use Rattle.cif_views.proofs.Words.{fields_text, flat_map, line_of, names_behind, names_line, row_lines, row_start, shown, with_first}
 
 -- one more of all is done, or none is left
 module _ {X : Type 0} (all done left : List X) (split : done ++ left ≡ all) where

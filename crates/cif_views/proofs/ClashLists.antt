@@ -1,23 +1,15 @@
 -- There are no clashes exactly where the extract is clear, and the first of them is the first clash.
-use Rattle.std.proofs.Common.{◌≡◌, zero, suc, ℕ, List, [], ◌∷◌, ◌++◌, Some, map, arith, refl, sym, ◌∙◌, ap, subst}
-use Rattle.std.specs.Cmp.{IsTotalOrder}
-use Rattle.std.specs.Cmp.Lexicographic.{nat_list_cmp_total, texts_ties}
-use Rattle.std.specs.Ordering.{is_eq}
-use Rattle.std.proofs.lemmas.Option.{same_Some}
-use Rattle.cif_calendar.specs.Keys.{AreClear, IsFirstClashOf}
-use Rattle.cif_calendar.proofs.Elements.{Contains-first}
-use Rattle.cif_calendar.proofs.FirstClash.{IsFirstClashOf-clear, IsFirstClashOf-day, IsFirstClashOf-key, first_clash-clear}
-use Rattle.cif_extract.specs.declared.fault.Clash.TheVariants as named
+use Rattle.cif_views.proofs.Names.{AreAllClashes, AreClashes, AreClear, AssocKey, Association, Clash, Contains, Contains-first}
+use Rattle.cif_views.proofs.Names.{Contains-none, Equal, ExtractParts, IsClearExtract, IsFirstClashIn, IsFirstClashOf, IsTotalOrder, Less}
+use Rattle.cif_views.proofs.Names.{List, Ordering, Schedule, Some, Terms, [], ap, arith, association_clash, association_entries}
+use Rattle.cif_views.proofs.Names.{association_entry, bytes_decides, first_clash-clear, is_eq, key_cmp, keys-total, less_one_way, map}
+use Rattle.cif_views.proofs.Names.{nat_cmp, nat_list_cmp_total, not_less, of_key, refl, same-keys, same_Some, schedule_entries}
+use Rattle.cif_views.proofs.Names.{schedule_entry, slice_cmp, slice_get, subst, suc, sym, texts_ties, train_clash, zero, ℕ, ◌++◌, ◌↔◌, ◌∙◌}
+use Rattle.cif_views.proofs.Names.{◌∷◌, ◌≡◌}
 use Rattle.cif_records.specs.declared.header.Header.{Header}
-use Rattle.cif_calendar.proofs.RisingLists.{Contains-none, less_one_way, not_less}
-use Rattle.cif_calendar.specs.AllClashes.{AreAllClashes, association_clash, train_clash}
-use Rattle.cif_calendar.specs.Clashes.{AreClashes}
+use Rattle.cif_extract.specs.declared.fault.Clash.TheVariants as named
+use Rattle.cif_calendar.proofs.FirstClash.{IsFirstClashOf-clear, IsFirstClashOf-day, IsFirstClashOf-key}
 use Rattle.cif_views.specs.Steps.Clashes.{AreAdded}
-use Rattle.cif_canon.proofs.ByPairs.{same-keys}
-use Rattle.cif_canon.proofs.Unique.{keys-total}
-use Rattle.cif_views.proofs.Words.{AssocKey, Association, Clash, Contains, Equal, ExtractParts, IsClearExtract, IsFirstClashIn, Less}
-use Rattle.cif_views.proofs.Words.{Ordering, Schedule, Terms, association_entries, association_entry, bytes_decides, key_cmp, nat_cmp}
-use Rattle.cif_views.proofs.Words.{of_key, schedule_entries, schedule_entry, slice_cmp, slice_get, ◌↔◌}
 
 -- bytes that compare equal are equal
 same-bytes : (xs ys : List ℕ) → slice_cmp nat_cmp xs ys ≡ Equal → xs ≡ ys

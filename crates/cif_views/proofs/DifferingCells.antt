@@ -1,23 +1,16 @@
 -- Where no field of a pair has a row, what stands in the columns of all its fields is the same.
-use Rattle.std.proofs.Common.{◌≡◌, ℕ, ◌+◌, ◌-◌, ◌<◌, ◌≤◌, Bool, true, false, IsTrue, List, [], ◌∷◌, ◌++◌, codes, cond, drop, length, ◌∙◌}
-use Rattle.std.proofs.Common.{ap, if◌then◌else◌}
-use Rattle.std.proofs.Common.{ap₂, arith, get_or, length-append, map, nat_eq, refl, replicate, subst, sym, take, ⊎_elim}
-use Rattle.std.specs.Prelude.{◌&&◌, ◌||◌, nat_le, nat_lt}
-use Rattle.std.proofs.Math.Seq.{take-add}
-use Rattle.std.proofs.lemmas.Bool.{and_parts, eqb-true, false≢true, leb-true, or_cases}
-use Rattle.std.proofs.lemmas.List.{drop-drop, drop-take, length-take-le, take-take}
-use Rattle.cif_columns.specs.Field.{FieldValue}
-use Rattle.cif_columns.specs.Lines.{used}
+use Rattle.cif_views.proofs.Names.{AllStandIn, Bool, Column, Field, FieldValue, IsLine, IsTrue, JourneyKind, List, Place, Row, StandsIn}
+use Rattle.cif_views.proofs.Names.{TableFields, Trimmed, Tsv, [], and_parts, ap, ap₂, arith, bytes_decides, codes, columns, cond}
+use Rattle.cif_views.proofs.Names.{differing_row, differing_rows, drop, drop-drop, drop-take, eqb-true, false, false≢true, field_in}
+use Rattle.cif_views.proofs.Names.{field_row, fields_in, fields_text, flat_map, get_or, if◌then◌else◌, leb-true, length, length-append}
+use Rattle.cif_views.proofs.Names.{length-columns, length-take-le, line_of, long_date, map, nat_eq, nat_le, nat_lt, or_cases, pointwise}
+use Rattle.cif_views.proofs.Names.{refl, replicate, row_behind, row_fields, shown, span_in, spare, subst, sym, take, take-add, take-take}
+use Rattle.cif_views.proofs.Names.{trimmed, true, used, yymmdd_from, ℕ, ⊎_elim, ◌&&◌, ◌++◌, ◌+◌, ◌-◌, ◌<◌, ◌||◌, ◌∙◌, ◌∷◌, ◌≡◌, ◌≤◌}
 use Rattle.cif_columns.proofs.KeptLines.{trimmed as widened, used_few}
-use Rattle.cif_columns.proofs.PlainLines.{length-columns}
-use Rattle.cif_canon.specs.Fields.{long_date}
+use Rattle.cif_canon.specs.Fields.{after}
 use Rattle.cif_views.specs.DifferenceTable.{text}
-use Rattle.cif_views.specs.Steps.Columns.{shown_at, span_in}
-use Rattle.cif_views.specs.declared.columns.Place.{Place}
+use Rattle.cif_views.specs.Steps.Columns.{shown_at}
 use Rattle.cif_views.specs.declared.columns.Place.TheVariants as place
-use Rattle.cif_views.proofs.Words.{AllStandIn, Column, Field, IsLine, JourneyKind, Row, StandsIn, TableFields, Trimmed, Tsv, after}
-use Rattle.cif_views.proofs.Words.{bytes_decides, columns, differing_row, differing_rows, field_in, field_row, fields_in, fields_text}
-use Rattle.cif_views.proofs.Words.{flat_map, line_of, pointwise, row_behind, row_fields, shown, spare, trimmed, yymmdd_from}
 
 -- ---- rows
 

@@ -1,24 +1,19 @@
 -- The rows of fields that differ.
-use Rattle.std.proofs.Common.{◌≡◌, ℕ, ◌+◌, ◌<◌, ◌≤◌, zero, suc, Bool, true, false, Bor, IsTrue, List, [], ◌∷◌, ◌++◌, cond, if◌then◌else◌}
-use Rattle.std.proofs.Common.{◌∙◌, append-nil, append_assoc, ap, ap₂, arith, drop, get_or, length, map, refl, slice_index_or, sym, take}
-use Rattle.std.specs.Prelude.{◌&&◌, nat_eq, nat_le}
-use Rattle.std.proofs.lemmas.Bool.{and_parts, false≢true, leb-true}
-use Rattle.std.proofs.lemmas.List.{take-take}
-use Rattle.cif_canon.proofs.ViewLines.{both-after}
-use Rattle.cif_records.specs.Kind.{is_identity, kinds}
-use Rattle.cif_views.specs.DifferenceTable.{in_journey, text}
-use Rattle.cif_views.specs.Steps.Columns.{is_span, is_within, shown_at, span_in}
-use Rattle.cif_views.specs.Steps.DifferenceRows.{are_texts, is_text, is_text_place}
-use Rattle.cif_views.specs.Tables.{names, own_call_fields, own_change_fields}
-use Rattle.cif_views.specs.declared.columns.Place.{Place}
-use Rattle.cif_views.specs.declared.columns.Place.TheVariants as place
-use Rattle.cif_views.specs.Steps.Columns.{call_columns, change_columns, column, named}
-use Rattle.cif_views.proofs.Words.{Change, Column, Field, JourneyKind, Origin, Other, Stop, TableFields, Terminus, Tsv, after}
-use Rattle.cif_views.proofs.Words.{bytes_decides, columns, count_of_calls, differing_rows, field_in, field_row, fields_in}
-use Rattle.cif_views.proofs.Words.{find}
-use Rattle.cif_views.proofs.Words.{flat_map, is_call, is_change, journey_kind, kind_of_line, number, own_fields, place_behind}
-use Rattle.cif_views.proofs.Words.{places_behind, pointwise, row_behind, row_fields, same_places, shown, trimmed, Whole}
+use Rattle.cif_views.proofs.Names.{Bool, Bor, Change, Column, Field, IsTrue, JourneyKind, List, Other, Place, Stop, TableFields, Tsv, Whole}
+use Rattle.cif_views.proofs.Names.{[], and_parts, ap, append-nil, append_assoc, ap₂, are_texts, arith, both-after, bytes_decides}
+use Rattle.cif_views.proofs.Names.{call_columns, change_columns, column, columns, cond, count_of_calls, differing_rows, drop, false}
+use Rattle.cif_views.proofs.Names.{false≢true, field_in, field_row, fields_in, find, flat_map, get_or, if◌then◌else◌, in_journey, is_call}
+use Rattle.cif_views.proofs.Names.{is_change, is_identity, is_span, is_text, is_text_place, is_within, journey_kind, kind_of_line, kinds}
+use Rattle.cif_views.proofs.Names.{leb-true, length, map, named, names, nat_eq, nat_le, number, own_call_fields, own_change_fields}
+use Rattle.cif_views.proofs.Names.{own_fields, place_behind, places_behind, pointwise, refl, row_behind, row_fields, same_places, shown}
+use Rattle.cif_views.proofs.Names.{slice_index_or, span_in, suc, sym, take, take-take, trimmed, true, zero, ℕ, ◌&&◌, ◌++◌, ◌+◌, ◌<◌, ◌∙◌}
+use Rattle.cif_views.proofs.Names.{◌∷◌, ◌≡◌, ◌≤◌}
+use Rattle.cif_canon.specs.Fields.{after}
 use Rattle.cif_views.proofs.TableRows.{behind-row, call-fields, within-span}
+use Rattle.cif_views.specs.DifferenceTable.{text}
+use Rattle.cif_views.specs.Steps.Columns.{shown_at}
+use Rattle.cif_views.specs.declared.columns.JourneyKind.TheVariants.{Origin, Terminus}
+use Rattle.cif_views.specs.declared.columns.Place.TheVariants as place
 
 -- ---- one field
 

@@ -1,13 +1,9 @@
 -- What the marks of explained records say of what runs.
-use Rattle.std.proofs.Common.{◌≡◌, ℕ, ◌≤◌, ◌<◌, List, [], ◌∷◌, ◌⊎◌, Option, None, Some, refl, sym, ◌∙◌, ap, subst, arith, inl, inr, ⊎_elim}
-use Rattle.std.specs.Option.{is_some}
-use Rattle.std.proofs.lemmas.Bool.{cases_lt}
-use Rattle.cif_calendar.proofs.Elements.{Contains-cases, Contains-first, Contains-rest}
-use Rattle.cif_calendar.proofs.Positions.{at-contains, contains-at}
-use Rattle.cif_views.specs.Explanation.{AreExplained, Explained, HasWinningMark, IsMarked, SomeApplies}
+use Rattle.cif_views.proofs.Names.{AreExplained, AreLawful, Contains, Contains-cases, Contains-first, Contains-rest, Equal, Explained}
+use Rattle.cif_views.proofs.Names.{Greater, HasWinningMark, IsClear, IsMarked, Less, List, Mark, None, Option, Ordering, Records, Runs}
+use Rattle.cif_views.proofs.Names.{Some, SomeApplies, Terms, Wins, [], ap, arith, at-contains, cases_lt, contains-at, inl, inr, is_some}
+use Rattle.cif_views.proofs.Names.{of_key, ordering_reverse, precedence, refl, subst, sym, ℕ, ⊎_elim, ◌<◌, ◌↔◌, ◌∙◌, ◌∷◌, ◌≡◌, ◌≤◌, ◌⊎◌}
 use Rattle.cif_views.specs.declared.marks.Mark.TheVariants as mark
-use Rattle.cif_views.proofs.Words.{AreLawful, Contains, Equal, Greater, IsClear, Less, Mark, Ordering, Records, Runs, Terms, Wins, of_key}
-use Rattle.cif_views.proofs.Words.{ordering_reverse, precedence, ◌↔◌}
 
 -- what compares as it does the other way round compares equal
 pub equal-itself : (o : Ordering) → o ≡ ordering_reverse o → o ≡ Equal

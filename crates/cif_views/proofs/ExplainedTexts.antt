@@ -1,10 +1,8 @@
 -- The records that apply, with their marks, are the explanation.
-use Rattle.std.proofs.Common.{◌≡◌, ℕ, List, ◌++◌, refl, subst}
-use Rattle.cif_weeks.specs.Window.{IsWithin}
-use Rattle.cif_views.specs.Explanation.{AreExplained, Explained, IsAssociationOf, IsExplanation, IsTrain, explained_association_line}
-use Rattle.cif_views.specs.Explanation.{explained_train_line, explanation_heading}
-use Rattle.cif_views.proofs.Words.{AreMarked, ArePlacedInOrder, AssocBody, AssocKey, Association, BodyLines, ExtractParts, Format, Placed}
-use Rattle.cif_views.proofs.Words.{Schedule, association_entries, flat_map, header_window, key_cmp, nat_cmp, schedule_entries, slice_cmp}
+use Rattle.cif_views.proofs.Names.{AreExplained, AreMarked, ArePlacedInOrder, AssocBody, AssocKey, Association, BodyLines, Explained}
+use Rattle.cif_views.proofs.Names.{ExtractParts, Format, IsAssociationOf, IsExplanation, IsTrain, IsWithin, List, Placed, Schedule}
+use Rattle.cif_views.proofs.Names.{association_entries, explained_association_line, explained_train_line, explanation_heading, flat_map}
+use Rattle.cif_views.proofs.Names.{header_window, key_cmp, nat_cmp, refl, schedule_entries, slice_cmp, subst, ℕ, ◌++◌, ◌≡◌}
 use Rattle.cif_views.proofs.Explaining.{explained}
 
 pub explanation : (format : Format) (x : ExtractParts) (u : List ℕ) (d : ℕ) → IsWithin (header_window x.header) d

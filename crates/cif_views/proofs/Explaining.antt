@@ -1,31 +1,21 @@
 -- The records of a train that apply on a day are found, put in order and marked one by one.
-use Rattle.std.proofs.Common.{◌≡◌, ◌≢◌, ℕ, ◌+◌, ◌<◌, ◌≤◌, List, [], ◌∷◌, ◌++◌, Some, false, map, drop, take, length, get_or, ◌⊎◌, ◌==◌, ◌-◌}
-use Rattle.std.proofs.Common.{refl, sym, ◌∙◌, ap, ap₂, subst, arith, inl, inr, ⊎_elim}
-use Rattle.std.specs.Prelude.{AllPairs}
-use Rattle.std.specs.List.{slice_range}
-use Rattle.std.specs.Cmp.{IsTotalOrder, tied_itself}
-use Rattle.std.specs.List.Sorted.{IsPermutation, IsSortedBy}
-use Rattle.std.specs.Ordering.{ordering_then}
-use Rattle.std.proofs.lemmas.Bool.{cases_lt}
-use Rattle.std.proofs.lemmas.Bool.Decides.{Decides-eqb, nat_tests}
-use Rattle.std.proofs.lemmas.Cmp.{nat_cmp_total, on_total, then_total}
-use Rattle.std.proofs.Math.Nat.{eq-or-lt_of_le}
-use Rattle.std.proofs.lemmas.List.{get_or-drop, get_or-map, get_or-take, get_or_default, length-drop, length-map, length-take, map-append}
-use Rattle.std.proofs.lemmas.List.{take_more}
-use Rattle.std.proofs.lemmas.List.Quantifiers.{all_pairs_push}
+use Rattle.cif_views.proofs.Names.{All-contains, All-nil, All-permutation, All-push, All-weaker, AllPairs, AllPairs-map, AllWithin}
+use Rattle.cif_views.proofs.Names.{AreExplained, AreMarked, ArePlacedBelow, ArePlacedInOrder, Contains, Contains-append_left}
+use Rattle.cif_views.proofs.Names.{Contains-from_map, Contains-map, Contains-permutation, Contains-push, Decides-eqb, Equal, Explained}
+use Rattle.cif_views.proofs.Names.{Greater, IsFirstOfKey, IsLeast, IsLevel, IsLike, IsMarkAmong, IsMarkAt, IsMarkOf, IsMarked}
+use Rattle.cif_views.proofs.Names.{IsPermutation, IsPermutation-map, IsPlaced, IsRisingBy, IsSortedBy, IsTotalOrder, Less, List, Mark}
+use Rattle.cif_views.proofs.Names.{Ordering, Placed, Some, Terms, Wins, [], all_pairs_push, ap, ap₂, arith, at-contains, at_read, cases_lt}
+use Rattle.cif_views.proofs.Names.{contains-at, drop, eq-or-lt_of_le, false, get_or, get_or-drop, get_or-map, get_or-take, get_or_default}
+use Rattle.cif_views.proofs.Names.{inl, inr, is_lt, length, length-drop, length-map, length-take, map, map-append, marked_as, nat_cmp}
+use Rattle.cif_views.proofs.Names.{nat_tests, of_key, on_total, ordering_reverse, ordering_then, placed_at, placed_cmp, precedence}
+use Rattle.cif_views.proofs.Names.{ranks_by, refl, slice_get, slice_get_within, slice_range, some_pair_parts, sorted_far, subst, sym, take}
+use Rattle.cif_views.proofs.Names.{take_more, then_total, tied_itself, unmarked, ℕ, ⊎_elim, ◌++◌, ◌+◌, ◌-◌, ◌<◌, ◌==◌, ◌∙◌, ◌∷◌, ◌≡◌, ◌≢◌}
+use Rattle.cif_views.proofs.Names.{◌≤◌, ◌⊎◌}
+use Rattle.std.proofs.lemmas.Cmp.{nat_cmp_total}
 use Rattle.std.proofs.lemmas.Map.Keys.{IsDistinct-IsPermutation}
 use Rattle.std.proofs.lemmas.Map.Made.{AllPairs-from_IsDistinct, IsDistinct-from_AllPairs}
-use Rattle.std.proofs.lemmas.Option.{slice_get_within, some_pair_parts}
-use Rattle.std.proofs.lemmas.List.Elements.{All-contains, All-nil, All-push, All-weaker, Contains-append_left, Contains-push, at_read}
-use Rattle.std.proofs.lemmas.List.Sorted.{All-permutation, Contains-permutation, IsPermutation-map, ranks_by, sorted_far}
-use Rattle.cif_calendar.proofs.Positions.{at-contains, contains-at}
-use Rattle.cif_weeks.proofs.JoinedLists.{AllPairs-map, Contains-from_map, Contains-map}
-use Rattle.cif_views.specs.Explanation.{AreExplained, Explained, IsMarked}
-use Rattle.cif_views.specs.Steps.Explanation.{IsFirstOfKey, IsLeast, IsLevel, IsMarkAmong, IsPlaced, IsRisingBy, unmarked}
+use Rattle.cif_calendar.specs.Applies.{Applies}
 use Rattle.cif_views.specs.declared.marks.Mark.TheVariants as mark
-use Rattle.cif_views.proofs.Words.{AllWithin, Applies, AreMarked, ArePlacedBelow, ArePlacedInOrder, Contains, Equal, Greater, IsLike}
-use Rattle.cif_views.proofs.Words.{IsMarkAt, IsMarkOf, Less, Mark, Ordering, Placed, Terms, Wins, is_lt, marked_as, nat_cmp, of_key}
-use Rattle.cif_views.proofs.Words.{ordering_reverse, placed_at, placed_cmp, precedence, slice_get}
 
 -- ---- the records are found, one entry after another
 

@@ -20,4 +20,4 @@ mod SameSchedules
 mod SameTables
 pub mod TableRows
 pub mod WeekLines
-pub mod Words
+pub mod Names

@@ -1,12 +1,8 @@
 -- Moments in hours, minutes and seconds.
-use Rattle.std.proofs.Common.{◌≡◌, ℕ, ◌+◌, ◌-◌, ◌*◌, ◌/◌, ◌%◌, ◌^◌, ◌<◌, ◌≤◌, Bool, true, false, List, [], ◌∷◌, ◌++◌}
-use Rattle.std.proofs.Common.{◌∙◌, ap, append_assoc, arith, codes, decimal, refl, sym}
-use Rattle.std.specs.Prelude.{if◌then◌else◌, nat_lt}
-use Rattle.std.proofs.lemmas.Bool.{ltb-false, ltb-true}
-use Rattle.std.proofs.lemmas.Fmt.{decimal_digit, decimal_step_wide}
+use Rattle.cif_views.proofs.Names.{Bool, IsBy, IsOnTheWay, List, [], ap, append_assoc, arith, codes, decimal, decimal_digit}
+use Rattle.cif_views.proofs.Names.{decimal_step_wide, false, if◌then◌else◌, ltb-false, ltb-true, midnight, nat_lt, refl, sym, time_text}
+use Rattle.cif_views.proofs.Names.{true, two_digits, two_digits_or_more, ℕ, ◌%◌, ◌*◌, ◌++◌, ◌+◌, ◌-◌, ◌/◌, ◌<◌, ◌^◌, ◌∙◌, ◌∷◌, ◌≡◌, ◌≤◌}
 use Rattle.itoa.proofs.Decimal.{decimal_two}
-use Rattle.cif_columns.specs.Digits.{two_digits}
-use Rattle.cif_views.specs.Moments.{IsBy, IsOnTheWay, midnight, time_text, two_digits_or_more}
 
 module _ (d s v : ℕ) (is : d * 86400 + s ≡ v) (within : s < 86400) (from : midnight ≤ v) where
   -- a moment from midnight on is of a day from the first one on

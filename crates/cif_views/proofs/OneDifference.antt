@@ -1,21 +1,11 @@
 -- The rows of a pair go field by field, and two extracts have one list of differences.
-use Rattle.std.proofs.Common.{◌≡◌, ℕ, Bool, true, false, List, [], arith, inl, inr, refl, subst, sym, ◌∙◌}
-use Rattle.std.specs.Cmp.{IsTotalOrder}
-use Rattle.std.specs.Prelude.{if◌then◌else◌, nat_eq}
-use Rattle.std.proofs.lemmas.Bool.{false≢true}
-use Rattle.std.specs.Cmp.Lexicographic.{nat_list_cmp_total}
-use Rattle.cif_calendar.proofs.RisingLists.{IsOneWay, less_one_way, not_less, same_members}
-use Rattle.cif_weeks.specs.Window.{Window}
-use Rattle.cif_weeks.specs.declared.form.Form.TheVariants.{Two}
+use Rattle.cif_views.proofs.Names.{AreDifferences, AreDifferentRecords, AreDifferentTiplocs, AreRowsOfFields, Bool, ComesBefore, Contains}
+use Rattle.cif_views.proofs.Names.{DifferencesParts, ExtractParts, Field, IsOneWay, IsRowOfField, IsTotalOrder, Left, Less, List, Ordering}
+use Rattle.cif_views.proofs.Names.{Permanent, Right, Side, Sided, TableFields, Terms, Tiploc, Tsv, Two, Window, [], arith, bytes_decides}
+use Rattle.cif_views.proofs.Names.{differing_row, false, false≢true, from-side, if◌then◌else◌, inl, inr, key_cmp, keys-total, less_one_way}
+use Rattle.cif_views.proofs.Names.{nat_cmp, nat_eq, nat_list_cmp_total, not_less, of_side, pointwise, refl, same_members, shown}
+use Rattle.cif_views.proofs.Names.{side-member, slice_cmp, subst, sym, true, ℕ, ◌∙◌, ◌≡◌}
 use Rattle.cif_weeks.proofs.UniqueByKey.{unique_same}
-use Rattle.cif_records.specs.declared.tiploc.Tiploc.{Tiploc}
-use Rattle.cif_canon.specs.Differences.{AreDifferences, AreDifferentRecords, AreDifferentTiplocs, ComesBefore, DifferencesParts, of_side}
-use Rattle.cif_canon.specs.declared.listed_differences.Sided.{Sided}
-use Rattle.cif_canon.proofs.MergedSides.{from-side, side-member}
-use Rattle.cif_canon.proofs.Unique.{keys-total}
-use Rattle.cif_views.specs.RowsOfDifferences.{AreRowsOfFields, IsRowOfField}
-use Rattle.cif_views.proofs.Words.{Field, TableFields, Tsv, bytes_decides, differing_row, pointwise, shown}
-use Rattle.cif_views.proofs.Words.{Contains, ExtractParts, Left, Less, Ordering, Permanent, Right, Side, Terms, key_cmp, nat_cmp, slice_cmp}
 
 -- a field's row, by whether its cells are the same
 module _ (start : List Field) (left right name : List ℕ) (field : List ℕ → Field) where

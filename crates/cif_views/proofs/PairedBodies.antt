@@ -1,48 +1,34 @@
 -- Where a pair of schedules has no row, their bodies are the same; and so it is with associations.
-use Rattle.std.proofs.Common.{◌≡◌, ℕ, ◌+◌, ◌<◌, Bool, true, false, List, [], ◌∷◌, ◌++◌, Option, None, Some, codes, cond, drop, length}
-use Rattle.std.proofs.Common.{get_or}
-use Rattle.std.proofs.Common.{◌∙◌, ap, ap₂, arith, map, refl, replicate, subst, sym, take}
-use Rattle.std.specs.Prelude.{IsTrue}
-use Rattle.std.specs.Cmp.Lexicographic.{bytes_decides}
-use Rattle.std.proofs.lemmas.Bool.{and_parts, false≢true}
-use Rattle.cif_columns.specs.Field.{plain_line, row}
-use Rattle.cif_columns.proofs.FieldLaws.{one_text_value}
-use Rattle.cif_columns.proofs.Parts.{stands-front, stands-plain_line}
-use Rattle.cif_columns.proofs.PlainLines.{line-plain_line}
-use Rattle.cif_extract.specs.Body.{IsBody, KeepSomeBody, detail_of, parts_in}
-use Rattle.cif_extract.specs.BodyParts.{BodyParts, body_records, extra_records, journey_records}
-use Rattle.cif_extract.specs.Call.{call_record}
-use Rattle.cif_extract.proofs.Bodies.{first_line}
-use Rattle.cif_extract.proofs.Each.{Each, each_back, each_front}
-use Rattle.cif_extract.proofs.PlainTexts.{RecordFits, further-fit, further-lines, lines_of}
+use Rattle.cif_views.proofs.Names.{AllFit, AllStandIn, AssocBody, AssocKey, At, BodyLines, BodyParts, Bool, Bx, Call, Column, Detail, Each}
+use Rattle.cif_views.proofs.Names.{Extra, IsBody, IsLine, IsTrue, JourneyKind, KeepSomeBody, Left, List, Lo, None, Option, P, Permanent}
+use Rattle.cif_views.proofs.Names.{RecordFits, Row, Some, SpellsRecord, StandsIn, Tsv, Turn, [], and_parts, ap, ap₂, arith}
+use Rattle.cif_views.proofs.Names.{association_columns, association_differences, association_head, association_plain, basic_back}
+use Rattle.cif_views.proofs.Names.{basic_columns, basic_rows, body_records, bytes_decides, call_counts, call_record, category_fields}
+use Rattle.cif_views.proofs.Names.{changed, codes, columns, cond, count_of_calls, detail_fields, detail_of, detail_rows, detail_table}
+use Rattle.cif_views.proofs.Names.{differing_rows, drop, each_back, each_front, extra_columns, extra_fields, extra_identity, extra_in}
+use Rattle.cif_views.proofs.Names.{extra_records, false, false≢true, fields_in, further-fit, further-lines, get_or, in_record, is_call}
+use Rattle.cif_views.proofs.Names.{is_extra, journey_differences, journey_kind, journey_records, journeys_behind, kind_in, kind_of_line}
+use Rattle.cif_views.proofs.Names.{length, line-plain_line, map, one_text_value, own_columns, parts_in, place_behind, places_behind}
+use Rattle.cif_views.proofs.Names.{plain_line, record_table, refl, replicate, row, row_fields, same_places, schedule_differences}
+use Rattle.cif_views.proofs.Names.{schedule_head, schedule_plain, shown, stands-front, stands-plain_line, subst, sym, take, trimmed, true}
+use Rattle.cif_views.proofs.Names.{type_fields, without_extra, ℕ, ◌++◌, ◌+◌, ◌<◌, ◌∙◌, ◌∷◌, ◌≡◌}
+use Rattle.cif_columns.specs.Field.{text}
+use Rattle.cif_records.proofs.Details.{one_detail}
+use Rattle.cif_records.proofs.Records as records
 use Rattle.cif_records.specs.Association as aa
-use Rattle.cif_records.specs.Basic.{basic_back, basic_rows}
-use Rattle.cif_records.specs.Detail.{detail_rows, detail_table}
-use Rattle.cif_records.specs.Kind.{kind_in}
-use Rattle.cif_records.specs.Record.{SpellsRecord, record_table}
-use Rattle.cif_records.specs.declared.extra.Extra.{Extra}
 use Rattle.cif_records.specs.declared.origin.Origin.{Origin}
-use Rattle.cif_records.specs.declared.record.Kind.TheVariants.{Bx, Lo}
 use Rattle.cif_records.specs.declared.record.Record.{Record}
 use Rattle.cif_records.specs.declared.record.Record.TheVariants as of
 use Rattle.cif_records.specs.declared.terminus.Terminus.{Terminus}
-use Rattle.cif_records.proofs.Details.{one_detail}
-use Rattle.cif_records.proofs.Records as records
-use Rattle.cif_views.specs.DifferenceTable.{association_differences, association_head, changed, differing_rows, in_record}
-use Rattle.cif_views.specs.DifferenceTable.{journey_differences, journey_of, schedule_differences, schedule_head, without_extra}
-use Rattle.cif_views.specs.Steps.DifferenceRows.{call_counts, count_of_calls}
-use Rattle.cif_views.specs.Tables.{category_fields, detail_fields, extra_fields, extra_identity, extra_in, is_call, is_extra}
-use Rattle.cif_views.specs.Tables.{journey_kind, kind_of_line, row_fields, type_fields}
-use Rattle.cif_views.specs.Steps.Columns.{association_columns, basic_columns, extra_columns}
-use Rattle.cif_views.specs.declared.columns.JourneyKind.{JourneyKind}
-use Rattle.cif_views.specs.declared.columns.JourneyKind.TheVariants as kinds_of
-use Rattle.cif_views.proofs.Words.{AllFit, AllStandIn, AssocBody, AssocKey, At, BodyLines, Call, Column, Detail, IsLine, Left, P, Permanent}
-use Rattle.cif_views.proofs.Words.{Row, StandsIn, Tsv, Turn, after, association_plain, columns, fields_in, journeys_behind, own_columns}
-use Rattle.cif_views.proofs.Words.{place_behind, places_behind, same_places, schedule_plain, shown, spare, text, trimmed}
+use Rattle.cif_extract.proofs.Bodies.{first_line}
+use Rattle.cif_extract.proofs.PlainTexts.{lines_of}
+use Rattle.cif_canon.specs.Fields.{after}
 use Rattle.cif_views.proofs.DifferingCells.{AllSame, all-covered, all-moved, are_covered, both-none, covered, is_there, same-cells}
 use Rattle.cif_views.proofs.DifferingCells.{same-cells_in, some-behind}
 use Rattle.cif_views.proofs.DifferingFields.{same-kind}
 use Rattle.cif_views.proofs.PairedJourneys.{journeys-by-lines}
+use Rattle.cif_views.specs.DifferenceTable.{journey_of}
+use Rattle.cif_views.specs.declared.columns.JourneyKind.TheVariants as kinds_of
 
 -- the records of a journey
 abbrev pub IsPlace : Record → Type 0

@@ -1,25 +1,19 @@
 -- The rows of pairs, as they are written: of their fields, and of their journeys by lines.
-use Rattle.std.proofs.Common.{◌≡◌, ℕ, ◌+◌, Bool, true, false, IsTrue, List, [], ◌∷◌, ◌++◌, Option, Some, codes, cond, length, map, ◌∙◌}
-use Rattle.std.proofs.Common.{ap, ap₂, append_assoc, arith, drop, if◌then◌else◌, nat_eq, refl, sym, take}
-use Rattle.std.specs.Cmp.Lexicographic.{pointwise}
-use Rattle.std.proofs.lemmas.Bool.{and_parts}
-use Rattle.std.proofs.lemmas.Grind.{flat_map-append}
-use Rattle.cif_columns.specs.declared.sink.Sink.{Sink}
-use Rattle.cif_canon.proofs.AppendedTexts.{both, text-is}
-use Rattle.cif_canon.proofs.ViewLines.{both-after}
-use Rattle.cif_views.specs.DifferenceTable.{call_count, journey_differences, journey_of, place_columns, place_rows}
-use Rattle.cif_views.specs.DifferenceTable.{text}
-use Rattle.cif_views.specs.Tables.{category_fields, detail_fields, extra_fields, extra_identity, names, type_fields}
-use Rattle.cif_views.specs.Steps.Columns.{association_columns, basic_columns, extra_columns}
-use Rattle.cif_views.proofs.Words.{Column, Field, IsAppended, Left, Numbered, Other, Right, ScheduleLines, Side, TableFields, Trimmed, Tsv}
-use Rattle.cif_views.proofs.Words.{after}
-use Rattle.cif_views.proofs.Words.{association_differences, association_head, bytes_decides, change_of, changed, columns, count_of_calls}
-use Rattle.cif_views.proofs.Words.{differing_row, differing_rows, extra_in, field_row, fields_in, flat_map, in_record, is_call}
-use Rattle.cif_views.proofs.Words.{journeys_behind, kind_of_line, line_of, nothing, number, numbered_from, places_behind, replicate}
-use Rattle.cif_views.proofs.Words.{row_behind, row_fields, same_places, schedule_differences, schedule_head, shown, without_extra}
-use Rattle.cif_views.specs.Steps.DifferenceRows.{call_counts}
+use Rattle.cif_views.proofs.Names.{Bool, Column, Field, IsAppended, IsTrue, Left, List, Numbered, Option, Other, Right, ScheduleLines, Side}
+use Rattle.cif_views.proofs.Names.{Sink, Some, TableFields, Trimmed, Tsv, [], and_parts, ap, append_assoc, ap₂, arith, association_columns}
+use Rattle.cif_views.proofs.Names.{association_differences, association_head, basic_columns, both, both-after, bytes_decides, call_count}
+use Rattle.cif_views.proofs.Names.{call_counts, category_fields, change_of, changed, codes, columns, cond, count_of_calls, detail_fields}
+use Rattle.cif_views.proofs.Names.{differing_row, differing_rows, drop, extra_columns, extra_fields, extra_identity, extra_in, false}
+use Rattle.cif_views.proofs.Names.{field_row, fields_in, flat_map, flat_map-append, if◌then◌else◌, in_record, is_call, journey_differences}
+use Rattle.cif_views.proofs.Names.{journeys_behind, kind_of_line, length, line_of, map, names, nat_eq, number, numbered_from, place_columns}
+use Rattle.cif_views.proofs.Names.{place_rows, places_behind, pointwise, refl, replicate, row_behind, row_fields, same_places}
+use Rattle.cif_views.proofs.Names.{schedule_differences, schedule_head, shown, sym, take, true, type_fields, without_extra, ℕ, ◌++◌, ◌+◌}
+use Rattle.cif_views.proofs.Names.{◌∙◌, ◌∷◌, ◌≡◌}
+use Rattle.cif_canon.proofs.AppendedTexts.{text-is}
+use Rattle.cif_canon.specs.Fields.{after, nothing}
 use Rattle.cif_views.proofs.DifferingFields.{differing, place-rows, same-kind}
 use Rattle.cif_views.proofs.TableRows.{behind-row}
+use Rattle.cif_views.specs.DifferenceTable.{journey_of, text}
 
 -- what says which side has it
 pub shown-change : (side : Side) (change : List ℕ) → change ≡ (change_of side).1 → (Trimmed, change) ≡ change_of side

@@ -1,27 +1,20 @@
 -- The public calls that are made of a schedule's lines are those by the definition.
-use Rattle.std.proofs.Common.{◌≡◌, ℕ, zero, suc, ◌+◌, ◌-◌, ◌*◌, ◌<◌, ◌≤◌, Bool, true, false, List, [], ◌∷◌, ◌++◌, ◌∙◌, Option, None, Some}
-use Rattle.std.proofs.Common.{ap, arith, cond, map, max, refl, sym}
-use Rattle.std.specs.Prelude.{◌&&◌, ◌||◌, IfSome, IsNone, is_some, nat_lt, slice_index, ◌==◌, if◌then◌else◌}
-use Rattle.std.specs.List.{filter}
-use Rattle.std.specs.Option.{option_and_then, option_map, option_or}
-use Rattle.std.proofs.Math.Bool.{and-false}
-use Rattle.std.proofs.lemmas.Bool.{and_parts, false≢true, ltb-true}
+use Rattle.cif_views.proofs.Names.{AreMoments, ArePublicCalls, AreShown, Bool, CallTimes, Change, IfSome, IsBehind, IsInDayFrom, IsNone}
+use Rattle.cif_views.proofs.Names.{Journey, JourneyKind, List, None, Numbered, Option, Other, PublicCall, ScheduleLines, Shown, Some, Stop}
+use Rattle.cif_views.proofs.Names.{TimedCall, [], advertised, and-false, and_parts, ap, arith, at_first, behind_shown, behind_stay, columns}
+use Rattle.cif_views.proofs.Names.{cond, false, false≢true, filter, if◌then◌else◌, in_day_from, is_call, is_public, is_some, is_timed}
+use Rattle.cif_views.proofs.Names.{kind_of_line, left_at, ltb-true, map, max, nat_lt, numbered_from, option_and_then, option_map}
+use Rattle.cif_views.proofs.Names.{public_call, public_calls, public_from, public_moment, raised, reached_at, reached_moment, refl}
+use Rattle.cif_views.proofs.Names.{riders_of, slice_index, stay, stay_at, suc, sym, times_in, true, working, zero, ℕ, ◌&&◌, ◌*◌, ◌++◌, ◌+◌}
+use Rattle.cif_views.proofs.Names.{◌-◌, ◌<◌, ◌==◌, ◌||◌, ◌∙◌, ◌∷◌, ◌≡◌, ◌≤◌}
+use Rattle.std.specs.Option.{option_or}
 use Rattle.cif_columns.specs.Clock.{clock_seconds, seconds_to}
 use Rattle.cif_columns.specs.Digits.{number_at}
-use Rattle.cif_columns.specs.Field.{columns}
 use Rattle.cif_columns.specs.PublicTime.{public_seconds, public_time_in, unless_midnight}
 use Rattle.cif_columns.specs.WorkTime.{work_seconds, work_time_in}
-use Rattle.cif_views.specs.Moments.{IsInDayFrom, in_day_from}
-use Rattle.cif_canon.specs.Lines.{ScheduleLines}
-use Rattle.cif_views.specs.PublicCalls.{AreMoments, ArePublicCalls, behind_shown, behind_stay, AreShown, IsBehind, PublicCall}
-use Rattle.cif_views.specs.PublicCalls.{TimedCall, advertised, at_first, is_public, is_timed, left_at, riders_of}
-use Rattle.cif_views.specs.PublicCalls.{public_call, public_calls, public_from, public_moment, raised, reached_at, reached_moment, shown_at}
-use Rattle.cif_views.specs.PublicCalls.{stay, stay_at, times_in, working}
-use Rattle.cif_views.specs.declared.public_calls.CallTimes.{CallTimes}
-use Rattle.cif_views.specs.declared.public_calls.Journey.{Journey}
-use Rattle.cif_views.specs.declared.public_calls.Shown.{Shown}
+use Rattle.cif_views.specs.PublicCalls.{shown_at}
+use Rattle.cif_views.specs.declared.columns.JourneyKind.TheVariants.{Origin, Terminus}
 use Rattle.cif_views.specs.declared.public_calls.Stay.{Stay}
-use Rattle.cif_views.proofs.Words.{Change, JourneyKind, Numbered, Origin, Other, Stop, Terminus, is_call, kind_of_line, numbered_from}
 
 -- a moment in the day that begins at one
 pub in-day : (from seconds : ℕ) → seconds < 86400 → IsInDayFrom from seconds (in_day_from from seconds)

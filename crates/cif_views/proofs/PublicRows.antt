@@ -1,20 +1,11 @@
 -- The rows of public calls, as they are written line by line.
-use Rattle.std.proofs.Common.{◌≡◌, ℕ, ◌+◌, ◌-◌, List, [], ◌∷◌, ◌++◌, ◌∙◌, Option, None, Some, ap, append_assoc, append-nil}
-use Rattle.std.proofs.Common.{arith, cond, length, refl, sym}
-use Rattle.std.specs.List.{flat_map}
-use Rattle.std.proofs.lemmas.Grind.{flat_map-append}
-use Rattle.cif_views.specs.PublicCalls.{riders_in, riders_of, pick_up, public_call, public_fields, public_from, set_down, step}
-use Rattle.cif_views.specs.PublicCalls.{step_at}
-use Rattle.cif_views.specs.Moments.{midnight, time_text}
-use Rattle.cif_views.specs.PublicCalls.{platform_in, times_in, times_of}
-use Rattle.cif_views.specs.Steps.PublicRows.{behind_schedule, row_of_step}
-use Rattle.cif_views.specs.declared.public_calls.CallTimes.{CallTimes}
-use Rattle.cif_views.specs.declared.public_calls.Journey.{Journey}
-use Rattle.cif_views.specs.declared.public_calls.Riders.{Riders}
-use Rattle.cif_views.specs.declared.public_calls.Shown.{Shown}
+use Rattle.cif_views.proofs.Names.{CallTimes, Journey, JourneyKind, List, None, Numbered, Option, Riders, Shown, Some, Tsv, Whole, [], ap}
+use Rattle.cif_views.proofs.Names.{append-nil, append_assoc, arith, behind_schedule, cond, flat_map, flat_map-append, is_call, kind_of_line}
+use Rattle.cif_views.proofs.Names.{length, midnight, number, numbered_from, pick_up, platform_in, public_call, public_fields, public_from}
+use Rattle.cif_views.proofs.Names.{refl, riders_in, riders_of, row_line, row_of_step, set_down, step, step_at, sym, text_at, time_text}
+use Rattle.cif_views.proofs.Names.{times_in, times_of, ℕ, ◌++◌, ◌+◌, ◌-◌, ◌∙◌, ◌∷◌, ◌≡◌}
+use Rattle.cif_canon.specs.Fields.{after}
 use Rattle.cif_views.proofs.TableRows.{behind-row}
-use Rattle.cif_views.proofs.Words.{JourneyKind, Numbered, Tsv, Whole, after, is_call, kind_of_line}
-use Rattle.cif_views.proofs.Words.{number, numbered_from, row_line, text_at}
 
 -- what is said of riders, by what is read of the line
 module _ (line answer : List ℕ) (riders : Riders) (times : CallTimes) (are_riders : riders ≡ riders_of line)

@@ -1,13 +1,9 @@
 -- What the activities of a call say of riders, one by one.
-use Rattle.std.proofs.Common.{◌≡◌, ℕ, ◌-◌, ◌≤◌, Bool, true, false, not, ◌&&◌, ◌||◌, List, [], ◌∷◌, ◌∙◌, ap, arith}
-use Rattle.std.proofs.Common.{codes, cond, drop, eqb, get_or, length, refl, sym, take}
-use Rattle.std.proofs.Math.Bool.{and-true, and_assoc, or-false, or_assoc}
-use Rattle.std.proofs.lemmas.Bool.{eqb-true}
-use Rattle.std.proofs.lemmas.List.{take_rest}
-use Rattle.cif_columns.specs.Activities.{codes_in, has_code}
-use Rattle.cif_views.specs.PublicCalls.{said_by}
+use Rattle.cif_views.proofs.Names.{Bool, List, Riders, [], and-true, and_assoc, ap, arith, codes, codes_in, cond, drop, eqb, eqb-true}
+use Rattle.cif_views.proofs.Names.{false, get_or, length, not, or-false, or_assoc, refl, said_by, sym, take, take_rest, true, ℕ, ◌&&◌, ◌-◌}
+use Rattle.cif_views.proofs.Names.{◌||◌, ◌∙◌, ◌∷◌, ◌≡◌, ◌≤◌}
+use Rattle.cif_columns.specs.Activities.{has_code}
 use Rattle.cif_views.specs.Steps.PublicRows.{joined}
-use Rattle.cif_views.specs.declared.public_calls.Riders.{Riders}
 
 -- tests of one activity, and of the others, in pairs
 pairs : (a b c d : Bool) → (a || b) || (c || d) ≡ (a || c) || (b || d)

@@ -1,27 +1,19 @@
 -- The text of rows tells their cells, in which there is no tab and no line feed, and these tell the plain lines.
-use Rattle.std.proofs.Common.{◌≡◌, ℕ, zero, suc, ◌+◌, ◌-◌, ◌<◌, ◌^◌, All, Bool, true, false, IsTrue, List, [], ◌∷◌, ◌++◌, length, map, ◌∙◌}
-use Rattle.std.proofs.Common.{ap, ap₂, append_assoc, arith, codes, decimal, drop, length-append, refl, subst, sym, take, ⊎_elim}
-use Rattle.std.specs.List.{join_with_byte}
-use Rattle.std.specs.Prelude.{◌&&◌, ◌||◌, nat_eq, nat_le}
-use Rattle.std.specs.Str.Parse.{AllDigits}
-use Rattle.std.proofs.Math.Seq.{take-append_seam}
-use Rattle.std.proofs.lemmas.Bool.{and_parts, eqb-true, false≢true, leb-true, or_cases}
-use Rattle.std.proofs.lemmas.Fmt.{decimal_is_IsNumeral}
-use Rattle.std.proofs.lemmas.List.{drop_at, length-map}
-use Rattle.std.proofs.lemmas.List.Elements.{All-cons, All-drop, All-head, All-nil, All-tail, All-take}
+use Rattle.cif_views.proofs.Names.{All, All-cons, All-drop, All-head, All-nil, All-tail, All-take, AllFit, ArePrintable, Bool, Column}
+use Rattle.cif_views.proofs.Names.{IsLine, IsPrintable, IsTrue, JourneyKind, List, Other, Place, Row, TableFields, Tsv, [], and_parts, ap}
+use Rattle.cif_views.proofs.Names.{append_assoc, ap₂, are_within, arith, bytes_decides, codes, columns, decimal, decimal_is_IsNumeral, drop}
+use Rattle.cif_views.proofs.Names.{drop_at, eqb-true, false, false≢true, fields_in, flat_map, is_span, is_whole_from, is_within, leb-true}
+use Rattle.cif_views.proofs.Names.{length, length-append, length-columns, length-map, line-plain_line, map, nat_eq, nat_le, or_cases}
+use Rattle.cif_views.proofs.Names.{plain_columns, plain_line, pointwise, printable-date, refl, row_fields, row_line, shown, span_in, subst}
+use Rattle.cif_views.proofs.Names.{suc, sym, take, take-append_seam, true, used, width_of, yymmdd_from, zero, ℕ, ⊎_elim, ◌&&◌, ◌++◌, ◌+◌}
+use Rattle.cif_views.proofs.Names.{◌-◌, ◌<◌, ◌^◌, ◌||◌, ◌∙◌, ◌∷◌, ◌≡◌}
 use Rattle.std.proofs.lemmas.Str.Parse.{digit_from_value}
-use Rattle.cif_columns.specs.Field.{is_whole_from, plain_columns, plain_line, width_of}
-use Rattle.cif_columns.specs.Line.{ArePrintable, IsPrintable}
-use Rattle.cif_columns.specs.Lines.{used}
+use Rattle.std.specs.List.{join_with_byte}
+use Rattle.std.specs.Str.Parse.{AllDigits}
 use Rattle.cif_columns.proofs.Parts.{length-plain_columns, whole-first}
-use Rattle.cif_columns.proofs.PlainLines.{length-columns, line-plain_line}
-use Rattle.cif_canon.proofs.ViewLines.{printable-date}
-use Rattle.cif_views.specs.Steps.Columns.{are_within, is_span, is_within, shown_at, span_in}
-use Rattle.cif_views.specs.declared.columns.Place.{Place}
-use Rattle.cif_views.specs.declared.columns.Place.TheVariants as place
-use Rattle.cif_views.proofs.Words.{AllFit, Column, IsLine, JourneyKind, Other, Row, TableFields, Tsv, bytes_decides, columns, fields_in}
-use Rattle.cif_views.proofs.Words.{flat_map, pointwise, row_fields, row_line, shown, yymmdd_from}
 use Rattle.cif_views.proofs.DifferingCells.{covered, is_among}
+use Rattle.cif_views.specs.Steps.Columns.{shown_at}
+use Rattle.cif_views.specs.declared.columns.Place.TheVariants as place
 
 -- ---- a text, cut at bytes that no cell has
 

@@ -1,40 +1,22 @@
 -- Each difference has a row: the bodies of a pair differ, and where all cells are the same they don't.
-use Rattle.std.proofs.Common.{◌≡◌, ℕ, ◌<◌, ◌≤◌, All, Bool, IfSome, List, [], ◌∷◌, ◌++◌, Option, None, Some, arith, length, map, replicate, ◌∙◌, ap}
-use Rattle.std.proofs.Common.{length-append, ⊎_elim, refl, subst, sym}
-use Rattle.std.specs.Option.{option_map}
-use Rattle.std.proofs.lemmas.List.{nil_from_length}
-use Rattle.std.proofs.lemmas.List.Elements.{All-contains, Contains-append_left, Contains-append_right}
-use Rattle.cif_columns.specs.Day.{weekday_of}
-use Rattle.cif_columns.specs.DaysRun.{RunsOn}
-use Rattle.cif_extract.specs.Body.{IsBody, detail_of}
-use Rattle.cif_extract.specs.Texts.{ScheduleFits}
-use Rattle.cif_extract.proofs.PlainTexts.{spelled-fits}
-use Rattle.cif_records.specs.Association as aa
-use Rattle.cif_records.specs.Basic.{basic_rows}
+use Rattle.cif_views.proofs.Names.{All, All-contains, AllFit, AreByPairs, AreDifferences, AreDifferentRecords, AreNone, ArePair, AssocBody}
+use Rattle.cif_views.proofs.Names.{AssocKey, Association, BodyLines, BodyRuns, Bool, Contains, Contains-append_left, Contains-append_right}
+use Rattle.cif_views.proofs.Names.{Contains-cases, Contains-first, Contains-none, Contains-rest, DifferencesParts, ExtractParts, HasRow}
+use Rattle.cif_views.proofs.Names.{HaveRows, IfSome, IsAccepted, IsAlignedTwo, IsBody, IsWithin, Left, List, Listed, None, OnlySays, Option}
+use Rattle.cif_views.proofs.Names.{Ordering, Permanent, Right, RunsOn, Schedule, ScheduleFits, ScheduleLines, Side, Sided, Some, Terms, Two}
+use Rattle.cif_views.proofs.Names.{Window, [], ap, arith, association_differences, association_entries, association_entry, association_head}
+use Rattle.cif_views.proofs.Names.{association_lines, association_plain, associations-by_pairs, at_side, basic_rows, by_pairs, change_of}
+use Rattle.cif_views.proofs.Names.{contents_of, detail_of, difference_names, difference_table, flat_map, header_window, key_cmp, length}
+use Rattle.cif_views.proofs.Names.{length-append, listed_as, map, names_line, nat_cmp, nil_from_length, of_key, of_side, option_map}
+use Rattle.cif_views.proofs.Names.{parts_of, refl, replicate, schedule_differences, schedule_entries, schedule_entry, schedule_head}
+use Rattle.cif_views.proofs.Names.{schedule_lines, schedule_plain, schedules-by_pairs, side-member, slice_cmp, spelled-fits, subst, sym}
+use Rattle.cif_views.proofs.Names.{tiploc_head, tiploc_lines, tiploc_row, weekday_of, ℕ, ⊎_elim, ◌++◌, ◌<◌, ◌↔◌, ◌∙◌, ◌∷◌, ◌≡◌, ◌≤◌}
 use Rattle.cif_records.proofs.Headers as headers
-use Rattle.cif_calendar.specs.Runs.{BodyRuns}
-use Rattle.cif_calendar.proofs.Elements.{Contains-cases, Contains-first, Contains-rest}
-use Rattle.cif_calendar.proofs.RisingLists.{Contains-none}
-use Rattle.cif_columns.specs.Contents.{contents_of}
-use Rattle.cif_weeks.specs.Aligned.{IsAlignedTwo}
+use Rattle.cif_records.specs.Association as aa
 use Rattle.cif_weeks.specs.Applies.{Applies}
-use Rattle.cif_weeks.specs.Window.{IsWithin, Window}
-use Rattle.cif_weeks.specs.declared.form.Form.TheVariants.{Two}
-use Rattle.cif_canon.specs.Accepted.{IsAccepted}
-use Rattle.cif_canon.specs.Differences.{AreDifferences, AreDifferentRecords, AreNone, DifferencesParts, OnlySays, at_side, of_side}
-use Rattle.cif_canon.specs.Pairs.{ArePair, AreByPairs, Listed, association_lines, by_pairs, listed_as, parts_of, schedule_lines}
-use Rattle.cif_canon.specs.Pairs.{tiploc_lines}
-use Rattle.cif_canon.specs.declared.asked.Asked.{Asked}
-use Rattle.cif_canon.specs.declared.listed_differences.Sided.{Sided}
-use Rattle.cif_canon.proofs.ByPairs.{associations-by_pairs, schedules-by_pairs}
 use Rattle.cif_canon.proofs.MadeFits.{HasTerms, have-terms, permanent-association, permanent-basic}
-use Rattle.cif_canon.proofs.MergedSides.{side-member}
-use Rattle.cif_views.specs.RowsOfDifferences.{HasRow, HaveRows}
-use Rattle.cif_views.proofs.Words.{AllFit, AssocBody, AssocKey, Association, BodyLines, Contains, ExtractParts, Left, Ordering, Permanent}
-use Rattle.cif_views.proofs.Words.{Right, Row, Schedule, ScheduleLines, Side, Terms, association_differences, association_entries}
-use Rattle.cif_views.proofs.Words.{association_entry, association_head, association_plain, change_of, difference_names, difference_table}
-use Rattle.cif_views.proofs.Words.{flat_map, header_window, key_cmp, names_line, nat_cmp, nothing, of_key, schedule_differences}
-use Rattle.cif_views.proofs.Words.{schedule_entries, schedule_entry, schedule_head, schedule_plain, slice_cmp, tiploc_head, tiploc_row, ◌↔◌}
+use Rattle.cif_canon.specs.Fields.{nothing}
+use Rattle.cif_canon.specs.declared.asked.Asked.{Asked}
 use Rattle.cif_views.proofs.DifferingCells.{both-none, some-row}
 use Rattle.cif_views.proofs.PairedBodies.{FitsLines, association_line, same-association, same-body}
 

@@ -1,23 +1,13 @@
 -- The rows of calls and of changes tell the lines of each journey, and where a change stands among the calls.
-use Rattle.std.proofs.Common.{◌≡◌, ℕ, ◌+◌, ◌-◌, ◌≤◌, ◌^◌, All, Bool, true, false, List, [], ◌∷◌, ◌++◌, Some, ap}
-use Rattle.std.proofs.Common.{IsTrue, arith, codes, cond, decimal, drop, get_or, length, map, refl, subst, sym, take, ◌∙◌}
-use Rattle.std.specs.List.{filter}
-use Rattle.std.specs.Prelude.{not}
-use Rattle.std.proofs.lemmas.Bool.{false≢true}
-use Rattle.std.proofs.lemmas.Fmt.{decimal_injective}
-use Rattle.std.proofs.lemmas.List.Elements.{All-cons, All-filter, All-head, All-nil, All-tail}
-use Rattle.cif_columns.specs.Field.{plain_line}
-use Rattle.cif_columns.specs.Line.{ArePrintable}
-use Rattle.cif_records.specs.Kind.{is_identity, kinds}
-use Rattle.cif_records.specs.Record.{SpellsRecord, record_table}
+use Rattle.cif_views.proofs.Names.{All, All-cons, All-filter, All-head, All-nil, All-tail, AllFit, ArePrintable, Bool, Field, IsLine}
+use Rattle.cif_views.proofs.Names.{IsTrue, JourneyKind, List, Numbered, Other, Some, SpellsRecord, TableFields, Tsv, [], ap, are_within}
+use Rattle.cif_views.proofs.Names.{arith, call_columns, call_fields, change_fields, codes, columns, cond, decimal, decimal_injective, drop}
+use Rattle.cif_views.proofs.Names.{false, false≢true, fields_in, filter, find, get_or, has_row, is_call, is_change, is_identity}
+use Rattle.cif_views.proofs.Names.{journey_columns, journey_kind, kind_of_line, kinds, length, map, not, number, numbered_from, plain_line}
+use Rattle.cif_views.proofs.Names.{record_table, refl, shown, subst, sym, take, true, ℕ, ◌++◌, ◌+◌, ◌-◌, ◌^◌, ◌∙◌, ◌∷◌, ◌≡◌, ◌≤◌}
+use Rattle.cif_records.proofs.Records as records
 use Rattle.cif_records.specs.declared.record.Record.{Record}
 use Rattle.cif_records.specs.declared.record.Record.TheVariants as of
-use Rattle.cif_records.proofs.Records as records
-use Rattle.cif_views.specs.Steps.Columns.{are_within, call_columns}
-use Rattle.cif_views.specs.Steps.TableRows.{has_row, journey_columns}
-use Rattle.cif_views.specs.Tables.{change_fields}
-use Rattle.cif_views.proofs.Words.{AllFit, Field, IsLine, JourneyKind, Numbered, Other, TableFields, Tsv, call_fields, columns, fields_in}
-use Rattle.cif_views.proofs.Words.{find, is_call, is_change, journey_kind, kind_of_line, number, numbered_from, shown}
 use Rattle.cif_views.proofs.DifferingCells.{all-covered, all-moved, are_covered, covered}
 use Rattle.cif_views.proofs.PairedBodies.{IsPlace}
 use Rattle.cif_views.proofs.RowLines.{AreCells, are-cells, cells_of, number-printable}

@@ -1,27 +1,16 @@
 -- Schedules with the same rows in the tables of schedules, calls and changes are the same.
-use Rattle.std.proofs.Common.{◌≡◌, ℕ, ◌+◌, ◌<◌, ◌≤◌, ◌^◌, All, Bool, true, false, List, [], ◌∷◌, ◌++◌, Option, None, Some, ap, ◌∙◌}
-use Rattle.std.proofs.Common.{arith, cond, decimal, drop, get_or, length, map, refl, subst, sym, take}
-use Rattle.std.specs.List.{enumerate_from, filter}
-use Rattle.std.proofs.lemmas.Fmt.{decimal_injective}
-use Rattle.std.proofs.lemmas.List.Elements.{All-append, All-cons, All-filter, All-head, All-nil, All-tail, filter_passes}
-use Rattle.cif_columns.specs.Field.{plain_line}
-use Rattle.cif_columns.specs.Line.{ArePrintable}
-use Rattle.cif_canon.proofs.ViewLines.{spaces}
-use Rattle.cif_extract.specs.Body.{parts_in}
-use Rattle.cif_extract.specs.BodyParts.{extra_records, journey_records}
-use Rattle.cif_extract.proofs.Each.{Each}
-use Rattle.cif_extract.proofs.PlainTexts.{RecordFits, lines_of}
-use Rattle.cif_records.specs.Record.{record_table}
-use Rattle.cif_records.specs.declared.extra.Extra.{Extra}
+use Rattle.cif_views.proofs.Names.{All, All-append, All-cons, All-filter, All-head, All-nil, All-tail, ArePrintable, BodyLines, Bool, Each}
+use Rattle.cif_views.proofs.Names.{Extra, IsLine, JourneyKind, List, None, Numbered, NumberedSchedule, Option, Other, Permanent, RecordFits}
+use Rattle.cif_views.proofs.Names.{ScheduleLines, Some, Tsv, [], ap, arith, basic_columns, columns, cond, decimal, decimal_injective, drop}
+use Rattle.cif_views.proofs.Names.{enumerate_from, extra_columns, extra_fields, extra_in, extra_records, false, filter, filter_passes}
+use Rattle.cif_views.proofs.Names.{flat_map, get_or, has_row, is_call, journey_kind, journey_records, kind_of_line, length, map}
+use Rattle.cif_views.proofs.Names.{numbered_from, numbered_schedule, parts_in, plain_line, record_table, refl, row_fields, schedule_fields}
+use Rattle.cif_views.proofs.Names.{schedule_plain, shown, spaces, subst, sym, take, trimmed, true, ℕ, ◌++◌, ◌+◌, ◌<◌, ◌^◌, ◌∙◌, ◌∷◌, ◌≡◌}
+use Rattle.cif_views.proofs.Names.{◌≤◌}
+use Rattle.cif_records.proofs.Records as records
 use Rattle.cif_records.specs.declared.record.Record.{Record}
 use Rattle.cif_records.specs.declared.record.Record.TheVariants as of
-use Rattle.cif_records.proofs.Records as records
-use Rattle.cif_views.specs.Steps.Columns.{basic_columns, extra_columns}
-use Rattle.cif_views.specs.Steps.TableRows.{has_row}
-use Rattle.cif_views.specs.Tables.{NumberedSchedule, extra_fields}
-use Rattle.cif_views.proofs.Words.{BodyLines, IsLine, JourneyKind, Numbered, Other, Permanent, ScheduleLines, Tsv, columns, extra_in}
-use Rattle.cif_views.proofs.Words.{flat_map, is_call, journey_kind, kind_of_line, numbered_from, numbered_schedule, row_fields}
-use Rattle.cif_views.proofs.Words.{schedule_fields, schedule_plain, shown, trimmed}
+use Rattle.cif_extract.proofs.PlainTexts.{lines_of}
 use Rattle.cif_views.proofs.PairedBodies.{ArePlaces, FitsLines, are-further_of, are-places, basic_line, behind_extra, extra-fits}
 use Rattle.cif_views.proofs.PairedBodies.{extra_line, further-of as further-of_body, journey-fits, same-extra}
 use Rattle.cif_views.proofs.RowLines.{AreCells, IsPlain, are-cells, cells_in, cells_of, is-line, number-printable, one-line}

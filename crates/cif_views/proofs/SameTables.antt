@@ -1,51 +1,30 @@
 -- Canonical extracts have the same tables exactly if they have the same text.
-use Rattle.std.proofs.Common.{◌≡◌, ◌≢◌, ℕ, ◌+◌, ◌<◌, ◌≤◌, ◌^◌, All, Bool, true, false, List, [], ◌∷◌, ◌++◌, Some, ap, ◌∙◌}
-use Rattle.std.proofs.Common.{arith, drop, get_or, length, length-append, map, refl, subst, sym}
-use Rattle.std.specs.List.{enumerate_from}
-use Rattle.std.specs.Option.{option_map}
-use Rattle.std.specs.Prelude.{◌↔◌}
-use Rattle.std.proofs.lemmas.Grind.{flat_map-append}
-use Rattle.std.proofs.lemmas.List.{append_cancel_left, length-map, map-append}
-use Rattle.std.proofs.lemmas.List.Elements.{All-cons, All-head, All-map, All-nil, All-tail, All-weaker}
-use Rattle.std.proofs.lemmas.List.Folds.{flat_map-map}
+use Rattle.cif_views.proofs.Names.{All, All-cons, All-head, All-map, All-nil, All-tail, All-weaker, AllFit, AssocBody, AssocKey}
+use Rattle.cif_views.proofs.Names.{Association, Associations, BodyLines, Bool, BytesSpell, Calls, CanonParts, Changes, Column, ExtractLines}
+use Rattle.cif_views.proofs.Names.{ExtractParts, Form, IsCanonOf, IsCanonicalOf, List, Permanent, Public, Row, SameMeaning, Schedule}
+use Rattle.cif_views.proofs.Names.{ScheduleFits, ScheduleLines, Schedules, Table, Terms, Tiplocs, [], ap, append_cancel_left, arith}
+use Rattle.cif_views.proofs.Names.{association_columns, association_entries, association_entry, basic_rows, contents_of, detail_of}
+use Rattle.cif_views.proofs.Names.{enumerate_from, extract_text, extracts-unique, false, flat_map, flat_map-append, flat_map-map}
+use Rattle.cif_views.proofs.Names.{further_lines, header_fields, header_table, length, length-append, line_of_association, line_of_tiploc}
+use Rattle.cif_views.proofs.Names.{lines_of_schedule, lines_text, map, numbered_schedule, one_spelled, option_map, over, permanent_entries}
+use Rattle.cif_views.proofs.Names.{plain_line, plain_lines_of, refl, row_line, schedule_entries, schedule_entry, schedule_fields}
+use Rattle.cif_views.proofs.Names.{schedule_plain, spelled-fits, subst, sym, table_heading, table_rows, table_text, terms_of, tiploc_fields}
+use Rattle.cif_views.proofs.Names.{tiploc_table, trailer_table, true, ℕ, ◌++◌, ◌+◌, ◌<◌, ◌^◌, ◌↔◌, ◌∙◌, ◌∷◌, ◌≡◌, ◌≢◌, ◌≤◌}
 use Rattle.std.proofs.lemmas.Simd.{map-map}
-use Rattle.cif_calendar.specs.Terms.{Terms}
-use Rattle.cif_columns.specs.Contents.{contents_of, lines_text}
-use Rattle.cif_columns.specs.Field.{plain_line}
-use Rattle.cif_extract.specs.SpellsExtract.{BytesSpell}
-use Rattle.cif_extract.specs.Body.{detail_of}
-use Rattle.cif_extract.specs.Texts.{ScheduleFits, extract_text, further_lines, plain_lines_of}
-use Rattle.cif_extract.proofs.PlainTexts.{spelled-fits}
-use Rattle.cif_extract.proofs.SpelledBytes.{one_spelled}
 use Rattle.cif_records.specs.Association as aa
-use Rattle.cif_records.specs.Basic.{basic_rows}
-use Rattle.cif_records.specs.Header.{header_table}
-use Rattle.cif_records.specs.Tiploc.{tiploc_table}
-use Rattle.cif_records.specs.Trailer.{trailer_table}
-use Rattle.cif_weeks.specs.Permanent.{permanent_entries, terms_of}
-use Rattle.cif_weeks.specs.declared.form.Form.{Form}
-use Rattle.cif_canon.specs.Canon.{CanonParts, IsCanonOf}
-use Rattle.cif_canon.specs.Canonical.{IsCanonicalOf, IsCanonicalText}
-use Rattle.cif_canon.specs.Lines.{ExtractLines, line_of_association, line_of_tiploc, lines_of, lines_of_schedule}
-use Rattle.cif_canon.specs.Meaning.{SameMeaning}
 use Rattle.cif_canon.proofs.SameExtracts.{same-sym, same-trans}
-use Rattle.cif_canon.proofs.Unique.{extracts-unique}
-use Rattle.cif_views.specs.SameTables.{HaveSameTables}
-use Rattle.cif_views.specs.Steps.Columns.{association_columns, over}
-use Rattle.cif_views.specs.declared.columns.TheConstants.{HEADER, TIPLOC}
-use Rattle.cif_views.specs.TableText.{table_heading, table_text}
-use Rattle.cif_views.specs.Tables.{association_fields, header_fields}
-use Rattle.cif_views.specs.declared.tables.Table.{Table}
-use Rattle.cif_views.specs.declared.tables.Table.TheVariants.{Associations, Calls, Changes, Header, Public, Schedules, Tiplocs}
-use Rattle.cif_views.proofs.Words.{AllFit, AssocBody, AssocKey, Association, BodyLines, Column, ExtractParts, Permanent, Row, Schedule}
-use Rattle.cif_views.proofs.Words.{ScheduleLines, association_entries, association_entry, flat_map, numbered_schedule, row_line}
-use Rattle.cif_views.proofs.Words.{schedule_entries, schedule_entry, schedule_fields, schedule_plain, table_rows, tiploc_fields}
+use Rattle.cif_canon.specs.Canonical.{IsCanonicalText}
+use Rattle.cif_canon.specs.Lines.{lines_of}
 use Rattle.cif_views.proofs.PairedBodies.{FitsLines, association_line}
 use Rattle.cif_views.proofs.RowLines.{IsPlain, same-plain_row, same-plain_rows, same-rows}
 use Rattle.cif_views.proofs.RowsOfDifferences.{AssociationEntryFits, ScheduleEntryFits}
 use Rattle.cif_views.proofs.SameJourneys.{IsRow, fields_of, most, one-row, row-cells}
 use Rattle.cif_views.proofs.SameSchedules.{IsNumberedPlain, IsSchedule, all-numbered, all-rows, listed, rows_from, same-row_of}
 use Rattle.cif_views.proofs.SameSchedules.{same-schedules, schedule-cells, schedules_from}
+use Rattle.cif_views.specs.SameTables.{HaveSameTables}
+use Rattle.cif_views.specs.Tables.{association_fields}
+use Rattle.cif_views.specs.declared.columns.TheConstants.{HEADER, TIPLOC}
+use Rattle.cif_views.specs.declared.tables.Table.TheVariants.{Header}
 
 abbrev header_columns : List Column
 header_columns = over HEADER (λ c. (c.0.now, c.1))

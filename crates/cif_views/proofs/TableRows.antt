@@ -1,32 +1,20 @@
 -- The rows of tables, as they are made field by field.
-use Rattle.std.proofs.Common.{◌≡◌, ℕ, ◌+◌, ◌<◌, ◌≤◌, Bool, true, false, Bor, IsTrue, List, [], ◌∷◌, ◌++◌, codes, cond, drop}
-use Rattle.std.proofs.Common.{length, ◌∙◌}
-use Rattle.std.proofs.Common.{append-nil, append_assoc, ap, arith, inl, inr, length-append, refl, subst, sym, take}
+use Rattle.cif_views.proofs.Names.{Bool, Bor, Calls, Change, Changes, Column, ExtractLines, Field, IsTrue, JourneyKind, List, Numbered}
+use Rattle.cif_views.proofs.Names.{Other, Place, Public, ScheduleLines, Schedules, Stop, Table, Tsv, [], and_parts, ap, append-nil}
+use Rattle.cif_views.proofs.Names.{append_assoc, are_within, arith, at_drop_all, both-after, call_columns, call_fields, change_columns}
+use Rattle.cif_views.proofs.Names.{change_fields, codes, cond, drop, enumerate_from, false, fields_in, filter, flat_map, in_table, inl, inr}
+use Rattle.cif_views.proofs.Names.{is_call, is_change, is_short, is_span, is_within, journey_rows, kind_of_line, length, length-append}
+use Rattle.cif_views.proofs.Names.{length-set, length-take-le, line_of, name_fields, named, nat_tests, number, numbered_from}
+use Rattle.cif_views.proofs.Names.{own_call_fields, refl, room_for, row_behind, row_fields, row_line, row_of_kind, rows_of, schedule_rows}
+use Rattle.cif_views.proofs.Names.{slice_index_or, slice_set, span_in, subst, sym, table_rows, take, take-append-add, take-append_seam}
+use Rattle.cif_views.proofs.Names.{take-take, take_more_set, true, ℕ, ◌++◌, ◌+◌, ◌<◌, ◌==◌, ◌∙◌, ◌∷◌, ◌≡◌, ◌≤◌, ◌⊎◌}
 use borrow.Rule.Slice.PartMut.{put_mid}
-use Rattle.std.specs.Prelude.{◌⊎◌, slice_index_or, slice_set}
-use Rattle.std.specs.Bool.{◌==◌}
-use Rattle.std.specs.List.{enumerate_from, filter, flat_map}
-use Rattle.std.proofs.lemmas.Bool.{and_parts}
-use Rattle.std.proofs.lemmas.Bool.Decides.{nat_tests}
-use Rattle.std.proofs.lemmas.List.{at_drop_all, length-set, length-take-le, take-take, take_more_set}
 use Rattle.std.proofs.lemmas.Slice.{take-put_mid}
-use Rattle.std.proofs.Math.Seq.{take-append-add, take-append_seam}
-use Rattle.cif_canon.specs.Fields.{in_table}
-use Rattle.cif_canon.specs.Lines.{ExtractLines}
+use Rattle.cif_canon.proofs.ViewLines.{joined}
+use Rattle.cif_canon.specs.Fields.{after}
 use Rattle.cif_canon.specs.declared.rows.Shape.{Shape}
-use Rattle.cif_canon.proofs.ViewLines.{both-after, joined}
-use Rattle.cif_views.specs.Steps.Columns.{are_within, is_short, is_span, is_within, named, span_in}
-use Rattle.cif_views.specs.Steps.TableRows.{journey_rows, row_of_kind, rows_of}
-use Rattle.cif_views.specs.TableText.{schedule_rows}
-use Rattle.cif_views.specs.Tables.{change_fields, own_call_fields, row_fields}
-use Rattle.cif_views.specs.declared.columns.Place.{Place}
+use Rattle.cif_views.specs.declared.columns.JourneyKind.TheVariants.{Origin, Terminus}
 use Rattle.cif_views.specs.declared.columns.Place.TheVariants as place
-use Rattle.cif_views.specs.Steps.Columns.{call_columns, change_columns}
-use Rattle.cif_views.specs.declared.tables.Table.{Table}
-use Rattle.cif_views.specs.declared.tables.Table.TheVariants.{Calls, Changes, Public, Schedules}
-use Rattle.cif_views.proofs.Words.{Change, Column, Field, JourneyKind, Numbered, Origin, Other, ScheduleLines, Stop, Terminus, Tsv, after}
-use Rattle.cif_views.proofs.Words.{call_fields, fields_in, is_call, is_change, kind_of_line, line_of, name_fields, number, numbered_from}
-use Rattle.cif_views.proofs.Words.{room_for, row_behind, row_line, table_rows}
 
 -- fields with a tab before each are a row without the first tab
 pub row-text : (first : Field) (fields : List Field) → drop 1 (after Tsv (first ∷ fields)) ++ codes "\n" ≡ line_of Tsv (first ∷ fields)

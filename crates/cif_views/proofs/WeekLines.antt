@@ -1,28 +1,17 @@
 -- The lines of weeks, and what the letters in them say.
-use Rattle.std.proofs.Common.{◌≡◌, ◌≢◌, ◌↔◌, ℕ, suc, ◌+◌, ◌-◌, ◌*◌, ◌/◌, ◌%◌, ◌<◌, ◌≤◌, Bool, true, false, cond, List, [], ◌∷◌, ◌++◌}
-use Rattle.std.proofs.Common.{Option, None, Some, IsNone, append_assoc, arith, codes, drop, get_or, inl, inr, length, map, refl, sym, take}
-use Rattle.std.proofs.Common.{◌∙◌, ap, subst}
-use Rattle.std.specs.List.{flat_map}
-use Rattle.std.specs.Prelude.{nat_lt, slice_get, if◌then◌else◌}
-use Rattle.std.proofs.lemmas.Bool.{false≢true, le-ltb, lt-ltb, ltb-false, ltb-true}
-use Rattle.std.proofs.Math.Seq.{drop-cons}
-use Rattle.std.proofs.lemmas.List.{map-append, map-id, take-append-drop}
+use Rattle.cif_views.proofs.Names.{AreDayStates, AreLawful, AreLawful-of_key, Bool, C, DayState, ExtractParts, IsClear, IsDayState, IsNone}
+use Rattle.cif_views.proofs.Names.{IsRunningLetter, IsShown, IsWeekCalendar, List, None, Option, P, Records, Runs, SaysWhatRuns, Schedule}
+use Rattle.cif_views.proofs.Names.{Some, Terms, [], ap, append_assoc, arith, calendar_text, cell, character, codes, cond, drop, drop-cons}
+use Rattle.cif_views.proofs.Names.{false, false≢true, flat_map, get_or, if◌then◌else◌, inl, inr, le-ltb, length, letter, lt-ltb, ltb-false}
+use Rattle.cif_views.proofs.Names.{ltb-true, map, map-append, map-id, monday_columns, nat_lt, of_key, range_with_len, refl}
+use Rattle.cif_views.proofs.Names.{schedule_entries, schedule_terms, slice_get, slice_get-get_or, space, state_in, subst, suc, sym, take}
+use Rattle.cif_views.proofs.Names.{take-append-drop, true, week_line, week_of, weekday_of, weeks_between, yymmdd_of, ℕ, ◌%◌, ◌*◌, ◌++◌, ◌+◌}
+use Rattle.cif_views.proofs.Names.{◌-◌, ◌/◌, ◌<◌, ◌↔◌, ◌∙◌, ◌∷◌, ◌≡◌, ◌≢◌, ◌≤◌}
 use Rattle.std.proofs.lemmas.List.FromFn.{get_or-map-range_with_len, get_or-range_with_len, length-range_with_len, map-range_with_len_more}
-use Rattle.std.proofs.lemmas.Option.{slice_get-get_or}
-use Rattle.cif_calendar.specs.DayState.{IsDayState}
-use Rattle.cif_calendar.specs.declared.day_state.DayState.TheVariants as state
-use Rattle.cif_columns.specs.DayDigits.{yymmdd_of}
-use Rattle.cif_calendar.proofs.Positions.{AreLawful-of_key}
-use Rattle.cif_calendar.specs.Entries.{schedule_terms}
+use Rattle.cif_columns.specs.declared.stp.Stp.TheVariants.{N, O}
 use Rattle.cif_calendar.specs.Laws.Bodied.{cancelled-from_bodied}
-use Rattle.cif_columns.specs.Day.{weekday_of}
-use Rattle.cif_columns.specs.Stp.{letter}
-use Rattle.cif_columns.specs.declared.stp.Stp.TheVariants.{C, N, O, P}
-use Rattle.cif_views.specs.WeekCalendar.{IsRunningLetter, IsShown, IsWeekCalendar, SaysWhatRuns, cell, character, monday_columns, space}
-use Rattle.cif_views.specs.WeekCalendar.{text_of, weeks_between}
-use Rattle.cif_views.proofs.Words.{AreDayStates, AreLawful, DayState, ExtractParts, IsClear, Records, Runs, Schedule, Terms}
-use Rattle.cif_views.proofs.Words.{calendar_text, of_key, week_line, week_of}
-use Rattle.cif_views.proofs.Words.{range_with_len, schedule_entries, state_in}
+use Rattle.cif_calendar.specs.declared.day_state.DayState.TheVariants as state
+use Rattle.cif_views.specs.WeekCalendar.{text_of}
 
 -- ---- Mondays
 

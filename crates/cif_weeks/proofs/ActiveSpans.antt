@@ -1,13 +1,9 @@
 -- The spans that may not have ended by a week. On the days of these weeks they are all that count.
-use Rattle.std.proofs.Common.{◌≡◌, ◌⊎◌, inl, inr, ℕ, ◌-◌, ◌<◌, ◌≤◌, List, [], ◌∷◌, length, take, drop, get_or, refl, sym, ap, subst, arith}
-use Rattle.std.proofs.Common.{⊎_elim, Contains}
-use Rattle.std.specs.List.Sorted.{IsNonDecreasingBy}
-use Rattle.std.proofs.lemmas.Bool.{cases_lt}
-use Rattle.std.proofs.lemmas.List.{get_or_read_under, take_all}
-use Rattle.std.proofs.lemmas.List.Sorted.{IsNonDecreasingBy-drop}
-use Rattle.cif_weeks.proofs.Words.{AgreeOn, HasDay, HaveOneMask, IsAgreed, IsDisputed, Leads, Shows, Span, Weeks, week_of}
+use Rattle.cif_weeks.proofs.Names.{AgreeOn, Contains, Contains-cases, Contains-rest, HasDay, HaveOneMask, IsAgreed, IsDisputed}
+use Rattle.cif_weeks.proofs.Names.{IsNonDecreasingBy, IsNonDecreasingBy-drop, Leads, List, Shows, Span, Weeks, [], ap, arith, cases_lt}
+use Rattle.cif_weeks.proofs.Names.{drop, get_or, get_or_read_under, inl, inr, length, refl, subst, sym, take, take_all, week_of, ℕ, ⊎_elim}
+use Rattle.cif_weeks.proofs.Names.{◌-◌, ◌<◌, ◌∷◌, ◌≡◌, ◌≤◌, ◌⊎◌}
 use Rattle.cif_weeks.proofs.Masks.{mask-over}
-use Rattle.cif_calendar.proofs.Elements.{Contains-cases, Contains-rest}
 
 -- the spans of p are some of those of q: all that have day n
 pub record SameOn (p q : List Span) (n : ℕ) : Type 0 where

@@ -1,8 +1,6 @@
 -- On which weekdays two weeks have to agree, and weekday by weekday whether they do.
-use Rattle.std.proofs.Common.{◌≡◌, ℕ, ◌+◌, ◌-◌, ◌*◌, ◌<◌, ◌≤◌, Bool, List, arith, subst, sym, ⊎_elim, ◌↔◌}
-use Rattle.std.proofs.lemmas.Bool.{cases_lt}
-use Rattle.cif_weeks.proofs.Words.{RunsOn, Form, Two, Window}
-use Rattle.cif_weeks.specs.Steps.WeekMasks.{Counts, MasksAgree}
+use Rattle.cif_weeks.proofs.Names.{Bool, Counts, Form, List, MasksAgree, RunsOn, Two, Window, arith, cases_lt, subst, sym, ℕ, ⊎_elim, ◌*◌}
+use Rattle.cif_weeks.proofs.Names.{◌+◌, ◌-◌, ◌<◌, ◌↔◌, ◌≡◌, ◌≤◌}
 
 -- form 2: a weekday counts where its date in the next week, as days from the first Monday, and that a week before lie in the window
 pub counts-if : (window : Window) (week next w : ℕ) → w < 7 → week + 1 ≡ next → window.first + 11 ≤ next * 7 + w →

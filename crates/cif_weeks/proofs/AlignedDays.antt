@@ -1,11 +1,9 @@
 -- On which days of its weeks an aligned record applies.
-use Rattle.std.proofs.Common.{◌≡◌, inl, inr, ℕ, ◌+◌, ◌-◌, ◌*◌, ◌<◌, ◌≤◌, length, arith, sym, subst}
-use Rattle.std.proofs.lemmas.Bool.{cases_lt}
-use Rattle.cif_weeks.proofs.Words.{weekday_of, week_of, RunsOn, Form, One, Two, Window, IsWithin, Permanent}
-use Rattle.cif_weeks.specs.Applies.{Applies, IsWeekOf}
-use Rattle.cif_weeks.specs.Aligned.{IsAlignedOne, IsAlignedTwo, IsAligned}
-use Rattle.cif_weeks.proofs.WeekDays.{week_of-rises, day_rises, day_rises_week, week_later, weekday_later}
-use Rattle.cif_weeks.proofs.WeekDays.{week_of-day, weekday_of-day, RunsOn-below}
+use Rattle.cif_weeks.proofs.Names.{Form, IsAligned, IsAlignedOne, IsAlignedTwo, IsWeekOf, IsWithin, One, Permanent, RunsOn, Two, Window}
+use Rattle.cif_weeks.proofs.Names.{arith, cases_lt, inl, inr, length, subst, sym, week_of, weekday_of, ℕ, ◌*◌, ◌+◌, ◌-◌, ◌<◌, ◌≡◌, ◌≤◌}
+use Rattle.cif_weeks.proofs.WeekDays.{RunsOn-below, day_rises, day_rises_week, week_later, week_of-day, week_of-rises, weekday_later}
+use Rattle.cif_weeks.proofs.WeekDays.{weekday_of-day}
+use Rattle.cif_weeks.specs.Applies.{Applies}
 
 -- a day of a week on which the record applies, on the given weekday
 pub record DayOfWeek {B : Type 0} (r : Permanent B) (week weekday : ℕ) : Type 0 where

@@ -1,17 +1,13 @@
 -- The runs of one body, week by week: weeks without a day of it, a run that begins, and one that goes on.
-use Rattle.std.proofs.Common.{◌≡◌, ◌⊎◌, ℕ, ◌+◌, ◌-◌, ◌*◌, ◌<◌, ◌≤◌, Bool, List, [], ◌∷◌, ◌++◌, get_or, length, length-append, refl, sym}
-use Rattle.std.proofs.Common.{◌∙◌, ap, subst, arith, ⊎_elim, append_assoc, ◌↔◌, reverse, set}
-use Rattle.std.proofs.lemmas.List.{append-nil, reverse-append, reverse-reverse}
-use Rattle.std.proofs.Math.Seq.{get_or-append_seam, set-append_seam}
-use Rattle.std.proofs.lemmas.Bool.{cases_lt}
-use Rattle.cif_columns.specs.Day.{IsDay}
-use Rattle.cif_columns.specs.DaysRun.{IsFirstOf, IsLastOf}
-use Rattle.cif_weeks.specs.Steps.BodyRuns.{BreaksBefore}
-use Rattle.cif_weeks.proofs.Words.{AreBodyRuns, AreGrownTo, AreRunsOfBody, Form, HaveOneMask, IsAgreed, IsGrown, IsLastDay, IsLatest}
-use Rattle.cif_weeks.proofs.Words.{IsMask, IsWithin, MasksAgree, MasksDiffer, Permanent, Run, RunsOn, Shows, Span, Weeks, Window, dates_of}
-use Rattle.cif_weeks.proofs.Words.{week_of, weekday_of}
+use Rattle.cif_weeks.proofs.Names.{AreBodyRuns, AreGrownTo, AreRunsOfBody, Bool, BreaksBefore, Form, HaveOneMask, IsAgreed, IsDay}
+use Rattle.cif_weeks.proofs.Names.{IsFirstOf, IsGrown, IsLastDay, IsLastOf, IsLatest, IsMask, IsWithin, List, MasksAgree, MasksDiffer}
+use Rattle.cif_weeks.proofs.Names.{Permanent, Run, RunsOn, Shows, Span, Weeks, Window, [], ap, append-nil, append_assoc, arith, cases_lt}
+use Rattle.cif_weeks.proofs.Names.{dates_of, get_or, get_or-append_seam, length, length-append, refl, reverse, reverse-append}
+use Rattle.cif_weeks.proofs.Names.{reverse-reverse, set, subst, sym, week_of, weekday_of, ℕ, ⊎_elim, ◌*◌, ◌++◌, ◌+◌, ◌-◌, ◌<◌, ◌↔◌, ◌∙◌}
+use Rattle.cif_weeks.proofs.Names.{◌∷◌, ◌≡◌, ◌≤◌, ◌⊎◌}
+use Rattle.std.proofs.Math.Seq.{set-append_seam}
 use Rattle.cif_weeks.proofs.Ended.{breaks_differ}
-use Rattle.cif_weeks.proofs.Growing.{grown_start, grown_more}
+use Rattle.cif_weeks.proofs.Growing.{grown_more, grown_start}
 use Rattle.cif_weeks.proofs.Jump.{grown_jump}
 use Rattle.cif_weeks.proofs.WeekDays.{RunsOn-below}
 

@@ -1,11 +1,8 @@
 -- The sources of a calendar and of its runs.
-use Rattle.std.proofs.Common.{◌≡◌, ◌≤◌, ℕ, Option, Some, List, [], ◌∷◌, IsSome, get_or, sym, subst, All, option_and_then}
-use Rattle.std.specs.List.{AllZip}
-use Rattle.std.proofs.lemmas.List.Elements.{All-nil, All-cons, All-head, All-tail, Contains-get_or}
-use Rattle.cif_calendar.specs.Source.{IsSource, IsWinnerAt}
-use Rattle.cif_calendar.specs.Calendar.{IsCalendar}
-use Rattle.cif_weeks.proofs.Words.{AreCanonicalRuns, AreSources, CalendarParts, Form, IsRunOf, IsWithin, Meets, Permanent, Run, Terms}
-use Rattle.cif_weeks.proofs.Words.{Window, body_on, source_at, window_of}
+use Rattle.cif_weeks.proofs.Names.{All, All-cons, All-head, All-nil, All-tail, AllZip, AreCanonicalRuns, AreSources, CalendarParts}
+use Rattle.cif_weeks.proofs.Names.{Contains-get_or, Form, IsCalendar, IsRunOf, IsSome, IsSource, IsWinnerAt, IsWithin, List, Meets, Option}
+use Rattle.cif_weeks.proofs.Names.{Permanent, Run, Some, Terms, Window, [], body_on, get_or, option_and_then, source_at, subst, sym}
+use Rattle.cif_weeks.proofs.Names.{window_of, ℕ, ◌∷◌, ◌≡◌, ◌≤◌}
 use Rattle.cif_weeks.proofs.AlignedDays.{tight}
 
 -- the records of a list that meets a form begin in the window

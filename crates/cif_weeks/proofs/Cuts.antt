@@ -1,9 +1,6 @@
 -- A list that is cut at a partition point: what is known of the elements before it and of those from it on.
-use Rattle.std.proofs.Common.{◌≡◌, ◌⊎◌, inl, inr, ℕ, ◌+◌, ◌-◌, ◌<◌, ◌≤◌, List, length, take, drop, get_or, sym, ◌∙◌, ap, subst, arith}
-use Rattle.std.proofs.Common.{⊎_elim, length-take, length-drop, Contains}
-use Rattle.std.specs.List.Sorted.{IsPartitionPoint}
-use Rattle.std.proofs.lemmas.Bool.{cases_lt}
-use Rattle.std.proofs.lemmas.List.{get_or-drop, get_or-take}
+use Rattle.cif_weeks.proofs.Names.{Contains, IsPartitionPoint, List, ap, arith, cases_lt, drop, get_or, get_or-drop, get_or-take, inl, inr}
+use Rattle.cif_weeks.proofs.Names.{length, length-drop, length-take, subst, sym, take, ℕ, ⊎_elim, ◌+◌, ◌-◌, ◌<◌, ◌∙◌, ◌≡◌, ◌≤◌, ◌⊎◌}
 
 module _ {X : Type 0} (xs : List X) (i : ℕ) where
   pub Contains-take : (x : X) → Contains (take i xs) x → (k : ℕ) × (k < i) × (k < length xs) × (get_or xs k x ≡ x)

@@ -1,10 +1,9 @@
 -- When the week after a record's last doesn't join it.
-use Rattle.std.proofs.Common.{◌≡◌, inl, inr, ℕ, ◌+◌, List, Bool, arith, sym, ◌∙◌, subst}
-use Rattle.cif_weeks.proofs.Words.{Breaks, ExactlyOne, Form, IsGrown, IsMask, IsWithin, MasksDiffer, One, Permanent, RunsOn, Two, Window}
-use Rattle.cif_weeks.proofs.Words.{week_of, weekday_of}
-use Rattle.cif_weeks.proofs.WeekDays.{week_of-next, weekday_of-next}
-use Rattle.cif_weeks.proofs.Masks.{mask_runs, one_mask}
+use Rattle.cif_weeks.proofs.Names.{Bool, Breaks, ExactlyOne, Form, IsGrown, IsMask, IsWithin, List, MasksDiffer, One, Permanent, RunsOn}
+use Rattle.cif_weeks.proofs.Names.{Two, Window, arith, inl, inr, subst, sym, week_of, weekday_of, ℕ, ◌+◌, ◌∙◌, ◌≡◌}
 use Rattle.cif_weeks.proofs.Grown.{fits_last}
+use Rattle.cif_weeks.proofs.Masks.{mask_runs, one_mask}
+use Rattle.cif_weeks.proofs.WeekDays.{week_of-next, weekday_of-next}
 
 -- no list has a weekday that an equal one doesn't have
 pub not_equal : (x y : List Bool) (w : ℕ) → x ≡ y → ¬ ExactlyOne (RunsOn x w) (RunsOn y w)

@@ -1,10 +1,9 @@
 -- A record starts with one week, and grows by the next week where the two agree.
-use Rattle.std.proofs.Common.{◌≡◌, ◌⊎◌, inl, inr, ◌↔◌, ℕ, ◌+◌, ◌-◌, ◌≤◌, List, Bool, length, arith, refl, sym, ◌∙◌, ap, subst}
-use Rattle.std.proofs.lemmas.Bool.{cases_lt}
-use Rattle.cif_weeks.proofs.Words.{Fits, Form, IsGrown, IsLastDay, IsMask, IsWithin, MasksAgree, One, Permanent, RunsOn, Two, Window}
-use Rattle.cif_weeks.proofs.Words.{week_of, weekday_of}
-use Rattle.cif_weeks.proofs.WeekDays.{day_rises, week_of-next, weekday_of-next, RunsOn-below}
-use Rattle.cif_weeks.proofs.Masks.{mask_runs, last_runs, last_latest}
+use Rattle.cif_weeks.proofs.Names.{Bool, Fits, Form, IsGrown, IsLastDay, IsMask, IsWithin, List, MasksAgree, One, Permanent, RunsOn, Two}
+use Rattle.cif_weeks.proofs.Names.{Window, ap, arith, cases_lt, inl, inr, length, refl, subst, sym, week_of, weekday_of, ℕ, ◌+◌, ◌-◌, ◌↔◌}
+use Rattle.cif_weeks.proofs.Names.{◌∙◌, ◌≡◌, ◌≤◌, ◌⊎◌}
+use Rattle.cif_weeks.proofs.Masks.{last_latest, last_runs, mask_runs}
+use Rattle.cif_weeks.proofs.WeekDays.{RunsOn-below, day_rises, week_of-next, weekday_of-next}
 
 module _ (window : Window) (on : ℕ → Type 0) where
   start_fits : (form : Form) (days : List Bool) (week : ℕ) → IsMask on week days → Fits form window on days week

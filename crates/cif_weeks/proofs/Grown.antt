@@ -1,12 +1,11 @@
 -- Records that have grown: on which days they apply, that they are aligned, and the change where one ends and another begins.
-use Rattle.std.proofs.Common.{◌≡◌, inl, inr, ⊎_elim, ℕ, ◌+◌, ◌-◌, ◌*◌, ◌<◌, ◌≤◌, Bool, List, arith, refl, sym, subst}
-use Rattle.std.proofs.lemmas.Bool.{cases_lt}
-use Rattle.cif_weeks.specs.Applies.{Applies}
-use Rattle.cif_weeks.proofs.Words.{Breaks, Change, Fits, Form, IsAligned, IsGrown, IsMask, IsWithin, One, Permanent, RunsOn, Two, Window}
-use Rattle.cif_weeks.proofs.Words.{week_of, weekday_of}
-use Rattle.cif_weeks.proofs.WeekDays.{week_of-rises, day_rises_week, week_of-next, week_later, weekday_later}
+use Rattle.cif_weeks.proofs.Names.{Bool, Breaks, Change, Fits, Form, IsAligned, IsGrown, IsMask, IsWithin, List, One, Permanent, RunsOn}
+use Rattle.cif_weeks.proofs.Names.{Two, Window, arith, cases_lt, inl, inr, refl, subst, sym, week_of, weekday_of, ℕ, ⊎_elim, ◌*◌, ◌+◌, ◌-◌}
+use Rattle.cif_weeks.proofs.Names.{◌<◌, ◌≡◌, ◌≤◌}
 use Rattle.cif_weeks.proofs.Masks.{mask_runs}
 use Rattle.cif_weeks.proofs.Separate.{change-seven_days}
+use Rattle.cif_weeks.proofs.WeekDays.{day_rises_week, week_later, week_of-next, week_of-rises, weekday_later}
+use Rattle.cif_weeks.specs.Applies.{Applies}
 
 module _ (window : Window) (on : ℕ → Type 0) where
   -- where its mask fits a week, the mask has each weekday on which the body runs there

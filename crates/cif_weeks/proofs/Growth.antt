@@ -1,9 +1,8 @@
 -- The sources of a calendar, and their bodies.
-use Rattle.std.proofs.Common.{◌≡◌, ℕ, ◌<◌, List, length, Option, None, Some, refl, sym, ◌∙◌, slice_get, option_and_then}
-use Rattle.std.proofs.lemmas.Option.{slice_get_within}
+use Rattle.cif_weeks.proofs.Names.{AreSources, CalendarParts, IsWithin, List, None, Option, Some, Terms, body_at, body_in, length}
+use Rattle.cif_weeks.proofs.Names.{option_and_then, refl, slice_get, slice_get_within, source_in, sym, window_of, ℕ, ◌<◌, ◌∙◌, ◌≡◌}
 use Rattle.cif_calendar.proofs.Meaning.{some-body}
-use Rattle.cif_weeks.proofs.Words.{AreSources, CalendarParts, IsWithin, Terms, body_at, body_in, source_in, window_of}
-use Rattle.cif_weeks.proofs.SourcesIn.{source_in-within, source_in-inside}
+use Rattle.cif_weeks.proofs.SourcesIn.{source_in-inside, source_in-within}
 
 module _ {B : Type 0} (xs : List (Terms B)) (c : CalendarParts) (sources : AreSources xs c) where
   -- a body runs in the window alone, and has a source there

@@ -1,11 +1,8 @@
 -- Lists that are joined, and lists that are mapped.
-use Rattle.std.proofs.Common.{◌≡◌, ℕ, zero, suc, ◌<◌, List, [], ◌∷◌, ◌++◌, Some, map, length, get_or, refl, ap, subst, arith}
-use Rattle.std.specs.Prelude.{AllPairs, Contains, slice_get}
-use Rattle.std.specs.List.{AllZip}
-use Rattle.std.proofs.lemmas.List.Elements.{All-append, All-map, Contains-get_or}
-use Rattle.std.proofs.lemmas.List.Kept.{AllPairs-cons}
-use Rattle.std.proofs.lemmas.Option.{same_Some}
-use Rattle.cif_calendar.proofs.Elements.{Contains-first, Contains-rest}
+use Rattle.cif_weeks.proofs.Names.{All-append, AllPairs, AllPairs-cons, AllZip, Contains, Contains-first, Contains-get_or, Contains-rest}
+use Rattle.cif_weeks.proofs.Names.{List, Some, [], ap, arith, get_or, length, map, refl, same_Some, slice_get, subst, suc, zero, ℕ, ◌++◌}
+use Rattle.cif_weeks.proofs.Names.{◌<◌, ◌∷◌, ◌≡◌}
+use Rattle.std.proofs.lemmas.List.Elements.{All-map}
 
 module _ {X Y : Type 0} (f : X → Y) where
   -- the members of a list that is mapped

@@ -1,14 +1,10 @@
 -- Canonical records, and those of one key more.
-use Rattle.std.proofs.Common.{◌≡◌, ◌⊎◌, inl, inr, ℕ, ◌<◌, List, [], ◌++◌, sym, ap, subst, refl, arith, ⊎_elim, Contains, AllPairs, ◌↔◌}
-use Rattle.std.specs.Cmp.{IsTotalOrder}
-use Rattle.std.specs.declared.cmp.Ordering.{Ordering}
-use Rattle.std.specs.declared.cmp.Ordering.TheVariants.{Less}
-use Rattle.std.proofs.lemmas.List.Elements.{Contains-append_left, Contains-append_right, Contains-append_cases}
+use Rattle.cif_weeks.proofs.Names.{AllPairs, AreCanonical, Contains, Contains-append_cases, Contains-append_left, Contains-append_right}
+use Rattle.cif_weeks.proofs.Names.{Contains-none, Form, HaveForm, IsTotalOrder, Less, List, Ordering, Permanent, Permanents, Precedes}
+use Rattle.cif_weeks.proofs.Names.{Window, [], ap, arith, inl, inr, not_less, of_key, refl, subst, sym, with_key, ℕ, ⊎_elim, ◌++◌, ◌<◌, ◌↔◌}
+use Rattle.cif_weeks.proofs.Names.{◌≡◌, ◌⊎◌}
+use Rattle.cif_weeks.proofs.JoinedLists.{AllPairs-append, AllPairs-map, Contains-from_map, Contains-map}
 use Rattle.cif_weeks.specs.WhatRuns.{HasBody}
-use Rattle.cif_weeks.specs.Canonical.{AreCanonical, Precedes, with_key}
-use Rattle.cif_weeks.proofs.Words.{Form, HaveForm, Permanent, Permanents, Window, of_key}
-use Rattle.cif_weeks.proofs.JoinedLists.{Contains-map, Contains-from_map, AllPairs-map, AllPairs-append}
-use Rattle.cif_calendar.proofs.RisingLists.{Contains-none, not_less}
 
 -- more records have the bodies of fewer
 pub HasBody-more : {B : Type 0} (xs ys : Permanents B) → ((r : Permanent B) → xs r → ys r) → (n : ℕ) (b : B) → HasBody xs n b →

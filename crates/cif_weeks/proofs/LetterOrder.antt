@@ -1,10 +1,7 @@
 -- What tests of two letters tell: of their order, and of whether they are the same.
-use Rattle.std.proofs.Common.{◌≡◌, ◌<◌, ◌↔◌, true, rules}
-use Rattle.std.specs.Ordering.{partial_lt}
+use Rattle.cif_weeks.proofs.Names.{Stp, letter, partial_lt, rules, true, ◌<◌, ◌↔◌, ◌≡◌}
 use Rattle.cif_columns.specs.contracts.stp.StpPartialEq.TheImpl as equality
 use Rattle.cif_columns.specs.contracts.stp.StpPartialOrd.TheImpl as order
-use Rattle.cif_columns.specs.declared.stp.Stp.{Stp}
-use Rattle.cif_weeks.proofs.Words.{letter}
 
 pub letter-before : (s t : Stp) → (partial_lt (order.ghosts).partial_cmp s t ≡ true) ↔ (letter s < letter t)
 letter-before s t = search rules

@@ -29,4 +29,4 @@ pub mod Spans
 pub mod Unique
 pub mod UniqueByKey
 pub mod WeekDays
-pub mod Words
+pub mod Names

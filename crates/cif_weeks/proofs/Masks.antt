@@ -1,7 +1,6 @@
 -- Masks of a set of days in a week, and the last day of a week that is in a mask.
-use Rattle.std.proofs.Common.{◌≡◌, ℕ, ◌≤◌, List, Bool, sym, ◌∙◌, subst}
-use Rattle.cif_weeks.proofs.Words.{IsLastDay, IsMask, RunsOn, week_of, weekday_of}
-use Rattle.cif_weeks.proofs.WeekDays.{same_day, masks_equal}
+use Rattle.cif_weeks.proofs.Names.{Bool, IsLastDay, IsMask, List, RunsOn, subst, sym, week_of, weekday_of, ℕ, ◌∙◌, ◌≡◌, ◌≤◌}
+use Rattle.cif_weeks.proofs.WeekDays.{masks_equal, same_day}
 
 module _ (on : ℕ → Type 0) (week : ℕ) where
   -- each day of its week that is in the mask is one of the days

@@ -1,11 +1,10 @@
 -- What suffices for a list to meet a form: conditions on its records in their order.
-use Rattle.std.proofs.Common.{◌≡◌, ◌⊎◌, inl, inr, ℕ, ◌≤◌, ◌↔◌, List, sym, subst, AllPairs, Contains}
-use Rattle.cif_weeks.specs.Applies.{Applies}
-use Rattle.cif_weeks.specs.WhatRuns.{HasBody}
-use Rattle.cif_calendar.proofs.RisingLists.{AllPairs-members}
-use Rattle.cif_weeks.proofs.Words.{AreSeparate, Form, HaveForm, IsAligned, IsApartFrom, IsWithin, Permanent, Window, week_of}
+use Rattle.cif_weeks.proofs.Names.{AllPairs, AllPairs-members, AreSeparate, Contains, Form, HaveForm, IsAligned, IsApartFrom, IsWithin}
+use Rattle.cif_weeks.proofs.Names.{List, Permanent, Window, inl, inr, subst, sym, week_of, ℕ, ◌↔◌, ◌≡◌, ◌≤◌, ◌⊎◌}
 use Rattle.cif_weeks.proofs.AlignedDays.{IsTight, tight, week_of-applies}
 use Rattle.cif_weeks.proofs.Separate.{AreSeparate-sym, separate-from_before}
+use Rattle.cif_weeks.specs.Applies.{Applies}
+use Rattle.cif_weeks.specs.WhatRuns.{HasBody}
 
 -- The conditions, where one body at most runs on a day: each pair with one body is apart, a record with a body applies where that runs,
 -- and where a record applies its body runs.

@@ -1,8 +1,6 @@
 -- The spans of members in another order, and where two of them with different sources lead: there the members clash.
-use Rattle.std.proofs.Common.{◌≡◌, ℕ, List, Some, sym, ◌∙◌, Contains, IsPermutation}
-use Rattle.std.proofs.lemmas.List.Sorted.{Contains-permutation, IsPermutation-sym}
-use Rattle.cif_weeks.specs.MemberRuns.{HaveClash}
-use Rattle.cif_weeks.proofs.Words.{AreSpansOf, IsChosen, IsDisputed, Leads, Span, Terms, Window, Wins, body_at}
+use Rattle.cif_weeks.proofs.Names.{AreSpansOf, Contains, Contains-permutation, HaveClash, IsChosen, IsDisputed, IsPermutation}
+use Rattle.cif_weeks.proofs.Names.{IsPermutation-sym, Leads, List, Some, Span, Terms, Window, Wins, body_at, sym, ℕ, ◌∙◌, ◌≡◌}
 
 module _ {B : Type 0} {xs : List (Terms B)} {members : List ℕ} {window : Window} {spans : List Span}
     (a : AreSpansOf xs members window spans) where

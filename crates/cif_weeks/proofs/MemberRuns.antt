@@ -1,16 +1,15 @@
 -- The spans of members, and from their runs the members' canonical records.
-use Rattle.std.proofs.Common.{◌≡◌, ◌⊎◌, inl, inr, ℕ, false, true, List, [], ◌∷◌, ◌++◌, Option, None, Some, arith, refl, sym, ◌∙◌, ap, subst}
-use Rattle.std.proofs.Common.{⊎_elim, Contains, slice_get, is_some, option_and_then}
-use Rattle.std.proofs.lemmas.List.Elements.{Contains-append_left, Contains-push, Contains-push_cases}
-use Rattle.std.proofs.lemmas.Option.{same_Some}
-use Rattle.cif_weeks.specs.MemberRuns.{AreRunsOfMembers, IsMembersRun}
-use Rattle.cif_weeks.specs.Steps.Spans.{IsMembersSpan}
-use Rattle.cif_weeks.proofs.Words.{Applies, AreLawful, AreRunsOfSpans, AreSpansOf, BodyRuns, Form, HasBody, IsChosen, IsSourceAmong}
-use Rattle.cif_weeks.proofs.Words.{IsSpanOf, IsWithin, Run, Shows, Span, Terms, Window, Wins, body_at}
+use Rattle.cif_weeks.proofs.Names.{AreLawful, AreRunsOfMembers, AreRunsOfSpans, AreSpansOf, BodyRuns, Contains, Contains-append_left}
+use Rattle.cif_weeks.proofs.Names.{Contains-push, Contains-push_cases, Form, IsChosen, IsMembersRun, IsMembersSpan, IsSourceAmong, IsSpanOf}
+use Rattle.cif_weeks.proofs.Names.{IsWithin, List, None, Option, Run, Shows, Some, Span, Terms, Window, Wins, [], ap, arith, body_at, false}
+use Rattle.cif_weeks.proofs.Names.{inl, inr, is_some, option_and_then, refl, same_Some, slice_get, subst, sym, true, ℕ, ⊎_elim, ◌++◌, ◌∙◌}
+use Rattle.cif_weeks.proofs.Names.{◌∷◌, ◌≡◌, ◌⊎◌}
+use Rattle.cif_calendar.specs.Applies.{Applies}
 use Rattle.cif_weeks.proofs.JoinedLists.{zip-with}
-use Rattle.cif_weeks.proofs.MemberClash.{leads-winner}
 use Rattle.cif_weeks.proofs.Meeting.{have_form, say}
+use Rattle.cif_weeks.proofs.MemberClash.{leads-winner}
 use Rattle.cif_weeks.proofs.SpanRecords.{HaveBodies, IsBodysRun, Shown, in-order, one-body, records-of, records-rising}
+use Rattle.cif_weeks.specs.Steps.BodyRuns.{HasBody}
 
 -- one member more, at this position, and the spans before it
 module _ {B : Type 0} (xs : List (Terms B)) (members : List ℕ) (window : Window) (spans : List Span)

@@ -1,21 +1,15 @@
 -- What permanent records say as entries of the calendar.
-use Rattle.std.proofs.Common.{◌≡◌, ℕ, ◌≤◌, List, Some, get_or, sym, ◌∙◌, ap, subst, ◌↔◌, All, IsSome, is_some}
-use Rattle.std.specs.declared.cmp.Ordering.{Ordering}
-use Rattle.std.proofs.lemmas.List.Elements.{Contains-get_or}
-use Rattle.std.proofs.lemmas.Option.{same_Some}
-use Rattle.cif_calendar.specs.Applies as entry
-use Rattle.cif_calendar.specs.Clash.{IsClearFrom}
-use Rattle.cif_calendar.specs.Keys.{AreClear}
-use Rattle.cif_calendar.specs.Meaning.{EntriesSayTheSame}
-use Rattle.cif_calendar.proofs.PermanentRecords.{Wins-permanent, AreLawful-permanent}
+use Rattle.cif_weeks.proofs.Names.{All, AreCanonical, AreClear, AreLawful, BodyRuns, Contains-get_or, Form, IsClearFrom, IsSome, IsWithin}
+use Rattle.cif_weeks.proofs.Names.{List, Ordering, P, Permanent, SayTheSameByKey, Some, Terms, Window, ap, get_or, is_some, of_key}
+use Rattle.cif_weeks.proofs.Names.{permanent_entries, same_Some, subst, sym, terms_of, ℕ, ◌↔◌, ◌∙◌, ◌≡◌, ◌≤◌}
+use Rattle.cif_calendar.proofs.PermanentRecords.{AreLawful-permanent, Wins-permanent}
 use Rattle.cif_calendar.proofs.SayTheSame.{EntriesSayTheSame-from_bodies}
-use Rattle.cif_weeks.specs.Permanent.{terms_of, permanent_entries}
+use Rattle.cif_calendar.specs.Applies as entry
+use Rattle.cif_calendar.specs.Meaning.{EntriesSayTheSame}
+use Rattle.cif_weeks.proofs.AlignedDays.{tight}
+use Rattle.cif_weeks.proofs.JoinedLists.{Contains-from_map, Contains-map}
 use Rattle.cif_weeks.specs.Applies.{Applies}
 use Rattle.cif_weeks.specs.WhatRuns.{HasBody}
-use Rattle.cif_weeks.specs.Canonical.{AreCanonical, SayTheSameByKey}
-use Rattle.cif_weeks.proofs.Words.{AreLawful, BodyRuns, Form, IsWithin, P, Permanent, Terms, Window, of_key}
-use Rattle.cif_weeks.proofs.AlignedDays.{tight}
-use Rattle.cif_weeks.proofs.JoinedLists.{Contains-map, Contains-from_map}
 
 module _ {K B : Type 0} (records : List (K × Permanent B)) (k : K) where
   -- the entries of a key are its records

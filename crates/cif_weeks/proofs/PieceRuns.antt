@@ -1,14 +1,14 @@
 -- The runs of the spans of a calendar's pieces are the calendar's canonical records.
-use Rattle.std.proofs.Common.{◌≡◌, ℕ, ◌+◌, ◌<◌, List, Option, None, Some, map, get_or, arith, refl, sym, ◌∙◌, ap, All, Contains, unwrap_or}
-use Rattle.std.proofs.lemmas.List.Elements.{Contains-get_or}
-use Rattle.cif_weeks.proofs.Words.{AreCanonicalRuns, AreRunsOfSpans, AreSources, AreSpansOn, CalendarParts, Form, HasBody, HasDay, IsAgreed}
-use Rattle.cif_weeks.proofs.Words.{IsRunOf, IsWithin, Permanent, Run, Shows, Span, Terms, body_at, body_in, body_on, named, source_at}
-use Rattle.cif_weeks.proofs.Words.{letter, window_of}
+use Rattle.cif_weeks.proofs.Names.{All, AreCanonicalRuns, AreRunsOfSpans, AreSources, AreSpansOn, CalendarParts, Contains, Contains-get_or}
+use Rattle.cif_weeks.proofs.Names.{Form, HasDay, IsAgreed, IsRunOf, IsWithin, List, None, Option, Permanent, Run, Shows, Some, Span, Terms}
+use Rattle.cif_weeks.proofs.Names.{ap, arith, body_at, body_in, body_on, get_or, letter, map, named, refl, source_at, sym, unwrap_or}
+use Rattle.cif_weeks.proofs.Names.{window_of, ℕ, ◌+◌, ◌<◌, ◌∙◌, ◌≡◌}
 use Rattle.cif_weeks.proofs.Growth.{inside}
 use Rattle.cif_weeks.proofs.JoinedLists.{zip-map, zip-with}
 use Rattle.cif_weeks.proofs.Meeting.{have_form, say}
 use Rattle.cif_weeks.proofs.SourcesIn.{source_in-within}
 use Rattle.cif_weeks.proofs.SpanRecords.{HaveBodies, IsBodysRun, Shown, in-order, records-of, records-rising}
+use Rattle.cif_weeks.specs.Steps.BodyRuns.{HasBody}
 
 -- the position of a body, named by what is found
 named-body : {B : Type 0} (xs : List (Terms B)) (found : Option ℕ) (source : ℕ) (b : B) → body_at xs found ≡ Some b →

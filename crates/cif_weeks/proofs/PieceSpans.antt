@@ -1,19 +1,14 @@
 -- The spans of a calendar's pieces: one span more, one piece more, and all of them by their sources.
-use Rattle.std.proofs.Common.{◌≡◌, ◌⊎◌, inl, inr, ◌↔◌, ℕ, ◌+◌, ◌-◌, ◌<◌, ◌≤◌, Bool, List, [], ◌∷◌, ◌++◌, None, Some, length, get_or, drop}
-use Rattle.std.proofs.Common.{arith, refl, sym, ◌∙◌, ap, subst, ⊎_elim, All, Contains, IsPermutation, slice_get}
-use Rattle.std.proofs.lemmas.Bool.{cases_lt}
-use Rattle.std.proofs.lemmas.List.Elements.{Contains-append_left, Contains-get_or, Contains-push, Contains-push_cases}
-use Rattle.std.proofs.lemmas.List.Sorted.{Contains-permutation, IsNonDecreasingBy-push, IsNonDecreasingBy-short, IsPermutation-sym}
-use Rattle.std.proofs.lemmas.Option.{get_or_from_slice_get, slice_get-get_or, slice_get_within}
-use Rattle.std.proofs.lemmas.List.{drop_more}
-use Rattle.cif_calendar.proofs.PieceLists.{tiles-ends}
-use Rattle.cif_weeks.specs.Steps.PieceSpans.{AreInOrder, IsPieceSpan, IsWinnerOn}
-use Rattle.cif_weeks.proofs.Words.{AreNear, AreSources, AreSpansBefore, AreSpansOn, CalendarParts, HasBodyOn, HasDay, IsAmongDates}
-use Rattle.cif_weeks.proofs.Words.{IsSourceAmong, P, Piece, RunsOn, Span, Terms, Tiles, body_at, body_in, source_in, week_of}
-use Rattle.cif_weeks.proofs.Words.{weekday_of, winner_of}
+use Rattle.cif_weeks.proofs.Names.{All, AreInOrder, AreNear, AreSources, AreSpansBefore, AreSpansOn, Bool, CalendarParts, Contains}
+use Rattle.cif_weeks.proofs.Names.{Contains-append_left, Contains-get_or, Contains-none, Contains-permutation, Contains-push}
+use Rattle.cif_weeks.proofs.Names.{Contains-push_cases, HasBodyOn, HasDay, IsAmongDates, IsNonDecreasingBy-push, IsNonDecreasingBy-short}
+use Rattle.cif_weeks.proofs.Names.{IsPermutation, IsPermutation-sym, IsPieceSpan, IsSourceAmong, IsWinnerOn, List, None, P, Piece, RunsOn}
+use Rattle.cif_weeks.proofs.Names.{Some, Span, Terms, Tiles, [], ap, arith, body_at, body_in, cases_lt, drop, drop_more, get_or}
+use Rattle.cif_weeks.proofs.Names.{get_or_from_slice_get, inl, inr, length, refl, slice_get, slice_get-get_or, slice_get_within, source_in}
+use Rattle.cif_weeks.proofs.Names.{subst, sym, tiles-ends, week_of, weekday_of, winner_of, ℕ, ⊎_elim, ◌++◌, ◌+◌, ◌-◌, ◌<◌, ◌↔◌, ◌∙◌, ◌∷◌}
+use Rattle.cif_weeks.proofs.Names.{◌≡◌, ◌≤◌, ◌⊎◌}
 use Rattle.cif_weeks.proofs.Growth.{body-source, has-below, inside, source-body}
 use Rattle.cif_weeks.proofs.SourcesIn.{source_in-piece}
-use Rattle.cif_calendar.proofs.RisingLists.{Contains-none}
 
 -- a piece of the calendar
 pub record IsPieceOf (c : CalendarParts) (p : Piece) : Type 0 where

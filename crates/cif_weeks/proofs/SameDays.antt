@@ -1,6 +1,5 @@
 -- Runs of the same days: what is known of them over one set of days is known over the other.
-use Rattle.std.proofs.Common.{inl, inr, ℕ, ◌+◌}
-use Rattle.cif_weeks.proofs.Words.{Breaks, Fits, Form, IsGrown, One, Permanent, Two, Window, week_of}
+use Rattle.cif_weeks.proofs.Names.{Breaks, Fits, Form, IsGrown, One, Permanent, Two, Window, inl, inr, week_of, ℕ, ◌+◌}
 use Rattle.cif_weeks.proofs.Masks.{mask-over}
 
 module _ {B : Type 0} (window : Window) {on other : ℕ → Type 0} (forth : (n : ℕ) → on n → other n) (back : (n : ℕ) → other n → on n)

@@ -1,18 +1,13 @@
 -- The runs of a calendar's spans, one source after another: the spans of the first source that is left, and those of the others.
-use Rattle.std.proofs.Common.{◌≡◌, ◌≢◌, inl, inr, ℕ, ◌+◌, ◌<◌, ◌≤◌, true, false, List, [], ◌++◌, length, take, drop, get_or, leb, arith}
-use Rattle.std.proofs.Common.{sym, ◌∙◌, ap, subst, ⊎_elim, length-take, length-drop, All, Contains, is_lt, nat_cmp}
-use Rattle.std.specs.List.Sorted.{IsNonDecreasingBy, IsPartitionPoint}
-use Rattle.std.specs.Ordering.{ordering_then}
-use Rattle.std.proofs.lemmas.Bool.{cases_eq, cases_lt, leb-false, leb-true}
-use Rattle.std.proofs.lemmas.Bool.Decides.{nat_tests}
-use Rattle.std.proofs.lemmas.List.{get_or-drop, get_or-take, get_or_default}
-use Rattle.std.proofs.lemmas.List.Elements.{All-contains}
-use Rattle.std.proofs.lemmas.List.Sorted.{IsNonDecreasingBy-drop, IsNonDecreasingBy-from_all_adjacent}
-use Rattle.cif_weeks.proofs.Words.{AreBySource, AreRunsOfBody, Form, HasBody, HasSource, IsAgreed, IsDisputed, Run, Shows, Span, Window}
-use Rattle.cif_weeks.proofs.Words.{letter}
+use Rattle.cif_weeks.proofs.Names.{All, All-contains, AreBySource, AreRunsOfBody, Contains, Contains-none, Form, HasSource, IsAgreed}
+use Rattle.cif_weeks.proofs.Names.{IsDisputed, IsNonDecreasingBy, IsNonDecreasingBy-drop, IsNonDecreasingBy-from_all_adjacent}
+use Rattle.cif_weeks.proofs.Names.{IsPartitionPoint, List, Run, Shows, Span, Window, [], ap, arith, cases_eq, cases_lt, drop, false, get_or}
+use Rattle.cif_weeks.proofs.Names.{get_or-drop, get_or-take, get_or_default, inl, inr, is_lt, leb, leb-false, leb-true, length, length-drop}
+use Rattle.cif_weeks.proofs.Names.{length-take, letter, nat_cmp, nat_tests, ordering_then, subst, sym, take, true, ℕ, ⊎_elim, ◌++◌, ◌+◌}
+use Rattle.cif_weeks.proofs.Names.{◌<◌, ◌∙◌, ◌≡◌, ◌≢◌, ◌≤◌}
 use Rattle.cif_weeks.proofs.Cuts.{Contains-take, cut-cases, cut-first, cut-rest, take-contains}
-use Rattle.cif_calendar.proofs.RisingLists.{Contains-none}
 use Rattle.cif_weeks.proofs.SpanRuns.{AreRunsOf, runs-joined, runs-of_body, runs-over}
+use Rattle.cif_weeks.specs.Steps.BodyRuns.{HasBody}
 
 -- the source isn't after this one, or it is
 abbrev IsUpTo : ℕ → Span → Type 0

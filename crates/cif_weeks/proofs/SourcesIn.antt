@@ -1,8 +1,7 @@
 -- The source of a day, and none outside the window.
-use Rattle.std.proofs.Common.{◌≡◌, ℕ, ◌+◌, ◌<◌, ◌≤◌, Some, None, leb, sym, ◌∙◌, ⊎_elim, arith, Contains}
-use Rattle.std.proofs.lemmas.Bool.{cond-true, cond-false, cases_lt, le-leb, lt-leb}
-use Rattle.cif_calendar.proofs.PieceLists.{source_at-piece, tiles-ends, tiles-from}
-use Rattle.cif_weeks.proofs.Words.{CalendarParts, IsWithin, Piece, Tiles, source_at, source_in, window_of, winner_of}
+use Rattle.cif_weeks.proofs.Names.{CalendarParts, Contains, IsWithin, None, Piece, Some, Tiles, arith, cases_lt, cond-false, cond-true}
+use Rattle.cif_weeks.proofs.Names.{le-leb, leb, lt-leb, source_at, source_at-piece, source_in, sym, tiles-ends, tiles-from, window_of}
+use Rattle.cif_weeks.proofs.Names.{winner_of, ℕ, ⊎_elim, ◌+◌, ◌<◌, ◌∙◌, ◌≡◌, ◌≤◌}
 
 module _ (c : CalendarParts) (n : ℕ) where
   pub source_in-within : c.first ≤ n → n ≤ c.last → source_in c n ≡ source_at c.pieces n

@@ -1,18 +1,13 @@
 -- The records of runs that are made from spans: one for each run, with the body at its source.
-use Rattle.std.proofs.Common.{◌≡◌, ℕ, ◌+◌, ◌<◌, ◌≤◌, List, [], ◌∷◌, Option, Some, arith, refl, sym, ◌∙◌, ap, subst, ⊎_elim, AllPairs}
-use Rattle.std.proofs.Common.{Contains, slice_get}
-use Rattle.std.specs.List.{AllZip}
-use Rattle.std.proofs.lemmas.Bool.{cases_lt}
-use Rattle.std.proofs.lemmas.Option.{same_Some, slice_get_within, slice_get-get_or, get_or_from_slice_get}
-use Rattle.cif_calendar.proofs.Elements.{Contains-first, Contains-rest}
-use Rattle.cif_calendar.proofs.Positions.{at-contains, contains-at}
-use Rattle.cif_weeks.specs.Runs.{record_of}
-use Rattle.cif_weeks.specs.Steps.BodyRuns.{IsSpansRun}
-use Rattle.cif_weeks.proofs.Words.{AreNear, AreRunsOfSpans, Breaks, Form, HasBody, IsApartFrom, IsGrown, IsWithin, Leads, Permanent, Run}
-use Rattle.cif_weeks.proofs.Words.{Shows, Span, Terms, Window, body_at, dates_of, week_of}
+use Rattle.cif_weeks.proofs.Names.{AllPairs, AllZip, AreNear, AreRunsOfSpans, Breaks, Contains, Contains-first, Contains-rest, Form}
+use Rattle.cif_weeks.proofs.Names.{IsApartFrom, IsGrown, IsSpansRun, IsWithin, Leads, List, Option, Permanent, Run, Shows, Some, Span}
+use Rattle.cif_weeks.proofs.Names.{Terms, Window, [], ap, arith, at-contains, body_at, cases_lt, contains-at, dates_of}
+use Rattle.cif_weeks.proofs.Names.{get_or_from_slice_get, record_of, refl, same_Some, slice_get, slice_get-get_or, slice_get_within, subst}
+use Rattle.cif_weeks.proofs.Names.{sym, week_of, ℕ, ⊎_elim, ◌+◌, ◌<◌, ◌∙◌, ◌∷◌, ◌≡◌, ◌≤◌}
 use Rattle.cif_weeks.proofs.Grown.{grown_aligned, grown_applies, grown_change, grown_near, grown_runs}
 use Rattle.cif_weeks.proofs.JoinedLists.{zip-at, zip-back}
 use Rattle.cif_weeks.proofs.Meeting.{MeetsInOrder}
+use Rattle.cif_weeks.specs.Steps.BodyRuns.{HasBody}
 
 -- a span with this body leads on day n, or one without a body
 pub record Shown {B : Type 0} (xs : List (Terms B)) (spans : List Span) (body : Option B) (n : ℕ) : Type 0 where

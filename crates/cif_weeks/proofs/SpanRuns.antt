@@ -1,21 +1,15 @@
 -- The runs of few records: those of one source after another.
-use Rattle.std.proofs.Common.{◌≡◌, ◌≢◌, ◌⊎◌, inl, inr, ℕ, ◌+◌, ◌<◌, ◌≤◌, ◌==◌, Bool, false, List, [], ◌∷◌, ◌++◌, reverse, get_or, arith}
-use Rattle.std.proofs.Common.{refl, sym, ◌∙◌, ap, subst, ⊎_elim, All, AllPairs, Contains, IsPermutation}
-use Rattle.std.specs.List.Sorted.{IsNonDecreasingBy}
-use Rattle.std.proofs.lemmas.Bool.{cases_lt}
-use Rattle.std.proofs.lemmas.Bool.Decides.{nat_tests}
-use Rattle.std.proofs.lemmas.List.Elements.{All-cons, All-contains, Contains-append_cases, Contains-append_left, Contains-append_right}
-use Rattle.std.proofs.lemmas.List.Elements.{Contains-get_or, Contains-push, Contains-push_cases}
-use Rattle.std.proofs.lemmas.List.Kept.{AllPairs-cons}
-use Rattle.std.proofs.lemmas.List.Sorted.{Contains-permutation, IsPermutation-reverse, IsPermutation-sym}
+use Rattle.cif_weeks.proofs.Names.{All, All-cons, All-contains, AllPairs, AllPairs-cons, AllPairs-members, AreBodyRuns, AreRunsOfBody}
+use Rattle.cif_weeks.proofs.Names.{AreRunsOfSpans, Bool, Contains, Contains-append_cases, Contains-append_left, Contains-append_right}
+use Rattle.cif_weeks.proofs.Names.{Contains-cases, Contains-first, Contains-get_or, Contains-none, Contains-permutation, Contains-push}
+use Rattle.cif_weeks.proofs.Names.{Contains-push_cases, Contains-rest, EndsBefore, Form, HasSource, HasWeekOf, IsAgreed, IsGrown, IsLatest}
+use Rattle.cif_weeks.proofs.Names.{IsNonDecreasingBy, IsPermutation, IsPermutation-reverse, IsPermutation-sym, List, Run, Shows, Span}
+use Rattle.cif_weeks.proofs.Names.{Window, [], ap, arith, cases_lt, dates_of, false, get_or, inl, inr, nat_tests, refl, reverse, subst, sym}
+use Rattle.cif_weeks.proofs.Names.{week_of, ℕ, ⊎_elim, ◌++◌, ◌+◌, ◌<◌, ◌==◌, ◌∙◌, ◌∷◌, ◌≡◌, ◌≢◌, ◌≤◌, ◌⊎◌}
 use Rattle.std.proofs.lemmas.Map.Keys.{IsDistinct-IsPermutation, IsDistinct-from_apart, apart_from_distinct}
-use Rattle.cif_calendar.proofs.Elements.{Contains-cases, Contains-first, Contains-rest}
-use Rattle.cif_weeks.specs.Steps.BodyRuns.{EndsBefore, HasWeekOf}
-use Rattle.cif_weeks.proofs.Words.{AreBodyRuns, AreRunsOfBody, AreRunsOfSpans, Form, HasBody, HasSource, IsAgreed, IsGrown, IsLatest, Run}
-use Rattle.cif_weeks.proofs.Words.{Shows, Span, Window, dates_of, week_of}
 use Rattle.cif_weeks.proofs.JoinedLists.{AllPairs-append}
-use Rattle.cif_calendar.proofs.RisingLists.{AllPairs-members, Contains-none}
 use Rattle.cif_weeks.proofs.SameDays.{breaks-over, grown-over}
+use Rattle.cif_weeks.specs.Steps.BodyRuns.{HasBody}
 
 -- whether two runs begin on one date
 abbrev begin_together : Run → Run → Bool

@@ -1,14 +1,11 @@
 -- The masks of a span's days week by week, and of the days that some of the spans so far have, span by span.
-use Rattle.std.proofs.Common.{◌≡◌, ◌≢◌, ◌⊎◌, inl, inr, ◌↔◌, ℕ, ◌+◌, ◌-◌, ◌*◌, ◌<◌, ◌≤◌, List, [], ◌∷◌, ◌++◌, Bool, length, take, get_or}
-use Rattle.std.proofs.Common.{true, is_lt, nat_cmp, refl, sym, ◌∙◌, ap, subst, arith, rules, ⊎_elim, Contains}
-use Rattle.std.specs.Ordering.{ord_max, ord_min}
-use Rattle.std.proofs.lemmas.Bool.{cases_eq, cases_lt}
-use Rattle.std.specs.List.Sorted.{IsNonDecreasingBy}
-use Rattle.std.proofs.lemmas.List.{get_or-take, get_or_default, get_or_read_under, length-take, take-append-drop, take_all, take_more}
-use Rattle.std.proofs.lemmas.List.Elements.{Contains-append_left, Contains-push, Contains-push_cases}
-use Rattle.cif_weeks.proofs.Words.{AgreeOn, Applies, HasDay, HaveOneMask, IsAgreed, IsAmongDates, IsDisputed, IsMask, IsSpanOf, IsWithin}
-use Rattle.cif_weeks.proofs.Words.{Leads}
-use Rattle.cif_weeks.proofs.Words.{RunsOn, Shows, SomeOf, Span, Terms, Weeks, Window, letter, week_of, weekday_of}
+use Rattle.cif_weeks.proofs.Names.{AgreeOn, Bool, Contains, Contains-append_left, Contains-push, Contains-push_cases, HasDay, HaveOneMask}
+use Rattle.cif_weeks.proofs.Names.{IsAgreed, IsAmongDates, IsDisputed, IsMask, IsNonDecreasingBy, IsSpanOf, IsWithin, Leads, List, RunsOn}
+use Rattle.cif_weeks.proofs.Names.{Shows, SomeOf, Span, Terms, Weeks, Window, [], ap, arith, cases_eq, cases_lt, get_or, get_or-take}
+use Rattle.cif_weeks.proofs.Names.{get_or_default, get_or_read_under, inl, inr, is_lt, length, length-take, letter, nat_cmp, ord_max}
+use Rattle.cif_weeks.proofs.Names.{ord_min, refl, rules, subst, sym, take, take-append-drop, take_all, take_more, true, week_of, weekday_of}
+use Rattle.cif_weeks.proofs.Names.{ℕ, ⊎_elim, ◌*◌, ◌++◌, ◌+◌, ◌-◌, ◌<◌, ◌↔◌, ◌∙◌, ◌∷◌, ◌≡◌, ◌≢◌, ◌≤◌, ◌⊎◌}
+use Rattle.cif_calendar.specs.Applies.{Applies}
 use Rattle.cif_weeks.proofs.Masks.{mask-over, mask_runs}
 use Rattle.cif_weeks.proofs.WeekDays.{RunsOn-below}
 

@@ -1,13 +1,12 @@
 -- Two sets of records that have one form and say the same have the same records.
-use Rattle.std.proofs.Common.{◌≡◌, ◌≢◌, inl, inr, ℕ, ◌+◌, ◌-◌, ◌<◌, ◌≤◌, List, Bool, Option, arith, refl, sym, ◌∙◌, ap, subst, Contains}
-use Rattle.std.proofs.lemmas.Bool.{cases_lt, cases_eq}
-use Rattle.cif_weeks.specs.Applies.{Applies, IsWeekOf}
-use Rattle.cif_weeks.specs.WhatRuns.{HasBody, SayWhatRuns, SayTheSame}
-use Rattle.cif_weeks.proofs.Words.{AreSeparate, Change, ChangeBetween, EitherApplies, Form, HaveForm, IsAligned, IsAlignedOne, IsAlignedTwo}
-use Rattle.cif_weeks.proofs.Words.{Meets, One, Permanent, Permanents, RunsOn, Two, Window, week_of}
+use Rattle.cif_weeks.proofs.Names.{AreSeparate, Bool, Change, ChangeBetween, Contains, EitherApplies, Form, HaveForm, IsAligned}
+use Rattle.cif_weeks.proofs.Names.{IsAlignedOne, IsAlignedTwo, IsWeekOf, List, Meets, One, Option, Permanent, Permanents, RunsOn}
+use Rattle.cif_weeks.proofs.Names.{SayTheSame, SayWhatRuns, Two, Window, ap, arith, cases_eq, cases_lt, inl, inr, refl, same_members, subst}
+use Rattle.cif_weeks.proofs.Names.{sym, week_of, ℕ, ◌+◌, ◌-◌, ◌<◌, ◌∙◌, ◌≡◌, ◌≢◌, ◌≤◌}
+use Rattle.cif_weeks.proofs.AlignedDays.{DayOfWeek, IsTight, day_in_week, full_two, full_week, tight, week_of-applies, within-tight}
 use Rattle.cif_weeks.proofs.WeekDays.{masks_equal}
-use Rattle.cif_calendar.proofs.RisingLists.{same_members}
-use Rattle.cif_weeks.proofs.AlignedDays.{DayOfWeek, IsTight, tight, within-tight, week_of-applies, day_in_week, full_week, full_two}
+use Rattle.cif_weeks.specs.Applies.{Applies}
+use Rattle.cif_weeks.specs.WhatRuns.{HasBody}
 
 -- two records apply on the same days of a week
 record ApplyAlike {B : Type 0} (r s : Permanent B) (week : ℕ) : Type 0 where

@@ -1,12 +1,8 @@
 -- Canonical lists of all keys that say the same are equal.
-use Rattle.std.proofs.Common.{◌≡◌, inl, inr, ℕ, ◌<◌, List, Option, arith, sym, Contains}
-use Rattle.std.specs.declared.cmp.Ordering.{Ordering}
-use Rattle.std.specs.Cmp.{IsTotalOrder}
-use Rattle.cif_weeks.specs.WhatRuns.{SayTheSame}
-use Rattle.cif_weeks.specs.Canonical.{Precedes, AreCanonical, SayWhatRunsByKey, SayTheSameByKey}
-use Rattle.cif_calendar.proofs.RisingLists.{IsOneWay, same_members, less_one_way, not_less}
-use Rattle.cif_weeks.proofs.Words.{Form, Permanent, Window, of_key}
-use Rattle.cif_weeks.proofs.Unique.{member, SayTheSame-sym, SayTheSame-from_runs}
+use Rattle.cif_weeks.proofs.Names.{AreCanonical, Contains, Form, IsOneWay, IsTotalOrder, List, Option, Ordering, Permanent, Precedes}
+use Rattle.cif_weeks.proofs.Names.{SayTheSame, SayTheSameByKey, SayWhatRunsByKey, Window, arith, inl, inr, less_one_way, not_less, of_key}
+use Rattle.cif_weeks.proofs.Names.{same_members, sym, ℕ, ◌<◌, ◌≡◌}
+use Rattle.cif_weeks.proofs.Unique.{SayTheSame-from_runs, SayTheSame-sym, member}
 
 module _ {K B : Type 0} (cmp : K → K → Ordering) (total : IsTotalOrder cmp) where
   -- no two pairs come each before the other

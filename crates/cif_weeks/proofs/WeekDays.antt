@@ -1,8 +1,6 @@
 -- Arithmetic of days, weekdays and weeks, and masks.
-use Rattle.std.proofs.Common.{◌≡◌, ℕ, suc, ◌+◌, ◌-◌, ◌*◌, ◌<◌, ◌≤◌, Bool, true, false, List, [], ◌∷◌}
-use Rattle.std.proofs.Common.{length, arith, refl, ap}
-use Rattle.std.proofs.lemmas.Option.{slice_get_within}
-use Rattle.cif_weeks.proofs.Words.{weekday_of, week_of, RunsOn}
+use Rattle.cif_weeks.proofs.Names.{Bool, List, RunsOn, [], ap, arith, false, length, refl, slice_get_within, suc, true, week_of, weekday_of}
+use Rattle.cif_weeks.proofs.Names.{ℕ, ◌*◌, ◌+◌, ◌-◌, ◌<◌, ◌∷◌, ◌≡◌, ◌≤◌}
 
 -- a later day is in no earlier week
 pub week_of-rises : (m n : ℕ) → m ≤ n → week_of m ≤ week_of n

@@ -1,9 +1,7 @@
 -- In the order of keys none is before that of the first position (`from-first`), and positions with its key come first (`of-first_key`).
-use Rattle.std.proofs.Common.{get_or, sym, subst}
-use Rattle.cif_calendar.specs.Keys.{keyed}
-use Rattle.cif_calendar.specs.ByKey.{HasKey}
+use Rattle.cif_calendar.proofs.Names.{HasKey, get_or, keyed, subst, sym}
 use Rattle.cif_calendar.proofs.KeyPositions.{has-key}
-use Rattle.cif_calendar.proofs.KeyTurns.{of-first_key, from-first}
+use Rattle.cif_calendar.proofs.KeyTurns.{from-first, of-first_key}
 use Rattle.cif_calendar.proofs.by_key.count_of_first_key.Goals as goal
 
 pub count_of_key-requires-clause-from : goal.count_of_key-requires-clause-from

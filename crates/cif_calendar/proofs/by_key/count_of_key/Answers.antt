@@ -1,11 +1,7 @@
 -- In the order of keys no position behind one with another key has this one (`count-ends`); or all have it (`count-of_all`).
-use Rattle.std.proofs.Common.{◌≡◌, not, get_or, length, take, sym, ◌∙◌, ap, subst, arith}
-use Rattle.std.specs.Prelude.{All}
-use Rattle.std.proofs.lemmas.Bool.{false≢true, not-false}
-use Rattle.std.proofs.lemmas.List.Elements.{All-nil, All-more}
-use Rattle.cif_calendar.specs.Keys.{keyed}
+use Rattle.cif_calendar.proofs.Names.{All, All-more, All-nil, HasKey, ap, arith, false≢true, get_or, keyed, length, not, not-false, subst}
+use Rattle.cif_calendar.proofs.Names.{sym, take, ◌∙◌, ◌≡◌}
 use Rattle.cif_calendar.proofs.FirstClash.{same_key-cmp}
-use Rattle.cif_calendar.specs.ByKey.{HasKey}
 use Rattle.cif_calendar.proofs.KeyPositions.{has-key}
 use Rattle.cif_calendar.proofs.KeyTurns.{count-ends, count-of_all}
 use Rattle.cif_calendar.proofs.by_key.count_of_key.Goals as goal

@@ -1,13 +1,9 @@
 -- By cases of what is left: a first position has its entry's key (`leading`), and of two the lesser is the first (`lesser-first`).
-use Rattle.std.proofs.Common.{◌≡◌, ◌∙◌, ap}
-use Rattle.std.specs.Prelude.{true, false}
-use Rattle.std.specs.Ordering.{is_lt}
-use Rattle.cif_calendar.specs.Keys.{keyed}
+use Rattle.cif_calendar.proofs.Names.{IsFirstOfBoth, ap, false, is_lt, keyed, true, ◌∙◌, ◌≡◌}
 use Rattle.cif_calendar.proofs.FirstClash.{same_key-cmp}
-use Rattle.cif_calendar.specs.ByKey.{IsFirstOfBoth}
 use Rattle.cif_calendar.proofs.FirstEntries.{leading, leading-within, left-alone, lesser-first, right-alone}
-use Rattle.cif_calendar.proofs.by_key.first_entry.Given.{Over}
 use Rattle.cif_calendar.proofs.by_key.first_entry.Goals as goal
+use Rattle.cif_calendar.proofs.by_key.first_entry.Given.{Over}
 use Rattle.cif_calendar.proofs.by_key.first_entry.Goals.{After-is_lt}
 
 -- of two first positions that of the lesser key

@@ -1,7 +1,5 @@
 -- Of each list those that have the entry's key are counted and split off.
-use Rattle.std.proofs.Common.{sym, subst}
-use Rattle.cif_calendar.specs.Keys.{keyed}
-use Rattle.cif_calendar.specs.ByKey.{AreFrom, IsCountOfKey}
+use Rattle.cif_calendar.proofs.Names.{AreFrom, IsCountOfKey, keyed, subst, sym}
 use Rattle.cif_calendar.proofs.by_key.first_key.Goals as goal
 
 pub count_of_key-left_count-requires-clause-from : goal.count_of_key-left_count-requires-clause-from

@@ -1,7 +1,5 @@
 -- The positions so far are those of the key.
-use Rattle.std.proofs.Common.{◌<◌, length}
-use Rattle.std.specs.Prelude.{All}
-use Rattle.cif_calendar.specs.Keys.{keyed}
+use Rattle.cif_calendar.proofs.Names.{All, keyed, length, ◌<◌}
 use Rattle.cif_calendar.proofs.KeyMembers.{ArePositionsBefore}
 use Rattle.cif_calendar.proofs.by_key.positions_of_key.Given as goal
 

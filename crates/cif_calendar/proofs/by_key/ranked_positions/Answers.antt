@@ -1,7 +1,5 @@
 -- An entry's rank stands for its key, which is the only one at its position.
-use Rattle.std.proofs.Common.{subst, sym, ◌+◌}
-use Rattle.cif_calendar.specs.Keys.{keyed}
-use Rattle.cif_calendar.specs.Ranks.{AreRanked}
+use Rattle.cif_calendar.proofs.Names.{AreRanked, keyed, subst, sym, ◌+◌}
 use Rattle.cif_calendar.proofs.KeyPositions.{has-key}
 use Rattle.cif_calendar.proofs.KeyTurns.{one-key}
 use Rattle.cif_calendar.proofs.SortedPositions.{ranked-more}

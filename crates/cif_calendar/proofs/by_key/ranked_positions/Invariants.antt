@@ -1,6 +1,5 @@
 -- The entries so far are ranked.
-use Rattle.cif_calendar.specs.Keys.{keyed}
-use Rattle.cif_calendar.specs.Ranks.{AreRanked}
+use Rattle.cif_calendar.proofs.Names.{AreRanked, keyed}
 use Rattle.cif_calendar.proofs.by_key.ranked_positions.Given as goal
 
 abbrev pub invariant-loop-position : goal.invariant-loop-position

@@ -1,10 +1,6 @@
 -- One date more is a clash date, or none (`dates-more`); without a dispute no date of the stretch is (`dates-none`).
-use Rattle.std.proofs.Common.{◌≡◌, ◌+◌, ◌∙◌, ◌<◌, arith, get_or, map, subst, sym}
-use Rattle.cif_columns.specs.Day.{weekday_of}
-use Rattle.cif_calendar.specs.ClashDates.{AreClashDates}
-use Rattle.cif_calendar.specs.Source.{IsChosen}
-use Rattle.cif_calendar.specs.Steps.Standing.{Stands}
-use Rattle.cif_calendar.specs.declared.standing.Standing.TheVariants.{Nobody}
+use Rattle.cif_calendar.proofs.Names.{AreClashDates, IsChosen, Nobody, Stands, arith, get_or, map, subst, sym, weekday_of, ◌+◌, ◌<◌, ◌∙◌}
+use Rattle.cif_calendar.proofs.Names.{◌≡◌}
 use Rattle.cif_calendar.proofs.ClashingDates.{dates-more, dates-none, undisputed}
 use Rattle.cif_calendar.proofs.clashing_dates.add_dates.Goals as goal
 

@@ -1,7 +1,5 @@
 -- The clash dates before `day` are found, and what is left of the stretch gets shorter.
-use Rattle.std.proofs.Common.{ℕ, ◌≤◌, ◌-◌, map}
-use Rattle.cif_calendar.specs.ClashDates.{AreClashDates}
-use Rattle.cif_calendar.specs.Source.{IsChosen}
+use Rattle.cif_calendar.proofs.Names.{AreClashDates, IsChosen, map, ℕ, ◌-◌, ◌≤◌}
 use Rattle.cif_calendar.proofs.clashing_dates.add_dates.Given as goal
 
 abbrev pub invariant-loop-next : goal.invariant-loop-next

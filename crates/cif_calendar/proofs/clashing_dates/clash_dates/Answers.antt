@@ -1,5 +1,5 @@
 -- At first no bodies are known to be alike, and one member alone has no clash.
-use Rattle.std.proofs.Common.{map, rules, arith}
+use Rattle.cif_calendar.proofs.Names.{arith, map, rules}
 use Rattle.cif_calendar.proofs.Bodies.{alike-none}
 use Rattle.cif_calendar.proofs.ClashingDates.{dates-alone}
 use Rattle.cif_calendar.proofs.clashing_dates.clash_dates.Goals as goal

@@ -1,6 +1,5 @@
 -- The clash dates of one stretch more are found (`made-next`).
-use Rattle.std.proofs.Common.{◌∙◌, arith, map}
-use Rattle.std.proofs.lemmas.List.{drop_all}
+use Rattle.cif_calendar.proofs.Names.{arith, drop_all, map, ◌∙◌}
 use Rattle.cif_calendar.proofs.ClashingDates.{dates-start}
 use Rattle.cif_calendar.proofs.DayStates.{made-all, made-next, made-none, stretch-here}
 use Rattle.cif_calendar.proofs.LaidPieces.{next-day}

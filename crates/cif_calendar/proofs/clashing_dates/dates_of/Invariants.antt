@@ -1,7 +1,5 @@
 -- The clash dates of the stretches so far are found.
-use Rattle.std.proofs.Common.{ℕ, ◌≤◌, List, drop, map}
-use Rattle.cif_calendar.specs.ClashDates.{AreClashDates}
-use Rattle.cif_calendar.specs.Source.{IsChosen}
+use Rattle.cif_calendar.proofs.Names.{AreClashDates, IsChosen, List, drop, map, ℕ, ◌≤◌}
 use Rattle.cif_calendar.proofs.DayStates.{IsMadeOf}
 use Rattle.cif_calendar.proofs.clashing_dates.dates_of.Given as goal
 

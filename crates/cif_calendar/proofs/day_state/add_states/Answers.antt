@@ -1,8 +1,5 @@
 -- The state of one date more stands (`states-more`).
-use Rattle.std.proofs.Common.{◌+◌, ◌∙◌, arith, get_or, map, subst, sym}
-use Rattle.cif_calendar.specs.Source.{IsChosen}
-use Rattle.cif_calendar.specs.Steps.Standing.{Stands}
-use Rattle.cif_calendar.specs.declared.standing.Standing.TheVariants.{Nobody}
+use Rattle.cif_calendar.proofs.Names.{IsChosen, Nobody, Stands, arith, get_or, map, subst, sym, ◌+◌, ◌∙◌}
 use Rattle.cif_calendar.proofs.DayStates.{states-more}
 use Rattle.cif_calendar.proofs.day_state.add_states.Goals as goal
 

@@ -1,7 +1,5 @@
 -- The states of the days before `day` stand, and what is left of the stretch gets shorter.
-use Rattle.std.proofs.Common.{ℕ, ◌≤◌, ◌-◌, map}
-use Rattle.cif_calendar.specs.DayState.{AreDayStates}
-use Rattle.cif_calendar.specs.Source.{IsChosen}
+use Rattle.cif_calendar.proofs.Names.{AreDayStates, IsChosen, map, ℕ, ◌-◌, ◌≤◌}
 use Rattle.cif_calendar.proofs.day_state.add_states.Given as goal
 
 abbrev pub invariant-loop-next : goal.invariant-loop-next

@@ -1,6 +1,5 @@
 -- The states of one stretch more stand (`made-next`).
-use Rattle.std.proofs.Common.{◌∙◌, map}
-use Rattle.std.proofs.lemmas.List.{drop_all}
+use Rattle.cif_calendar.proofs.Names.{drop_all, map, ◌∙◌}
 use Rattle.cif_calendar.proofs.DayStates.{made-all, made-next, made-none, states-none, stretch-here}
 use Rattle.cif_calendar.proofs.LaidPieces.{next-day}
 use Rattle.cif_calendar.proofs.day_state.states_of.Goals as goal

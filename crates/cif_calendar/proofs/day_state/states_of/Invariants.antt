@@ -1,7 +1,5 @@
 -- The states of the stretches so far stand.
-use Rattle.std.proofs.Common.{drop, map}
-use Rattle.cif_calendar.specs.DayState.{AreDayStates}
-use Rattle.cif_calendar.specs.Source.{IsChosen}
+use Rattle.cif_calendar.proofs.Names.{AreDayStates, IsChosen, drop, map}
 use Rattle.cif_calendar.proofs.DayStates.{IsMadeOf}
 use Rattle.cif_calendar.proofs.day_state.states_of.Given as goal
 

@@ -1,7 +1,6 @@
 -- Bodies are equal by the law of entries where both are there.
-use Rattle.std.proofs.Common.{◌≡◌, ◌↔◌, Bool, Option, None, Some, IsTrue, option_map, ap, refl}
+use Rattle.cif_calendar.proofs.Names.{Bool, IsTrue, None, Option, Some, ap, option_map, refl, same_Some, ◌↔◌, ◌≡◌}
 use Rattle.std.specs.Option.{option_eq}
-use Rattle.std.proofs.lemmas.Option.{same_Some}
 use Rattle.cif_calendar.proofs.entry.same_body.Goals as goal
 
 same : {R B : Type 0} (now : R → B) (eq : B → B → Bool) → ((a b : B) → IsTrue (eq a b) ↔ (a ≡ b)) → (o p : Option R) →

@@ -1,10 +1,6 @@
 -- Key by key (`FoundClashes`): the first run of positions is all of a key, whose clash goes behind.
-use Rattle.std.proofs.Common.{◌<◌, List, [], ℕ, length, sym, subst}
-use Rattle.std.specs.Prelude.{All}
-use Rattle.std.proofs.lemmas.List.{nil_from_length}
-use Rattle.std.proofs.lemmas.Bool.{eqb-true}
-use Rattle.std.proofs.lemmas.List.Elements.{All-drop, All-nil, All-take}
-use Rattle.cif_calendar.specs.Keys.{keyed}
+use Rattle.cif_calendar.proofs.Names.{All, All-drop, All-nil, All-take, List, [], eqb-true, keyed, length, nil_from_length, subst, sym, ℕ}
+use Rattle.cif_calendar.proofs.Names.{◌<◌}
 use Rattle.cif_calendar.proofs.FirstClash.{same_key-cmp}
 use Rattle.cif_calendar.proofs.FoundClashes.{AreFound, found-all, found-key, found-nothing}
 use Rattle.cif_calendar.proofs.KeyPositions.{all-within}

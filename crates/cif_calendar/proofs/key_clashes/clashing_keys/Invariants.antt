@@ -1,8 +1,5 @@
 -- What is found tells the clashes of all keys but the ones with entries at `rest`, and these are greater.
-use Rattle.std.proofs.Common.{◌<◌, length}
-use Rattle.std.specs.Prelude.{All}
-use Rattle.cif_calendar.specs.Keys.{keyed}
-use Rattle.cif_calendar.specs.declared.key_clashes.KeyClash.{KeyClash}
+use Rattle.cif_calendar.proofs.Names.{All, KeyClash, keyed, length, ◌<◌}
 use Rattle.cif_calendar.proofs.FoundClashes.{AreFound}
 use Rattle.cif_calendar.proofs.key_clashes.clashing_keys.Given as goal
 

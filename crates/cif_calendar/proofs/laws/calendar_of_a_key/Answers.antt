@@ -1,5 +1,5 @@
 -- The members' records are the key's (`positions-records`), so what a calendar says of them it says of the key (`KeyCalendar`).
-use Rattle.cif_calendar.proofs.KeyCalendar.{key-runs, key-clear, key-source, key-fault}
+use Rattle.cif_calendar.proofs.KeyCalendar.{key-clear, key-fault, key-runs, key-source}
 use Rattle.cif_calendar.proofs.laws.calendar_of_a_key.Goals as goal
 
 pub returns : goal.returns

@@ -1,7 +1,5 @@
 -- One clash after another goes behind by its name (`named-more`), and all that were found are told (`named-all`).
-use Rattle.std.proofs.Common.{◌∙◌, ◌<◌, ◌++◌, ◌∷◌, [], ap, append-nil, length, subst, sym}
-use Rattle.cif_calendar.specs.Keys.{keyed}
-use Rattle.cif_calendar.specs.declared.key_clashes.KeyClash.{KeyClash}
+use Rattle.cif_calendar.proofs.Names.{KeyClash, [], ap, append-nil, keyed, length, subst, sym, ◌++◌, ◌<◌, ◌∙◌, ◌∷◌}
 use Rattle.cif_calendar.proofs.KeyPositions.{has-key}
 use Rattle.cif_calendar.proofs.NamedClashes.{named-all, named-more}
 use Rattle.cif_calendar.proofs.named_clashes.add_named.Goals as goal

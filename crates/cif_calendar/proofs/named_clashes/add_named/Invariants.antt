@@ -1,8 +1,5 @@
 -- Behind the known clashes are those of the first that were found.
-use Rattle.std.proofs.Common.{◌≡◌, ◌++◌, take}
-use Rattle.std.specs.List.{flat_map}
-use Rattle.cif_calendar.specs.Keys.{keyed}
-use Rattle.cif_calendar.specs.Steps.Clashes.{named}
+use Rattle.cif_calendar.proofs.Names.{flat_map, keyed, named, take, ◌++◌, ◌≡◌}
 use Rattle.cif_calendar.proofs.named_clashes.add_named.Given as goal
 
 abbrev pub invariant-loop-clash : goal.invariant-loop-clash

@@ -1,5 +1,5 @@
 -- At first no bodies are known to be alike. Where memory ran out nothing else is said (`laid-memory`).
-use Rattle.std.proofs.Common.{map, rules}
+use Rattle.cif_calendar.proofs.Names.{map, rules}
 use Rattle.cif_calendar.proofs.Bodies.{alike-none}
 use Rattle.cif_calendar.proofs.LaidPieces.{laid-memory}
 use Rattle.cif_calendar.proofs.pieces.calendar.Goals as goal

@@ -1,9 +1,5 @@
 -- One piece more is laid (`laid-more`), all are the calendar (`laid-all`), and a clash is the window's first (`laid-fault`).
-use Rattle.std.proofs.Common.{◌∙◌, ap, map, refl, subst, sym, Err}
-use Rattle.std.proofs.lemmas.List.{drop_all}
-use Rattle.std.proofs.lemmas.Result.{err_from_is_err_and}
-use Rattle.cif_calendar.specs.Calendar.{IsAnswer}
-use Rattle.cif_calendar.specs.declared.key_calendar.CalendarFault.TheVariants.{Memory}
+use Rattle.cif_calendar.proofs.Names.{Err, IsAnswer, Memory, ap, drop_all, err_from_is_err_and, map, refl, subst, sym, ◌∙◌}
 use Rattle.cif_calendar.proofs.LaidPieces.{laid-all, laid-fault, laid-memory, laid-more, laid-none, laid-tiles, next-day, stretch-laid}
 use Rattle.cif_calendar.proofs.pieces.calendar_of.Goals as goal
 

@@ -1,5 +1,5 @@
 -- The pieces of the stretches so far are laid.
-use Rattle.std.proofs.Common.{drop, map}
+use Rattle.cif_calendar.proofs.Names.{drop, map}
 use Rattle.cif_calendar.proofs.LaidPieces.{AreLaid}
 use Rattle.cif_calendar.proofs.pieces.calendar_of.Given as goal
 

@@ -1,7 +1,6 @@
 -- One day more sets its weekday's winner; among seven days that is no other day's, so the others stay (`week-more`). The winners of the
 -- first week are those of the whole piece (`piece-from_week`).
-use Rattle.std.proofs.Common.{◌≡◌, ◌+◌, ◌∙◌, arith, length-set, map, min, refl, subst}
-use Rattle.cif_calendar.proofs.Words.{weekday_of}
+use Rattle.cif_calendar.proofs.Names.{arith, length-set, map, min, refl, subst, weekday_of, ◌+◌, ◌∙◌, ◌≡◌}
 use Rattle.cif_calendar.proofs.UnbrokenStretches.{IsWeekFrom, piece-from_week, week-more}
 use Rattle.cif_calendar.proofs.pieces.judge.Goals as goal
 use Rattle.cif_calendar.proofs.pieces.judge.Goals.{else-loop-test, then-loop-test+in_ok-winners+in-None}

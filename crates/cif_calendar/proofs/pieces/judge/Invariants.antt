@@ -1,5 +1,5 @@
 -- The winners so far are those of the days before `day`, which are clear; `day` is as many days behind the first as the loop went round.
-use Rattle.std.proofs.Common.{◌≡◌, ◌≤◌, ◌+◌, length, map}
+use Rattle.cif_calendar.proofs.Names.{length, map, ◌+◌, ◌≡◌, ◌≤◌}
 use Rattle.cif_calendar.proofs.UnbrokenStretches.{IsWeekFrom}
 use Rattle.cif_calendar.proofs.pieces.judge.Given as goal
 

@@ -1,6 +1,5 @@
 -- The lesser letter leads; where neither is less, both are the same.
-use Rattle.std.proofs.Common.{◌≡◌, map, arith, subst}
-use Rattle.cif_calendar.specs.Steps.Standing.{IsRank}
+use Rattle.cif_calendar.proofs.Names.{IsRank, arith, map, subst, ◌≡◌}
 use Rattle.cif_calendar.proofs.Winning.{combines_first, combines_second}
 use Rattle.cif_calendar.proofs.standing.combine.Goals as goal
 

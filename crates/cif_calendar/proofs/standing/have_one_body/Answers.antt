@@ -1,10 +1,8 @@
 -- A link leads to a member with the same body (`falling-next`), and so do two (`alike-noted`).
-use Rattle.std.proofs.Common.{ap, map, refl, sym, ◌∙◌, ◌↔◌, IsTrue, slice_get}
-use Rattle.cif_calendar.proofs.Words.{body_at}
-use Rattle.cif_calendar.specs.Steps.Standing.{HaveOneBody}
+use Rattle.cif_calendar.proofs.Names.{HaveOneBody, IsTrue, ap, body_at, map, refl, slice_get, sym, ◌↔◌, ◌∙◌}
 use Rattle.cif_calendar.proofs.Bodies.{alike-noted, falling-next, one-body}
-use Rattle.cif_calendar.proofs.standing.have_one_body.Given.{Over}
 use Rattle.cif_calendar.proofs.standing.have_one_body.Goals as goal
+use Rattle.cif_calendar.proofs.standing.have_one_body.Given.{Over}
 use Rattle.cif_calendar.proofs.standing.have_one_body.Goals.{After-same_body-same, in-Some-known, in_default-known}
 
 pub loop-init : goal.loop-init

@@ -1,6 +1,5 @@
 -- The members of the pair have one body exactly if the two that are asked about have.
-use Rattle.std.proofs.Common.{map, ◌↔◌}
-use Rattle.cif_calendar.specs.Steps.Standing.{AreAlike, HaveOneBody}
+use Rattle.cif_calendar.proofs.Names.{AreAlike, HaveOneBody, map, ◌↔◌}
 use Rattle.cif_calendar.proofs.standing.have_one_body.Given as goal
 
 abbrev pub invariant-loop : goal.invariant-loop

@@ -1,9 +1,8 @@
 -- One of the weekdays is looked at, and another stays as it was (`stepped`, `stepped-same`).
-use Rattle.std.proofs.Common.{arith, refl, inl, inr}
-use Rattle.std.proofs.lemmas.Bool.{iff_false}
+use Rattle.cif_calendar.proofs.Names.{arith, iff_false, inl, inr, refl}
 use Rattle.cif_calendar.proofs.Standings.{stepped, stepped-same}
 use Rattle.cif_calendar.proofs.standing.look_at.Goals as goal
-use Rattle.cif_calendar.proofs.standing.look_at.Goals.{then-has, else-has}
+use Rattle.cif_calendar.proofs.standing.look_at.Goals.{else-has, then-has}
 
 pub loop-weekday-init : goal.loop-weekday-init
 loop-weekday-init g c = record {

@@ -1,6 +1,5 @@
 -- The weekdays before `weekday` are looked at; the others are as they were.
-use Rattle.std.proofs.Common.{length, map}
-use Rattle.cif_calendar.specs.Steps.Standing.{AreAlike, LooksAt}
+use Rattle.cif_calendar.proofs.Names.{AreAlike, LooksAt, length, map}
 use Rattle.cif_calendar.proofs.Standings.{AreStepped}
 use Rattle.cif_calendar.proofs.standing.look_at.Given as goal
 

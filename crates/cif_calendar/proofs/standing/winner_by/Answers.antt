@@ -1,5 +1,5 @@
 -- A leader with a body is the day's source (`winner-at`); where one has none, nothing runs (`idle-leader`).
-use Rattle.std.proofs.Common.{refl}
+use Rattle.cif_calendar.proofs.Names.{refl}
 use Rattle.cif_calendar.proofs.Positions.{AreLawful-chosen}
 use Rattle.cif_calendar.proofs.Winning.{idle-leader, winner-at}
 use Rattle.cif_calendar.proofs.standing.winner_by.Goals as goal

@@ -1,11 +1,10 @@
 -- One stretch more of both halves together (`merged-more`), until all of a half are merged (`merged-all`).
-use Rattle.std.proofs.Common.{rules, ◌/◌, List, ℕ, length, map, refl, subst, take-append-drop}
-use Rattle.std.proofs.lemmas.Result.{IfOk-from_err}
-use Rattle.cif_calendar.specs.Steps.Stretches.{AreStretchesOf, IsJoint}
+use Rattle.cif_calendar.proofs.Names.{AreStretchesOf, IfOk-from_err, IsJoint, List, length, map, refl, rules, subst, take-append-drop, ℕ}
+use Rattle.cif_calendar.proofs.Names.{◌/◌}
 use Rattle.cif_calendar.proofs.Standings.{looked-all}
 use Rattle.cif_calendar.proofs.Stretches.{fewer-left, first-below, merged-all, merged-more, sooner}
-use Rattle.cif_calendar.proofs.stretch.+stretches_of.Given.{Over}
 use Rattle.cif_calendar.proofs.stretch.+stretches_of.Goals as goal
+use Rattle.cif_calendar.proofs.stretch.+stretches_of.Given.{Over}
 use Rattle.cif_calendar.proofs.stretch.+stretches_of.Goals.{After-look_at, After-one-item, In-len1-up-len1-up}
 
 pub loop-left-init : goal.loop-left-init

@@ -1,6 +1,5 @@
 -- The part gets shorter. The stretches of both halves are merged so far, and those left get fewer.
-use Rattle.std.proofs.Common.{◌+◌, length, map, take, drop}
-use Rattle.cif_calendar.specs.Steps.Standing.{AreAlike}
+use Rattle.cif_calendar.proofs.Names.{AreAlike, drop, length, map, take, ◌+◌}
 use Rattle.cif_calendar.proofs.Stretches.{AreMerged}
 use Rattle.cif_calendar.proofs.stretch.+stretches_of.Given as goal
 

@@ -1,13 +1,11 @@
 -- One member more begins later, has ended (`stretch-begins`, `stretch-ended`), or lies over the first day (`stretch-looked`).
-use Rattle.std.proofs.Common.{◌+◌, [], arith, get_or, length, map, refl, take, take_all}
-use Rattle.std.proofs.lemmas.List.{get_or_default, take_more}
+use Rattle.cif_calendar.proofs.Names.{Leader, [], arith, get_or, get_or_default, length, map, refl, take, take_all, take_more, ◌+◌}
 use Rattle.cif_calendar.proofs.Standings.{below-same}
 use Rattle.cif_calendar.proofs.Stretches.{day_upto, part-all, part-at, some-before, stretch-begins, stretch-ended, stretch-looked}
 use Rattle.cif_calendar.proofs.Stretches.{stretch-none}
 use Rattle.cif_calendar.proofs.Winning.{terms_at}
-use Rattle.cif_calendar.proofs.Words.{Leader}
 use Rattle.cif_calendar.proofs.stretch.stretch_from.Goals as goal
-use Rattle.cif_calendar.proofs.stretch.stretch_from.Goals.{then-le+then-le-2, then-le+else-le-2, else-le+in-Some, else-le+in_default}
+use Rattle.cif_calendar.proofs.stretch.stretch_from.Goals.{else-le+in-Some, else-le+in_default, then-le+else-le-2, then-le+then-le-2}
 
 pub loop-index-init : goal.loop-index-init
 loop-index-init g c = record {

@@ -1,7 +1,5 @@
 -- So far it is the stretch of the members that were looked at.
-use Rattle.std.proofs.Common.{◌+◌, take, map}
-use Rattle.cif_calendar.specs.Steps.Standing.{AreAlike}
-use Rattle.cif_calendar.specs.Steps.Stretches.{IsStretch}
+use Rattle.cif_calendar.proofs.Names.{AreAlike, IsStretch, map, take, ◌+◌}
 use Rattle.cif_calendar.proofs.stretch.stretch_from.Given as goal
 
 abbrev pub invariant-loop-index : goal.invariant-loop-index

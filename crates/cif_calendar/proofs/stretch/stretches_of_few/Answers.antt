@@ -1,6 +1,5 @@
 -- One stretch more (`stretches-push`).
-use Rattle.std.proofs.Common.{arith, map, ◌+◌}
-use Rattle.std.proofs.lemmas.Result.{IfOk-from_err}
+use Rattle.cif_calendar.proofs.Names.{IfOk-from_err, arith, map, ◌+◌}
 use Rattle.cif_calendar.proofs.Stretches.{stretches-push}
 use Rattle.cif_calendar.proofs.stretch.stretches_of_few.Goals as goal
 

@@ -1,7 +1,5 @@
 -- The stretches so far are those of the days before `first`, and what is left of the window gets shorter.
-use Rattle.std.proofs.Common.{◌≤◌, ◌+◌, ◌-◌, map}
-use Rattle.cif_calendar.specs.Steps.Standing.{AreAlike}
-use Rattle.cif_calendar.specs.Steps.Stretches.{AreStretches}
+use Rattle.cif_calendar.proofs.Names.{AreAlike, AreStretches, map, ◌+◌, ◌-◌, ◌≤◌}
 use Rattle.cif_calendar.proofs.stretch.stretches_of_few.Given as goal
 
 abbrev pub invariant-loop-stretches : goal.invariant-loop-stretches

@@ -1,6 +1,5 @@
 -- The left one isn't read, or the right one isn't, or both are, and narrowed or not.
-use Rattle.std.proofs.Common.{inl, inr, refl}
-use Rattle.cif_extract.proofs.ReadCalls.{at-fault}
+use Rattle.cif_canon.proofs.Names.{at-fault, inl, inr, refl}
 use Rattle.cif_canon.proofs.asked.read_pair.Goals as goal
 
 pub returns-in_err-left : goal.returns-in_err-left

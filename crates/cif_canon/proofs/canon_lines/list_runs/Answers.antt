@@ -1,7 +1,6 @@
 -- The text is a fold over runs with their numbers: one more goes behind it (`one-more`). Each run has a record.
-use Rattle.std.proofs.Common.{◌<◌, ◌+◌, ap, arith, length, subst, sym}
-use Rattle.std.proofs.lemmas.List.FromFn.{length-enumerate_from}
-use Rattle.cif_canon.proofs.Words.{HasRecord, Run, enumerate_from, numbered_text, schedule_entries, schedule_plain, text_if}
+use Rattle.cif_canon.proofs.Names.{HasRecord, Run, ap, arith, enumerate_from, length, length-enumerate_from, numbered_text}
+use Rattle.cif_canon.proofs.Names.{schedule_entries, schedule_plain, subst, sym, text_if, ◌+◌, ◌<◌}
 use Rattle.cif_canon.proofs.AppendedTexts.{all-items, nothing, one-more, text-is}
 use Rattle.cif_canon.proofs.CanonLines.{at-number}
 use Rattle.cif_canon.proofs.canon_lines.list_runs.Goals as goal

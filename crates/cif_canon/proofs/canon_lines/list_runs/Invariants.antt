@@ -1,6 +1,5 @@
 -- What is written is the text of the schedules so far, with their numbers.
-use Rattle.std.proofs.Common.{take}
-use Rattle.cif_canon.proofs.Words.{IsAppended, enumerate_from, flat_map, numbered_text, schedule_entries}
+use Rattle.cif_canon.proofs.Names.{IsAppended, enumerate_from, flat_map, numbered_text, schedule_entries, take}
 use Rattle.cif_canon.proofs.canon_lines.list_runs.Given as goal
 
 abbrev pub invariant-loop-at : goal.invariant-loop-at

@@ -1,6 +1,5 @@
 -- A run with a record has a schedule with a body (`has-body`).
-use Rattle.std.proofs.Common.{ap, ◌∙◌}
-use Rattle.cif_canon.proofs.Words.{Schedule, schedule_entry}
+use Rattle.cif_canon.proofs.Names.{Schedule, ap, schedule_entry, ◌∙◌}
 use Rattle.cif_canon.proofs.RunTexts.{body-of, has-body}
 use Rattle.cif_canon.proofs.canonical_form.body_of.Goals as goal
 

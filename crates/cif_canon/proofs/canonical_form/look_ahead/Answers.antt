@@ -1,6 +1,5 @@
 -- Each run has a record, and so the schedule at its source has a body (`has-body`).
-use Rattle.std.proofs.Common.{◌<◌, ap, length, subst, sym, ◌∙◌}
-use Rattle.cif_canon.proofs.Words.{HasRecord, Run, Schedule, false≢true, schedule_entries, schedule_entry}
+use Rattle.cif_canon.proofs.Names.{HasRecord, Run, Schedule, ap, false≢true, length, schedule_entries, schedule_entry, subst, sym, ◌<◌, ◌∙◌}
 use Rattle.cif_canon.proofs.RunTexts.{has-body}
 use Rattle.cif_canon.proofs.canonical_form.look_ahead.Goals as goal
 use Rattle.cif_canon.proofs.canonical_form.look_ahead.Goals.{in_default-via-in-Some+else-prefetch, in_default-via-in_default}

@@ -1,7 +1,5 @@
 -- The record of the entry that was looked up, from its key and its body (`record-of_entry`).
-use Rattle.std.proofs.Common.{◌∙◌, Some, ap, sym}
-use Rattle.cif_calendar.proofs.Winning.{terms_at}
-use Rattle.cif_canon.proofs.Words.{keyed, option_copied, record_of}
+use Rattle.cif_canon.proofs.Names.{Some, ap, keyed, option_copied, record_of, sym, terms_at, ◌∙◌}
 use Rattle.cif_canon.proofs.RunTexts.{has-body, record-of_entry}
 use Rattle.cif_canon.proofs.canonical_form.record_of.Goals as goal
 

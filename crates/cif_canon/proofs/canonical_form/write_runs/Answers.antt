@@ -1,6 +1,5 @@
 -- The text is a fold over runs: one more goes behind it (`one-more`); each run has a record.
-use Rattle.std.proofs.Common.{◌<◌, ap, length, sym, subst}
-use Rattle.cif_canon.proofs.Words.{HasRecord, Run, keyed, run_text, text_if}
+use Rattle.cif_canon.proofs.Names.{HasRecord, Run, ap, keyed, length, run_text, subst, sym, text_if, ◌<◌}
 use Rattle.cif_canon.proofs.AppendedTexts.{all-items, nothing, one-more, text-is}
 use Rattle.cif_canon.proofs.canonical_form.write_runs.Goals as goal
 

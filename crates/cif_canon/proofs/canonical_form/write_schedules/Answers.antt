@@ -1,12 +1,12 @@
 -- The text is a fold over runs: one more goes behind it (`one-more`). Each run has a record, and its text is that of the writer's body
 -- (`schedule-text`).
-use Rattle.std.proofs.Common.{◌≡◌, Some, ap, subst, sym, ◌∙◌}
-use Rattle.cif_canon.specs.Steps.Texts.{HasRecord, body_at, schedule_run_text, schedule_text}
-use Rattle.cif_canon.proofs.Words.{Schedule, record_of, schedule_entries}
+use Rattle.cif_canon.proofs.Names.{HasRecord, Schedule, Some, ap, record_of, schedule_entries, schedule_run_text, schedule_text, subst, sym}
+use Rattle.cif_canon.proofs.Names.{◌∙◌, ◌≡◌}
 use Rattle.cif_canon.proofs.AppendedTexts.{all-items, appended, nothing, one-more, text-is}
 use Rattle.cif_canon.proofs.RunTexts.{dates-in_order, schedule-text}
-use Rattle.cif_canon.proofs.canonical_form.write_schedules.Given.{Over}
+use Rattle.cif_canon.specs.Steps.Texts.{body_at}
 use Rattle.cif_canon.proofs.canonical_form.write_schedules.Goals as goal
+use Rattle.cif_canon.proofs.canonical_form.write_schedules.Given.{Over}
 use Rattle.cif_canon.proofs.canonical_form.write_schedules.Goals.{After-index-runs-at}
 
 has : (g : Over) (c : After-index-runs-at g) → HasRecord (schedule_entries c.args.schedules.now) c.index-runs-at.result

@@ -1,7 +1,6 @@
 -- What is written is the text of the runs so far, and the writer has the body of the schedule at `source`.
-use Rattle.std.proofs.Common.{◌≡◌, Some, take}
+use Rattle.cif_canon.proofs.Names.{IsAppended, Some, flat_map, schedule_entries, schedule_run_text, take, ◌≡◌}
 use Rattle.cif_canon.specs.Steps.Texts.{body_at}
-use Rattle.cif_canon.proofs.Words.{IsAppended, flat_map, schedule_entries, schedule_run_text}
 use Rattle.cif_canon.proofs.canonical_form.write_schedules.Given as goal
 
 abbrev pub invariant-loop-at : goal.invariant-loop-at

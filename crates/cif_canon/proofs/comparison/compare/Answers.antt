@@ -1,8 +1,5 @@
 -- Extracts that are the same are clear; others are compared where they are.
-use Rattle.std.proofs.Common.{subst}
-use Rattle.cif_extract.specs.ExtractParts.{extract_parts}
-use Rattle.cif_canon.specs.Comparison.{IsComparison}
-use Rattle.cif_canon.specs.Steps.Differences.{AreClearIfSame}
+use Rattle.cif_canon.proofs.Names.{AreClearIfSame, IsComparison, extract_parts, subst}
 use Rattle.cif_canon.proofs.comparison.compare.Goals as goal
 
 pub returns-in-Ok-Same-clause-ok : goal.returns-in-Ok-Same-clause-ok

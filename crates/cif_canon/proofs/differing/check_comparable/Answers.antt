@@ -1,6 +1,5 @@
 -- A fault of either extract is one of both (`compare-fault`).
-use Rattle.std.proofs.Common.{inl, inr}
-use Rattle.cif_canon.proofs.Words.{IsClearExtract, IsCompareFault, extract_parts, hands}
+use Rattle.cif_canon.proofs.Names.{IsClearExtract, IsCompareFault, extract_parts, hands, inl, inr}
 use Rattle.cif_canon.proofs.CompareFaults.{compare-fault}
 use Rattle.cif_canon.proofs.differing.check_comparable.Goals as goal
 

@@ -1,9 +1,9 @@
 -- What was found is said of slices and of the left window: the extracts' own lists and windows are put in by equations.
-use Rattle.cif_canon.proofs.Words.{AllKeys, AreDifferentRuns, AreDifferentTiplocs, association_entries, extract_parts, header_window}
-use Rattle.cif_canon.proofs.Words.{key_cmp, nat_cmp, schedule_entries, slice_cmp}
+use Rattle.cif_canon.proofs.Names.{AllKeys, AreDifferentRuns, AreDifferentTiplocs, association_entries, extract_parts, header_window}
+use Rattle.cif_canon.proofs.Names.{key_cmp, nat_cmp, schedule_entries, slice_cmp}
 use Rattle.cif_canon.proofs.ListedDifferences.{are-differences, kind-records, none-agree, turn-left}
 use Rattle.cif_canon.proofs.differing.differences.Goals as goal
-use Rattle.cif_canon.proofs.differing.differences.Goals.{In-Ok-different_records, In-Ok-different_records-2, In-Ok}
+use Rattle.cif_canon.proofs.differing.differences.Goals.{In-Ok, In-Ok-different_records, In-Ok-different_records-2}
 
 tiplocs : (c : In-Ok) →
     AreDifferentTiplocs c.args.left.now.tiplocs.items c.args.right.now.tiplocs.items c.in-Ok.tiplocs.items

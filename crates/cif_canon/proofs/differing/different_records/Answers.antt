@@ -1,12 +1,10 @@
 -- The fronts of both rests are the positions of one key (`ComparedKeys`), whose differences go behind the others (`found-key`).
-use Rattle.std.proofs.Common.{◌<◌, ◌∙◌, ℕ, List, [], length, refl, sym, subst}
-use Rattle.cif_weeks.proofs.CalendarSources.{calendar_sources}
-use Rattle.cif_canon.proofs.Words.{All, All-drop, All-take, AreAllByKey, IfOk-from_err, Run, Sided, all-within, keyed, nil_from_length}
-use Rattle.cif_canon.proofs.Words.{same_key-cmp, window_from}
+use Rattle.cif_canon.proofs.Names.{All, All-drop, All-take, AreAllByKey, IfOk-from_err, List, Run, Sided, [], all-within, calendar_sources}
+use Rattle.cif_canon.proofs.Names.{keyed, length, nil_from_length, refl, same_key-cmp, subst, sym, window_from, ℕ, ◌<◌, ◌∙◌}
 use Rattle.cif_canon.proofs.FoundRecords.{AreFound, found-all, found-enough, found-first, found-key, found-turns}
 use Rattle.cif_canon.proofs.KeyDifferences.{key-of}
-use Rattle.cif_canon.proofs.differing.different_records.Given.{Over}
 use Rattle.cif_canon.proofs.differing.different_records.Goals as goal
+use Rattle.cif_canon.proofs.differing.different_records.Given.{Over}
 use Rattle.cif_canon.proofs.differing.different_records.Goals.{In_ok-push_differences}
 
 pub loop-first-init : goal.loop-first-init

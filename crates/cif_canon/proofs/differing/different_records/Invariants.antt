@@ -1,6 +1,5 @@
 -- The runs are those of all keys but the ones with entries at the rests.
-use Rattle.std.proofs.Common.{◌<◌, ◌+◌, length}
-use Rattle.cif_canon.proofs.Words.{All, keyed, window_from}
+use Rattle.cif_canon.proofs.Names.{All, keyed, length, window_from, ◌+◌, ◌<◌}
 use Rattle.cif_canon.proofs.FoundRecords.{AreFound}
 use Rattle.cif_canon.proofs.differing.different_records.Given as goal
 

@@ -1,7 +1,5 @@
 -- Where the calendars have the same bodies nothing is said by one alone (`only-none`); or the runs of either side go behind the others.
-use Rattle.std.proofs.Common.{[], map, refl, subst, sym, arith}
-use Rattle.std.proofs.lemmas.Result.{on_ok_weaker}
-use Rattle.cif_canon.specs.Steps.OnlySides.{AreAppendedRuns, AreRisingRuns}
+use Rattle.cif_canon.proofs.Names.{AreAppendedRuns, AreRisingRuns, [], arith, map, on_ok_weaker, refl, subst, sym}
 use Rattle.cif_canon.proofs.MergedSides.{merged-none}
 use Rattle.cif_canon.proofs.OnlyRuns.{only-none}
 use Rattle.cif_canon.proofs.differing.push_differences.Goals as goal

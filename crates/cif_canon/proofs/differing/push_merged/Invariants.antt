@@ -1,6 +1,5 @@
 -- The runs so far are in order, and the rest come after them.
-use Rattle.std.proofs.Common.{◌+◌, length}
-use Rattle.cif_canon.specs.Steps.OnlySides.{AreMerging}
+use Rattle.cif_canon.proofs.Names.{AreMerging, length, ◌+◌}
 use Rattle.cif_canon.proofs.differing.push_merged.Given as goal
 
 abbrev pub invariant-loop-side : goal.invariant-loop-side

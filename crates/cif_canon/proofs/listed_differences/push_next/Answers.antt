@@ -1,7 +1,6 @@
 -- The first item is before the others.
-use Rattle.std.proofs.Common.{◌≡◌, ◌∙◌, ◌-◌, ◌<◌, List, [], ◌∷◌, ap₂, arith, drop, get_or, length, refl, sym, take}
-use Rattle.std.proofs.lemmas.List.{take_all}
-use Rattle.std.proofs.lemmas.Result.{IfOk-from_err}
+use Rattle.cif_canon.proofs.Names.{IfOk-from_err, List, [], ap₂, arith, drop, get_or, length, refl, sym, take, take_all, ◌-◌, ◌<◌, ◌∙◌, ◌∷◌}
+use Rattle.cif_canon.proofs.Names.{◌≡◌}
 use Rattle.cif_canon.proofs.listed_differences.push_next.Goals as goal
 
 first-before : {T : Type 0} (items : List T) (item : T) → 0 < length items → item ≡ get_or items 0 item →

@@ -1,5 +1,5 @@
 -- The run's record is that of its side.
-use Rattle.cif_canon.proofs.Words.{keyed}
+use Rattle.cif_canon.proofs.Names.{keyed}
 use Rattle.cif_canon.proofs.MergedSides.{at_side-made}
 use Rattle.cif_canon.proofs.listed_differences.sided_record.Goals as goal
 

@@ -1,5 +1,5 @@
 -- The mark and then the line with its line feed are the marked text (`marked-line`).
-use Rattle.std.proofs.Common.{◌∷◌, ◌++◌, [], ap, ◌∙◌}
+use Rattle.cif_canon.proofs.Names.{[], ap, ◌++◌, ◌∙◌, ◌∷◌}
 use Rattle.cif_canon.proofs.AppendedTexts.{appended, both, text-is}
 use Rattle.cif_canon.proofs.MarkedTexts.{marked-line}
 use Rattle.cif_canon.proofs.listed_differences.write_marked.Goals as goal

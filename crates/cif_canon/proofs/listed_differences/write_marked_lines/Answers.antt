@@ -1,6 +1,6 @@
 -- One line more goes behind the text (`behind`).
-use Rattle.std.proofs.Common.{◌≡◌, ◌<◌, ◌∷◌, ◌++◌, [], ℕ, List, append-nil, append_assoc, ap, arith, drop, length, sym, ◌∙◌}
-use Rattle.cif_canon.proofs.Words.{drop_more, flat_map, marked_text, nat_tests, nil_from_length}
+use Rattle.cif_canon.proofs.Names.{List, [], ap, append-nil, append_assoc, arith, drop, drop_more, flat_map, length, marked_text, nat_tests}
+use Rattle.cif_canon.proofs.Names.{nil_from_length, sym, ℕ, ◌++◌, ◌<◌, ◌∙◌, ◌∷◌, ◌≡◌}
 use Rattle.cif_canon.proofs.AppendedTexts.{behind, nothing, text-is}
 use Rattle.cif_canon.proofs.MarkedTexts.{marked-lines}
 use Rattle.cif_canon.proofs.listed_differences.write_marked_lines.Goals as goal

@@ -1,6 +1,5 @@
 -- What is written is the text of the lines so far, and with those to come they are all.
-use Rattle.std.proofs.Common.{◌≡◌, ◌∷◌, ◌++◌, [], ℕ, List, length}
-use Rattle.cif_canon.proofs.Words.{IsAppended, flat_map, marked_text}
+use Rattle.cif_canon.proofs.Names.{IsAppended, List, [], flat_map, length, marked_text, ℕ, ◌++◌, ◌∷◌, ◌≡◌}
 use Rattle.cif_canon.proofs.listed_differences.write_marked_lines.Given as goal
 
 abbrev pub invariant-loop-rest : goal.invariant-loop-rest

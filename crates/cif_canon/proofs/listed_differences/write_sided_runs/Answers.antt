@@ -1,6 +1,5 @@
 -- The text is a fold over runs: one more goes behind it (`one-more`); each run has a record on its side.
-use Rattle.std.proofs.Common.{◌<◌, ap, length, sym, subst}
-use Rattle.cif_canon.proofs.Words.{HasSidedRecord, Run, Sided, at_side, keyed, sided_run_text, text_if}
+use Rattle.cif_canon.proofs.Names.{HasSidedRecord, Run, Sided, ap, at_side, keyed, length, sided_run_text, subst, sym, text_if, ◌<◌}
 use Rattle.cif_canon.proofs.AppendedTexts.{all-items, nothing, one-more, text-is}
 use Rattle.cif_canon.proofs.listed_differences.write_sided_runs.Goals as goal
 

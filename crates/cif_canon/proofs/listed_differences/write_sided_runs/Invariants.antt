@@ -1,6 +1,5 @@
 -- What is written is the text of the runs so far.
-use Rattle.std.proofs.Common.{take}
-use Rattle.cif_canon.proofs.Words.{IsAppended, flat_map, keyed, sided_run_text}
+use Rattle.cif_canon.proofs.Names.{IsAppended, flat_map, keyed, sided_run_text, take}
 use Rattle.cif_canon.proofs.listed_differences.write_sided_runs.Given as goal
 
 abbrev pub invariant-loop-run : goal.invariant-loop-run

@@ -1,6 +1,5 @@
 -- Distinct locations and the runs of both kinds make a canonical form (`CanonForm`).
-use Rattle.std.proofs.Common.{subst}
-use Rattle.cif_canon.proofs.Words.{AreDistinct, extract_parts}
+use Rattle.cif_canon.proofs.Names.{AreDistinct, extract_parts, subst}
 use Rattle.cif_canon.proofs.CanonForm.{associations-have, is-canon, schedules-have}
 use Rattle.cif_canon.proofs.normal_form.canon.Goals as goal
 

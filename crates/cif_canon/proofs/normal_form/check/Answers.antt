@@ -1,6 +1,5 @@
 -- The counts are those of the canonical form (`counts`).
-use Rattle.std.proofs.Common.{Ok}
-use Rattle.cif_extract.proofs.ReadCalls.{goes-on, hands-on}
+use Rattle.cif_canon.proofs.Names.{Ok, goes-on, hands-on}
 use Rattle.cif_canon.proofs.Normalising.{counts, counts-canon}
 use Rattle.cif_canon.proofs.normal_form.check.Goals as goal
 

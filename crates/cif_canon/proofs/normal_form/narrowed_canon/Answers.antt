@@ -1,8 +1,6 @@
 -- What is narrowed has a canonical form, or it has none.
-use Rattle.std.proofs.Common.{inl, subst, sym}
-use Rattle.cif_canon.specs.Normalised.{HasCanon}
+use Rattle.cif_canon.proofs.Names.{HasCanon, at-fault, extract_parts, inl, subst, sym}
 use Rattle.cif_canon.proofs.Normalising.{canon-narrowed}
-use Rattle.cif_canon.proofs.Words.{at-fault, extract_parts}
 use Rattle.cif_canon.proofs.normal_form.narrowed_canon.Goals as goal
 
 pub returns-in_err-narrow : goal.returns-in_err-narrow

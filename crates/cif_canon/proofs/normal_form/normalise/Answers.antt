@@ -1,6 +1,5 @@
 -- The text is that of the canonical form, written whole (`normal-whole`) or as a prefix (`normal-prefix`), or nothing (`normal-silent`).
-use Rattle.std.proofs.Common.{Ok, refl, subst}
-use Rattle.cif_canon.proofs.Words.{IsOfCheck, goes-on, hands-either, hands-on}
+use Rattle.cif_canon.proofs.Names.{IsOfCheck, Ok, goes-on, hands-either, hands-on, refl, subst}
 use Rattle.cif_canon.proofs.Normalising.{normal-prefix, normal-silent, normal-whole, writes, writes-canon, writes-not}
 use Rattle.cif_canon.proofs.normal_form.normalise.Goals as goal
 

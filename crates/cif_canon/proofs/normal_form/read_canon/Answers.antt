@@ -1,5 +1,5 @@
 -- What is read has a canonical form, narrowed, or it has none (`has-canon`).
-use Rattle.cif_extract.proofs.ReadCalls.{goes-on, hands-on}
+use Rattle.cif_canon.proofs.Names.{goes-on, hands-on}
 use Rattle.cif_canon.proofs.Normalising.{has-canon, reads-canon}
 use Rattle.cif_canon.proofs.normal_form.read_canon.Goals as goal
 

@@ -1,6 +1,5 @@
 -- What is read is narrowed (`narrows`), or not (`narrows-not`).
-use Rattle.std.proofs.Common.{Ok}
-use Rattle.cif_extract.proofs.ReadCalls.{goes-on, hands-either, hands-on}
+use Rattle.cif_canon.proofs.Names.{Ok, goes-on, hands-either, hands-on}
 use Rattle.cif_canon.proofs.Normalising.{narrows, narrows-not, reads-narrowed}
 use Rattle.cif_canon.proofs.normal_form.read_narrowed.Goals as goal
 

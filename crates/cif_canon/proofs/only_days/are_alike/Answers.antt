@@ -1,10 +1,9 @@
 -- Each calendar has pieces of its own: up to the earlier end `alike-by_pieces` tells of both calendars, date by date.
-use Rattle.std.proofs.Common.{◌≡◌, ◌≤◌, ◌∙◌, arith, map, refl, sym, ⊎_elim}
-use Rattle.cif_calendar.proofs.Stretches.{sooner}
-use Rattle.cif_canon.proofs.Words.{HoldsFrom, IsTrue, body_on, cases_lt, false≢true, ◌↔◌}
+use Rattle.cif_canon.proofs.Names.{HoldsFrom, IsTrue, arith, body_on, cases_lt, false≢true, map, refl, sooner, sym, ⊎_elim, ◌↔◌, ◌∙◌, ◌≡◌}
+use Rattle.cif_canon.proofs.Names.{◌≤◌}
 use Rattle.cif_canon.proofs.DifferentDays.{alike-by_pieces, not-below, piece-bodies, piece-ends}
-use Rattle.cif_canon.proofs.only_days.are_alike.Given.{Over}
 use Rattle.cif_canon.proofs.only_days.are_alike.Goals as goal
+use Rattle.cif_canon.proofs.only_days.are_alike.Given.{Over}
 use Rattle.cif_canon.proofs.only_days.are_alike.Goals.{After-are_pieces_alike}
 
 pub loop-window-init : goal.loop-window-init

@@ -1,6 +1,5 @@
 -- On each day before `first` both calendars have the same body; what is left of the window gets shorter.
-use Rattle.std.proofs.Common.{◌≡◌, ◌≤◌, ◌<◌, ◌-◌, ℕ, map}
-use Rattle.cif_calendar.specs.Calendar.{body_on}
+use Rattle.cif_canon.proofs.Names.{body_on, map, ℕ, ◌-◌, ◌<◌, ◌≡◌, ◌≤◌}
 use Rattle.cif_canon.proofs.only_days.are_alike.Given as goal
 
 abbrev pub invariant-loop-window : goal.invariant-loop-window

@@ -1,9 +1,9 @@
 -- A piece has one winner for each weekday: if seven days from the first are alike, so are all that follow (`alike-week`).
-use Rattle.std.proofs.Common.{◌≡◌, ℕ, ◌∙◌, refl, sym, ap, arith, map, subst, get_or, None}
-use Rattle.cif_canon.proofs.Words.{AreAlikeBy, body_at, false≢true, ◌↔◌}
+use Rattle.cif_canon.proofs.Names.{AreAlikeBy, None, ap, arith, false≢true, get_or, map, refl, subst, sym, ℕ, ◌↔◌, ◌∙◌, ◌≡◌}
+use Rattle.cif_calendar.specs.Source.{body_at}
 use Rattle.cif_canon.proofs.DifferentDays.{alike-week, day-more, not-below}
-use Rattle.cif_canon.proofs.only_days.are_pieces_alike.Given.{Over}
 use Rattle.cif_canon.proofs.only_days.are_pieces_alike.Goals as goal
+use Rattle.cif_canon.proofs.only_days.are_pieces_alike.Given.{Over}
 use Rattle.cif_canon.proofs.only_days.are_pieces_alike.Goals.{After-from-weekday}
 
 pub have_same_body-requires-clause-left : goal.have_same_body-requires-clause-left

@@ -1,6 +1,5 @@
 -- The days before `day` are alike, and `day` is as many days behind the first as the loop went round.
-use Rattle.std.proofs.Common.{◌≡◌, ◌≤◌, ◌<◌, ◌+◌, ℕ, map}
-use Rattle.cif_canon.specs.Steps.Differences.{AreAlikeBy}
+use Rattle.cif_canon.proofs.Names.{AreAlikeBy, map, ℕ, ◌+◌, ◌<◌, ◌≡◌, ◌≤◌}
 use Rattle.cif_canon.proofs.only_days.are_pieces_alike.Given as goal
 
 abbrev pub invariant-loop : goal.invariant-loop

@@ -1,5 +1,5 @@
 -- A source with a body is the position of an entry (`bodied-within`), and the body is that entry's (`body-there`).
-use Rattle.std.proofs.Common.{arith}
+use Rattle.cif_canon.proofs.Names.{arith}
 use Rattle.cif_canon.proofs.DifferentDays.{bodied-within, body-there, same-bodies}
 use Rattle.cif_canon.proofs.only_days.have_same_body.Goals as goal
 

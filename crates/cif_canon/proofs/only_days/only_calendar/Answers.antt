@@ -1,11 +1,9 @@
 -- One piece more: up to the earlier end it has what is left of both calendars' pieces (`only-more`).
-use Rattle.std.proofs.Common.{◌≡◌, ◌≤◌, ◌+◌, ℕ, List, map, refl, sym, subst, arith}
-use Rattle.cif_calendar.proofs.Stretches.{sooner}
-use Rattle.cif_canon.proofs.Words.{Piece, Tiles}
+use Rattle.cif_canon.proofs.Names.{List, Piece, Tiles, arith, map, refl, sooner, subst, sym, ℕ, ◌+◌, ◌≡◌, ◌≤◌}
 use Rattle.cif_canon.proofs.DifferentDays.{not-below, piece-bodies, piece-ends}
 use Rattle.cif_canon.proofs.OnlyDays.{AreOnlyPieces, only-more}
-use Rattle.cif_canon.proofs.only_days.only_calendar.Given.{Over}
 use Rattle.cif_canon.proofs.only_days.only_calendar.Goals as goal
+use Rattle.cif_canon.proofs.only_days.only_calendar.Given.{Over}
 use Rattle.cif_canon.proofs.only_days.only_calendar.Goals.{After-min-last, In_ok-push}
 
 pub loop-pieces-init : goal.loop-pieces-init

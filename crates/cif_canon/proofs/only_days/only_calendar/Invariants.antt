@@ -1,5 +1,5 @@
 -- The pieces so far cover the days before `first`, and have what is left of them; what is left of the window gets shorter.
-use Rattle.std.proofs.Common.{◌≤◌, ◌-◌, map}
+use Rattle.cif_canon.proofs.Names.{map, ◌-◌, ◌≤◌}
 use Rattle.cif_canon.proofs.OnlyDays.{AreOnlyPieces}
 use Rattle.cif_canon.proofs.only_days.only_calendar.Given as goal
 

@@ -1,5 +1,5 @@
 -- The winners so far are what is left of the days before `day`, which is as many days behind the first as the loop went round.
-use Rattle.std.proofs.Common.{◌≡◌, ◌≤◌, ◌+◌, length, map}
+use Rattle.cif_canon.proofs.Names.{length, map, ◌+◌, ◌≡◌, ◌≤◌}
 use Rattle.cif_canon.proofs.OnlyDays.{OnlyUpTo}
 use Rattle.cif_canon.proofs.only_days.only_winners.Given as goal
 

@@ -1,6 +1,5 @@
 -- The next run's record is the first of the later ones, and is listed with this one if they are a pair (`listed-pair`, `listed-one`).
-use Rattle.std.proofs.Common.{arith, subst, sym}
-use Rattle.cif_canon.proofs.Words.{HasSidedRecord, keyed, nat_tests}
+use Rattle.cif_canon.proofs.Names.{HasSidedRecord, arith, keyed, nat_tests, subst, sym}
 use Rattle.cif_canon.proofs.PairedRecords.{keys-decided, listed-one, listed-pair}
 use Rattle.cif_canon.proofs.pairs.partner.Goals as goal
 

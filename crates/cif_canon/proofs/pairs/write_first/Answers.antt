@@ -1,6 +1,5 @@
 -- The first run's record is listed with its partner or without one (`written-pair`, `written-one`).
-use Rattle.std.proofs.Common.{◌<◌, length, subst, sym}
-use Rattle.cif_canon.proofs.Words.{All, All-drop, HasSidedRecord, Run, Sided, at_side, keyed}
+use Rattle.cif_canon.proofs.Names.{All, All-drop, HasSidedRecord, Run, Sided, at_side, keyed, length, subst, sym, ◌<◌}
 use Rattle.cif_canon.proofs.PairedRecords.{tail-is, written-one, written-pair}
 use Rattle.cif_canon.proofs.pairs.write_first.Goals as goal
 

@@ -1,7 +1,7 @@
 -- What is listed first of the rest goes behind what was listed (`behind`).
-use Rattle.std.proofs.Common.{◌≡◌, ◌<◌, ◌∷◌, ◌++◌, [], append-nil, append_assoc, ap, arith, length, refl, subst, sym, ◌∙◌}
-use Rattle.cif_canon.proofs.Words.{All, All-drop, HasSidedRecord, Run, Sided, at_side, by_pairs, flat_map, keyed, nat_tests}
-use Rattle.cif_canon.proofs.Words.{nil_from_length, sided_records}
+use Rattle.cif_canon.proofs.Names.{All, All-drop, HasSidedRecord, Run, Sided, [], ap, append-nil, append_assoc, arith, at_side, by_pairs}
+use Rattle.cif_canon.proofs.Names.{flat_map, keyed, length, nat_tests, nil_from_length, refl, sided_records, subst, sym, ◌++◌, ◌<◌, ◌∙◌}
+use Rattle.cif_canon.proofs.Names.{◌∷◌, ◌≡◌}
 use Rattle.cif_canon.proofs.AppendedTexts.{behind, nothing, text-is}
 use Rattle.cif_canon.proofs.pairs.write_pairs.Goals as goal
 

@@ -1,6 +1,6 @@
 -- What is written is the text of what was listed so far, and with what the rest is listed as it is all; each run that is left has a record.
-use Rattle.std.proofs.Common.{◌≡◌, ◌<◌, ◌++◌, List, length}
-use Rattle.cif_canon.proofs.Words.{All, HasSidedRecord, IsAppended, Listed, Permanent, at_side, by_pairs, flat_map, keyed, sided_records}
+use Rattle.cif_canon.proofs.Names.{All, HasSidedRecord, IsAppended, List, Listed, Permanent, at_side, by_pairs, flat_map, keyed, length}
+use Rattle.cif_canon.proofs.Names.{sided_records, ◌++◌, ◌<◌, ◌≡◌}
 use Rattle.cif_canon.proofs.pairs.write_pairs.Given as goal
 
 abbrev pub invariant-loop-rest : goal.invariant-loop-rest

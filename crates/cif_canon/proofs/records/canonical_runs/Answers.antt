@@ -1,9 +1,8 @@
 -- Key by key (`MadeRecords`): the first run of positions is all of a key, whose records go behind, or whose clash is first.
-use Rattle.std.proofs.Common.{◌≡◌, ◌<◌, ◌-◌, ◌∙◌, List, ℕ, [], ap, arith, length, sym, subst}
-use Rattle.cif_calendar.proofs.Positions.{AreLawful-of_key}
-use Rattle.cif_canon.proofs.Words.{All, All-drop, All-take, Run, all-within, eqb-true, err_from_is_err_and, keyed, length-drop}
-use Rattle.cif_canon.proofs.Words.{length-take-le, nil_from_length, same_key-cmp, window_from}
-use Rattle.cif_canon.proofs.MadeRecords.{IsMade, made-nothing, made-key, made-fault, made-all}
+use Rattle.cif_canon.proofs.Names.{All, All-drop, All-take, AreLawful-of_key, List, Run, [], all-within, ap, arith, eqb-true}
+use Rattle.cif_canon.proofs.Names.{err_from_is_err_and, keyed, length, length-drop, length-take-le, nil_from_length, same_key-cmp, subst}
+use Rattle.cif_canon.proofs.Names.{sym, window_from, ℕ, ◌-◌, ◌<◌, ◌∙◌, ◌≡◌}
+use Rattle.cif_canon.proofs.MadeRecords.{IsMade, made-all, made-fault, made-key, made-nothing}
 use Rattle.cif_canon.proofs.records.canonical_runs.Goals as goal
 
 pub loop-rest-init : goal.loop-rest-init

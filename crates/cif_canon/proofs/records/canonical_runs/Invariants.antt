@@ -1,6 +1,5 @@
 -- The runs are those of all keys but the ones with entries at `rest`, and these are greater.
-use Rattle.std.proofs.Common.{◌<◌, length}
-use Rattle.cif_canon.proofs.Words.{All, keyed, window_from}
+use Rattle.cif_canon.proofs.Names.{All, keyed, length, window_from, ◌<◌}
 use Rattle.cif_canon.proofs.MadeRecords.{IsMade}
 use Rattle.cif_canon.proofs.records.canonical_runs.Given as goal
 

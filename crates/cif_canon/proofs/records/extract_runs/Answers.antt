@@ -1,7 +1,7 @@
 -- What is said of slices, in the window of two dates, is said of the extract's entries and header (`of_slice`).
-use Rattle.cif_extract.specs.declared.fault.Clash.TheVariants.{Association, Train}
-use Rattle.cif_canon.proofs.Words.{AreCanonicalRecords, IsCanonFault, IsRecordsFault, association_entries, extract_parts, hands}
-use Rattle.cif_canon.proofs.Words.{header_window, key_cmp, nat_cmp, schedule_entries, slice_cmp}
+use Rattle.cif_canon.proofs.Names.{AreCanonicalRecords, IsCanonFault, IsRecordsFault, Train, association_entries, extract_parts, hands}
+use Rattle.cif_canon.proofs.Names.{header_window, key_cmp, nat_cmp, schedule_entries, slice_cmp}
+use Rattle.cif_extract.specs.declared.fault.Clash.TheVariants.{Association}
 use Rattle.cif_canon.proofs.CanonForm.{associations-fault, of_slice, schedules-fault}
 use Rattle.cif_canon.proofs.records.extract_runs.Goals as goal
 use Rattle.cif_canon.proofs.records.extract_runs.Goals.{In_ok-associations}

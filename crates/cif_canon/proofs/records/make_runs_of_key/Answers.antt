@@ -1,8 +1,6 @@
 -- Whichever key has these positions: a fault of the calendar is one of that key (`key_fault`), and the runs of its members, found with
 -- or without a calendar, are the key's (`members-records`, `key-records`).
-use Rattle.std.proofs.lemmas.List.Elements.{Contains-get_or}
-use Rattle.cif_weeks.specs.Window.{window_from}
-use Rattle.cif_weeks.proofs.CalendarSources.{calendar_sources}
+use Rattle.cif_canon.proofs.Names.{Contains-get_or, calendar_sources, window_from}
 use Rattle.cif_canon.proofs.KeyRecords.{key-records, key_fault, members-records}
 use Rattle.cif_canon.proofs.records.make_runs_of_key.Goals as goal
 

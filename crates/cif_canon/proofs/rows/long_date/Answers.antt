@@ -1,6 +1,5 @@
 -- The digits are those of the columns (`date-is`), and can be shown if they can (`printable-date`).
-use Rattle.std.proofs.Common.{subst, sym}
-use Rattle.cif_columns.specs.Line.{ArePrintable}
+use Rattle.cif_canon.proofs.Names.{ArePrintable, subst, sym}
 use Rattle.cif_canon.proofs.ViewLines.{date-is, printable-date}
 use Rattle.cif_canon.proofs.rows.long_date.Goals as goal
 

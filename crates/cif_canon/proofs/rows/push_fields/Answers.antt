@@ -1,5 +1,5 @@
 -- One field more is appended (`one-pushed`), until none is left (`all-pushed`).
-use Rattle.std.proofs.Common.{arith, refl}
+use Rattle.cif_canon.proofs.Names.{arith, refl}
 use Rattle.cif_canon.proofs.ViewLines.{all-pushed, first-left, one-pushed}
 use Rattle.cif_canon.proofs.rows.push_fields.Goals as goal
 

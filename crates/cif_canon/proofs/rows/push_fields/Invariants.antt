@@ -1,7 +1,6 @@
 -- With the fields that are left, the line has them all.
-use Rattle.std.proofs.Common.{◌+◌, ◌++◌, drop, map}
+use Rattle.cif_canon.proofs.Names.{after, drop, map, width, ◌++◌, ◌+◌}
 use Rattle.arrayvec.specs.ArrayString.{array_string_len}
-use Rattle.cif_canon.specs.Fields.{after, width}
 use Rattle.cif_canon.proofs.ViewLines.{IsGrowing, field_of}
 use Rattle.cif_canon.proofs.rows.push_fields.Given as goal
 

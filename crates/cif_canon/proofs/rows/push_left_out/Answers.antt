@@ -1,5 +1,5 @@
 -- So many empty fields are so many tabs (`tabs-after`).
-use Rattle.std.proofs.Common.{◌∙◌, ◌++◌, List, ℕ, length, ap, sym}
+use Rattle.cif_canon.proofs.Names.{List, ap, length, sym, ℕ, ◌++◌, ◌∙◌}
 use Rattle.cif_canon.proofs.ViewLines.{tabs-after}
 use Rattle.cif_canon.proofs.rows.push_left_out.Goals as goal
 

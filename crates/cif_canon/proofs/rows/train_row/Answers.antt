@@ -1,7 +1,5 @@
 -- Two groups of fields go behind the first field (`two-groups`): they are rewritten from the last on.
-use Rattle.std.proofs.Common.{codes}
-use Rattle.cif_canon.specs.Rows.{no_association, train_fields}
-use Rattle.cif_canon.specs.declared.rows.Shape.TheVariants.{Trimmed}
+use Rattle.cif_canon.proofs.Names.{Trimmed, codes, no_association, train_fields}
 use Rattle.cif_canon.proofs.ViewLines.{two-groups}
 use Rattle.cif_canon.proofs.rows.train_row.Goals as goal
 

@@ -1,6 +1,5 @@
 -- At first all locations are left, and in the end none is (`sifting-end`).
-use Rattle.std.proofs.Common.{List, subst, sym}
-use Rattle.cif_canon.proofs.Words.{AreDistinct, AreSifting, Sided, Tiploc}
+use Rattle.cif_canon.proofs.Names.{AreDistinct, AreSifting, List, Sided, Tiploc, subst, sym}
 use Rattle.cif_canon.proofs.SiftedTiplocs.{sifting-end, sifting-nothing}
 use Rattle.cif_canon.proofs.tiplocs.different_tiplocs.Goals as goal
 

@@ -1,6 +1,5 @@
 -- Those so far are found, and the rest are left.
-use Rattle.std.proofs.Common.{◌+◌, length}
-use Rattle.cif_canon.specs.Steps.OnlySides.{AreSifting}
+use Rattle.cif_canon.proofs.Names.{AreSifting, length, ◌+◌}
 use Rattle.cif_canon.proofs.tiplocs.different_tiplocs.Given as goal
 
 abbrev pub invariant-loop-order : goal.invariant-loop-order

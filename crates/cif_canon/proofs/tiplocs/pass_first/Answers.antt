@@ -1,6 +1,5 @@
 -- The lesser of the first locations has moved behind the others, or both are passed (`moved`, `passed-both`).
-use Rattle.std.proofs.Common.{Some, subst}
-use Rattle.cif_canon.proofs.Words.{IfOk-weaker, IsFirstOrder, Left, Right}
+use Rattle.cif_canon.proofs.Names.{IfOk-weaker, IsFirstOrder, Left, Right, Some, subst}
 use Rattle.cif_canon.proofs.MergedSides.{moved-smaller}
 use Rattle.cif_canon.proofs.PairedRecords.{tail-is}
 use Rattle.cif_canon.proofs.SiftedTiplocs.{moved, passed-both}

@@ -1,7 +1,6 @@
 -- The text has to be named: heading, associations, trains; `day-listed` says it is the listing.
-use Rattle.std.proofs.Common.{◌++◌, refl}
-use Rattle.cif_canon.proofs.Words.{DayTexts, Two, association_entry, extract_parts, header_window, key_cmp, listed_on, nat_cmp}
-use Rattle.cif_canon.proofs.Words.{schedule_entry, slice_cmp}
+use Rattle.cif_canon.proofs.Names.{DayTexts, Two, association_entry, extract_parts, header_window, key_cmp, listed_on, nat_cmp, refl}
+use Rattle.cif_canon.proofs.Names.{schedule_entry, slice_cmp, ◌++◌}
 use Rattle.cif_canon.proofs.AppendedTexts.{both, fault-answered, text-is}
 use Rattle.cif_canon.proofs.ViewTexts.{associations-text, day-listed, have-lines, sliced, trains-text, written-so}
 use Rattle.cif_canon.proofs.views.write_day.Goals as goal

@@ -1,5 +1,5 @@
 -- What is appended is the row with its line feed.
-use Rattle.std.proofs.Common.{◌∙◌}
+use Rattle.cif_canon.proofs.Names.{◌∙◌}
 use Rattle.cif_canon.proofs.AppendedTexts.{text-is}
 use Rattle.cif_canon.proofs.views.write_line.Goals as goal
 

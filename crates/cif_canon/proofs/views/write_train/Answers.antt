@@ -1,7 +1,6 @@
 -- The text has to be named: heading and one train's records; `train-listed` says it is the listing.
-use Rattle.std.proofs.Common.{◌++◌, List, ℕ, refl}
-use Rattle.cif_canon.proofs.Words.{TrainTexts, extract_parts, flat_map, header_window, listed_of, nat_cmp, run_text, schedule_entries}
-use Rattle.cif_canon.proofs.Words.{schedule_entry, slice_cmp}
+use Rattle.cif_canon.proofs.Names.{List, TrainTexts, extract_parts, flat_map, header_window, listed_of, nat_cmp, refl, run_text}
+use Rattle.cif_canon.proofs.Names.{schedule_entries, schedule_entry, slice_cmp, ℕ, ◌++◌}
 use Rattle.cif_canon.proofs.AppendedTexts.{both, fault-answered, text-is}
 use Rattle.cif_canon.proofs.ViewTexts.{have-lines, sliced, train-listed, written-so}
 use Rattle.cif_canon.proofs.views.write_train.Goals as goal

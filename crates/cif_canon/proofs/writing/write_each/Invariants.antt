@@ -1,6 +1,5 @@
 -- What is written is the text of the items so far.
-use Rattle.std.proofs.Common.{take}
-use Rattle.cif_canon.proofs.Words.{IsAppended, flat_map}
+use Rattle.cif_canon.proofs.Names.{IsAppended, flat_map, take}
 use Rattle.cif_canon.proofs.writing.write_each.Given as goal
 
 abbrev pub invariant-loop-item : goal.invariant-loop-item

@@ -1,7 +1,5 @@
 -- Two spaces are passed over (`codes_past`): the goal says it of the rest as the loop has it, which a search goes through.
-use Rattle.std.proofs.Common.{ℕ, ◌+◌, ◌-◌, ◌*◌, ◌≤◌, List, ◌++◌, length, take, drop, ap, ◌∙◌, arith}
-use Rattle.std.proofs.lemmas.List.{length-take}
-use Rattle.std.proofs.lemmas.Grind.{common_steps}
+use Rattle.cif_columns.proofs.Names.{List, ap, arith, common_steps, drop, length, length-take, take, ℕ, ◌*◌, ◌++◌, ◌+◌, ◌-◌, ◌∙◌, ◌≤◌}
 use Rattle.cif_columns.proofs.Codes.{codes_past}
 use Rattle.cif_columns.proofs.activities.codes_of.Goals as goal
 

@@ -1,7 +1,5 @@
 -- The test of all bytes is that of the definition (`all_printable`).
-use Rattle.std.proofs.Common.{◌≡◌, arith, length, nat_le, sym, true, ◌∙◌}
-use Rattle.std.proofs.lemmas.Bool.Decides.{nat_tests}
-use Rattle.cif_columns.specs.Comment.{is_comment}
+use Rattle.cif_columns.proofs.Names.{arith, is_comment, length, nat_le, nat_tests, sym, true, ◌∙◌, ◌≡◌}
 use Rattle.cif_columns.proofs.PrintableBytes.{all_printable}
 use Rattle.cif_columns.proofs.ahead.is_comment.Goals as goal
 

@@ -1,6 +1,5 @@
 -- Where the bytes are eighty, `line_of-eighty` has the test of them.
-use Rattle.std.proofs.Common.{◌∙◌, None, Some, length, ap}
-use Rattle.cif_columns.specs.FirstLine.{line_of}
+use Rattle.cif_columns.proofs.Names.{None, Some, ap, length, line_of, ◌∙◌}
 use Rattle.cif_columns.proofs.PrintableBytes.{line_of-eighty}
 use Rattle.cif_columns.proofs.ahead.line_of.Goals as goal
 

@@ -1,6 +1,5 @@
 -- A comparison with spaces tests each column (`spaces_are`).
-use Rattle.std.proofs.Common.{◌∙◌, ap, nat_eq, replicate, sym}
-use Rattle.std.specs.Cmp.Lexicographic.{pointwise}
+use Rattle.cif_columns.proofs.Names.{ap, nat_eq, pointwise, replicate, sym, ◌∙◌}
 use Rattle.cif_columns.proofs.Times.{spaces_are}
 use Rattle.cif_columns.proofs.clock.is_blank.Goals as goal
 

@@ -1,6 +1,6 @@
 -- Each pair of the table has the digits of its place (`are_pairs`, which computes).
-use Rattle.std.proofs.Common.{◌≡◌, ℕ, zero, suc, ◌+◌, ◌-◌, ◌*◌, ◌/◌, ◌%◌, ◌<◌, Bool, true, ◌&&◌, T, eqb, eqb→eq, eq-zero-or-pos}
-use Rattle.std.proofs.Common.{get_or, inl, inr, arith}
+use Rattle.cif_columns.proofs.Names.{Bool, T, arith, eq-zero-or-pos, eqb, eqb→eq, get_or, inl, inr, suc, true, zero, ℕ, ◌%◌, ◌&&◌, ◌*◌, ◌+◌}
+use Rattle.cif_columns.proofs.Names.{◌-◌, ◌/◌, ◌<◌, ◌≡◌}
 use lib.Ieee.Fits.{and_l, and_r}
 use Rattle.cif_columns.specs.declared.day.TheConstants.{PAIRS}
 use Rattle.cif_columns.proofs.day.digits_of.Goals as goal

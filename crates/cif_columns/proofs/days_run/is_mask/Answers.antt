@@ -1,8 +1,5 @@
 -- One column more is one more test (`list_all_more`).
-use Rattle.std.proofs.Common.{◌&&◌, ◌∙◌, ap, arith, get_or, sym, take_all}
-use Rattle.std.specs.List.{list_all}
-use Rattle.std.proofs.lemmas.List.Folds.{list_all_more}
-use Rattle.cif_columns.specs.DaysRun.{is_flag}
+use Rattle.cif_columns.proofs.Names.{ap, arith, get_or, is_flag, list_all, list_all_more, sym, take_all, ◌&&◌, ◌∙◌}
 use Rattle.cif_columns.proofs.days_run.is_mask.Goals as goal
 
 pub loop-c-preserved : goal.loop-c-preserved

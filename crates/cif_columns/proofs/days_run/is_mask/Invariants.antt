@@ -1,7 +1,5 @@
 -- `all` is the test of the columns so far.
-use Rattle.std.proofs.Common.{◌≡◌, take}
-use Rattle.std.specs.List.{list_all}
-use Rattle.cif_columns.specs.DaysRun.{is_flag}
+use Rattle.cif_columns.proofs.Names.{is_flag, list_all, take, ◌≡◌}
 use Rattle.cif_columns.proofs.days_run.is_mask.Given as goal
 
 abbrev pub invariant-loop-c : goal.invariant-loop-c

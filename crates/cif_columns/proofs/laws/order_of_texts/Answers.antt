@@ -1,5 +1,5 @@
 -- The law `order_of_columns` at the width of the type, read from right to left.
-use Rattle.std.proofs.Common.{sym}
+use Rattle.cif_columns.proofs.Names.{sym}
 use Rattle.cif_columns.proofs.TextOrder as order
 use Rattle.cif_columns.proofs.laws.order_of_texts.Goals as goal
 

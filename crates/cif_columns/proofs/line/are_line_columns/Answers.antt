@@ -1,7 +1,5 @@
 -- Each step adds what its five tests say, and sixteen steps see each column (`each_of_fifths`).
-use Rattle.std.proofs.Common.{◌≡◌, ◌+◌, ℕ, arith, get_or}
-use Rattle.std.proofs.lemmas.List.Elements.{All-from_get_or, All-get_or}
-use Rattle.cif_columns.specs.Line.{IsPrintable}
+use Rattle.cif_columns.proofs.Names.{All-from_get_or, All-get_or, IsPrintable, arith, get_or, ℕ, ◌+◌, ◌≡◌}
 use Rattle.cif_columns.proofs.EachOfFifths.{InFifths, all_five, all_more, each_of_fifths}
 use Rattle.cif_columns.proofs.line.are_line_columns.Goals as goal
 

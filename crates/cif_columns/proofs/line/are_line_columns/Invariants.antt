@@ -1,6 +1,5 @@
 -- `all` is true exactly if each byte so far of each fifth may stand in a line.
-use Rattle.std.proofs.Common.{◌<◌, ℕ, IsTrue, ◌↔◌, slice_index}
-use Rattle.cif_columns.specs.Line.{IsPrintable}
+use Rattle.cif_columns.proofs.Names.{IsPrintable, IsTrue, slice_index, ℕ, ◌<◌, ◌↔◌}
 use Rattle.cif_columns.proofs.EachOfFifths.{InFifths}
 use Rattle.cif_columns.proofs.line.are_line_columns.Given as goal
 

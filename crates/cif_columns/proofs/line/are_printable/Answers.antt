@@ -1,9 +1,7 @@
 -- One byte more is one more test (`list_all_more`); at the end `printable_fact` and `printable_true` turn test into fact.
-use Rattle.std.proofs.Common.{◌≡◌, ◌∙◌, ◌<◌, ap, sym, take, length, arith, get_or, ◌&&◌, take_all}
-use Rattle.std.proofs.lemmas.List.Folds.{list_all_more}
-use Rattle.std.specs.List.{list_all}
-use Rattle.cif_columns.specs.FirstLine.{is_printable}
-use Rattle.cif_columns.proofs.PrintableBytes.{printable_true, printable_fact, same_test}
+use Rattle.cif_columns.proofs.Names.{ap, arith, get_or, is_printable, length, list_all, list_all_more, sym, take, take_all, ◌&&◌, ◌<◌, ◌∙◌}
+use Rattle.cif_columns.proofs.Names.{◌≡◌}
+use Rattle.cif_columns.proofs.PrintableBytes.{printable_fact, printable_true, same_test}
 use Rattle.cif_columns.proofs.line.are_printable.Goals as goal
 
 pub loop-b-preserved : goal.loop-b-preserved

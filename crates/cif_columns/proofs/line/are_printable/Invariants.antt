@@ -1,7 +1,5 @@
 -- `all` is the test of the bytes so far.
-use Rattle.std.proofs.Common.{◌≡◌, take}
-use Rattle.std.specs.List.{list_all}
-use Rattle.cif_columns.specs.FirstLine.{is_printable}
+use Rattle.cif_columns.proofs.Names.{is_printable, list_all, take, ◌≡◌}
 use Rattle.cif_columns.proofs.line.are_printable.Given as goal
 
 abbrev pub invariant-loop-b : goal.invariant-loop-b

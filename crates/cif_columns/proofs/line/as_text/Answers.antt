@@ -1,5 +1,5 @@
 -- The fault can't come: printable bytes are ASCII, each below 128, and so they are UTF-8, by two lemmas of std.
-use Rattle.std.proofs.Common.{arith}
+use Rattle.cif_columns.proofs.Names.{arith}
 use Rattle.std.proofs.lemmas.Str.{IsUtf8-from_ascii}
 use Rattle.std.proofs.lemmas.Str.Ascii.{IsAscii-from_all}
 use Rattle.cif_columns.proofs.line.as_text.Goals as goal

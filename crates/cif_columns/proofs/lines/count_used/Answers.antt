@@ -1,6 +1,5 @@
 -- One column more by `used_next`; at the end these are all columns.
-use Rattle.std.proofs.Common.{ap, cond, get_or, length, subst, sym, take_all, ◌+◌, ◌∙◌, ◌≤◌}
-use Rattle.cif_columns.specs.Lines.{is_space, used}
+use Rattle.cif_columns.proofs.Names.{ap, cond, get_or, is_space, length, subst, sym, take_all, used, ◌+◌, ◌∙◌, ◌≤◌}
 use Rattle.cif_columns.proofs.KeptLines.{used_few, used_next}
 use Rattle.cif_columns.proofs.lines.count_used.Goals as goal
 

@@ -1,8 +1,6 @@
 -- Spaces at the end change nothing (`used-behind`).
-use Rattle.std.proofs.Common.{◌≡◌, ◌++◌, ◌∙◌, ℕ, List, [], ◌∷◌, Some, ap, codes, refl, sym}
-use Rattle.std.proofs.lemmas.Bool.Decides.{Decides-eqb}
-use Rattle.std.proofs.lemmas.Slice.Eq.{strip_suffix_is}
-use Rattle.cif_columns.specs.Lines.{is_space, used, used_with}
+use Rattle.cif_columns.proofs.Names.{Decides-eqb, List, Some, [], ap, codes, is_space, refl, strip_suffix_is, sym, used, used_with, ℕ, ◌++◌}
+use Rattle.cif_columns.proofs.Names.{◌∙◌, ◌∷◌, ◌≡◌}
 use Rattle.cif_columns.proofs.lines.used_columns.Goals as goal
 
 -- columns behind which spaces stand

@@ -1,6 +1,5 @@
 -- One column more by `used_more`; at the end these are all columns.
-use Rattle.std.proofs.Common.{ap, arith, take_all, ◌∙◌}
-use Rattle.cif_columns.specs.Lines.{used}
+use Rattle.cif_columns.proofs.Names.{ap, arith, take_all, used, ◌∙◌}
 use Rattle.cif_columns.proofs.KeptLines.{used_more}
 use Rattle.cif_columns.proofs.lines.used_in_line.Goals as goal
 

@@ -1,6 +1,5 @@
 -- `count` is that of the columns so far.
-use Rattle.std.proofs.Common.{◌≡◌, take}
-use Rattle.cif_columns.specs.Lines.{used}
+use Rattle.cif_columns.proofs.Names.{take, used, ◌≡◌}
 use Rattle.cif_columns.proofs.lines.used_in_line.Given as goal
 
 abbrev pub invariant-loop-i : goal.invariant-loop-i

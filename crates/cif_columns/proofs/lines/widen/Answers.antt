@@ -1,7 +1,5 @@
 -- A column more is that of the wide line (`column_more`), and then comes the line feed (`whole_text`).
-use Rattle.std.proofs.Common.{◌≡◌, ◌-◌, ap, arith, drop, refl, take, ◌∙◌, subst}
-use Rattle.std.proofs.lemmas.List.{length-set}
-use Rattle.cif_columns.specs.Lines.{wide}
+use Rattle.cif_columns.proofs.Names.{ap, arith, drop, length-set, refl, subst, take, wide, ◌-◌, ◌∙◌, ◌≡◌}
 use Rattle.cif_columns.proofs.WideLines.{column_more, whole_text}
 use Rattle.cif_columns.proofs.lines.widen.Goals as goal
 

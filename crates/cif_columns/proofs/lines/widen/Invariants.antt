@@ -1,6 +1,5 @@
 -- The columns so far are those of the wide line.
-use Rattle.std.proofs.Common.{◌≡◌, length, take}
-use Rattle.cif_columns.specs.Lines.{wide}
+use Rattle.cif_columns.proofs.Names.{length, take, wide, ◌≡◌}
 use Rattle.cif_columns.proofs.lines.widen.Given as goal
 
 abbrev pub invariant-loop-i : goal.invariant-loop-i

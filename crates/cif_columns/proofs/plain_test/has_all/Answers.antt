@@ -1,6 +1,5 @@
 -- Each step adds what its eight tests say, and sixteen steps see each column (`passes_by_fifths`).
-use Rattle.std.proofs.Common.{◌≡◌, arith}
-use Rattle.std.proofs.lemmas.Bool.{not-true, not_from_false}
+use Rattle.cif_columns.proofs.Names.{arith, not-true, not_from_false, ◌≡◌}
 use Rattle.cif_columns.proofs.LineFifths.{AreMet, none_more, none_of_eight, passes_by_fifths}
 use Rattle.cif_columns.proofs.plain_test.has_all.Goals as goal
 

@@ -1,5 +1,5 @@
 -- `fails` is false exactly if each column so far of each fifth is as the test wants it.
-use Rattle.std.proofs.Common.{◌≡◌, ◌<◌, ℕ, false, ◌↔◌}
+use Rattle.cif_columns.proofs.Names.{false, ℕ, ◌<◌, ◌↔◌, ◌≡◌}
 use Rattle.cif_columns.proofs.LineFifths.{AreMet}
 use Rattle.cif_columns.proofs.plain_test.has_all.Given as goal
 

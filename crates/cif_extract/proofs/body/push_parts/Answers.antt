@@ -1,16 +1,7 @@
 -- One line more stands behind those so far (`more_by`), and the table of a call behind those of the calls so far (`calls_more`).
-use Rattle.std.proofs.Common.{[], ◌∷◌, ◌++◌, List, map, subst, sym, take}
-use Rattle.std.proofs.lemmas.List.{map-append, take_all}
-use Rattle.std.proofs.lemmas.Result.{on_ok_weaker}
-use Rattle.std.specs.Option.{option_copied}
-use Rattle.cif_records.specs.Detail.{detail_table}
-use Rattle.cif_records.specs.Extra.{extra_table}
-use Rattle.cif_records.specs.Record.{record_table}
+use Rattle.cif_extract.proofs.Names.{Call, KeepMore, List, [], body_tables, call_record, detail_table, extra_records, extra_table, map}
+use Rattle.cif_extract.proofs.Names.{map-append, on_ok_weaker, option_copied, record_table, subst, sym, take, take_all, ◌++◌, ◌∷◌}
 use Rattle.cif_records.specs.declared.record.Record.TheVariants as of
-use Rattle.cif_extract.specs.Body.{KeepMore, body_tables}
-use Rattle.cif_extract.specs.BodyParts.{extra_records}
-use Rattle.cif_extract.specs.Call.{call_record}
-use Rattle.cif_extract.specs.declared.call.Call.{Call}
 use Rattle.cif_extract.proofs.BodyLines.{calls_more, more_and_more, more_by}
 use Rattle.cif_extract.proofs.body.push_parts.Goals as goal
 use Rattle.cif_extract.proofs.body.push_parts.Goals.{in-Some+in_ok-push-2, in_default}

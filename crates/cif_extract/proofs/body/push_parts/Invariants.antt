@@ -1,8 +1,5 @@
 -- Whatever tables the lines kept when the loop began, they keep these and then those of the calls so far.
-use Rattle.std.proofs.Common.{map, take}
-use Rattle.cif_records.specs.Record.{record_table}
-use Rattle.cif_extract.specs.Body.{KeepMore}
-use Rattle.cif_extract.specs.Call.{call_record}
+use Rattle.cif_extract.proofs.Names.{KeepMore, call_record, map, record_table, take}
 use Rattle.cif_extract.proofs.body.push_parts.Given as goal
 
 -- the lines of the calls so far stand behind those that were there

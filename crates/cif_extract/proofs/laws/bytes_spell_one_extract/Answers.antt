@@ -1,6 +1,5 @@
 -- Laws of all extracts: by their kinds, records are parted in one way only (`OneExtract`); a greater limit counts no more.
-use Rattle.std.proofs.Common.{arith}
-use Rattle.cif_extract.specs.Layouts.{own_layouts}
+use Rattle.cif_extract.proofs.Names.{arith, own_layouts}
 use Rattle.cif_extract.proofs.LayoutLaws.{own_are}
 use Rattle.cif_extract.proofs.OneExtract.{one_extract}
 use Rattle.cif_extract.proofs.SpelledBytes.{one_spelled}

@@ -1,10 +1,8 @@
 -- The invariant names the lines so far: one more (`come_more`), one refused (`at_line`) and the end are said of them all.
-use Rattle.std.proofs.Common.{◌≡◌, ◌∙◌, ◌+◌, ◌<◌, ◌≤◌, length, [], ◌++◌, ◌∷◌, arith, refl, rules, subst, sym}
-use Rattle.cif_columns.proofs.GivenLinesLaws.{known_both, nothing_left, reading_decides, reading_ends, reading_faults, reading_line}
+use Rattle.cif_extract.proofs.Names.{[], arith, given, known_both, length, nothing_left, progress_of, read_on_both, reading_decides}
+use Rattle.cif_extract.proofs.Names.{reading_ends, reading_faults, reading_line, refl, rules, subst, sym, ◌++◌, ◌+◌, ◌<◌, ◌∙◌, ◌∷◌, ◌≡◌}
+use Rattle.cif_extract.proofs.Names.{◌≤◌}
 use Rattle.cif_columns.proofs.PassedLines.{next_passed}
-use Rattle.cif_columns.proofs.ReadSources.{read_on_both}
-use Rattle.cif_columns.specs.LineReader.{given}
-use Rattle.cif_extract.specs.Steps.Reading.{progress_of}
 use Rattle.cif_extract.proofs.FirstRefusals.{at_line}
 use Rattle.cif_extract.proofs.ReadingRuns.{HasCome, come_more, come_none, comes-end, comes-line_fault, comes-memory, comes-untaken}
 use Rattle.cif_extract.proofs.ReadingRuns.{refused_here, refused_reason}

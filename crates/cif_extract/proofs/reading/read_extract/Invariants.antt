@@ -1,9 +1,5 @@
 -- There are lines so far, none of them refused: the reading is what they have come to, and the source was read on.
-use Rattle.std.proofs.Common.{◌-◌, ℕ, List}
-use Rattle.cif_columns.proofs.GivenLinesLaws.{IsReading}
-use Rattle.cif_columns.specs.LineReader.{given, limit}
-use Rattle.cif_columns.specs.Source.{HasReadOn}
-use Rattle.cif_extract.specs.Steps.Reading.{progress_of}
+use Rattle.cif_extract.proofs.Names.{HasReadOn, IsReading, List, given, limit, progress_of, ℕ, ◌-◌}
 use Rattle.cif_extract.proofs.ReadingRuns.{HasCome}
 use Rattle.cif_extract.proofs.reading.read_extract.Given as goal
 

@@ -1,11 +1,6 @@
 -- What is untouched, and then what is put last.
-use Rattle.std.proofs.Common.{◌≡◌, ◌∙◌, ◌++◌, ap, is_some, map, not, sym, subst, reverse}
-use Rattle.std.specs.BTreeMap.{get}
-use Rattle.std.specs.Cmp.{on_equiv}
-use Rattle.std.proofs.lemmas.Cmp.{eq_by_cmp_equiv}
-use Rattle.std.proofs.lemmas.List.{reverse-reverse}
-use Rattle.cif_feed.specs.Changes.{changes_of, put_last, refusals, untouched, with_keys}
-use Rattle.cif_feed.specs.Steps.Changes.{AreLast, SaysThere, at_keys, same_by}
+use Rattle.cif_feed.proofs.Names.{AreLast, SaysThere, ap, at_keys, changes_of, eq_by_cmp_equiv, get, is_some, map, not, on_equiv, put_last}
+use Rattle.cif_feed.proofs.Names.{refusals, reverse, reverse-reverse, same_by, subst, sym, untouched, with_keys, ◌++◌, ◌∙◌, ◌≡◌}
 use Rattle.cif_feed.proofs.ChangeLaws.{after_all-untouched, told_by_rank}
 use Rattle.cif_feed.proofs.ChangeSteps.{last-some, untouched-keys}
 use Rattle.cif_feed.proofs.changes.apply.Goals as goal

@@ -1,15 +1,9 @@
 -- One record more, of a key that is changed (`alone-put`) or not (`alone-other`).
-use Rattle.std.proofs.Common.{◌≡◌, ◌∙◌, ◌++◌, ◌∷◌, [], true, Bool, Some, cond, is_some, map, sym, ap, subst, take}
-use Rattle.std.specs.BTreeMap.{get}
-use Rattle.std.specs.Cmp.{on_equiv}
-use Rattle.std.specs.Ordering.{eq_by_cmp}
-use Rattle.std.proofs.lemmas.Cmp.{eq_by_cmp_equiv}
-use Rattle.std.proofs.lemmas.List.{take_all}
-use Rattle.cif_feed.specs.Changes.{is_changed, with_keys}
-use Rattle.cif_feed.specs.Steps.Changes.{SaysAlone, at_keys, same_by}
+use Rattle.cif_feed.proofs.Names.{Bool, SaysAlone, Some, [], ap, at_keys, cond, eq_by_cmp, eq_by_cmp_equiv, get, is_changed, is_some, map}
+use Rattle.cif_feed.proofs.Names.{on_equiv, same_by, subst, sym, take, take_all, true, with_keys, ◌++◌, ◌∙◌, ◌∷◌, ◌≡◌}
 use Rattle.cif_feed.proofs.ChangeSteps.{alone-other, alone-put, last-some, made-more, records-more, says-there}
 use Rattle.cif_feed.proofs.changes.keys_there.Goals as goal
-use Rattle.cif_feed.proofs.changes.keys_there.Goals.{then-is_changed+in_ok-insert, else-is_changed}
+use Rattle.cif_feed.proofs.changes.keys_there.Goals.{else-is_changed, then-is_changed+in_ok-insert}
 
 pub loop-record-preserved : goal.loop-record-preserved
 loop-record-preserved g c =

@@ -1,8 +1,5 @@
 -- Of the records so far.
-use Rattle.std.proofs.Common.{◌≡◌, List, is_some, map, take}
-use Rattle.std.specs.BTreeMap.{get}
-use Rattle.cif_feed.specs.Changes.{ChangeParts, with_keys}
-use Rattle.cif_feed.specs.Steps.Changes.{AreLast, SaysAlone, at_keys, same_by}
+use Rattle.cif_feed.proofs.Names.{AreLast, ChangeParts, List, SaysAlone, at_keys, get, is_some, map, same_by, take, with_keys, ◌≡◌}
 use Rattle.cif_feed.proofs.changes.keys_there.Given as goal
 
 abbrev pub invariant-loop-record : goal.invariant-loop-record

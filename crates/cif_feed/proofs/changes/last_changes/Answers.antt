@@ -1,13 +1,8 @@
 -- One change more is the last of its key (`last-more`).
-use Rattle.std.proofs.Common.{◌≡◌, Some, cond, sym, subst, take}
-use Rattle.std.specs.BTreeMap.{get}
-use Rattle.std.specs.Cmp.{on_equiv}
-use Rattle.std.specs.Ordering.{eq_by_cmp}
-use Rattle.std.proofs.lemmas.Cmp.{eq_by_cmp_equiv}
-use Rattle.std.proofs.lemmas.List.{take_all}
-use Rattle.cif_feed.specs.Changes.{changes_of, parts_of}
-use Rattle.cif_feed.specs.Steps.Changes.{AreLast, at_keys, same_by}
+use Rattle.cif_feed.proofs.Names.{AreLast, Some, at_keys, changes_of, cond, eq_by_cmp, eq_by_cmp_equiv, get, on_equiv, same_by, subst, sym}
+use Rattle.cif_feed.proofs.Names.{take, take_all, ◌≡◌}
 use Rattle.cif_feed.proofs.ChangeSteps.{changes-long, changes-more, last-more}
+use Rattle.cif_feed.specs.Changes.{parts_of}
 use Rattle.cif_feed.proofs.changes.last_changes.Goals as goal
 
 pub loop-at-preserved : goal.loop-at-preserved

@@ -1,8 +1,5 @@
 -- These are the last changes so far.
-use Rattle.std.proofs.Common.{take}
-use Rattle.std.specs.BTreeMap.{get}
-use Rattle.cif_feed.specs.Changes.{changes_of}
-use Rattle.cif_feed.specs.Steps.Changes.{AreLast, at_keys, same_by}
+use Rattle.cif_feed.proofs.Names.{AreLast, at_keys, changes_of, get, same_by, take}
 use Rattle.cif_feed.proofs.changes.last_changes.Given as goal
 
 abbrev pub invariant-loop-at : goal.invariant-loop-at

@@ -1,12 +1,7 @@
 -- The change that is taken next is put if it is the last of its key.
-use Rattle.std.proofs.Common.{◌≡◌, ◌∙◌, ◌++◌, ◌∷◌, [], refl, sym, ap, drop, reverse, arith, append-nil, length, length-append, Option, cond}
-use Rattle.std.specs.Prelude.{option_to_list}
-use Rattle.std.proofs.lemmas.List.{drop-drop, length-reverse, nil_from_length, reverse-append}
-use Rattle.std.specs.BTreeMap.{get}
-use Rattle.std.specs.Cmp.{on_equiv}
-use Rattle.std.proofs.lemmas.Cmp.{eq_by_cmp_equiv}
-use Rattle.cif_feed.specs.Changes.{changes_of, put_last, with_keys}
-use Rattle.cif_feed.specs.Steps.Changes.{at_keys, same_by}
+use Rattle.cif_feed.proofs.Names.{Option, [], ap, append-nil, arith, at_keys, changes_of, cond, drop, drop-drop, eq_by_cmp_equiv, get}
+use Rattle.cif_feed.proofs.Names.{length, length-append, length-reverse, nil_from_length, on_equiv, option_to_list, put_last, refl, reverse}
+use Rattle.cif_feed.proofs.Names.{reverse-append, same_by, sym, with_keys, ◌++◌, ◌∙◌, ◌∷◌, ◌≡◌}
 use Rattle.cif_feed.proofs.ChangeSteps.{last-of_all, put-more}
 use Rattle.cif_feed.proofs.changes.put_last.Goals as goal
 

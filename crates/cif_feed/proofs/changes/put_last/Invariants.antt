@@ -1,8 +1,6 @@
 -- What is put, and what the changes that are left put, is all.
-use Rattle.std.proofs.Common.{◌≡◌, ◌+◌, ◌++◌, drop, length, reverse, vec_len}
-use Rattle.std.specs.BTreeMap.{get}
-use Rattle.cif_feed.specs.Changes.{changes_of, put_last, with_keys}
-use Rattle.cif_feed.specs.Steps.Changes.{AreLast, at_keys, same_by}
+use Rattle.cif_feed.proofs.Names.{AreLast, at_keys, changes_of, drop, get, length, put_last, reverse, same_by, vec_len, with_keys, ◌++◌}
+use Rattle.cif_feed.proofs.Names.{◌+◌, ◌≡◌}
 use Rattle.cif_feed.proofs.changes.put_last.Given as goal
 
 abbrev pub invariant-loop-change : goal.invariant-loop-change

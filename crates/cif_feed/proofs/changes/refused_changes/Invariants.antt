@@ -1,8 +1,5 @@
 -- The keys that are there after the changes so far, and those that are refused of them.
-use Rattle.std.proofs.Common.{◌≡◌, List, take}
-use Rattle.std.specs.BTreeMap.{get}
-use Rattle.cif_feed.specs.Changes.{after_all, changes_of, refusals}
-use Rattle.cif_feed.specs.Steps.Changes.{SaysThere, at_keys, same_by}
+use Rattle.cif_feed.proofs.Names.{List, SaysThere, after_all, at_keys, changes_of, get, refusals, same_by, take, ◌≡◌}
 use Rattle.cif_feed.proofs.changes.refused_changes.Given as goal
 
 abbrev pub invariant-loop-change : goal.invariant-loop-change

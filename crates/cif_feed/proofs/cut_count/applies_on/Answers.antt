@@ -1,6 +1,5 @@
 -- It applies on the day if that is among its dates, and no holiday.
-use Rattle.std.proofs.Common.{◌∙◌, sym}
-use Rattle.std.proofs.lemmas.Bool.{false≢true}
+use Rattle.cif_feed.proofs.Names.{false≢true, sym, ◌∙◌}
 use Rattle.cif_feed.proofs.cut_count.applies_on.Goals as goal
 
 pub returns-then-has : goal.returns-then-has

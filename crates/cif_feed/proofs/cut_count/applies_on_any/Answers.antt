@@ -1,9 +1,6 @@
 -- It applies on a date, or on none of them all.
-use Rattle.std.proofs.Common.{◌≡◌, ◌<◌, ◌∙◌, ⊎_elim, ℕ, get_or, arith, refl, subst, sym}
-use Rattle.std.proofs.lemmas.Bool.{cases_lt, false≢true}
-use Rattle.std.proofs.lemmas.List.{get_or_default, get_or_read}
-use Rattle.cif_feed.specs.Parts.{ended}
-use Rattle.cif_feed.specs.Published.{AppliesAsPublished}
+use Rattle.cif_feed.proofs.Names.{AppliesAsPublished, arith, cases_lt, ended, false≢true, get_or, get_or_default, get_or_read, refl, subst}
+use Rattle.cif_feed.proofs.Names.{sym, ℕ, ⊎_elim, ◌<◌, ◌∙◌, ◌≡◌}
 use Rattle.cif_feed.proofs.cut_count.applies_on_any.Goals as goal
 
 pub loop-day-preserved : goal.loop-day-preserved

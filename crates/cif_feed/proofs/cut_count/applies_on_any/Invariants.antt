@@ -1,7 +1,5 @@
 -- It applies on none of the dates so far.
-use Rattle.std.proofs.Common.{ℕ, ◌<◌, get_or}
-use Rattle.cif_feed.specs.Parts.{ended}
-use Rattle.cif_feed.specs.Published.{AppliesAsPublished}
+use Rattle.cif_feed.proofs.Names.{AppliesAsPublished, ended, get_or, ℕ, ◌<◌}
 use Rattle.cif_feed.proofs.cut_count.applies_on_any.Given as goal
 
 abbrev pub invariant-loop-day : goal.invariant-loop-day

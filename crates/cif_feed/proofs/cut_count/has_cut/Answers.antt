@@ -1,7 +1,5 @@
 -- A schedule with a code has a cut exactly if a first one is found (`cut-decided`).
-use Rattle.std.proofs.Common.{◌↔◌, Bool, IsTrue, subst, sym}
-use Rattle.cif_feed.specs.CutCount.{HasCut}
-use Rattle.cif_feed.specs.PublishedParts.{published_schedule_terms}
+use Rattle.cif_feed.proofs.Names.{Bool, HasCut, IsTrue, published_schedule_terms, subst, sym, ◌↔◌}
 use Rattle.cif_feed.proofs.CutCounts.{cut-decided}
 use Rattle.cif_feed.proofs.cut_count.has_cut.Goals as goal
 

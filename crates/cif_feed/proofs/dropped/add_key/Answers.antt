@@ -1,5 +1,5 @@
 -- Whichever key has these positions, its clash dates are told (`key-told`).
-use Rattle.std.proofs.lemmas.Result.{IfOk-weaker}
+use Rattle.cif_feed.proofs.Names.{IfOk-weaker}
 use Rattle.cif_feed.proofs.FoundKeys.{key-told}
 use Rattle.cif_feed.proofs.dropped.add_key.Goals as goal
 

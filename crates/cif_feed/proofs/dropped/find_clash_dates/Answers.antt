@@ -1,13 +1,7 @@
 -- Key by key (`FoundKeys`): the first run of positions is all of a key, whose clash dates are found.
-use Rattle.std.proofs.Common.{◌<◌, ◌+◌, List, ℕ, length, sym, subst}
-use Rattle.std.specs.Prelude.{All}
-use Rattle.std.specs.BTreeMap.{get}
-use Rattle.std.proofs.lemmas.List.{nil_from_length}
-use Rattle.std.proofs.lemmas.Bool.{eqb-true}
-use Rattle.std.proofs.lemmas.List.Elements.{All-drop, All-take}
-use Rattle.cif_calendar.specs.Keys.{keyed}
+use Rattle.cif_feed.proofs.Names.{All, All-drop, All-take, List, all-within, eqb-true, get, keyed, length, nil_from_length, subst, sym, ℕ}
+use Rattle.cif_feed.proofs.Names.{◌+◌, ◌<◌}
 use Rattle.cif_calendar.proofs.FirstClash.{same_key-cmp}
-use Rattle.cif_calendar.proofs.KeyPositions.{all-within}
 use Rattle.cif_feed.proofs.FoundKeys.{AreFoundUpTo, found-all, found-more, found-nothing, get-none}
 use Rattle.cif_feed.proofs.dropped.find_clash_dates.Goals as goal
 

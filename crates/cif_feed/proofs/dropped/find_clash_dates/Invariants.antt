@@ -1,8 +1,5 @@
 -- The keys of all entries but those at `rest`, which are greater, are told with their clash dates.
-use Rattle.std.proofs.Common.{◌<◌, ◌+◌, length}
-use Rattle.std.specs.Prelude.{All}
-use Rattle.std.specs.BTreeMap.{get}
-use Rattle.cif_calendar.specs.Keys.{keyed}
+use Rattle.cif_feed.proofs.Names.{All, get, keyed, length, ◌+◌, ◌<◌}
 use Rattle.cif_feed.proofs.FoundKeys.{AreFoundUpTo}
 use Rattle.cif_feed.proofs.dropped.find_clash_dates.Given as goal
 

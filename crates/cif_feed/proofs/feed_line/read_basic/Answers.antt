@@ -1,7 +1,7 @@
 -- The columns say which transaction it is (`basic_read`).
-use Rattle.std.proofs.Common.{Some, sym}
-use Rattle.cif_feed.specs.declared.mark.Transaction.TheVariants.{New, Revised, Deleted}
+use Rattle.cif_feed.proofs.Names.{Some, sym}
 use Rattle.cif_feed.proofs.FeedSteps.{basic_put, basic_read}
+use Rattle.cif_feed.specs.declared.mark.Transaction.TheVariants.{Deleted, New, Revised}
 use Rattle.cif_feed.proofs.feed_line.read_basic.Goals as goal
 
 pub returns-in-Some-New : goal.returns-in-Some-New

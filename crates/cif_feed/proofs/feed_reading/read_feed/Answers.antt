@@ -1,14 +1,10 @@
 -- The invariant names the contents so far: one more (`feed_line`, `feed_comment`), one refused (`at_feed_line`) and the end are said of
 -- them all.
-use Rattle.std.proofs.Common.{◌≡◌, ◌+◌, ◌<◌, ◌≤◌, length, [], ◌++◌, ◌∷◌, ◌∙◌, ap, arith, refl, sym}
-use Rattle.cif_columns.proofs.GivenLinesLaws.{known_both, nothing_left, reading_decides, reading_ends, reading_faults, reading_starts}
+use Rattle.cif_feed.proofs.Names.{MarkParts, [], ap, arith, is_comment, is_note, kind_in, known_both, length, nothing_left, read_nothing}
+use Rattle.cif_feed.proofs.Names.{read_on_both, reading_decides, reading_ends, reading_faults, reading_starts, refl, sym, ◌++◌, ◌+◌, ◌<◌}
+use Rattle.cif_feed.proofs.Names.{◌∙◌, ◌∷◌, ◌≡◌, ◌≤◌}
 use Rattle.cif_columns.proofs.PassedLines.{next_passed}
-use Rattle.cif_columns.proofs.ReadSources.{read_nothing, read_on_both}
-use Rattle.cif_columns.specs.Comment.{is_comment}
 use Rattle.cif_columns.specs.LineReader.{given}
-use Rattle.cif_records.specs.Kind.{kind_in}
-use Rattle.cif_feed.specs.Marks.{MarkParts}
-use Rattle.cif_feed.specs.RecordLines.{is_note}
 use Rattle.cif_feed.proofs.FeedRuns.{at_feed_line, comes-end, comes-line_fault, comes-memory, comes-untaken, comment_fine, feed_comment}
 use Rattle.cif_feed.proofs.FeedRuns.{feed_line, feed_reason, fewer, line_why, none_more, none_none, room_more}
 use Rattle.cif_feed.proofs.SaidLines.{marked_result}

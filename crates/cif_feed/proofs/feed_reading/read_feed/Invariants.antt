@@ -1,10 +1,6 @@
 -- There are contents so far, none of them refused: the reading is what they have come to, and the source was read on.
-use Rattle.std.proofs.Common.{◌-◌, ℕ, List}
-use Rattle.cif_columns.proofs.GivenLinesLaws.{IsReadingContents}
+use Rattle.cif_feed.proofs.Names.{HasReadOn, HasTakenFeed, IsFeedContent, IsReadingContents, List, NoneOfFeedRefused, ℕ, ◌-◌}
 use Rattle.cif_columns.specs.LineReader.{given, limit}
-use Rattle.cif_columns.specs.Source.{HasReadOn}
-use Rattle.cif_feed.specs.FeedRefusal.{IsFeedContent, NoneOfFeedRefused}
-use Rattle.cif_feed.specs.Steps.FeedReading.{HasTakenFeed}
 use Rattle.cif_feed.proofs.feed_reading.read_feed.Given as goal
 
 abbrev pub invariant-loop-columns : goal.invariant-loop-columns

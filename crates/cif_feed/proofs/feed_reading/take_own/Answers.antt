@@ -1,5 +1,5 @@
 -- It is taken as a line of an extract of this profile is (`own_taken`).
-use Rattle.cif_extract.specs.Steps.Reading.{progress_of}
+use Rattle.cif_feed.proofs.Names.{progress_of}
 use Rattle.cif_feed.proofs.FeedSteps.{own_taken}
 use Rattle.cif_feed.proofs.feed_reading.take_own.Goals as goal
 

@@ -1,19 +1,8 @@
 -- It is refused where it may not stand (`out_of_place`), or for its fields (`in_place`); the record that it spells is put (`put_taken`).
-use Rattle.std.proofs.Common.{◌≡◌, ◌∙◌, None, Ok, Result, Some, ap, sym, true}
-use Rattle.cif_columns.specs.declared.refusal.Refusal.{Refusal}
-use Rattle.cif_extract.specs.OrderOfRecords.{may_stand}
-use Rattle.cif_extract.specs.Steps.Reading.{IsKeepable, Progress, UnlessMemory, progress_of, step}
-use Rattle.cif_extract.specs.Taken.{refusal_at}
-use Rattle.cif_extract.specs.declared.reading.TakeFault.{TakeFault}
-use Rattle.cif_extract.proofs.TakenLines.{memory_so}
-use Rattle.cif_records.specs.Kind.{kind_in}
-use Rattle.cif_records.specs.declared.record.Kind.{Kind}
-use Rattle.cif_records.specs.declared.record.Record.{Record}
+use Rattle.cif_feed.proofs.Names.{IsKeepable, IsRecordTaken, Kind, None, Ok, Progress, Record, Refusal, Result, Some, SpellsInFeed}
+use Rattle.cif_feed.proofs.Names.{TakeFault, UnlessMemory, ap, feed_layouts, feed_refusal_as, kind_in, may_stand, memory_so, progress_of}
+use Rattle.cif_feed.proofs.Names.{read_as, refusal_at, step, sym, true, ◌∙◌, ◌≡◌}
 use Rattle.cif_records.specs.declared.record.Record.TheVariants as of
-use Rattle.cif_feed.specs.FeedLayouts.{feed_layouts}
-use Rattle.cif_feed.specs.FeedLine.{SpellsInFeed}
-use Rattle.cif_feed.specs.LayoutRefusals.{feed_refusal_as}
-use Rattle.cif_feed.specs.Steps.FeedReading.{IsRecordTaken, read_as}
 use Rattle.cif_feed.proofs.FeedSteps.{in_place, out_of_place, put_taken}
 use Rattle.cif_feed.proofs.feed_reading.take_record.Goals as goal
 use Rattle.cif_feed.proofs.feed_reading.take_record.Goals.{Else-not-allows}

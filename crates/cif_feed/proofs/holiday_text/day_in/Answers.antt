@@ -1,6 +1,5 @@
 -- The columns are the word's.
-use Rattle.std.proofs.Common.{◌≡◌, List, ℕ, rules, subst, sym}
-use Rattle.cif_columns.specs.Day.{StandsInYymmdd}
+use Rattle.cif_feed.proofs.Names.{List, StandsInYymmdd, rules, subst, sym, ℕ, ◌≡◌}
 use Rattle.cif_feed.proofs.holiday_text.day_in.Goals as goal
 
 pub returns-in-Some-clause-only : goal.returns-in-Some-clause-only

@@ -1,11 +1,8 @@
 -- The loop passes spaces; what stands before the next space is a word (`first-some`), or no word is left (`first-none`).
-use Rattle.std.proofs.Common.{◌∙◌, ◌∷◌, ◌==◌, ℕ, List, ap, arith, sym, length, drop}
-use Rattle.std.proofs.lemmas.List.{take_rest}
-use Rattle.std.specs.List.{before_first}
-use Rattle.cif_feed.specs.Words.{words_in}
+use Rattle.cif_feed.proofs.Names.{List, ap, arith, before_first, drop, length, sym, take_rest, words_in, ℕ, ◌==◌, ◌∙◌, ◌∷◌}
 use Rattle.cif_feed.proofs.HolidayLines.{first-none, first-some, words-space_at}
 use Rattle.cif_feed.proofs.holiday_text.first_word.Goals as goal
-use Rattle.cif_feed.proofs.holiday_text.first_word.Goals.{then-loop-start-test+else-bytes-start-eq32, else-loop-start-test}
+use Rattle.cif_feed.proofs.holiday_text.first_word.Goals.{else-loop-start-test, then-loop-start-test+else-bytes-start-eq32}
 
 pub returns-clause-none : goal.returns-clause-none
 returns-clause-none c = λ empty.

@@ -1,6 +1,5 @@
 -- The words are those of what is left.
-use Rattle.std.proofs.Common.{◌≡◌, ◌-◌, ◌≤◌, length, drop}
-use Rattle.cif_feed.specs.Words.{words_in}
+use Rattle.cif_feed.proofs.Names.{drop, length, words_in, ◌-◌, ◌≡◌, ◌≤◌}
 use Rattle.cif_feed.proofs.holiday_text.first_word.Given as goal
 
 abbrev pub invariant-loop-start : goal.invariant-loop-start

@@ -1,7 +1,5 @@
 -- One way the parts cover the days without a cut, and the other way they have no cut.
-use Rattle.std.proofs.lemmas.List.Elements.{All-contains}
-use Rattle.cif_feed.specs.Parts.{IsPart}
-use Rattle.cif_feed.specs.Published.{IsStop}
+use Rattle.cif_feed.proofs.Names.{All-contains, IsPart, IsStop}
 use Rattle.cif_feed.proofs.PartLists.{listed-part}
 use Rattle.cif_feed.proofs.PreparedRuns.{applies-part, part-applies}
 use Rattle.cif_feed.proofs.laws.parts_apply_as_published.Goals as goal

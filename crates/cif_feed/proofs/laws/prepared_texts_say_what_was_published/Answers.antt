@@ -1,9 +1,5 @@
 -- Bytes spell one extract, and the prepared one says what the published one does (`says-published`).
-use Rattle.std.proofs.Common.{subst}
-use Rattle.cif_columns.specs.Contents.{contents_of}
-use Rattle.cif_extract.proofs.SpelledBytes.{one_spelled}
-use Rattle.cif_feed.specs.PreparedDays.{SayAsPublished}
-use Rattle.cif_feed.specs.WrittenPrepared.{AreDroppedIf, codes_named}
+use Rattle.cif_feed.proofs.Names.{AreDroppedIf, SayAsPublished, codes_named, contents_of, one_spelled, subst}
 use Rattle.cif_feed.proofs.PreparedRuns.{says-published}
 use Rattle.cif_feed.proofs.SpelledFeeds.{one_published}
 use Rattle.cif_feed.proofs.laws.prepared_texts_say_what_was_published.Goals as goal

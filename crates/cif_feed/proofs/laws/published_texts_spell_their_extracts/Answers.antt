@@ -1,7 +1,7 @@
 -- Each written line spells its record, and its mark is what was written over it.
-use Rattle.cif_feed.specs.HolidayCode.{all_codes}
+use Rattle.cif_feed.proofs.Names.{all_codes}
 use Rattle.cif_feed.proofs.FittingUpdates.{updated_fits}
-use Rattle.cif_feed.proofs.PublishedTexts.{published-lines, published-spells, said_fits, may_any}
+use Rattle.cif_feed.proofs.PublishedTexts.{may_any, published-lines, published-spells, said_fits}
 use Rattle.cif_feed.proofs.laws.published_texts_spell_their_extracts.Goals as goal
 
 pub returns-clause-fits : goal.returns-clause-fits

@@ -1,16 +1,10 @@
 -- Stop by stop (`CutAt`): a cut ends a part, and after it another begins, unless the entry ends there.
-use Rattle.std.proofs.Common.{◌<◌, ◌≤◌, ◌+◌, ◌∙◌, inl, inr, ⊎_elim, ℕ, List, Bool, rules, arith, sym, subst}
-use Rattle.std.proofs.lemmas.Bool.{cases_lt, false≢true}
-use Rattle.std.proofs.lemmas.List.{get_or_read}
-use Rattle.std.proofs.lemmas.Result.{IfOk-weaker}
-use Rattle.cif_columns.specs.Day.{weekday_of}
-use Rattle.cif_columns.specs.DaysRun.{RunsOn}
-use Rattle.cif_feed.specs.Parts.{ended}
-use Rattle.cif_feed.specs.Steps.PartsSoFar.{IsLeftFrom, records_on}
+use Rattle.cif_feed.proofs.Names.{Bool, IfOk-weaker, IsLeftFrom, List, RunsOn, arith, cases_lt, ended, false≢true, get_or_read, inl, inr}
+use Rattle.cif_feed.proofs.Names.{records_on, rules, subst, sym, weekday_of, ℕ, ⊎_elim, ◌+◌, ◌<◌, ◌∙◌, ◌≤◌}
 use Rattle.cif_feed.proofs.PartLists.{IsCutUpTo, cut-behind, cut-end, cut-last, cut-next, cut-nothing, cut-passed, never-cut, pushed-added}
 use Rattle.cif_feed.proofs.PartLists.{pushed-from}
 use Rattle.cif_feed.proofs.parts.add_between.Goals as goal
-use Rattle.cif_feed.proofs.parts.add_between.Goals.{then-has+in_ok-add_before+in-Some-next_up_to, else-has}
+use Rattle.cif_feed.proofs.parts.add_between.Goals.{else-has, then-has+in_ok-add_before+in-Some-next_up_to}
 
 pub returns-in_default : goal.returns-in_default
 returns-in_default g c =

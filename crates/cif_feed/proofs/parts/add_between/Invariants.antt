@@ -1,6 +1,5 @@
 -- The entry is cut up to `first` (`IsCutUpTo`).
-use Rattle.cif_feed.specs.Parts.{ended}
-use Rattle.cif_feed.specs.Steps.PartsSoFar.{records_on}
+use Rattle.cif_feed.proofs.Names.{ended, records_on}
 use Rattle.cif_feed.proofs.PartLists.{IsCutUpTo}
 use Rattle.cif_feed.proofs.parts.add_between.Given as goal
 

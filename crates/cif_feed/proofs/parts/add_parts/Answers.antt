@@ -1,10 +1,6 @@
 -- Where there is no clash date the holidays alone stop the record; else both, in one list.
-use Rattle.std.proofs.Common.{◌≡◌, ◌⊎◌, inl, ⊎_elim, ℕ, List, Contains, length, rules, subst, sym}
-use Rattle.std.proofs.lemmas.List.{nil_from_length}
-use Rattle.std.proofs.lemmas.Result.{IfOk-weaker}
-use Rattle.cif_calendar.proofs.RisingLists.{Contains-none}
-use Rattle.cif_feed.specs.Parts.{ended}
-use Rattle.cif_feed.specs.Steps.PartsSoFar.{AreAdded, records_on}
+use Rattle.cif_feed.proofs.Names.{AreAdded, Contains, Contains-none, IfOk-weaker, List, ended, inl, length, nil_from_length, records_on}
+use Rattle.cif_feed.proofs.Names.{rules, subst, sym, ℕ, ⊎_elim, ◌≡◌, ◌⊎◌}
 use Rattle.cif_feed.proofs.PartLists.{parts-same}
 use Rattle.cif_feed.proofs.parts.add_parts.Goals as goal
 

@@ -1,8 +1,6 @@
 -- The dates don't fall, so the search finds the place.
-use Rattle.std.proofs.Common.{◌≡◌, ℕ, true, false, ltb, ltb-true, ltb-false, rules, arith}
-use Rattle.std.proofs.lemmas.List.{take_rest}
-use Rattle.std.proofs.lemmas.List.Sorted.{IsPartitionPoint-from_clause, IsPartitionedBy-ltb}
-use Rattle.std.specs.List.Sorted.{IsPartitionPoint}
+use Rattle.cif_feed.proofs.Names.{IsPartitionPoint, IsPartitionPoint-from_clause, IsPartitionedBy-ltb, arith, false, ltb, ltb-false}
+use Rattle.cif_feed.proofs.Names.{ltb-true, rules, take_rest, true, ℕ, ◌≡◌}
 use Rattle.cif_feed.proofs.parts.from_day.Goals as goal
 
 point : (c : goal.After-result-1) → IsPartitionPoint (λ (d : ℕ). ltb d c.args.day ≡ true) (λ (d : ℕ). ltb d c.args.day ≡ false)

@@ -1,7 +1,6 @@
 -- Both lists stand in one, which is sorted.
-use Rattle.std.proofs.Common.{◌∙◌, ◌++◌, ⊎_elim, ℕ, List, Contains, ap, subst, sym}
-use Rattle.std.proofs.lemmas.List.Elements.{Contains-append_cases, Contains-append_left, Contains-append_right}
-use Rattle.std.proofs.lemmas.List.Sorted.{Contains-permutation, IsNonDecreasingBy-from_sort, IsPermutation-sym}
+use Rattle.cif_feed.proofs.Names.{Contains, Contains-append_cases, Contains-append_left, Contains-append_right, Contains-permutation}
+use Rattle.cif_feed.proofs.Names.{IsNonDecreasingBy-from_sort, IsPermutation-sym, List, ap, subst, sym, ℕ, ⊎_elim, ◌++◌, ◌∙◌}
 use Rattle.cif_feed.proofs.parts.gather.Goals as goal
 
 pub returns-clause-rising : goal.returns-clause-rising

@@ -1,5 +1,5 @@
 -- It is the one that was made.
-use Rattle.std.proofs.Common.{refl}
+use Rattle.cif_feed.proofs.Names.{refl}
 use Rattle.cif_feed.proofs.PartLists.{pushed-is}
 use Rattle.cif_feed.proofs.parts.push.Goals as goal
 

@@ -1,13 +1,7 @@
 -- One association more is cut at the clash dates of its key (`added-more`).
-use Rattle.std.proofs.Common.{◌⊎◌, ℕ, List, [], None, Contains, map, refl, subst, take_all}
-use Rattle.cif_calendar.specs.Entries.{association_entries, association_terms}
-use Rattle.cif_records.specs.declared.association.Association.{Association}
-use Rattle.cif_feed.specs.Parts.{ended}
-use Rattle.cif_feed.specs.Prepared.{ArePrepared}
-use Rattle.cif_feed.specs.PreparedParts.{association_on}
-use Rattle.cif_feed.specs.PublishedParts.{published_association_terms, published_associations}
-use Rattle.cif_feed.specs.Steps.Dropping.{IsStopAmong}
-use Rattle.cif_feed.specs.declared.published_extract.PublishedAssociation.{PublishedAssociation}
+use Rattle.cif_feed.proofs.Names.{ArePrepared, Association, Contains, IsStopAmong, List, None, PublishedAssociation, []}
+use Rattle.cif_feed.proofs.Names.{association_entries, association_on, association_terms, ended, map, published_association_terms}
+use Rattle.cif_feed.proofs.Names.{published_associations, refl, subst, take_all, ℕ, ◌⊎◌}
 use Rattle.cif_feed.proofs.PreparedLists.{added-as, added-more, prepared-associations}
 use Rattle.cif_feed.proofs.prepare.cut_associations.Goals as goal
 

@@ -1,13 +1,7 @@
 -- One schedule more is cut at the holidays of its code and at the clash dates of its train (`added-more`).
-use Rattle.std.proofs.Common.{◌⊎◌, ℕ, List, Contains, map, subst, take_all}
-use Rattle.cif_calendar.specs.Entries.{schedule_entries, schedule_terms}
-use Rattle.cif_extract.specs.declared.extract.Schedule.{Schedule}
-use Rattle.cif_feed.specs.Parts.{ended}
-use Rattle.cif_feed.specs.Prepared.{ArePrepared}
-use Rattle.cif_feed.specs.PreparedParts.{schedule_on}
-use Rattle.cif_feed.specs.PublishedParts.{published_schedule_terms, published_schedules}
-use Rattle.cif_feed.specs.Steps.Dropping.{IsStopAmong}
-use Rattle.cif_feed.specs.declared.published_extract.PublishedSchedule.{PublishedSchedule}
+use Rattle.cif_feed.proofs.Names.{ArePrepared, Contains, IsStopAmong, List, PublishedSchedule, Schedule, ended, map}
+use Rattle.cif_feed.proofs.Names.{published_schedule_terms, published_schedules, schedule_entries, schedule_on, schedule_terms, subst}
+use Rattle.cif_feed.proofs.Names.{take_all, ℕ, ◌⊎◌}
 use Rattle.cif_feed.proofs.PreparedLists.{added-as, added-more, prepared-schedules}
 use Rattle.cif_feed.proofs.prepare.cut_schedules.Goals as goal
 

@@ -1,12 +1,6 @@
 -- The schedules so far are cut.
-use Rattle.std.proofs.Common.{ℕ, List, map, take}
-use Rattle.std.specs.BTreeMap.{get}
-use Rattle.cif_calendar.specs.Entries.{schedule_entries}
-use Rattle.std.specs.Ordering.{nat_cmp}
-use Rattle.cif_feed.specs.Prepared.{ArePrepared}
-use Rattle.cif_feed.specs.PreparedParts.{schedule_on}
-use Rattle.cif_feed.specs.PublishedParts.{published_schedules}
-use Rattle.cif_feed.specs.Steps.Dropping.{IsStopAmong, ReadsTrains}
+use Rattle.cif_feed.proofs.Names.{ArePrepared, IsStopAmong, List, ReadsTrains, get, map, nat_cmp, published_schedules, schedule_entries}
+use Rattle.cif_feed.proofs.Names.{schedule_on, take, ℕ}
 use Rattle.cif_feed.proofs.prepare.cut_schedules.Given as goal
 
 abbrev pub invariant-loop-one : goal.invariant-loop-one

@@ -1,6 +1,5 @@
 -- Of known bytes the published extract that was read is the one that is prepared.
-use Rattle.std.proofs.Common.{Err, Ok, refl}
-use Rattle.cif_extract.proofs.ReadCalls.{goes-on, hands-on}
+use Rattle.cif_feed.proofs.Names.{Err, Ok, goes-on, hands-on, refl}
 use Rattle.cif_feed.proofs.WrittenPrepared.{prepares, read_prepared, reads-named, reads-preparing}
 use Rattle.cif_feed.proofs.prepare.write_prepared.Goals as goal
 

@@ -1,7 +1,6 @@
 -- The last of the records and of the marks go to the front of what is made.
-use Rattle.std.proofs.Common.{◌≡◌, ◌++◌, ◌∷◌, [], ap, sym, ◌∙◌, subst, append-nil, append_assoc, arith}
-use Rattle.std.proofs.lemmas.List.{nil_from_length, reverse-append}
-use Rattle.cif_feed.specs.FromLines.{ArePairs}
+use Rattle.cif_feed.proofs.Names.{ArePairs, [], ap, append-nil, append_assoc, arith, nil_from_length, reverse-append, subst, sym, ◌++◌, ◌∙◌}
+use Rattle.cif_feed.proofs.Names.{◌∷◌, ◌≡◌}
 use Rattle.cif_feed.proofs.ListSteps.{pairs_last, pairs_none, pairs_some}
 use Rattle.cif_feed.proofs.published_extract.from_lines.Goals as goal
 

@@ -1,7 +1,5 @@
 -- What is made so far, the last first, is of the last records and marks.
-use Rattle.std.proofs.Common.{◌≡◌, List, ◌++◌, length, reverse}
-use Rattle.cif_feed.specs.FromLines.{ArePairs, AreTriples}
-use Rattle.cif_feed.specs.declared.mark.RecordMark.{RecordMark}
+use Rattle.cif_feed.proofs.Names.{ArePairs, AreTriples, List, RecordMark, length, reverse, ◌++◌, ◌≡◌}
 use Rattle.cif_feed.proofs.published_extract.from_lines.Given as goal
 
 abbrev pub invariant-loop-entry : goal.invariant-loop-entry

@@ -1,7 +1,5 @@
 -- The columns are written over a part of the line's.
-use Rattle.std.proofs.Common.{◌∙◌, ap, sym, subst}
-use Rattle.cif_columns.specs.Line.{ArePrintable}
-use Rattle.cif_feed.specs.WrittenOver.{with_columns}
+use Rattle.cif_feed.proofs.Names.{ArePrintable, ap, subst, sym, with_columns, ◌∙◌}
 use Rattle.cif_feed.proofs.WrittenColumns.{printable-written, written-is}
 use Rattle.cif_feed.proofs.published_extract.with_columns.Goals as goal
 

@@ -1,5 +1,5 @@
 -- A refusal's number is from 1 to 14.
-use Rattle.std.proofs.Common.{arith}
+use Rattle.cif_feed.proofs.Names.{arith}
 use Rattle.cif_feed.proofs.ToldReasons.{number_within}
 use Rattle.cif_feed.proofs.reasons.place_of.Goals as goal
 

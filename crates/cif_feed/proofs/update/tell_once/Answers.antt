@@ -1,14 +1,10 @@
 -- One line more is told, or not (`told-more`).
-use Rattle.std.proofs.Common.{◌≡◌, ◌∙◌, ◌++◌, ◌∷◌, [], ◌==◌, ℕ, ◌+◌, cond, ap, sym, take, get_or, append-nil, append_assoc, eq-eqb}
-use Rattle.std.proofs.Common.{ne_eqb}
-use Rattle.std.proofs.lemmas.List.{take_all, take_more}
-use Rattle.cif_feed.specs.Steps.Changes.{last_line}
-use Rattle.cif_feed.specs.Updated.{told_once}
-use Rattle.cif_feed.specs.declared.changes.RefusedLine.{RefusedLine}
-use Rattle.cif_feed.specs.declared.changes.Unfit.TheVariants.{OutOfSequence}
+use Rattle.cif_feed.proofs.Names.{RefusedLine, [], ap, append-nil, append_assoc, cond, eq-eqb, get_or, last_line, ne_eqb, sym, take}
+use Rattle.cif_feed.proofs.Names.{take_all, take_more, told_once, ℕ, ◌++◌, ◌+◌, ◌==◌, ◌∙◌, ◌∷◌, ◌≡◌}
 use Rattle.cif_feed.proofs.UpdatesInTurn.{last-more, told-more}
+use Rattle.cif_feed.specs.declared.changes.Unfit.TheVariants.{OutOfSequence}
 use Rattle.cif_feed.proofs.update.tell_once.Goals as goal
-use Rattle.cif_feed.proofs.update.tell_once.Goals.{then-line-last+in_ok-push, else-line-last}
+use Rattle.cif_feed.proofs.update.tell_once.Goals.{else-line-last, then-line-last+in_ok-push}
 
 pub loop-line-preserved : goal.loop-line-preserved
 loop-line-preserved c =

@@ -1,7 +1,5 @@
 -- What is told so far is of the lines so far.
-use Rattle.std.proofs.Common.{◌≡◌, ◌++◌, take}
-use Rattle.cif_feed.specs.Steps.Changes.{last_line}
-use Rattle.cif_feed.specs.Updated.{told_once}
+use Rattle.cif_feed.proofs.Names.{last_line, take, told_once, ◌++◌, ◌≡◌}
 use Rattle.cif_feed.proofs.update.tell_once.Given as goal
 
 abbrev pub invariant-loop-line : goal.invariant-loop-line

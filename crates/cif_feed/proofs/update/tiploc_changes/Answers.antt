@@ -1,7 +1,6 @@
 -- The last of the locations and of the marks go to the front.
-use Rattle.std.proofs.Common.{◌≡◌, ◌++◌, ◌∷◌, [], ap, refl, sym, ◌∙◌, append-nil, append_assoc, arith, length, length-append, reverse}
-use Rattle.std.proofs.lemmas.List.{nil_from_length, reverse-append, reverse-reverse}
-use Rattle.cif_feed.specs.UpdateParts.{tiploc_changes, tiploc_changes_of}
+use Rattle.cif_feed.proofs.Names.{[], ap, append-nil, append_assoc, arith, length, length-append, nil_from_length, refl, reverse}
+use Rattle.cif_feed.proofs.Names.{reverse-append, reverse-reverse, sym, tiploc_changes, tiploc_changes_of, ◌++◌, ◌∙◌, ◌∷◌, ◌≡◌}
 use Rattle.cif_feed.proofs.update.tiploc_changes.Goals as goal
 
 pub loop-tiploc-init : goal.loop-tiploc-init

@@ -1,8 +1,5 @@
 -- What is pushed so far, the last first, is of the last locations and marks.
-use Rattle.std.proofs.Common.{◌≡◌, List, ◌++◌, length, reverse}
-use Rattle.cif_records.specs.declared.tiploc.Tiploc.{Tiploc}
-use Rattle.cif_feed.specs.UpdateParts.{tiploc_changes}
-use Rattle.cif_feed.specs.declared.mark.TiplocMark.{TiplocMark}
+use Rattle.cif_feed.proofs.Names.{List, Tiploc, TiplocMark, length, reverse, tiploc_changes, ◌++◌, ◌≡◌}
 use Rattle.cif_feed.proofs.update.tiploc_changes.Given as goal
 
 abbrev pub invariant-loop-tiploc : goal.invariant-loop-tiploc

@@ -1,5 +1,5 @@
 -- One text more is written, or it fails.
-use Rattle.cif_columns.proofs.WrittenTexts.{writes_err, written_nothing}
+use Rattle.cif_feed.proofs.Names.{writes_err, written_nothing}
 use Rattle.cif_feed.proofs.WrittenItems.{all-written, one-failed, one-written}
 use Rattle.cif_feed.proofs.written.write_all.Goals as goal
 

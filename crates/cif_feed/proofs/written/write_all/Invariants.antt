@@ -1,7 +1,5 @@
 -- The texts so far are written.
-use Rattle.std.proofs.Common.{take}
-use Rattle.std.specs.List.{flat_map}
-use Rattle.cif_columns.specs.Sink.{HasWritten}
+use Rattle.cif_feed.proofs.Names.{HasWritten, flat_map, take}
 use Rattle.cif_feed.proofs.written.write_all.Given as goal
 
 abbrev pub invariant-loop-item : goal.invariant-loop-item

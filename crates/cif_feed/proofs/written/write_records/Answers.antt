@@ -1,7 +1,5 @@
 -- Five texts, one after another: all are written, or one has failed.
-use Rattle.std.specs.List.{flat_map}
-use Rattle.cif_columns.proofs.WrittenTexts.{failed_first, writes_err, writes_on}
-use Rattle.cif_feed.specs.Steps.Written.{head_text, tiploc_text, trailer_text}
+use Rattle.cif_feed.proofs.Names.{failed_first, flat_map, head_text, tiploc_text, trailer_text, writes_err, writes_on}
 use Rattle.cif_feed.proofs.written.write_records.Goals as goal
 
 pub returns-in_err-write_head : goal.returns-in_err-write_head

@@ -1,8 +1,5 @@
 -- The text is that of the line with those that were taken, and of the others.
-use Rattle.std.proofs.Common.{◌++◌, ℕ, List, ap, drop, subst, ◌∙◌}
-use Rattle.cif_columns.specs.Contents.{lines_text}
-use Rattle.cif_columns.specs.Sink.{HasFailed, HasWritten}
-use Rattle.cif_columns.proofs.WrittenTexts.{writes_err}
+use Rattle.cif_feed.proofs.Names.{HasFailed, HasWritten, List, ap, drop, lines_text, subst, writes_err, ℕ, ◌++◌, ◌∙◌}
 use Rattle.cif_extract.proofs.WrittenLines.{first_failed, second_writes}
 use Rattle.cif_feed.proofs.written.write_with_body.Goals as goal
 

@@ -1,10 +1,7 @@
 -- Three rows are put, which are a whole table.
-use Rattle.std.proofs.Common.{◌≡◌, ◌∙◌, ℕ, List, [], ◌∷◌, ◌++◌, ap, arith, length, refl, replicate}
-use Rattle.cif_columns.specs.Field.{AllFit, Row, exactly, plain_line, row, spare}
-use Rattle.cif_columns.specs.LineBuilder.{put_all}
-use Rattle.cif_columns.proofs.Parts.{length-plain_line, put_all-plain_line}
-use Rattle.cif_columns.proofs.PlainLines.{length-columns}
-use Rattle.cif_records.proofs.Rows.{◌&◌, onto}
+use Rattle.cif_records.proofs.Names.{AllFit, List, Row, [], ap, arith, exactly, length, length-columns, length-plain_line, plain_line}
+use Rattle.cif_records.proofs.Names.{put_all, put_all-plain_line, refl, replicate, row, spare, ℕ, ◌++◌, ◌∙◌, ◌∷◌, ◌≡◌}
+use Rattle.cif_records.proofs.Rows.{onto, ◌&◌}
 use Rattle.cif_records.proofs.detail.columns_alone.Goals as goal
 use Rattle.cif_records.proofs.detail.columns_alone.Goals.{After-put_spare-2}
 

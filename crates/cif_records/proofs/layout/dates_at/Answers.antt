@@ -1,6 +1,5 @@
 -- No reason is left where both dates are there and in order: `dates_judged`, after the test of the days as numbers.
-use Rattle.std.proofs.Common.{◌<◌, ◌≤◌, arith}
-use Rattle.std.proofs.lemmas.Bool.Decides.{nat_tests}
+use Rattle.cif_records.proofs.Names.{arith, nat_tests, ◌<◌, ◌≤◌}
 use Rattle.cif_records.proofs.Judging.{dates_judged, dates_reversed}
 use Rattle.cif_records.proofs.layout.dates_at.Goals as goal
 

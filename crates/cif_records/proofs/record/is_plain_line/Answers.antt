@@ -1,12 +1,8 @@
 -- Each test asks for the table of what stands in the line (by `refl`), and `plain_of` has the rest from that.
-use Rattle.std.proofs.Common.{refl}
-use Rattle.cif_records.specs.Change.{change_in, change_table}
-use Rattle.cif_records.specs.Extra.{extra_in, extra_table}
-use Rattle.cif_records.specs.Origin.{origin_in, origin_table}
-use Rattle.cif_records.specs.Stop.{stop_in, stop_table}
-use Rattle.cif_records.specs.Terminus.{terminus_in, terminus_table}
-use Rattle.cif_records.specs.declared.record.Record.TheVariants as of
+use Rattle.cif_records.proofs.Names.{change_in, change_table, extra_in, extra_table, origin_in, origin_table, refl, stop_in, stop_table}
+use Rattle.cif_records.proofs.Names.{terminus_in, terminus_table}
 use Rattle.cif_records.proofs.PlainTests.{plain_of}
+use Rattle.cif_records.specs.declared.record.Record.TheVariants as of
 use Rattle.cif_records.proofs.record.is_plain_line.Goals as goal
 
 pub returns-in-Li : goal.returns-in-Li

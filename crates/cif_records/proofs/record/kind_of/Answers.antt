@@ -1,6 +1,5 @@
 -- The first kind with these letters: `found_kind` by induction over the list, `only_kind` once for each of the twelve.
-use Rattle.cif_columns.specs.Field.{columns}
-use Rattle.cif_records.specs.Kind.{kinds}
+use Rattle.cif_records.proofs.Names.{columns, kinds}
 use Rattle.cif_records.proofs.Identities.{found_kind, only_kind}
 use Rattle.cif_records.proofs.record.kind_of.Goals as goal
 

@@ -1,9 +1,7 @@
 -- `only`: a line spells one record (`one_record`, by its kind), and none where there is a reason to refuse it (`no_refusal`).
-use Rattle.std.proofs.Common.{subst, sym, ◌∙◌}
-use Rattle.cif_records.specs.Checks.{IsJudged}
-use Rattle.cif_records.specs.Record.{SpellsRecord}
+use Rattle.cif_records.proofs.Names.{IsJudged, SpellsRecord, subst, sym, ◌∙◌}
 use Rattle.cif_records.proofs.Judging.{only}
-use Rattle.cif_records.proofs.Records.{one_record, no_refusal, refusal-kind}
+use Rattle.cif_records.proofs.Records.{no_refusal, one_record, refusal-kind}
 use Rattle.cif_records.proofs.record.read_record.Goals as goal
 
 pub returns-in-Some-clause-exact : goal.returns-in-Some-clause-exact

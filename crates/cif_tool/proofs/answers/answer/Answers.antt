@@ -1,6 +1,6 @@
 -- For each command the job that was matched is put in, and its function keeps each clause. A second source that it doesn't take is
 -- left alone.
-use Rattle.std.proofs.Common.{refl}
+use Rattle.cif_tool.proofs.Names.{refl}
 use Rattle.cif_tool.proofs.answers.answer.Goals as goal
 
 pub returns-in-Normalise : goal.returns-in-Normalise

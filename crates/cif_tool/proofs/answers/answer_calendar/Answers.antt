@@ -1,11 +1,6 @@
 -- What is written is an answer (`calendar-answer`); its faults are of known bytes (`calendar-fault`). `view`: of the extract that
 -- was narrowed, which is kept.
-use Rattle.std.proofs.Common.{refl, subst}
-use Rattle.cif_columns.specs.declared.line_reader.TheConstants.{MAX_LINES}
-use Rattle.cif_extract.specs.ExtractParts.{extract_parts}
-use Rattle.cif_canon.specs.Fault.{reading_narrowed}
-use Rattle.cif_views.specs.WeekCalendar.{IsWeekCalendarFault}
-use Rattle.cif_tool.specs.Answer.{IsClashlessRefusal}
+use Rattle.cif_tool.proofs.Names.{IsClashlessRefusal, IsWeekCalendarFault, MAX_LINES, extract_parts, reading_narrowed, refl, subst}
 use Rattle.cif_tool.proofs.Answered.{not-answered, view-shown}
 use Rattle.cif_tool.proofs.KnownAnswers.{calendar-answer, calendar-fault, clashless-fault}
 use Rattle.cif_tool.proofs.answers.answer_calendar.Goals as goal

@@ -1,9 +1,5 @@
 -- What is written is an answer (`canonical-answer`); a fault is that of reading the canonical form, or Write.
-use Rattle.std.proofs.Common.{refl}
-use Rattle.cif_columns.specs.declared.line_reader.TheConstants.{MAX_LINES}
-use Rattle.cif_canon.specs.Fault.{IsNormaliseFault}
-use Rattle.cif_canon.specs.Normalised.{reading_canon}
-use Rattle.cif_tool.specs.Answer.{canonical_text}
+use Rattle.cif_tool.proofs.Names.{IsNormaliseFault, MAX_LINES, canonical_text, reading_canon, refl}
 use Rattle.cif_tool.proofs.Answered.{not-answered, text-shown}
 use Rattle.cif_tool.proofs.KnownAnswers.{canonical-answer}
 use Rattle.cif_tool.proofs.answers.answer_canonical.Goals as goal

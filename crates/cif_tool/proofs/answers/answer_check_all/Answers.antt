@@ -1,16 +1,10 @@
 -- Of known bytes: where lines have reasons their text is named (`reasons_answer`), else that of the counts, or the fault of counting.
-use Rattle.std.proofs.Common.{refl, subst}
-use Rattle.cif_columns.specs.Source.{unread_of}
-use Rattle.cif_extract.specs.ExtractParts.{extract_parts}
-use Rattle.cif_extract.proofs.ReadCalls.{goes-on, hands-either, hands-on}
-use Rattle.cif_canon.specs.Counts.{counts_line}
-use Rattle.cif_feed.specs.Reasons.{told_text}
+use Rattle.cif_tool.proofs.Names.{IsOfReading, MAX_LINES, counts_line, extract_parts, goes-on, hands-either, hands-on, refl, subst}
+use Rattle.cif_tool.proofs.Names.{told_text, unread_of}
 use Rattle.cif_feed.specs.declared.judged.Judged.TheVariants.{Extract, Reasons}
-use Rattle.cif_columns.specs.declared.line_reader.TheConstants.{MAX_LINES}
-use Rattle.cif_extract.specs.ReadFault.{IsOfReading}
 use Rattle.cif_tool.proofs.Answered.{handed-text, nothing-of-input, only-fails, status-is, told-as}
-use Rattle.cif_tool.proofs.CheckedLines.{counts-not, counts-silent, counts-written, counts_answer, judged_fault}
-use Rattle.cif_tool.proofs.CheckedLines.{reasons-written, reasons_answer}
+use Rattle.cif_tool.proofs.CheckedLines.{counts-not, counts-silent, counts-written, counts_answer, judged_fault, reasons-written}
+use Rattle.cif_tool.proofs.CheckedLines.{reasons_answer}
 use Rattle.cif_tool.proofs.answers.answer_check_all.Goals as goal
 
 pub returns-in_err-reasons : goal.returns-in_err-reasons

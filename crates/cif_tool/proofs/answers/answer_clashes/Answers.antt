@@ -1,13 +1,6 @@
 -- What is written is an answer (`clashes-answer`); each call's faults are of known bytes.
-use Rattle.std.proofs.Common.{◌≢◌, refl, subst, sym}
-use Rattle.cif_columns.specs.declared.line_reader.TheConstants.{MAX_LINES}
-use Rattle.cif_extract.specs.ExtractParts.{extract_parts}
-use Rattle.cif_extract.specs.declared.fault.Fault.TheVariants.{Write}
-use Rattle.cif_extract.proofs.ReadCalls.{hands}
-use Rattle.cif_canon.specs.Fault.{reading_narrowed}
-use Rattle.cif_views.specs.Clashes.{clashes_text}
-use Rattle.cif_tool.specs.Answer.{IsClashlessRefusal}
-use Rattle.cif_tool.specs.Status.{listed_status}
+use Rattle.cif_tool.proofs.Names.{IsClashlessRefusal, MAX_LINES, Write, clashes_text, extract_parts, hands, listed_status, reading_narrowed}
+use Rattle.cif_tool.proofs.Names.{refl, subst, sym, ◌≢◌}
 use Rattle.cif_tool.proofs.Answered.{ends, not-answered, nothing-of-input, text-shown}
 use Rattle.cif_tool.proofs.KnownAnswers.{clashes-answer, clashless-fault}
 use Rattle.cif_tool.proofs.answers.answer_clashes.Goals as goal

@@ -1,10 +1,5 @@
 -- What the listing writes is an answer (`day-answer`). `view`: of the extract that was read, which is kept.
-use Rattle.std.proofs.Common.{inl, inr, refl, subst}
-use Rattle.cif_columns.specs.declared.line_reader.TheConstants.{MAX_LINES}
-use Rattle.cif_extract.specs.ExtractParts.{extract_parts}
-use Rattle.cif_extract.specs.ReadFault.{reading_extract}
-use Rattle.cif_canon.specs.Views.{IsDayFault}
-use Rattle.cif_tool.specs.Answer.{IsDayRefusal}
+use Rattle.cif_tool.proofs.Names.{IsDayFault, IsDayRefusal, MAX_LINES, extract_parts, inl, inr, reading_extract, refl, subst}
 use Rattle.cif_tool.proofs.Answered.{not-answered, view-shown}
 use Rattle.cif_tool.proofs.KnownAnswers.{day-answer}
 use Rattle.cif_tool.proofs.answers.answer_day.Goals as goal

@@ -1,10 +1,6 @@
 -- What the listing writes is an answer (`explain-answer`). `view`: of the extract that was read, which is kept.
-use Rattle.std.proofs.Common.{inl, inr, refl, subst}
-use Rattle.cif_columns.specs.declared.line_reader.TheConstants.{MAX_LINES}
-use Rattle.cif_extract.specs.ExtractParts.{extract_parts}
-use Rattle.cif_extract.specs.ReadFault.{reading_extract}
+use Rattle.cif_tool.proofs.Names.{IsExplainRefusal, MAX_LINES, extract_parts, inl, inr, reading_extract, refl, subst}
 use Rattle.cif_views.specs.Explanation.{IsExplanationFault}
-use Rattle.cif_tool.specs.Answer.{IsExplainRefusal}
 use Rattle.cif_tool.proofs.Answered.{not-answered, view-shown}
 use Rattle.cif_tool.proofs.KnownAnswers.{explain-answer}
 use Rattle.cif_tool.proofs.answers.answer_explain.Goals as goal

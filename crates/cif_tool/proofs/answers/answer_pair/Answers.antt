@@ -1,14 +1,8 @@
 -- A fault after both are read is told by `compared`, and the text by `compare-answer` or `diff-answer`, of the extracts that were
 -- read, which are kept.
-use Rattle.std.proofs.Common.{inl, inr, refl, subst}
-use Rattle.cif_extract.specs.ExtractParts.{extract_parts}
-use Rattle.cif_extract.proofs.ReadCalls.{hands}
-use Rattle.cif_canon.specs.Comparison.{IsCompareFault, comparison_line}
-use Rattle.cif_canon.specs.Fault.{IsOfReadNarrowed}
+use Rattle.cif_tool.proofs.Names.{IsCompareFault, IsOfReadNarrowed, MAX_LINES, comparison_line, differences_in, extract_parts, hands, inl}
+use Rattle.cif_tool.proofs.Names.{inr, listed_status, outcome_of, refl, subst}
 use Rattle.cif_canon.proofs.ReadPairs.{pair-may}
-use Rattle.cif_columns.specs.declared.line_reader.TheConstants.{MAX_LINES}
-use Rattle.cif_tool.specs.Answer.{differences_in}
-use Rattle.cif_tool.specs.Status.{listed_status, outcome_of}
 use Rattle.cif_tool.proofs.Answered.{handed-text, nothing-of-both, only-fails, told-as}
 use Rattle.cif_tool.proofs.KnownAnswers.{compare-answer, compared, diff-answer, uncompared}
 use Rattle.cif_tool.proofs.answers.answer_pair.Goals as goal

@@ -1,11 +1,6 @@
 -- What the listing writes is an answer (`train-answer`); its faults are of known bytes (`train-fault`). `view`: of the extract
 -- that was narrowed, which is kept.
-use Rattle.std.proofs.Common.{refl, subst}
-use Rattle.cif_columns.specs.declared.line_reader.TheConstants.{MAX_LINES}
-use Rattle.cif_extract.specs.ExtractParts.{extract_parts}
-use Rattle.cif_canon.specs.Fault.{IsNormaliseFault, reading_narrowed}
-use Rattle.cif_canon.specs.Views.{IsTrainFault}
-use Rattle.cif_canon.proofs.Normalising.{narrowed-fault}
+use Rattle.cif_tool.proofs.Names.{IsNormaliseFault, IsTrainFault, MAX_LINES, extract_parts, narrowed-fault, reading_narrowed, refl, subst}
 use Rattle.cif_tool.proofs.Answered.{not-answered, view-shown}
 use Rattle.cif_tool.proofs.KnownAnswers.{train-answer, train-fault}
 use Rattle.cif_tool.proofs.answers.answer_train.Goals as goal

@@ -1,6 +1,5 @@
 -- What help says of a command changes nothing of what it takes.
-use Rattle.std.proofs.Common.{◌∙◌, ap}
-use Rattle.clap.specs.Simple.{app_of_fields}
+use Rattle.cif_tool.proofs.Names.{ap, app_of_fields, ◌∙◌}
 use Rattle.cif_tool.proofs.command_line.described.Goals as goal
 
 pub returns : goal.returns

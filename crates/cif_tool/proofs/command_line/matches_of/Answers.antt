@@ -1,8 +1,6 @@
 -- `clap` tells matches and kinds of error of simple commands: that `cif` is one, and free, is `is_simple_cif`, `is_free_cif`.
-use Rattle.std.proofs.Common.{◌∙◌, ap, subst, map, string_bytes}
-use Rattle.std.proofs.lemmas.Result.{IfOk-weaker}
-use Rattle.clap.specs.Words.{App, FailsBy, fault_of, is_simple, is_simple_and_free, subcommand_of}
-use Rattle.cif_tool.specs.CommandLine.{chosen, faults_of}
+use Rattle.cif_tool.proofs.Names.{App, FailsBy, IfOk-weaker, ap, chosen, fault_of, faults_of, is_simple, is_simple_and_free, map}
+use Rattle.cif_tool.proofs.Names.{string_bytes, subcommand_of, subst, ◌∙◌}
 use Rattle.cif_tool.proofs.CommandBuilt.{is_free_cif, is_simple_cif}
 use Rattle.cif_tool.proofs.command_line.matches_of.Goals as goal
 

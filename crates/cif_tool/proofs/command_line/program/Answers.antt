@@ -1,10 +1,6 @@
 -- The program's settings (`program_made`), and then one subcommand after another (`subcommand_added`).
-use Rattle.std.proofs.Common.{◌∙◌, ap, codes, map, sym}
-use Rattle.std.proofs.lemmas.List.{at_drop_all}
-use Rattle.std.proofs.lemmas.Result.{IfOk-weaker}
-use Rattle.clap.specs.Simple.{app_of_fields}
-use Rattle.clap.specs.Words.{App, app_of}
-use Rattle.cif_tool.specs.CommandLine.{cif, subcommands, taken, with_subcommands}
+use Rattle.cif_tool.proofs.Names.{App, IfOk-weaker, ap, app_of, app_of_fields, at_drop_all, cif, codes, map, subcommands, sym, taken}
+use Rattle.cif_tool.proofs.Names.{with_subcommands, ◌∙◌}
 use Rattle.cif_tool.proofs.CommandBuilt.{program_made, subcommand_added}
 use Rattle.cif_tool.proofs.command_line.program.Goals as goal
 

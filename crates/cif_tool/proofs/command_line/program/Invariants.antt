@@ -1,6 +1,5 @@
 -- With the subcommands that are left, the command has all.
-use Rattle.std.proofs.Common.{drop}
-use Rattle.cif_tool.specs.CommandLine.{cif}
+use Rattle.cif_tool.proofs.Names.{cif, drop}
 use Rattle.cif_tool.proofs.CommandBuilt.{IsGrowing}
 use Rattle.cif_tool.proofs.command_line.program.Given as goal
 

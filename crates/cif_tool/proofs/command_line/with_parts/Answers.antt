@@ -1,10 +1,6 @@
 -- One argument after another is taken (`argument_taken`), and then the subcommand is added.
-use Rattle.std.proofs.Common.{◌∙◌, ◌||◌, ap, ap₂, sym}
-use Rattle.std.proofs.lemmas.List.{at_drop_all}
-use Rattle.std.proofs.lemmas.Result.{IfOk-weaker}
-use Rattle.clap.specs.Words.{App, app_of, with_subcommand}
-use Rattle.cif_tool.specs.CommandLine.{argument, taking}
-use Rattle.cif_tool.specs.declared.command_line.Argument.TheVariants.{Verbose}
+use Rattle.cif_tool.proofs.Names.{App, IfOk-weaker, Verbose, ap, app_of, ap₂, argument, at_drop_all, sym, taking, with_subcommand, ◌||◌}
+use Rattle.cif_tool.proofs.Names.{◌∙◌}
 use Rattle.cif_tool.proofs.CommandBuilt.{argument_taken, first_taken}
 use Rattle.cif_tool.proofs.command_line.with_parts.Goals as goal
 

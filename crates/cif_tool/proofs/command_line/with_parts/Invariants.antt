@@ -1,7 +1,5 @@
 -- With the arguments that are left, the subcommand takes all.
-use Rattle.std.proofs.Common.{drop}
-use Rattle.clap.specs.Words.{new_app}
-use Rattle.cif_tool.specs.CommandLine.{taken, taking}
+use Rattle.cif_tool.proofs.Names.{drop, new_app, taken, taking}
 use Rattle.cif_tool.proofs.CommandBuilt.{IsTaking}
 use Rattle.cif_tool.proofs.command_line.with_parts.Given as goal
 

@@ -1,6 +1,5 @@
 -- One source and then the others: `stops-there`, or `goes-further`.
-use Rattle.std.proofs.Common.{◌++◌}
-use Rattle.cif_extract.proofs.ReadCalls.{at-fault}
+use Rattle.cif_tool.proofs.Names.{at-fault, ◌++◌}
 use Rattle.cif_tool.proofs.UpdatesRead.{goes-further, stops-there, waived-further}
 use Rattle.cif_tool.proofs.feed_answers.+do_updates.Goals as goal
 

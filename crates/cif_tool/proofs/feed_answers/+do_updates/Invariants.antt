@@ -1,4 +1,4 @@
-use Rattle.std.proofs.Common.{length}
+use Rattle.cif_tool.proofs.Names.{length}
 use Rattle.cif_tool.proofs.feed_answers.+do_updates.Given as goal
 
 abbrev pub decreases-do_updates : goal.decreases-do_updates

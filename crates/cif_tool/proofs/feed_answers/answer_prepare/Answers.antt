@@ -1,6 +1,5 @@
 -- The extract is prepared with the holidays that were read, and its text is handed on; or it isn't.
-use Rattle.std.proofs.Common.{Err, Ok}
-use Rattle.cif_extract.proofs.ReadCalls.{at-fault}
+use Rattle.cif_tool.proofs.Names.{Err, Ok, at-fault}
 use Rattle.cif_tool.proofs.PreparedRead.{prepared-answer, prepared-read, unhanded-answer, unhanded-read, unprepared-answer}
 use Rattle.cif_tool.proofs.PreparedRead.{unprepared-fault}
 use Rattle.cif_tool.proofs.UpdatesRead.{finished}

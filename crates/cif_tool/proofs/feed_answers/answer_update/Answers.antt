@@ -1,7 +1,5 @@
 -- An update that isn't done is told by `undone-answer` and its like; a text that is written, or isn't, by `ended-answer`.
-use Rattle.cif_extract.proofs.ReadCalls.{at-fault}
-use Rattle.cif_feed.specs.PublishedParts.{published_parts}
-use Rattle.cif_tool.specs.FeedAnswer.{waived_by}
+use Rattle.cif_tool.proofs.Names.{at-fault, published_parts, waived_by}
 use Rattle.cif_tool.proofs.UpdatesRead.{ended-answer, ended-fault, ended-reads, finished, undone-answer, undone-fault, undone-reads}
 use Rattle.cif_tool.proofs.feed_answers.answer_update.Goals as goal
 

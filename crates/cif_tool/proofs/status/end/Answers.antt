@@ -1,7 +1,5 @@
 -- What came of writing the fault's line has to be named: the result of `report`; and the answer that was matched is put in.
-use Rattle.std.proofs.Common.{ℕ, Result, subst, sym}
-use Rattle.cif_extract.specs.declared.fault.Fault.{Fault}
-use Rattle.cif_tool.specs.Status.{TellsFault}
+use Rattle.cif_tool.proofs.Names.{Fault, Result, TellsFault, subst, sym, ℕ}
 use Rattle.cif_tool.proofs.status.end.Goals as goal
 
 pub returns-in-Err-clause-line : goal.returns-in-Err-clause-line

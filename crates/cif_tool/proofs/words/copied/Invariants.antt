@@ -1,5 +1,5 @@
 -- The names that are copied, and those that are left, are all of them.
-use Rattle.std.proofs.Common.{◌≡◌, ◌++◌, drop, map, string_bytes}
+use Rattle.cif_tool.proofs.Names.{drop, map, string_bytes, ◌++◌, ◌≡◌}
 use Rattle.cif_tool.proofs.words.copied.Given as goal
 
 abbrev pub invariant-loop-name : goal.invariant-loop-name

@@ -1,6 +1,5 @@
 -- The word that names no day is the one of this id.
-use Rattle.std.proofs.Common.{refl, subst}
-use Rattle.cif_tool.specs.JobFault.{NamesNoDay}
+use Rattle.cif_tool.proofs.Names.{NamesNoDay, refl, subst}
 use Rattle.cif_tool.proofs.words.day_of.Goals as goal
 
 pub returns-in-None-clause-err : goal.returns-in-None-clause-err

@@ -1,8 +1,5 @@
 -- `named`: where `found` and `only` give no day, none stands in the word; and the columns that are read are the word's.
-use Rattle.std.proofs.Common.{◌≡◌, ℕ, List, Option, Some, None, rules, subst}
-use Rattle.std.specs.Prelude.{IfSome, MatchOption}
-use Rattle.cif_columns.specs.Day.{StandsInYymmdd}
-use Rattle.cif_tool.specs.JobFault.{NamesNoDay}
+use Rattle.cif_tool.proofs.Names.{IfSome, List, MatchOption, NamesNoDay, None, Option, Some, StandsInYymmdd, rules, subst, ℕ, ◌≡◌}
 use Rattle.cif_tool.proofs.words.day_of_word.Goals as goal
 
 named : (columns : List ℕ) (o : Option ℕ) → IfSome o (StandsInYymmdd columns) → ((n : ℕ) → StandsInYymmdd columns n → o ≡ Some n) →

@@ -1,5 +1,5 @@
 -- Those that are counted, and those among the names that are left, are all.
-use Rattle.std.proofs.Common.{◌≡◌, ◌≤◌, ◌+◌, drop, map, string_bytes}
+use Rattle.cif_tool.proofs.Names.{drop, map, string_bytes, ◌+◌, ◌≡◌, ◌≤◌}
 use Rattle.cif_tool.specs.Job.{standard_inputs}
 use Rattle.cif_tool.proofs.words.standard_inputs.Given as goal
 

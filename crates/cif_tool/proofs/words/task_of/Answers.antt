@@ -1,7 +1,5 @@
 -- The error of `clap` has one of the named kinds.
-use Rattle.std.proofs.Common.{ap, inl, inr, sym, subst, List, map, string_bytes}
-use Rattle.clap.specs.Words.{Text}
-use Rattle.cif_tool.specs.JobFault.{IsFaultAt}
+use Rattle.cif_tool.proofs.Names.{IsFaultAt, List, Text, ap, inl, inr, map, string_bytes, subst, sym}
 use Rattle.cif_tool.proofs.words.task_of.Goals as goal
 
 pub returns-clause-refused : goal.returns-clause-refused

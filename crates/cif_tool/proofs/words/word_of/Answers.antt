@@ -1,7 +1,5 @@
 -- What `get_str` gives of an argument is the first value in its row: `first_value-rows` of `clap`.
-use Rattle.std.proofs.Common.{◌∙◌}
-use Rattle.clap.specs.Words.{found_of}
-use Rattle.clap.proofs.WalkLemmas.{first_value-rows}
+use Rattle.cif_tool.proofs.Names.{first_value-rows, found_of, ◌∙◌}
 use Rattle.cif_tool.proofs.words.word_of.Goals as goal
 
 pub returns : goal.returns

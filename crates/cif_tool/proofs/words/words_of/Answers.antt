@@ -1,7 +1,5 @@
 -- What `get_strs` gives of an argument are the values in its row: `raw_values-rows` of `clap`.
-use Rattle.std.proofs.Common.{◌∙◌}
-use Rattle.clap.specs.Words.{found_of}
-use Rattle.clap.proofs.WalkLemmas.{raw_values-rows}
+use Rattle.cif_tool.proofs.Names.{found_of, raw_values-rows, ◌∙◌}
 use Rattle.cif_tool.proofs.words.words_of.Goals as goal
 
 pub returns : goal.returns

@@ -1,6 +1,5 @@
 -- A day before the window, behind it, or in it.
-use Rattle.std.proofs.Common.{arith}
-use Rattle.cif_views.specs.Steps.WeekCalendar.{state_in}
+use Rattle.cif_views.proofs.Names.{arith, state_in}
 use Rattle.cif_views.proofs.WeekLines.{cell-before, cell-behind}
 use Rattle.cif_views.proofs.calendar_weeks.cell.Goals as goal
 

@@ -1,5 +1,5 @@
 -- The Monday's day is the seventh of each week (`monday-some`), and none is before the first day (`monday-none`).
-use Rattle.std.proofs.Common.{◌∙◌}
+use Rattle.cif_views.proofs.Names.{◌∙◌}
 use Rattle.cif_views.proofs.WeekLines.{monday-none, monday-some}
 use Rattle.cif_views.proofs.calendar_weeks.monday_columns.Goals as goal
 

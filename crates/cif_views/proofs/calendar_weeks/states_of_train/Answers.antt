@@ -1,10 +1,7 @@
 -- The records at the positions of the train are its records.
-use Rattle.std.proofs.Common.{◌+◌, ◌<◌, length, subst, sym}
-use Rattle.std.proofs.lemmas.Result.{IfOk-weaker}
-use Rattle.cif_calendar.specs.Keys.{ArePositionsOf}
+use Rattle.cif_views.proofs.Names.{All, AreDayStates, ArePositionsOf, IfOk-weaker, Schedule, length, of_key, positions-records}
+use Rattle.cif_views.proofs.Names.{schedule_entries, schedule_terms, subst, sym, ◌+◌, ◌<◌}
 use Rattle.cif_calendar.proofs.DayStates.{AreDayStates-same}
-use Rattle.cif_calendar.proofs.Positions.{positions-records}
-use Rattle.cif_views.proofs.Words.{All, AreDayStates, Schedule, of_key, schedule_entries, schedule_terms}
 use Rattle.cif_views.proofs.calendar_weeks.states_of_train.Goals as goal
 
 pub day_states-requires : goal.day_states-requires

@@ -1,10 +1,6 @@
 -- The heading and the lines of the weeks are the calendar (`is-calendar`).
-use Rattle.std.proofs.Common.{◌+◌, List, codes, subst, sym}
-use Rattle.std.specs.List.{flat_map}
-use Rattle.cif_canon.proofs.AppendedTexts.{both, fault-answered}
-use Rattle.cif_canon.proofs.ViewTexts.{written-so}
-use Rattle.cif_views.specs.WeekCalendar.{calendar_text, week_line, weeks_between}
-use Rattle.cif_views.proofs.Words.{AreDayStates, DayState, Schedule, extract_parts, of_key, schedule_entries, state_in}
+use Rattle.cif_views.proofs.Names.{AreDayStates, DayState, List, Schedule, both, calendar_text, codes, extract_parts, fault-answered}
+use Rattle.cif_views.proofs.Names.{flat_map, of_key, schedule_entries, state_in, subst, sym, week_line, weeks_between, written-so, ◌+◌}
 use Rattle.cif_views.proofs.WeekLines.{is-calendar}
 use Rattle.cif_views.proofs.calendar_weeks.week_calendar.Goals as goal
 

@@ -1,5 +1,6 @@
 -- The bytes are those of the line.
-use Rattle.cif_canon.proofs.AppendedTexts.{appended, text-is}
+use Rattle.cif_views.proofs.Names.{appended}
+use Rattle.cif_canon.proofs.AppendedTexts.{text-is}
 use Rattle.cif_views.proofs.calendar_weeks.write_week.Goals as goal
 
 pub returns : goal.returns

@@ -1,7 +1,7 @@
 -- One week more goes behind the others (`range-push`).
-use Rattle.std.proofs.Common.{◌≡◌, ◌+◌, ◌-◌, ◌∙◌, ℕ, List, [], ap, arith, subst, sym}
+use Rattle.cif_views.proofs.Names.{IsAppended, List, [], ap, arith, flat_map, range_with_len, state_in, subst, sym, week_line, week_of, ℕ}
+use Rattle.cif_views.proofs.Names.{◌+◌, ◌-◌, ◌∙◌, ◌≡◌}
 use Rattle.cif_canon.proofs.AppendedTexts.{behind, nothing, text-is}
-use Rattle.cif_views.proofs.Words.{IsAppended, flat_map, range_with_len, state_in, week_line, week_of}
 use Rattle.cif_views.proofs.WeekLines.{range-push}
 use Rattle.cif_views.proofs.calendar_weeks.write_weeks.Goals as goal
 

@@ -1,6 +1,5 @@
 -- The lines of the weeks so far are appended.
-use Rattle.std.proofs.Common.{◌-◌}
-use Rattle.cif_views.proofs.Words.{IsAppended, flat_map, range_with_len, state_in, week_line, week_of}
+use Rattle.cif_views.proofs.Names.{IsAppended, flat_map, range_with_len, state_in, week_line, week_of, ◌-◌}
 use Rattle.cif_views.proofs.calendar_weeks.write_weeks.Given as goal
 
 abbrev pub invariant-loop-week : goal.invariant-loop-week

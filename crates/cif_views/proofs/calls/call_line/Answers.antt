@@ -1,8 +1,7 @@
 -- One field more goes behind the kind (`one-column`), until none is left (`no-column`); they are a line (`joined`).
-use Rattle.std.proofs.Common.{◌++◌, List, ℕ, ap, arith, codes, map, refl}
+use Rattle.cif_views.proofs.Names.{List, Trimmed, ap, arith, codes, map, refl, ℕ, ◌++◌}
 use Rattle.cif_canon.proofs.ViewLines.{joined}
 use Rattle.cif_views.proofs.CallTexts.{first-column, no-column, one-column, trimmed_field}
-use Rattle.cif_views.proofs.Words.{Trimmed}
 use Rattle.cif_views.proofs.calls.call_line.Goals as goal
 
 pub loop-field-init : goal.loop-field-init

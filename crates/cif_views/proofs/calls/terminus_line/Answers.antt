@@ -1,5 +1,6 @@
 -- Each field can be shown.
-use Rattle.cif_canon.proofs.ViewLines.{one-more, spaces}
+use Rattle.cif_views.proofs.Names.{spaces}
+use Rattle.cif_canon.proofs.ViewLines.{one-more}
 use Rattle.cif_views.proofs.calls.terminus_line.Goals as goal
 
 pub call_line-requires-clause-fields : goal.call_line-requires-clause-fields

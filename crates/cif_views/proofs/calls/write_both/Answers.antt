@@ -1,5 +1,6 @@
 -- What stands before the line goes first, and then the line.
-use Rattle.cif_canon.proofs.AppendedTexts.{both, text-is}
+use Rattle.cif_views.proofs.Names.{both}
+use Rattle.cif_canon.proofs.AppendedTexts.{text-is}
 use Rattle.cif_views.proofs.calls.write_both.Goals as goal
 
 pub returns : goal.returns

@@ -1,9 +1,7 @@
 -- The origin's line goes first, then those on the way, then the terminus's.
-use Rattle.std.proofs.Common.{ℕ, List, ap, ◌∙◌, ◌++◌}
-use Rattle.cif_extract.specs.Body.{parts_in}
-use Rattle.cif_views.specs.Calls.{origin_fields, terminus_fields}
-use Rattle.cif_canon.proofs.AppendedTexts.{both, text-is}
-use Rattle.cif_views.proofs.Words.{Field, call_text, flat_map, line_of}
+use Rattle.cif_views.proofs.Names.{Field, List, ap, both, call_text, flat_map, line_of, origin_fields, parts_in, terminus_fields, ℕ, ◌++◌}
+use Rattle.cif_views.proofs.Names.{◌∙◌}
+use Rattle.cif_canon.proofs.AppendedTexts.{text-is}
 use Rattle.cif_views.proofs.calls.write_calls.Goals as goal
 
 pub returns : goal.returns

@@ -1,7 +1,6 @@
 -- One call more goes behind the text (`behind`).
-use Rattle.std.proofs.Common.{◌++◌, refl, subst}
+use Rattle.cif_views.proofs.Names.{IsAppended, call_text, flat_map, line_of, refl, subst, ◌++◌}
 use Rattle.cif_canon.proofs.AppendedTexts.{behind, nothing}
-use Rattle.cif_views.proofs.Words.{IsAppended, call_text, flat_map, line_of}
 use Rattle.cif_views.proofs.CallTexts.{all-done, one-done}
 use Rattle.cif_views.proofs.calls.write_calls_between.Goals as goal
 

@@ -1,6 +1,5 @@
 -- What is written is the text of the calls so far, and with those to come they are all.
-use Rattle.std.proofs.Common.{◌≡◌, ◌++◌}
-use Rattle.cif_views.proofs.Words.{IsAppended, call_text, flat_map, line_of}
+use Rattle.cif_views.proofs.Names.{IsAppended, call_text, flat_map, line_of, ◌++◌, ◌≡◌}
 use Rattle.cif_views.proofs.calls.write_calls_between.Given as goal
 
 abbrev pub invariant-loop-call : goal.invariant-loop-call

@@ -1,7 +1,6 @@
 -- As text the row's line goes first, and then those of the calls; in a table the row stands before each call.
-use Rattle.std.proofs.Common.{◌∙◌, ◌++◌, ℕ, List, codes, subst}
-use Rattle.cif_canon.proofs.AppendedTexts.{both, text-is}
-use Rattle.cif_views.proofs.Words.{IsAppended, Text, Tsv, calls_text, line_of}
+use Rattle.cif_views.proofs.Names.{IsAppended, List, Text, Tsv, both, calls_text, codes, line_of, subst, ℕ, ◌++◌, ◌∙◌}
+use Rattle.cif_canon.proofs.AppendedTexts.{text-is}
 use Rattle.cif_views.proofs.calls.write_row.Goals as goal
 
 pub returns-in-Text : goal.returns-in-Text

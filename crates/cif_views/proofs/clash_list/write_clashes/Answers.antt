@@ -1,7 +1,6 @@
 -- The text is a fold over clashes: one more goes behind it (`one-more`).
-use Rattle.std.proofs.Common.{◌∙◌}
-use Rattle.cif_views.specs.Clashes.{clash_line}
-use Rattle.cif_canon.proofs.AppendedTexts.{all-items, nothing, one-more, text-is}
+use Rattle.cif_views.proofs.Names.{all-items, clash_line, ◌∙◌}
+use Rattle.cif_canon.proofs.AppendedTexts.{nothing, one-more, text-is}
 use Rattle.cif_views.proofs.clash_list.write_clashes.Goals as goal
 
 pub loop-clash-init : goal.loop-clash-init

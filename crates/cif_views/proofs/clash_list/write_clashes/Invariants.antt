@@ -1,7 +1,5 @@
 -- What is written is the text of the clashes so far.
-use Rattle.std.proofs.Common.{take}
-use Rattle.cif_views.specs.Clashes.{clash_line}
-use Rattle.cif_views.proofs.Words.{IsAppended, flat_map}
+use Rattle.cif_views.proofs.Names.{IsAppended, clash_line, flat_map, take}
 use Rattle.cif_views.proofs.clash_list.write_clashes.Given as goal
 
 abbrev pub invariant-loop-clash : goal.invariant-loop-clash

@@ -1,5 +1,5 @@
 -- One line more is counted (`counted-more`).
-use Rattle.cif_views.proofs.Words.{is_call}
+use Rattle.cif_views.proofs.Names.{is_call}
 use Rattle.cif_views.proofs.DifferingFields.{counted-more}
 use Rattle.cif_views.proofs.TableRows.{first-and-rest, next-call, some-lines}
 use Rattle.cif_views.proofs.difference_table.count_of_calls.Goals as goal

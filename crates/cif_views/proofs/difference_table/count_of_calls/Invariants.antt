@@ -1,6 +1,5 @@
 -- The calls so far and those of the rest are all.
-use Rattle.std.proofs.Common.{◌≡◌, ◌≤◌, ◌+◌, length}
-use Rattle.cif_views.specs.Steps.DifferenceRows.{count_of_calls}
+use Rattle.cif_views.proofs.Names.{count_of_calls, length, ◌+◌, ◌≡◌, ◌≤◌}
 use Rattle.cif_views.proofs.difference_table.count_of_calls.Given as goal
 
 abbrev pub invariant-loop-rest : goal.invariant-loop-rest

@@ -1,7 +1,5 @@
 -- The first places are the same, and so may the rests be; or they are others (`firsts-tested`).
-use Rattle.std.proofs.Common.{◌∙◌, ap₂, false, sym, true}
-use Rattle.std.proofs.lemmas.Bool.{not-false, not-true}
-use Rattle.cif_views.proofs.Words.{same_places}
+use Rattle.cif_views.proofs.Names.{ap₂, false, not-false, not-true, same_places, sym, true, ◌∙◌}
 use Rattle.cif_views.proofs.DifferingFields.{firsts-tested}
 use Rattle.cif_views.proofs.TableRows.{some-lines}
 use Rattle.cif_views.proofs.difference_table.have_same_places.Goals as goal

@@ -1,6 +1,5 @@
 -- The rests have the same places exactly if all have.
-use Rattle.std.proofs.Common.{◌≡◌, length}
-use Rattle.cif_views.specs.Steps.DifferenceRows.{same_places}
+use Rattle.cif_views.proofs.Names.{length, same_places, ◌≡◌}
 use Rattle.cif_views.proofs.difference_table.have_same_places.Given as goal
 
 abbrev pub invariant-loop-lefts : goal.invariant-loop-lefts

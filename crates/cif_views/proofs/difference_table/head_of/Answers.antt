@@ -1,8 +1,7 @@
 -- The fields go one behind another (`more-pushed`).
-use Rattle.std.proofs.Common.{◌∷◌, []}
-use Rattle.cif_views.specs.DifferenceTable.{text}
-use Rattle.cif_views.proofs.Words.{Other, fields_in, named}
+use Rattle.cif_views.proofs.Names.{Other, [], fields_in, named, ◌∷◌}
 use Rattle.cif_views.proofs.TableRows.{begun-row, more-pushed}
+use Rattle.cif_views.specs.DifferenceTable.{text}
 use Rattle.cif_views.proofs.difference_table.head_of.Goals as goal
 
 pub returns-clause-text : goal.returns-clause-text

@@ -1,10 +1,9 @@
 -- The line of the names goes first, and then what is listed: by lines, which are those of the records.
-use Rattle.std.proofs.Common.{◌++◌, sym}
-use Rattle.std.proofs.lemmas.List.Folds.{flat_map-map}
-use Rattle.cif_canon.specs.Pairs.{association_lines, by_pairs, listed_as, schedule_lines, tiploc_lines}
-use Rattle.cif_canon.proofs.AppendedTexts.{answered, both, text-is}
-use Rattle.cif_views.proofs.Words.{association_differences, association_plain, difference_names, difference_table, flat_map, key_cmp}
-use Rattle.cif_views.proofs.Words.{line_of_tiploc, names_line, nat_cmp, schedule_differences, schedule_plain, slice_cmp, tiploc_row}
+use Rattle.cif_views.proofs.Names.{answered, association_differences, association_lines, association_plain, both, by_pairs}
+use Rattle.cif_views.proofs.Names.{difference_names, difference_table, flat_map, flat_map-map, key_cmp, line_of_tiploc, listed_as}
+use Rattle.cif_views.proofs.Names.{names_line, nat_cmp, schedule_differences, schedule_lines, schedule_plain, slice_cmp, sym, tiploc_lines}
+use Rattle.cif_views.proofs.Names.{tiploc_row, ◌++◌}
+use Rattle.cif_canon.proofs.AppendedTexts.{text-is}
 use Rattle.cif_views.proofs.difference_table.write_difference_table.Goals as goal
 
 pub returns-clause-writes : goal.returns-clause-writes

@@ -1,10 +1,6 @@
 -- The text is a fold over fields: one more goes behind it (`one-more`).
-use Rattle.std.proofs.Common.{sym}
-use Rattle.std.proofs.lemmas.List.{get_or_default}
-use Rattle.std.proofs.lemmas.List.Folds.{flat_map-map}
-use Rattle.cif_canon.proofs.AppendedTexts.{all-items, nothing, one-more, text-is}
-use Rattle.cif_views.specs.Steps.Columns.{column}
-use Rattle.cif_views.proofs.Words.{field_row}
+use Rattle.cif_views.proofs.Names.{all-items, column, field_row, flat_map-map, get_or_default, sym}
+use Rattle.cif_canon.proofs.AppendedTexts.{nothing, one-more, text-is}
 use Rattle.cif_views.proofs.DifferingFields.{text-at}
 use Rattle.cif_views.proofs.difference_table.write_differing.Goals as goal
 

@@ -1,7 +1,5 @@
 -- What is written are the rows of the fields so far.
-use Rattle.std.proofs.Common.{take}
-use Rattle.cif_views.specs.Steps.Columns.{column}
-use Rattle.cif_views.proofs.Words.{IsAppended, field_row, flat_map}
+use Rattle.cif_views.proofs.Names.{IsAppended, column, field_row, flat_map, take}
 use Rattle.cif_views.proofs.difference_table.write_differing.Given as goal
 
 abbrev pub invariant-loop-field : goal.invariant-loop-field

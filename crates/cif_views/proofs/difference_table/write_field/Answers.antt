@@ -1,11 +1,9 @@
 -- The cells are as one (`same-cells`), or else they go behind the row and are one (`other-cells`).
-use Rattle.std.proofs.Common.{◌∙◌, ◌∷◌, [], IsTrue, ap, arith, length, subst, sym, ℕ}
+use Rattle.cif_views.proofs.Names.{IsTrue, Whole, [], ap, arith, column, is_span, length, subst, sym, ℕ, ◌∙◌, ◌∷◌}
 use Rattle.cif_canon.proofs.AppendedTexts.{nothing, text-is}
-use Rattle.cif_views.specs.DifferenceTable.{text}
-use Rattle.cif_views.specs.Steps.Columns.{column, is_span}
-use Rattle.cif_views.proofs.Words.{Whole}
 use Rattle.cif_views.proofs.DifferingFields.{other-cells, same-cells, short-name, text-span}
 use Rattle.cif_views.proofs.TableRows.{as-field, copied, more-pushed, row-is}
+use Rattle.cif_views.specs.DifferenceTable.{text}
 use Rattle.cif_views.proofs.difference_table.write_field.Goals as goal
 
 pub text_of-one-requires : goal.text_of-one-requires

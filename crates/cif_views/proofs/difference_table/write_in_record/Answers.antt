@@ -1,9 +1,9 @@
 -- The fields go behind the row (`more-pushed`).
-use Rattle.std.proofs.Common.{◌∷◌, [], ap, replicate}
+use Rattle.cif_views.proofs.Names.{Other, [], ap, field_row, flat_map, named, replicate, ◌∷◌}
 use Rattle.cif_canon.proofs.AppendedTexts.{text-is}
-use Rattle.cif_views.specs.DifferenceTable.{text}
-use Rattle.cif_views.proofs.Words.{Other, field_row, flat_map, named, nothing}
+use Rattle.cif_canon.specs.Fields.{nothing}
 use Rattle.cif_views.proofs.TableRows.{copied, more-pushed}
+use Rattle.cif_views.specs.DifferenceTable.{text}
 use Rattle.cif_views.proofs.difference_table.write_in_record.Goals as goal
 
 pub returns : goal.returns

@@ -1,8 +1,8 @@
 -- The same line has no row (`no-rows`); else the fields go behind the row (`more-pushed`).
-use Rattle.std.proofs.Common.{◌++◌, ◌∙◌, ◌∷◌, [], List, ap, sym, take}
+use Rattle.cif_views.proofs.Names.{Column, List, Other, Tsv, [], ap, bytes_decides, call_columns, field_row, fields_in, flat_map, named}
+use Rattle.cif_views.proofs.Names.{number, own_columns, sym, take, ◌++◌, ◌∙◌, ◌∷◌}
 use Rattle.cif_canon.proofs.AppendedTexts.{nothing, text-is}
-use Rattle.cif_views.specs.Steps.Columns.{call_columns}
-use Rattle.cif_views.proofs.Words.{Column, Other, Tsv, after, bytes_decides, field_row, fields_in, flat_map, named, number, own_columns}
+use Rattle.cif_canon.specs.Fields.{after}
 use Rattle.cif_views.proofs.DifferingFields.{no-rows}
 use Rattle.cif_views.proofs.TableRows.{copied, more-pushed}
 use Rattle.cif_views.proofs.difference_table.write_place.Goals as goal

@@ -1,7 +1,6 @@
 -- One place more is written (`one-place`), until none is left (`no-place`).
-use Rattle.std.proofs.Common.{◌++◌, [], ap, arith, length, refl}
-use Rattle.cif_canon.proofs.AppendedTexts.{both, nothing, text-is}
-use Rattle.cif_views.proofs.Words.{is_call, place_behind, places_behind}
+use Rattle.cif_views.proofs.Names.{[], ap, arith, both, is_call, length, place_behind, places_behind, refl, ◌++◌}
+use Rattle.cif_canon.proofs.AppendedTexts.{nothing, text-is}
 use Rattle.cif_views.proofs.DifferingFields.{as-many, no-place, one-place, rest-places}
 use Rattle.cif_views.proofs.TableRows.{first-and-rest, next-call, no-lines, some-lines}
 use Rattle.cif_views.proofs.difference_table.write_places.Goals as goal

@@ -1,6 +1,5 @@
 -- What is written, and the rows of the lines that are left, are all; these have the same places, and the calls aren't more than the lines.
-use Rattle.std.proofs.Common.{◌≤◌, ◌+◌, IsTrue, List, ℕ, length}
-use Rattle.cif_views.proofs.Words.{IsAppended, places_behind, same_places}
+use Rattle.cif_views.proofs.Names.{IsAppended, IsTrue, List, length, places_behind, same_places, ℕ, ◌+◌, ◌≤◌}
 use Rattle.cif_views.proofs.DifferingFields.{PlacesAreLeft}
 use Rattle.cif_views.proofs.difference_table.write_places.Given as goal
 

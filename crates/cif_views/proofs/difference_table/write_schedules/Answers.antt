@@ -1,6 +1,5 @@
 -- The rows of the fields and those of the journeys are those of the pair (`schedule-written`).
-use Rattle.std.proofs.Common.{◌∙◌, ap}
-use Rattle.cif_views.proofs.Words.{extra_in, schedule_plain, without_extra}
+use Rattle.cif_views.proofs.Names.{ap, extra_in, schedule_plain, without_extra, ◌∙◌}
 use Rattle.cif_views.proofs.PairedJourneys.{schedule-written}
 use Rattle.cif_views.proofs.difference_table.write_schedules.Goals as goal
 

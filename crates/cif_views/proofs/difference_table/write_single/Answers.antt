@@ -1,7 +1,7 @@
 -- The empty fields go behind the row (`more-pushed`).
-use Rattle.std.proofs.Common.{replicate}
+use Rattle.cif_views.proofs.Names.{replicate}
 use Rattle.cif_canon.proofs.AppendedTexts.{text-is}
-use Rattle.cif_views.proofs.Words.{nothing}
+use Rattle.cif_canon.specs.Fields.{nothing}
 use Rattle.cif_views.proofs.TableRows.{copied, more-pushed, row-is}
 use Rattle.cif_views.proofs.difference_table.write_single.Goals as goal
 

@@ -1,5 +1,5 @@
 -- The parts are rewritten from the last on.
-use Rattle.std.proofs.Common.{refl}
+use Rattle.cif_views.proofs.Names.{refl}
 use Rattle.cif_views.proofs.explanation.begun.Goals as goal
 
 pub returns-clause-text : goal.returns-clause-text

@@ -1,12 +1,11 @@
 -- Heading, associations and trains are the explanation (`explanation`).
-use Rattle.std.proofs.Common.{◌∙◌, ◌++◌, map, sym, subst}
-use Rattle.cif_views.specs.Explanation.{IsAssociationOf, explained_association_line, explained_train_line, explanation_heading, IsTrain}
-use Rattle.cif_canon.proofs.AppendedTexts.{both, fault-answered, text-is}
-use Rattle.cif_views.proofs.Words.{ArePlacedInOrder, Association, Schedule, association_entries, association_terms, extract_parts, flat_map}
-use Rattle.cif_views.proofs.Words.{key_cmp, nat_cmp, placed_of, schedule_entries, schedule_terms, slice_cmp}
+use Rattle.cif_views.proofs.Names.{ArePlacedInOrder, Association, IsAssociationOf, IsTrain, Schedule, association_entries}
+use Rattle.cif_views.proofs.Names.{association_terms, both, explained_association_line, explained_train_line, explanation_heading}
+use Rattle.cif_views.proofs.Names.{extract_parts, fault-answered, flat_map, key_cmp, map, nat_cmp, placed_of, schedule_entries}
+use Rattle.cif_views.proofs.Names.{schedule_terms, slice_cmp, subst, sym, written-so, ◌++◌, ◌∙◌}
+use Rattle.cif_canon.proofs.AppendedTexts.{text-is}
 use Rattle.cif_views.proofs.CallTexts.{explained-heading}
 use Rattle.cif_views.proofs.ExplainedTexts.{explanation}
-use Rattle.cif_canon.proofs.ViewTexts.{written-so}
 use Rattle.cif_views.proofs.explanation.explain_listing.Goals as goal
 
 pub returns-clause-view : goal.returns-clause-view

@@ -1,7 +1,5 @@
 -- Where there is no body, four groups of fields are appended (`four-after`): they are rewritten from the last on.
-use Rattle.std.proofs.Common.{[], ◌∷◌}
-use Rattle.cif_canon.specs.Fields.{left_out}
-use Rattle.cif_canon.proofs.ViewLines.{four-after}
+use Rattle.cif_views.proofs.Names.{[], four-after, left_out, ◌∷◌}
 use Rattle.cif_views.proofs.explanation.push_said_of_association.Goals as goal
 
 pub returns-in-None-clause-text : goal.returns-in-None-clause-text

@@ -1,8 +1,6 @@
 -- One record after another gets its mark (`one_marked`), and its line goes behind the text (`behind`).
-use Rattle.std.proofs.Common.{◌∷◌, [], ◌++◌, ◌∙◌, ap, arith, map, refl, subst, sym}
-use Rattle.std.proofs.lemmas.List.{get_or-map, take_all}
-use Rattle.std.proofs.lemmas.List.Elements.{All-nil}
-use Rattle.cif_views.specs.Steps.Explanation.{AreMarked, IsMarkAt, IsMarkOf, marked_as, placed_of}
+use Rattle.cif_views.proofs.Names.{All-nil, AreMarked, IsMarkAt, IsMarkOf, [], ap, arith, get_or-map, map, marked_as, placed_of, refl}
+use Rattle.cif_views.proofs.Names.{subst, sym, take_all, ◌++◌, ◌∙◌, ◌∷◌}
 use Rattle.cif_canon.proofs.AppendedTexts.{behind, nothing, text-is}
 use Rattle.cif_views.proofs.Explaining.{one_marked}
 use Rattle.cif_views.proofs.explanation.write_explained.Goals as goal

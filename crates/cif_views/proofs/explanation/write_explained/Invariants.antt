@@ -1,6 +1,5 @@
 -- The records so far have their marks among all, and what is written is their lines; `mark` is that of the last.
-use Rattle.std.proofs.Common.{◌≡◌, ℕ, ◌+◌, map, take}
-use Rattle.cif_views.specs.Steps.Explanation.{AreMarkedOn, IsMarkAt, placed_of}
+use Rattle.cif_views.proofs.Names.{AreMarkedOn, IsMarkAt, map, placed_of, take, ℕ, ◌+◌, ◌≡◌}
 use Rattle.cif_views.proofs.explanation.write_explained.Given as goal
 
 abbrev pub invariant-loop-i : goal.invariant-loop-i

@@ -1,8 +1,6 @@
 -- What is found are the clashes, and each goes behind by its name.
-use Rattle.std.proofs.Common.{List, ◌≡◌, ◌<◌, Some, length, map, subst, sym}
-use Rattle.cif_calendar.specs.Clashes.{told}
+use Rattle.cif_views.proofs.Names.{All, List, Some, keyed, length, map, subst, sym, told, ◌<◌, ◌≡◌}
 use Rattle.cif_calendar.specs.declared.key_clashes.KeyClash.{KeyClash}
-use Rattle.cif_views.proofs.Words.{All, keyed}
 use Rattle.cif_views.proofs.find_clashes.add_clashes.Goals as goal
 
 pub add_named-requires : goal.add_named-requires

@@ -1,7 +1,6 @@
 -- What is said of the list is said of the clashes, which are seen as it.
-use Rattle.std.proofs.Common.{◌≡◌, List, [], Some, sym, subst}
-use Rattle.cif_calendar.specs.AllClashes.{AreAllClashes}
-use Rattle.cif_views.proofs.Words.{Clash, IsClearExtract, IsFirstClashIn, extract_parts, slice_get, ◌↔◌}
+use Rattle.cif_views.proofs.Names.{AreAllClashes, Clash, IsClearExtract, IsFirstClashIn, List, Some, [], extract_parts, slice_get, subst}
+use Rattle.cif_views.proofs.Names.{sym, ◌↔◌, ◌≡◌}
 use Rattle.cif_views.proofs.ClashLists.{all-found, clashes-clear, clashes-first}
 use Rattle.cif_views.proofs.find_clashes.clashes.Goals as goal
 use Rattle.cif_views.proofs.find_clashes.clashes.Goals.{In-Ok-add_clashes}

@@ -1,7 +1,5 @@
 -- Laws of all explained records (`ExplainedMarks`), for an order of keys that is total and agrees with equality.
-use Rattle.cif_calendar.specs.Keys.{keyed}
-use Rattle.cif_calendar.proofs.FirstClash.{same_key-cmp}
-use Rattle.cif_calendar.proofs.Positions.{AreLawful-of_key}
+use Rattle.cif_views.proofs.Names.{AreLawful-of_key, keyed, same_key-cmp}
 use Rattle.cif_views.proofs.ExplainedMarks.{equal-itself, wins-agree, wins-runs}
 use Rattle.cif_views.proofs.laws.marks_say_what_runs.Goals as goal
 

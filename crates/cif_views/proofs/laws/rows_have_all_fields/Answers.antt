@@ -1,5 +1,5 @@
 -- The fields of each row are as many as the names; a call's go behind those of its train, and a record's are its columns.
-use Rattle.std.proofs.Common.{arith, refl}
+use Rattle.cif_views.proofs.Names.{arith, refl}
 use Rattle.cif_views.proofs.AllFields.{all-columns, all-of_association, explained-association, explained-train}
 use Rattle.cif_views.proofs.laws.rows_have_all_fields.Goals as goal
 

@@ -1,10 +1,8 @@
 -- The fields of a call go behind the row (`row-behind`), and the line begins with its first field (`with_first-line`): they are rewritten
 -- from the last on.
-use Rattle.std.proofs.Common.{codes, ◌++◌, ◌∙◌}
+use Rattle.cif_views.proofs.Names.{Trimmed, codes, first_field, no_call, no_train, row-behind, row_start, with_first-line, ◌++◌, ◌∙◌}
 use Rattle.cif_canon.specs.Rows.{association_fields}
-use Rattle.cif_canon.proofs.ViewLines.{row-behind, with_first-line}
-use Rattle.cif_views.specs.Listing.{association_line, no_call}
-use Rattle.cif_views.proofs.Words.{Trimmed, first_field, no_train, row_start}
+use Rattle.cif_views.specs.Listing.{association_line}
 use Rattle.cif_views.proofs.listing.association_line.Goals as goal
 
 pub returns : goal.returns

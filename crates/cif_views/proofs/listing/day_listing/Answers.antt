@@ -1,9 +1,7 @@
 -- The first line is that of the names (`day-heading`).
-use Rattle.std.proofs.Common.{ℕ, List, subst, ◌∙◌}
-use Rattle.cif_canon.specs.Views.{IsDayListed}
-use Rattle.cif_views.specs.Listing.{association_line, date_field, train_text}
-use Rattle.cif_views.proofs.Words.{IfWritten, extract_parts}
+use Rattle.cif_views.proofs.Names.{IfWritten, IsDayListed, List, date_field, extract_parts, subst, train_text, ℕ, ◌∙◌}
 use Rattle.cif_views.proofs.CallTexts.{day-heading}
+use Rattle.cif_views.specs.Listing.{association_line}
 use Rattle.cif_views.proofs.listing.day_listing.Goals as goal
 
 pub returns-clause-view : goal.returns-clause-view

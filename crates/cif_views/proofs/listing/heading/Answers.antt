@@ -1,7 +1,5 @@
 -- The names are appended one by one: they are rewritten from the last on, and brought to the right.
-use Rattle.std.proofs.Common.{◌≡◌, ◌∙◌, ◌++◌, List, ℕ, codes, append_assoc}
-use Rattle.cif_views.specs.Listing.{call_names_if, journey_names}
-use Rattle.cif_views.specs.Steps.Rows.{names_behind}
+use Rattle.cif_views.proofs.Names.{List, append_assoc, call_names_if, codes, journey_names, names_behind, ℕ, ◌++◌, ◌∙◌, ◌≡◌}
 use Rattle.cif_views.proofs.listing.heading.Goals as goal
 
 five : (a b c d e : List ℕ) → (((a ++ b) ++ c) ++ d) ++ e ≡ a ++ (b ++ (c ++ (d ++ e)))

@@ -1,8 +1,5 @@
 -- The first line is that of the names (`train-heading`).
-use Rattle.std.proofs.Common.{ℕ, List, subst, ◌∙◌}
-use Rattle.cif_canon.specs.Views.{IsTrainListed}
-use Rattle.cif_views.specs.Listing.{schedule_text, uid_field}
-use Rattle.cif_views.proofs.Words.{IfWritten, extract_parts}
+use Rattle.cif_views.proofs.Names.{IfWritten, IsTrainListed, List, extract_parts, schedule_text, subst, uid_field, ℕ, ◌∙◌}
 use Rattle.cif_views.proofs.CallTexts.{train-heading}
 use Rattle.cif_views.proofs.listing.train_listing.Goals as goal
 

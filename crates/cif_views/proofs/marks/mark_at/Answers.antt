@@ -1,11 +1,8 @@
 -- Behind one of its key a record is as that one or hidden (`mark-kept`, `mark-hidden`).
-use Rattle.std.proofs.Common.{◌∙◌, ◌-◌, ap, arith, map, sym}
-use Rattle.std.proofs.lemmas.Bool.{false≢true}
-use Rattle.cif_calendar.proofs.FirstClash.{same_key-cmp}
-use Rattle.cif_views.specs.Steps.Explanation.{placed_of}
+use Rattle.cif_views.proofs.Names.{ap, arith, false≢true, map, placed_of, same_key-cmp, sym, ◌-◌, ◌∙◌}
 use Rattle.cif_views.proofs.Explaining.{mark-hidden, mark-kept, member-map, one-member}
 use Rattle.cif_views.proofs.marks.mark_at.Goals as goal
-use Rattle.cif_views.proofs.marks.mark_at.Goals.{then-i-gt0+else-eq, else-i-gt0}
+use Rattle.cif_views.proofs.marks.mark_at.Goals.{else-i-gt0, then-i-gt0+else-eq}
 
 pub returns-then-precedence : goal.returns-then-precedence
 returns-then-precedence g c known =

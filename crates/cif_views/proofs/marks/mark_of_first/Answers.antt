@@ -1,14 +1,10 @@
 -- The records behind it decide (`mark-wins`, `mark-clash`).
-use Rattle.std.proofs.Common.{◌∙◌, ◌+◌, ap, arith, get_or, length-drop, map, not, sym, subst}
-use Rattle.std.proofs.lemmas.Bool.{false≢true, not-false}
-use Rattle.std.proofs.lemmas.List.{length-map}
-use Rattle.std.proofs.lemmas.List.Elements.{AllWithin-more, at_read}
-use Rattle.cif_calendar.proofs.FirstClash.{same_key-cmp}
-use Rattle.cif_views.proofs.Words.{AllWithin, IsLike, placed_of}
+use Rattle.cif_views.proofs.Names.{AllWithin, AllWithin-more, IsLike, ap, arith, at_read, false≢true, get_or, length-drop, length-map, map}
+use Rattle.cif_views.proofs.Names.{not, not-false, placed_of, same_key-cmp, subst, sym, ◌+◌, ◌∙◌}
 use Rattle.cif_views.proofs.Explaining.{mark-clash, mark-wins, member-behind, member-map, one-member}
 use Rattle.cif_views.proofs.marks.mark_of_first.Goals as goal
-use Rattle.cif_views.proofs.marks.mark_of_first.Goals.{else-precedence-via-then-precedence+else-not-same_body}
 use Rattle.cif_views.proofs.marks.mark_of_first.Goals.{else-precedence-via-else-precedence}
+use Rattle.cif_views.proofs.marks.mark_of_first.Goals.{else-precedence-via-then-precedence+else-not-same_body}
 
 pub loop-other-init : goal.loop-other-init
 loop-other-init g c k d from upto = absurd (omega (arith, from, upto))

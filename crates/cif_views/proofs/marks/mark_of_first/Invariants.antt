@@ -1,6 +1,5 @@
 -- The records behind that were looked at have its key, and its body if they have its precedence.
-use Rattle.std.proofs.Common.{◌+◌, map}
-use Rattle.cif_views.proofs.Words.{AllWithin, IsLike, placed_at, placed_of}
+use Rattle.cif_views.proofs.Names.{AllWithin, IsLike, map, placed_at, placed_of, ◌+◌}
 use Rattle.cif_views.proofs.marks.mark_of_first.Given as goal
 
 abbrev pub invariant-loop-other : goal.invariant-loop-other

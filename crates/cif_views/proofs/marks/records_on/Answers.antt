@@ -1,15 +1,11 @@
 -- One entry after another is looked at, and a sort puts them in order: it is total, and no two have one place (`placed-sorted`).
-use Rattle.std.proofs.Common.{◌≡◌, ◌+◌, ◌∙◌, ap, arith, length, map, refl, rules, subst, sym}
-use Rattle.std.proofs.lemmas.Bool.{false≢true}
+use Rattle.cif_views.proofs.Names.{ArePlacedBelow, ap, arith, false≢true, is_lt, keyed, length, length-map, map, map-append, placed_at}
+use Rattle.cif_views.proofs.Names.{placed_cmp, placed_of, ranks_by, refl, rules, some_pair_parts, subst, sym, terms_at, ◌+◌, ◌∙◌, ◌≡◌}
 use Rattle.std.proofs.lemmas.Fn.{always_returns_same}
-use Rattle.std.proofs.lemmas.List.{length-map, map-append}
-use Rattle.std.proofs.lemmas.List.Sorted.{ranks_by}
-use Rattle.std.proofs.lemmas.Option.{some_pair_parts}
-use Rattle.cif_calendar.proofs.Winning.{terms_at}
-use Rattle.cif_views.proofs.Words.{Applies, ArePlacedBelow, is_lt, keyed, placed_at, placed_cmp, placed_of}
+use Rattle.cif_calendar.specs.Applies.{Applies}
 use Rattle.cif_views.proofs.Explaining.{placed-more, placed-no_more, placed-nothing, placed-sorted, placed_total}
 use Rattle.cif_views.proofs.marks.records_on.Goals as goal
-use Rattle.cif_views.proofs.marks.records_on.Goals.{then-is_applying+in_ok-push, else-is_applying}
+use Rattle.cif_views.proofs.marks.records_on.Goals.{else-is_applying, then-is_applying+in_ok-push}
 
 pub loop-place-init : goal.loop-place-init
 loop-place-init g c =

@@ -1,6 +1,5 @@
 -- The records are those at the places so far.
-use Rattle.std.proofs.Common.{map}
-use Rattle.cif_views.proofs.Words.{ArePlacedBelow, keyed, placed_of}
+use Rattle.cif_views.proofs.Names.{ArePlacedBelow, keyed, map, placed_of}
 use Rattle.cif_views.proofs.marks.records_on.Given as goal
 
 abbrev pub invariant-loop-place : goal.invariant-loop-place

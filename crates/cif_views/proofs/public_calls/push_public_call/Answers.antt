@@ -1,11 +1,9 @@
 -- The fields go one behind another (`more-pushed`).
-use Rattle.std.proofs.Common.{◌∷◌, [], ◌++◌, ◌-◌, ◌∙◌, List, ℕ, ap}
-use Rattle.cif_canon.specs.Fields.{in_table}
-use Rattle.cif_views.specs.Moments.{midnight, time_text}
-use Rattle.cif_views.specs.PublicCalls.{platform_in}
+use Rattle.cif_views.proofs.Names.{Field, List, Trimmed, Tsv, Whole, [], ap, columns, in_table, midnight, number, platform_in, time_text, ℕ}
+use Rattle.cif_views.proofs.Names.{◌++◌, ◌-◌, ◌∙◌, ◌∷◌}
+use Rattle.cif_canon.specs.Fields.{after}
 use Rattle.cif_views.proofs.PublicRows.{own-fields, own-pick-up, own-set-down}
 use Rattle.cif_views.proofs.TableRows.{as-field, first-pushed, more-pushed}
-use Rattle.cif_views.proofs.Words.{Field, Trimmed, Tsv, Whole, after, columns, number}
 use Rattle.cif_views.proofs.public_calls.push_public_call.Goals as goal
 
 pub returns-clause-text : goal.returns-clause-text

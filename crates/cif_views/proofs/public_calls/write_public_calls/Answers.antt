@@ -1,11 +1,7 @@
 -- One line more is written (`one-line`).
-use Rattle.std.proofs.Common.{◌+◌, ◌++◌, ◌∙◌, ap, arith, length}
-use Rattle.cif_views.specs.PublicCalls.{step_at}
-use Rattle.cif_views.specs.Steps.PublicRows.{row_of_step}
-use Rattle.cif_canon.proofs.AppendedTexts.{both}
+use Rattle.cif_views.proofs.Names.{ap, arith, both, is_call, length, row_of_step, step_at, ◌++◌, ◌+◌, ◌∙◌}
 use Rattle.cif_views.proofs.PublicRows.{one-line}
 use Rattle.cif_views.proofs.TableRows.{first-and-rest, next-call, some-lines}
-use Rattle.cif_views.proofs.Words.{is_call}
 use Rattle.cif_views.proofs.public_calls.write_public_calls.Goals as goal
 
 pub loop-lines-preserved : goal.loop-lines-preserved

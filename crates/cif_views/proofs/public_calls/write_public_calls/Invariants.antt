@@ -1,10 +1,8 @@
 -- What is written, and the rows of the lines that are left, are all; the row has the number alone, the journey has two moments a line at
 -- most, and the calls aren't more than the lines.
-use Rattle.std.proofs.Common.{◌≡◌, ◌+◌, ◌*◌, ◌≤◌, ℕ, List, [], ◌∷◌, length}
-use Rattle.cif_views.specs.PublicCalls.{at_first}
-use Rattle.cif_views.specs.Steps.PublicRows.{IsJourneyBy}
+use Rattle.cif_views.proofs.Names.{IsAppended, IsJourneyBy, List, Tsv, [], at_first, length, number, ℕ, ◌*◌, ◌+◌, ◌∷◌, ◌≡◌, ◌≤◌}
+use Rattle.cif_canon.specs.Fields.{after}
 use Rattle.cif_views.proofs.PublicRows.{AreLeft, rows_left}
-use Rattle.cif_views.proofs.Words.{IsAppended, Tsv, after, number}
 use Rattle.cif_views.proofs.public_calls.write_public_calls.Given as goal
 
 abbrev pub invariant-loop-lines : goal.invariant-loop-lines

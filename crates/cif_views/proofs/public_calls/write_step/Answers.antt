@@ -1,6 +1,6 @@
 -- What is written is the row of the step (`step-is`).
+use Rattle.cif_views.proofs.Names.{behind_schedule}
 use Rattle.cif_canon.proofs.AppendedTexts.{nothing, text-is}
-use Rattle.cif_views.specs.Steps.PublicRows.{behind_schedule}
 use Rattle.cif_views.proofs.PublicRows.{same-row, step-is}
 use Rattle.cif_views.proofs.public_calls.write_step.Goals as goal
 

@@ -1,7 +1,5 @@
 -- The fields go one behind another (`more-pushed`).
-use Rattle.std.proofs.Common.{List, ℕ, drop, take}
-use Rattle.cif_views.specs.Steps.Columns.{call_columns, fields_in}
-use Rattle.cif_views.proofs.Words.{Field}
+use Rattle.cif_views.proofs.Names.{Field, List, call_columns, drop, fields_in, take, ℕ}
 use Rattle.cif_views.proofs.TableRows.{first-pushed, more-pushed}
 use Rattle.cif_views.proofs.tables.push_call.Goals as goal
 

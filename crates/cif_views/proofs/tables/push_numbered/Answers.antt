@@ -1,7 +1,5 @@
 -- The fields go behind the number (`more-pushed`).
-use Rattle.std.proofs.Common.{◌∷◌, []}
-use Rattle.cif_views.specs.Steps.Columns.{call_columns}
-use Rattle.cif_views.proofs.Words.{Stop, fields_in, number}
+use Rattle.cif_views.proofs.Names.{Stop, [], call_columns, fields_in, number, ◌∷◌}
 use Rattle.cif_views.proofs.TableRows.{first-pushed, more-pushed}
 use Rattle.cif_views.proofs.tables.push_numbered.Goals as goal
 

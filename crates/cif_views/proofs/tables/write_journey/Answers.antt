@@ -1,8 +1,7 @@
 -- One line more is written (`one-line`), until none is left (`none-left`).
-use Rattle.std.proofs.Common.{◌+◌, ◌++◌, ◌∷◌, ◌∙◌, [], ap, arith, cond, length, refl}
-use Rattle.cif_canon.proofs.AppendedTexts.{both, nothing, text-is}
-use Rattle.cif_views.specs.Steps.TableRows.{row_of_kind}
-use Rattle.cif_views.proofs.Words.{Numbered, is_call, number, rows_of}
+use Rattle.cif_views.proofs.Names.{Numbered, [], ap, arith, both, cond, is_call, length, number, refl, row_of_kind, rows_of, ◌++◌, ◌+◌, ◌∙◌}
+use Rattle.cif_views.proofs.Names.{◌∷◌}
+use Rattle.cif_canon.proofs.AppendedTexts.{nothing, text-is}
 use Rattle.cif_views.proofs.TableRows.{begun-row, first-and-rest, more-pushed, next-call, no-lines, none-left, numbered-row, one-line}
 use Rattle.cif_views.proofs.TableRows.{some-lines}
 use Rattle.cif_views.proofs.tables.write_journey.Goals as goal

@@ -1,7 +1,7 @@
 -- What is written, and the rows of the lines that are left, are all; the row has the number alone, and the calls aren't more than the
 -- lines.
-use Rattle.std.proofs.Common.{◌≡◌, ◌+◌, ◌≤◌, ℕ, List, [], ◌∷◌, length}
-use Rattle.cif_views.proofs.Words.{IsAppended, Tsv, after, journey_rows, number, rows_of}
+use Rattle.cif_views.proofs.Names.{IsAppended, List, Tsv, [], journey_rows, length, number, rows_of, ℕ, ◌+◌, ◌∷◌, ◌≡◌, ◌≤◌}
+use Rattle.cif_canon.specs.Fields.{after}
 use Rattle.cif_views.proofs.TableRows.{AreLeft}
 use Rattle.cif_views.proofs.tables.write_journey.Given as goal
 

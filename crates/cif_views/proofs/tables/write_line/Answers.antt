@@ -1,6 +1,6 @@
 -- The fields of the columns are a row (`columns-row`).
+use Rattle.cif_views.proofs.Names.{Other, fields_in, named}
 use Rattle.cif_canon.proofs.AppendedTexts.{text-is}
-use Rattle.cif_views.proofs.Words.{Other, fields_in, named}
 use Rattle.cif_views.proofs.TableRows.{begun-row, columns-row, more-pushed}
 use Rattle.cif_views.proofs.tables.write_line.Goals as goal
 

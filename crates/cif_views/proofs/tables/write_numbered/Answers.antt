@@ -1,8 +1,6 @@
 -- The table has a row of the line, and its fields go behind the number of the schedule.
-use Rattle.std.proofs.Common.{◌∷◌, [], ap, cond}
+use Rattle.cif_views.proofs.Names.{[], ap, cond, fields_in, journey_columns, number, row_behind, ◌∷◌}
 use Rattle.cif_canon.proofs.AppendedTexts.{text-is}
-use Rattle.cif_views.specs.Steps.TableRows.{journey_columns}
-use Rattle.cif_views.proofs.Words.{fields_in, number, row_behind}
 use Rattle.cif_views.proofs.tables.write_numbered.Goals as goal
 
 pub returns-clause-text : goal.returns-clause-text

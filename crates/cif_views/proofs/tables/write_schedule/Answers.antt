@@ -1,8 +1,8 @@
 -- The number, the fields of the BS and those of the BX are the row of a schedule (`row-pushed`).
-use Rattle.std.proofs.Common.{◌∷◌, ◌++◌, ◌∙◌, [], List, ℕ, ap, arith, length, length-append}
+use Rattle.cif_views.proofs.Names.{List, Other, Tsv, [], ap, arith, basic_columns, extra_columns, extra_in, fields_in, length}
+use Rattle.cif_views.proofs.Names.{length-append, number, schedule_plain, ℕ, ◌++◌, ◌∙◌, ◌∷◌}
 use Rattle.cif_canon.proofs.AppendedTexts.{text-is}
-use Rattle.cif_views.specs.Steps.Columns.{basic_columns, extra_columns}
-use Rattle.cif_views.proofs.Words.{Other, Tsv, after, extra_in, fields_in, number, schedule_plain}
+use Rattle.cif_canon.specs.Fields.{after}
 use Rattle.cif_views.proofs.TableRows.{begun-row, more-pushed, row-pushed}
 use Rattle.cif_views.proofs.tables.write_schedule.Goals as goal
 

@@ -1,12 +1,10 @@
 -- The line of the names goes first, and then the rows, by the table.
-use Rattle.std.proofs.Common.{ap}
-use Rattle.cif_canon.proofs.AppendedTexts.{answered, both, text-is}
-use Rattle.cif_views.specs.TableText.{table_heading, table_text}
-use Rattle.cif_views.specs.Tables.{header_fields}
-use Rattle.cif_views.proofs.Words.{IsAppended, flat_map, row_line, table_rows, tiploc_fields}
+use Rattle.cif_views.proofs.Names.{IsAppended, answered, ap, both, flat_map, header_fields, row_line, table_heading, table_rows, table_text}
+use Rattle.cif_views.proofs.Names.{tiploc_fields}
+use Rattle.cif_canon.proofs.AppendedTexts.{text-is}
 use Rattle.cif_views.proofs.TableRows.{listed-rows}
 use Rattle.cif_views.proofs.tables.write_table.Goals as goal
-use Rattle.cif_views.proofs.tables.write_table.Goals.{in-Header, in-Tiplocs, in-Associations, in-Schedules}
+use Rattle.cif_views.proofs.tables.write_table.Goals.{in-Associations, in-Header, in-Schedules, in-Tiplocs}
 
 pub returns-clause-writes : goal.returns-clause-writes
 unfolding table_text

@@ -1,8 +1,6 @@
 -- The text is a fold over locations: one more goes behind it (`one-more`).
-use Rattle.std.proofs.Common.{ap, sym}
-use Rattle.std.proofs.lemmas.List.Folds.{flat_map-map}
-use Rattle.cif_canon.proofs.AppendedTexts.{all-items, nothing, one-more, text-is}
-use Rattle.cif_views.proofs.Words.{line_of_tiploc, row_line, tiploc_fields}
+use Rattle.cif_views.proofs.Names.{all-items, ap, flat_map-map, line_of_tiploc, row_line, sym, tiploc_fields}
+use Rattle.cif_canon.proofs.AppendedTexts.{nothing, one-more, text-is}
 use Rattle.cif_views.proofs.tables.write_tiplocs.Goals as goal
 
 pub loop-tiploc-init : goal.loop-tiploc-init

@@ -1,6 +1,5 @@
 -- What is written is the rows of the locations so far.
-use Rattle.std.proofs.Common.{take}
-use Rattle.cif_views.proofs.Words.{IsAppended, flat_map, line_of_tiploc, row_line, tiploc_fields}
+use Rattle.cif_views.proofs.Names.{IsAppended, flat_map, line_of_tiploc, row_line, take, tiploc_fields}
 use Rattle.cif_views.proofs.tables.write_tiplocs.Given as goal
 
 abbrev pub invariant-loop-tiploc : goal.invariant-loop-tiploc

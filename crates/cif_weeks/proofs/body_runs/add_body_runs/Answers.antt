@@ -1,11 +1,8 @@
 -- While spans are left: one has ended (`left-fewer`), or weeks are done in which they have one mask (`mask-all`, `agree-all`). Then
 -- the runs are made (`body-made`).
-use Rattle.std.proofs.Common.{inl, [], sym, ◌∙◌, ◌+◌, ◌<◌, ◌≤◌, ℕ, arith, ⊎_elim}
-use Rattle.std.proofs.lemmas.Bool.{cases_lt}
-use Rattle.cif_weeks.proofs.Words.{Shows, week_of, window_from}
+use Rattle.cif_weeks.proofs.Names.{Shows, [], append-nil, arith, cases_lt, inl, sym, week_of, window_from, ℕ, ⊎_elim, ◌+◌, ◌<◌, ◌∙◌, ◌≤◌}
 use Rattle.cif_weeks.proofs.ActiveSpans.{SameOn, agree-all, disputed-all, left-fewer, left-later, left-same, mask-all, none-after}
 use Rattle.cif_weeks.proofs.ActiveSpans.{none-before}
-use Rattle.std.proofs.lemmas.List.{append-nil}
 use Rattle.cif_weeks.proofs.BodyRuns.{body-idle, body-made}
 use Rattle.cif_weeks.proofs.body_runs.add_body_runs.Goals as goal
 use Rattle.cif_weeks.proofs.body_runs.add_body_runs.Goals.{Else-min-from}

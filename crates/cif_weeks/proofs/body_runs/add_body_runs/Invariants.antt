@@ -1,7 +1,6 @@
 -- The runs of the body in the weeks before `week` are made, and where it is shown in these weeks the spans agree. The spans that
 -- aren't left have ended.
-use Rattle.std.proofs.Common.{◌+◌, ◌-◌, ◌<◌, ℕ, length}
-use Rattle.cif_weeks.proofs.Words.{AreGrownTo, IsAgreed, Shows, week_of, window_from}
+use Rattle.cif_weeks.proofs.Names.{AreGrownTo, IsAgreed, Shows, length, week_of, window_from, ℕ, ◌+◌, ◌-◌, ◌<◌}
 use Rattle.cif_weeks.proofs.ActiveSpans.{AreLeft}
 use Rattle.cif_weeks.proofs.body_runs.add_body_runs.Given as goal
 

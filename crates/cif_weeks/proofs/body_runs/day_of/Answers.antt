@@ -1,5 +1,5 @@
 -- A date of the window is a day, so there is one.
-use Rattle.std.proofs.Common.{arith}
+use Rattle.cif_weeks.proofs.Names.{arith}
 use Rattle.cif_weeks.proofs.body_runs.day_of.Goals as goal
 
 pub unreachable-requires : goal.unreachable-requires

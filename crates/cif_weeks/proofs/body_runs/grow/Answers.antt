@@ -1,12 +1,12 @@
 -- Weeks without a day change nothing (`body-idle`); else the run goes on in them (`grow-longer`), or one begins (`grow-first`,
 -- `grow-next`).
-use Rattle.std.proofs.Common.{◌≡◌, ◌+◌, ◌-◌, ◌<◌, [], ◌∷◌, length, sym, ◌∙◌, ap, subst, arith, refl}
-use Rattle.cif_weeks.proofs.Words.{AreBodyRuns, Run, Shows, week_of, weekday_of, window_from}
+use Rattle.cif_weeks.proofs.Names.{AreBodyRuns, Run, Shows, [], ap, arith, length, refl, subst, sym, week_of, weekday_of, window_from, ◌+◌}
+use Rattle.cif_weeks.proofs.Names.{◌-◌, ◌<◌, ◌∙◌, ◌∷◌, ◌≡◌}
 use Rattle.cif_weeks.proofs.BodyRuns.{body-idle, first-date, grow-first, grow-longer, grow-next, last-date, last-made, last-set, made-more}
 use Rattle.cif_weeks.proofs.BodyRuns.{none-made}
 use Rattle.cif_weeks.proofs.body_runs.grow.Goals as goal
-use Rattle.cif_weeks.proofs.body_runs.grow.Goals.{then-start-len+else-week, else-start-len, else-week-via-then-week+else-agree}
-use Rattle.cif_weeks.proofs.body_runs.grow.Goals.{else-week-via-else-week}
+use Rattle.cif_weeks.proofs.body_runs.grow.Goals.{else-start-len, else-week-via-else-week, else-week-via-then-week+else-agree}
+use Rattle.cif_weeks.proofs.body_runs.grow.Goals.{then-start-len+else-week}
 
 pub returns-in_default : goal.returns-in_default
 returns-in_default c spans old next start (made, are, body) =

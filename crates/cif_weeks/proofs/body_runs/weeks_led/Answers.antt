@@ -1,16 +1,12 @@
 -- A span is over this one, or its rival, or neither. Those that aren't looked at have no day in these weeks (`some-all`).
-use Rattle.std.proofs.Common.{arith, sym, ◌∙◌}
-use Rattle.std.proofs.lemmas.Bool.{iff_false}
+use Rattle.cif_weeks.proofs.Names.{arith, iff_false, sym, ◌∙◌}
 use Rattle.cif_weeks.proofs.LetterOrder.{letter-before, letter-same}
-use Rattle.cif_weeks.proofs.Spans.{AreLater, later-none, later-rest, take_next, some-all, some-more, some-same}
-use Rattle.cif_weeks.proofs.Spans.{led-weeks, led-agreed, led-disputed}
+use Rattle.cif_weeks.proofs.Spans.{AreLater, later-none, later-rest, led-agreed, led-disputed, led-weeks, some-all, some-more, some-same}
+use Rattle.cif_weeks.proofs.Spans.{take_next}
 use Rattle.cif_weeks.proofs.body_runs.weeks_led.Goals as goal
-use Rattle.cif_weeks.proofs.body_runs.weeks_led.Goals.{After-fits, else-loop-other-test, then-loop-other-test+then-last-other}
-use Rattle.cif_weeks.proofs.body_runs.weeks_led.Goals.{then-lt}
-use Rattle.cif_weeks.proofs.body_runs.weeks_led.Goals.{else-lt+then-eq+then-other-span}
-use Rattle.cif_weeks.proofs.body_runs.weeks_led.Goals.{else-lt+else-eq}
-use Rattle.cif_weeks.proofs.body_runs.weeks_led.Goals.{else-eq-via-then-eq+else-other-span}
-use Rattle.cif_weeks.proofs.body_runs.weeks_led.Goals.{else-eq-via-else-eq}
+use Rattle.cif_weeks.proofs.body_runs.weeks_led.Goals.{After-fits, else-eq-via-else-eq, else-eq-via-then-eq+else-other-span}
+use Rattle.cif_weeks.proofs.body_runs.weeks_led.Goals.{else-loop-other-test, else-lt+else-eq, else-lt+then-eq+then-other-span}
+use Rattle.cif_weeks.proofs.body_runs.weeks_led.Goals.{then-loop-other-test+then-last-other, then-lt}
 
 pub loop-other-preserved : goal.loop-other-preserved
 loop-other-preserved c =

@@ -1,9 +1,8 @@
 -- One span more: if it has this source, the weeks reach to its own.
-use Rattle.std.proofs.Common.{⊎_elim, arith}
-use Rattle.std.proofs.lemmas.List.{take_all}
-use Rattle.cif_weeks.proofs.Spans.{take_next, old_or_new}
+use Rattle.cif_weeks.proofs.Names.{arith, take_all, ⊎_elim}
+use Rattle.cif_weeks.proofs.Spans.{old_or_new, take_next}
 use Rattle.cif_weeks.proofs.body_runs.weeks_of.Goals as goal
-use Rattle.cif_weeks.proofs.body_runs.weeks_of.Goals.{then-span-source, else-span-source}
+use Rattle.cif_weeks.proofs.body_runs.weeks_of.Goals.{else-span-source, then-span-source}
 
 pub loop-span-preserved : goal.loop-span-preserved
 loop-span-preserved c =

@@ -1,6 +1,5 @@
 -- The weeks so far have the days of the spans so far that have this source.
-use Rattle.std.proofs.Common.{◌≡◌, ℕ, ◌<◌, ◌≤◌, take}
-use Rattle.cif_weeks.proofs.Words.{HasDay, SomeOf, week_of}
+use Rattle.cif_weeks.proofs.Names.{HasDay, SomeOf, take, week_of, ℕ, ◌<◌, ◌≡◌, ◌≤◌}
 use Rattle.cif_weeks.proofs.body_runs.weeks_of.Given as goal
 
 abbrev pub invariant-loop-span : goal.invariant-loop-span

@@ -1,10 +1,10 @@
 -- A span alone leads wherever it is (`alone-weeks`); else each span with this source is one more that may lead.
-use Rattle.std.proofs.Common.{arith}
-use Rattle.cif_weeks.proofs.Spans.{AreLater, later-none, later-rest, alone-agreed, alone-weeks, take_next, some-all, some-more, some-same}
-use Rattle.cif_weeks.proofs.Spans.{some-agreed, agree-more}
+use Rattle.cif_weeks.proofs.Names.{arith}
+use Rattle.cif_weeks.proofs.Spans.{AreLater, agree-more, alone-agreed, alone-weeks, later-none, later-rest, some-agreed, some-all}
+use Rattle.cif_weeks.proofs.Spans.{some-more, some-same, take_next}
 use Rattle.cif_weeks.proofs.body_runs.weeks_shown.Goals as goal
-use Rattle.cif_weeks.proofs.body_runs.weeks_shown.Goals.{else-loop-span-test, then-loop-span-test+then-last-span}
-use Rattle.cif_weeks.proofs.body_runs.weeks_shown.Goals.{then-span-source-2+in_ok-weeks, else-span-source-2}
+use Rattle.cif_weeks.proofs.body_runs.weeks_shown.Goals.{else-loop-span-test, else-span-source-2, then-loop-span-test+then-last-span}
+use Rattle.cif_weeks.proofs.body_runs.weeks_shown.Goals.{then-span-source-2+in_ok-weeks}
 
 pub returns-then-span-source-clause-weeks : goal.returns-then-span-source-clause-weeks
 returns-then-span-source-clause-weeks c = alone-weeks c.args.spans.now c.span-item.result

@@ -1,6 +1,5 @@
 -- The mask of the days on which one of the spans so far with this source leads, where all that lead agree.
-use Rattle.std.proofs.Common.{◌≡◌, take}
-use Rattle.cif_weeks.specs.Steps.Spans.{AgreeOn, HaveOneMask, Leads, SomeOf}
+use Rattle.cif_weeks.proofs.Names.{AgreeOn, HaveOneMask, Leads, SomeOf, take, ◌≡◌}
 use Rattle.cif_weeks.proofs.body_runs.weeks_shown.Given as goal
 
 abbrev pub invariant-loop-span : goal.invariant-loop-span

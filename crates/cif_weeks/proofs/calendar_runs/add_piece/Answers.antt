@@ -1,11 +1,9 @@
 -- One weekday more: a span for its winner's body (`taken-more`), or none where it is taken or has no winner (`taken-same`).
-use Rattle.std.proofs.Common.{◌≡◌, ◌+◌, None, Some, map, refl, sym, ◌∙◌, subst, arith, ⊎_elim}
-use Rattle.std.proofs.lemmas.List.{length-map}
-use Rattle.std.proofs.lemmas.Option.{same_Some}
-use Rattle.cif_weeks.proofs.Words.{AreSpansBefore, Piece, week_of, weekday_of}
+use Rattle.cif_weeks.proofs.Names.{AreSpansBefore, None, Piece, Some, arith, length-map, map, refl, same_Some, subst, sym, week_of}
+use Rattle.cif_weeks.proofs.Names.{weekday_of, ⊎_elim, ◌+◌, ◌∙◌, ◌≡◌}
 use Rattle.cif_weeks.proofs.PieceSpans.{order-later, piece-at, source-below, spans-all, spans-below, spans-known, taken-more, taken-same}
 use Rattle.cif_weeks.proofs.calendar_runs.add_piece.Goals as goal
-use Rattle.cif_weeks.proofs.calendar_runs.add_piece.Goals.{in-Some+then-not-has+in_ok-push, in-Some+else-not-has, in_default}
+use Rattle.cif_weeks.proofs.calendar_runs.add_piece.Goals.{in-Some+else-not-has, in-Some+then-not-has+in_ok-push, in_default}
 
 pub loop-weekday-init : goal.loop-weekday-init
 loop-weekday-init g c =

@@ -1,7 +1,6 @@
 -- The runs of one source more (`runs-more`), and those of all after the sort.
-use Rattle.std.proofs.Common.{leb, subst, arith, rules}
-use Rattle.std.proofs.lemmas.List.Sorted.{IsPartitionPoint-from_clause, IsPartitionedBy-leb}
-use Rattle.cif_weeks.proofs.Words.{AreRunsOfBody, IsDisputed, Shows, Span, window_from}
+use Rattle.cif_weeks.proofs.Names.{AreRunsOfBody, IsDisputed, IsPartitionPoint-from_clause, IsPartitionedBy-leb, Shows, Span, arith, leb}
+use Rattle.cif_weeks.proofs.Names.{rules, subst, window_from}
 use Rattle.cif_weeks.proofs.SourceRuns.{EndsSource, count-some, other, own-order, rest-order, runs-all, runs-more, runs-none, shows-all}
 use Rattle.cif_weeks.proofs.SourceRuns.{undisputed, whole-rest}
 use Rattle.cif_weeks.proofs.SpanRuns.{runs-permuted, runs-sorted}

@@ -1,6 +1,5 @@
 -- The runs of the sources that no span that is left has. What is left has all spans of its sources.
-use Rattle.std.proofs.Common.{◌≡◌, ◌≢◌, length, Contains}
-use Rattle.cif_weeks.proofs.Words.{AreBySource, Span, window_from}
+use Rattle.cif_weeks.proofs.Names.{AreBySource, Contains, Span, length, window_from, ◌≡◌, ◌≢◌}
 use Rattle.cif_weeks.proofs.SpanRuns.{AreRunsOf}
 use Rattle.cif_weeks.proofs.calendar_runs.add_runs_by_source.Given as goal
 

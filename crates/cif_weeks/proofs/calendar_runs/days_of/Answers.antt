@@ -1,10 +1,8 @@
 -- One weekday more.
-use Rattle.std.proofs.Common.{◌≡◌, ◌⊎◌, inl, inr, ◌↔◌, ℕ, ◌+◌, ◌<◌, Bool, List, None, Some, map, arith, sym, ◌∙◌, ap, subst, ⊎_elim}
-use Rattle.std.proofs.lemmas.Bool.{cases_lt, iff_false}
-use Rattle.std.proofs.lemmas.Option.{same_Some}
-use Rattle.cif_weeks.proofs.Words.{HasBodyOn, RunsOn, body_at}
+use Rattle.cif_weeks.proofs.Names.{Bool, HasBodyOn, List, None, RunsOn, Some, ap, arith, body_at, cases_lt, iff_false, inl, inr, map}
+use Rattle.cif_weeks.proofs.Names.{same_Some, subst, sym, ℕ, ⊎_elim, ◌+◌, ◌<◌, ◌↔◌, ◌∙◌, ◌≡◌, ◌⊎◌}
 use Rattle.cif_weeks.proofs.calendar_runs.days_of.Goals as goal
-use Rattle.cif_weeks.proofs.calendar_runs.days_of.Goals.{in-Some+then-have_one_body, in-Some+else-have_one_body, in_default}
+use Rattle.cif_weeks.proofs.calendar_runs.days_of.Goals.{in-Some+else-have_one_body, in-Some+then-have_one_body, in_default}
 
 module _ (Has : ℕ → Type 0) (weekday : ℕ) where
   -- the weekday has it

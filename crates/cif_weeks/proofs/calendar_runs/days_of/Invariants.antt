@@ -1,6 +1,5 @@
 -- The weekdays so far whose winners have the body.
-use Rattle.std.proofs.Common.{◌↔◌, ℕ, ◌<◌, map}
-use Rattle.cif_weeks.proofs.Words.{HasBodyOn, RunsOn}
+use Rattle.cif_weeks.proofs.Names.{HasBodyOn, RunsOn, map, ℕ, ◌<◌, ◌↔◌}
 use Rattle.cif_weeks.proofs.calendar_runs.days_of.Given as goal
 
 abbrev pub invariant-loop-weekday : goal.invariant-loop-weekday

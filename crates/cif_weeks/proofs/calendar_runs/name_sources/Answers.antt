@@ -1,7 +1,6 @@
 -- The run at this place begins in the window, and takes its name (`map_over_more`); at the end all have theirs.
-use Rattle.std.proofs.Common.{◌≡◌, ◌+◌, ◌++◌, map, take, drop, set, sym, ◌∙◌, ap, subst, unwrap_or}
+use Rattle.cif_weeks.proofs.Names.{ap, drop, map, named, set, source_at, subst, sym, take, unwrap_or, ◌++◌, ◌+◌, ◌∙◌, ◌≡◌}
 use Rattle.std.proofs.lemmas.List.Edits.{map_over_more}
-use Rattle.cif_weeks.proofs.Words.{named, source_at}
 use Rattle.cif_weeks.proofs.calendar_runs.name_sources.Goals as goal
 
 pub loop-place-preserved : goal.loop-place-preserved

@@ -1,6 +1,5 @@
 -- The runs so far have their names.
-use Rattle.std.proofs.Common.{◌≡◌, ◌++◌, map, take, drop}
-use Rattle.cif_weeks.specs.Steps.PieceSpans.{named}
+use Rattle.cif_weeks.proofs.Names.{drop, map, named, take, ◌++◌, ◌≡◌}
 use Rattle.cif_weeks.proofs.calendar_runs.name_sources.Given as goal
 
 abbrev pub invariant-loop-place : goal.invariant-loop-place

@@ -1,16 +1,12 @@
 -- After the last piece all days are known (`spans-done`). The runs of the spans, with the calendar's sources, are the calendar's
 -- (`pieces-canonical`).
-use Rattle.std.proofs.Common.{◌≡◌, ◌+◌, ◌<◌, map, drop, get_or, length, arith, ap, rules, subst, sym}
-use Rattle.std.proofs.lemmas.List.{drop_all, length-map}
-use Rattle.std.proofs.lemmas.List.Sorted.{answers_always}
-use Rattle.std.proofs.lemmas.Option.{slice_get-get_or}
-use Rattle.std.proofs.Math.Seq.{take-append_seam}
-use Rattle.cif_weeks.proofs.Words.{AreSpansBefore, AreSpansOn, Span, named}
+use Rattle.cif_weeks.proofs.Names.{AreSpansBefore, AreSpansOn, Span, answers_always, ap, arith, drop, drop_all, get_or, length, length-map}
+use Rattle.cif_weeks.proofs.Names.{map, named, rules, slice_get-get_or, subst, sym, take-append_seam, ◌+◌, ◌<◌, ◌≡◌}
 use Rattle.cif_weeks.proofs.PieceRuns.{firsts-inside, pieces-agreed, pieces-bodied, pieces-canonical, pieces-inside, pieces-level}
 use Rattle.cif_weeks.proofs.PieceSpans.{no-piece, spans-before_first, spans-done, tiles-next}
 use Rattle.cif_weeks.proofs.SourceRuns.{by-source}
-use Rattle.cif_weeks.proofs.calendar_runs.runs.Given.{Over}
 use Rattle.cif_weeks.proofs.calendar_runs.runs.Goals as goal
+use Rattle.cif_weeks.proofs.calendar_runs.runs.Given.{Over}
 use Rattle.cif_weeks.proofs.calendar_runs.runs.Goals.{After-as_slice}
 
 pub loop-number-init : goal.loop-number-init

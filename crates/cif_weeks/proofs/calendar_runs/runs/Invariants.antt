@@ -1,6 +1,5 @@
 -- The spans of the pieces so far; the next piece begins where they end.
-use Rattle.std.proofs.Common.{◌+◌, ℕ, map, drop}
-use Rattle.cif_weeks.proofs.Words.{AreSpansBefore, Tiles}
+use Rattle.cif_weeks.proofs.Names.{AreSpansBefore, Tiles, drop, map, ℕ, ◌+◌}
 use Rattle.cif_weeks.proofs.calendar_runs.runs.Given as goal
 
 abbrev pub invariant-loop-number : goal.invariant-loop-number

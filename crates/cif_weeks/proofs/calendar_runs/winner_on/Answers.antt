@@ -1,6 +1,5 @@
 -- The first date of the weekday comes up to six days after the piece's first.
-use Rattle.std.proofs.Common.{◌≡◌, ℕ, ◌+◌, ◌-◌, ◌%◌, ◌≤◌, ◌<◌, arith, None, get_or, ap, sym, ◌∙◌}
-use Rattle.cif_weeks.proofs.Words.{weekday_of}
+use Rattle.cif_weeks.proofs.Names.{None, ap, arith, get_or, sym, weekday_of, ℕ, ◌%◌, ◌+◌, ◌-◌, ◌<◌, ◌∙◌, ◌≡◌, ◌≤◌}
 use Rattle.cif_weeks.proofs.calendar_runs.winner_on.Goals as goal
 
 module _ (first w on : ℕ) (is : on ≡ (w + 7 - weekday_of first) % 7) (below : w < 7) where

@@ -1,5 +1,5 @@
 -- The runs of one span more (`runs-skipped`, `runs-added`), and those of all after the sort.
-use Rattle.std.proofs.lemmas.List.{take_all, take_more}
+use Rattle.cif_weeks.proofs.Names.{take_all, take_more}
 use Rattle.cif_weeks.proofs.SpanRuns.{runs-added, runs-of_body, runs-permuted, runs-skipped, runs-sorted}
 use Rattle.cif_weeks.proofs.few.add_all_runs.Goals as goal
 

@@ -1,6 +1,5 @@
 -- The runs of the spans so far.
-use Rattle.std.proofs.Common.{take}
-use Rattle.cif_weeks.proofs.Words.{HasSource, window_from}
+use Rattle.cif_weeks.proofs.Names.{HasSource, take, window_from}
 use Rattle.cif_weeks.proofs.SpanRuns.{AreRunsOf}
 use Rattle.cif_weeks.proofs.few.add_all_runs.Given as goal
 

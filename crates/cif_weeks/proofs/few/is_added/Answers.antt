@@ -1,4 +1,4 @@
-use Rattle.std.proofs.Common.{sym, rules}
+use Rattle.cif_weeks.proofs.Names.{rules, sym}
 use Rattle.cif_weeks.proofs.few.is_added.Goals as goal
 
 pub returns-then-other-span : goal.returns-then-other-span

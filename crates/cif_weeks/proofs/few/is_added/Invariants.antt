@@ -1,6 +1,5 @@
 -- None of the spans so far has the body.
-use Rattle.std.proofs.Common.{◌≢◌}
-use Rattle.std.specs.List.{AllWithin}
+use Rattle.cif_weeks.proofs.Names.{AllWithin, ◌≢◌}
 use Rattle.cif_weeks.specs.Steps.BodyRuns.{HasBody}
 use Rattle.cif_weeks.proofs.few.is_added.Given as goal
 

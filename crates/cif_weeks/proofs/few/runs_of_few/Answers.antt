@@ -1,20 +1,13 @@
 -- One member more, which has a span (`spans-more`) or none (`spans-same`). The runs of the members' spans are those of the members
 -- (`runs-of_members`), and where the spans are disputed the members clash.
-use Rattle.std.proofs.Common.{◌≡◌, ◌<◌, ℕ, Bool, false, true, inr, List, length, get_or, map, ◌∙◌, ap, subst, rules, arith, length-append}
-use Rattle.std.specs.List.{refill}
-use Rattle.std.specs.Prelude.{MatchBool}
-use Rattle.std.proofs.lemmas.List.{take_all, take_more}
-use Rattle.std.proofs.lemmas.List.Elements.{All-contains, All-take, Contains-get_or}
-use Rattle.std.proofs.lemmas.List.Sorted.{IsNonDecreasingBy-from_sort_by_key}
-use Rattle.std.proofs.lemmas.Result.{IfOk-weaker}
-use Rattle.std.proofs.Math.Seq.{take-append_seam}
-use Rattle.cif_calendar.proofs.Positions.{AreLawful-chosen}
-use Rattle.cif_calendar.proofs.Winning.{terms_at}
-use Rattle.cif_weeks.proofs.Words.{AreSpansOf, Span, window_from}
+use Rattle.cif_weeks.proofs.Names.{All-contains, All-take, AreLawful-chosen, AreSpansOf, Bool, Contains-get_or, IfOk-weaker}
+use Rattle.cif_weeks.proofs.Names.{IsNonDecreasingBy-from_sort_by_key, List, MatchBool, Span, ap, arith, false, get_or, inr, length}
+use Rattle.cif_weeks.proofs.Names.{length-append, map, refill, rules, subst, take-append_seam, take_all, take_more, terms_at, true}
+use Rattle.cif_weeks.proofs.Names.{window_from, ℕ, ◌<◌, ◌∙◌, ◌≡◌}
 use Rattle.cif_weeks.proofs.MemberClash.{disputed-clash, spans-permuted}
 use Rattle.cif_weeks.proofs.MemberRuns.{runs-of_members, shown-inside, spans-more, spans-same}
-use Rattle.cif_weeks.proofs.few.runs_of_few.Given.{Over}
 use Rattle.cif_weeks.proofs.few.runs_of_few.Goals as goal
+use Rattle.cif_weeks.proofs.few.runs_of_few.Given.{Over}
 use Rattle.cif_weeks.proofs.few.runs_of_few.Goals.{After-as_slice-2, in-Some, in_default}
 
 pub source_of-source-requires-clause-sources : goal.source_of-source-requires-clause-sources

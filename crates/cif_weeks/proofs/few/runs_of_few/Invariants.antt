@@ -1,6 +1,5 @@
 -- The spans are those of the members so far.
-use Rattle.std.proofs.Common.{◌≤◌, length, map, take}
-use Rattle.cif_weeks.proofs.Words.{AreSpansOf, window_from}
+use Rattle.cif_weeks.proofs.Names.{AreSpansOf, length, map, take, window_from, ◌≤◌}
 use Rattle.cif_weeks.proofs.few.runs_of_few.Given as goal
 
 abbrev pub invariant-loop-position : goal.invariant-loop-position

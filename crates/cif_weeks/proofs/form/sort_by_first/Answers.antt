@@ -1,7 +1,5 @@
 -- The keys are the first dates.
-use Rattle.std.proofs.Common.{rules}
-use Rattle.std.proofs.lemmas.List.Sorted.{IsNonDecreasingBy-from_sort_by_key}
-use Rattle.cif_weeks.proofs.Words.{Run}
+use Rattle.cif_weeks.proofs.Names.{IsNonDecreasingBy-from_sort_by_key, Run, rules}
 use Rattle.cif_weeks.proofs.form.sort_by_first.Goals as goal
 
 pub returns-clause-order : goal.returns-clause-order

@@ -1,5 +1,5 @@
 -- Laws of all lists: `UniqueByKey` has them, since each key's records are unique and the order of keys is total.
-use Rattle.cif_weeks.proofs.UniqueByKey.{unique_same, unique_by_key}
+use Rattle.cif_weeks.proofs.UniqueByKey.{unique_by_key, unique_same}
 use Rattle.cif_weeks.proofs.laws.records_of_all_keys_are_unique.Goals as goal
 
 pub returns : goal.returns

@@ -1,5 +1,5 @@
 -- Both positions are those of entries.
-use Rattle.cif_calendar.proofs.Winning.{terms_at}
+use Rattle.cif_weeks.proofs.Names.{terms_at}
 use Rattle.cif_weeks.proofs.span.have_one_body.Goals as goal
 
 pub returns-else-one-other : goal.returns-else-one-other

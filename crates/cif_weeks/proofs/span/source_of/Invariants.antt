@@ -1,6 +1,5 @@
 -- None of the spans from `place` on has a source with the body.
-use Rattle.std.proofs.Common.{◌≡◌, ◌≢◌, ℕ, ◌<◌, ◌≤◌, Some, get_or, length, map}
-use Rattle.cif_weeks.proofs.Words.{body_at, Span}
+use Rattle.cif_weeks.proofs.Names.{Some, Span, body_at, get_or, length, map, ℕ, ◌<◌, ◌≡◌, ◌≢◌, ◌≤◌}
 use Rattle.cif_weeks.proofs.span.source_of.Given as goal
 
 abbrev pub invariant-loop-place : goal.invariant-loop-place

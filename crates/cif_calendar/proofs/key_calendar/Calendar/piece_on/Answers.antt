@@ -1,8 +1,7 @@
 -- By their last days pieces rise (`tiles-rise`), so the search finds a place (`place-from_point`): a piece stands there and has the day.
-use Rattle.std.proofs.Common.{◌+◌, ◌≤◌, List, ltb, subst, sym, arith, rules, Contains}
-use Rattle.std.proofs.lemmas.List.Sorted.{IsPartitionPoint-from_clause, IsPartitionedBy-ltb}
-use Rattle.cif_calendar.proofs.Words.{Piece}
-use Rattle.cif_calendar.proofs.PieceLists.{IsPlaceOf, place-from_point, place-below, place-from, tiles-rise}
+use Rattle.cif_calendar.proofs.Names.{Contains, IsPartitionPoint-from_clause, IsPartitionedBy-ltb, List, Piece, arith, ltb, rules, subst}
+use Rattle.cif_calendar.proofs.Names.{sym, ◌+◌, ◌≤◌}
+use Rattle.cif_calendar.proofs.PieceLists.{IsPlaceOf, place-below, place-from, place-from_point, tiles-rise}
 use Rattle.cif_calendar.proofs.key_calendar.Calendar.piece_on.Goals as goal
 use Rattle.cif_calendar.proofs.key_calendar.Calendar.piece_on.Goals.{After-partition_point-i}
 

@@ -1,6 +1,5 @@
 -- The winner that is read is the day's source: each piece that has the day tells the same (`source_at-piece`).
-use Rattle.std.proofs.Common.{◌≡◌, ◌∙◌, ap, sym, None, get_or}
-use Rattle.cif_calendar.specs.Pieces.{source_at}
+use Rattle.cif_calendar.proofs.Names.{None, ap, get_or, source_at, sym, ◌∙◌, ◌≡◌}
 use Rattle.cif_calendar.proofs.PieceLists.{source_at-piece}
 use Rattle.cif_calendar.proofs.key_calendar.Calendar.source_on.Goals as goal
 use Rattle.cif_calendar.proofs.key_calendar.Calendar.source_on.Goals.{After-weekday}

@@ -1,7 +1,5 @@
 -- The entry at the member's position is there.
-use Rattle.std.proofs.Common.{get_or}
-use Rattle.std.proofs.lemmas.List.{get_or_default}
-use Rattle.std.proofs.lemmas.Option.{slice_get-get_or}
+use Rattle.cif_calendar.proofs.Names.{get_or, get_or_default, slice_get-get_or}
 use Rattle.cif_calendar.proofs.Winning.{terms_at}
 use Rattle.cif_calendar.proofs.standing.Members.entry.Goals as goal
 

@@ -1,6 +1,6 @@
 -- What is listed of the runs is what is listed of their lines (`parts-text`).
-use Rattle.std.proofs.Common.{ap, ◌∙◌, refl}
-use Rattle.cif_canon.proofs.Words.{CanonParts, association_entries, association_entry, association_plain, canon_lines, flat_map}
+use Rattle.cif_canon.proofs.Names.{CanonParts, ap, association_entries, association_entry, association_plain, canon_lines, flat_map, refl}
+use Rattle.cif_canon.proofs.Names.{◌∙◌}
 use Rattle.cif_canon.proofs.AppendedTexts.{text-is}
 use Rattle.cif_canon.proofs.CanonLines.{parts-text}
 use Rattle.cif_canon.proofs.RunTexts.{sources-slices}

@@ -1,6 +1,6 @@
 -- What is listed of the runs is what is listed of their lines, with their numbers (`numbered-texts`).
-use Rattle.std.proofs.Common.{ap, ◌∙◌, ℕ}
-use Rattle.cif_canon.proofs.Words.{CanonParts, ScheduleLines, canon_lines, enumerate_from, flat_map, schedule_entries, schedule_entry}
+use Rattle.cif_canon.proofs.Names.{CanonParts, ScheduleLines, ap, canon_lines, enumerate_from, flat_map, schedule_entries, schedule_entry}
+use Rattle.cif_canon.proofs.Names.{ℕ, ◌∙◌}
 use Rattle.cif_canon.proofs.AppendedTexts.{text-is}
 use Rattle.cif_canon.proofs.CanonLines.{numbered-texts}
 use Rattle.cif_canon.proofs.RunTexts.{sources-slices}

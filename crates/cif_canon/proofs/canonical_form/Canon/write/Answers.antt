@@ -1,6 +1,5 @@
 -- Five parts are appended one behind another (`canon-appended`).
-use Rattle.std.proofs.Common.{ap, refl}
-use Rattle.cif_canon.proofs.Words.{CanonParts, association_entry, extract_parts, schedule_entry}
+use Rattle.cif_canon.proofs.Names.{CanonParts, ap, association_entry, extract_parts, refl, schedule_entry}
 use Rattle.cif_canon.proofs.AppendedTexts.{answered, appended, text-is}
 use Rattle.cif_canon.proofs.RunTexts.{sources-slices}
 use Rattle.cif_canon.proofs.WrittenCanon.{canon-appended}

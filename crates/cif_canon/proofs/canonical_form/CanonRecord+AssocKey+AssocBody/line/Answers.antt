@@ -1,6 +1,5 @@
 -- The line is that of the key and of the record.
-use Rattle.std.proofs.Common.{ap, ◌∙◌}
-use Rattle.cif_canon.proofs.Words.{association_plain}
+use Rattle.cif_canon.proofs.Names.{ap, association_plain, ◌∙◌}
 use Rattle.cif_canon.proofs.canonical_form.CanonRecord+AssocKey+AssocBody.line.Goals as goal
 
 pub returns : goal.returns

@@ -1,7 +1,5 @@
 -- The line is made of that of the detail, which is the detail's plain line.
-use Rattle.std.proofs.Common.{ap, ◌∙◌, List, ℕ}
-use Rattle.cif_extract.specs.Body.{detail_of}
-use Rattle.cif_canon.proofs.Words.{BodyLines, Permanent, schedule_plain}
+use Rattle.cif_canon.proofs.Names.{BodyLines, List, Permanent, ap, detail_of, schedule_plain, ℕ, ◌∙◌}
 use Rattle.cif_canon.proofs.canonical_form.CanonRecord+Uid+Body.basic.Goals as goal
 
 pub returns : goal.returns

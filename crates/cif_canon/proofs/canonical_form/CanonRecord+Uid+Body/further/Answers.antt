@@ -1,6 +1,5 @@
 -- These are the lines of the record that the view is.
-use Rattle.std.proofs.Common.{ap, ◌∙◌, List, ℕ}
-use Rattle.cif_canon.proofs.Words.{BodyLines, Permanent, schedule_plain}
+use Rattle.cif_canon.proofs.Names.{BodyLines, List, Permanent, ap, schedule_plain, ℕ, ◌∙◌}
 use Rattle.cif_canon.proofs.canonical_form.CanonRecord+Uid+Body.further.Goals as goal
 
 pub returns : goal.returns

@@ -1,5 +1,5 @@
 -- The line is that of the key and of the record.
-use Rattle.std.proofs.Common.{◌∷◌, ◌++◌, List, [], ℕ, ap}
+use Rattle.cif_canon.proofs.Names.{List, [], ap, ℕ, ◌++◌, ◌∷◌}
 use Rattle.cif_canon.proofs.AppendedTexts.{appended, text-is}
 use Rattle.cif_canon.proofs.canonical_form.PlainLinesTextsCanonRecordAssocKeyAssocBody.write.Goals as goal
 

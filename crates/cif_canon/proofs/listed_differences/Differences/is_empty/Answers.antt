@@ -1,6 +1,5 @@
 -- Each run has a record, so no run is no record (`none-listed`).
-use Rattle.std.proofs.Common.{subst}
-use Rattle.cif_canon.proofs.Words.{AreNone, IsTrue, association_entries, schedule_entries, ◌↔◌}
+use Rattle.cif_canon.proofs.Names.{AreNone, IsTrue, association_entries, schedule_entries, subst, ◌↔◌}
 use Rattle.cif_canon.proofs.SidedTexts.{none-listed}
 use Rattle.cif_canon.proofs.listed_differences.Differences.is_empty.Goals as goal
 

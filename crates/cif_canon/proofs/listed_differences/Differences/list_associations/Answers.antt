@@ -1,7 +1,5 @@
 -- The runs have the records of the differences.
-use Rattle.std.proofs.Common.{ap, refl}
-use Rattle.cif_calendar.specs.Entries.{association_entry}
-use Rattle.cif_canon.proofs.Words.{DifferencesParts, by_pairs, flat_map, key_cmp}
+use Rattle.cif_canon.proofs.Names.{DifferencesParts, ap, association_entry, by_pairs, flat_map, key_cmp, refl}
 use Rattle.cif_canon.proofs.AppendedTexts.{text-is}
 use Rattle.cif_canon.proofs.SidedTexts.{sided-slices}
 use Rattle.cif_canon.proofs.listed_differences.Differences.list_associations.Goals as goal

@@ -1,6 +1,5 @@
 -- They are the locations of the differences.
-use Rattle.std.proofs.Common.{ap}
-use Rattle.cif_canon.proofs.Words.{DifferencesParts, flat_map}
+use Rattle.cif_canon.proofs.Names.{DifferencesParts, ap, flat_map}
 use Rattle.cif_canon.proofs.AppendedTexts.{text-is}
 use Rattle.cif_canon.proofs.listed_differences.Differences.list_tiplocs.Goals as goal
 

@@ -1,7 +1,5 @@
 -- Three parts are appended one behind another (`differences-appended`).
-use Rattle.std.proofs.Common.{ap, refl}
-use Rattle.cif_calendar.specs.Entries.{association_entry, schedule_entry}
-use Rattle.cif_canon.specs.Differences.{differences_text}
+use Rattle.cif_canon.proofs.Names.{ap, association_entry, differences_text, refl, schedule_entry}
 use Rattle.cif_canon.proofs.AppendedTexts.{answered, text-is}
 use Rattle.cif_canon.proofs.SidedTexts.{sided-slices}
 use Rattle.cif_canon.proofs.WrittenDifferences.{differences-appended}

@@ -1,6 +1,5 @@
 -- The marked text is that of the BS and then of the other lines (`marked-all`).
-use Rattle.std.proofs.Common.{[], ◌∷◌}
-use Rattle.cif_canon.proofs.Words.{marked_text}
+use Rattle.cif_canon.proofs.Names.{[], marked_text, ◌∷◌}
 use Rattle.cif_canon.proofs.AppendedTexts.{both, text-is}
 use Rattle.cif_canon.proofs.MarkedTexts.{marked-all}
 use Rattle.cif_canon.proofs.listed_differences.MarkedLinesTextsSidedCanonSchedule.write.Goals as goal

@@ -1,6 +1,5 @@
 -- A record that doesn't pass the test of the day has no text: `tested` ties the answer to that test.
-use Rattle.std.proofs.Common.{◌∙◌, [], Bool, ap, sym}
-use Rattle.cif_canon.proofs.Words.{if◌then◌else◌, listed_on}
+use Rattle.cif_canon.proofs.Names.{Bool, [], ap, if◌then◌else◌, listed_on, sym, ◌∙◌}
 use Rattle.cif_canon.proofs.AppendedTexts.{nothing, text-is}
 use Rattle.cif_canon.proofs.RunningRecords.{tested}
 use Rattle.cif_canon.proofs.views.OnDayTextsCanonRecordUidBody.write.Goals as goal

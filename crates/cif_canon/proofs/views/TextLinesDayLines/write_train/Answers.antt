@@ -1,5 +1,5 @@
 -- The line is that of the row's fields.
-use Rattle.std.proofs.Common.{◌++◌, List, ℕ, ap, codes}
+use Rattle.cif_canon.proofs.Names.{List, ap, codes, ℕ, ◌++◌}
 use Rattle.cif_canon.proofs.AppendedTexts.{text-is}
 use Rattle.cif_canon.proofs.views.TextLinesDayLines.write_train.Goals as goal
 

@@ -1,7 +1,5 @@
 -- The codes are cloned one by one, and so are a code's columns: they are the same.
-use Rattle.std.proofs.Common.{◌≡◌, ◌∙◌, List, ℕ, subst, sym}
-use Rattle.std.proofs.lemmas.List.Elements.{same_from_all_zip}
-use Rattle.cif_columns.specs.Activities.{AreCodes}
+use Rattle.cif_columns.proofs.Names.{AreCodes, List, same_from_all_zip, subst, sym, ℕ, ◌∙◌, ◌≡◌}
 use Rattle.cif_columns.proofs.activities.Activities.copy.Goals as goal
 
 same : (c : goal.In-Ok) → ◌≡◌ {A = List (List ℕ)} c.in-Ok.codes.items c.self.inside.codes.items

@@ -1,8 +1,6 @@
 -- By induction over the codes, as the invariant has them: packed, they fit, are printable, and are found again (`Codes`).
-use Rattle.std.proofs.Common.{◌≡◌, ◌≤◌, length, ap, ◌∙◌, arith}
-use Rattle.cif_columns.specs.Activities.{AreCodes, packed}
-use Rattle.cif_columns.specs.Text.{left_justified}
-use Rattle.cif_columns.proofs.Codes.{codes_in-codes_columns, stands-codes_columns, elements-packed, printable-packed, length-packed}
+use Rattle.cif_columns.proofs.Names.{AreCodes, ap, arith, left_justified, length, packed, ◌∙◌, ◌≡◌, ◌≤◌}
+use Rattle.cif_columns.proofs.Codes.{codes_in-codes_columns, elements-packed, length-packed, printable-packed, stands-codes_columns}
 use Rattle.cif_columns.proofs.activities.Activities.write.Goals as goal
 use Rattle.cif_columns.proofs.activities.Activities.write.Goals.{After-as_flattened}
 

@@ -1,7 +1,5 @@
 -- A first line feed ends a content (`fed_first`), and too many bytes without one begin one that is overlong.
-use Rattle.std.proofs.Common.{ap, arith, subst, take, ◌∙◌}
-use Rattle.std.specs.Str.Lines.{strip_carriage_return}
-use Rattle.cif_columns.specs.Contents.{AreUndecided, IsFirstFeed}
+use Rattle.cif_columns.proofs.Names.{AreUndecided, IsFirstFeed, ap, arith, strip_carriage_return, subst, take, ◌∙◌}
 use Rattle.cif_columns.proofs.FirstContents.{fed_first, short_undecided}
 use Rattle.cif_columns.proofs.ahead.Ahead.decided_content.Goals as goal
 

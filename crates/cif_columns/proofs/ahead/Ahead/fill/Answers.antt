@@ -1,9 +1,6 @@
 -- Moving and reading change the buffer: by `held_grown` what is held is what was held, and then the piece that was read.
-use Rattle.std.proofs.Common.{◌≡◌, ◌-◌, ◌<◌, Bool, Result, length, [], drop, ltb-false, arith, ap, sym, ◌∙◌, true, false, append-nil}
-use Rattle.std.proofs.Common.{length-drop}
-use Rattle.std.proofs.Common.{length-take}
-use Rattle.std.proofs.KnownBytes.{Consumes-kept, Consumes-nil}
-use Rattle.std.proofs.lemmas.Bool.{ltb-true}
+use Rattle.cif_columns.proofs.Names.{Bool, Consumes-kept, Consumes-nil, Result, [], ap, append-nil, arith, drop, false, length, length-drop}
+use Rattle.cif_columns.proofs.Names.{length-take, ltb-false, ltb-true, sym, true, ◌-◌, ◌<◌, ◌∙◌, ◌≡◌}
 use Rattle.std.specs.Result.{result_unwrap_or}
 use Rattle.cif_columns.proofs.HeldBytes.{held_grown, held_kept, held_more, held_same, read_keeps}
 use Rattle.cif_columns.proofs.ahead.Ahead.fill.Goals as goal

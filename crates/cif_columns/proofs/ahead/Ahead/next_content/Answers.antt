@@ -1,7 +1,5 @@
 -- What the held bytes decide is so of all that is left; the loop ends, as undecided bytes are fewer than `most`.
-use Rattle.std.proofs.Common.{Ok, ap, arith, inl, inr, length, refl, subst, sym, ◌∙◌}
-use Rattle.std.proofs.KnownBytes.{Keeps-refl, Keeps-trans}
-use Rattle.cif_columns.specs.Contents.{AreUndecided}
+use Rattle.cif_columns.proofs.Names.{AreUndecided, Keeps-refl, Keeps-trans, Ok, ap, arith, inl, inr, length, refl, subst, sym, ◌∙◌}
 use Rattle.cif_columns.proofs.NextContents.{decided_next, failed_next, last_next}
 use Rattle.cif_columns.proofs.ReadSources.{failed_after, read_nothing, read_on_both}
 use Rattle.cif_columns.proofs.ahead.Ahead.next_content.Goals as goal

@@ -1,8 +1,5 @@
 -- The bytes that are left stay the same while the source is read on; more of them are held each time, and `most` decide.
-use Rattle.std.proofs.Common.{◌≡◌, ◌⊎◌, ◌-◌, false, length}
-use Rattle.std.specs.Io.KnownBytes.{Keeps}
-use Rattle.cif_columns.specs.Ahead.{held_bytes, known_left}
-use Rattle.cif_columns.specs.Source.{HasReadOn, source_failed}
+use Rattle.cif_columns.proofs.Names.{HasReadOn, Keeps, false, held_bytes, known_left, length, source_failed, ◌-◌, ◌≡◌, ◌⊎◌}
 use Rattle.cif_columns.proofs.ahead.Ahead.next_content.Given as goal
 
 abbrev pub invariant-loop-next : goal.invariant-loop-next

@@ -1,5 +1,5 @@
 -- A range that begins later is the held bytes without their first (`range_rest`).
-use Rattle.std.proofs.Common.{◌+◌, ◌≤◌, arith}
+use Rattle.cif_columns.proofs.Names.{arith, ◌+◌, ◌≤◌}
 use Rattle.cif_columns.proofs.HeldBytes.{range_length, range_rest}
 use Rattle.cif_columns.proofs.ahead.Ahead.pass.Goals as goal
 

@@ -1,9 +1,6 @@
 -- What the held bytes and the source gave is told in the words of the subject by these lemmas.
-use Rattle.std.proofs.Common.{refl}
-use Rattle.std.proofs.Common.{◌<◌, arith}
-use Rattle.std.proofs.lemmas.Bool.Decides.{nat_tests}
-use Rattle.cif_columns.proofs.ContentAnswers.{ends_next, fails_next, gives_next, none_begun, none_with_room}
-use Rattle.cif_columns.proofs.ContentAnswers.{refuses_next}
+use Rattle.cif_columns.proofs.Names.{arith, nat_tests, refl, ◌<◌}
+use Rattle.cif_columns.proofs.ContentAnswers.{ends_next, fails_next, gives_next, none_begun, none_with_room, refuses_next}
 use Rattle.cif_columns.proofs.ahead.ContentReader.next.Goals as goal
 
 pub returns-in-End : goal.returns-in-End

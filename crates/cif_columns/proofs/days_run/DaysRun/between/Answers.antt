@@ -1,4 +1,4 @@
-use Rattle.cif_columns.proofs.Flags.{runs-between, powers}
+use Rattle.cif_columns.proofs.Flags.{powers, runs-between}
 use Rattle.cif_columns.proofs.days_run.DaysRun.between.Goals as goal
 
 pub overflow_sub-result : goal.overflow_sub-result

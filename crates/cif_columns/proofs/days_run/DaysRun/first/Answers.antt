@@ -1,5 +1,5 @@
 -- The lowest bit that is set.
-use Rattle.std.proofs.Common.{sym}
+use Rattle.cif_columns.proofs.Names.{sym}
 use Rattle.cif_columns.proofs.Flags.{first-of, some-bit}
 use Rattle.cif_columns.proofs.days_run.DaysRun.first.Goals as goal
 

@@ -1,4 +1,4 @@
-use Rattle.std.proofs.Common.{sym}
+use Rattle.cif_columns.proofs.Names.{sym}
 use Rattle.cif_columns.proofs.Flags.{has-runs}
 use Rattle.cif_columns.proofs.days_run.DaysRun.has.Goals as goal
 

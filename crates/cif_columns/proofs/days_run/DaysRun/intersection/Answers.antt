@@ -1,4 +1,4 @@
-use Rattle.std.proofs.Common.{sym}
+use Rattle.cif_columns.proofs.Names.{sym}
 use Rattle.cif_columns.proofs.Flags.{runs-and}
 use Rattle.cif_columns.proofs.days_run.DaysRun.intersection.Goals as goal
 

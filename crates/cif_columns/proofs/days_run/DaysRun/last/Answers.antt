@@ -1,5 +1,5 @@
 -- The highest bit that is set.
-use Rattle.std.proofs.Common.{sym}
+use Rattle.cif_columns.proofs.Names.{sym}
 use Rattle.cif_columns.proofs.Flags.{last-of, some-bit}
 use Rattle.cif_columns.proofs.days_run.DaysRun.last.Goals as goal
 

@@ -1,5 +1,4 @@
-use Rattle.std.proofs.Common.{◌-◌, sym, arith}
-use Rattle.std.proofs.lemmas.Nat.{and_le_l}
+use Rattle.cif_columns.proofs.Names.{and_le_l, arith, sym, ◌-◌}
 use Rattle.cif_columns.proofs.Flags.{runs-without}
 use Rattle.cif_columns.proofs.days_run.DaysRun.minus.Goals as goal
 

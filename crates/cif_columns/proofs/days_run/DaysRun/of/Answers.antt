@@ -1,6 +1,5 @@
 -- The number is made of seven bits, of which `flags-seven` has the flags.
-use Rattle.std.proofs.Common.{◌≡◌, ℕ, ◌+◌, ◌*◌, ◌∙◌, ap, arith, cond, false, get_or, length, refl, rules}
-use Rattle.cif_columns.specs.DaysRun.{flags}
+use Rattle.cif_columns.proofs.Names.{ap, arith, cond, false, flags, get_or, length, refl, rules, ℕ, ◌*◌, ◌+◌, ◌∙◌, ◌≡◌}
 use Rattle.cif_columns.proofs.Flags.{flags-seven}
 use Rattle.cif_columns.proofs.days_run.DaysRun.of.Goals as goal
 

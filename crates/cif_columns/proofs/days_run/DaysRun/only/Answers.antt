@@ -1,4 +1,4 @@
-use Rattle.cif_columns.proofs.Flags.{runs-only, only-within}
+use Rattle.cif_columns.proofs.Flags.{only-within, runs-only}
 use Rattle.cif_columns.proofs.days_run.DaysRun.only.Goals as goal
 
 pub invariant_of-result : goal.invariant_of-result

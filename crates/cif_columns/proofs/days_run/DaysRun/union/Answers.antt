@@ -1,5 +1,4 @@
-use Rattle.std.proofs.Common.{sym}
-use Rattle.std.proofs.lemmas.Nat.{or_lt}
+use Rattle.cif_columns.proofs.Names.{or_lt, sym}
 use Rattle.cif_columns.proofs.Flags.{runs-or}
 use Rattle.cif_columns.proofs.days_run.DaysRun.union.Goals as goal
 

@@ -1,5 +1,4 @@
-use Rattle.std.proofs.Common.{rules}
-use Rattle.cif_columns.specs.Laws.Flags.{bits_of-flags}
+use Rattle.cif_columns.proofs.Names.{bits_of-flags, rules}
 use Rattle.cif_columns.proofs.days_run.DaysRunPartialEq.eq.Goals as goal
 
 pub returns : goal.returns

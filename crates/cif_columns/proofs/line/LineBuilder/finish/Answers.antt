@@ -1,6 +1,5 @@
 -- The columns of the line are those of the builder, by one equation: a search would go through all eighty.
-use Rattle.std.proofs.Common.{◌∙◌, subst, sym}
-use Rattle.cif_columns.specs.Line.{ArePrintable}
+use Rattle.cif_columns.proofs.Names.{ArePrintable, subst, sym, ◌∙◌}
 use Rattle.cif_columns.proofs.line.LineBuilder.finish.Goals as goal
 
 pub of_printable-requires : goal.of_printable-requires

@@ -1,8 +1,5 @@
 -- What its contents gave is told of the lines by these lemmas.
-use Rattle.std.proofs.Common.{◌+◌, Ok, Err, ap, subst, sym}
-use Rattle.cif_columns.specs.ContentReader.{IsNextOf}
-use Rattle.cif_columns.specs.declared.ahead.NextContent.TheVariants.{Overlong}
-use Rattle.cif_columns.specs.declared.ahead.ContentReader.{ContentReader}
+use Rattle.cif_columns.proofs.Names.{ContentReader, Err, IsNextOf, Ok, Overlong, ap, subst, sym, ◌+◌}
 use Rattle.cif_columns.proofs.LineAnswers.{passes_fault, passes_overlong}
 use Rattle.cif_columns.proofs.line_reader.LineReader.pass_content.Goals as goal
 

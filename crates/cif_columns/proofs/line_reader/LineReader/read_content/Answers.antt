@@ -1,6 +1,6 @@
 -- Bytes that begin otherwise are no comment, whatever follows (`known_other`).
-use Rattle.cif_columns.specs.LineReader.{held}
 use Rattle.cif_columns.proofs.Comments.{known_other}
+use Rattle.cif_columns.specs.LineReader.{held}
 use Rattle.cif_columns.proofs.line_reader.LineReader.read_content.Goals as goal
 
 pub returns-in-Err : goal.returns-in-Err

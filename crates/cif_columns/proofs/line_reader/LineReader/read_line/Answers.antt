@@ -1,6 +1,5 @@
 -- A line that stands first in what is held is the next one (`begins_next`).
-use Rattle.std.proofs.Common.{◌<◌, arith, refl}
-use Rattle.std.proofs.lemmas.Bool.Decides.{nat_tests}
+use Rattle.cif_columns.proofs.Names.{arith, nat_tests, refl, ◌<◌}
 use Rattle.cif_columns.proofs.PassedLines.{begins_next}
 use Rattle.cif_columns.proofs.line_reader.LineReader.read_line.Goals as goal
 

@@ -1,7 +1,5 @@
 -- The content is a line, or refused.
-use Rattle.std.proofs.Common.{ap, sym, ◌∙◌}
-use Rattle.cif_columns.specs.FirstLine.{line_of}
-use Rattle.cif_columns.specs.declared.line_reader.Past.TheVariants.{Faulted}
+use Rattle.cif_columns.proofs.Names.{Faulted, ap, line_of, sym, ◌∙◌}
 use Rattle.cif_columns.proofs.LineAnswers.{makes_line, refuses_content}
 use Rattle.cif_columns.proofs.line_reader.LineReader.read_other_line.Goals as goal
 

@@ -1,8 +1,5 @@
 -- The content is a comment, a line, or refused.
-use Rattle.std.proofs.Common.{ap, sym, ◌∙◌}
-use Rattle.cif_columns.specs.Comment.{is_comment}
-use Rattle.cif_columns.specs.FirstLine.{line_of}
-use Rattle.cif_columns.specs.declared.line_reader.Past.TheVariants.{Faulted}
+use Rattle.cif_columns.proofs.Names.{Faulted, ap, is_comment, line_of, sym, ◌∙◌}
 use Rattle.cif_columns.proofs.LineAnswers.{line_ok, makes_line, no_comment, passes_comment, refuses_content}
 use Rattle.cif_columns.proofs.line_reader.LineReader.read_possible_comment.Goals as goal
 

@@ -1,5 +1,5 @@
 -- They are kept in no fewer bytes (`few_lines`).
-use Rattle.std.proofs.Common.{◌^◌, ◌<◌, ℕ, List, arith, length, subst}
+use Rattle.cif_columns.proofs.Names.{List, arith, length, subst, ℕ, ◌<◌, ◌^◌}
 use Rattle.cif_columns.proofs.KeptLines.{few_lines}
 use Rattle.cif_columns.proofs.lines.LineSlice.are_few.Goals as goal
 

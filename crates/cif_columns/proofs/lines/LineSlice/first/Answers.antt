@@ -1,7 +1,5 @@
 -- In front of the line feed of its text stands the line (`front_of_text`).
-use Rattle.std.proofs.Common.{◌≡◌, [], ap, arith, get_or, subst, sym, take, ◌∙◌}
-use Rattle.std.proofs.lemmas.List.{length-take}
-use Rattle.cif_columns.specs.Line.{ArePrintable, IsLine}
+use Rattle.cif_columns.proofs.Names.{ArePrintable, IsLine, [], ap, arith, get_or, length-take, subst, sym, take, ◌∙◌, ◌≡◌}
 use Rattle.cif_columns.proofs.TextsOfLines.{front_of_text}
 use Rattle.cif_columns.proofs.lines.LineSlice.first.Goals as goal
 use Rattle.cif_columns.proofs.lines.LineSlice.first.Goals.{After-put_first}

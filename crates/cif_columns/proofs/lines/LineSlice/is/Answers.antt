@@ -1,7 +1,5 @@
 -- Lines are kept in one way: so they are the same exactly if what is kept is (`keep_view`).
-use Rattle.std.proofs.Common.{ap, sym, ◌∙◌}
-use Rattle.std.specs.Cmp.Lexicographic.{bytes_decides}
-use Rattle.cif_columns.specs.Lines.{kept_text, lines_in}
+use Rattle.cif_columns.proofs.Names.{ap, bytes_decides, kept_text, lines_in, sym, ◌∙◌}
 use Rattle.cif_columns.proofs.KeptLines.{keep_view}
 use Rattle.cif_columns.proofs.lines.LineSlice.is.Goals as goal
 

@@ -1,5 +1,5 @@
 -- The last line of all is that of those from `last` on, and `rest` are those behind the first of them.
-use Rattle.std.proofs.Common.{◌≡◌, ◌<◌, ◌-◌, [], drop, get_or, length}
+use Rattle.cif_columns.proofs.Names.{[], drop, get_or, length, ◌-◌, ◌<◌, ◌≡◌}
 use Rattle.cif_columns.proofs.lines.LineSlice.last.Given as goal
 
 abbrev pub invariant-loop-last : goal.invariant-loop-last

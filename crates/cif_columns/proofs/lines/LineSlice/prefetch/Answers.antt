@@ -1,7 +1,5 @@
 -- A byte more is as small as the others (`small`).
-use Rattle.std.proofs.Common.{◌<◌, All, subst, sym}
-use Rattle.std.proofs.lemmas.Nat.{or_lt}
-use Rattle.std.proofs.lemmas.List.Elements.{All-get_or}
+use Rattle.cif_columns.proofs.Names.{All, All-get_or, or_lt, subst, sym, ◌<◌}
 use Rattle.cif_columns.proofs.KeptLines.{keep_view, small}
 use Rattle.cif_columns.proofs.lines.LineSlice.prefetch.Goals as goal
 

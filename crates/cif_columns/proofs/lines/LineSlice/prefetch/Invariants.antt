@@ -1,5 +1,5 @@
 -- No byte so far is as great as 128.
-use Rattle.std.proofs.Common.{◌<◌, ◌-◌, length}
+use Rattle.cif_columns.proofs.Names.{length, ◌-◌, ◌<◌}
 use Rattle.cif_columns.proofs.lines.LineSlice.prefetch.Given as goal
 
 abbrev pub invariant-loop-at : goal.invariant-loop-at

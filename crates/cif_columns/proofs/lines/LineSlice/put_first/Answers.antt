@@ -1,5 +1,5 @@
 -- The bytes behind the count begin with the columns of the first line: with them it is widened (`columns_wide`).
-use Rattle.std.proofs.Common.{◌++◌, ◌∷◌, [], ap, refl, ◌∙◌}
+use Rattle.cif_columns.proofs.Names.{[], ap, refl, ◌++◌, ◌∙◌, ◌∷◌}
 use Rattle.cif_columns.proofs.KeptLines.{Keep, columns_in_chunk, columns_in_padded, columns_printable, columns_wide, count_few, keep_view}
 use Rattle.cif_columns.proofs.lines.LineSlice.put_first.Goals as goal
 use Rattle.cif_columns.proofs.lines.LineSlice.put_first.Goals.{After-first_chunk}

@@ -1,5 +1,5 @@
 -- What is kept behind the first line keeps the others (`rest_kept`).
-use Rattle.std.proofs.Common.{drop}
+use Rattle.cif_columns.proofs.Names.{drop}
 use Rattle.cif_columns.proofs.KeptLines.{Keep, are_kept, first_within, keep_view, lines_kept, rest_kept}
 use Rattle.cif_columns.proofs.lines.LineSlice.rest.Goals as goal
 use Rattle.cif_columns.proofs.lines.LineSlice.rest.Goals.{After-from, After-split_at}

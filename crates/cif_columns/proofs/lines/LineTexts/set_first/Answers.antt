@@ -1,6 +1,5 @@
 -- The others stay (`same_others`).
-use Rattle.std.proofs.Common.{ℕ, List, ◌∷◌, ◌++◌, [], ap, arith, drop, set, take, ◌∙◌}
-use Rattle.std.specs.List.{flat_map}
+use Rattle.cif_columns.proofs.Names.{List, [], ap, arith, drop, flat_map, set, take, ℕ, ◌++◌, ◌∙◌, ◌∷◌}
 use Rattle.cif_columns.proofs.TextsOfLines.{same_others}
 use Rattle.cif_columns.proofs.lines.LineTexts.set_first.Goals as goal
 

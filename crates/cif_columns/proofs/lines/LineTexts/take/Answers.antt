@@ -1,8 +1,5 @@
 -- One line more was taken, and is left no more (`one_taken`).
-use Rattle.std.proofs.Common.{arith, ◌∙◌}
-use Rattle.std.proofs.lemmas.Bool.Decides.{nat_tests}
-use Rattle.std.proofs.lemmas.List.{length-set}
-use Rattle.cif_columns.specs.Contents.{lines_text}
+use Rattle.cif_columns.proofs.Names.{arith, length-set, lines_text, nat_tests, ◌∙◌}
 use Rattle.cif_columns.proofs.TextsOfLines.{one_taken}
 use Rattle.cif_columns.proofs.lines.LineTexts.take.Goals as goal
 

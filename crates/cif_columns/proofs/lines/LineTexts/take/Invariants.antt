@@ -1,7 +1,5 @@
 -- The text of the lines that were taken, and that of those that are left, are all.
-use Rattle.std.proofs.Common.{◌≡◌, ◌<◌, ◌≤◌, ◌-◌, ◌++◌, ℕ, List, drop, length, take}
-use Rattle.std.specs.List.{flat_map}
-use Rattle.cif_columns.specs.Contents.{lines_text}
+use Rattle.cif_columns.proofs.Names.{List, drop, flat_map, length, lines_text, take, ℕ, ◌++◌, ◌-◌, ◌<◌, ◌≡◌, ◌≤◌}
 use Rattle.cif_columns.proofs.lines.LineTexts.take.Given as goal
 
 abbrev pub invariant-loop-self : goal.invariant-loop-self

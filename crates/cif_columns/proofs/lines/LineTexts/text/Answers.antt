@@ -1,5 +1,5 @@
 -- The text of all is that of the first and of the others (`first_and_others`).
-use Rattle.std.proofs.Common.{◌++◌, ℕ, List, ap, arith, ◌∙◌}
+use Rattle.cif_columns.proofs.Names.{List, ap, arith, ℕ, ◌++◌, ◌∙◌}
 use Rattle.cif_columns.proofs.TextsOfLines.{first_and_others}
 use Rattle.cif_columns.proofs.lines.LineTexts.text.Goals as goal
 

@@ -1,6 +1,5 @@
 -- The bytes of a line may stand in one.
-use Rattle.std.proofs.Common.{subst, sym}
-use Rattle.cif_columns.specs.Line.{ArePrintable}
+use Rattle.cif_columns.proofs.Names.{ArePrintable, subst, sym}
 use Rattle.cif_columns.proofs.lines.Lines.push.Goals as goal
 
 pub push_columns-requires : goal.push_columns-requires

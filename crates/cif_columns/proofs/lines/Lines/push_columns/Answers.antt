@@ -1,5 +1,5 @@
 -- Behind what was kept stands the line as it is kept (`kept_behind`): a line more (`one_more`).
-use Rattle.std.proofs.Common.{◌≡◌, ◌+◌, ◌++◌, ◌∷◌, [], ap, arith, length, ◌∙◌}
+use Rattle.cif_columns.proofs.Names.{[], ap, arith, length, ◌++◌, ◌+◌, ◌∙◌, ◌∷◌, ◌≡◌}
 use Rattle.cif_columns.proofs.KeptLines.{Keep, are_kept, keep_view, kept_behind, lines_kept, one_more}
 use Rattle.cif_columns.proofs.lines.Lines.push_columns.Goals as goal
 use Rattle.cif_columns.proofs.lines.Lines.push_columns.Goals.{After-truncate}

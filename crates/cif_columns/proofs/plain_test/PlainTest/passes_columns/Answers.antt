@@ -1,5 +1,5 @@
 -- The test lets no other bytes through (`line_by_test`), so the columns are a line, of which `plain_by_test` speaks.
-use Rattle.std.proofs.Common.{rules}
+use Rattle.cif_columns.proofs.Names.{rules}
 use Rattle.cif_columns.proofs.TestedBytes.{line_by_test}
 use Rattle.cif_columns.proofs.TestedRows.{plain_by_test}
 use Rattle.cif_columns.proofs.plain_test.PlainTest.passes_columns.Goals as goal

@@ -1,7 +1,6 @@
 -- One more write: `moves_front` moves the bytes that it took from `rest` to those that are done, and the appends join.
-use Rattle.std.proofs.Common.{◌≡◌, ℕ, ◌-◌, List, ◌++◌, length, take, drop, sym, ap, ◌∙◌, append_assoc, take-append-drop, arith}
-use Rattle.std.proofs.lemmas.List.{take_rest}
-use Rattle.std.proofs.KnownBytes.{Appends-trans}
+use Rattle.cif_columns.proofs.Names.{Appends-trans, List, ap, append_assoc, arith, drop, length, sym, take, take-append-drop, take_rest, ℕ}
+use Rattle.cif_columns.proofs.Names.{◌++◌, ◌-◌, ◌∙◌, ◌≡◌}
 use Rattle.cif_columns.proofs.sink.Sink.write_all.Goals as goal
 
 moves_front : (all done rest : List ℕ) (n : ℕ) → all ≡ done ++ rest → all ≡ (done ++ take n rest) ++ take (length rest - n) (drop n rest)

@@ -1,6 +1,5 @@
 -- What is gone from `rest` was appended, and `rest` gets shorter.
-use Rattle.std.proofs.Common.{◌≡◌, false, ℕ, List, ◌++◌, length}
-use Rattle.std.specs.Io.KnownBytes.{Appends}
+use Rattle.cif_columns.proofs.Names.{Appends, List, false, length, ℕ, ◌++◌, ◌≡◌}
 use Rattle.cif_columns.proofs.sink.Sink.write_all.Given as goal
 
 abbrev pub invariant-loop-rest : goal.invariant-loop-rest

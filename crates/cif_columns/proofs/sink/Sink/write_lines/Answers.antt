@@ -1,7 +1,5 @@
 -- A line more is written behind the others, or fails behind them (`line_failed`).
-use Rattle.std.proofs.Common.{◌<◌, ◌++◌, ◌∷◌, [], arith, drop, length, refl}
-use Rattle.std.proofs.lemmas.Bool.Decides.{nat_tests}
-use Rattle.cif_columns.specs.Contents.{lines_text}
+use Rattle.cif_columns.proofs.Names.{[], arith, drop, length, lines_text, nat_tests, refl, ◌++◌, ◌<◌, ◌∷◌}
 use Rattle.cif_columns.proofs.WrittenLines.{line_failed, line_split}
 use Rattle.cif_columns.proofs.WrittenTexts.{writes_err, written_both}
 use Rattle.cif_columns.proofs.sink.Sink.write_lines.Goals as goal

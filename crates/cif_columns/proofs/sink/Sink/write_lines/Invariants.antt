@@ -1,7 +1,5 @@
 -- What was written, and the text of the lines that are left, are all.
-use Rattle.std.proofs.Common.{◌≡◌, ℕ, List, ◌++◌, length}
-use Rattle.cif_columns.specs.Contents.{lines_text}
-use Rattle.cif_columns.specs.Sink.{HasWritten}
+use Rattle.cif_columns.proofs.Names.{HasWritten, List, length, lines_text, ℕ, ◌++◌, ◌≡◌}
 use Rattle.cif_columns.proofs.sink.Sink.write_lines.Given as goal
 
 abbrev pub invariant-loop-rest : goal.invariant-loop-rest

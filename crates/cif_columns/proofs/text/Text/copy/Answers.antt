@@ -1,9 +1,7 @@
 -- The bytes are cloned one by one: they are the same.
-use Rattle.std.proofs.Common.{◌≡◌, ◌∙◌, List, ℕ, subst, sym}
-use Rattle.std.proofs.lemmas.List.Elements.{same_from_all_zip}
-use Rattle.cif_columns.specs.Text.{IsText}
-use Rattle.cif_columns.proofs.text.Text.copy.Given.{Over}
+use Rattle.cif_columns.proofs.Names.{IsText, List, same_from_all_zip, subst, sym, ℕ, ◌∙◌, ◌≡◌}
 use Rattle.cif_columns.proofs.text.Text.copy.Goals as goal
+use Rattle.cif_columns.proofs.text.Text.copy.Given.{Over}
 
 same : (g : Over) (c : goal.In-Ok g) → ◌≡◌ {A = List ℕ} c.in-Ok.bytes.items c.self.inside.bytes.items
 same g c = same_from_all_zip _ _ _ c.in-Ok.ensures.cases (λ x y is. is)

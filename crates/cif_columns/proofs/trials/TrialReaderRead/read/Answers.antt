@@ -1,9 +1,8 @@
 -- A slice gives a piece, which is consumed (`piece_consumed`); of bytes that begin again none are known.
-use Rattle.std.proofs.Common.{◌<◌, ◌++◌, length, drop, arith, length-append}
-use Rattle.std.proofs.lemmas.List.{length-drop, length-take}
-use Rattle.cif_columns.proofs.TrialPieces.{piece_consumed, one_more}
+use Rattle.cif_columns.proofs.Names.{arith, drop, length, length-append, length-drop, length-take, ◌++◌, ◌<◌}
+use Rattle.cif_columns.proofs.TrialPieces.{one_more, piece_consumed}
 use Rattle.cif_columns.proofs.trials.TrialReaderRead.read.Goals as goal
-use Rattle.cif_columns.proofs.trials.TrialReaderRead.read.Goals.{then-self-min+in-Stop, then-self-min+in-Again, else-self-min}
+use Rattle.cif_columns.proofs.trials.TrialReaderRead.read.Goals.{else-self-min, then-self-min+in-Again, then-self-min+in-Stop}
 
 pub returns-clause-bytes : goal.returns-clause-bytes
 returns-clause-bytes c =

@@ -1,5 +1,5 @@
 -- What it takes stands behind what it has kept (`take-put_mid`).
-use Rattle.std.proofs.Common.{◌≡◌, ◌+◌, ◌-◌, ◌++◌, length, take, arith, ap, ◌∙◌, length-take, refl}
+use Rattle.cif_columns.proofs.Names.{ap, arith, length, length-take, refl, take, ◌++◌, ◌+◌, ◌-◌, ◌∙◌, ◌≡◌}
 use Rattle.std.proofs.lemmas.Slice.{take-put_mid}
 use Rattle.cif_columns.proofs.TrialPieces.{one_more}
 use Rattle.cif_columns.proofs.trials.TrialWriterWrite.write.Goals as goal

@@ -1,9 +1,6 @@
 -- `some_journey` tells of the lines from LO to LT: they are two at least, and those between spell calls.
-use Rattle.std.proofs.Common.{◌≡◌, ◌-◌, ◌∙◌, All, ap, arith, drop, length, map, subst, sym, take}
-use Rattle.std.proofs.lemmas.List.{length-drop}
-use Rattle.std.specs.List.{slice_range}
-use Rattle.cif_extract.specs.Body.{journey_in}
-use Rattle.cif_extract.specs.Call.{SpellsSomeCall, before_last, call_in}
+use Rattle.cif_extract.proofs.Names.{All, SpellsSomeCall, ap, arith, before_last, call_in, drop, journey_in, length, length-drop, map}
+use Rattle.cif_extract.proofs.Names.{slice_range, subst, sym, take, ◌-◌, ◌∙◌, ◌≡◌}
 use Rattle.cif_extract.proofs.Bodies.{some_journey}
 use Rattle.cif_extract.proofs.body.Body.calls.Goals as goal
 use Rattle.cif_extract.proofs.body.Body.calls.Goals.{After-rest}

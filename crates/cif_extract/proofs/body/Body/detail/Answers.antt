@@ -1,6 +1,5 @@
 -- The detail that is read is what stands in the first line.
-use Rattle.std.proofs.Common.{ap, ◌∙◌}
-use Rattle.cif_records.specs.Detail.{detail_in}
+use Rattle.cif_extract.proofs.Names.{ap, detail_in, ◌∙◌}
 use Rattle.cif_extract.proofs.body.Body.detail.Goals as goal
 
 pub returns : goal.returns

@@ -1,9 +1,6 @@
 -- The first line is the plain line of the detail (`first_line`).
-use Rattle.std.proofs.Common.{[], ap, get_or, length, ◌∙◌, arith}
-use Rattle.cif_columns.specs.Field.{plain_line}
-use Rattle.cif_extract.specs.Body.{detail_of}
+use Rattle.cif_extract.proofs.Names.{[], ap, arith, detail_of, detail_table, get_or, length, plain_line, ◌∙◌}
 use Rattle.cif_extract.proofs.Bodies.{first_line}
-use Rattle.cif_records.specs.Detail.{detail_table}
 use Rattle.cif_extract.proofs.body.Body.detail_line.Goals as goal
 
 pub first-requires : goal.first-requires

@@ -1,5 +1,5 @@
 -- Lists of lists of numbers are equal where their elements are, and bodies where their parts are (`equal_parts`).
-use Rattle.std.specs.Cmp.Lexicographic.{bytes_decides, pointwise_decides}
+use Rattle.cif_extract.proofs.Names.{bytes_decides, pointwise_decides}
 use Rattle.cif_extract.proofs.Bodies.{equal_parts}
 use Rattle.cif_extract.proofs.body.Body.equality_of_bodies.Goals as goal
 

@@ -1,5 +1,5 @@
 -- A second line marked `BX` spells the further details, and no other is read as such (`extra_read`).
-use Rattle.std.proofs.Common.{◌∙◌}
+use Rattle.cif_extract.proofs.Names.{◌∙◌}
 use Rattle.cif_extract.proofs.Bodies.{extra_read}
 use Rattle.cif_extract.proofs.body.Body.extra.Goals as goal
 

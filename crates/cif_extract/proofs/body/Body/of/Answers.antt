@@ -1,10 +1,6 @@
 -- The lines are those of the detail and the further details and then those of the journey (`whole_body`): they keep those parts, as their
 -- plain lines.
-use Rattle.std.proofs.Common.{◌≡◌, subst}
-use Rattle.std.specs.Option.{option_copied}
-use Rattle.std.specs.Prelude.{IfOk}
-use Rattle.cif_extract.specs.Body.{KeepBody, body_tables}
-use Rattle.cif_extract.specs.BodyParts.{BodyParts, body_records}
+use Rattle.cif_extract.proofs.Names.{BodyParts, IfOk, KeepBody, body_records, body_tables, option_copied, subst, ◌≡◌}
 use Rattle.cif_extract.proofs.BodyLines.{whole_body}
 use Rattle.cif_extract.proofs.WrittenLines.{kept_plain}
 use Rattle.cif_extract.proofs.body.Body.of.Goals as goal

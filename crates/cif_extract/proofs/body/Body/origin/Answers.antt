@@ -1,10 +1,8 @@
 -- The journey's first line spells its LO (`some_journey`), so `read` gives that (`only`) and refuses nothing.
-use Rattle.std.proofs.Common.{◌≡◌, Ok, [], ap, get_or, is_ok, subst, sym, ◌∙◌}
-use Rattle.cif_extract.specs.Body.{parts_in}
+use Rattle.cif_extract.proofs.Names.{Ok, SpellsOrigin, [], ap, get_or, is_ok, parts_in, subst, sym, ◌∙◌, ◌≡◌}
 use Rattle.cif_extract.proofs.Bodies.{some_journey}
 use Rattle.cif_extract.proofs.body.Body.origin.Goals as goal
 use Rattle.cif_extract.proofs.body.Body.origin.Goals.{After-read}
-use Rattle.cif_records.specs.Origin.{SpellsOrigin}
 
 read : (c : After-read) → c.read.result ≡ Ok (parts_in c.args.self.now).origin
 read c =

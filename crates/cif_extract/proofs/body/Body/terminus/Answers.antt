@@ -1,10 +1,8 @@
 -- The journey's last line spells its LT (`some_journey`), so `read` gives that (`only`) and refuses nothing.
-use Rattle.std.proofs.Common.{◌≡◌, Ok, [], ap, get_or, is_ok, length, ◌-◌, subst, sym, ◌∙◌}
-use Rattle.cif_extract.specs.Body.{parts_in}
+use Rattle.cif_extract.proofs.Names.{Ok, SpellsTerminus, [], ap, get_or, is_ok, length, parts_in, subst, sym, ◌-◌, ◌∙◌, ◌≡◌}
 use Rattle.cif_extract.proofs.Bodies.{some_journey}
 use Rattle.cif_extract.proofs.body.Body.terminus.Goals as goal
 use Rattle.cif_extract.proofs.body.Body.terminus.Goals.{After-read}
-use Rattle.cif_records.specs.Terminus.{SpellsTerminus}
 
 read : (c : After-read) → c.read.result ≡ Ok (parts_in c.args.self.now).terminus
 read c =

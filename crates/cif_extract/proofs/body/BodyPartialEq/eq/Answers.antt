@@ -1,7 +1,6 @@
 -- The declared equality of lists decides whether they are one, and so does the comparison of the lines.
-use Rattle.std.proofs.Common.{sym, ◌∙◌}
+use Rattle.cif_extract.proofs.Names.{bytes_decides, pointwise_decides, sym, ◌∙◌}
 use Rattle.std.proofs.lemmas.Bool.Decides.{same_from_decides}
-use Rattle.std.specs.Cmp.Lexicographic.{bytes_decides, pointwise_decides}
 use Rattle.cif_extract.proofs.body.BodyPartialEq.eq.Goals as goal
 
 pub returns : goal.returns

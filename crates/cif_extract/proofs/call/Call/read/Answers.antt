@@ -1,8 +1,5 @@
 -- A line of some call spells a change or a stop, as columns 1 and 2 say (`turned`, `stopped`), so `read` can but give that.
-use Rattle.std.proofs.Common.{◌≡◌, ap, is_ok, sym, ◌∙◌}
-use Rattle.cif_records.specs.Change.{change_in}
-use Rattle.cif_records.specs.Stop.{stop_in}
-use Rattle.cif_extract.specs.declared.call.Call.TheVariants.{At, Turn}
+use Rattle.cif_extract.proofs.Names.{At, Turn, ap, change_in, is_ok, stop_in, sym, ◌∙◌, ◌≡◌}
 use Rattle.cif_extract.proofs.CallLines.{stopped, turned}
 use Rattle.cif_extract.proofs.call.Call.read.Goals as goal
 

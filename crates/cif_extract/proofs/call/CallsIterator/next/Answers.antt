@@ -1,7 +1,5 @@
 -- Of the first of the lines and the others (`first_before_last`) `first_and_rest` and `first_call` tell what the view is.
-use Rattle.std.proofs.Common.{◌≡◌, ◌∷◌, arith}
-use Rattle.std.proofs.lemmas.Bool.Decides.{nat_tests}
-use Rattle.cif_extract.specs.Call.{before_last}
+use Rattle.cif_extract.proofs.Names.{arith, before_last, nat_tests, ◌∷◌, ◌≡◌}
 use Rattle.cif_extract.proofs.CallLines.{first_and_rest, first_before_last, first_call}
 use Rattle.cif_extract.proofs.call.CallsIterator.next.Goals as goal
 use Rattle.cif_extract.proofs.call.CallsIterator.next.Goals.{After-first-first}

@@ -1,11 +1,6 @@
 -- One association more (`one_more`), and one schedule. The header and the locations fit by their own facts, and so the whole does
 -- (`extract_fits`).
-use Rattle.std.proofs.Common.{◌∙◌, All, subst, take_all}
-use Rattle.cif_columns.specs.Field.{AllFit}
-use Rattle.cif_extract.specs.ExtractParts.{extract_parts}
-use Rattle.cif_extract.specs.Texts.{ScheduleFits}
-use Rattle.cif_records.specs.Association.{association_table}
-use Rattle.cif_records.specs.declared.association.Association.{Association}
+use Rattle.cif_extract.proofs.Names.{All, AllFit, Association, ScheduleFits, association_table, extract_parts, subst, take_all, ◌∙◌}
 use Rattle.cif_extract.proofs.BodyFits.{extract_fits, one_more}
 use Rattle.cif_extract.proofs.extract.Extract.fits.Goals as goal
 

@@ -1,9 +1,5 @@
 -- The detail of a body fits (`detail-fits`).
-use Rattle.std.proofs.Common.{subst, sym}
-use Rattle.std.specs.Option.{option_copied, option_map}
-use Rattle.cif_columns.specs.Field.{AllFit}
-use Rattle.cif_extract.specs.Body.{detail_of}
-use Rattle.cif_records.specs.Detail.{detail_rows}
+use Rattle.cif_extract.proofs.Names.{AllFit, detail_of, detail_rows, option_copied, option_map, subst, sym}
 use Rattle.cif_extract.proofs.PlainTexts.{detail-fits}
 use Rattle.cif_extract.proofs.extract.Schedule.body_fits.Goals as goal
 

@@ -1,10 +1,5 @@
 -- The detail's own line has its columns where the BS has them (`detail_columns`), and a blank line has none there.
-use Rattle.std.proofs.Common.{ap, sym, ◌∙◌}
-use Rattle.std.specs.Option.{option_map}
-use Rattle.cif_columns.specs.Field.{columns, plain_line}
-use Rattle.cif_extract.specs.Body.{detail_of}
-use Rattle.cif_records.specs.Detail.{detail_rows}
-use Rattle.cif_records.proofs.Details.{detail_columns}
+use Rattle.cif_extract.proofs.Names.{ap, columns, detail_columns, detail_of, detail_rows, option_map, plain_line, sym, ◌∙◌}
 use Rattle.cif_extract.proofs.extract.Schedule.line_on.Goals as goal
 
 pub returns-in-Some : goal.returns-in-Some

@@ -1,8 +1,5 @@
 -- Unless memory ran out, the schedule is put together from the steps, with the parts in the lines.
-use Rattle.std.proofs.Common.{◌∙◌, ◌++◌, ◌∷◌, [], List, None, Some, ap, sym}
-use Rattle.cif_extract.specs.Body.{BodyLines}
-use Rattle.cif_extract.specs.Steps.Reading.{Progress, progress_of, schedule_of}
-use Rattle.cif_extract.specs.declared.extract.Schedule.{Schedule}
+use Rattle.cif_extract.proofs.Names.{BodyLines, List, None, Progress, Schedule, Some, [], ap, progress_of, schedule_of, sym, ◌++◌, ◌∙◌, ◌∷◌}
 use Rattle.cif_extract.proofs.Schedules.{closed_some}
 use Rattle.cif_extract.proofs.TakenLines.{memory_so}
 use Rattle.cif_extract.proofs.reading.Reading.close.Goals as goal

@@ -1,5 +1,5 @@
 -- A whole reading holds the extract (`held_are`), and one without a header isn't whole (`unfinished`).
-use Rattle.cif_extract.specs.Steps.Reading.{progress_of}
+use Rattle.cif_extract.proofs.Names.{progress_of}
 use Rattle.cif_extract.proofs.ReadingRuns.{held_are, unfinished}
 use Rattle.cif_extract.proofs.reading.Reading.end.Goals as goal
 use Rattle.cif_extract.proofs.reading.Reading.end.Goals.{in_default-via-in-Ended+in_default, in_default-via-in_default}

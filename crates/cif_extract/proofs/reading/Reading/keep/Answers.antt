@@ -1,5 +1,5 @@
 -- The line is its own plain line, or what `plain_line_of` gave is: that is kept (`kept_plain`).
-use Rattle.cif_extract.specs.Steps.Reading.{progress_of}
+use Rattle.cif_extract.proofs.Names.{progress_of}
 use Rattle.cif_extract.proofs.TakenLines.{kept_plain}
 use Rattle.cif_extract.proofs.reading.Reading.keep.Goals as goal
 

@@ -1,10 +1,5 @@
 -- By its letter the BS has the detail that stands in the line, whose plain line is kept, or none.
-use Rattle.std.proofs.Common.{sym, ◌≡◌, ◌∙◌, ap, true, false, None}
-use Rattle.cif_extract.specs.Steps.Reading.{progress_of}
-use Rattle.cif_records.specs.Bodies.{has_body}
-use Rattle.cif_records.specs.Detail.{detail_in}
-use Rattle.cif_records.specs.declared.basic.BasicTerms.{BasicTerms}
-use Rattle.cif_records.proofs.Basics.{no_detail_there}
+use Rattle.cif_extract.proofs.Names.{BasicTerms, None, ap, detail_in, false, has_body, no_detail_there, progress_of, sym, true, ◌∙◌, ◌≡◌}
 use Rattle.cif_extract.proofs.BasicSteps.{begun_none, begun_some, keepable_none, keepable_some}
 use Rattle.cif_extract.proofs.TakenLines.{memory_so}
 use Rattle.cif_extract.proofs.reading.Reading.put_basic.Goals as goal

@@ -1,9 +1,5 @@
 -- Where the place allows its kind a line is refused for its fields alone: `refusal_of_record`, for a journey's kinds and BX.
-use Rattle.std.proofs.Common.{◌≡◌, Some, ap, sym, subst, ◌∙◌}
-use Rattle.cif_extract.specs.Layouts.{own_layouts}
-use Rattle.cif_extract.specs.Steps.Reading.{IsTaken, progress_of}
-use Rattle.cif_extract.specs.Taken.{refusal_at}
-use Rattle.cif_records.specs.Record.{refusal_as}
+use Rattle.cif_extract.proofs.Names.{IsTaken, Some, ap, own_layouts, progress_of, refusal_as, refusal_at, subst, sym, ◌∙◌, ◌≡◌}
 use Rattle.cif_extract.proofs.TakenLines.{refusal_of_fields, refusal_of_record}
 use Rattle.cif_extract.proofs.reading.Reading.take.Goals as goal
 use Rattle.cif_extract.proofs.reading.Reading.take.Goals.{Else-not-allows}

@@ -1,6 +1,6 @@
 -- Only terms were read: the BS that the line spells has the detail that stands there (`detail_there`).
+use Rattle.cif_extract.proofs.Names.{detail_there}
 use Rattle.cif_records.specs.declared.record.Record.TheVariants as of
-use Rattle.cif_records.proofs.Basics.{detail_there}
 use Rattle.cif_extract.proofs.TakenLines.{fine_so}
 use Rattle.cif_extract.proofs.reading.Reading.take_basic.Goals as goal
 

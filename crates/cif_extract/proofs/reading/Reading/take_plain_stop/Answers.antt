@@ -1,6 +1,5 @@
 -- The columns as they are kept are the plain line, so `plain_stop` has all of it.
-use Rattle.std.proofs.Common.{None}
-use Rattle.cif_extract.specs.Steps.Reading.{progress_of}
+use Rattle.cif_extract.proofs.Names.{None, progress_of}
 use Rattle.cif_extract.proofs.TakenLines.{memory_so, plain_stop}
 use Rattle.cif_extract.proofs.reading.Reading.take_plain_stop.Goals as goal
 

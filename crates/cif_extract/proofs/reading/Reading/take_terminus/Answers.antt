@@ -1,12 +1,10 @@
 -- By its kind the record is an LT (`is_terminus`): the lines then keep a whole body (`keeps_body`), and closing is the step.
-use Rattle.std.proofs.Common.{◌≡◌, Some, sym, ◌∙◌, subst, ap}
-use Rattle.cif_extract.specs.Body.{KeepSomeBody}
-use Rattle.cif_extract.specs.Steps.Reading.{Progress, kept, progress_of}
-use Rattle.cif_records.specs.declared.record.Kind.TheVariants.{Lt}
+use Rattle.cif_extract.proofs.Names.{KeepSomeBody, Lt, Progress, Some, ap, progress_of, subst, sym, ◌∙◌, ◌≡◌}
 use Rattle.cif_records.specs.declared.record.Record.TheVariants as of
 use Rattle.cif_extract.proofs.BasicSteps.{closing, terminus_none}
 use Rattle.cif_extract.proofs.JourneySteps.{keeps_body}
 use Rattle.cif_extract.proofs.TakenLines.{is_terminus, kind_here}
+use Rattle.cif_extract.specs.Steps.Reading.{kept}
 use Rattle.cif_extract.proofs.reading.Reading.take_terminus.Goals as goal
 
 pub close-requires-clause-lines : goal.close-requires-clause-lines

@@ -1,5 +1,5 @@
 -- The record that the line spells has to be named: the trailer, which changes nothing but the place.
-use Rattle.std.proofs.Common.{refl}
+use Rattle.cif_extract.proofs.Names.{refl}
 use Rattle.cif_records.specs.declared.record.Record.TheVariants as of
 use Rattle.cif_extract.proofs.reading.Reading.take_trailer.Goals as goal
 

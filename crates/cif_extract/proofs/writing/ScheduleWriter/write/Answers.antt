@@ -1,12 +1,6 @@
 -- The text is that of the BS with the lines of the body.
-use Rattle.std.proofs.Common.{◌≡◌, ◌∷◌, Some, ap, drop, subst}
-use Rattle.cif_columns.specs.Contents.{lines_text}
-use Rattle.cif_columns.specs.Field.{plain_line}
-use Rattle.cif_columns.specs.Sink.{Writes}
-use Rattle.cif_columns.specs.declared.stp.Stp.TheVariants.{P}
-use Rattle.cif_extract.specs.Body.{BodyLines, detail_of}
-use Rattle.cif_extract.specs.Texts.{schedule_lines}
-use Rattle.cif_records.specs.Basic.{basic_rows}
+use Rattle.cif_extract.proofs.Names.{BodyLines, P, Some, Writes, ap, basic_rows, detail_of, drop, lines_text, plain_line, schedule_lines}
+use Rattle.cif_extract.proofs.Names.{subst, ◌∷◌, ◌≡◌}
 use Rattle.cif_extract.proofs.writing.ScheduleWriter.write.Goals as goal
 
 pub returns-clause-writes : goal.returns-clause-writes

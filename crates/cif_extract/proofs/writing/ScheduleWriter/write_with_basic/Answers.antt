@@ -1,9 +1,6 @@
 -- The text is that of the BS with the lines that were taken, and of the others.
-use Rattle.std.proofs.Common.{◌++◌, ℕ, List, ap, drop, subst, ◌∙◌, ◌∷◌}
-use Rattle.cif_columns.specs.Contents.{lines_text}
-use Rattle.cif_columns.specs.Sink.{HasFailed, HasWritten, Writes}
-use Rattle.cif_columns.proofs.WrittenTexts.{writes_err}
-use Rattle.cif_extract.specs.Body.{BodyLines}
+use Rattle.cif_extract.proofs.Names.{BodyLines, HasFailed, HasWritten, List, Writes, ap, drop, lines_text, subst, writes_err, ℕ, ◌++◌, ◌∙◌}
+use Rattle.cif_extract.proofs.Names.{◌∷◌}
 use Rattle.cif_extract.proofs.WrittenLines.{first_failed, second_writes}
 use Rattle.cif_extract.proofs.writing.ScheduleWriter.write_with_basic.Goals as goal
 

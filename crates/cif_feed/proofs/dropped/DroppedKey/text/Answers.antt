@@ -1,5 +1,5 @@
 -- Several dates more (`many-more`).
-use Rattle.std.proofs.Common.{◌++◌, ◌∙◌, ℕ, List, ap, ap₂, codes, rules}
+use Rattle.cif_feed.proofs.Names.{List, ap, ap₂, codes, rules, ℕ, ◌++◌, ◌∙◌}
 use Rattle.cif_feed.proofs.ClashingKeys.{many-more}
 use Rattle.cif_feed.proofs.dropped.DroppedKey.text.Goals as goal
 

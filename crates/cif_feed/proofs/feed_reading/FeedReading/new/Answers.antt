@@ -1,8 +1,5 @@
 -- Nothing was read, and there is no mark.
-use Rattle.std.proofs.Common.{[], refl, subst, sym}
-use Rattle.cif_extract.proofs.ReadingRuns.{taken_none}
-use Rattle.cif_extract.specs.Taken.{HasTaken}
-use Rattle.cif_feed.specs.FeedLayouts.{feed_layouts}
+use Rattle.cif_feed.proofs.Names.{HasTaken, [], feed_layouts, refl, subst, sym, taken_none}
 use Rattle.cif_feed.proofs.feed_reading.FeedReading.new.Goals as goal
 
 pub returns : goal.returns

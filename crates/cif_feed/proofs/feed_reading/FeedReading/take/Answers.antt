@@ -1,8 +1,5 @@
 -- A note is counted (`note_taken`); of a line that is taken its mark is kept (`line_taken`).
-use Rattle.std.proofs.Common.{◌||◌, ap, sym, ◌∙◌}
-use Rattle.cif_feed.specs.Marks.{mark_parts}
-use Rattle.cif_feed.specs.RecordLines.{is_basic, is_trailer}
-use Rattle.cif_feed.specs.Steps.Marks.{with_line}
+use Rattle.cif_feed.proofs.Names.{ap, is_basic, is_trailer, mark_parts, sym, with_line, ◌||◌, ◌∙◌}
 use Rattle.cif_feed.proofs.FeedSteps.{line_taken, line_untaken, note_taken}
 use Rattle.cif_feed.proofs.feed_reading.FeedReading.take.Goals as goal
 

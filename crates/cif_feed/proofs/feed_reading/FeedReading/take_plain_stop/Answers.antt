@@ -1,6 +1,5 @@
 -- What `Reading` says of the line is said of the contents (`stop_taken`).
-use Rattle.std.proofs.Common.{None, refl}
-use Rattle.cif_extract.proofs.TakenLines.{memory_so}
+use Rattle.cif_feed.proofs.Names.{None, memory_so, refl}
 use Rattle.cif_feed.proofs.FeedSteps.{stop_taken}
 use Rattle.cif_feed.proofs.feed_reading.FeedReading.take_plain_stop.Goals as goal
 

@@ -1,7 +1,6 @@
 -- The dates rise, so the search finds the place.
-use Rattle.std.proofs.Common.{◌≡◌, ℕ, true, false, ltb, ltb-true, ltb-false, rules, subst, List, arith}
-use Rattle.std.proofs.lemmas.List.Sorted.{IsPartitionPoint-from_clause, IsPartitionedBy-ltb}
-use Rattle.std.specs.List.Sorted.{IsPartitionPoint}
+use Rattle.cif_feed.proofs.Names.{IsPartitionPoint, IsPartitionPoint-from_clause, IsPartitionedBy-ltb, List, arith, false, ltb, ltb-false}
+use Rattle.cif_feed.proofs.Names.{ltb-true, rules, subst, true, ℕ, ◌≡◌}
 use Rattle.cif_feed.proofs.holidays.HolidayDates.count_before.Goals as goal
 
 point : (c : goal.After-partition_point) → IsPartitionPoint (λ (d : ℕ). ltb d c.args.day ≡ true) (λ (d : ℕ). ltb d c.args.day ≡ false)

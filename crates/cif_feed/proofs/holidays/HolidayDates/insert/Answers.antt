@@ -1,5 +1,5 @@
 -- An insertion adds the day (`dates-inserted`), unless it is there (`dates-there`).
-use Rattle.std.proofs.Common.{refl}
+use Rattle.cif_feed.proofs.Names.{refl}
 use Rattle.cif_feed.proofs.GrownHolidays.{dates-inserted, dates-there}
 use Rattle.cif_feed.proofs.holidays.HolidayDates.insert.Goals as goal
 

@@ -1,7 +1,6 @@
 -- The dates rise, so that one after the last day ends the search (`none-found`), and one on a weekday of the mask is the first
 -- (`date-found`).
-use Rattle.std.proofs.Common.{inr, ℕ, ◌<◌, rules, arith, ◌∙◌, ap, drop, subst}
-use Rattle.std.proofs.lemmas.List.{get_or_read, take_rest}
+use Rattle.cif_feed.proofs.Names.{ap, arith, drop, get_or_read, inr, rules, subst, take_rest, ℕ, ◌<◌, ◌∙◌}
 use Rattle.cif_feed.proofs.PartLists.{date-found, from-late, none-found}
 use Rattle.cif_feed.proofs.holidays.HolidayDates.next_on.Goals as goal
 

@@ -1,7 +1,5 @@
 -- None of the dates so far has its weekday in the mask, and all of them are up to the last.
-use Rattle.std.proofs.Common.{ℕ, ◌<◌, get_or}
-use Rattle.cif_columns.specs.Day.{weekday_of}
-use Rattle.cif_columns.specs.DaysRun.{RunsOn}
+use Rattle.cif_feed.proofs.Names.{RunsOn, get_or, weekday_of, ℕ, ◌<◌}
 use Rattle.cif_feed.proofs.holidays.HolidayDates.next_on.Given as goal
 
 abbrev pub invariant-loop-day : goal.invariant-loop-day

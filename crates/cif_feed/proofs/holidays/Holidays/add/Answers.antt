@@ -1,7 +1,5 @@
 -- One code has one day more.
-use Rattle.std.proofs.Common.{refl}
-use Rattle.std.proofs.lemmas.Result.{IfOk-weaker}
-use Rattle.cif_feed.specs.declared.holidays.HolidayCode.TheVariants.{X, E, G}
+use Rattle.cif_feed.proofs.Names.{E, G, IfOk-weaker, X, refl}
 use Rattle.cif_feed.proofs.GrownHolidays.{has-more, others-E, others-G, others-X}
 use Rattle.cif_feed.proofs.holidays.Holidays.add.Goals as goal
 

@@ -1,8 +1,6 @@
 -- One word more is one day more (`more-day`); at the end all words were dates (`dates-all`).
-use Rattle.std.proofs.Common.{◌≡◌, ◌<◌, ◌∙◌, ◌++◌, ℕ, List, [], ◌∷◌, length, None, Some, refl, sym, ap, arith, rules, append_assoc}
-use Rattle.std.proofs.lemmas.List.Elements.{All-push}
-use Rattle.cif_feed.specs.HolidayText.{IsDate}
-use Rattle.cif_feed.specs.Words.{words_in}
+use Rattle.cif_feed.proofs.Names.{All-push, IsDate, List, None, Some, [], ap, append_assoc, arith, length, refl, rules, sym, words_in, ℕ}
+use Rattle.cif_feed.proofs.Names.{◌++◌, ◌<◌, ◌∙◌, ◌∷◌, ◌≡◌}
 use Rattle.cif_feed.proofs.HolidayLines.{dates-all, more-day, more-nothing, no-date}
 use Rattle.cif_feed.proofs.holidays.Holidays.add_dates.Goals as goal
 

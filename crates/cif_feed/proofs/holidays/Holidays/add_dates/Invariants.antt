@@ -1,8 +1,5 @@
 -- The words so far name days, and these are added.
-use Rattle.std.proofs.Common.{◌≡◌, ◌++◌, ℕ, List, All, length}
-use Rattle.cif_feed.specs.Holidays.{HasMore}
-use Rattle.cif_feed.specs.HolidayText.{IsDate, NamesDay}
-use Rattle.cif_feed.specs.Words.{words_in}
+use Rattle.cif_feed.proofs.Names.{All, HasMore, IsDate, List, NamesDay, length, words_in, ℕ, ◌++◌, ◌≡◌}
 use Rattle.cif_feed.proofs.holidays.Holidays.add_dates.Given as goal
 
 abbrev pub invariant-loop-word : goal.invariant-loop-word

@@ -1,7 +1,5 @@
 -- The line's words are those of what stands before its remark: none, or a code and dates (`HolidayLines`).
-use Rattle.std.proofs.Common.{◌≡◌, ◌<◌, ◌≤◌, ◌∙◌, ℕ, List, [], ◌∷◌, length, get_or, sym, ap, arith}
-use Rattle.cif_feed.specs.HolidayText.{words_of}
-use Rattle.cif_feed.specs.Words.{words_in}
+use Rattle.cif_feed.proofs.Names.{List, [], ap, arith, get_or, length, sym, words_in, words_of, ℕ, ◌<◌, ◌∙◌, ◌∷◌, ◌≡◌, ◌≤◌}
 use Rattle.cif_feed.proofs.HolidayLines.{line-err, line-ok, one-byte}
 use Rattle.cif_feed.proofs.holidays.Holidays.add_line.Goals as goal
 

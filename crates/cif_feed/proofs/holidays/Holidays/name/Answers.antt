@@ -1,6 +1,5 @@
 -- One code is named, and has no day more.
-use Rattle.std.proofs.Common.{refl}
-use Rattle.cif_feed.specs.declared.holidays.HolidayCode.TheVariants.{X, E, G}
+use Rattle.cif_feed.proofs.Names.{E, G, X, refl}
 use Rattle.cif_feed.proofs.GrownHolidays.{has-more, no-more, others-E, others-G, others-X}
 use Rattle.cif_feed.proofs.holidays.Holidays.name.Goals as goal
 

@@ -1,11 +1,6 @@
 -- The invariant names the lines so far: one more (`line-more`), one that is bad, and the end are said of them all.
-use Rattle.std.proofs.Common.{[], ◌++◌, ◌∷◌, ◌+◌, ap, arith, subst}
-use Rattle.cif_columns.proofs.ContentRuns.{given_none}
-use Rattle.cif_columns.proofs.GivenLinesLaws.{none_given}
-use Rattle.cif_columns.proofs.ReadSources.{read_nothing, read_on_both}
-use Rattle.cif_columns.specs.ContentReader.{content}
-use Rattle.cif_feed.specs.HolidayText.{IsHolidayLine}
-use Rattle.cif_feed.specs.Steps.HolidayReading.{HasLineMore, IsLineFault}
+use Rattle.cif_feed.proofs.Names.{HasLineMore, IsHolidayLine, IsLineFault, [], ap, arith, content, given_none, none_given, read_nothing}
+use Rattle.cif_feed.proofs.Names.{read_on_both, subst, ◌++◌, ◌+◌, ◌∷◌}
 use Rattle.cif_feed.proofs.HolidayLines.{AreLinesAndRest, are-none, are-push, comes-bad, comes-end, comes-line_fault, comes-overlong}
 use Rattle.cif_feed.proofs.HolidayLines.{line-more}
 use Rattle.cif_feed.proofs.holidays.Holidays.read.Goals as goal

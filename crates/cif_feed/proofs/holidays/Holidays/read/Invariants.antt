@@ -1,9 +1,6 @@
 -- The lines so far are lines of these holidays, and the source was read on.
-use Rattle.std.proofs.Common.{◌-◌, List, ℕ}
+use Rattle.cif_feed.proofs.Names.{AreHolidaysOf, HasGiven, HasReadOn, List, ℕ, ◌-◌}
 use Rattle.cif_columns.specs.ContentReader.{given, limit}
-use Rattle.cif_columns.specs.Source.{HasReadOn}
-use Rattle.cif_columns.proofs.ContentRuns.{HasGiven}
-use Rattle.cif_feed.specs.HolidayText.{AreHolidaysOf}
 use Rattle.cif_feed.proofs.HolidayLines.{AreLinesAndRest}
 use Rattle.cif_feed.proofs.holidays.Holidays.read.Given as goal
 

@@ -1,13 +1,7 @@
 -- The invariant names the contents so far: one more (`given_more`), one too many, one that is overlong, and the end are said of them all.
-use Rattle.std.proofs.Common.{◌≡◌, ap, ◌+◌, ◌<◌, ◌≤◌, ◌∙◌, arith, inl, inr, length, [], ◌++◌, ◌∷◌, refl, sym, ⊎_elim}
-use Rattle.cif_columns.proofs.ContentRuns.{given_more, given_none}
-use Rattle.cif_columns.proofs.JudgedContents.{AreJudgedAndRest, content_more, given_overlong, judged_all_given, no_contents}
-use Rattle.cif_columns.specs.ContentReader.{content}
-use Rattle.cif_columns.proofs.ReadSources.{read_nothing, read_on_both}
-use Rattle.cif_columns.specs.FirstLine.{line_of}
-use Rattle.cif_columns.specs.Source.{source_ended}
-use Rattle.cif_columns.specs.declared.refusal.Refusal.TheVariants.{BadLength}
-use Rattle.cif_extract.proofs.ReadCalls.{of_any}
+use Rattle.cif_feed.proofs.Names.{AreJudgedAndRest, BadLength, [], ap, arith, content, content_more, given_more, given_none, given_overlong}
+use Rattle.cif_feed.proofs.Names.{inl, inr, judged_all_given, length, line_of, no_contents, of_any, read_nothing, read_on_both, refl}
+use Rattle.cif_feed.proofs.Names.{source_ended, sym, ⊎_elim, ◌++◌, ◌+◌, ◌<◌, ◌∙◌, ◌∷◌, ◌≡◌, ◌≤◌}
 use Rattle.cif_feed.proofs.JudgedRuns.{comes-finished, comes-line_fault, comes-memory, overlong_ok}
 use Rattle.cif_feed.proofs.ToldReasons.{own_of_long, some_has_here}
 use Rattle.cif_feed.proofs.judged.Judged.read.Goals as goal

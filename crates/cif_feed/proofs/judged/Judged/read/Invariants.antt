@@ -1,10 +1,6 @@
 -- There are contents so far, which are judged; the source was read on, and hadn't failed if it gave bytes.
-use Rattle.std.proofs.Common.{◌≡◌, ◌⊎◌, ◌-◌, ℕ, false, List, []}
-use Rattle.cif_columns.specs.ContentReader.{given, held, limit}
-use Rattle.cif_columns.specs.Source.{HasReadOn, source_failed}
-use Rattle.cif_columns.proofs.ContentRuns.{HasGiven}
-use Rattle.cif_columns.proofs.JudgedContents.{AreJudgedAndRest}
-use Rattle.cif_feed.specs.Steps.Judging.{HasJudged}
+use Rattle.cif_feed.proofs.Names.{AreJudgedAndRest, HasGiven, HasJudged, HasReadOn, List, [], false, held, source_failed, ℕ, ◌-◌, ◌≡◌, ◌⊎◌}
+use Rattle.cif_columns.specs.ContentReader.{given, limit}
 use Rattle.cif_feed.proofs.judged.Judged.read.Given as goal
 
 abbrev pub invariant-loop-contents : goal.invariant-loop-contents

@@ -1,7 +1,5 @@
 -- Its reason is told too, and the order decides nothing from here on.
-use Rattle.std.proofs.Common.{◌+◌, ◌∙◌, Some, ap, sym, subst}
-use Rattle.std.proofs.lemmas.List.{length-map}
-use Rattle.cif_feed.specs.Reasons.{TellReasons, own_reason, reasons_of}
+use Rattle.cif_feed.proofs.Names.{Some, TellReasons, ap, length-map, own_reason, reasons_of, subst, sym, ◌+◌, ◌∙◌}
 use Rattle.cif_feed.proofs.ToldReasons.{reasons_of_more, some_has_here}
 use Rattle.cif_feed.proofs.judged.Judging.refuse.Goals as goal
 

@@ -1,6 +1,5 @@
 -- A line without a reason is judged by `line_judged`; what isn't read as a record, or is no line, has its reason.
-use Rattle.std.proofs.Common.{◌∙◌, ap, sym}
-use Rattle.cif_records.specs.Record.{record_refusal}
+use Rattle.cif_feed.proofs.Names.{ap, record_refusal, sym, ◌∙◌}
 use Rattle.cif_feed.proofs.JudgedRuns.{line_judged}
 use Rattle.cif_feed.proofs.ToldReasons.{judged_line, own_of_judged, own_of_line}
 use Rattle.cif_feed.proofs.judged.Judging.take.Goals as goal

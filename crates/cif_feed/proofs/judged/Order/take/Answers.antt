@@ -1,10 +1,5 @@
 -- A line that is taken leaves the order as it should be (`none_refused_more`); one that isn't is the first out of order (`refused_here`).
-use Rattle.std.proofs.Common.{◌<◌, Err, Ok, arith, length}
-use Rattle.cif_extract.proofs.LayoutLaws.{own_are}
-use Rattle.cif_extract.proofs.ReadingRuns.{taken_behind}
-use Rattle.cif_extract.specs.Layouts.{own_layouts}
-use Rattle.cif_extract.specs.Steps.Reading.{progress_of}
-use Rattle.cif_extract.specs.declared.reading.TakeFault.TheVariants.{Refused}
+use Rattle.cif_feed.proofs.Names.{Err, Ok, Refused, arith, length, own_are, own_layouts, progress_of, taken_behind, ◌<◌}
 use Rattle.cif_feed.proofs.ToldReasons.{none_has_more, none_refused_more, refused_here, some_has_more}
 use Rattle.cif_feed.proofs.judged.Order.take.Goals as goal
 

@@ -1,10 +1,5 @@
 -- They are found in the associations, and then in the schedules (`all-found`).
-use Rattle.std.proofs.Common.{subst}
-use Rattle.std.specs.BTreeMap.{get}
-use Rattle.std.specs.Ordering.{nat_cmp}
-use Rattle.cif_extract.specs.ExtractParts.{ExtractParts}
-use Rattle.cif_records.specs.AssocKey.{key_cmp}
-use Rattle.cif_feed.specs.Steps.Dropping.{AreAllFound}
+use Rattle.cif_feed.proofs.Names.{AreAllFound, ExtractParts, get, key_cmp, nat_cmp, subst}
 use Rattle.cif_feed.proofs.ClashingKeys.{all-found}
 use Rattle.cif_feed.proofs.prepare.Prepared.clash_dates.Goals as goal
 

@@ -1,7 +1,5 @@
 -- The texts are that of the prepared extract.
-use Rattle.std.proofs.Common.{◌∙◌, ap, subst}
-use Rattle.cif_columns.specs.Sink.{Writes}
-use Rattle.cif_extract.specs.Texts.{extract_text}
+use Rattle.cif_feed.proofs.Names.{Writes, ap, extract_text, subst, ◌∙◌}
 use Rattle.cif_feed.proofs.WrittenItems.{prepared-whole}
 use Rattle.cif_feed.proofs.prepare.Prepared.write.Goals as goal
 

@@ -1,8 +1,6 @@
 -- One association more, which applies on a clash date or not.
-use Rattle.std.proofs.Common.{◌∙◌, List, None, Contains, subst, take_all}
-use Rattle.cif_feed.specs.CutCount.{AppliesOnAny, IsCountOf}
-use Rattle.cif_feed.specs.PublishedParts.{published_association_terms}
-use Rattle.cif_feed.specs.declared.published_extract.PublishedAssociation.{PublishedAssociation}
+use Rattle.cif_feed.proofs.Names.{AppliesOnAny, Contains, IsCountOf, List, None, PublishedAssociation, published_association_terms, subst}
+use Rattle.cif_feed.proofs.Names.{take_all, ◌∙◌}
 use Rattle.cif_feed.proofs.CutCounts.{count-more, on-any, within-more}
 use Rattle.cif_feed.proofs.published_extract.PublishedExtract.count_clashing_associations.Goals as goal
 

@@ -1,12 +1,6 @@
 -- So many of the associations so far apply on a clash date of their key.
-use Rattle.std.proofs.Common.{◌≤◌, ℕ, List, Contains, take}
-use Rattle.std.specs.BTreeMap.{get}
-use Rattle.cif_records.specs.AssocKey.{key_cmp}
-use Rattle.cif_records.specs.declared.association.AssocKey.{AssocKey}
-use Rattle.cif_feed.specs.CutCount.{AppliesOnAny, IsCountOf}
-use Rattle.cif_feed.specs.PublishedParts.{published_association_terms}
-use Rattle.cif_feed.specs.Steps.Dropping.{ReadsAssociations}
-use Rattle.cif_feed.specs.declared.published_extract.PublishedAssociation.{PublishedAssociation}
+use Rattle.cif_feed.proofs.Names.{AppliesOnAny, AssocKey, Contains, IsCountOf, List, PublishedAssociation, ReadsAssociations, get, key_cmp}
+use Rattle.cif_feed.proofs.Names.{published_association_terms, take, ℕ, ◌≤◌}
 use Rattle.cif_feed.proofs.published_extract.PublishedExtract.count_clashing_associations.Given as goal
 
 abbrev pub invariant-loop-one : goal.invariant-loop-one

@@ -1,8 +1,6 @@
 -- One schedule more, which applies on a clash date or not.
-use Rattle.std.proofs.Common.{◌∙◌, List, Contains, subst, take_all}
-use Rattle.cif_feed.specs.CutCount.{AppliesOnAny, IsCountOf}
-use Rattle.cif_feed.specs.PublishedParts.{published_schedule_terms}
-use Rattle.cif_feed.specs.declared.published_extract.PublishedSchedule.{PublishedSchedule}
+use Rattle.cif_feed.proofs.Names.{AppliesOnAny, Contains, IsCountOf, List, PublishedSchedule, published_schedule_terms, subst, take_all}
+use Rattle.cif_feed.proofs.Names.{◌∙◌}
 use Rattle.cif_feed.proofs.CutCounts.{count-more, on-any, within-more}
 use Rattle.cif_feed.proofs.published_extract.PublishedExtract.count_clashing_schedules.Goals as goal
 

@@ -1,11 +1,6 @@
 -- So many of the schedules so far apply on a clash date of their key.
-use Rattle.std.proofs.Common.{◌≤◌, ℕ, List, Contains, take}
-use Rattle.std.specs.BTreeMap.{get}
-use Rattle.std.specs.Ordering.{nat_cmp}
-use Rattle.cif_feed.specs.CutCount.{AppliesOnAny, IsCountOf}
-use Rattle.cif_feed.specs.PublishedParts.{published_schedule_terms}
-use Rattle.cif_feed.specs.Steps.Dropping.{ReadsTrains}
-use Rattle.cif_feed.specs.declared.published_extract.PublishedSchedule.{PublishedSchedule}
+use Rattle.cif_feed.proofs.Names.{AppliesOnAny, Contains, IsCountOf, List, PublishedSchedule, ReadsTrains, get, nat_cmp}
+use Rattle.cif_feed.proofs.Names.{published_schedule_terms, take, ℕ, ◌≤◌}
 use Rattle.cif_feed.proofs.published_extract.PublishedExtract.count_clashing_schedules.Given as goal
 
 abbrev pub invariant-loop-one : goal.invariant-loop-one

@@ -1,8 +1,5 @@
 -- One schedule more, cut or not.
-use Rattle.std.proofs.Common.{◌∙◌, List, subst, take_all}
-use Rattle.cif_feed.specs.CutCount.{HasCut, IsCountOf}
-use Rattle.cif_feed.specs.PublishedParts.{published_schedule_terms}
-use Rattle.cif_feed.specs.declared.published_extract.PublishedSchedule.{PublishedSchedule}
+use Rattle.cif_feed.proofs.Names.{HasCut, IsCountOf, List, PublishedSchedule, published_schedule_terms, subst, take_all, ◌∙◌}
 use Rattle.cif_feed.proofs.CutCounts.{count-more, within-more}
 use Rattle.cif_feed.proofs.published_extract.PublishedExtract.count_cut.Goals as goal
 

@@ -1,8 +1,5 @@
 -- So many of the schedules so far are cut.
-use Rattle.std.proofs.Common.{◌≤◌, take}
-use Rattle.cif_feed.specs.CutCount.{HasCut, IsCountOf}
-use Rattle.cif_feed.specs.PublishedParts.{published_schedule_terms}
-use Rattle.cif_feed.specs.declared.published_extract.PublishedSchedule.{PublishedSchedule}
+use Rattle.cif_feed.proofs.Names.{HasCut, IsCountOf, PublishedSchedule, published_schedule_terms, take, ◌≤◌}
 use Rattle.cif_feed.proofs.published_extract.PublishedExtract.count_cut.Given as goal
 
 abbrev pub invariant-loop-one : goal.invariant-loop-one

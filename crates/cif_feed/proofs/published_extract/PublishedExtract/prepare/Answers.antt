@@ -1,9 +1,5 @@
 -- It is cut at no date of its keys (`whole-prepared`).
-use Rattle.std.proofs.Common.{[]}
-use Rattle.std.specs.Ordering.{nat_cmp}
-use Rattle.std.proofs.lemmas.Result.{IfOk-weaker}
-use Rattle.cif_records.specs.AssocKey.{key_cmp}
-use Rattle.cif_feed.specs.PublishedParts.{published_parts}
+use Rattle.cif_feed.proofs.Names.{IfOk-weaker, [], key_cmp, nat_cmp, published_parts}
 use Rattle.cif_feed.proofs.ClashingKeys.{whole-prepared}
 use Rattle.cif_feed.proofs.FoundKeys.{get-none, reads-none}
 use Rattle.cif_feed.proofs.published_extract.PublishedExtract.prepare.Goals as goal

@@ -1,8 +1,5 @@
 -- It is the one or the other.
-use Rattle.std.proofs.Common.{Bool, subst, sym}
-use Rattle.std.specs.Prelude.{IfOk}
-use Rattle.cif_feed.specs.PublishedParts.{published_parts}
-use Rattle.cif_feed.specs.WrittenPrepared.{IsPreparedAs}
+use Rattle.cif_feed.proofs.Names.{Bool, IfOk, IsPreparedAs, published_parts, subst, sym}
 use Rattle.cif_feed.proofs.published_extract.PublishedExtract.prepare_if.Goals as goal
 
 pub returns-then-drops_clashes : goal.returns-then-drops_clashes

@@ -1,10 +1,5 @@
 -- Where no key clashes the whole extract is the one without clashes; else what is cut at the clash dates is (`ClashingKeys`).
-use Rattle.std.proofs.Common.{◌≡◌, length, refl, rules}
-use Rattle.std.specs.BTreeMap.{get}
-use Rattle.std.specs.Ordering.{nat_cmp}
-use Rattle.std.proofs.lemmas.List.{nil_from_length}
-use Rattle.cif_records.specs.AssocKey.{key_cmp}
-use Rattle.cif_feed.specs.PublishedParts.{published_parts}
+use Rattle.cif_feed.proofs.Names.{get, key_cmp, length, nat_cmp, nil_from_length, published_parts, refl, rules, ◌≡◌}
 use Rattle.cif_feed.proofs.ClashingKeys.{cut-dropped, none-dropped, told-dropped}
 use Rattle.cif_feed.proofs.published_extract.PublishedExtract.prepare_without_clashes.Goals as goal
 

@@ -1,6 +1,5 @@
 -- What the lines say is one published extract (`makes-published`).
-use Rattle.std.proofs.Common.{Ok, refl}
-use Rattle.cif_extract.proofs.ReadCalls.{goes-on, hands-on}
+use Rattle.cif_feed.proofs.Names.{Ok, goes-on, hands-on, refl}
 use Rattle.cif_feed.proofs.SpelledFeeds.{makes-published, reads-published}
 use Rattle.cif_feed.proofs.published_extract.PublishedExtract.read.Goals as goal
 

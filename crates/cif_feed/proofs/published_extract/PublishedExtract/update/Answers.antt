@@ -1,9 +1,5 @@
 -- Each kind of records is changed by itself.
-use Rattle.std.proofs.Common.{◌∙◌, ◌++◌, refl, ap, append_assoc}
-use Rattle.cif_feed.specs.Steps.Changes.{last_line}
-use Rattle.cif_feed.specs.PublishedParts.{published_parts}
-use Rattle.cif_feed.specs.UpdateParts.{update_parts}
-use Rattle.cif_feed.specs.Updated.{refused_header, told_once}
+use Rattle.cif_feed.proofs.Names.{ap, append_assoc, last_line, published_parts, refl, refused_header, told_once, update_parts, ◌++◌, ◌∙◌}
 use Rattle.cif_feed.proofs.UpdatesInTurn.{told-three}
 use Rattle.cif_feed.proofs.published_extract.PublishedExtract.update.Goals as goal
 

@@ -1,7 +1,5 @@
 -- The update that was read is done, or its first line that may not be done is told (`updates`).
-use Rattle.std.proofs.Common.{refl}
-use Rattle.cif_extract.proofs.ReadCalls.{goes-on, hands-on}
-use Rattle.cif_feed.specs.PublishedParts.{published_parts}
+use Rattle.cif_feed.proofs.Names.{goes-on, hands-on, published_parts, refl}
 use Rattle.cif_feed.proofs.UpdatesInTurn.{reads-updating, updates}
 use Rattle.cif_feed.proofs.published_extract.PublishedExtract.update_from.Goals as goal
 

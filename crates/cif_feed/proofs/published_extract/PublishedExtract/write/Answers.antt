@@ -1,7 +1,5 @@
 -- The texts are that of the published extract.
-use Rattle.std.proofs.Common.{subst}
-use Rattle.cif_columns.specs.Sink.{Writes}
-use Rattle.cif_feed.specs.PublishedParts.{published_parts}
+use Rattle.cif_feed.proofs.Names.{Writes, published_parts, subst}
 use Rattle.cif_feed.proofs.WrittenItems.{published-whole}
 use Rattle.cif_feed.proofs.published_extract.PublishedExtract.write.Goals as goal
 

@@ -1,6 +1,5 @@
 -- A line more is told as `tell_more` says; there are fewer lines so far than a reader gives.
-use Rattle.std.proofs.Common.{◌+◌, ◌∙◌, ap, arith, cond, get_or, nat_eq, set}
-use Rattle.cif_feed.specs.Reasons.{is_for}
+use Rattle.cif_feed.proofs.Names.{ap, arith, cond, get_or, is_for, nat_eq, set, ◌+◌, ◌∙◌}
 use Rattle.cif_feed.proofs.ToldReasons.{at_most_all, tell_more}
 use Rattle.cif_feed.proofs.reasons.Reasons.count.Goals as goal
 

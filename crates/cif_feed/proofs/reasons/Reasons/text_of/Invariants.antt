@@ -1,9 +1,6 @@
 -- The text has the lines of the reasons so far.
-use Rattle.std.proofs.Common.{◌≡◌, ◌*◌, ◌≤◌, take}
-use Rattle.std.specs.List.{flat_map}
+use Rattle.cif_feed.proofs.Names.{Refusal, first_in, flat_map, lines_in, reason_line, take, ◌*◌, ◌≡◌, ◌≤◌}
 use Rattle.arrayvec.specs.ArrayString.{array_string_len}
-use Rattle.cif_columns.specs.declared.refusal.Refusal.{Refusal}
-use Rattle.cif_feed.specs.Reasons.{first_in, lines_in, reason_line}
 use Rattle.cif_feed.proofs.reasons.Reasons.text_of.Given as goal
 
 abbrev pub invariant-loop-why : goal.invariant-loop-why

@@ -1,7 +1,5 @@
 -- What the line does to the published association.
-use Rattle.std.proofs.Common.{◌∙◌, ap}
-use Rattle.cif_records.specs.declared.association.AssocKey.{AssocKey}
-use Rattle.cif_feed.specs.UpdateParts.{change_by}
+use Rattle.cif_feed.proofs.Names.{AssocKey, ap, change_by, ◌∙◌}
 use Rattle.cif_feed.proofs.update.ChangeTuple3AssocKeyDayStpPublishedAssociationFromLine.from_line.Goals as goal
 
 pub returns : goal.returns

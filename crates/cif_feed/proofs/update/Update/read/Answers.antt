@@ -1,6 +1,5 @@
 -- What the lines say is one update (`makes-update`).
-use Rattle.std.proofs.Common.{Ok, refl}
-use Rattle.cif_extract.proofs.ReadCalls.{goes-on, hands-on}
+use Rattle.cif_feed.proofs.Names.{Ok, goes-on, hands-on, refl}
 use Rattle.cif_feed.proofs.SpelledFeeds.{makes-update, reads-update}
 use Rattle.cif_feed.proofs.update.Update.read.Goals as goal
 

@@ -1,5 +1,5 @@
 -- No check found a reason, and what each found stands there.
-use Rattle.cif_records.specs.Association.{association_refusal}
+use Rattle.cif_records.proofs.Names.{association_refusal}
 use Rattle.cif_records.proofs.association.Association.applicability_at.Goals as goal
 
 pub returns : goal.returns

@@ -1,6 +1,5 @@
 -- Each of its fields fits its columns.
-use Rattle.std.proofs.Common.{codes, refl}
-use Rattle.cif_columns.proofs.PrintableBytes.{printable_fact}
+use Rattle.cif_records.proofs.Names.{codes, printable_fact, refl}
 use Rattle.cif_records.proofs.Rows.{◌&◌}
 use Rattle.cif_records.proofs.association.Association.fits.Goals as goal
 

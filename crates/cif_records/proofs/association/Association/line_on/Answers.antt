@@ -1,6 +1,5 @@
 -- The rows of the table fill the line.
-use Rattle.std.proofs.Common.{refl, ◌∙◌}
-use Rattle.cif_records.specs.Association.{rows_on}
+use Rattle.cif_records.proofs.Names.{refl, rows_on, ◌∙◌}
 use Rattle.cif_records.proofs.FinishedLines.{finished_again, finished_plain, finished_width}
 use Rattle.cif_records.proofs.association.Association.line_on.Goals as goal
 

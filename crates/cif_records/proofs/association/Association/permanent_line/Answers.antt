@@ -1,7 +1,5 @@
 -- The rows of the table fill the line.
-use Rattle.std.proofs.Common.{Some, refl, ◌∙◌}
-use Rattle.cif_columns.specs.declared.stp.Stp.TheVariants.{P}
-use Rattle.cif_records.specs.Association.{association_rows}
+use Rattle.cif_records.proofs.Names.{P, Some, association_rows, refl, ◌∙◌}
 use Rattle.cif_records.proofs.FinishedLines.{finished_again, finished_plain, finished_width}
 use Rattle.cif_records.proofs.association.Association.permanent_line.Goals as goal
 

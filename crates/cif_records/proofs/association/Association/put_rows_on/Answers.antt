@@ -1,12 +1,6 @@
 -- A body that is absent is written as a blank one, whose plain columns are spaces too.
-use Rattle.std.proofs.Common.{◌≡◌, ℕ, Bool, List, [], Option, Some, None, Bor, refl, ap, subst, ◌∙◌}
-use Rattle.std.specs.Option.{option_copied, unwrap_or}
-use Rattle.cif_columns.specs.Field.{AllFit, Row}
-use Rattle.cif_columns.specs.LineBuilder.{put_all}
-use Rattle.cif_columns.specs.declared.stp.Stp.{Stp}
-use Rattle.cif_records.specs.Association.{association_rows, blank_body}
-use Rattle.cif_records.specs.declared.association.AssocBody.{AssocBody}
-use Rattle.cif_records.specs.declared.association.AssocKey.{AssocKey}
+use Rattle.cif_records.proofs.Names.{AllFit, AssocBody, AssocKey, Bool, Bor, List, None, Option, Row, Some, Stp, [], ap, association_rows}
+use Rattle.cif_records.proofs.Names.{blank_body, option_copied, put_all, refl, subst, unwrap_or, ℕ, ◌∙◌, ◌≡◌}
 use Rattle.cif_records.proofs.Rows.{◌&◌}
 use Rattle.cif_records.proofs.association.Association.put_rows_on.Goals as goal
 

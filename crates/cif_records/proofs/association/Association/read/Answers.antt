@@ -1,5 +1,5 @@
 -- Each field was found where its row says. A line spells one association (`one_association`), and none if it is refused.
-use Rattle.cif_records.proofs.Associations.{one_association, no_refusal}
+use Rattle.cif_records.proofs.Associations.{no_refusal, one_association}
 use Rattle.cif_records.proofs.Judging.{only}
 use Rattle.cif_records.proofs.Rows.{◌&◌}
 use Rattle.cif_records.proofs.association.Association.read.Goals as goal

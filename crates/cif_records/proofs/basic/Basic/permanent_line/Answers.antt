@@ -1,5 +1,5 @@
 -- Columns 30 to 78 stand as they are: `detail_columns` has them as the detail's plain ones.
-use Rattle.std.proofs.Common.{Some}
+use Rattle.cif_records.proofs.Names.{Some}
 use Rattle.cif_records.proofs.Details.{detail_columns}
 use Rattle.cif_records.proofs.basic.Basic.permanent_line.Goals as goal
 

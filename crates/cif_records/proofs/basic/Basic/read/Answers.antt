@@ -1,11 +1,6 @@
 -- The rows of front and back stand as the terms do, and those of the detail where it was read: `stands-append` joins them.
-use Rattle.std.proofs.Common.{◌++◌, subst, sym}
-use Rattle.cif_columns.specs.Field.{AllStandIn}
-use Rattle.cif_columns.proofs.Parts.{stands-append}
-use Rattle.cif_records.specs.Basic.{basic_back, basic_front}
-use Rattle.cif_records.specs.Detail.{detail_rows}
-use Rattle.cif_records.specs.declared.basic.BasicTerms.{BasicTerms}
-use Rattle.cif_records.proofs.Basics.{one_basic, no_refusal, parts_of}
+use Rattle.cif_records.proofs.Names.{AllStandIn, BasicTerms, basic_back, basic_front, detail_rows, stands-append, subst, sym, ◌++◌}
+use Rattle.cif_records.proofs.Basics.{no_refusal, one_basic, parts_of}
 use Rattle.cif_records.proofs.Judging.{only}
 use Rattle.cif_records.proofs.basic.Basic.read.Goals as goal
 

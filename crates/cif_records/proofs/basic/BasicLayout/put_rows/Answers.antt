@@ -1,9 +1,5 @@
 -- The detail's own line has its columns where the schedule has them (`detail_columns`), and a blank line has none there.
-use Rattle.std.proofs.Common.{ap, refl, subst, sym, ◌∙◌}
-use Rattle.cif_columns.specs.Field.{AllFit, columns, plain_line}
-use Rattle.cif_columns.proofs.Parts.{put_all-plain_line}
-use Rattle.cif_records.specs.Basic.{basic_table}
-use Rattle.cif_records.specs.Detail.{detail_rows}
+use Rattle.cif_records.proofs.Names.{AllFit, ap, basic_table, columns, detail_rows, plain_line, put_all-plain_line, refl, subst, sym, ◌∙◌}
 use Rattle.cif_records.proofs.Details.{detail_columns, detail_fits, no_detail}
 use Rattle.cif_records.proofs.basic.BasicLayout.put_rows.Goals as goal
 

@@ -1,13 +1,8 @@
 -- The detail's columns are put as one piece between the rows of front and back.
-use Rattle.std.proofs.Common.{◌≡◌, ◌++◌, ℕ, List, [], ◌∷◌, arith, ap, codes, length, refl, sym, ◌∙◌}
-use Rattle.cif_columns.specs.Field.{AllFit, Row, exactly, plain_line, row}
-use Rattle.cif_columns.specs.LineBuilder.{put_all}
-use Rattle.cif_columns.proofs.Parts.{fits-append, length-plain_line, plain_line-append, put_all-plain_line}
-use Rattle.cif_columns.proofs.PlainLines.{length-columns}
-use Rattle.cif_columns.proofs.PrintableBytes.{printable_fact}
-use Rattle.cif_records.specs.Basic.{basic_back, basic_front}
-use Rattle.cif_records.specs.Detail.{detail_rows}
-use Rattle.cif_records.proofs.Rows.{◌&◌, onto}
+use Rattle.cif_records.proofs.Names.{AllFit, List, Row, [], ap, arith, basic_back, basic_front, codes, detail_rows, exactly, fits-append}
+use Rattle.cif_records.proofs.Names.{length, length-columns, length-plain_line, plain_line, plain_line-append, printable_fact, put_all}
+use Rattle.cif_records.proofs.Names.{put_all-plain_line, refl, row, sym, ℕ, ◌++◌, ◌∙◌, ◌∷◌, ◌≡◌}
+use Rattle.cif_records.proofs.Rows.{onto, ◌&◌}
 use Rattle.cif_records.proofs.basic.BasicTerms.put_rows.Goals as goal
 use Rattle.cif_records.proofs.basic.BasicTerms.put_rows.Goals.{After-put_on-5}
 

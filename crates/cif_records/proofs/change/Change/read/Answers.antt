@@ -1,7 +1,6 @@
 -- Each text was found where its row says. A line spells one change (`one_change`), and none if it is refused.
-use Rattle.std.proofs.Common.{Err}
-use Rattle.cif_records.specs.Change.{change_refusal}
-use Rattle.cif_records.proofs.Changes.{one_change, no_refusal}
+use Rattle.cif_records.proofs.Names.{Err, change_refusal}
+use Rattle.cif_records.proofs.Changes.{no_refusal, one_change}
 use Rattle.cif_records.proofs.Judging.{only}
 use Rattle.cif_records.proofs.Rows.{◌&◌}
 use Rattle.cif_records.proofs.change.Change.read.Goals as goal

@@ -1,7 +1,5 @@
 -- Either way it is the detail of the whole line: that of its columns alone (`detail_alone`), or the one that was read.
-use Rattle.std.proofs.Common.{refl, sym, ap, subst, ◌∙◌}
-use Rattle.cif_columns.specs.Field.{AllStandIn, plain_line}
-use Rattle.cif_records.specs.Detail.{detail_in, detail_table}
+use Rattle.cif_records.proofs.Names.{AllStandIn, ap, detail_in, detail_table, plain_line, refl, subst, sym, ◌∙◌}
 use Rattle.cif_records.proofs.Details.{detail_alone}
 use Rattle.cif_records.proofs.detail.Detail.line_of.Goals as goal
 

@@ -1,5 +1,5 @@
 -- Each row is put behind those before (`onto`), and fits, as the call that put it says.
-use Rattle.cif_records.proofs.Rows.{◌&◌, onto}
+use Rattle.cif_records.proofs.Rows.{onto, ◌&◌}
 use Rattle.cif_records.proofs.detail.DetailLayout.put_rows.Goals as goal
 
 pub returns-clause-columns : goal.returns-clause-columns

@@ -1,7 +1,6 @@
 -- Each value was found where its row says. A line spells one record of further details (`one_extra`), and none if it is refused.
-use Rattle.std.proofs.Common.{Err}
-use Rattle.cif_records.specs.Extra.{extra_refusal}
-use Rattle.cif_records.proofs.Extras.{one_extra, no_refusal}
+use Rattle.cif_records.proofs.Names.{Err, extra_refusal}
+use Rattle.cif_records.proofs.Extras.{no_refusal, one_extra}
 use Rattle.cif_records.proofs.Judging.{only}
 use Rattle.cif_records.proofs.Rows.{◌&◌}
 use Rattle.cif_records.proofs.extra.Extra.read.Goals as goal

@@ -1,9 +1,5 @@
 -- The derived equality looks at three fields; columns alone determine a header (`same_header`), and a header all three.
-use Rattle.std.proofs.Common.{◌≡◌, true, nat_eq, ap, arith}
-use Rattle.std.proofs.lemmas.Bool.{and_parts}
-use Rattle.std.proofs.lemmas.Bool.Decides.{nat_tests}
-use Rattle.std.specs.Cmp.Lexicographic.{pointwise, bytes_decides}
-use Rattle.cif_records.specs.declared.header.Header.{Header}
+use Rattle.cif_records.proofs.Names.{Header, and_parts, ap, arith, bytes_decides, nat_eq, nat_tests, pointwise, true, ◌≡◌}
 use Rattle.cif_records.proofs.Headers.{same_header}
 use Rattle.cif_records.proofs.header.Header.equality_of_headers.Goals as goal
 

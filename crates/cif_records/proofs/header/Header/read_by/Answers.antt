@@ -1,10 +1,6 @@
 -- Columns 3 to 60 are kept at once: `full-behind` and its like number them as in the line, for the type and for the table.
-use Rattle.std.proofs.Common.{ap, ◌∙◌, sym, arith, lit<, refl}
+use Rattle.cif_records.proofs.Names.{IsPrintable, ap, arith, columns, ddmmyy_in, length-columns, lit<, refl, sym, ◌∙◌}
 use Rattle.std.proofs.lemmas.List.Elements.{All-set}
-use Rattle.cif_columns.specs.Day.{ddmmyy_in}
-use Rattle.cif_columns.specs.Field.{columns}
-use Rattle.cif_columns.specs.Line.{IsPrintable}
-use Rattle.cif_columns.proofs.PlainLines.{length-columns}
 use Rattle.cif_records.proofs.Headers.{digits_of, full-before, full-behind, full-there, full-wide, no_refusal, one_header}
 use Rattle.cif_records.proofs.Judging.{only}
 use Rattle.cif_records.proofs.Rows.{◌&◌}

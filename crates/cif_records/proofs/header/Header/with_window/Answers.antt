@@ -1,10 +1,6 @@
 -- Two dates are written over columns 49 to 60: `Windows` says what stands where then, for each fact that the type keeps.
-use Rattle.std.proofs.Common.{ℕ, List, ◌++◌, length, ap, subst, sym, ◌∙◌}
-use Rattle.cif_columns.specs.Day.{ddmmyy_in}
-use Rattle.cif_columns.specs.DayDigits.{ddmmyy_of}
-use Rattle.cif_columns.specs.Line.{ArePrintable}
-use Rattle.cif_records.specs.HeaderColumns.{kept}
-use Rattle.cif_records.proofs.Windows.{within, written, still_wide, kept-front, kept-first, kept-last, kept-indicator, are_printable}
+use Rattle.cif_records.proofs.Names.{ArePrintable, List, ap, ddmmyy_in, ddmmyy_of, kept, length, subst, sym, ℕ, ◌++◌, ◌∙◌}
+use Rattle.cif_records.proofs.Windows.{are_printable, kept-first, kept-front, kept-indicator, kept-last, still_wide, within, written}
 use Rattle.cif_records.proofs.header.Header.with_window.Goals as goal
 
 pub slice_bounds-columns-end-2 : goal.slice_bounds-columns-end-2

@@ -1,6 +1,5 @@
 -- The test asks for bytes of lines alone, and for the table of the location on the way in the line: both by `refl`.
-use Rattle.std.proofs.Common.{refl}
-use Rattle.cif_records.specs.Stop.{stop_in, stop_table}
+use Rattle.cif_records.proofs.Names.{refl, stop_in, stop_table}
 use Rattle.cif_records.proofs.stop.Stop.are_plain.Goals as goal
 
 pub returns-clause-line : goal.returns-clause-line

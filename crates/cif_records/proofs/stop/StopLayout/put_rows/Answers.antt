@@ -1,7 +1,6 @@
 -- Each row is put behind those before (`onto`), and fits, as the call that put it says.
-use Rattle.std.proofs.Common.{codes, refl}
-use Rattle.cif_columns.proofs.PrintableBytes.{printable_fact}
-use Rattle.cif_records.proofs.Rows.{◌&◌, onto}
+use Rattle.cif_records.proofs.Names.{codes, printable_fact, refl}
+use Rattle.cif_records.proofs.Rows.{onto, ◌&◌}
 use Rattle.cif_records.proofs.stop.StopLayout.put_rows.Goals as goal
 
 pub returns-clause-columns : goal.returns-clause-columns

@@ -1,7 +1,5 @@
 -- The derived equality compares bytes (`bytes_decides`), and the columns alone determine a location (`same_tiploc`).
-use Rattle.std.proofs.Common.{ap}
-use Rattle.std.specs.Cmp.Lexicographic.{bytes_decides}
-use Rattle.cif_records.specs.declared.tiploc.Tiploc.{Tiploc}
+use Rattle.cif_records.proofs.Names.{Tiploc, ap, bytes_decides}
 use Rattle.cif_records.proofs.Tiplocs.{same_tiploc}
 use Rattle.cif_records.proofs.tiploc.Tiploc.order_of_tiplocs.Goals as goal
 

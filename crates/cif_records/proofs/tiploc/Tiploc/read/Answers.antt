@@ -1,9 +1,8 @@
 -- Each value was found where its row says. A line spells one location (`one_tiploc`), and none if it is refused.
-use Rattle.std.proofs.Common.{Err, sym}
-use Rattle.cif_records.specs.Tiploc.{tiploc_refusal}
-use Rattle.cif_records.proofs.Tiplocs.{one_tiploc, no_refusal}
+use Rattle.cif_records.proofs.Names.{Err, sym, tiploc_refusal}
 use Rattle.cif_records.proofs.Judging.{only}
 use Rattle.cif_records.proofs.Rows.{◌&◌}
+use Rattle.cif_records.proofs.Tiplocs.{no_refusal, one_tiploc}
 use Rattle.cif_records.proofs.tiploc.Tiploc.read.Goals as goal
 
 pub returns-in-Ok-clause-exact : goal.returns-in-Ok-clause-exact

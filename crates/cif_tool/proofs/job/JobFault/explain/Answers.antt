@@ -1,13 +1,9 @@
 -- The text that went to the errors has to be named: `clap`'s, or the line of the fault.
-use Rattle.std.proofs.Common.{◌≡◌, ◌≢◌, ℕ, List, [], ◌++◌, Option, None, Some, IfSome, Err, option_map, refl, ap, arith, subst}
-use Rattle.std.proofs.Common.{sym, ◌∙◌}
-use Rattle.std.specs.Prelude.{unwrap_or}
-use Rattle.std.proofs.lemmas.Result.{err_from_is_err_and}
-use Rattle.cif_columns.proofs.WrittenTexts.{failed_second}
+use Rattle.cif_tool.proofs.Names.{Err, Explains, IfSome, List, None, Option, Some, [], ap, arith, err_from_is_err_and, failed_second}
+use Rattle.cif_tool.proofs.Names.{option_map, refl, status_of, subst, sym, unwrap_or, ℕ, ◌++◌, ◌∙◌, ◌≡◌, ◌≢◌}
 use Rattle.clap.specs.declared.error.Error.{Error}
-use Rattle.cif_tool.specs.JobFault.{Explains, status_of}
 use Rattle.cif_tool.specs.declared.job.JobFault.{JobFault}
-use Rattle.cif_tool.specs.declared.job.JobFault.TheVariants.{Usage, NoCommand, BadDate, BadUid, StandardInputTwice, Memory}
+use Rattle.cif_tool.specs.declared.job.JobFault.TheVariants.{BadDate, BadUid, Memory, NoCommand, StandardInputTwice, Usage}
 use Rattle.cif_tool.proofs.job.JobFault.explain.Goals as goal
 
 -- the text, if there is one

@@ -1,7 +1,6 @@
 -- The lines of the clashes are appended, and the sink tells whether it failed (`answered`).
-use Rattle.std.proofs.Common.{ap, ◌∙◌}
-use Rattle.cif_views.specs.Clashes.{clashes_text}
-use Rattle.cif_canon.proofs.AppendedTexts.{answered, text-is}
+use Rattle.cif_views.proofs.Names.{answered, ap, clashes_text, ◌∙◌}
+use Rattle.cif_canon.proofs.AppendedTexts.{text-is}
 use Rattle.cif_views.proofs.clash_list.Clashes.write.Goals as goal
 
 pub returns-clause-writes : goal.returns-clause-writes

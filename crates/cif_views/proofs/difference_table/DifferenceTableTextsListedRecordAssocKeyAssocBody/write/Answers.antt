@@ -1,11 +1,9 @@
 -- A record alone has a row, in which its side is shown by its sign (`shown-change`); a pair has the rows of its fields.
-use Rattle.std.proofs.Common.{◌++◌, ◌∙◌, List, Option, ap, codes, drop, replicate, sym, ℕ}
-use Rattle.cif_canon.specs.Pairs.{Listed, listed_as}
+use Rattle.cif_views.proofs.Names.{AssocBody, AssocKey, Field, List, Listed, Option, Permanent, Trimmed, ap, association_differences}
+use Rattle.cif_views.proofs.Names.{association_head, association_plain, category_fields, change_of, changed, codes, differing_rows, drop}
+use Rattle.cif_views.proofs.Names.{in_record, listed_as, replicate, single_row, sym, type_fields, ℕ, ◌++◌, ◌∙◌}
 use Rattle.cif_canon.proofs.AppendedTexts.{text-is}
-use Rattle.cif_views.specs.Tables.{category_fields, type_fields}
-use Rattle.cif_views.proofs.Words.{AssocBody, AssocKey, Field, Permanent, Trimmed, association_differences, association_head}
-use Rattle.cif_views.proofs.Words.{association_plain}
-use Rattle.cif_views.proofs.Words.{change_of, changed, differing_rows, in_record, nothing, single_row}
+use Rattle.cif_canon.specs.Fields.{nothing}
 use Rattle.cif_views.proofs.PairedJourneys.{shown-change}
 use Rattle.cif_views.proofs.TableRows.{behind-row}
 use Rattle.cif_views.proofs.difference_table.DifferenceTableTextsListedRecordAssocKeyAssocBody.write.Goals as goal

@@ -1,9 +1,8 @@
 -- A record alone has a row, in which its side is shown by its sign (`shown-change`); a pair has the rows of its fields.
-use Rattle.std.proofs.Common.{◌∙◌, List, Option, ap, drop, replicate, sym, ℕ}
-use Rattle.cif_canon.specs.Pairs.{Listed, listed_as}
+use Rattle.cif_views.proofs.Names.{BodyLines, Field, List, Listed, Option, Permanent, Trimmed, ap, change_of, drop, listed_as, replicate}
+use Rattle.cif_views.proofs.Names.{schedule_differences, schedule_head, schedule_plain, single_row, sym, ℕ, ◌∙◌}
 use Rattle.cif_canon.proofs.AppendedTexts.{text-is}
-use Rattle.cif_views.proofs.Words.{BodyLines, Field, Permanent, Trimmed, change_of, nothing, schedule_differences, schedule_head}
-use Rattle.cif_views.proofs.Words.{schedule_plain, single_row}
+use Rattle.cif_canon.specs.Fields.{nothing}
 use Rattle.cif_views.proofs.PairedJourneys.{shown-change}
 use Rattle.cif_views.proofs.TableRows.{behind-row}
 use Rattle.cif_views.proofs.difference_table.DifferenceTableTextsListedRecordUidBody.write.Goals as goal

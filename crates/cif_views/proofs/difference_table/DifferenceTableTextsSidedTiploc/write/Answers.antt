@@ -1,7 +1,7 @@
 -- The side is shown by its sign (`shown-change`), and the row goes behind its first fields (`behind-row`).
-use Rattle.std.proofs.Common.{◌∙◌, List, ap, drop, replicate, ℕ}
+use Rattle.cif_views.proofs.Names.{Field, List, Trimmed, ap, change_of, drop, replicate, single_row, tiploc_head, ℕ, ◌∙◌}
 use Rattle.cif_canon.proofs.AppendedTexts.{text-is}
-use Rattle.cif_views.proofs.Words.{Field, Trimmed, change_of, nothing, single_row, tiploc_head}
+use Rattle.cif_canon.specs.Fields.{nothing}
 use Rattle.cif_views.proofs.PairedJourneys.{shown-change}
 use Rattle.cif_views.proofs.TableRows.{behind-row}
 use Rattle.cif_views.proofs.difference_table.DifferenceTableTextsSidedTiploc.write.Goals as goal

@@ -1,8 +1,6 @@
 -- Fields are appended group by group, and the line joins them (`explained-groups`): they are rewritten from the last on.
-use Rattle.std.proofs.Common.{codes, ◌∙◌}
-use Rattle.cif_views.specs.Explanation.{explained_association_line, mark_columns, said_of_association, terms_fields}
-use Rattle.cif_canon.proofs.ViewLines.{explained-groups, with_first-line}
-use Rattle.cif_views.proofs.Words.{Trimmed, association_terms, date_field, no_train, row_start}
+use Rattle.cif_views.proofs.Names.{Trimmed, association_terms, codes, date_field, explained-groups, explained_association_line}
+use Rattle.cif_views.proofs.Names.{mark_columns, no_train, row_start, said_of_association, terms_fields, with_first-line, ◌∙◌}
 use Rattle.cif_views.proofs.explanation.AssociationExplainedEntry.line.Goals as goal
 
 pub returns : goal.returns

@@ -1,8 +1,6 @@
 -- Fields are appended group by group, and the line joins them (`explained-groups`): they are rewritten from the last on.
-use Rattle.std.proofs.Common.{codes, ◌∙◌}
-use Rattle.cif_views.specs.Explanation.{explained_train_line, mark_columns, said_of_train, terms_fields}
-use Rattle.cif_canon.proofs.ViewLines.{explained-groups, with_first-line}
-use Rattle.cif_views.proofs.Words.{Trimmed, date_field, no_association, row_start, schedule_terms}
+use Rattle.cif_views.proofs.Names.{Trimmed, codes, date_field, explained-groups, explained_train_line, mark_columns, no_association}
+use Rattle.cif_views.proofs.Names.{row_start, said_of_train, schedule_terms, terms_fields, with_first-line, ◌∙◌}
 use Rattle.cif_views.proofs.explanation.ScheduleExplainedEntry.line.Goals as goal
 
 pub returns : goal.returns

@@ -1,9 +1,6 @@
 -- The row's fields and the calls are what is listed of the schedule (`with_first-lines`).
-use Rattle.std.proofs.Common.{◌∙◌, ◌++◌, List, ℕ, ap}
-use Rattle.cif_canon.specs.Rows.{schedule_row}
+use Rattle.cif_views.proofs.Names.{List, ap, fields_text, first_field, record_of, row_lines, schedule_row, ℕ, ◌++◌, ◌∙◌}
 use Rattle.cif_canon.proofs.AppendedTexts.{text-is}
-use Rattle.cif_weeks.specs.Runs.{record_of}
-use Rattle.cif_views.proofs.Words.{fields_text, first_field, row_lines}
 use Rattle.cif_views.proofs.CallTexts.{with_first-lines}
 use Rattle.cif_views.proofs.listing.ListedRowsTrainLines.write_schedule.Goals as goal
 

@@ -1,6 +1,5 @@
 -- A call is left two moments on, and none of its moments is later than a day behind those.
-use Rattle.std.proofs.Common.{◌+◌, ◌*◌, arith}
-use Rattle.cif_views.specs.Moments.{midnight}
+use Rattle.cif_views.proofs.Names.{arith, midnight, ◌*◌, ◌+◌}
 use Rattle.cif_views.proofs.public_calls.Journey.step.Goals as goal
 
 pub returns-clause-by : goal.returns-clause-by

@@ -1,7 +1,5 @@
 -- What was said so far, and what the activities in `rest` say, is what those in all columns say.
-use Rattle.std.proofs.Common.{◌≡◌, length}
-use Rattle.cif_columns.specs.Activities.{codes_in}
-use Rattle.cif_views.specs.PublicCalls.{said_by}
+use Rattle.cif_views.proofs.Names.{codes_in, length, said_by, ◌≡◌}
 use Rattle.cif_views.specs.Steps.PublicRows.{joined}
 use Rattle.cif_views.proofs.public_calls.Riders.in_others.Given as goal
 

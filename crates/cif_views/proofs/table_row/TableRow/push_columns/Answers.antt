@@ -1,6 +1,5 @@
 -- The tab and the columns go behind the bytes (`row-more`).
-use Rattle.std.proofs.Common.{◌++◌, ◌∷◌, ◌∙◌, ℕ, List, ap, arith, length, take}
-use Rattle.std.proofs.lemmas.List.{length-take-le}
+use Rattle.cif_views.proofs.Names.{List, ap, arith, length, length-take-le, take, ℕ, ◌++◌, ◌∙◌, ◌∷◌}
 use Rattle.cif_views.proofs.TableRows.{row-more}
 use Rattle.cif_views.proofs.table_row.TableRow.push_columns.Goals as goal
 

@@ -1,5 +1,5 @@
 -- One field more is appended, until no column is left (`all-columns`).
-use Rattle.std.proofs.Common.{arith, refl}
+use Rattle.cif_views.proofs.Names.{arith, refl}
 use Rattle.cif_views.proofs.TableRows.{all-columns}
 use Rattle.cif_views.proofs.table_row.TableRow.push_each.Goals as goal
 

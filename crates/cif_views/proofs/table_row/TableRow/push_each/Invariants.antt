@@ -1,6 +1,6 @@
 -- With the fields of the columns that are left, the row has them all.
-use Rattle.std.proofs.Common.{◌+◌, ◌++◌, drop, length}
-use Rattle.cif_views.proofs.Words.{Tsv, after, fields_in, named, room_for}
+use Rattle.cif_views.proofs.Names.{Tsv, drop, fields_in, length, named, room_for, ◌++◌, ◌+◌}
+use Rattle.cif_canon.specs.Fields.{after}
 use Rattle.cif_views.proofs.TableRows.{IsGrowing}
 use Rattle.cif_views.proofs.table_row.TableRow.push_each.Given as goal
 

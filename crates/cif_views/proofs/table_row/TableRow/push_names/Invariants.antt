@@ -1,6 +1,6 @@
 -- With the names of the columns that are left, the row has them all.
-use Rattle.std.proofs.Common.{◌≡◌, ◌≤◌, ◌+◌, ◌++◌, drop, length}
-use Rattle.cif_views.proofs.Words.{Tsv, after, name_fields, named, room_for_names}
+use Rattle.cif_views.proofs.Names.{Tsv, drop, length, name_fields, named, room_for_names, ◌++◌, ◌+◌, ◌≡◌, ◌≤◌}
+use Rattle.cif_canon.specs.Fields.{after}
 use Rattle.cif_views.proofs.table_row.TableRow.push_names.Given as goal
 
 abbrev pub invariant-loop-column : goal.invariant-loop-column

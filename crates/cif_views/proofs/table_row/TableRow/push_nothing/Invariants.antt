@@ -1,6 +1,6 @@
 -- So many empty fields are behind the row.
-use Rattle.std.proofs.Common.{◌≡◌, ◌+◌, ◌++◌, length}
-use Rattle.cif_views.proofs.Words.{Tsv, after, nothing, replicate}
+use Rattle.cif_views.proofs.Names.{Tsv, length, replicate, ◌++◌, ◌+◌, ◌≡◌}
+use Rattle.cif_canon.specs.Fields.{after, nothing}
 use Rattle.cif_views.proofs.table_row.TableRow.push_nothing.Given as goal
 
 abbrev pub invariant-loop : goal.invariant-loop

@@ -1,7 +1,5 @@
 -- The text is that of a field (`as-field`).
-use Rattle.std.proofs.Common.{◌∙◌, ◌++◌, ◌∷◌, ap, decimal, rules, sym, List, ℕ}
-use Rattle.std.proofs.lemmas.Fmt.{decimal_digit}
-use Rattle.cif_views.proofs.Words.{Whole}
+use Rattle.cif_views.proofs.Names.{List, Whole, ap, decimal, decimal_digit, rules, sym, ℕ, ◌++◌, ◌∙◌, ◌∷◌}
 use Rattle.cif_views.proofs.TableRows.{as-field}
 use Rattle.cif_views.proofs.table_row.TableRow.push_number.Goals as goal
 

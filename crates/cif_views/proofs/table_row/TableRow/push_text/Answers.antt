@@ -1,6 +1,5 @@
 -- The text is that of a field (`as-field`).
-use Rattle.std.proofs.Common.{◌++◌, ◌∙◌, ◌∷◌, List, ap, ℕ}
-use Rattle.cif_views.proofs.Words.{Trimmed, trimmed}
+use Rattle.cif_views.proofs.Names.{List, Trimmed, ap, trimmed, ℕ, ◌++◌, ◌∙◌, ◌∷◌}
 use Rattle.cif_views.proofs.TableRows.{as-field}
 use Rattle.cif_views.proofs.table_row.TableRow.push_text.Goals as goal
 

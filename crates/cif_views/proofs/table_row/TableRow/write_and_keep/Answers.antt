@@ -1,5 +1,5 @@
 -- The fields go behind the row, and what is cut off is what has been appended (`behind`).
-use Rattle.std.proofs.Common.{◌∙◌, ap, take}
+use Rattle.cif_views.proofs.Names.{ap, take, ◌∙◌}
 use Rattle.cif_canon.proofs.AppendedTexts.{text-is}
 use Rattle.cif_views.proofs.TableRows.{behind}
 use Rattle.cif_views.proofs.table_row.TableRow.write_and_keep.Goals as goal

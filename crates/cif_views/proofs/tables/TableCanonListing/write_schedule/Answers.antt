@@ -1,8 +1,6 @@
 -- The rows of the lines that follow are those of the schedule (`calls-of_lines`, `changes-of_lines`).
-use Rattle.std.proofs.Common.{◌∙◌, ap, false, true}
+use Rattle.cif_views.proofs.Names.{ap, false, journey_rows, schedule_plain, true, ◌∙◌}
 use Rattle.cif_canon.proofs.AppendedTexts.{nothing, text-is}
-use Rattle.cif_views.specs.Steps.TableRows.{journey_rows}
-use Rattle.cif_views.proofs.Words.{schedule_plain}
 use Rattle.cif_views.proofs.TableRows.{calls-of_lines, changes-of_lines}
 use Rattle.cif_views.proofs.tables.TableCanonListing.write_schedule.Goals as goal
 

@@ -1,10 +1,8 @@
 -- Equal masks agree (`same-agree`). Else one weekday more, which doesn't count or on which the masks are alike (`agree-more`).
-use Rattle.std.proofs.Common.{◌≡◌, rules, sym, ◌∙◌}
-use Rattle.std.proofs.lemmas.Bool.{iff_false}
-use Rattle.cif_weeks.proofs.Words.{window_from}
+use Rattle.cif_weeks.proofs.Names.{iff_false, rules, sym, window_from, ◌∙◌, ◌≡◌}
 use Rattle.cif_weeks.proofs.AgreedDays.{agree-more, same-agree}
 use Rattle.cif_weeks.proofs.form.Joining.agree.Goals as goal
-use Rattle.cif_weeks.proofs.form.Joining.agree.Goals.{else-has-via-then-has+else-counts, else-has-via-else-has}
+use Rattle.cif_weeks.proofs.form.Joining.agree.Goals.{else-has-via-else-has, else-has-via-then-has+else-counts}
 
 pub returns-then-is : goal.returns-then-is
 returns-then-is c week next =

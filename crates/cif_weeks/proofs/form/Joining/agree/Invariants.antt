@@ -1,5 +1,5 @@
 -- On the weekdays before `weekday` on which the two weeks have to agree their masks do.
-use Rattle.cif_weeks.proofs.Words.{window_from}
+use Rattle.cif_weeks.proofs.Names.{window_from}
 use Rattle.cif_weeks.proofs.AgreedDays.{AgreeUpTo}
 use Rattle.cif_weeks.proofs.form.Joining.agree.Given as goal
 

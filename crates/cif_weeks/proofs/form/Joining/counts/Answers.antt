@@ -1,7 +1,5 @@
 -- What is compared are numbers of days from the first Monday (`counts-if`, `counts-only`).
-use Rattle.std.proofs.Common.{◌≡◌, ◌+◌, ◌*◌, ◌≤◌, arith}
-use Rattle.std.proofs.lemmas.Bool.{le-leb, leb-true}
-use Rattle.cif_weeks.proofs.Words.{window_from}
+use Rattle.cif_weeks.proofs.Names.{arith, le-leb, leb-true, window_from, ◌*◌, ◌+◌, ◌≡◌, ◌≤◌}
 use Rattle.cif_weeks.proofs.AgreedDays.{counts-if, counts-only}
 use Rattle.cif_weeks.proofs.form.Joining.counts.Goals as goal
 

@@ -1,0 +1,46 @@
+-- Names of std, of the crates below and of specs/, from modules that several of the proofs cite.
+pub use Rattle.std.proofs.Common.{Bool, Bor, Err, IfErr, IfOk, IfSome, IsErrAnd, IsTrue, List, MatchBool, MatchOption, MatchResult, None}
+pub use Rattle.std.proofs.Common.{Ok, Option, Result, Some, [], ap, append-nil, append_assoc, ap₂, arith, codes, drop, false, get_or, inl}
+pub use Rattle.std.proofs.Common.{inr, length, map, option_map, refl, rules, string_bytes, subst, sym, true, true≢false, unwrap_or, ℕ}
+pub use Rattle.std.proofs.Common.{⊎_elim, ◌++◌, ◌+◌, ◌<◌, ◌||◌, ◌↔◌, ◌∙◌, ◌∷◌, ◌≡◌, ◌≢◌, ◌≤◌, ◌⊎◌}
+pub use Rattle.clap.proofs.WalkLemmas.{first_value-rows, raw_values-rows}
+pub use Rattle.clap.specs.Simple.{app_of_fields}
+pub use Rattle.clap.specs.Words.{AddsArg, App, FailsBy, Text, app_of, fault_of, found_of, is_simple, is_simple_and_free, new_app, rule_of}
+pub use Rattle.clap.specs.Words.{subcommand_of, with_rule, with_subcommand}
+pub use Rattle.cif_columns.specs.declared.line_reader.TheConstants.{MAX_LINES}
+pub use Rattle.cif_extract.specs.ReadCall.{ReadCall}
+pub use Rattle.cif_feed.proofs.Names.{BytesSpellPublished, BytesSpellWithin, Clash, ExtractParts, FeedWrites, HasFailed, HasReadOn}
+pub use Rattle.cif_feed.proofs.Names.{HasWritten, HaveReasons, IfOk-weaker, IsDeviceOrMemory, IsFirstOfFeed, IsHolidayFault, IsJudgedFault}
+pub use Rattle.cif_feed.proofs.Names.{IsPreparedText, IsPublishedOf, IsResultOf, Makes, Prepares, PublishedParts, Refuses, Sink, Source}
+pub use Rattle.cif_feed.proofs.Names.{StandsInYymmdd, Unread, Writes, all_codes, at_drop_more, codes_named, contents_of, extract_parts}
+pub use Rattle.cif_feed.proofs.Names.{failed_second, flat_map-append, goes-on, hands-on, is_feed_read, judging, known_so, of_any, preparing}
+pub use Rattle.cif_feed.proofs.Names.{published_parts, published_text, reader_of, reading_holidays, reading_published, refuses, told_text}
+pub use Rattle.cif_feed.proofs.Names.{unread_of, updating, written_both}
+pub use Rattle.cif_feed.specs.declared.feed.FeedFault.{FeedFault}
+pub use Rattle.cif_feed.specs.declared.feed.FeedFault.TheVariants.{AlreadyThere, BadTransaction, NotThere, NotUpdate, OutOfSequence}
+pub use Rattle.cif_feed.specs.declared.published_extract.PublishedExtract.{PublishedExtract}
+pub use Rattle.cif_canon.proofs.Names.{AreDifferences, AreNone, CanonParts, DifferencesParts, Fault, FaultWrites, Form, HasCanon, IfWritten}
+pub use Rattle.cif_canon.proofs.Names.{IsCanonOfInput, IsCompareFault, IsNormaliseFault, IsOfReadNarrowed, IsOfReading, IsReadNarrowedFault}
+pub use Rattle.cif_canon.proofs.Names.{IsResultOfBoth, SpellsNarrowed, Write, at-fault, err_from_is_err_and, hands, hands-either, is_read}
+pub use Rattle.cif_canon.proofs.Names.{lines_of, reading_canon, reading_extract, reading_narrowed}
+pub use Rattle.cif_canon.proofs.Normalising.{canon-blamed, canon-fault, is-normalised, narrowed-fault, of-canon}
+pub use Rattle.cif_canon.specs.Comparison.{AreCompared, comparison_line}
+pub use Rattle.cif_canon.specs.Counts.{counts_line}
+pub use Rattle.cif_canon.specs.Views.{IsDayFault, IsTrainFault}
+pub use Rattle.cif_canon.specs.declared.asked.Asked.{Asked}
+pub use Rattle.cif_views.proofs.Names.{AreAllClashes, ExtractLines, Format, IsExplanation, IsWeekCalendar, at_drop_all, clashes_text}
+pub use Rattle.cif_views.proofs.Names.{table_text}
+pub use Rattle.cif_views.specs.WeekCalendar.{IsWeekCalendarFault}
+pub use Rattle.cif_tool.specs.Answer.{Answers, AreAnswered, AreComparedAs, CalendarJob, CanonicalJob, CompareJob, DayJob, ExplainJob}
+pub use Rattle.cif_tool.specs.Answer.{Finishes, IfAnswered, IsAnswered, IsCalendarAnswer, IsCanonicalAnswer, IsCheckAllAnswer}
+pub use Rattle.cif_tool.specs.Answer.{IsCheckAllFault, IsClashesAnswer, IsClashlessRefusal, IsCompareAnswer, IsDayAnswer, IsDayRefusal}
+pub use Rattle.cif_tool.specs.Answer.{IsDiffAnswer, IsExplainAnswer, IsExplainRefusal, IsHandedOn, IsListedStatus, IsTrainAnswer, OfBoth}
+pub use Rattle.cif_tool.specs.Answer.{OfInput, TrainJob, answering, answering_all, canonical_text, differences_in}
+unfoldable pub use Rattle.cif_tool.specs.CommandLine.{chosen, cif, faults_of}
+pub use Rattle.cif_tool.specs.CommandLine.{IsCommand, Parts, argument, given, program, subcommands, taken, taking, with_subcommands}
+pub use Rattle.cif_tool.specs.FeedAnswer.{AreDoneInTurn, AreGiven, AreHolidaysGiven, AreHolidaysOf, AreHolidaysRead, AreUpdatesRead, EndsAs}
+pub use Rattle.cif_tool.specs.FeedAnswer.{FeedAnswers, FeedFinishes, IsBadHoliday, IsHolidayFeedFault, IsPrepareAnswer, IsPrepareFault}
+pub use Rattle.cif_tool.specs.FeedAnswer.{IsPreparedInTurn, IsTold, IsUpdateFault, OfHolidays, OfUpdates, doing, reading_as_feed, waived_by}
+pub use Rattle.cif_tool.specs.JobFault.{Explains, IsFaultAt, NamesNoDay, status_of}
+pub use Rattle.cif_tool.specs.Status.{TellsFault, listed_status, outcome_of}
+pub use Rattle.cif_tool.specs.declared.command_line.Argument.TheVariants.{Verbose}

@@ -1,0 +1,56 @@
+-- Names of std, of the crates below and of specs/, from modules that several of the proofs cite.
+pub use Rattle.std.proofs.Common.{All, AllPairs, Bool, Contains, IsPermutation, IsSome, Less, List, MatchBool, None, Option, Ordering, Some}
+pub use Rattle.std.proofs.Common.{[], ap, append-nil, append_assoc, arith, drop, false, get_or, get_or-drop, get_or-take, inl, inr, is_lt}
+pub use Rattle.std.proofs.Common.{is_some, le-leb, leb, leb-false, leb-true, length, length-append, length-drop, length-take, map, nat_cmp}
+pub use Rattle.std.proofs.Common.{option_and_then, refl, reverse, rules, set, slice_get, subst, suc, sym, take, take-append-drop, take_all}
+pub use Rattle.std.proofs.Common.{true, unwrap_or, zero, ℕ, ⊎_elim, ◌%◌, ◌*◌, ◌++◌, ◌+◌, ◌-◌, ◌<◌, ◌==◌, ◌↔◌, ◌∙◌, ◌∷◌, ◌≡◌, ◌≢◌, ◌≤◌, ◌⊎◌}
+pub use Rattle.std.proofs.lemmas.Bool.{cases_eq, cond-false, cond-true, lt-leb}
+pub use Rattle.std.proofs.lemmas.List.{get_or_read_under}
+pub use Rattle.std.proofs.lemmas.List.Kept.{AllPairs-cons}
+pub use Rattle.std.proofs.lemmas.List.Sorted.{IsNonDecreasingBy-drop, IsNonDecreasingBy-from_all_adjacent}
+pub use Rattle.std.proofs.lemmas.List.Sorted.{IsNonDecreasingBy-from_sort_by_key, IsNonDecreasingBy-push, IsNonDecreasingBy-short}
+pub use Rattle.std.proofs.lemmas.List.Sorted.{IsPartitionedBy-leb, IsPermutation-reverse, IsPermutation-sym, answers_always}
+pub use Rattle.std.specs.List.{AllWithin, AllZip, refill}
+pub use Rattle.std.specs.List.Sorted.{IsNonDecreasingBy, IsPartitionPoint}
+pub use Rattle.std.specs.Ordering.{ord_max, ordering_then, partial_lt}
+pub use Rattle.cif_columns.proofs.Names.{All-append, All-cons, All-head, All-tail, IsDay, IsFirstOf, IsLastOf, reverse-append}
+pub use Rattle.cif_columns.proofs.Names.{reverse-reverse, take-append_seam}
+pub use Rattle.cif_columns.specs.Day.{week_of}
+pub use Rattle.cif_calendar.proofs.Elements.{Contains-cases, Contains-first, Contains-rest}
+pub use Rattle.cif_calendar.proofs.Names.{All-contains, All-nil, All-take, AreClear, AreLawful, BodyRuns, CalendarParts}
+pub use Rattle.cif_calendar.proofs.Names.{Contains-append_cases, Contains-append_left, Contains-append_right, Contains-get_or}
+pub use Rattle.cif_calendar.proofs.Names.{Contains-permutation, Contains-push, Contains-push_cases, IfOk-weaker, IsCalendar, IsChosen}
+pub use Rattle.cif_calendar.proofs.Names.{IsClearFrom, IsPartitionPoint-from_clause, IsSource, IsTotalOrder, IsWinnerAt, P, RunsOn, Stp}
+pub use Rattle.cif_calendar.proofs.Names.{Terms, Tiles, Wins, body_at, body_on, cases_lt, drop_all, drop_more, get_or-append_seam}
+pub use Rattle.cif_calendar.proofs.Names.{get_or_default, get_or_from_slice_get, iff_false, length-map, letter, nat_tests, of_key, ord_min}
+pub use Rattle.cif_calendar.proofs.Names.{same_Some, slice_get-get_or, slice_get_within, source_at, take_more, weekday_of, winner_of}
+pub use Rattle.cif_calendar.proofs.PieceLists.{source_at-piece, tiles-ends, tiles-from}
+pub use Rattle.cif_calendar.proofs.Positions.{AreLawful-chosen, at-contains, contains-at}
+pub use Rattle.cif_calendar.proofs.RisingLists.{AllPairs-members, Contains-none, IsOneWay, less_one_way, not_less, same_members}
+pub use Rattle.cif_calendar.proofs.Winning.{terms_at}
+pub use Rattle.cif_calendar.specs.Applies.{IsAmongDates}
+pub use Rattle.cif_calendar.specs.declared.key_calendar.Piece.{Piece}
+pub use Rattle.cif_weeks.specs.Aligned.{IsAligned, IsAlignedOne, IsAlignedTwo}
+pub use Rattle.cif_weeks.specs.Applies.{IsWeekOf}
+pub use Rattle.cif_weeks.specs.Canonical.{AreCanonical, Precedes, SayTheSameByKey, SayWhatRunsByKey, with_key}
+pub use Rattle.cif_weeks.specs.HaveForm.{HaveForm}
+pub use Rattle.cif_weeks.specs.Meets.{Meets}
+pub use Rattle.cif_weeks.specs.MemberRuns.{AreRunsOfMembers, HaveClash, IsMembersRun}
+pub use Rattle.cif_weeks.specs.Permanent.{Permanent, Permanents, permanent_entries, terms_of}
+pub use Rattle.cif_weeks.specs.Runs.{AreCanonicalRuns, AreSources, IsRunOf, record_of, window_of}
+pub use Rattle.cif_weeks.specs.Separate.{AreSeparate, Change, ChangeBetween, EitherApplies, ExactlyOne}
+pub use Rattle.cif_weeks.specs.Steps.BodyRuns.{AreBodyRuns, AreGrownTo, AreRunsOfBody, AreRunsOfSpans, BreaksBefore, EndsBefore, HasSource}
+pub use Rattle.cif_weeks.specs.Steps.BodyRuns.{HasWeekOf, IsLatest, IsSpansRun, dates_of}
+pub use Rattle.cif_weeks.specs.Steps.Growing.{Breaks, Fits, IsApartFrom, IsGrown}
+pub use Rattle.cif_weeks.specs.Steps.PieceSpans.{AreBySource, AreInOrder, AreNear, AreSpansBefore, AreSpansOn, HasBodyOn, IsPieceSpan}
+pub use Rattle.cif_weeks.specs.Steps.PieceSpans.{IsWinnerOn, body_in, named, source_in}
+pub use Rattle.cif_weeks.specs.Steps.Spans.{AgreeOn, AreSpansOf, HasDay, HaveOneMask, IsAgreed, IsDisputed, IsMembersSpan, IsSourceAmong}
+pub use Rattle.cif_weeks.specs.Steps.Spans.{IsSpanOf, Leads, Shows, SomeOf}
+pub use Rattle.cif_weeks.specs.Steps.WeekMasks.{Counts, IsLastDay, IsMask, MasksAgree, MasksDiffer}
+pub use Rattle.cif_weeks.specs.WhatRuns.{SayTheSame, SayWhatRuns}
+pub use Rattle.cif_weeks.specs.Window.{IsWithin, Window, window_from}
+pub use Rattle.cif_weeks.specs.declared.form.Form.{Form}
+pub use Rattle.cif_weeks.specs.declared.form.Form.TheVariants.{One, Two}
+pub use Rattle.cif_weeks.specs.declared.form.Run.{Run}
+pub use Rattle.cif_weeks.specs.declared.span.Span.{Span}
+pub use Rattle.cif_weeks.specs.declared.span.Weeks.{Weeks}
