@@ -1,6 +1,5 @@
 -- What a calendar says, and why there is none.
-use Rattle.std.specs.Prelude.{◌≡◌, ℕ, ◌+◌, ◌*◌, ◌≤◌, ◌⊎◌, List, length, All, Option, ◌↔◌}
-use Rattle.std.specs.Prelude.{Result, Err, IfErr, IfOk}
+use Rattle.std.specs.Prelude.{◌≡◌, ℕ, ◌+◌, ◌*◌, ◌≤◌, ◌⊎◌, List, length, All, Option, ◌↔◌, Result, Err, IfErr, IfOk}
 use Rattle.cif_calendar.specs.Terms.{Terms, Records}
 use Rattle.cif_calendar.specs.Clash.{IsClearFrom, IsFirstClash}
 use Rattle.cif_calendar.specs.Runs.{Runs}

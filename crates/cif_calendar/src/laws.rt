@@ -1,6 +1,5 @@
 //! A law: what a calendar says of a key.
-ghost use Rattle.std.specs.Prelude.{◌≡◌, ◌↔◌, ◌≤◌, ℕ};
-ghost use Rattle.std.specs.Prelude.{List, Option, Some, IsSome, map, slice_get};
+ghost use Rattle.std.specs.Prelude.{◌≡◌, ◌↔◌, ◌≤◌, ℕ, List, Option, Some, IsSome, map, slice_get};
 ghost use Rattle.cif_calendar.specs.Terms.{Terms};
 ghost use Rattle.cif_calendar.specs.Wins.{Wins};
 ghost use Rattle.cif_calendar.specs.Clash.{IsClearFrom};

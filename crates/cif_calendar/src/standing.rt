@@ -4,14 +4,10 @@
 //! the number of an earlier one with its body, where that is known: links from number to number,
 //! which fall.
 
-ghost use Rattle.std.specs.Prelude.{◌≡◌, ◌<◌, ◌↔◌, ◌⊎◌, ℕ, All, Some, None, length, map};
-ghost use Rattle.std.specs.Prelude.{IsTrue, MatchResult, slice_index_or};
-ghost use Rattle.cif_columns.specs.Stp.{letter};
+ghost use Rattle.std.specs.Prelude.{◌≡◌, ◌<◌, ◌↔◌, ◌⊎◌, ℕ, All, Some, None, length, map, IsTrue, MatchResult, slice_index_or};
 ghost use Rattle.cif_calendar.specs.Clash.{IsClash, IsClear};
 ghost use Rattle.cif_calendar.specs.Source.{IsChosen, IsSource};
-ghost use Rattle.cif_calendar.specs.Steps.Standing.{AreAlike, AreBelow, Combines};
-ghost use Rattle.cif_calendar.specs.Steps.Standing.{HaveOneBody, IsBelow, IsRank, LooksAt};
-ghost use Rattle.cif_calendar.specs.Steps.Standing.{Stands, StandsAt};
+ghost use Rattle.cif_calendar.specs.Steps.Standing.{AreAlike, AreBelow, Combines, HaveOneBody, IsBelow, IsRank, LooksAt, Stands, StandsAt};
 ghost use Rattle.cif_calendar.specs.declared.key_calendar.CalendarFault.TheVariants.{Ambiguous};
 ghost use Rattle.cif_calendar.specs.declared.standing.Standing.TheVariants.{Nobody};
 

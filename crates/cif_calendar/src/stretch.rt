@@ -1,6 +1,6 @@
 //! The stretches of dates on which no member begins or ends, and who leads on them.
 
-ghost use Rattle.std.specs.Prelude.{◌<◌, ◌≤◌, ◌+◌, map, IfOk};
+ghost use Rattle.std.specs.Prelude.{◌≤◌, ◌+◌, map, IfOk};
 ghost use Rattle.cif_calendar.specs.Steps.Standing.{AreAlike};
 ghost use Rattle.cif_calendar.specs.Steps.Stretches.{AreBehind, AreStretchesOf, IsPart, IsStretch};
 

@@ -3,18 +3,14 @@ ghost use Rattle.std.specs.Prelude.{◌≡◌, ◌↔◌, ◌<◌, IfErr, IfOk, 
 ghost use Rattle.cif_calendar.specs.Keys.{keyed};
 ghost use Rattle.cif_extract.specs.ExtractParts.{extract_parts};
 ghost use Rattle.cif_weeks.specs.Runs.{AreSources};
-ghost use Rattle.cif_weeks.specs.declared.form.Run.{Run};
 ghost use Rattle.cif_canon.specs.Asked.{header_window};
 ghost use Rattle.cif_canon.specs.Comparison.{IsCompareFault};
 ghost use Rattle.cif_canon.specs.Differences.{AreDifferences, AreNone, TurnLeftIntoRight};
 ghost use Rattle.cif_canon.specs.Meaning.{Agree};
 ghost use Rattle.cif_canon.specs.Steps.Differences.{AreComparable};
-ghost use Rattle.cif_canon.specs.Steps.OnlySides.{AreAppendedRuns, AreDifferentRuns};
-ghost use Rattle.cif_canon.specs.Steps.OnlySides.{AreKeyDifferences, AreRisingRuns};
-ghost use Rattle.cif_canon.specs.Steps.OnlySides.{IsFirstSide};
+ghost use Rattle.cif_canon.specs.Steps.OnlySides.{AreAppendedRuns, AreDifferentRuns, AreKeyDifferences, AreRisingRuns, IsFirstSide};
 ghost use Rattle.cif_weeks.specs.Window.{window_from};
 ghost use Rattle.cif_canon.specs.declared.differing.Extent.TheVariants.{FirstKey};
-ghost use Rattle.cif_canon.specs.declared.listed_differences.Sided.{Sided};
 
 use crate::Differences;
 use crate::listed_differences::{Side, Sided, push_next};

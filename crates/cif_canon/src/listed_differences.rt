@@ -236,10 +236,9 @@ impl<'a> Model for Differences<'a> {
 }
 
 impl<'a> Differences<'a> {
-    ghost use Rattle.std.specs.Prelude.{All};
     ghost use Rattle.cif_calendar.specs.Entries.{association_entries, schedule_entries};
     ghost use Rattle.cif_canon.specs.Differences.{AreNone, differences_text};
-    ghost use Rattle.cif_canon.specs.Steps.Sides.{HasSidedRecord, sided_records};
+    ghost use Rattle.cif_canon.specs.Steps.Sides.{sided_records};
 
     /// The differences of these locations and of the records of these runs.
     pub(crate) fn of(

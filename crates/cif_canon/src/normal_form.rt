@@ -7,8 +7,7 @@ ghost use Rattle.cif_extract.specs.ExtractParts.{extract_parts};
 ghost use Rattle.cif_extract.specs.ReadCall.{IsResultOf};
 ghost use Rattle.cif_canon.specs.Canon.{IsCanonOf};
 ghost use Rattle.cif_canon.specs.Fault.{IsCanonFault, reading_narrowed};
-ghost use Rattle.cif_canon.specs.Normalised.{FaultWrites, HasCanon, Normalises, reading_canon};
-ghost use Rattle.cif_canon.specs.Normalised.{checking, normalising};
+ghost use Rattle.cif_canon.specs.Normalised.{FaultWrites, HasCanon, Normalises, reading_canon, checking, normalising};
 ghost use Rattle.cif_canon.specs.Report.{fault_line};
 
 use crate::records::extract_runs;

@@ -4,8 +4,7 @@ ghost use Rattle.cif_calendar.specs.Calendar.{body_on};
 ghost use Rattle.cif_calendar.specs.Source.{body_at};
 ghost use Rattle.cif_weeks.specs.Runs.{AreSources};
 ghost use Rattle.cif_canon.specs.Steps.Differences.{AreAlikeBy, HasBodies, HoldsFrom, IsBodied};
-ghost use Rattle.cif_canon.specs.Steps.OnlySides.{AreOnlyRuns, AreOnlyWinners, AreRisingRuns};
-ghost use Rattle.cif_canon.specs.Steps.OnlySides.{IsOnlyCalendar, IsOnlySource};
+ghost use Rattle.cif_canon.specs.Steps.OnlySides.{AreOnlyRuns, AreOnlyWinners, AreRisingRuns, IsOnlyCalendar, IsOnlySource};
 
 use cif_calendar::{Calendar, Entry, Piece, same_body};
 use cif_columns::Day;

@@ -8,8 +8,7 @@ ghost use Rattle.cif_extract.specs.ExtractParts.{extract_parts};
 ghost use Rattle.cif_records.specs.AssocKey.{key_cmp};
 ghost use Rattle.cif_canon.specs.Asked.{header_window};
 ghost use Rattle.cif_canon.specs.Fault.{IsCanonFault};
-ghost use Rattle.cif_canon.specs.Steps.Records.{AreCanonicalRecords, IsRecordsFault};
-ghost use Rattle.cif_canon.specs.Steps.Records.{AreRunsOfKey, IsKeyFault, extract_fault};
+ghost use Rattle.cif_canon.specs.Steps.Records.{AreCanonicalRecords, IsRecordsFault, AreRunsOfKey, IsKeyFault, extract_fault};
 ghost use Rattle.cif_weeks.specs.Window.{window_from};
 
 use cif_calendar::{

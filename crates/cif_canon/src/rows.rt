@@ -5,9 +5,8 @@ ghost use Rattle.cif_columns.specs.Line.{ArePrintable};
 ghost use Rattle.cif_weeks.specs.Runs.{record_of};
 ghost use Rattle.cif_canon.specs.Fields.{AreFields, CanBeShown, after, century, fields_text, in_table};
 ghost use Rattle.cif_canon.specs.Fields.{left_out, long_date, row_start, separator, shown, width, width_of};
-ghost use Rattle.cif_canon.specs.Rows.{association_fields, association_row, journey_fields};
-ghost use Rattle.cif_canon.specs.Rows.{location_fields, place_fields, schedule_row, train_fields};
-ghost use Rattle.cif_canon.specs.Rows.{train_row};
+ghost use Rattle.cif_canon.specs.Rows.{association_fields, association_row, journey_fields, location_fields, place_fields, schedule_row};
+ghost use Rattle.cif_canon.specs.Rows.{train_fields, train_row};
 
 use arrayvec::ArrayString;
 use cif_columns::{Text, Uid, WorkTime, as_text, used_columns};

@@ -6,8 +6,7 @@ ghost use Rattle.cif_calendar.specs.Applies.{IsAmongDates};
 ghost use Rattle.cif_weeks.specs.Runs.{record_of};
 ghost use Rattle.cif_canon.specs.Appended.{IsAppended};
 ghost use Rattle.cif_canon.specs.Normalised.{FaultWrites, IfWritten};
-ghost use Rattle.cif_canon.specs.Views.{IsDayFault, IsDayListed, IsDayView, IsTrainFault};
-ghost use Rattle.cif_canon.specs.Views.{IsTrainListed, IsTrainView};
+ghost use Rattle.cif_canon.specs.Views.{IsDayFault, IsDayListed, IsDayView, IsTrainFault, IsTrainListed, IsTrainView};
 
 use crate::asked::check_within;
 use crate::canonical_form::{CanonRecord, write_runs};

@@ -1,7 +1,6 @@
 -- What a clause reads of a `LineReader`, and what a `next` answers.
-use Rattle.std.specs.Prelude.{◌≡◌, ℕ, ◌+◌, ◌<◌, Bool, true, false, List, [], ◌∷◌, Option, None, Some, Result, Ok, Err}
-use Rattle.std.specs.Prelude.{if◌then◌else◌}
-use Rattle.std.specs.Prelude.{◌≢◌, IfErr, IfOk, IfSome, OnErr, OnSome, drop, length, slice_index, take}
+use Rattle.std.specs.Prelude.{◌≡◌, ℕ, ◌+◌, ◌<◌, Bool, true, false, List, [], ◌∷◌, Option, None, Some, Result, Ok, Err, if◌then◌else◌, ◌≢◌}
+use Rattle.std.specs.Prelude.{IfErr, IfOk, IfSome, OnErr, OnSome, drop, length, slice_index, take}
 use Rattle.cif_columns.specs.declared.ahead.NextContent.TheVariants as next
 use Rattle.cif_columns.specs.declared.line.Line.{Line}
 use Rattle.cif_columns.specs.declared.line_reader.Content.{Content}

@@ -7,7 +7,7 @@ ghost use Rattle.std.specs.Str.Lines.{strip_carriage_return};
 ghost use Rattle.cif_columns.specs.Comment.{is_comment};
 ghost use Rattle.cif_columns.specs.Contents.{HaveNoFeed, IsFirstFeed};
 ghost use Rattle.cif_columns.specs.FirstLine.{line_of};
-ghost use Rattle.cif_columns.specs.Source.{Reads, reader_of, source_ended, source_failed};
+ghost use Rattle.cif_columns.specs.Source.{Reads, reader_of, source_ended};
 ghost use Rattle.cif_columns.specs.declared.ahead.TheConstants.{AHEAD};
 ghost use Rattle.cif_columns.specs.declared.line_reader.TheConstants.{MAX_LINES};
 

@@ -1,6 +1,5 @@
 //! A writer that isn't written to again once it has failed, and what a writer tells of its errors.
-ghost use Rattle.std.specs.Prelude.{◌≡◌, ◌++◌, ◌∷◌, [], ◌<◌, IfOk, ℕ, Option, None, IsErr, false};
-ghost use Rattle.std.specs.Prelude.{length};
+ghost use Rattle.std.specs.Prelude.{◌≡◌, ◌++◌, ◌∷◌, [], ◌<◌, IfOk, ℕ, Option, None, IsErr, false, length};
 ghost use Rattle.cif_columns.specs.Contents.{lines_text};
 ghost use Rattle.std.specs.Io.{WritesAtMost};
 ghost use Rattle.std.specs.Io.KnownBytes.{Keeps, WriteAppends};

@@ -1,8 +1,7 @@
 //! What runs on a schedule's dates.
 ghost use Rattle.std.specs.Prelude.{◌≡◌, ◌↔◌, ◌++◌, [], IfOk, IsTrue, OnOk, drop, map, option_copied, slice_index_or};
-ghost use Rattle.cif_columns.specs.Field.{AllStandIn, plain_line};
-ghost use Rattle.cif_extract.specs.Body.{IsBody, KeepMore, KeepSomeBody, body_of, body_tables};
-ghost use Rattle.cif_extract.specs.Body.{detail_of, journey_in, parts_in};
+ghost use Rattle.cif_columns.specs.Field.{plain_line};
+ghost use Rattle.cif_extract.specs.Body.{IsBody, KeepMore, KeepSomeBody, body_of, body_tables, detail_of, journey_in, parts_in};
 ghost use Rattle.cif_extract.specs.BodyParts.{extra_records, journey_records};
 ghost use Rattle.cif_records.specs.Detail.{detail_table};
 ghost use Rattle.cif_records.specs.Record.{record_table};

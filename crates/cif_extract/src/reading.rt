@@ -1,6 +1,5 @@
 //! Reading a whole extract, line by line.
-ghost use Rattle.std.specs.Prelude.{◌≡◌, ◌≢◌, ◌≤◌, ◌+◌, ◌^◌, ◌<◌, ◌++◌, ◌∷◌, [], List, Some, Ok, true, false};
-ghost use Rattle.std.specs.Prelude.{IfOk, IfErr, IfNone, IfSome, IsTrue};
+ghost use Rattle.std.specs.Prelude.{◌≡◌, ◌≢◌, ◌≤◌, ◌+◌, ◌^◌, ◌<◌, ◌++◌, ◌∷◌, [], List, Some, Ok, true, IfOk, IfErr, IfNone, IfSome, IsTrue};
 ghost use Rattle.cif_columns.specs.Line.{ArePrintable, IsLine};
 ghost use Rattle.cif_columns.specs.declared.line_reader.TheConstants.{MAX_LINES};
 ghost use Rattle.cif_extract.specs.ExtractParts.{extract_parts};
@@ -80,9 +79,8 @@ impl Reading {
     ghost use Rattle.cif_extract.specs.Body.{KeepSomeBody};
     ghost use Rattle.cif_extract.specs.Grammar.{AreExtract};
     ghost use Rattle.cif_extract.specs.OrderOfRecords.{may_stand};
-    ghost use Rattle.cif_extract.specs.Steps.Reading.{HasRead, IsClosed, IsFurther, IsKeepable, IsKept, IsTaken};
-    ghost use Rattle.cif_extract.specs.Steps.Reading.{GoesOnPlainly, keeping, no_progress, progress_of, step};
-    ghost use Rattle.cif_extract.specs.Steps.Reading.{UnlessMemory};
+    ghost use Rattle.cif_extract.specs.Steps.Reading.{HasRead, IsClosed, IsFurther, IsKeepable, IsKept, IsTaken, GoesOnPlainly, keeping};
+    ghost use Rattle.cif_extract.specs.Steps.Reading.{no_progress, progress_of, step, UnlessMemory};
     ghost use Rattle.cif_extract.specs.Layouts.{own_layouts};
     ghost use Rattle.cif_extract.specs.Taken.{refusal_at};
     ghost use Rattle.cif_records.specs.Basic.{terms_of};

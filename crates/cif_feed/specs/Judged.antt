@@ -1,6 +1,5 @@
 -- What comes of an input whose lines are judged each by itself.
-use Rattle.std.specs.Prelude.{◌≡◌, ◌<◌, ◌≤◌, ◌+◌, ⊤, ℕ, true, false, List, All, Contains, length, None, Some, IsSomeAnd, Result, Ok}
-use Rattle.std.specs.Prelude.{Err}
+use Rattle.std.specs.Prelude.{◌≡◌, ◌<◌, ◌≤◌, ◌+◌, ⊤, ℕ, true, false, List, All, Contains, length, None, Some, IsSomeAnd, Result, Ok, Err}
 use Rattle.cif_columns.specs.JudgedContents.{IsGiven, MayGoOn, judged_contents}
 use Rattle.cif_columns.specs.Source.{Unread}
 use Rattle.cif_columns.specs.declared.refusal.Refusal.{Refusal}

@@ -1,7 +1,6 @@
 -- The reasons to refuse lines, each judged by itself.
 use Rattle.std.specs.Prelude.{◌≡◌, ℕ, ◌+◌, ◌-◌, ◌<◌, ◌==◌, Bool, false, List, [], ◌∷◌, ◌++◌, Option, None, Some, codes, decimal, filter}
-use Rattle.std.specs.Prelude.{length}
-use Rattle.std.specs.Prelude.{map, slice_index, if◌then◌else◌}
+use Rattle.std.specs.Prelude.{length, map, slice_index, if◌then◌else◌}
 use Rattle.std.specs.List.{flat_map, list_all, position_or_len}
 use Rattle.cif_columns.specs.FirstLine.{is_printable}
 use Rattle.cif_columns.specs.JudgedContents.{judged_contents}

@@ -1,6 +1,5 @@
 //! Reading a published extract, or an update, content by content.
-ghost use Rattle.std.specs.Prelude.{◌≡◌, ◌<◌, ◌≤◌, ◌+◌, ◌^◌, ◌++◌, ◌∷◌, [], ℕ, List, false, true, length, IfErr, IfOk};
-ghost use Rattle.std.specs.Prelude.{All};
+ghost use Rattle.std.specs.Prelude.{◌≡◌, ◌<◌, ◌≤◌, ◌+◌, ◌^◌, ◌++◌, ◌∷◌, [], ℕ, List, false, true, length, IfErr, IfOk, All};
 ghost use Rattle.cif_columns.specs.Comment.{is_comment};
 ghost use Rattle.cif_columns.specs.Line.{IsLine};
 ghost use Rattle.cif_columns.specs.declared.line_reader.TheConstants.{MAX_LINES};
@@ -12,8 +11,7 @@ ghost use Rattle.cif_feed.specs.FeedLayouts.{feed_layouts};
 ghost use Rattle.cif_feed.specs.RecordLines.{is_basic, is_note, is_trailer, record_lines};
 ghost use Rattle.cif_feed.specs.FeedFault.{reading_feed};
 ghost use Rattle.cif_feed.specs.SpellsFeed.{SayFeed, feed_parts};
-ghost use Rattle.cif_feed.specs.Steps.FeedReading.{HasTakenFeed, IsFeedTaken, IsNoteTaken, IsOwn, IsRecordTaken};
-ghost use Rattle.cif_feed.specs.Steps.FeedReading.{IsStopTaken, read_as};
+ghost use Rattle.cif_feed.specs.Steps.FeedReading.{HasTakenFeed, IsFeedTaken, IsNoteTaken, IsOwn, IsRecordTaken, IsStopTaken, read_as};
 ghost use Rattle.cif_feed.specs.Steps.Marks.{HasMarks, HaveRoom};
 ghost use Rattle.cif_feed.specs.declared.feed_line.Feed.{Feed};
 ghost use Rattle.cif_feed.specs.declared.holidays.HolidayCodes.{HolidayCodes};

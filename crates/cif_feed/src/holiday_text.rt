@@ -2,7 +2,6 @@
 ghost use Rattle.std.specs.Prelude.{◌≡◌, ◌<◌, ◌≤◌, ◌+◌, ◌∷◌, ◌==◌, [], ℕ, All, IfErr, IfOk, IfSome, Some, length};
 ghost use Rattle.std.specs.List.{before_first};
 ghost use Rattle.cif_columns.specs.Day.{StandsInYymmdd};
-ghost use Rattle.cif_columns.specs.declared.line_reader.TheConstants.{MAX_LINES};
 ghost use Rattle.cif_extract.specs.ReadCall.{IsResultOf};
 ghost use Rattle.cif_feed.specs.Words.{words_in};
 

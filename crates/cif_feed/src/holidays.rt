@@ -1,6 +1,5 @@
 //! The holiday codes, and their dates.
-ghost use Rattle.std.specs.Prelude.{◌≡◌, ◌<◌, ◌≤◌, ◌⊎◌, ◌↔◌, ℕ, [], length, slice_index, Contains};
-ghost use Rattle.std.specs.Prelude.{IfOk, IfSome, IsTrue, Some, false, true};
+ghost use Rattle.std.specs.Prelude.{◌≡◌, ◌<◌, ◌≤◌, ◌⊎◌, ◌↔◌, ℕ, [], length, slice_index, Contains, IfOk, IfSome, IsTrue, Some, false, true};
 ghost use Rattle.std.specs.List.Sorted.{IsNonDecreasing};
 ghost use Rattle.cif_feed.specs.HolidayCode.{code_in, letter};
 

@@ -1,6 +1,5 @@
 //! Laws: which published extract and which update bytes spell, and what a prepared extract and an update say.
-ghost use Rattle.std.specs.Prelude.{◌≡◌, ◌↔◌, ◌≤◌, ◌++◌, ℕ, Bool, List, Option, None, Contains, false, length, IfErr};
-ghost use Rattle.std.specs.Prelude.{IfOk, Result};
+ghost use Rattle.std.specs.Prelude.{◌≡◌, ◌↔◌, ◌≤◌, ◌++◌, ℕ, Bool, List, Option, None, Contains, false, length, IfErr, IfOk, Result};
 ghost use Rattle.cif_columns.specs.Source.{Unread};
 ghost use Rattle.cif_extract.specs.declared.fault.Fault.{Fault};
 ghost use Rattle.cif_feed.specs.FeedFault.{IsFailure, IsFeedFault, IsReadAs};
@@ -10,8 +9,7 @@ ghost use Rattle.cif_feed.specs.PublishedParts.{IsPublishedOf, PublishedParts, p
 ghost use Rattle.cif_feed.specs.PublishedParts.{SpellPublished, published_lines, published_text};
 ghost use Rattle.cif_feed.specs.UpdateParts.{IsUpdateOf, BytesSpellUpdate, AssociationKey, ScheduleKey, SpellUpdate};
 ghost use Rattle.cif_feed.specs.UpdateParts.{UpdateParts, update_parts};
-ghost use Rattle.cif_feed.specs.WrittenPrepared.{AreDroppedIf, IsDeviceOrMemory, IsPrepareFault, IsPreparedText};
-ghost use Rattle.cif_feed.specs.WrittenPrepared.{codes_named};
+ghost use Rattle.cif_feed.specs.WrittenPrepared.{AreDroppedIf, IsDeviceOrMemory, IsPrepareFault, IsPreparedText, codes_named};
 ghost use Rattle.cif_feed.specs.declared.dropped.Dropped.{Dropped};
 ghost use Rattle.cif_feed.specs.declared.feed_line.Feed.{Feed};
 ghost use Rattle.cif_feed.specs.declared.feed_line.Feed.TheVariants.{Full};
@@ -43,8 +41,7 @@ ghost use Rattle.cif_feed.specs.HolidayCode.{all_codes};
 ghost use Rattle.cif_feed.specs.OfProfile.{as_published, of_profile};
 ghost use Rattle.cif_feed.specs.FromLines.{ArePairs};
 ghost use Rattle.cif_feed.specs.UpdateLines.{SayTiplocs, SaysAssociation, SaysSchedule};
-ghost use Rattle.cif_feed.specs.Updated.{IsUpdateFault, IsUpdated, MayBeDone, published_association_key};
-ghost use Rattle.cif_feed.specs.Updated.{published_schedule_key};
+ghost use Rattle.cif_feed.specs.Updated.{IsUpdateFault, IsUpdated, MayBeDone, published_association_key, published_schedule_key};
 ghost use Rattle.cif_feed.specs.UpdatesInTurn.{IsRefused, IsWritten};
 ghost use Rattle.cif_feed.specs.FeedLine.{SpellsInFeed};
 ghost use Rattle.cif_records.specs.Kind.{kind_in};

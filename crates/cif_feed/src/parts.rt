@@ -1,5 +1,5 @@
 //! The records of a prepared extract: those of the published one, on their dates between their cuts.
-ghost use Rattle.std.specs.Prelude.{◌≡◌, ◌≤◌, ◌<◌, ◌++◌, ◌⊎◌, ◌↔◌, ℕ, IfOk, Contains, max};
+ghost use Rattle.std.specs.Prelude.{◌≡◌, ◌≤◌, ◌++◌, ◌⊎◌, ◌↔◌, ℕ, IfOk, Contains};
 ghost use Rattle.std.specs.List.Sorted.{IsNonDecreasing};
 ghost use Rattle.cif_feed.specs.Parts.{ended};
 ghost use Rattle.cif_feed.specs.PreparedRecord.{terms_on};

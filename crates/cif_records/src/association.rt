@@ -67,8 +67,7 @@ impl Association {
     ghost use Rattle.std.specs.Prelude.{codes};
     ghost use Rattle.cif_columns.specs.Field.{StandsIn, columns, date, indicator, weekdays};
     ghost use Rattle.cif_records.specs.declared.association.Association.{Association};
-    ghost use Rattle.cif_records.specs.Association.{SpellsAssociation, SpellsBody};
-    ghost use Rattle.cif_records.specs.Association.{association_refusal, association_rows};
+    ghost use Rattle.cif_records.specs.Association.{SpellsAssociation, SpellsBody, association_refusal, association_rows};
     ghost use Rattle.cif_records.specs.Association.{association_table, rows_on};
 
     /// The association that the line spells, or the first reason in column order why it spells

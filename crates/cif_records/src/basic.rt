@@ -80,8 +80,7 @@ impl fmt::Debug for Basic {
 
 impl Basic {
     ghost use Rattle.cif_records.specs.declared.basic.Basic.{Basic};
-    ghost use Rattle.cif_records.specs.Basic.{SpellsBasic, basic_refusal};
-    ghost use Rattle.cif_records.specs.Basic.{basic_rows, basic_table};
+    ghost use Rattle.cif_records.specs.Basic.{SpellsBasic, basic_refusal, basic_rows, basic_table};
 
     /// The basic schedule that the line spells, or the first reason in column order why it spells
     /// none: UnknownRecord (columns 1 to 2), NotFull (column 3), BadDate, OpenEnd and DatesReversed

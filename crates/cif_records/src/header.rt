@@ -2,7 +2,7 @@
 ghost use Rattle.std.specs.Prelude.{◌≡◌, ◌≤◌, ◌↔◌, Some, Ok, IsTrue, codes, length};
 ghost use Rattle.std.proofs.Props.{props};
 ghost use Rattle.cif_columns.specs.Day.{ddmmyy_in};
-ghost use Rattle.cif_columns.specs.Field.{AllStandIn, columns, columns_from, plain_line};
+ghost use Rattle.cif_columns.specs.Field.{AllStandIn, columns, plain_line};
 ghost use Rattle.cif_columns.specs.Line.{ArePrintable};
 ghost use Rattle.cif_records.specs.Checks.{IsJudged};
 ghost use Rattle.cif_records.specs.HeaderColumns.{IsFull, kept, with_window as columns_with_window};
@@ -62,8 +62,7 @@ impl fmt::Debug for Header {
 
 impl Header {
     ghost use Rattle.cif_records.specs.declared.header.Header.{Header};
-    ghost use Rattle.cif_records.specs.Header.{SpellsHeader, header_refusal, header_refusal_by};
-    ghost use Rattle.cif_records.specs.Header.{header_rows_by, header_table};
+    ghost use Rattle.cif_records.specs.Header.{SpellsHeader, header_refusal, header_refusal_by, header_rows_by, header_table};
 
     /// The header that the line spells, or the first reason in column order why it spells none:
     /// UnknownRecord (columns 1 to 2), NotFull (column 47), BadDate and DatesReversed (columns 49

@@ -4,13 +4,10 @@ ghost use Rattle.cif_canon.specs.Fault.{IsNormaliseFault};
 ghost use Rattle.cif_columns.specs.Sink.{Writes};
 ghost use Rattle.cif_columns.specs.declared.line_reader.TheConstants.{MAX_LINES};
 ghost use Rattle.cif_extract.specs.declared.fault.Fault.TheVariants.{Write};
-ghost use Rattle.cif_tool.specs.Answer.{Answers, AreAnswered, AreComparedAs, Finishes, IsAnswered};
-ghost use Rattle.cif_tool.specs.Answer.{IsCalendarAnswer, IsCheckAllAnswer, IsClashesAnswer};
-ghost use Rattle.cif_tool.specs.Answer.{IsClashlessRefusal, IsCanonicalAnswer};
-ghost use Rattle.cif_tool.specs.Answer.{IsDayAnswer, IsDayRefusal, IsPairAnswer};
-ghost use Rattle.cif_tool.specs.Answer.{IsExplainAnswer, IsExplainRefusal, IsHandedOn, IsJobAnswer};
-ghost use Rattle.cif_tool.specs.Answer.{IsJobResult, IsTrainAnswer, answering, answering_all};
-ghost use Rattle.cif_tool.specs.Answer.{canonical_text, differences_in};
+ghost use Rattle.cif_tool.specs.Answer.{Answers, AreAnswered, AreComparedAs, Finishes, IsAnswered, IsCalendarAnswer, IsCheckAllAnswer};
+ghost use Rattle.cif_tool.specs.Answer.{IsClashesAnswer, IsClashlessRefusal, IsCanonicalAnswer, IsDayAnswer, IsDayRefusal, IsPairAnswer};
+ghost use Rattle.cif_tool.specs.Answer.{IsExplainAnswer, IsExplainRefusal, IsHandedOn, IsJobAnswer, IsJobResult, IsTrainAnswer, answering};
+ghost use Rattle.cif_tool.specs.Answer.{answering_all, canonical_text, differences_in};
 
 use crate::job::{CalendarJob, CanonicalJob, CompareJob, DayJob, ExplainJob, Job, TrainJob};
 use crate::status::{DONE, REFUSED, listed, outcome};

@@ -1,10 +1,8 @@
 //! The command line of `cif`.
 ghost use Rattle.std.specs.Prelude.{◌≡◌, IfOk, false, map, string_bytes};
-ghost use Rattle.clap.specs.Words.{FailsBy, app_of, new_app, rule_of, subcommand_rows_of};
-ghost use Rattle.clap.specs.Words.{with_subcommand};
+ghost use Rattle.clap.specs.Words.{FailsBy, app_of, new_app, rule_of, subcommand_rows_of, with_subcommand};
 ghost use Rattle.clap.specs.declared.Command.TheViews.{out-Command};
-ghost use Rattle.cif_tool.specs.CommandLine.{AreChoices, IsCommand, argument, chosen, cif, faults_of};
-ghost use Rattle.cif_tool.specs.CommandLine.{given, subcommands, taken, taking};
+ghost use Rattle.cif_tool.specs.CommandLine.{AreChoices, IsCommand, argument, chosen, cif, faults_of, given, subcommands, taken, taking};
 
 use crate::help;
 use Argument::{

@@ -5,10 +5,9 @@ ghost use Rattle.cif_extract.specs.ReadCall.{IsResultOf};
 ghost use Rattle.cif_feed.specs.PublishedParts.{published_parts};
 ghost use Rattle.cif_feed.specs.declared.changes.RefusedLine.{RefusedLine};
 ghost use Rattle.cif_tool.specs.Answer.{IsHandedOn};
-ghost use Rattle.cif_tool.specs.FeedAnswer.{AreDoneInTurn, AreHolidaysRead, AreUpdatesRead, FeedAnswers};
-ghost use Rattle.cif_tool.specs.FeedAnswer.{FeedFinishes, IsPrepareAnswer, IsPrepareFault, IsPreparedInTurn};
-ghost use Rattle.cif_tool.specs.FeedAnswer.{IsTold, OfHolidays};
-ghost use Rattle.cif_tool.specs.FeedAnswer.{IsUpdateFault, OfUpdates, doing, waived_by};
+ghost use Rattle.cif_tool.specs.FeedAnswer.{AreDoneInTurn, AreHolidaysRead, AreUpdatesRead, FeedAnswers, FeedFinishes, IsPrepareAnswer};
+ghost use Rattle.cif_tool.specs.FeedAnswer.{IsPrepareFault, IsPreparedInTurn, IsTold, OfHolidays, IsUpdateFault, OfUpdates, doing};
+ghost use Rattle.cif_tool.specs.FeedAnswer.{waived_by};
 ghost use Rattle.cif_feed.specs.UpdatesInTurn.{IsWritten};
 
 use cif_columns::{MAX_LINES, ReadDevice, Sink, Source, WriteDevice, WriteFault};

@@ -1,7 +1,6 @@
 //! The statuses that the program exits with.
 ghost use Rattle.std.specs.Prelude.{◌≡◌};
-ghost use Rattle.cif_tool.specs.Status.{TellsFault, end_status, listed_status};
-ghost use Rattle.cif_tool.specs.Status.{outcome_of, status_of};
+ghost use Rattle.cif_tool.specs.Status.{TellsFault, end_status, listed_status, outcome_of, status_of};
 
 use cif_canon::{Comparison, report};
 use cif_columns::{Sink, WriteDevice};

@@ -1,16 +1,12 @@
 //! What the words of a call ask for.
 ghost use Rattle.std.specs.Prelude.{◌≡◌, ◌≢◌, ◌⊎◌, ◌<◌, ◌≤◌, ◌∷◌, IfErr, IfOk, IsSomeAnd};
 ghost use Rattle.std.specs.Prelude.{MatchOption, codes, false, map, option_map, string_bytes, true};
-ghost use Rattle.clap.specs.Words.{all_of, first_of, found_of, kind_of, rows_of};
-ghost use Rattle.clap.specs.Words.{subcommand_rows_of};
+ghost use Rattle.clap.specs.Words.{all_of, first_of, found_of, kind_of, rows_of, subcommand_rows_of};
 ghost use Rattle.cif_columns.specs.Day.{StandsInYymmdd};
 ghost use Rattle.cif_tool.specs.CommandLine.{feed_subcommands};
-ghost use Rattle.cif_tool.specs.Job.{AreCanonicalWords, AreComparedWords, Asks, IsAskedBy};
-ghost use Rattle.cif_tool.specs.Job.{IsCallChosen, IsChosen};
-ghost use Rattle.cif_tool.specs.Job.{IsDateOf, IsTaskChosen, IsUidWord, file_of, form_of};
-ghost use Rattle.cif_tool.specs.Job.{format_of, has_flag, inputs_of, is_standard, listing_of};
-ghost use Rattle.cif_tool.specs.Job.{names_of, required_word, standard_inputs};
-ghost use Rattle.cif_tool.specs.Job.{table_of};
+ghost use Rattle.cif_tool.specs.Job.{AreCanonicalWords, AreComparedWords, Asks, IsAskedBy, IsCallChosen, IsChosen, IsDateOf, IsTaskChosen};
+ghost use Rattle.cif_tool.specs.Job.{IsUidWord, file_of, form_of, format_of, has_flag, inputs_of, is_standard, listing_of, names_of};
+ghost use Rattle.cif_tool.specs.Job.{required_word, standard_inputs, table_of};
 ghost use Rattle.cif_tool.specs.JobFault.{HasBadDate, HasBadWindow, IsAskedFor, IsEnteredFault};
 ghost use Rattle.cif_tool.specs.JobFault.{IsFaultOf, IsNoUid, IsNoneOf, NamesNoDay, several_of};
 

@@ -1,5 +1,5 @@
 //! The table of the differences of two extracts.
-ghost use Rattle.std.specs.Prelude.{◌≡◌, ◌≤◌, ◌+◌, ◌++◌, [], ◌∷◌, IfErr, IsTrue, Some, codes, length, replicate};
+ghost use Rattle.std.specs.Prelude.{◌≡◌, ◌≤◌, ◌++◌, [], ◌∷◌, IfErr, IsTrue, Some, codes, length, replicate};
 ghost use Rattle.std.specs.List.{flat_map};
 ghost use Rattle.cif_columns.specs.Field.{columns};
 ghost use Rattle.cif_columns.specs.Sink.{Writes};

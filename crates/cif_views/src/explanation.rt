@@ -2,8 +2,7 @@
 ghost use Rattle.std.specs.Prelude.{◌≡◌, ◌+◌, ◌≤◌, ◌++◌, ◌∷◌, ℕ, List, IfErr, map};
 ghost use Rattle.arrayvec.specs.ArrayString.{array_string_len};
 ghost use Rattle.cif_extract.specs.ExtractParts.{extract_parts};
-ghost use Rattle.cif_views.specs.Explanation.{IsExplanation, IsExplanationFault};
-ghost use Rattle.cif_views.specs.Explanation.{mark_columns, said_of_association, said_of_train};
+ghost use Rattle.cif_views.specs.Explanation.{IsExplanation, IsExplanationFault, mark_columns, said_of_association, said_of_train};
 ghost use Rattle.cif_views.specs.Explanation.{terms_fields};
 ghost use Rattle.cif_canon.specs.Normalised.{FaultWrites, IfWritten};
 ghost use Rattle.cif_views.specs.Steps.Explanation.{AreMarkedOn, IsRisingBy, placed_of};

@@ -5,8 +5,7 @@ ghost use Rattle.cif_canon.specs.Fields.{after, row_start};
 ghost use Rattle.cif_canon.specs.Normalised.{FaultWrites, IfWritten};
 ghost use Rattle.cif_canon.specs.Views.{IsDayFault, IsTrainFault};
 ghost use Rattle.cif_extract.specs.ExtractParts.{extract_parts};
-ghost use Rattle.cif_views.specs.Listing.{IsDayListing, IsTrainListing, association_line};
-ghost use Rattle.cif_views.specs.Listing.{call_names_if, no_call};
+ghost use Rattle.cif_views.specs.Listing.{IsDayListing, IsTrainListing, association_line, call_names_if, no_call};
 ghost use Rattle.cif_views.specs.Steps.Rows.{first_field, heading_text, names_behind};
 
 use crate::calls::write_row;

@@ -2,8 +2,7 @@
 ghost use Rattle.std.specs.Prelude.{◌≡◌, ◌↔◌, ◌+◌, ◌<◌, ℕ, IfOk, IsTrue, length, map};
 ghost use Rattle.cif_calendar.specs.Applies.{Applies};
 ghost use Rattle.cif_calendar.specs.Keys.{keyed};
-ghost use Rattle.cif_views.specs.Steps.Explanation.{ArePlacedInOrder, IsFirstOfKey, IsMarkAt};
-ghost use Rattle.cif_views.specs.Steps.Explanation.{IsRisingBy, placed_cmp, placed_of};
+ghost use Rattle.cif_views.specs.Steps.Explanation.{ArePlacedInOrder, IsFirstOfKey, IsMarkAt, IsRisingBy, placed_cmp, placed_of};
 
 use arrayvec::ArrayString;
 use cif_calendar::{Dates, Entry, precedence, same_body};

@@ -1,5 +1,5 @@
 //! Tables of a whole canonical extract.
-ghost use Rattle.std.specs.Prelude.{◌≡◌, ◌<◌, ◌≤◌, ◌+◌, ◌^◌, ◌++◌, ◌∷◌, IfErr, IsTrue, codes, cond, length, map};
+ghost use Rattle.std.specs.Prelude.{◌≡◌, ◌<◌, ◌≤◌, ◌+◌, ◌++◌, ◌∷◌, IfErr, IsTrue, codes, length, map};
 ghost use Rattle.std.specs.List.{flat_map};
 ghost use Rattle.cif_columns.specs.Sink.{Writes};
 ghost use Rattle.cif_extract.specs.declared.fault.Fault.TheVariants.{Write};
@@ -7,12 +7,10 @@ ghost use Rattle.cif_canon.specs.Appended.{IsAppended};
 ghost use Rattle.cif_canon.specs.Fields.{after, line_of};
 ghost use Rattle.cif_canon.specs.Lines.{line_of_tiploc, schedule_plain};
 ghost use Rattle.cif_canon.specs.declared.rows.Format.TheVariants.{Tsv};
-ghost use Rattle.cif_views.specs.Steps.Columns.{are_within, call_columns, fields_in};
-ghost use Rattle.cif_views.specs.Steps.Columns.{name_fields, named, room_for, room_for_names};
+ghost use Rattle.cif_views.specs.Steps.Columns.{are_within, call_columns, fields_in, name_fields, named, room_for, room_for_names};
 ghost use Rattle.cif_views.specs.Steps.TableRows.{call_kind, has_row, journey_columns, journey_rows, row_of_kind};
-ghost use Rattle.cif_views.specs.Tables.{extra_in, is_call, kind_of_line, number, numbered_schedule, row_line, schedule_fields};
+ghost use Rattle.cif_views.specs.Tables.{number, numbered_schedule, row_line, schedule_fields, tiploc_fields};
 ghost use Rattle.cif_views.specs.TableText.{table_heading, table_text};
-ghost use Rattle.cif_views.specs.Tables.{tiploc_fields};
 ghost use Rattle.cif_views.specs.declared.columns.JourneyKind.TheVariants.{Other};
 
 use crate::columns::{

@@ -1,8 +1,7 @@
 //! The runs of one body: the weekdays on which its spans lead, week by week. Weeks that have one mask
 //! are taken at once.
 
-ghost use Rattle.std.specs.Prelude.{◌≡◌, ◌<◌, ◌≤◌, ◌+◌, ◌*◌, ◌++◌, Contains, IfNone, IfOk};
-ghost use Rattle.std.specs.Prelude.{IfSome, MatchBool, ℕ, List, length};
+ghost use Rattle.std.specs.Prelude.{◌≡◌, ◌<◌, ◌≤◌, ◌+◌, ◌*◌, ◌++◌, Contains, IfNone, IfOk, IfSome, MatchBool, ℕ, List, length};
 ghost use Rattle.std.specs.List.Sorted.{IsNonDecreasingBy};
 ghost use Rattle.cif_columns.specs.Day.{IsDay, week_of};
 ghost use Rattle.cif_weeks.specs.Steps.BodyRuns.{AreGrownTo, AreNextWeeks, AreRunsOfBody};

@@ -1,16 +1,13 @@
 //! The canonical runs of a calendar, body by body, from the spans of its pieces.
 
-ghost use Rattle.std.specs.Prelude.{◌≡◌, ◌<◌, ◌+◌, ◌↔◌, ℕ, All, Contains, IfOk, Some, length};
-ghost use Rattle.std.specs.Prelude.{map, slice_get, []};
+ghost use Rattle.std.specs.Prelude.{◌≡◌, ◌<◌, ◌+◌, ◌↔◌, ℕ, All, Contains, IfOk, Some, length, map, slice_get, []};
 ghost use Rattle.cif_columns.specs.DaysRun.{RunsOn};
 ghost use Rattle.cif_calendar.specs.declared.key_calendar.Piece.{Piece};
 ghost use Rattle.cif_weeks.specs.Runs.{AreCanonicalRuns, AreSources, window_of};
 ghost use Rattle.cif_weeks.specs.Steps.BodyRuns.{AreRunsOfSpans, HasBody};
-ghost use Rattle.cif_weeks.specs.Steps.PieceSpans.{AreBySource, AreSpansBefore};
-ghost use Rattle.cif_weeks.specs.Steps.PieceSpans.{HasBodyOn, IsWinnerOn, named};
+ghost use Rattle.cif_weeks.specs.Steps.PieceSpans.{AreBySource, AreSpansBefore, HasBodyOn, IsWinnerOn, named};
 ghost use Rattle.cif_weeks.specs.Steps.Spans.{IsAgreed, Shows};
 ghost use Rattle.cif_weeks.specs.Window.{IsWithin, window_from};
-ghost use Rattle.cif_weeks.specs.declared.form.Run.{Run};
 ghost use Rattle.cif_weeks.specs.declared.span.Span.{Span};
 
 use crate::body_runs::add_body_runs;

@@ -1,7 +1,6 @@
 //! Laws: what runs determines the canonical records, what these say of a day, and what `runs` asks of a
 //! calendar.
-ghost use Rattle.std.specs.Prelude.{◌≡◌, ℕ, ◌<◌};
-ghost use Rattle.std.specs.Prelude.{List, Option, Some, All, Contains};
+ghost use Rattle.std.specs.Prelude.{◌≡◌, ℕ, List, Option, Some, All, Contains};
 ghost use Rattle.cif_calendar.specs.Terms.{Terms};
 ghost use Rattle.cif_calendar.specs.Source.{IsWinnerAt};
 ghost use Rattle.cif_calendar.specs.Calendar.{CalendarParts, IsCalendar};

@@ -1,7 +1,6 @@
 //! The days of a window on which a record applies, week by week, and the position that stands for its body.
 
-ghost use Rattle.std.specs.Prelude.{◌≡◌, ◌<◌, ◌≤◌, ◌+◌, ◌*◌, ◌↔◌, All, IfNone, IfSome, IsTrue, Some, ℕ};
-ghost use Rattle.std.specs.Prelude.{length, map, max, min};
+ghost use Rattle.std.specs.Prelude.{◌≡◌, ◌<◌, ◌≤◌, ◌+◌, ◌*◌, ◌↔◌, All, IfNone, IfSome, IsTrue, Some, ℕ, length, map};
 ghost use Rattle.std.specs.List.Sorted.{IsNonDecreasingBy};
 ghost use Rattle.cif_columns.specs.DaysRun.{RunsOn};
 ghost use Rattle.cif_calendar.specs.Source.{body_at};

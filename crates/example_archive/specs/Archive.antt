@@ -2,7 +2,6 @@
 use Rattle.std.specs.Prelude.{◌↔◌, ℕ, Bool, IsTrue, List, Some}
 use Rattle.cif_columns.specs.declared.line_reader.TheConstants.{MAX_LINES}
 use Rattle.cif_extract.specs.ExtractParts.{ExtractParts}
-use Rattle.cif_weeks.specs.Window.{Window}
 use Rattle.cif_weeks.specs.declared.form.Form.TheVariants.{Two}
 use Rattle.cif_canon.specs.Accepted.{IsAccepted}
 use Rattle.cif_canon.specs.Meaning.{Agree}
