@@ -77,7 +77,8 @@ associations-fit xs (run ∷ runs) ((k, r) ∷ es) dated terms zip fits =
     let body : a.body ≡ Some r.body = ap (λ (e : AssocKey × Terms AssocBody). e.1.body) f.is ∙ zip.0.body in
     let own = subst (λ j. AllFit (association_rows j a.first a.last a.days a.letter (Some r.body))) key
     (subst (λ o. AllFit (association_rows a.key a.first a.last a.days a.letter o)) body f.fits) in
-    All-cons AssociationFits (association_of (k, r) (All-head IsDated (k, r) es dated)) (associations_of es (All-tail IsDated (k, r) es dated))
+    All-cons AssociationFits (association_of (k, r) (All-head IsDated (k, r) es dated))
+    (associations_of es (All-tail IsDated (k, r) es dated))
     (permanent-association k a.first a.last a.days a.letter r.body r.first r.last r.days own (All-head HasTerms (k, r) es terms))
     (associations-fit xs runs es (All-tail IsDated (k, r) es dated) (All-tail HasTerms (k, r) es terms) zip.1 fits)
 

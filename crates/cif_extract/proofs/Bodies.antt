@@ -126,7 +126,8 @@ pub kept : (lines : List (List ℕ)) (p : BodyParts) → KeepBody lines p → Ke
 kept lines p k = kept_parts p.detail p.origin p.calls p.terminus lines p.extra k
 
 -- the detail stands in the first line, which is its plain line
-pub first_line : (lines : BodyLines) → KeepSomeBody lines → (2 < length lines) × (get_or lines 0 [] ≡ plain_line (detail_table (detail_of lines)))
+pub first_line : (lines : BodyLines) → KeepSomeBody lines
+    → (2 < length lines) × (get_or lines 0 [] ≡ plain_line (detail_table (detail_of lines)))
 first_line lines (p, k) =
     let h = kept lines p k in (
       h.longer,
@@ -204,7 +205,8 @@ extra_read lines line result (p, k) is judged only =
         → IfSome extra (λ e. SpellsRecord line (of.Extra e)) → IsJudged (extra_refusal line) (SpellsExtra line) result
         → ((e : Extra) → SpellsExtra line e → result ≡ Ok e)
         → result_ok result ≡ cond (is_extra line) (Some (extra_in line)) None
-    at line (Some e) result marked further judged only = rw marked (ap result_ok (only e further) ∙ ap Some (sym (extra_in-spells line e further)))
+    at line (Some e) result marked further judged only =
+        rw marked (ap result_ok (only e further) ∙ ap Some (sym (extra_in-spells line e further)))
     at line None (Ok e) marked further judged only =
         let there : is_extra line ≡ true = rw judged.1.0 in
         absurd (cc)

@@ -27,7 +27,8 @@ rows_on first last s = basic_rows s.uid first last s.days s.letter (option_map d
 
 -- the plain lines of a schedule with these terms
 unfoldable pub schedule_lines : List ℕ → ℕ → ℕ → List Bool → Stp → Option BodyLines → List (List ℕ)
-schedule_lines uid first last days letter body = plain_line (basic_rows uid first last days letter (option_map detail_of body)) ∷ further_lines body
+schedule_lines uid first last days letter body =
+    plain_line (basic_rows uid first last days letter (option_map detail_of body)) ∷ further_lines body
 
 -- the plain lines of a schedule, of a location and of an association
 abbrev pub plain_lines_of : Schedule → List (List ℕ)

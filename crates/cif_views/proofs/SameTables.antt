@@ -180,7 +180,8 @@ plain-associations xs es are fits =
     (plain-all association_line es (of-records association_entry xs es are AssociationEntryFits fits))
 
 -- canonical records, of which so many lines are written
-plain-records : (es : List (List ℕ × Permanent BodyLines)) → All FitsLines es → length (flat_map all_lines (map schedule_plain es)) < 2 ^ 64 →
+plain-records : (es : List (List ℕ × Permanent BodyLines)) → All FitsLines es →
+    length (flat_map all_lines (map schedule_plain es)) < 2 ^ 64 →
     All IsSchedule (map schedule_plain es) × (length (map schedule_plain es) ≤ length (flat_map all_lines (map schedule_plain es)))
 plain-records [] fits few = (All-nil IsSchedule, omega arith)
 plain-records (e ∷ es) fits few =
@@ -197,7 +198,8 @@ plain-schedules : (xs : List Schedule) (es : List (List ℕ × Permanent BodyLin
     All IsSchedule (map lines_of_schedule xs) × (length (map lines_of_schedule xs) < 2 ^ 64)
 plain-schedules xs es are fits few =
     let lines = by-records schedule_entry xs es are lines_of_entry in
-    let entries = All-weaker ScheduleFits (λ s. ScheduleEntryFits (schedule_entry s)) (λ s f. record { basic = f.basic; body = f.body }) xs fits in
+    let entries = All-weaker ScheduleFits (λ s. ScheduleEntryFits (schedule_entry s))
+    (λ s f. record { basic = f.basic; body = f.body }) xs fits in
     let records = All-weaker (λ (e : List ℕ × Permanent BodyLines). ScheduleEntryFits (e.0, terms_of e.1)) FitsLines
     (λ e f. record { basic = f.basic; body = f.body }) es (of-records schedule_entry xs es are ScheduleEntryFits entries) in
     let some = subst (λ ls. length (flat_map all_lines ls) < 2 ^ 64) lines few in

@@ -5,7 +5,8 @@ use Rattle.cif_extract.proofs.Bodies.{some_journey}
 use Rattle.cif_extract.proofs.body.Body.calls.Goals as goal
 use Rattle.cif_extract.proofs.body.Body.calls.Goals.{After-rest}
 
-between : (c : After-rest) → before_last c.rest.result ≡ slice_range (journey_in c.args.self.now) 1 (length (journey_in c.args.self.now) - 1)
+between : (c : After-rest) → before_last c.rest.result
+    ≡ slice_range (journey_in c.args.self.now) 1 (length (journey_in c.args.self.now) - 1)
 between c =
     let lines = journey_in c.args.self.now in
     let count : length (drop 1 lines) - 1 ≡ length lines - 1 - 1 = omega (arith, length-drop 1 lines) in

@@ -8,7 +8,7 @@ unfolding schedule_lines
 returns-clause-writes g c =
     let a = c.args in
     let basic = c.permanent_line-basic.result in
-    let is = subst (λ (b : BodyLines). basic ≡ plain_line (basic_rows a.uid.now a.first a.last a.days P (Some (detail_of b)))) c.self.view_is
-    (c.permanent_line-basic.ensures (detail_of c.self.inside.body.now) c.detail_line.ensures.plain) in
+    let is = subst (λ (b : BodyLines). basic ≡ plain_line (basic_rows a.uid.now a.first a.last a.days P (Some (detail_of b))))
+    c.self.view_is (c.permanent_line-basic.ensures (detail_of c.self.inside.body.now) c.detail_line.ensures.plain) in
     subst (λ text. Writes g.W.Write.contents g.W.WriteDevice.write_errors text a.sink.now c.write_with_basic.new.sink
     c.write_with_basic.result) (ap (λ line. lines_text (line ∷ drop 1 a.self.now)) is) c.write_with_basic.ensures.writes
