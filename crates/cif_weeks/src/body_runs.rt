@@ -1,17 +1,20 @@
 //! The runs of one body: the weekdays on which its spans lead, week by week. Weeks that have one mask
 //! are taken at once.
 
-ghost use Rattle.std.specs.Prelude.{◌≡◌, ◌<◌, ◌≤◌, ◌+◌, ◌*◌, ◌++◌, Contains, IfNone, IfOk, IfSome, MatchBool, ℕ, List, length};
+ghost use Rattle.std.specs.Prelude.{◌≡◌, ◌<◌, ◌≤◌, ◌+◌, ◌*◌, ◌++◌, ◌↔◌, All, Contains, IfNone, IfOk, IfSome, IsTrue};
+ghost use Rattle.std.specs.Prelude.{List, MatchBool, Some, length, map, ℕ};
 ghost use Rattle.std.specs.List.Sorted.{IsNonDecreasingBy};
 ghost use Rattle.cif_columns.specs.Day.{IsDay, week_of};
+ghost use Rattle.cif_calendar.specs.Source.{body_at};
 ghost use Rattle.cif_weeks.specs.Steps.BodyRuns.{AreGrownTo, AreNextWeeks, AreRunsOfBody};
-ghost use Rattle.cif_weeks.specs.Steps.Spans.{AgreeOn, HaveOneMask, IsDisputed, Leads, Shows};
+ghost use Rattle.cif_weeks.specs.Steps.Spans.{AgreeOn, HaveOneMask, IsDisputed, IsSourceAmong, Leads, Shows};
 ghost use Rattle.cif_weeks.specs.Window.{IsWithin, window_from};
 ghost use Rattle.cif_weeks.specs.declared.form.Run.{Run};
 ghost use Rattle.cif_weeks.specs.declared.span.Span.{Span};
 
 use crate::form::{Joining, Run};
 use crate::span::{Span, Weeks, no_days};
+use cif_calendar::{Entry, same_body};
 use cif_columns::Day;
 use std::alloc::AllocError;
 
@@ -197,4 +200,44 @@ pub(crate) fn add_body_runs(
         }
     }
     Ok(true)
+}
+
+/// Whether the entries at two positions have one body.
+pub(crate) fn have_one_body<E: Entry>(entries: &[E], one: usize, other: usize) -> bool
+    requires one { one < length entries.now }
+    requires other { other < length entries.now }
+    ensures { IsTrue result ↔ (body_at (map E.terms entries.now) (Some one)
+        ≡ body_at (map E.terms entries.now) (Some other)) }
+{
+    one == other || same_body(&entries[one], &entries[other])
+}
+
+/// The position that stands for the body of the entry at `position`: the source of a span with this
+/// body, or `position` itself if there is none. Spans that end before the week before `week` don't
+/// count; where there are any, the spans rise by their last weeks.
+pub(crate) fn source_of<E: Entry>(
+    entries: &[E],
+    spans: &[Span],
+    week: u32,
+    position: usize,
+) -> usize
+    requires position { position < length entries.now }
+    requires sources { All (λ s. s.source < length entries.now) spans.now }
+    requires order { 0 < week → IsNonDecreasingBy (λ s. s.last_week) spans.now }
+    ensures body { body_at (map E.terms entries.now) (Some result)
+        ≡ body_at (map E.terms entries.now) (Some position) }
+    ensures source { IsSourceAmong (map E.terms entries.now) spans.now week position result }
+{
+    let mut place = spans.len();
+    while 0 < place {
+        place -= 1;
+        let span = &spans[place];
+        if span.last_week + 1 < week {
+            break;
+        }
+        if have_one_body(entries, span.source, position) {
+            return span.source;
+        }
+    }
+    position
 }

@@ -10,9 +10,9 @@ ghost use Rattle.cif_weeks.specs.Steps.Spans.{IsAgreed, Shows};
 ghost use Rattle.cif_weeks.specs.Window.{IsWithin, window_from};
 ghost use Rattle.cif_weeks.specs.declared.span.Span.{Span};
 
-use crate::body_runs::add_body_runs;
+use crate::body_runs::{add_body_runs, have_one_body, source_of};
 use crate::form::{Form, Joining, Run, sort_by_first};
-use crate::span::{Span, have_one_body, no_days, source_of};
+use crate::span::{Span, no_days};
 use cif_calendar::{Calendar, Entry, Piece};
 use cif_columns::{DaysRun, Stp};
 use std::alloc::{AllocError, Global};

@@ -7,9 +7,9 @@ ghost use Rattle.cif_weeks.specs.Steps.BodyRuns.{AreRunsOfSpans, HasBody, HasSou
 ghost use Rattle.cif_weeks.specs.Steps.Spans.{IsDisputed, Shows};
 ghost use Rattle.cif_weeks.specs.Window.{IsWithin, window_from};
 
-use crate::body_runs::add_body_runs;
+use crate::body_runs::{add_body_runs, source_of};
 use crate::form::{Form, Joining, Run, sort_by_first};
-use crate::span::{Span, source_of};
+use crate::span::Span;
 use arrayvec::ArrayVec;
 use cif_calendar::{Entry, Window};
 use cif_columns::Stp;

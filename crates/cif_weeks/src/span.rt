@@ -1,12 +1,9 @@
-//! The days of a window on which a record applies, week by week, and the position that stands for its body.
+//! The days of a window on which a record applies, week by week.
 
-ghost use Rattle.std.specs.Prelude.{◌≡◌, ◌<◌, ◌≤◌, ◌+◌, ◌*◌, ◌↔◌, All, IfNone, IfSome, IsTrue, Some, ℕ, length, map};
-ghost use Rattle.std.specs.List.Sorted.{IsNonDecreasingBy};
+ghost use Rattle.std.specs.Prelude.{◌≡◌, ◌<◌, ◌≤◌, ◌+◌, ◌*◌, ◌↔◌, IfNone, IfSome, ℕ, length, max, min};
 ghost use Rattle.cif_columns.specs.DaysRun.{RunsOn};
-ghost use Rattle.cif_calendar.specs.Source.{body_at};
-ghost use Rattle.cif_weeks.specs.Steps.Spans.{IsSourceAmong};
 
-use cif_calendar::{Dates, Entry, Window, same_body};
+use cif_calendar::{Dates, Entry, Window};
 use cif_columns::{Day, DaysRun, Stp};
 
 /// The days of a window on which a record applies, week by week.
@@ -163,44 +160,4 @@ pub(crate) fn no_days() -> DaysRun
     ensures width { length result ≡ 7 }
 {
     DaysRun::of([false; 7])
-}
-
-/// Whether the entries at two positions have one body.
-pub(crate) fn have_one_body<E: Entry>(entries: &[E], one: usize, other: usize) -> bool
-    requires one { one < length entries.now }
-    requires other { other < length entries.now }
-    ensures { IsTrue result ↔ (body_at (map E.terms entries.now) (Some one)
-        ≡ body_at (map E.terms entries.now) (Some other)) }
-{
-    one == other || same_body(&entries[one], &entries[other])
-}
-
-/// The position that stands for the body of the entry at `position`: the source of a span with this
-/// body, or `position` itself if there is none. Spans that end before the week before `week` don't
-/// count; where there are any, the spans rise by their last weeks.
-pub(crate) fn source_of<E: Entry>(
-    entries: &[E],
-    spans: &[Span],
-    week: u32,
-    position: usize,
-) -> usize
-    requires position { position < length entries.now }
-    requires sources { All (λ s. s.source < length entries.now) spans.now }
-    requires order { 0 < week → IsNonDecreasingBy (λ s. s.last_week) spans.now }
-    ensures body { body_at (map E.terms entries.now) (Some result)
-        ≡ body_at (map E.terms entries.now) (Some position) }
-    ensures source { IsSourceAmong (map E.terms entries.now) spans.now week position result }
-{
-    let mut place = spans.len();
-    while 0 < place {
-        place -= 1;
-        let span = &spans[place];
-        if span.last_week + 1 < week {
-            break;
-        }
-        if have_one_body(entries, span.source, position) {
-            return span.source;
-        }
-    }
-    position
 }

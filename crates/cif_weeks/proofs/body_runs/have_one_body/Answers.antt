@@ -1,6 +1,6 @@
 -- Both positions are those of entries.
 use Rattle.cif_weeks.proofs.Names.{terms_at}
-use Rattle.cif_weeks.proofs.span.have_one_body.Goals as goal
+use Rattle.cif_weeks.proofs.body_runs.have_one_body.Goals as goal
 
 pub returns-else-one-other : goal.returns-else-one-other
 returns-else-one-other g c = rw (

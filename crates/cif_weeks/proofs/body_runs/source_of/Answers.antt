@@ -1,7 +1,7 @@
 -- The span that was found is listed; at the end all have been looked at, or those that are left end no later than one that is too early.
 use Rattle.cif_weeks.proofs.Names.{Some, Span, ap, arith, body_at, cases_lt, get_or, get_or_default, iff_false, inl, inr, map, refl, subst}
 use Rattle.cif_weeks.proofs.Names.{sym, ⊎_elim, ◌-◌, ◌∙◌, ◌≡◌, ◌≢◌}
-use Rattle.cif_weeks.proofs.span.source_of.Goals as goal
+use Rattle.cif_weeks.proofs.body_runs.source_of.Goals as goal
 
 pub returns-then-have_one_body-clause-source : goal.returns-then-have_one_body-clause-source
 returns-then-have_one_body-clause-source g c = inl (

@@ -1,6 +1,6 @@
 -- None of the spans from `place` on has a source with the body.
 use Rattle.cif_weeks.proofs.Names.{Some, Span, body_at, get_or, length, map, ℕ, ◌<◌, ◌≡◌, ◌≢◌, ◌≤◌}
-use Rattle.cif_weeks.proofs.span.source_of.Given as goal
+use Rattle.cif_weeks.proofs.body_runs.source_of.Given as goal
 
 abbrev pub invariant-loop-place : goal.invariant-loop-place
 invariant-loop-place g l = let xs = map g.E.Entry.terms l.entries in record {
