@@ -187,18 +187,25 @@ impl Riders {
     }
 
     /// What this activity says.
-    // Each test is made, whatever the others say: that takes less than branches do.
     fn of_one(code: [u8; 2]) -> Riders
         ensures { result ≡ said_by (code ∷ []) }
     {
-        let one = [code];
-        let is = one.as_slice();
-        Riders {
-            advertised: !is.contains(b"N ") & !is.contains(b"S "),
-            set_down: is.contains(b"T ") | (is.contains(b"D ") | is.contains(b"TF")),
-            pick_up: is.contains(b"T ") | (is.contains(b"U ") | is.contains(b"TB")),
-            on_request: is.contains(b"R "),
+        let mut riders = Riders::of_none();
+        match code {
+            [b'N', b' '] => riders.advertised = false,
+            [b'S', b' '] => riders.advertised = false,
+            [b'T', b' '] => {
+                riders.set_down = true;
+                riders.pick_up = true;
+            }
+            [b'D', b' '] => riders.set_down = true,
+            [b'T', b'F'] => riders.set_down = true,
+            [b'U', b' '] => riders.pick_up = true,
+            [b'T', b'B'] => riders.pick_up = true,
+            [b'R', b' '] => riders.on_request = true,
+            _ => {}
         }
+        riders
     }
 
     /// What both say.
