@@ -230,12 +230,12 @@ fn transaction_in(line: &Line) -> Option<Transaction>
 fn ends_open(kind: Option<Kind>, line: &Line) -> bool
     ensures { result ≡ ends_open kind line.now }
 {
-    let first = match kind {
-        Some(Kind::Aa) => 22,
-        Some(Kind::Bs) => 16,
-        _ => return false,
+    let open = match kind {
+        Some(Kind::Aa) => has_open_end(line, 22),
+        Some(Kind::Bs) => has_open_end(line, 16),
+        _ => false,
     };
-    has_open_end(line, first) && !is_deleted(transaction_in(line))
+    open && !is_deleted(transaction_in(line))
 }
 
 /// Whether it is `D`.

@@ -25,3 +25,14 @@ write-requires-clause-some g c =
     let one = ap length c.push_each.ensures.text ∙ length-append c.push_number.new.self _ in
     let two = ap length c.push_each-2.ensures.text ∙ length-append c.push_each.new.self _ in
     omega (arith, row, one, two)
+
+pub push_each-requires-clause-room : goal.push_each-requires-clause-room
+push_each-requires-clause-room g c = omega (arith, ap length c.new-row.ensures, c.push_number.ensures.len)
+
+pub push_each-requires-2-clause-room : goal.push_each-requires-2-clause-room
+push_each-requires-2-clause-room g c =
+    omega (arith, ap length c.new-row.ensures, c.push_number.ensures.len, c.push_each.ensures.len)
+
+pub write-requires-clause-room : goal.write-requires-clause-room
+write-requires-clause-room g c =
+    omega (arith, ap length c.new-row.ensures, c.push_number.ensures.len, c.push_each.ensures.len, c.push_each-2.ensures.len)
