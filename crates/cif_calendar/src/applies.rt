@@ -8,7 +8,7 @@ use cif_columns::{Day, DaysRun};
 use cif_records::Header;
 
 /// The dates from a first to a last, both included; the first is never after the last.
-#[derive(Clone, Copy, Debug, PartialEq, Eq)]
+#[derive(Clone, Copy, Debug)]
 pub struct Window {
     /// The first date.
     pub first: Day,

@@ -10,7 +10,7 @@ use std::fmt;
 use std::marker::Model;
 
 /// Dates on each of which the same records apply as on the others of its weekday.
-#[derive(Clone, Copy, Debug, PartialEq, Eq)]
+#[derive(Clone, Copy, Debug)]
 pub struct Piece {
     /// The first date.
     pub first: Day,

@@ -13,7 +13,7 @@ use cif_columns::Day;
 use std::alloc::{AllocError, Global};
 
 /// A key with a clash in a window.
-#[derive(Clone, Copy, Debug, PartialEq, Eq)]
+#[derive(Clone, Copy, Debug)]
 pub struct KeyClash {
     /// The position of an entry with the key.
     pub position: usize,

@@ -102,7 +102,7 @@ impl<'a> Canon<'a> {
 const LONGEST_COUNTS: usize = 106;
 
 /// The numbers of records of an extract, by kind; its header and its trailer aren't counted.
-#[derive(Clone, Copy, Debug, PartialEq, Eq)]
+#[derive(Clone, Copy, Debug)]
 pub struct Counts {
     /// The locations, TI.
     pub tiplocs: u64,

@@ -29,7 +29,7 @@ use std::fmt;
 const LONGEST_COMPARISON: usize = 89;
 
 /// How two extracts compare in their window: whether they agree, and else the first difference.
-#[derive(Drop, PartialEq, Eq)]
+#[derive(Drop)]
 pub enum Comparison {
     /// They have the same locations, and on each date the same associations hold and the same trains
     /// run, with the same bodies.

@@ -145,7 +145,7 @@ impl Ahead {
 }
 
 /// What stands first in the bytes that are left.
-#[derive(Clone, Copy, Debug, PartialEq, Eq)]
+#[derive(Clone, Copy, Debug)]
 pub enum NextContent {
     /// A content.
     Content,

@@ -45,7 +45,7 @@ fn is_blank<const N: usize>(columns: &[u8; N]) -> bool
 /// A working time, kept as it stands in its five columns: five spaces, or `HHMM` with an hour
 /// from 00 to 23 and a minute from 00 to 59 and then a space, or `H` for half a minute more
 /// (the CIF End User Specification). A clause sees the columns. Its order is that of the bytes.
-#[derive(Clone, Copy, PartialEq, Eq, PartialOrd, Ord)]
+#[derive(Clone, Copy, PartialEq, Eq)]
 pub struct WorkTime {
     columns: [u8; 5],
 }
@@ -126,7 +126,7 @@ impl WorkTime {
 /// A public time, kept as it stands in its four columns: four spaces, or `HHMM` with an hour
 /// from 00 to 23 and a minute from 00 to 59 (the CIF End User Specification). `0000` and blank
 /// differ. A clause sees the columns. Its order is that of the bytes.
-#[derive(Clone, Copy, PartialEq, Eq, PartialOrd, Ord)]
+#[derive(Clone, Copy, PartialEq, Eq)]
 pub struct PublicTime {
     columns: [u8; 4],
 }

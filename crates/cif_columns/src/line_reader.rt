@@ -23,7 +23,7 @@ enum Past {
 }
 
 /// What stood next, where a comment may.
-#[derive(Clone, Copy, Debug, PartialEq, Eq)]
+#[derive(Clone, Copy, Debug)]
 pub enum Content {
     /// A line.
     Line,

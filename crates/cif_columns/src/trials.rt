@@ -12,7 +12,7 @@ use std::io;
 use std::io::{Read, Write};
 
 /// What a `TrialReader` does after its bytes.
-#[derive(Clone, Copy, Debug, PartialEq, Eq)]
+#[derive(Clone, Copy, Debug)]
 pub enum End {
     /// It has no more bytes.
     Stop,

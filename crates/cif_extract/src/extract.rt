@@ -42,7 +42,7 @@ impl Extract {
 }
 
 /// A schedule (the CIF End User Specification): on which dates a body runs, or is cancelled.
-#[derive(Debug, Drop, PartialEq, Eq)]
+#[derive(Debug, Drop)]
 pub struct Schedule {
     /// The train.
     pub uid: Uid,

@@ -57,7 +57,7 @@ pub enum Action<K, R> {
 }
 
 /// A line of an update that doesn't fit what the lines before it have left.
-#[derive(Clone, Copy, Debug, PartialEq, Eq)]
+#[derive(Clone, Copy, Debug)]
 pub struct RefusedLine {
     /// The number of the line.
     pub line: u64,

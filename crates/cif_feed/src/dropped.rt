@@ -15,7 +15,7 @@ use std::alloc::{AllocError, Global};
 use std::collections::BTreeMap;
 
 /// A key of which nothing runs on some dates of the window, as its winners differ on them.
-#[derive(Drop, PartialEq, Eq)]
+#[derive(Drop)]
 pub struct DroppedKey {
     /// The key, with the first of these dates.
     pub clash: Clash,

@@ -9,7 +9,7 @@ use cif_extract::Fault;
 use itoa::Buffer;
 
 /// Why a feed isn't read, or an update not done.
-#[derive(Drop, PartialEq, Eq)]
+#[derive(Drop)]
 pub enum FeedFault {
     /// As an extract of this profile.
     Extract(Fault),

@@ -17,7 +17,7 @@ const LONGEST_LINE: usize = 1_000;
 const MOST_OF_LINE: usize = LONGEST_LINE + 2;
 
 /// Why there are no holidays. Its number, its name and its text are those of the `FeedFault` that it is.
-#[derive(Clone, Copy, Debug, PartialEq, Eq)]
+#[derive(Clone, Copy, Debug)]
 pub enum HolidayFault {
     /// A line, by its number from 1, isn't one of holidays, or is one too many.
     BadHoliday { line: u64 },

@@ -49,7 +49,7 @@ impl HolidayCode {
 }
 
 /// Some of the holiday codes: those that may stand in a feed.
-#[derive(Clone, Copy, Debug, PartialEq, Eq)]
+#[derive(Clone, Copy, Debug)]
 pub struct HolidayCodes {
     /// Bank holiday Mondays.
     pub bank: bool,

@@ -38,7 +38,7 @@ impl Transaction {
 }
 
 /// What a TI, a TA or a TD says beyond its record.
-#[derive(Clone, Copy, Debug, PartialEq, Eq)]
+#[derive(Clone, Copy, Debug)]
 pub(crate) struct TiplocMark {
     /// The number of the line.
     pub(crate) line: u64,
@@ -49,7 +49,7 @@ pub(crate) struct TiplocMark {
 }
 
 /// What an AA or a BS says beyond its record.
-#[derive(Clone, Copy, Debug, PartialEq, Eq)]
+#[derive(Clone, Copy, Debug)]
 pub(crate) struct RecordMark {
     /// The number of the line.
     pub(crate) line: u64,
@@ -64,7 +64,7 @@ pub(crate) struct RecordMark {
 }
 
 /// How many contents of a feed said nothing.
-#[derive(Clone, Copy, Debug, PartialEq, Eq)]
+#[derive(Clone, Copy, Debug)]
 pub struct Passed {
     /// The comments.
     pub comments: u64,
@@ -175,7 +175,7 @@ fn record_mark(last: usize, code: Option<HolidayCode>, number: u64, line: &Line)
 }
 
 /// How many lines an update has, by what they do.
-#[derive(Clone, Copy, Debug, PartialEq, Eq)]
+#[derive(Clone, Copy, Debug)]
 pub struct UpdateCounts {
     /// The TI, and the AA and BS with N.
     pub put: u64,

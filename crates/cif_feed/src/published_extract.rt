@@ -17,7 +17,7 @@ use cif_records::{Association, Header, Tiploc};
 use std::alloc::{AllocError, Global};
 
 /// An association of a published extract.
-#[derive(Debug, Drop, PartialEq, Eq)]
+#[derive(Debug, Drop)]
 pub struct PublishedAssociation {
     /// The association of this profile. Where its end is open, its last date is the last day there is.
     pub association: Association,
@@ -27,7 +27,7 @@ pub struct PublishedAssociation {
 }
 
 /// A schedule of a published extract.
-#[derive(Debug, Drop, PartialEq, Eq)]
+#[derive(Debug, Drop)]
 pub struct PublishedSchedule {
     /// The schedule of this profile. Where its end is open, its last date is the last day there is.
     pub schedule: Schedule,

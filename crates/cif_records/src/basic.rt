@@ -14,7 +14,7 @@ use cif_columns::{Day, DaysRun, Field, Line, LineBuilder, Refusal, Stp, Uid, col
 use std::fmt;
 
 /// A record `BS` (the CIF End User Specification): on which dates a schedule runs, or is cancelled.
-#[derive(Drop, PartialEq, Eq)]
+#[derive(Drop)]
 pub struct Basic {
     /// Columns 4 to 9: the train's UID.
     pub uid: Uid,
@@ -33,7 +33,7 @@ pub struct Basic {
 }
 
 /// What a record `BS` says but for its detail: on which dates a train runs, or doesn't.
-#[derive(Clone, Copy, Debug, PartialEq, Eq)]
+#[derive(Clone, Copy, Debug)]
 pub struct BasicTerms {
     /// Columns 4 to 9: the train's UID.
     pub uid: Uid,

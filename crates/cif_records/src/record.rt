@@ -104,7 +104,7 @@ fn kind_among(kinds: &[Kind], letters: &[u8; 2]) -> Option<Kind>
 }
 
 /// A record of a full extract (the CIF End User Specification).
-#[derive(Drop, PartialEq, Eq)]
+#[derive(Drop)]
 pub enum Record {
     /// `HD`, the header.
     Header(Header),

@@ -9,7 +9,7 @@ use cif_columns::{Line, LineBuilder, Refusal};
 
 /// A record `ZZ` (the CIF End User Specification): the last record of an extract, which says
 /// nothing but that.
-#[derive(Clone, Copy, Debug, PartialEq, Eq)]
+#[derive(Clone, Copy, Debug)]
 pub struct Trailer;
 
 impl Layout for Trailer {

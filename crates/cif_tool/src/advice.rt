@@ -435,7 +435,7 @@ const UPDATE: &str = "cif update applies an update to a full extract";
 const LENIENT: &str = "--lenient goes on after such a line";
 
 /// Which commands read an input.
-#[derive(Clone, Copy, PartialEq, Eq)]
+#[derive(Clone, Copy)]
 enum Reader {
     /// Those of extracts.
     Extracts,

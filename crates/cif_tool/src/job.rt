@@ -152,7 +152,7 @@ pub enum JobFault {
 }
 
 /// Inputs of which one may be the standard input.
-#[derive(Clone, Copy, Debug, PartialEq, Eq)]
+#[derive(Clone, Copy, Debug)]
 pub enum Inputs {
     /// Those of `compare` or `diff`.
     LeftAndRight,

@@ -10,7 +10,7 @@ use cif_calendar::Window;
 use cif_columns::{DAYS_IN_WEEK, Day, DaysRun};
 
 /// The dates of one canonical record, and where its body stands.
-#[derive(Clone, Copy, Debug, PartialEq, Eq)]
+#[derive(Clone, Copy, Debug)]
 pub struct Run {
     /// The first date.
     pub first: Day,
