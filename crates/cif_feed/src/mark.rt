@@ -38,7 +38,7 @@ impl Transaction {
 }
 
 /// What a TI, a TA or a TD says beyond its record.
-#[derive(Clone, Copy, Debug)]
+#[derive(Clone, Copy)]
 pub(crate) struct TiplocMark {
     /// The number of the line.
     pub(crate) line: u64,
@@ -49,7 +49,7 @@ pub(crate) struct TiplocMark {
 }
 
 /// What an AA or a BS says beyond its record.
-#[derive(Clone, Copy, Debug)]
+#[derive(Clone, Copy)]
 pub(crate) struct RecordMark {
     /// The number of the line.
     pub(crate) line: u64,
