@@ -16,7 +16,7 @@ use Rattle.cif_feed.proofs.Names.{reader_of, reading_content, reading_feed, reco
 use Rattle.cif_feed.proofs.Names.{take, take-append-le, take-append_seam, true, true≢false, unless, unread_of, untaken_fault, ℕ, ◌++◌, ◌+◌}
 use Rattle.cif_feed.proofs.Names.{◌<◌, ◌∙◌, ◌∷◌, ◌≡◌, ◌≢◌, ◌≤◌}
 use Rattle.cif_columns.specs.GivenLines.{IsContentDecidedOrLast}
-use Rattle.cif_columns.specs.LineReader.{left}
+use Rattle.cif_columns.specs.LineReader.{given, left}
 use Rattle.cif_columns.specs.declared.line.Line.{Line}
 use Rattle.cif_columns.specs.declared.line_reader.LineReader.{LineReader}
 use Rattle.cif_columns.specs.declared.line_reader.TheConstants.{MAX_LINES}
@@ -313,21 +313,24 @@ module _ (feed : Feed) (allowed : HolidayCodes) (max : ℕ) {R : Type 0} (remain
         (omega arith, omega arith) read_on)
 
 -- some of the contents are at most all
-pub fewer : (p : List ℕ → Bool) (cs : List (List ℕ)) → length (filter p cs) ≤ length cs
+fewer : (p : List ℕ → Bool) (cs : List (List ℕ)) → length (filter p cs) ≤ length cs
 fewer p cs = omega (arith, length-filter p cs, count_by-le-length p cs)
 
 -- so one more may be counted
+pub room_one : (p : List ℕ → Bool) (cs : List (List ℕ)) (n : ℕ) → n ≡ length (filter p cs) → length cs < MAX_LINES → n < MAX_LINES
+room_one p cs n is few = omega (arith, is, fewer p cs, few)
+
 pub room_more : (cs : List (List ℕ)) (n : UpdateCounts) → n ≡ counts_of cs → length cs < MAX_LINES → HaveRoom n
-room_more cs n are few =
-    record {
-      put = of _ n.put (ap (λ (v : UpdateCounts). v.put) are);
-      revised = of _ n.revised (ap (λ (v : UpdateCounts). v.revised) are);
-      taken_out = of _ n.taken_out (ap (λ (v : UpdateCounts). v.taken_out) are);
-      open_ends = of _ n.open_ends (ap (λ (v : UpdateCounts). v.open_ends) are);
-    }
-  where
-    of : (p : List ℕ → Bool) (m : ℕ) → m ≡ length (filter p cs) → m < MAX_LINES
-    of p m e = omega (arith, e, fewer p cs, few)
+room_more cs n are few = record {
+  put = room_one _ cs n.put (ap (λ (v : UpdateCounts). v.put) are) few;
+  revised = room_one _ cs n.revised (ap (λ (v : UpdateCounts). v.revised) are) few;
+  taken_out = room_one _ cs n.taken_out (ap (λ (v : UpdateCounts). v.taken_out) are) few;
+  open_ends = room_one _ cs n.open_ends (ap (λ (v : UpdateCounts). v.open_ends) are) few;
+}
+
+-- there are so few, where a reader has given one more
+pub few_lines : (reader : LineReader) (cs : List (List ℕ)) (n : ℕ) → given reader ≡ n + 1 → n ≡ length cs → length cs < MAX_LINES
+few_lines reader cs n more is = omega (arith, more, is, reader.counted, reader.limited)
 
 -- ---- one content more
 

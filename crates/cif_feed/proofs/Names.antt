@@ -2,18 +2,19 @@
 pub use Rattle.std.proofs.Common.{All, AllPairs, BTreeMap, Bool, Contains, Equal, Err, Global, Greater, IfErr, IfOk, IfSome, IsSomeAnd}
 pub use Rattle.std.proofs.Common.{IsTrue, Less, List, MatchResult, None, Ok, Option, Ordering, Result, Some, Vec, [], ap, append-nil}
 pub use Rattle.std.proofs.Common.{append_assoc, ap₂, arith, below_more, codes, cond, decimal, drop, drop-drop, drop_of_length-le, eq-eqb}
-pub use Rattle.std.proofs.Common.{eqb-true, false, filter, find, flat_map, get_or, get_or-drop, get_or-set_other, get_or-set_same, inl, inr}
-pub use Rattle.std.proofs.Common.{insert, is_eq, is_some, length, length-append, length-drop, length-take, lit<, ltb, ltb-false, ltb-true}
-pub use Rattle.std.proofs.Common.{map, max, nat_cmp, nat_eq, nat_lt, ne_eqb, not, option_map, option_to_list, refl, reverse, rules, set}
-pub use Rattle.std.proofs.Common.{slice_get, slice_index, slice_index_or, subst, suc, sym, take, take-append-drop, take-take, take_all}
-pub use Rattle.std.proofs.Common.{true, true≢false, unwrap_or, vec_len, ℕ, ⊎_elim, ◌&&◌, ◌*◌, ◌++◌, ◌+◌, ◌-◌, ◌<◌, ◌==◌, ◌||◌, ◌↔◌, ◌∙◌}
-pub use Rattle.std.proofs.Common.{◌∷◌, ◌≡◌, ◌≢◌, ◌≤◌, ◌⊎◌}
+pub use Rattle.std.proofs.Common.{eqb-true, false, filter, find, flat_map, get_or, get_or-drop, get_or-set_other, get_or-set_same}
+pub use Rattle.std.proofs.Common.{if◌then◌else◌, inl, inr, insert, is_eq, is_gt, is_ok, is_some, length, length-append, length-drop}
+pub use Rattle.std.proofs.Common.{length-take, lit<, ltb, ltb-false, ltb-true, map, max, nat_cmp, nat_eq, nat_lt, ne_eqb, not, option_map}
+pub use Rattle.std.proofs.Common.{option_to_list, refl, reverse, rules, set, slice_get, slice_index, slice_index_or, subst, suc, sym, take}
+pub use Rattle.std.proofs.Common.{take-append-drop, take-take, take_all, true, true≢false, unwrap_or, vec_len, ℕ, ⊎_elim, ◌&&◌, ◌*◌, ◌++◌}
+pub use Rattle.std.proofs.Common.{◌+◌, ◌-◌, ◌<◌, ◌==◌, ◌||◌, ◌↔◌, ◌∙◌, ◌∷◌, ◌≡◌, ◌≢◌, ◌≤◌, ◌⊎◌}
 pub use Rattle.std.proofs.Math.Bool.{and-false, or-false, or-true}
 pub use Rattle.std.proofs.lemmas.Cmp.{eq_by_cmp_equiv}
 pub use Rattle.std.proofs.lemmas.List.{append_cancel_left, at_drop_more, get_or_read, map_more}
 pub use Rattle.std.proofs.lemmas.List.Elements.{All-filter, All-map, filter-append, filter_agree, filter_passes}
 pub use Rattle.std.proofs.lemmas.List.Folds.{flat_map-map, length-prefix_len, list_any_at, position_or_len_push}
-pub use Rattle.std.proofs.lemmas.List.Sorted.{IsNonDecreasingBy-from_sort, IsPermutation-insert, IsPermutation-sym}
+pub use Rattle.std.proofs.lemmas.List.Sorted.{IsNonDecreasingBy-from_sort, IsNonDecreasingBy-insert, IsPermutation-insert}
+pub use Rattle.std.proofs.lemmas.List.Sorted.{IsPermutation-sym}
 pub use Rattle.std.proofs.lemmas.List.Sums.{count_by-le-length, fails_before_first, length-filter, passes_at_first, position_or_len_is}
 pub use Rattle.std.proofs.lemmas.Simd.{map-map}
 pub use Rattle.std.specs.BTreeMap.{get}

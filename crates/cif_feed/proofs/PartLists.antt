@@ -3,10 +3,18 @@ use Rattle.cif_feed.proofs.Names.{All-contains, All-push, All-weaker, AreAdded, 
 use Rattle.cif_feed.proofs.Names.{Contains-append_left, Contains-push, IsAdded, IsBefore, IsCut, IsDateOnDaysRun, IsFirstFrom, IsLeftFrom}
 use Rattle.cif_feed.proofs.Names.{IsNonDecreasing, IsPart, IsPushed, List, MayBegin, None, Part, PreparedRecord, RunsOn, Some, Terms, []}
 use Rattle.cif_feed.proofs.Names.{added_before, all_pairs_push, ap, append-nil, append_assoc, arith, before_cut, cases_lt, cond, drop}
-use Rattle.cif_feed.proofs.Names.{false, get_or, get_or-drop, get_or_default, inl, inr, length, length-drop, ltb-false, ltb-true, map}
-use Rattle.cif_feed.proofs.Names.{map-append, nat_lt, part_entry, records_on, refl, subst, sym, true, weekday_of, ℕ, ⊎_elim, ◌++◌, ◌+◌, ◌-◌}
-use Rattle.cif_feed.proofs.Names.{◌<◌, ◌↔◌, ◌∙◌, ◌∷◌, ◌≡◌, ◌≤◌, ◌⊎◌}
+use Rattle.cif_feed.proofs.Names.{false, get_or, get_or-drop, get_or_default, inl, inr, is_gt, length, length-drop, ltb-false, ltb-true}
+use Rattle.cif_feed.proofs.Names.{map, map-append, nat_cmp, nat_lt, part_entry, records_on, refl, rules, subst, sym, true, weekday_of, ℕ}
+use Rattle.cif_feed.proofs.Names.{⊎_elim, ◌++◌, ◌+◌, ◌-◌, ◌<◌, ◌↔◌, ◌∙◌, ◌∷◌, ◌≡◌, ◌≤◌, ◌⊎◌}
 use Rattle.cif_feed.specs.PreparedRecord.{terms_on}
+
+-- ---- what a comparison says
+
+pub gt-after : (a b : ℕ) (gt : Bool) → gt ≡ is_gt (nat_cmp a b) → gt ≡ true → b < a
+gt-after a b gt is after = search rules
+
+pub gt-upto : (a b : ℕ) (gt : Bool) → gt ≡ is_gt (nat_cmp a b) → gt ≡ false → a ≤ b
+gt-upto a b gt is upto = search rules
 
 -- ---- the first of the dates from a day on
 

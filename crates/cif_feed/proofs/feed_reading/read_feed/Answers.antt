@@ -6,7 +6,7 @@ use Rattle.cif_feed.proofs.Names.{◌∙◌, ◌∷◌, ◌≡◌, ◌≤◌}
 use Rattle.cif_columns.proofs.PassedLines.{next_passed}
 use Rattle.cif_columns.specs.LineReader.{given}
 use Rattle.cif_feed.proofs.FeedRuns.{at_feed_line, comes-end, comes-line_fault, comes-memory, comes-untaken, comment_fine, feed_comment}
-use Rattle.cif_feed.proofs.FeedRuns.{feed_line, feed_reason, fewer, line_why, none_more, none_none, room_more}
+use Rattle.cif_feed.proofs.FeedRuns.{feed_line, feed_reason, few_lines, line_why, none_more, none_none, room_more, room_one}
 use Rattle.cif_feed.proofs.SaidLines.{marked_result}
 use Rattle.cif_feed.proofs.feed_reading.read_feed.Goals as goal
 
@@ -17,7 +17,7 @@ loop-columns-init g c = (
       c.new-lines.ensures.limit c.new-lines.ensures.past,
   c.new-reading.ensures c.args.feed c.args.allowed,
   none_none c.args.feed c.args.allowed c.args.max_lines,
-  read_nothing _ _,
+  read_nothing g.R.ReadDevice.read_errors c.args.source.now,
 )
 
 pub loop-columns-preserved-in-loop-columns : goal.loop-columns-preserved-in-loop-columns
@@ -43,24 +43,15 @@ pub take-requires-clause-room : goal.take-requires-clause-room
 take-requires-clause-room g c =
     let (cs, so_far, taken, fine, read_on) = c.loop-columns.invariant in
     let got = rw c.in-Ok-Line.field-0-is at c.in-Ok-Line.ensures in
-    let more : given c.read_content.new.self ≡ given c.loop-columns.lines + 1 = got.0.counted in
-    omega (
-      arith,
-      more,
-      ap (λ (m : MarkParts). m.passed.notes) taken.marks,
-      fewer is_note cs,
-      so_far.counted,
-      c.read_content.new.self.counted,
-      c.read_content.new.self.limited,
-    )
+    room_one is_note cs c.loop-columns.reading.marks.passed.notes (ap (λ (m : MarkParts). m.passed.notes) taken.marks)
+    (few_lines c.read_content.new.self cs (given c.loop-columns.lines) got.0.counted so_far.counted)
 
 pub take-requires-clause-counts : goal.take-requires-clause-counts
 take-requires-clause-counts g c =
     let (cs, so_far, taken, fine, read_on) = c.loop-columns.invariant in
     let got = rw c.in-Ok-Line.field-0-is at c.in-Ok-Line.ensures in
-    let more : given c.read_content.new.self ≡ given c.loop-columns.lines + 1 = got.0.counted in
     room_more cs c.loop-columns.reading.marks.counts (ap (λ (m : MarkParts). m.counts) taken.marks)
-    (omega (arith, more, so_far.counted, c.read_content.new.self.counted, c.read_content.new.self.limited))
+    (few_lines c.read_content.new.self cs (given c.loop-columns.lines) got.0.counted so_far.counted)
 
 pub loop-columns-preserved-in-Ok-take : goal.loop-columns-preserved-in-Ok-take
 loop-columns-preserved-in-Ok-take g c =
@@ -85,17 +76,9 @@ loop-columns-preserved-in-Ok-take g c =
 pub pass_comment-requires : goal.pass_comment-requires
 pass_comment-requires g c =
     let (cs, so_far, taken, fine, read_on) = c.loop-columns.invariant in
-    let passed = rw c.in-Ok-Comment.field-0-is at c.in-Ok-Comment.ensures in
-    let more : given c.read_content.new.self ≡ given c.loop-columns.lines + 1 = passed.counted in
-    omega (
-      arith,
-      more,
-      ap (λ (m : MarkParts). m.passed.comments) taken.marks,
-      fewer is_comment cs,
-      so_far.counted,
-      c.read_content.new.self.counted,
-      c.read_content.new.self.limited,
-    )
+    let got = rw c.in-Ok-Comment.field-0-is at c.in-Ok-Comment.ensures in
+    room_one is_comment cs c.loop-columns.reading.marks.passed.comments (ap (λ (m : MarkParts). m.passed.comments) taken.marks)
+    (few_lines c.read_content.new.self cs (given c.loop-columns.lines) got.counted so_far.counted)
 
 pub loop-columns-preserved : goal.loop-columns-preserved
 loop-columns-preserved g c =

@@ -1,8 +1,8 @@
 -- Stop by stop (`CutAt`): a cut ends a part, and after it another begins, unless the entry ends there.
 use Rattle.cif_feed.proofs.Names.{Bool, IfOk-weaker, IsLeftFrom, List, RunsOn, arith, cases_lt, ended, false≢true, get_or_read, inl, inr}
-use Rattle.cif_feed.proofs.Names.{records_on, rules, subst, sym, weekday_of, ℕ, ⊎_elim, ◌+◌, ◌<◌, ◌∙◌, ◌≤◌}
-use Rattle.cif_feed.proofs.PartLists.{IsCutUpTo, cut-behind, cut-end, cut-last, cut-next, cut-nothing, cut-passed, never-cut, pushed-added}
-use Rattle.cif_feed.proofs.PartLists.{pushed-from}
+use Rattle.cif_feed.proofs.Names.{records_on, subst, sym, weekday_of, ℕ, ⊎_elim, ◌+◌, ◌<◌, ◌∙◌, ◌≤◌}
+use Rattle.cif_feed.proofs.PartLists.{IsCutUpTo, cut-behind, cut-end, cut-last, cut-next, cut-nothing, cut-passed, gt-after, gt-upto}
+use Rattle.cif_feed.proofs.PartLists.{never-cut, pushed-added, pushed-from}
 use Rattle.cif_feed.proofs.parts.add_between.Goals as goal
 use Rattle.cif_feed.proofs.parts.add_between.Goals.{else-has, then-has+in_ok-add_before+in-Some-next_up_to}
 
@@ -27,7 +27,7 @@ returns-then-gt g c =
     let r = ended c.args.last (g.E.Entry.terms c.args.entry.now) in
     let left = c.from_day-left.result.now in
     let from = subst (λ (n : ℕ). IsLeftFrom c.args.stops.now n left) c.first-first.ensures c.from_day-left.ensures in
-    let after : c.args.last < c.stop-item.result = search rules in
+    let after = gt-after c.stop-item.result c.args.last c.gt.result c.gt.ensures c.if-gt.true in
     IfOk-weaker _ _ _ (λ done pushed. cut-behind c.args.stops.now left (g.E.Entry.key c.args.entry.now) r c.requires.rising from _ _
     c.loop-stop.first c.loop-stop.stop-index c.loop-stop.invariant _ c.stop-item.result
     (pushed-added g.E.Entry.key g.E.Entry.terms c.args.entry.now c.loop-stop.first c.args.last _ _ pushed) c.loop-stop-test.true
@@ -52,7 +52,7 @@ loop-stop-preserved g c =
     let from = subst (λ (n : ℕ). IsLeftFrom c.args.stops.now n left) c.first-first.ensures c.from_day-left.ensures in
     let stop = c.stop-item.result in
     let at = get_or_read left c.loop-stop.stop-index stop c.loop-stop-test.true c.stop-item.is 0 in
-    let upto : stop ≤ c.args.last = search rules in
+    let upto = gt-upto stop c.args.last c.gt.result c.gt.ensures c.if-gt.false in
     let old = records_on g.E.Entry.key g.E.Entry.terms c.args.prepared.now.items in
     let now = records_on g.E.Entry.key g.E.Entry.terms c.loop-stop.prepared.items in
     elim c.if-has.branch [
