@@ -1,7 +1,10 @@
 //! The command line of `cif`.
-ghost use Rattle.std.specs.Prelude.{◌≡◌, IfOk, false, map, string_bytes};
+ghost use Rattle.std.specs.Prelude.{◌≡◌, IfOk, Some, false, map, string_bytes};
 ghost use Rattle.clap.specs.Words.{FailsBy, app_of, new_app, rule_of, subcommand_rows_of, with_subcommand};
 ghost use Rattle.clap.specs.declared.Command.TheViews.{out-Command};
+ghost use Rattle.clap.specs.declared.builder.ArgAction.TheVariants.{SetTrue};
+ghost use Rattle.clap.specs.declared.builder.ValueParser.TheVariants.{Names};
+ghost use Rattle.clap.specs.declared.builder.texts.Texts.TheVariants.{One};
 ghost use Rattle.cif_tool.specs.CommandLine.{AreChoices, IsCommand, argument, chosen, cif, faults_of, given, subcommands, taken, taking};
 
 use crate::help;
@@ -131,26 +134,39 @@ fn arg_of<'a>(alloc: Global, given: (&'a str, Syntax, &'a str), choices: &Choice
         Syntax::Word => arg,
         Syntax::Required => arg.required(true),
         Syntax::Several => arg.required(true).num_args(1..),
-        Syntax::Flag => arg.long(id).action(ArgAction::SetTrue),
-        Syntax::Verbose => arg.long(id).short('v').action(ArgAction::SetTrue),
-        Syntax::Name => arg.long(id).value_name("FILE"),
-        Syntax::Date => arg.long(id).value_name("YYMMDD"),
-        Syntax::Form => arg
-            .long(id)
-            .value_name("FORM")
-            .value_parser(choices.forms)
-            .default_value("2"),
-        Syntax::Format => arg
-            .long(id)
-            .value_name("FORMAT")
-            .value_parser(choices.formats)
-            .default_value("text"),
+        Syntax::Flag => flag(arg, id),
+        Syntax::Verbose => flag(arg.short('v'), id),
+        Syntax::Name => option(arg, id, "FILE"),
+        Syntax::Date => option(arg, id, "YYMMDD"),
+        Syntax::Form => one_of_or(option(arg, id, "FORM"), choices.forms, "2"),
+        Syntax::Format => one_of_or(option(arg, id, "FORMAT"), choices.formats, "text"),
         // Help would have them in a line of more than 80 columns.
         Syntax::Table => arg
             .required(true)
             .value_parser(choices.tables)
             .hide_possible_values(true),
     }
+}
+
+/// The argument by `--ID`.
+fn flag<'a>(arg: Arg<'a>, id: &'a str) -> Arg<'a>
+    ensures { result ≡ record arg.entry { long = Some id.entry; action = Some SetTrue } }
+{
+    arg.long(id).action(ArgAction::SetTrue)
+}
+
+/// The argument by `--ID` and a value, which help calls so.
+fn option<'a>(arg: Arg<'a>, id: &'a str, value: &'a str) -> Arg<'a>
+    ensures { result ≡ record arg.entry { long = Some id.entry; val_names = One value.entry } }
+{
+    arg.long(id).value_name(value)
+}
+
+/// The argument with a value that is one of these words, the default where it is left out.
+fn one_of_or<'a>(arg: Arg<'a>, words: &'a [&'a str], default: &'a str) -> Arg<'a>
+    ensures { result ≡ record arg.entry { value_parser = Some (Names words.entry); default_vals = One default.entry } }
+{
+    arg.value_parser(words).default_value(default)
 }
 
 /// A command of this name, and what help says of it: in its first line what the list of commands says.
@@ -174,11 +190,18 @@ fn with_parts<'a>(
 {
     let (name, help, arguments) = *parts;
     let mut subcommand = described(alloc, name, help);
-    subcommand = subcommand.arg(arg_of(alloc, Verbose.given(), choices))?;
-    for which in arguments {
+    let mut which = Verbose;
+    let mut others = arguments;
+    loop {
         subcommand = subcommand.arg(arg_of(alloc, which.given(), choices))?;
+        match others {
+            [] => return command.subcommand(subcommand),
+            [next, rest @ ..] => {
+                which = *next;
+                others = rest;
+            }
+        }
     }
-    command.subcommand(subcommand)
 }
 
 /// All subcommands, in the order of the help.

@@ -1,7 +1,9 @@
 //! The records of an extract, as they are.
+ghost use Rattle.std.specs.Prelude.{◌≡◌, is_some};
+
 use cif_columns::{Sink, WriteDevice, WriteFault};
 use cif_extract::{Body, Extract, Schedule, write_head, write_tiploc, write_trailer};
-use cif_records::Basic;
+use cif_records::{Basic, Detail};
 
 /// Writes the plain line of each record, in file order.
 pub(crate) fn write_records<W: WriteDevice>(
@@ -40,10 +42,17 @@ fn basic_of(schedule: &Schedule) -> Basic {
         last: schedule.last,
         days: schedule.days,
         letter: schedule.letter,
-        detail: match &schedule.body {
-            Some(body) => Some(body.detail()),
-            None => None,
-        },
+        detail: detail_of(schedule),
+    }
+}
+
+/// Its detail.
+fn detail_of(schedule: &Schedule) -> Option<Detail>
+    ensures { is_some result ≡ is_some schedule.now.body }
+{
+    match &schedule.body {
+        Some(body) => Some(body.detail()),
+        None => None,
     }
 }
 

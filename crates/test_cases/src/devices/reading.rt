@@ -8,22 +8,13 @@ use cif_extract::read_extract;
 use std::alloc::Global;
 use std::io::BufReader;
 
-/// Appends what the case's call reads, if it is one of these.
-pub(crate) fn push_read(alloc: Global, out: &mut Output, case: &Case) -> bool {
+/// Appends what the case's call reads.
+pub(crate) fn push_read(alloc: Global, out: &mut Output, case: &Case) {
     let max_lines = case.number("max", 1000);
-    if !matches!(
-        case.call,
-        "lines" | "count" | "devices" | "extract" | "reads"
-    ) {
-        return false;
+    match reader_of(case) {
+        Some(reader) => push_call(alloc, out, case, &mut Source::new(reader), max_lines),
+        None => writeln!(out, "no such reader"),
     }
-    let Some(reader) = reader_of(case) else {
-        writeln!(out, "no such reader");
-        return true;
-    };
-    let mut source = Source::new(reader);
-    push_call(alloc, out, case, &mut source, max_lines);
-    true
 }
 
 /// Appends what the case's call reads of this source.

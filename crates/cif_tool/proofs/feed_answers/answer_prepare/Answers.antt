@@ -1,9 +1,27 @@
 -- The extract is prepared with the holidays that were read, and its text is handed on; or it isn't.
-use Rattle.cif_tool.proofs.Names.{Err, Ok, at-fault}
-use Rattle.cif_tool.proofs.PreparedRead.{prepared-answer, prepared-read, unhanded-answer, unhanded-read, unprepared-answer}
-use Rattle.cif_tool.proofs.PreparedRead.{unprepared-fault}
+use Rattle.cif_tool.proofs.Names.{Err, Ok, at-fault, inl, inr, refl, ⊎_elim}
+use Rattle.cif_tool.proofs.PreparedRead.{holidays-refused, prepared-answer, prepared-read, unhanded-answer, unhanded-read}
+use Rattle.cif_tool.proofs.PreparedRead.{unprepared-answer, unprepared-fault, unread-answer}
 use Rattle.cif_tool.proofs.UpdatesRead.{finished}
 use Rattle.cif_tool.proofs.feed_answers.answer_prepare.Goals as goal
+
+pub returns-in_err-read-clause-answer : goal.returns-in_err-read-clause-answer
+returns-in_err-read-clause-answer g c =
+    let call = c.from_residual in
+    rw (at-fault call.result c.in_err-read.field-0.0 call.ensures.1)
+    (unread-answer _ _ _ _ _ _ _ c.args.holidays.now c.read_holidays.new.holidays _ c.in_err-read.ensures)
+
+pub returns-in_err-read-clause-fault : goal.returns-in_err-read-clause-fault
+returns-in_err-read-clause-fault g c given bytes are known =
+    let call = c.from_residual in
+    rw (at-fault call.result c.in_err-read.field-0.0 call.ensures.1) (⊎_elim inl (λ bad. inr (inl bad))
+    (holidays-refused _ _ c.args.holidays.now c.read_holidays.new.holidays given c.in_err-read.field-0.0 c.in_err-read.ensures are))
+
+pub returns-in_err-read-clause-reads : goal.returns-in_err-read-clause-reads
+returns-in_err-read-clause-reads g c =
+    let call = c.from_residual in
+    let f = c.in_err-read.field-0.0 in
+    inl (f, at-fault call.result f call.ensures.1, refl {a = c.args.source.now}, c.in_err-read.ensures)
 
 pub returns-in_err-dropped-clause-answer : goal.returns-in_err-dropped-clause-answer
 returns-in_err-dropped-clause-answer g c =
