@@ -1,12 +1,12 @@
 -- Records by pairs: the first one is listed by itself, or with the next one if they are a pair.
-use Rattle.cif_canon.proofs.Names.{ArePair, Bool, Decides, Decides-and, Decides-eqb, IsAppended, IsTrue, Left, List, Listed, None, Option}
-use Rattle.cif_canon.proofs.Names.{Ordering, Permanent, Right, Run, Sided, Sink, Some, Terms, [], ap, are_pair, arith, at_side, by_pairs}
+use Rattle.cif_canon.proofs.Names.{ArePair, Bool, Decides, Decides-and, Decides-eqb, IsTrue, Left, List, Listed, None, Option}
+use Rattle.cif_canon.proofs.Names.{Ordering, Permanent, Right, Run, Sided, Some, Terms, [], ap, are_pair, arith, at_side, by_pairs}
 use Rattle.cif_canon.proofs.Names.{drop, false, get_or, if◌then◌else◌, is_eq, length, length-drop, pointwise_decides, record_at, refl}
-use Rattle.cif_canon.proofs.Names.{same_from_decides, sided_records, sym, take, take_all, true, with_record, ℕ, ◌-◌, ◌<◌, ◌↔◌, ◌∙◌, ◌∷◌}
+use Rattle.cif_canon.proofs.Names.{same_from_decides, sided_records, sym, take, take_all, true, with_record, ◌-◌, ◌<◌, ◌↔◌, ◌∙◌, ◌∷◌}
 use Rattle.cif_canon.proofs.Names.{◌≡◌}
 use Rattle.std.specs.Cmp.{booleans_Decides}
 use Rattle.cif_canon.proofs.MergedSides.{side-decided}
-use Rattle.cif_canon.specs.Steps.ByPairs.{HasWrittenFirst, IsListedFirst}
+use Rattle.cif_canon.specs.Steps.ByPairs.{IsFirstListed, IsListedFirst}
 
 -- ---- the test of a pair
 
@@ -89,9 +89,8 @@ module _ {K B : Type 0} (xs ys : List (K × Terms B)) (runs : List (Sided Run)) 
     pub listed-one : answer ≡ false → IsListedFirst cmp xs ys s None runs
     listed-one is_so = by-answer ∙ ap by is_so ∙ ap alone (sym first-record)
 
-  -- what was written of the first of these, with a partner or without one
-  module _ {W : Type 0} (contents : W → Option (List ℕ)) (errors : W → Option ℕ) (text : Listed (K × Permanent B) → List ℕ)
-      (cmp : K → K → Ordering) (old new : Sink W) where
+  -- the first of these is listed with a partner or without one
+  module _ (cmp : K → K → Ordering) where
     abbrev later : List (Sided Run)
     later = take (length runs - 1) (drop 1 runs)
 
@@ -100,30 +99,19 @@ module _ {K B : Type 0} (xs ys : List (K × Terms B)) (runs : List (Sided Run)) 
         ap (by_pairs cmp) first-record
         ∙ ap (λ (l : List (Sided Run)). by_pairs cmp (own ∷ sided_records xs ys l)) (sym (tail-is runs))
 
-    pub written-one : IsListedFirst cmp xs ys own None later → IsAppended contents errors (text (own, None)) old new →
-        HasWrittenFirst contents errors text cmp xs ys runs later old new
-    written-one listed written = record {
-      item = (own, None);
-      first = own-first ∙ listed;
-      written = written;
-      count = 1;
-      behind = tail-is runs;
-      fewer = fewer runs some;
-    }
+    pub one-first : IsListedFirst cmp xs ys own None later → IsFirstListed cmp xs ys runs later (own, None)
+    one-first listed = record { first = own-first ∙ listed; count = 1; behind = tail-is runs; fewer = fewer runs some }
 
     abbrev with : K × Permanent B → List (Sided Run) → List (Listed (K × Permanent B))
     with other l = (own, Some other) ∷ by_pairs cmp (sided_records xs ys l)
 
-    pub written-pair : (other : K × Permanent B) → 0 < length later → IsListedFirst cmp xs ys own (Some other) later →
-        IsAppended contents errors (text (own, Some other)) old new →
-        HasWrittenFirst contents errors text cmp xs ys runs (take (length later - 1) (drop 1 later)) old new
-    written-pair other more listed written =
+    pub pair-first : (other : K × Permanent B) → 0 < length later → IsListedFirst cmp xs ys own (Some other) later →
+        IsFirstListed cmp xs ys runs (take (length later - 1) (drop 1 later)) (own, Some other)
+    pair-first other more listed =
         let one = fewer runs some in
         let two = fewer later more in record {
-          item = (own, Some other);
           first = own-first ∙ listed
               ∙ ap (with other) (sym (tail-is later));
-          written = written;
           count = 2;
           behind = tail-is later ∙ ap (λ (l : List (Sided Run)). drop 1 l) (tail-is runs) ∙ two-on runs;
           fewer = omega (arith, one, two);

@@ -5,7 +5,7 @@ ghost use Rattle.cif_calendar.specs.Keys.{keyed};
 ghost use Rattle.cif_canon.specs.Appended.{IsAppended};
 ghost use Rattle.cif_canon.specs.Differences.{at_side};
 ghost use Rattle.cif_canon.specs.Pairs.{ArePair, by_pairs};
-ghost use Rattle.cif_canon.specs.Steps.ByPairs.{HasWrittenFirst, IsListedFirst};
+ghost use Rattle.cif_canon.specs.Steps.ByPairs.{IsFirstListed, IsListedFirst};
 ghost use Rattle.cif_canon.specs.Steps.Sides.{HasSidedRecord, sided_records};
 
 use crate::canonical_form::CanonRecord;
@@ -87,23 +87,23 @@ fn write_pairs<'a, E: Entry, L: Texts<ListedRecord<'a, E::Key, E::Body>>, W: Wri
 {
     let mut rest = runs;
     while !rest.is_empty() {
-        rest = write_first(texts, left, right, rest, sink);
+        let first = first_listed(left, right, rest);
+        texts.write(&first.0, sink);
+        rest = first.1;
     }
 }
 
-/// Appends the text of the first run's record or of the pair that it begins, and gives the other runs.
-fn write_first<'a, E: Entry, L: Texts<ListedRecord<'a, E::Key, E::Body>>, W: WriteDevice>(
-    texts: &L,
+/// The first run's record, or the pair that it begins, and the other runs.
+fn first_listed<'a, E: Entry>(
     left: &'a [E],
     right: &'a [E],
     runs: &'a [Sided<Run>],
-    sink: &mut Sink<W>,
-) -> &'a [Sided<Run>]
+) -> (ListedRecord<'a, E::Key, E::Body>, &'a [Sided<Run>])
     requires some { 0 < length runs.now }
     requires within { All (λ run. run.it.source < length (at_side left.now right.now run.side)) runs.now }
     requires records { All (HasSidedRecord (keyed E.key E.terms left.now) (keyed E.key E.terms right.now)) runs.now }
-    ensures { HasWrittenFirst W.contents W.write_errors (L.text texts.now) E.Key.cmp
-        (keyed E.key E.terms left.now) (keyed E.key E.terms right.now) runs.now result.now sink.old sink.new }
+    ensures { IsFirstListed E.Key.cmp (keyed E.key E.terms left.now) (keyed E.key E.terms right.now)
+        runs.now result.1.now result.0 }
 {
     let run = &runs[0];
     let later = &runs[1..];
@@ -112,13 +112,11 @@ fn write_first<'a, E: Entry, L: Texts<ListedRecord<'a, E::Key, E::Body>>, W: Wri
     match partner(left, right, side, &one, later) {
         Some(other) => {
             let other = Some(other);
-            texts.write(&ListedRecord { side, one, other }, sink);
-            &later[1..]
+            (ListedRecord { side, one, other }, &later[1..])
         }
         None => {
             let other = None;
-            texts.write(&ListedRecord { side, one, other }, sink);
-            later
+            (ListedRecord { side, one, other }, later)
         }
     }
 }

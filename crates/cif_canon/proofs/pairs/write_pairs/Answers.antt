@@ -12,14 +12,14 @@ loop-rest-init g c = record {
   written = ([], refl, nothing _ _ _);
 }
 
-pub write_first-rest-requires : goal.write_first-rest-requires
-write_first-rest-requires g c κs =
+pub first_listed-first-requires-clause-some : goal.first_listed-first-requires-clause-some
+first_listed-first-requires-clause-some g c =
     let test = c.loop-rest-test.true in
     let told = c.is_empty.ensures in
-    ((refl, tt), (grind (arith, nat_tests, test, told), (c.loop-rest.invariant.within, c.loop-rest.invariant.records)))
+    grind (arith, nat_tests, test, told)
 
 pub loop-rest-smaller : goal.loop-rest-smaller
-loop-rest-smaller g c = c.write_first-rest.ensures.fewer
+loop-rest-smaller g c = c.first_listed-first.ensures.fewer
 
 pub loop-rest-preserved : goal.loop-rest-preserved
 loop-rest-preserved g c =
@@ -28,17 +28,17 @@ loop-rest-preserved g c =
     let xs = keyed g.E.Entry.key g.E.Entry.terms left in
     let ys = keyed g.E.Entry.key g.E.Entry.terms right in
     let cmp = g.E.Key.Ord.cmp in
-    let f = c.write_first-rest.ensures in
+    let f = c.first_listed-first.ensures in
     let (done, split, written) = c.loop-rest.invariant.written in record {
       within = subst (All (λ (run : Sided Run). run.it.source < length (at_side left right run.side))) (sym f.behind)
           (All-drop (λ (run : Sided Run). run.it.source < length (at_side left right run.side)) f.count _ c.loop-rest.invariant.within);
       records = subst (All (HasSidedRecord xs ys)) (sym f.behind)
           (All-drop (HasSidedRecord xs ys) f.count _ c.loop-rest.invariant.records);
       written = (
-        done ++ f.item ∷ [],
+        done ++ c.first_listed-first.result.0 ∷ [],
         split ∙ ap (λ l. done ++ l) f.first
-            ∙ sym (append_assoc done (f.item ∷ []) (by_pairs cmp (sided_records xs ys c.write_first-rest.result.now))),
-        behind _ _ (g.L.Texts.text c.args.texts.now) done f.item _ _ _ written f.written,
+            ∙ sym (append_assoc done (c.first_listed-first.result.0 ∷ []) (by_pairs cmp (sided_records xs ys c.first_listed-first.result.1.now))),
+        behind _ _ (g.L.Texts.text c.args.texts.now) done c.first_listed-first.result.0 _ _ _ written c.write.ensures,
       );
     }
 

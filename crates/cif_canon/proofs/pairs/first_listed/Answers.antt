@@ -1,7 +1,7 @@
--- The first run's record is listed with its partner or without one (`written-pair`, `written-one`).
+-- The first run's record is listed with its partner or without one (`pair-first`, `one-first`).
 use Rattle.cif_canon.proofs.Names.{All, All-drop, HasSidedRecord, Run, Sided, at_side, keyed, length, subst, sym, ◌<◌}
-use Rattle.cif_canon.proofs.PairedRecords.{tail-is, written-one, written-pair}
-use Rattle.cif_canon.proofs.pairs.write_first.Goals as goal
+use Rattle.cif_canon.proofs.PairedRecords.{one-first, pair-first, tail-is}
+use Rattle.cif_canon.proofs.pairs.first_listed.Goals as goal
 
 pub sided_record-one-requires-clause-record : goal.sided_record-one-requires-clause-record
 sided_record-one-requires-clause-record g c =
@@ -24,14 +24,12 @@ partner-requires-clause-records g c =
 
 pub returns-in-Some : goal.returns-in-Some
 returns-in-Some g c =
-    written-pair (keyed g.E.Entry.key g.E.Entry.terms c.args.left.now) (keyed g.E.Entry.key g.E.Entry.terms c.args.right.now)
+    pair-first (keyed g.E.Entry.key g.E.Entry.terms c.args.left.now) (keyed g.E.Entry.key g.E.Entry.terms c.args.right.now)
     c.args.runs.now c.index-runs-0.result c.sided_record-one.result c.requires.some c.index-runs-0.is
-    c.sided_record-one.ensures g.W.Write.contents g.W.WriteDevice.write_errors (g.L.Texts.text c.args.texts.now)
-    g.E.Key.Ord.cmp _ _ c.in-Some.other c.in-Some.ensures.some c.in-Some.ensures.listed c.write.ensures
+    c.sided_record-one.ensures g.E.Key.Ord.cmp c.in-Some.other c.in-Some.ensures.some c.in-Some.ensures.listed
 
 pub returns-in-None : goal.returns-in-None
 returns-in-None g c =
-    written-one (keyed g.E.Entry.key g.E.Entry.terms c.args.left.now) (keyed g.E.Entry.key g.E.Entry.terms c.args.right.now)
+    one-first (keyed g.E.Entry.key g.E.Entry.terms c.args.left.now) (keyed g.E.Entry.key g.E.Entry.terms c.args.right.now)
     c.args.runs.now c.index-runs-0.result c.sided_record-one.result c.requires.some c.index-runs-0.is
-    c.sided_record-one.ensures g.W.Write.contents g.W.WriteDevice.write_errors (g.L.Texts.text c.args.texts.now)
-    g.E.Key.Ord.cmp _ _ c.in-None.ensures.listed c.write-in-None.ensures
+    c.sided_record-one.ensures g.E.Key.Ord.cmp c.in-None.ensures.listed
