@@ -1,6 +1,6 @@
 -- A command that is built call by call is the one that the definition says.
-use Rattle.cif_tool.proofs.Names.{AddsArg, App, Bor, IsCommand, List, Parts, Some, Text, [], ap, app_of, app_of_fields, ap₂, argument}
-use Rattle.cif_tool.proofs.Names.{arith, at_drop_more, cif, drop, false, get_or, given, is_simple, is_simple_and_free, length, map}
+use Rattle.cif_tool.proofs.Names.{AddsArg, App, Bor, IsCommand, List, Parts, Some, Text, Verbose, [], ap, app_of, app_of_fields, ap₂}
+use Rattle.cif_tool.proofs.Names.{argument, at_drop_more, cif, drop, false, get_or, given, is_simple, is_simple_and_free, length, map}
 use Rattle.cif_tool.proofs.Names.{new_app, program, refl, rule_of, sym, taken, taking, true, with_rule, with_subcommands, ℕ, ◌+◌, ◌<◌, ◌||◌}
 use Rattle.cif_tool.proofs.Names.{◌∙◌, ◌∷◌, ◌≡◌}
 use Rattle.clap.specs.declared.Command.{Command}
@@ -39,20 +39,25 @@ pub record IsTaking (choices : Choices) (whole : App) (rest : List Argument) (c 
   pub app : taking choices (app_of c) rest ≡ whole
   pub local : (out-Command c).has_globals ≡ false
 
--- one more argument
-pub argument_taken : (choices : Choices) (whole : App) (which : Argument) (others : List Argument) (old : Command) (r : Arg)
-    (new : Command) → IsTaking choices whole (which ∷ others) old → rule_of r ≡ argument choices (given which)
-    → r.global ≡ false → AddsArg old r new → IsTaking choices whole others new
-argument_taken choices whole which others old r new is rule local added = record {
-  app = ap (λ (a : App). taking choices a others) (added.shape local ∙ ap (with_rule (app_of old)) rule) ∙ is.app;
+-- its first argument
+pub first_taken : (choices : Choices) (a : App) (first : Argument) (rest : List Argument) (made : Command) (r : Arg) (new : Command) →
+    IsCommand a made → rule_of r ≡ argument choices (given first) → r.global ≡ false → AddsArg made r new →
+    IsTaking choices (taking choices a (first ∷ rest)) rest new
+first_taken choices a first rest made r new is rule local added = record {
+  app = ap (λ (b : App). taking choices b rest) (added.shape local ∙ (ap (with_rule (app_of made)) rule
+      ∙ ap (λ (b : App). with_rule b (argument choices (given first))) is.app));
   local = added.globals ∙ ap₂ (λ x y. x || y) is.local local;
 }
 
--- none is left
-pub all_taken : (choices : Choices) (whole : App) (others : List Argument) (c : Command) → length others < 1
-    → IsTaking choices whole others c → app_of c ≡ whole
-all_taken choices whole [] c none is = is.app
-all_taken choices whole (o ∷ os) c none is = absurd (omega (arith, none))
+-- one more argument
+pub argument_taken : (choices : Choices) (whole : App) (xs : List Argument) (i : ℕ) → i < length xs → (old : Command) (r : Arg)
+    (new : Command) → IsTaking choices whole (drop i xs) old → rule_of r ≡ argument choices (given (get_or xs i Verbose))
+    → r.global ≡ false → AddsArg old r new → IsTaking choices whole (drop (i + 1) xs) new
+argument_taken choices whole xs i below old r new is rule local added = record {
+  app = ap (λ (a : App). taking choices a (drop (i + 1) xs)) (added.shape local ∙ ap (with_rule (app_of old)) rule)
+      ∙ (sym (at_drop_more (taking choices (app_of old)) xs i Verbose below) ∙ is.app);
+  local = added.globals ∙ ap₂ (λ x y. x || y) is.local local;
+}
 
 -- with the rest of its subcommands, the command is the whole
 pub record IsGrowing (choices : Choices) (whole : App) (rest : List Parts) (c : Command) : Type 0 where

@@ -190,18 +190,11 @@ fn with_parts<'a>(
 {
     let (name, help, arguments) = *parts;
     let mut subcommand = described(alloc, name, help);
-    let mut which = Verbose;
-    let mut others = arguments;
-    loop {
+    subcommand = subcommand.arg(arg_of(alloc, Verbose.given(), choices))?;
+    for which in arguments {
         subcommand = subcommand.arg(arg_of(alloc, which.given(), choices))?;
-        match others {
-            [] => return command.subcommand(subcommand),
-            [next, rest @ ..] => {
-                which = *next;
-                others = rest;
-            }
-        }
     }
+    command.subcommand(subcommand)
 }
 
 /// All subcommands, in the order of the help.
