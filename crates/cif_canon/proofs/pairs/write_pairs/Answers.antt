@@ -37,7 +37,8 @@ loop-rest-preserved g c =
       written = (
         done ++ c.first_listed-first.result.0 ∷ [],
         split ∙ ap (λ l. done ++ l) f.first
-            ∙ sym (append_assoc done (c.first_listed-first.result.0 ∷ []) (by_pairs cmp (sided_records xs ys c.first_listed-first.result.1.now))),
+            ∙ sym (append_assoc done (c.first_listed-first.result.0 ∷ [])
+            (by_pairs cmp (sided_records xs ys c.first_listed-first.result.1.now))),
         behind _ _ (g.L.Texts.text c.args.texts.now) done c.first_listed-first.result.0 _ _ _ written c.write.ensures,
       );
     }
