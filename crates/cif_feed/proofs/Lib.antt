@@ -27,3 +27,5 @@ pub mod ClashingKeys
 pub mod FeedSteps
 pub mod WrittenPrepared
 pub mod Names
+pub mod UpdatesRead
+pub mod PreparedRead

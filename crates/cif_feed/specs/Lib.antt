@@ -2,6 +2,7 @@ pub mod Changes
 pub mod Counts
 pub mod CutCount
 pub mod Dropped
+pub mod FeedAnswer
 pub mod FeedFault
 pub mod FeedLayouts
 pub mod FeedLine

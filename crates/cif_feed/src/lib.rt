@@ -5,6 +5,7 @@ mod changes;
 mod cut_count;
 mod dropped;
 mod feed;
+mod feed_answers;
 mod feed_line;
 mod feed_reading;
 mod holiday_text;
@@ -23,6 +24,9 @@ mod written;
 pub use changes::{Action, Change, Keyed, RefusedLine, Unfit, apply};
 pub use dropped::{Dropped, DroppedKey};
 pub use feed::FeedFault;
+pub use feed_answers::{
+    DoneUpdate, KeptPrepare, KeptUpdate, ReadFeed, answer_prepare, answer_update,
+};
 pub use feed_line::Feed;
 pub use holiday_text::HolidayFault;
 pub use holidays::{HolidayCode, HolidayCodes, Holidays};

@@ -16,6 +16,7 @@ pub use Rattle.cif_feed.proofs.Names.{StandsInYymmdd, Unread, Writes, all_codes,
 pub use Rattle.cif_feed.proofs.Names.{failed_second, flat_map-append, goes-on, hands-on, is_feed_read, judging, known_so, of_any, preparing}
 pub use Rattle.cif_feed.proofs.Names.{published_parts, published_text, reader_of, reading_holidays, reading_published, refuses, told_text}
 pub use Rattle.cif_feed.proofs.Names.{unread_of, updating, written_both}
+pub use Rattle.cif_feed.specs.FeedAnswer.{IsHandedOn}
 pub use Rattle.cif_feed.specs.declared.feed.FeedFault.{FeedFault}
 pub use Rattle.cif_feed.specs.declared.feed.FeedFault.TheVariants.{AlreadyThere, BadTransaction, NotThere, NotUpdate, OutOfSequence}
 pub use Rattle.cif_feed.specs.declared.published_extract.PublishedExtract.{PublishedExtract}
@@ -34,13 +35,10 @@ pub use Rattle.cif_views.specs.WeekCalendar.{IsWeekCalendarFault}
 pub use Rattle.cif_tool.specs.Answer.{Answers, AreAnswered, AreComparedAs, CalendarJob, CanonicalJob, CompareJob, DayJob, ExplainJob}
 pub use Rattle.cif_tool.specs.Answer.{Finishes, IfAnswered, IsAnswered, IsCalendarAnswer, IsCanonicalAnswer, IsCheckAllAnswer}
 pub use Rattle.cif_tool.specs.Answer.{IsCheckAllFault, IsClashesAnswer, IsClashlessRefusal, IsCompareAnswer, IsDayAnswer, IsDayRefusal}
-pub use Rattle.cif_tool.specs.Answer.{IsDiffAnswer, IsExplainAnswer, IsExplainRefusal, IsHandedOn, IsListedStatus, IsTrainAnswer, OfBoth}
+pub use Rattle.cif_tool.specs.Answer.{IsDiffAnswer, IsExplainAnswer, IsExplainRefusal, IsListedStatus, IsTrainAnswer, OfBoth}
 pub use Rattle.cif_tool.specs.Answer.{OfInput, TrainJob, answering, answering_all, canonical_text, differences_in}
 unfoldable pub use Rattle.cif_tool.specs.CommandLine.{chosen, cif, faults_of}
 pub use Rattle.cif_tool.specs.CommandLine.{IsCommand, Parts, argument, given, program, subcommands, taken, taking, with_subcommands}
-pub use Rattle.cif_tool.specs.FeedAnswer.{AreDoneInTurn, AreGiven, AreHolidaysGiven, AreHolidaysOf, AreHolidaysRead, AreUpdatesRead, EndsAs}
-pub use Rattle.cif_tool.specs.FeedAnswer.{FeedAnswers, FeedFinishes, IsBadHoliday, IsHolidayFeedFault, IsPrepareAnswer, IsPrepareFault}
-pub use Rattle.cif_tool.specs.FeedAnswer.{IsPreparedInTurn, IsTold, IsUpdateFault, OfHolidays, OfUpdates, doing, reading_as_feed, waived_by}
 pub use Rattle.cif_tool.specs.JobFault.{Explains, IsFaultAt, NamesNoDay, status_of}
 pub use Rattle.cif_tool.specs.Status.{TellsFault, listed_status, outcome_of}
 pub use Rattle.cif_tool.specs.declared.command_line.Argument.TheVariants.{Verbose}

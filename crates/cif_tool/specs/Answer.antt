@@ -2,7 +2,7 @@
 use Rattle.std.specs.Prelude.{◌≡◌, ◌⊎◌, ◌≤◌, ⊤, ℕ, Bool, List, Option, Some, IfSome, Result, Ok, Err, IfOk, IfErr, [], Contains, length}
 use Rattle.cif_columns.specs.JudgedContents.{judged_contents}
 use Rattle.cif_columns.specs.declared.refusal.Refusal.{Refusal}
-use Rattle.cif_columns.specs.Sink.{Writes, writer_of}
+use Rattle.cif_columns.specs.Sink.{Writes}
 use Rattle.cif_columns.specs.Source.{Unread, reader_of}
 use Rattle.cif_columns.specs.declared.line_reader.TheConstants.{MAX_LINES}
 use Rattle.cif_columns.specs.declared.sink.Sink.{Sink}
@@ -14,6 +14,7 @@ use Rattle.cif_extract.specs.SpellsExtract.{BytesSpellWithin}
 use Rattle.cif_extract.specs.declared.extract.Extract.{Extract}
 use Rattle.cif_extract.specs.declared.fault.Fault.{Fault}
 use Rattle.cif_extract.specs.declared.fault.Fault.TheVariants.{Memory, Read, Refused, Write}
+use Rattle.cif_feed.specs.FeedAnswer.{IsHandedOn}
 use Rattle.cif_feed.specs.Judged.{IsJudgedFault, NoneHasReason}
 use Rattle.cif_feed.specs.Reasons.{reasons_in, reasons_text}
 use Rattle.cif_canon.specs.Accepted.{SpellsNarrowed}
@@ -219,11 +220,6 @@ AreComparedAs asked common left right (Ok status) = ⊤
 AreComparedAs asked common left right (Err fault) = IsNarrowedPair asked common left right (Err fault)
     ⊎ ((x y : ExtractParts) × AreNarrowed asked common (extract_parts left) (extract_parts right) x y
     × (IsCompareFault x y fault ⊎ (fault ≡ Write)))
-
--- where a command answers, its sink's writer holds nothing back: the whole answer is handed on
-abbrev pub IsHandedOn : {W A E : Type 0} → (W → Type 0) → Sink W → Result A E → Type 0
-IsHandedOn holds_nothing new (Ok done) = holds_nothing (writer_of new)
-IsHandedOn holds_nothing new (Err fault) = ⊤
 
 -- What a command with one input owes its sink, what comes of its source, and that nothing is held back.
 pub record IsAnswered {R W : Type 0} (remaining : R → Option (List ℕ)) (read_errors : R → Option ℕ) (contents : W → Option (List ℕ))

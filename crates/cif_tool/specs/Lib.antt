@@ -1,6 +1,5 @@
 pub mod Answer
 pub mod CommandLine
-pub mod FeedAnswer
 pub mod Job
 pub mod JobFault
 pub mod Status

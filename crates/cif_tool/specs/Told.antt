@@ -9,8 +9,8 @@ use Rattle.cif_feed.specs.declared.dropped.Dropped.{Dropped}
 use Rattle.cif_feed.specs.declared.dropped.DroppedKey.{DroppedKey}
 use Rattle.cif_feed.specs.declared.feed.FeedFault.{FeedFault}
 use Rattle.cif_feed.specs.declared.feed.FeedFault.TheVariants.{Extract}
+use Rattle.cif_feed.specs.declared.feed_answers.DoneUpdate.{DoneUpdate}
 use Rattle.cif_tool.specs.Status.{status_of}
-use Rattle.cif_tool.specs.declared.feed_answers.DoneUpdate.{DoneUpdate}
 
 -- a line of an update that was waived
 unfoldable pub waived_line : RefusedLine → List ℕ

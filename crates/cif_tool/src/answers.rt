@@ -4,9 +4,10 @@ ghost use Rattle.cif_canon.specs.Fault.{IsNormaliseFault};
 ghost use Rattle.cif_columns.specs.Sink.{Writes};
 ghost use Rattle.cif_columns.specs.declared.line_reader.TheConstants.{MAX_LINES};
 ghost use Rattle.cif_extract.specs.declared.fault.Fault.TheVariants.{Write};
+ghost use Rattle.cif_feed.specs.FeedAnswer.{IsHandedOn};
 ghost use Rattle.cif_tool.specs.Answer.{Answers, AreAnswered, AreComparedAs, Finishes, IsAnswered, IsCalendarAnswer, IsCheckAllAnswer};
 ghost use Rattle.cif_tool.specs.Answer.{IsClashesAnswer, IsClashlessRefusal, IsCanonicalAnswer, IsDayAnswer, IsDayRefusal, IsPairAnswer};
-ghost use Rattle.cif_tool.specs.Answer.{IsExplainAnswer, IsExplainRefusal, IsHandedOn, IsJobAnswer, IsJobResult, IsTrainAnswer, answering};
+ghost use Rattle.cif_tool.specs.Answer.{IsExplainAnswer, IsExplainRefusal, IsJobAnswer, IsJobResult, IsTrainAnswer, answering};
 ghost use Rattle.cif_tool.specs.Answer.{answering_all, canonical_text, differences_in};
 
 use crate::job::{CalendarJob, CanonicalJob, CompareJob, DayJob, ExplainJob, Job, TrainJob};

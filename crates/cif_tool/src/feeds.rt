@@ -1,15 +1,15 @@
 //! From a call that reads published extracts to its status: its inputs are opened here, and `--verbose` says more.
 //! What is read, done, written and told is said by the clauses of the functions that are called.
 use crate::devices::{ExtractInput, Output, Written, buffered};
-use crate::feed_answers::{
-    DoneUpdate, KeptPrepare, KeptUpdate, ReadFeed, answer_prepare, answer_update,
-};
 use crate::job::{Call, FeedJob, InputNames};
 use crate::message::Message;
 use crate::told::{end_prepare, end_update};
 use cif_columns::{Sink, Source, WriteDevice};
 use cif_extract::Fault;
-use cif_feed::{FeedFault, current_reference, last_reference};
+use cif_feed::{
+    DoneUpdate, FeedFault, KeptPrepare, KeptUpdate, ReadFeed, answer_prepare, answer_update,
+    current_reference, last_reference,
+};
 use std::alloc::AllocError;
 use std::fmt::{Display, Formatter};
 use std::mem::ManuallyDrop;
@@ -284,18 +284,5 @@ fn add_references<R: Files + Input>(
     {
         let last = last_reference(&extract.header);
         input.add_out_of_sequence(line, &last, &current_reference(before), message);
-    }
-}
-
-/// How many comments, notes and open ends there are.
-impl Display for ReadFeed {
-    fn fmt<W: fmt::Write>(&self, f: &mut Formatter<W>) -> fmt::Result {
-        let comments = self.passed.comments;
-        let notes = self.passed.notes;
-        let open_ends = self.open_ends;
-        write!(
-            f,
-            "comments: {comments}, notes: {notes}, open ends: {open_ends}"
-        )
     }
 }

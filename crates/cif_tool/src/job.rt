@@ -173,7 +173,7 @@ impl From<AllocError> for JobFault {
 }
 
 impl JobFault {
-    ghost use Rattle.cif_tool.specs.Answer.{IsHandedOn};
+    ghost use Rattle.cif_feed.specs.FeedAnswer.{IsHandedOn};
     ghost use Rattle.cif_tool.specs.JobFault.{Explains, status_of, text_of};
 
     /// Says why the arguments ask for nothing, and answers the status. Help and the version go to

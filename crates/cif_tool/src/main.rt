@@ -5,7 +5,6 @@ mod advice;
 mod answers;
 mod command_line;
 mod devices;
-mod feed_answers;
 mod feeds;
 mod help;
 mod job;

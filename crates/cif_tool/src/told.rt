@@ -4,12 +4,11 @@ ghost use Rattle.cif_canon.specs.Appended.{IsAppended};
 ghost use Rattle.cif_tool.specs.Told.{dropped_line, feed_status_of, refused_line, waived_line};
 ghost use Rattle.cif_tool.specs.Told.{told_by_prepare, told_by_update, told_status};
 
-use crate::feed_answers::DoneUpdate;
 use crate::status::{DONE, REFUSED, status};
 use arrayvec::ArrayString;
 use cif_canon::writing::{Texts, append, write_each};
 use cif_columns::{Sink, WriteDevice};
-use cif_feed::{Dropped, DroppedKey, FeedFault, RefusedLine};
+use cif_feed::{DoneUpdate, Dropped, DroppedKey, FeedFault, RefusedLine};
 
 /// Says what `prepare` tells of its answer, or why there is none, and gives the status that the program exits
 /// with. That it can't be written changes no status.

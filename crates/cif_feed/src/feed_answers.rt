@@ -4,19 +4,24 @@ ghost use Rattle.cif_columns.specs.declared.line_reader.TheConstants.{MAX_LINES}
 ghost use Rattle.cif_extract.specs.ReadCall.{IsResultOf};
 ghost use Rattle.cif_feed.specs.PublishedParts.{published_parts};
 ghost use Rattle.cif_feed.specs.declared.changes.RefusedLine.{RefusedLine};
-ghost use Rattle.cif_tool.specs.Answer.{IsHandedOn};
-ghost use Rattle.cif_tool.specs.FeedAnswer.{AreDoneInTurn, AreHolidaysRead, AreUpdatesRead, FeedAnswers, FeedFinishes, IsPrepareAnswer};
-ghost use Rattle.cif_tool.specs.FeedAnswer.{IsPrepareFault, IsPreparedInTurn, IsTold, OfHolidays, IsUpdateFault, OfUpdates, doing};
-ghost use Rattle.cif_tool.specs.FeedAnswer.{waived_by};
+ghost use Rattle.cif_feed.specs.FeedAnswer.{AreDoneInTurn, AreHolidaysRead, AreUpdatesRead, FeedAnswers, FeedFinishes, IsPrepareAnswer};
+ghost use Rattle.cif_feed.specs.FeedAnswer.{IsHandedOn, IsPrepareFault, IsPreparedInTurn, IsTold, OfHolidays, IsUpdateFault, OfUpdates, doing};
+ghost use Rattle.cif_feed.specs.FeedAnswer.{waived_by};
 ghost use Rattle.cif_feed.specs.UpdatesInTurn.{IsWritten};
 
+use crate::dropped::Dropped;
+use crate::feed::FeedFault;
+use crate::holidays::{HolidayCodes, Holidays};
+use crate::mark::Passed;
+use crate::prepare::write_prepared;
+use crate::published_extract::PublishedExtract;
+use crate::update::Outcome;
 use cif_columns::{MAX_LINES, ReadDevice, Sink, Source, WriteDevice, WriteFault};
 use cif_extract::Fault;
-use cif_feed::{
-    Dropped, FeedFault, HolidayCodes, Holidays, Outcome, Passed, PublishedExtract, write_prepared,
-};
 use cif_records::Header;
 use std::alloc::Global;
+use std::fmt;
+use std::fmt::{Display, Formatter};
 
 /// An update that was done.
 #[derive(Drop)]
@@ -51,7 +56,7 @@ pub struct ReadFeed {
 
 impl ReadFeed {
     /// That of a published extract.
-    pub(crate) fn of(extract: &PublishedExtract) -> ReadFeed {
+    pub fn of(extract: &PublishedExtract) -> ReadFeed {
         let mut open_ends = 0_u64;
         for association in extract.associations.as_slice() {
             open_ends = open_ends.saturating_add(u64::from(association.open_end));
@@ -64,6 +69,19 @@ impl ReadFeed {
             passed: extract.passed,
             open_ends,
         }
+    }
+}
+
+/// How many comments, notes and open ends there are.
+impl Display for ReadFeed {
+    fn fmt<W: fmt::Write>(&self, f: &mut Formatter<W>) -> fmt::Result {
+        let comments = self.passed.comments;
+        let notes = self.passed.notes;
+        let open_ends = self.open_ends;
+        write!(
+            f,
+            "comments: {comments}, notes: {notes}, open ends: {open_ends}"
+        )
     }
 }
 

@@ -2,7 +2,7 @@
 use Rattle.std.specs.Prelude.{◌≡◌, ◌⊎◌, ℕ, ⊤, Bool, List, [], ◌∷◌, ◌++◌, Option, None, Some, IfErr, IfOk, Result, Ok, Err}
 use Rattle.std.specs.List.{flat_map}
 use Rattle.cif_columns.specs.Contents.{contents_of}
-use Rattle.cif_columns.specs.Sink.{Writes}
+use Rattle.cif_columns.specs.Sink.{Writes, writer_of}
 use Rattle.cif_columns.specs.Source.{Unread, reader_of}
 use Rattle.cif_columns.specs.declared.line_reader.TheConstants.{MAX_LINES}
 use Rattle.cif_columns.specs.declared.sink.Sink.{Sink}
@@ -27,7 +27,12 @@ use Rattle.cif_feed.specs.declared.holidays.HolidayCode.{HolidayCode}
 use Rattle.cif_feed.specs.declared.holiday_text.HolidayFault.{HolidayFault}
 use Rattle.cif_feed.specs.declared.holidays.Holidays.{Holidays}
 use Rattle.cif_feed.specs.declared.published_extract.PublishedExtract.{PublishedExtract}
-use Rattle.cif_tool.specs.declared.feed_answers.DoneUpdate.{DoneUpdate}
+use Rattle.cif_feed.specs.declared.feed_answers.DoneUpdate.{DoneUpdate}
+
+-- where a command answers, its sink's writer holds nothing back: the whole answer is handed on
+abbrev pub IsHandedOn : {W A E : Type 0} → (W → Type 0) → Sink W → Result A E → Type 0
+IsHandedOn holds_nothing new (Ok done) = holds_nothing (writer_of new)
+IsHandedOn holds_nothing new (Err fault) = ⊤
 
 -- P holds of what is told, or of something where that isn't known
 abbrev pub IsTold : {T : Type 0} → (T → Type 0) → Option T → Type 0

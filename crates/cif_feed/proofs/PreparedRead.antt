@@ -1,11 +1,13 @@
 -- What comes of the sources of `prepare`, where the bytes that their readers give are known.
-use Rattle.cif_tool.proofs.Names.{AreHolidaysGiven, AreHolidaysOf, AreHolidaysRead, BadTransaction, Bool, Err, FeedAnswers, FeedFault}
-use Rattle.cif_tool.proofs.Names.{FeedWrites, HasFailed, HasReadOn, HasWritten, IfErr, IfSome, IsBadHoliday, IsDeviceOrMemory}
-use Rattle.cif_tool.proofs.Names.{IsFirstOfFeed, IsHolidayFault, IsHolidayFeedFault, IsPrepareAnswer, IsPrepareFault, IsPreparedInTurn}
-use Rattle.cif_tool.proofs.Names.{IsPreparedText, IsResultOf, IsTold, List, MAX_LINES, MatchBool, None, NotUpdate, OfHolidays, Ok, Option}
-use Rattle.cif_tool.proofs.Names.{Prepares, PublishedExtract, Result, Sink, Some, Source, Unread, [], ap, codes_named, contents_of, goes-on}
-use Rattle.cif_tool.proofs.Names.{inl, inr, is_feed_read, known_so, of_any, preparing, reader_of, reading_as_feed, reading_holidays, refl}
-use Rattle.cif_tool.proofs.Names.{refuses, subst, sym, unread_of, ℕ, ⊎_elim, ◌∙◌, ◌≡◌, ◌⊎◌}
+use Rattle.cif_feed.proofs.Names.{BadTransaction, Bool, Err, FeedFault, FeedWrites, HasFailed, HasReadOn, HasWritten, IfErr, IfSome}
+use Rattle.cif_feed.proofs.Names.{IsDeviceOrMemory, IsFirstOfFeed, IsHolidayFault, IsPreparedText, IsResultOf, List, None, NotUpdate, Ok}
+use Rattle.cif_feed.proofs.Names.{Option, Prepares, PublishedExtract, Result, Sink, Some, Source, Unread, [], ap, codes_named, contents_of}
+use Rattle.cif_feed.proofs.Names.{goes-on, inl, inr, is_feed_read, known_so, of_any, preparing, reader_of, reading_holidays, refl, refuses}
+use Rattle.cif_feed.proofs.Names.{subst, sym, unread_of, ℕ, ⊎_elim, ◌∙◌, ◌≡◌, ◌⊎◌}
+use Rattle.cif_feed.specs.FeedAnswer.{AreHolidaysGiven, AreHolidaysOf, AreHolidaysRead, FeedAnswers, IsBadHoliday, IsHolidayFeedFault}
+use Rattle.cif_feed.specs.FeedAnswer.{IsPrepareAnswer, IsPrepareFault, IsPreparedInTurn, IsTold, OfHolidays, reading_as_feed}
+use Rattle.cif_columns.specs.declared.line_reader.TheConstants.{MAX_LINES}
+use Rattle.std.proofs.Common.{MatchBool}
 use Rattle.cif_columns.specs.Source.{HasFailedToRead}
 use Rattle.cif_extract.specs.declared.fault.Fault.TheVariants as fault
 use Rattle.cif_feed.specs.FeedFault.{of_holiday_fault}
@@ -17,7 +19,7 @@ use Rattle.cif_feed.specs.declared.feed_line.Feed.TheVariants.{Full}
 use Rattle.cif_feed.specs.declared.holiday_text.HolidayFault.{HolidayFault}
 use Rattle.cif_feed.specs.declared.holiday_text.HolidayFault.TheVariants.{BadHoliday, Memory, Read}
 use Rattle.cif_feed.specs.declared.holidays.Holidays.{Holidays}
-use Rattle.cif_tool.proofs.UpdatesRead.{answer-of, fault-of}
+use Rattle.cif_feed.proofs.UpdatesRead.{answer-of, fault-of}
 
 -- ---- holidays
 

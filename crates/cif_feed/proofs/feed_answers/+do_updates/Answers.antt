@@ -1,7 +1,8 @@
 -- One source and then the others: `stops-there`, or `goes-further`.
-use Rattle.cif_tool.proofs.Names.{at-fault, ◌++◌}
-use Rattle.cif_tool.proofs.UpdatesRead.{goes-further, stops-there, waived-further}
-use Rattle.cif_tool.proofs.feed_answers.+do_updates.Goals as goal
+use Rattle.cif_feed.proofs.Names.{◌++◌}
+use Rattle.cif_extract.proofs.ReadCalls.{at-fault}
+use Rattle.cif_feed.proofs.UpdatesRead.{goes-further, stops-there, waived-further}
+use Rattle.cif_feed.proofs.feed_answers.+do_updates.Goals as goal
 
 pub returns-in_err-do_update-in-Some : goal.returns-in_err-do_update-in-Some
 returns-in_err-do_update-in-Some g n c =

@@ -1,8 +1,8 @@
 -- What the update waived is told, unless memory runs out (`told-update`).
-use Rattle.cif_tool.proofs.Names.{refl}
-use Rattle.cif_tool.proofs.UpdatesRead.{told-update, waived-more}
-use Rattle.cif_tool.proofs.feed_answers.do_update.Goals as goal
-use Rattle.cif_tool.proofs.feed_answers.do_update.Goals.{in-Err, in-Ok}
+use Rattle.cif_feed.proofs.Names.{refl}
+use Rattle.cif_feed.proofs.UpdatesRead.{told-update, waived-more}
+use Rattle.cif_feed.proofs.feed_answers.do_update.Goals as goal
+use Rattle.cif_feed.proofs.feed_answers.do_update.Goals.{in-Err, in-Ok}
 
 pub returns : goal.returns
 returns g c = elim c.match-push.branch [

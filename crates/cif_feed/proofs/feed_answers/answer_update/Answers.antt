@@ -1,7 +1,9 @@
 -- An update that isn't done is told by `undone-answer` and its like; a text that is written, or isn't, by `ended-answer`.
-use Rattle.cif_tool.proofs.Names.{at-fault, published_parts, waived_by}
-use Rattle.cif_tool.proofs.UpdatesRead.{ended-answer, ended-fault, ended-reads, finished, undone-answer, undone-fault, undone-reads}
-use Rattle.cif_tool.proofs.feed_answers.answer_update.Goals as goal
+use Rattle.cif_feed.proofs.Names.{published_parts}
+use Rattle.cif_feed.specs.FeedAnswer.{waived_by}
+use Rattle.cif_extract.proofs.ReadCalls.{at-fault}
+use Rattle.cif_feed.proofs.UpdatesRead.{ended-answer, ended-fault, ended-reads, finished, undone-answer, undone-fault, undone-reads}
+use Rattle.cif_feed.proofs.feed_answers.answer_update.Goals as goal
 
 pub returns-in_err-do_updates-clause-answer : goal.returns-in_err-do_updates-clause-answer
 returns-in_err-do_updates-clause-answer g c =

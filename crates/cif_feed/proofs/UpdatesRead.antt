@@ -1,12 +1,16 @@
 -- What comes of the sources of `update`, where the bytes that their readers give are known.
-use Rattle.cif_tool.proofs.Names.{AlreadyThere, AreDoneInTurn, AreGiven, AreUpdatesRead, BadTransaction, Bool, BytesSpellPublished, EndsAs}
-use Rattle.cif_tool.proofs.Names.{Err, FeedAnswers, FeedFault, FeedFinishes, HasFailed, HasWritten, IfErr, IfOk, IfSome, IsDeviceOrMemory}
-use Rattle.cif_tool.proofs.Names.{IsPublishedOf, IsResultOf, IsTold, IsUpdateFault, List, MAX_LINES, Makes, MatchResult, NotThere}
-use Rattle.cif_tool.proofs.Names.{NotUpdate, OfUpdates, Ok, Option, OutOfSequence, PublishedExtract, PublishedParts, ReadCall, Refuses}
-use Rattle.cif_tool.proofs.Names.{Result, Sink, Some, Source, Unread, Write, Writes, [], all_codes, ap, append-nil, append_assoc, doing}
-use Rattle.cif_tool.proofs.Names.{failed_second, flat_map-append, goes-on, inl, inr, published_parts, published_text, reader_of}
-use Rattle.cif_tool.proofs.Names.{reading_published, refl, subst, sym, unread_of, updating, waived_by, written_both, ℕ, ⊎_elim, ◌++◌, ◌∙◌}
-use Rattle.cif_tool.proofs.Names.{◌∷◌, ◌≡◌, ◌⊎◌}
+use Rattle.cif_feed.proofs.Names.{AlreadyThere, BadTransaction, Bool, BytesSpellPublished, Err, FeedFault, HasFailed, HasWritten, IfErr}
+use Rattle.cif_feed.proofs.Names.{IfOk, IfSome, IsDeviceOrMemory, IsPublishedOf, IsResultOf, List, Makes, MatchResult, NotThere, NotUpdate}
+use Rattle.cif_feed.proofs.Names.{Ok, Option, PublishedExtract, PublishedParts, Refuses, Result, Sink, Some, Source, Unread, Writes, []}
+use Rattle.cif_feed.proofs.Names.{all_codes, ap, append-nil, append_assoc, failed_second, flat_map-append, goes-on, inl, inr}
+use Rattle.cif_feed.proofs.Names.{published_parts, published_text, reader_of, reading_published, refl, subst, sym, unread_of, updating}
+use Rattle.cif_feed.proofs.Names.{written_both, ℕ, ⊎_elim, ◌++◌, ◌∙◌, ◌∷◌, ◌≡◌, ◌⊎◌}
+use Rattle.cif_feed.specs.FeedAnswer.{AreDoneInTurn, AreGiven, AreUpdatesRead, EndsAs, FeedAnswers, FeedFinishes, IsTold, IsUpdateFault}
+use Rattle.cif_feed.specs.FeedAnswer.{OfUpdates, doing, waived_by}
+use Rattle.cif_columns.specs.declared.line_reader.TheConstants.{MAX_LINES}
+use Rattle.cif_extract.specs.ReadCall.{ReadCall}
+use Rattle.cif_extract.specs.declared.fault.Fault.TheVariants.{Write}
+use Rattle.cif_feed.specs.declared.feed.FeedFault.TheVariants.{OutOfSequence}
 use Rattle.cif_columns.specs.declared.sink.WriteFault.{WriteFault}
 use Rattle.cif_extract.specs.declared.fault.Fault.TheVariants.{Memory, Read, Refused}
 use Rattle.cif_feed.specs.Updated.{IsOfUpdate, IsOutcomeOf, IsUpdateFault as IsOneUpdateFault}
@@ -16,7 +20,7 @@ use Rattle.cif_feed.specs.declared.changes.Unfit.TheVariants as unfit
 use Rattle.cif_feed.specs.declared.feed.FeedFault.TheVariants.{BadHoliday, Extract}
 use Rattle.cif_feed.specs.declared.holidays.HolidayCodes.{HolidayCodes}
 use Rattle.cif_feed.specs.declared.update.Outcome.{Outcome}
-use Rattle.cif_tool.specs.declared.feed_answers.DoneUpdate.{DoneUpdate}
+use Rattle.cif_feed.specs.declared.feed_answers.DoneUpdate.{DoneUpdate}
 
 -- a call's answer, and its fault, where the bytes of its reader are known
 module _ {A F R : Type 0} (may : ReadCall A F) (remaining : R → Option (List ℕ)) (errors : R → Option ℕ) (old new : Source R)

@@ -1,9 +1,10 @@
 -- The extract is prepared with the holidays that were read, and its text is handed on; or it isn't.
-use Rattle.cif_tool.proofs.Names.{Err, Ok, at-fault, inl, inr, refl, ⊎_elim}
-use Rattle.cif_tool.proofs.PreparedRead.{holidays-refused, prepared-answer, prepared-read, unhanded-answer, unhanded-read}
-use Rattle.cif_tool.proofs.PreparedRead.{unprepared-answer, unprepared-fault, unread-answer}
-use Rattle.cif_tool.proofs.UpdatesRead.{finished}
-use Rattle.cif_tool.proofs.feed_answers.answer_prepare.Goals as goal
+use Rattle.cif_feed.proofs.Names.{Err, Ok, inl, inr, refl, ⊎_elim}
+use Rattle.cif_extract.proofs.ReadCalls.{at-fault}
+use Rattle.cif_feed.proofs.PreparedRead.{holidays-refused, prepared-answer, prepared-read, unhanded-answer, unhanded-read}
+use Rattle.cif_feed.proofs.PreparedRead.{unprepared-answer, unprepared-fault, unread-answer}
+use Rattle.cif_feed.proofs.UpdatesRead.{finished}
+use Rattle.cif_feed.proofs.feed_answers.answer_prepare.Goals as goal
 
 pub returns-in_err-read-clause-answer : goal.returns-in_err-read-clause-answer
 returns-in_err-read-clause-answer g c =
