@@ -4,9 +4,9 @@ ghost use Rattle.cif_columns.specs.declared.line_reader.TheConstants.{MAX_LINES}
 ghost use Rattle.cif_extract.specs.ReadCall.{IsResultOf};
 ghost use Rattle.cif_feed.specs.PublishedParts.{published_parts};
 ghost use Rattle.cif_feed.specs.declared.changes.RefusedLine.{RefusedLine};
-ghost use Rattle.cif_feed.specs.FeedAnswer.{AreDoneInTurn, AreHolidaysRead, AreUpdatesRead, FeedAnswers, FeedFinishes, IsPrepareAnswer};
-ghost use Rattle.cif_feed.specs.FeedAnswer.{IsHandedOn, IsPrepareFault, IsPreparedInTurn, IsTold, OfHolidays, IsUpdateFault, OfUpdates, doing};
-ghost use Rattle.cif_feed.specs.FeedAnswer.{waived_by};
+ghost use Rattle.cif_feed.specs.FeedAnswer.{AreDoneInTurn, AreHolidaysRead, AreUpdatesRead, FeedAnswers, FeedFinishes, IsHandedOn};
+ghost use Rattle.cif_feed.specs.FeedAnswer.{IsPrepareAnswer, IsPrepareFault, IsPreparedInTurn, IsTold, IsUpdateFault, OfHolidays};
+ghost use Rattle.cif_feed.specs.FeedAnswer.{OfUpdates, doing, waived_by};
 ghost use Rattle.cif_feed.specs.UpdatesInTurn.{IsWritten};
 
 use crate::dropped::Dropped;
@@ -56,7 +56,10 @@ pub struct ReadFeed {
 
 impl ReadFeed {
     /// That of a published extract.
-    pub fn of(extract: &PublishedExtract) -> ReadFeed {
+    pub fn of(extract: &PublishedExtract) -> ReadFeed
+        ensures header { result.header ≡ extract.now.header }
+        ensures passed { result.passed ≡ extract.now.passed }
+    {
         let mut open_ends = 0_u64;
         for association in extract.associations.as_slice() {
             open_ends = open_ends.saturating_add(u64::from(association.open_end));
