@@ -8,34 +8,34 @@ use crate::refused_columns::{YYMMDD, bad_byte, columns_refused, holiday_refused}
 use crate::words::bad_word;
 use arrayvec::ArrayString;
 use cif_canon::Format;
-use cif_columns::{LINE_WIDTH, MAX_LINES, Refusal, Sink, Uid, WriteDevice, as_text, is_printable};
+use cif_columns::{LINE_WIDTH, MAX_LINES, Refusal, Sink, Uid, as_text, is_printable};
 use cif_extract::{Clash, Extract, Fault};
 use cif_feed::{FeedFault, HolidayCode, Reasons};
 use cif_records::Header;
 use cif_views::explain_view;
 use std::alloc::Global;
-use std::rt::Files;
+use std::io::Stderr;
 use std::{io, str};
 
 /// A job that was done.
 #[derive(Drop)]
-pub(crate) struct DoneJob<'a, 'b, R: Files + Input> {
+pub(crate) struct DoneJob<'a, 'b> {
     pub(crate) job: &'a Job,
     /// What became of the output.
     pub(crate) written: &'a Written,
-    pub(crate) left: &'a ExtractInput<'b, R>,
+    pub(crate) left: &'a ExtractInput<'b>,
     /// A job with one input has read nothing of it.
-    pub(crate) right: &'a ExtractInput<'b, R>,
+    pub(crate) right: &'a ExtractInput<'b>,
 }
 
-impl<R: Files + Input> DoneJob<'_, '_, R> {
+impl DoneJob<'_, '_> {
     /// Says more of the answer, or what helps with its fault.
-    pub(crate) fn advise<W: WriteDevice>(
+    pub(crate) fn advise(
         &self,
         alloc: Global,
         answer: &Result<u8, Fault>,
         kept: &mut Kept,
-        errors: &mut Sink<W>,
+        errors: &mut Sink<Stderr>,
     ) {
         let mut message = Message::new(alloc);
         match answer {
@@ -175,7 +175,7 @@ fn reason_of(alloc: Global, failure: Option<i32>) -> Option<String> {
 }
 
 /// What is said of an input.
-impl<R: Files + Input> ExtractInput<'_, R> {
+impl ExtractInput<'_> {
     /// Adds which input it is about.
     fn add_name(&self, message: &mut Message) {
         message.line(format_args!("in {self}"));
@@ -609,11 +609,11 @@ fn shown<const N: usize>(bytes: &[u8]) -> ArrayString<N> {
 // ---- a mistaken word
 
 /// Says which of the words is mistaken, if one is, and what it must be, where `--verbose` is among them.
-pub(crate) fn advise_on_word<W: WriteDevice>(
+pub(crate) fn advise_on_word(
     alloc: Global,
     words: &[String],
     fault: &JobFault,
-    errors: &mut Sink<W>,
+    errors: &mut Sink<Stderr>,
 ) {
     let must = match fault {
         JobFault::BadDate => YYMMDD,

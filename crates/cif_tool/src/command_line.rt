@@ -5,7 +5,7 @@ ghost use Rattle.clap.specs.declared.Command.TheViews.{out-Command};
 ghost use Rattle.clap.specs.declared.builder.ArgAction.TheVariants.{SetTrue};
 ghost use Rattle.clap.specs.declared.builder.ValueParser.TheVariants.{Names};
 ghost use Rattle.clap.specs.declared.builder.texts.Texts.TheVariants.{One};
-ghost use Rattle.cif_tool.specs.CommandLine.{AreChoices, IsCommand, argument, chosen, cif, faults_of, given, subcommands, taken, taking};
+ghost use Rattle.cif_tool.specs.CommandLine.{AreChoices, IsCommand, argument, chosen, cif, faults_of, given, taken, taking};
 
 use crate::help;
 use Argument::{
@@ -198,28 +198,24 @@ fn with_parts<'a>(
 }
 
 /// All subcommands, in the order of the help.
-fn subcommands() -> &'static [Parts<'static>]
-    ensures { map taken result.now ≡ subcommands }
-{
-    &[
-        ("normalise", help::NORMALISE, &[File, From, To, Form]),
-        ("check", help::CHECK, &[File, From, To, Form, All]),
-        ("compare", help::COMPARE, &[Left, Right, From, To, Common]),
-        ("diff", help::DIFF, &[Left, Right, From, To, Common, Format]),
-        ("day", help::DAY, &[Date, File, Stops, Format]),
-        (
-            "train",
-            help::TRAIN,
-            &[Uid, File, From, To, Form, Stops, Format],
-        ),
-        ("explain", help::EXPLAIN, &[Uid, Date, File, Format]),
-        ("clashes", help::CLASHES, &[File, From, To]),
-        ("table", help::TABLE, &[Table, File, From, To, Form]),
-        ("calendar", help::CALENDAR, &[Uid, File, From, To]),
-        ("prepare", help::PREPARE, &[File, Holidays, DropClashes]),
-        ("update", help::UPDATE, &[Full, Updates, Lenient]),
-    ]
-}
+static SUBCOMMANDS: [Parts<'static>; 12] = [
+    ("normalise", help::NORMALISE, &[File, From, To, Form]),
+    ("check", help::CHECK, &[File, From, To, Form, All]),
+    ("compare", help::COMPARE, &[Left, Right, From, To, Common]),
+    ("diff", help::DIFF, &[Left, Right, From, To, Common, Format]),
+    ("day", help::DAY, &[Date, File, Stops, Format]),
+    (
+        "train",
+        help::TRAIN,
+        &[Uid, File, From, To, Form, Stops, Format],
+    ),
+    ("explain", help::EXPLAIN, &[Uid, Date, File, Format]),
+    ("clashes", help::CLASHES, &[File, From, To]),
+    ("table", help::TABLE, &[Table, File, From, To, Form]),
+    ("calendar", help::CALENDAR, &[Uid, File, From, To]),
+    ("prepare", help::PREPARE, &[File, Holidays, DropClashes]),
+    ("update", help::UPDATE, &[Full, Updates, Lenient]),
+];
 
 /// The program with its subcommands.
 fn program<'a>(alloc: Global, choices: &Choices<'a>) -> Result<Command<'a>, AllocError>
@@ -228,7 +224,7 @@ fn program<'a>(alloc: Global, choices: &Choices<'a>) -> Result<Command<'a>, Allo
     let mut command = described(alloc, "cif", help::CIF)
         .version("0.2.0")
         .subcommand_required(true);
-    for parts in subcommands() {
+    for parts in &SUBCOMMANDS {
         command = with_parts(alloc, command, parts, choices)?;
     }
     command.bin_name("cif")

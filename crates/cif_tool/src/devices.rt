@@ -9,10 +9,11 @@ use cif_extract::Fault;
 use cif_records::Header;
 use std::alloc::Global;
 use std::fmt::{Display, Formatter};
-use std::fs::OpenFile;
-use std::io::{BufRead, BufReader, BufWriter, Read, Seek, SeekFrom, Write};
+use std::fs::{File, OpenFile};
+use std::io::{
+    BufRead, BufReader, BufWriter, Read, Seek, SeekFrom, StdinLock, Stdout, Write,
+};
 use std::mem::ManuallyDrop;
-use std::rt::Files;
 use std::{fmt, fs, io};
 
 /// How many bytes are kept of what was read first: a line and its ending.
@@ -21,11 +22,12 @@ const START: usize = LINE_WIDTH + 2;
 /// The standard input, or a file. Neither is touched before it is read first, and a file that can't
 /// be opened is one that can't be read.
 #[derive(Drop)]
-pub(crate) struct ExtractInput<'a, R: Files + Input> {
+pub(crate) struct ExtractInput<'a> {
+    rt: &'a HostRuntime,
     /// What the user knows it by: of several inputs which one it is, as `LEFT`, and the file's name.
     side: &'static str,
     name: &'a str,
-    device: Device<'a, R>,
+    device: Device,
     /// What was read first, up to the length of a line with its ending.
     pub(crate) start: ArrayVec<u8, START>,
     /// The system's number of the error that a read ended with.
@@ -33,29 +35,22 @@ pub(crate) struct ExtractInput<'a, R: Files + Input> {
 }
 
 #[derive(Drop)]
-enum Device<'a, R: Files + Input> {
-    Unlocked(&'a R),
-    Standard(R::Reader),
-    Named {
-        files: &'a R,
-        name: &'a str,
-    },
-    Opened {
-        file: R::File,
-        files: &'a R,
-        name: &'a str,
-    },
+enum Device {
+    /// The standard input, before it is read first.
+    Unlocked,
+    Standard(StdinLock<'static>),
+    /// A file, before it is read first.
+    Closed,
+    Opened(File),
     /// A file that was read to its end, and can be read again: it is closed, as there may be many.
-    Ended {
-        files: &'a R,
-        name: &'a str,
-    },
+    Ended,
 }
 
-impl<'a, R: Files + Input> ExtractInput<'a, R> {
+impl<'a> ExtractInput<'a> {
     /// The file of this name, or the standard input where there is none or it is `-`.
-    pub(crate) fn of(rt: &'a R, side: &'static str, file: Option<&'a str>) -> Self {
+    pub(crate) fn of(rt: &'a HostRuntime, side: &'static str, file: Option<&'a str>) -> Self {
         ExtractInput {
+            rt,
             side,
             name: match file {
                 Some(name) if !is_standard(name) => name,
@@ -63,8 +58,8 @@ impl<'a, R: Files + Input> ExtractInput<'a, R> {
             },
             // Made in place: it is some kilobytes large, and lives in the frame of `main`.
             device: match file {
-                Some(name) if !is_standard(name) => Device::Named { files: rt, name },
-                _ => Device::Unlocked(rt),
+                Some(name) if !is_standard(name) => Device::Closed,
+                _ => Device::Unlocked,
             },
             start: ArrayVec::new(),
             failure: None,
@@ -74,8 +69,8 @@ impl<'a, R: Files + Input> ExtractInput<'a, R> {
     /// Whether it was read.
     pub(crate) fn is_touched(&self) -> bool {
         match self.device {
-            Device::Standard(_) | Device::Opened { .. } | Device::Ended { .. } => true,
-            Device::Unlocked(_) | Device::Named { .. } => self.failure.is_some(),
+            Device::Standard(_) | Device::Opened(_) | Device::Ended => true,
+            Device::Unlocked | Device::Closed => self.failure.is_some(),
         }
     }
 
@@ -118,10 +113,10 @@ impl<'a, R: Files + Input> ExtractInput<'a, R> {
 
     /// The file, to be read again from its beginning: none where the input isn't a file that allows
     /// it.
-    fn again(&self) -> Option<R::File> {
+    fn again(&self) -> Option<File> {
         match &self.device {
-            Device::Ended { files, name } => fs::open(*files, *name).ok()?.try_clone().ok(),
-            Device::Opened { file, .. } => {
+            Device::Ended => fs::open(self.rt, self.name).ok()?.try_clone().ok(),
+            Device::Opened(file) => {
                 let mut file = file.try_clone().ok()?;
                 file.seek(SeekFrom::Start(0)).ok()?;
                 Some(file)
@@ -132,7 +127,7 @@ impl<'a, R: Files + Input> ExtractInput<'a, R> {
 }
 
 /// Of several inputs which one it is, and the file's name.
-impl<R: Files + Input> Display for ExtractInput<'_, R> {
+impl Display for ExtractInput<'_> {
     fn fmt<W: fmt::Write>(&self, f: &mut Formatter<W>) -> fmt::Result {
         let side = self.side;
         let name = Escaped {
@@ -147,40 +142,31 @@ impl<R: Files + Input> Display for ExtractInput<'_, R> {
     }
 }
 
-impl<'a, R: Files + Input> Device<'a, R> {
-    /// Reads as `Read` does, and touches the input first if it hasn't been touched.
-    fn read(&mut self, buf: &mut [u8]) -> io::Result<usize>
+impl Device {
+    /// Reads as `Read` does, and touches the input first if it hasn't been touched: the file of this name, or the
+    /// standard input.
+    fn read(&mut self, rt: &HostRuntime, name: &str, buf: &mut [u8]) -> io::Result<usize>
         ensures { ReadsAtMost result buf.new }
     {
         match self {
             Device::Standard(reader) => reader.read(buf),
-            Device::Opened { file, files, name } => {
+            Device::Opened(file) => {
                 let count = file.read(buf);
                 if matches!(count, Ok(0))
                     && !buf.is_empty()
                     && file.seek(SeekFrom::Start(0)).is_ok()
                 {
-                    *self = Device::Ended {
-                        files: *files,
-                        name: *name,
-                    };
+                    *self = Device::Ended;
                 }
                 count
             }
-            Device::Ended { .. } => Ok(0),
-            Device::Unlocked(rt) => {
-                let rt = *rt;
-                self.read_standard(rt, buf)
-            }
-            Device::Named { files, name } => {
+            Device::Ended => Ok(0),
+            Device::Unlocked => self.read_standard(rt, buf),
+            Device::Closed => {
                 // A copy never has the descriptor of a standard stream, of which one may be closed.
-                let mut file = fs::open(*files, *name)?.try_clone()?;
+                let mut file = fs::open(rt, name)?.try_clone()?;
                 let count = file.read(buf);
-                *self = Device::Opened {
-                    file,
-                    files: *files,
-                    name: *name,
-                };
+                *self = Device::Opened(file);
                 count
             }
         }
@@ -189,7 +175,7 @@ impl<'a, R: Files + Input> Device<'a, R> {
     /// Reads the standard input first.
     // Inlined, it would keep some kilobytes on the stack of each read.
     #[inline(never)]
-    fn read_standard(&mut self, rt: &'a R, buf: &mut [u8]) -> io::Result<usize>
+    fn read_standard(&mut self, rt: &HostRuntime, buf: &mut [u8]) -> io::Result<usize>
         ensures { ReadsAtMost result buf.new }
     {
         let mut reader = rt.reader();
@@ -199,9 +185,9 @@ impl<'a, R: Files + Input> Device<'a, R> {
     }
 }
 
-impl<R: Files + Input> Read for ExtractInput<'_, R> {
+impl Read for ExtractInput<'_> {
     fn read(&mut self, buf: &mut [u8]) -> io::Result<usize> {
-        match self.device.read(buf) {
+        match self.device.read(self.rt, self.name, buf) {
             Ok(count) => {
                 let kept = count.min(self.start.remaining_capacity());
                 let _ = self.start.try_extend_from_slice(&buf[..kept]);
@@ -215,7 +201,7 @@ impl<R: Files + Input> Read for ExtractInput<'_, R> {
     }
 }
 
-impl<R: Files + Input> ReadDevice for ExtractInput<'_, R> {
+impl ReadDevice for ExtractInput<'_> {
     fn read_once(&mut self, buf: &mut [u8]) -> io::Result<usize> {
         self.read(buf)
     }
@@ -252,14 +238,14 @@ impl Written {
     }
 }
 
-/// A writer, and what became of it.
+/// The standard output, and what became of it.
 #[derive(Drop)]
-pub(crate) struct Output<'a, W> {
-    pub(crate) writer: W,
+pub(crate) struct Output<'a> {
+    pub(crate) writer: Stdout,
     pub(crate) written: &'a mut Written,
 }
 
-impl<W: Write> Write for Output<'_, W> {
+impl Write for Output<'_> {
     fn write(&mut self, bytes: &[u8]) -> io::Result<usize> {
         match self.writer.write(bytes) {
             Ok(count) => {
@@ -278,7 +264,7 @@ impl<W: Write> Write for Output<'_, W> {
     }
 }
 
-impl<W: Write> WriteDevice for Output<'_, W> {
+impl WriteDevice for Output<'_> {
     fn write_once(&mut self, bytes: &[u8]) -> io::Result<usize> {
         self.write(bytes)
     }

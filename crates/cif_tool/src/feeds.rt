@@ -4,26 +4,24 @@ use crate::devices::{ExtractInput, Output, Written, buffered};
 use crate::job::{Call, FeedJob, InputNames};
 use crate::message::Message;
 use crate::told::{end_prepare, end_update};
-use cif_columns::{Sink, Source, WriteDevice};
+use cif_columns::{Sink, Source};
 use cif_extract::Fault;
 use cif_feed::{
     DoneUpdate, FeedFault, KeptPrepare, KeptUpdate, ReadFeed, answer_prepare, answer_update,
     current_reference, last_reference,
 };
 use std::alloc::AllocError;
-use std::fmt::{Display, Formatter};
+use std::io::Stderr;
 use std::mem::ManuallyDrop;
-use std::rt::Files;
-use std::{fmt, io};
 
 /// Does what the call asks for, and returns the status to exit with.
 // Inlined, it would keep its inputs on the stack while an extract is read.
 #[inline(never)]
-pub(crate) fn feed_task<R: Files + Input + Print + AllocGlobal, W: WriteDevice>(
-    rt: &R,
+pub(crate) fn feed_task(
+    rt: &HostRuntime,
     job: &FeedJob,
     call: &Call,
-    errors: &mut Sink<W>,
+    errors: &mut Sink<Stderr>,
 ) -> u8 {
     match job {
         FeedJob::Prepare { drop_clashes } => prepare(rt, call, *drop_clashes, errors),
@@ -34,22 +32,22 @@ pub(crate) fn feed_task<R: Files + Input + Print + AllocGlobal, W: WriteDevice>(
 /// The input of this name; `side` says which it is.
 // Inlined, it would keep a second input on the stack of its caller, and each is some kilobytes large.
 #[inline(never)]
-fn source_of<'a, R: Files + Input>(
-    rt: &'a R,
+fn source_of<'a>(
+    rt: &'a HostRuntime,
     side: &'static str,
     name: &'a String,
-) -> Source<ExtractInput<'a, R>> {
+) -> Source<ExtractInput<'a>> {
     Source::new(ExtractInput::of(rt, side, Some(name.as_str())))
 }
 
 /// The first input, and the others, each with what it is called.
 // Inlined, it would keep copies of inputs on the stack of its caller.
 #[inline(never)]
-fn sources_of<'a, R: Files + Input + AllocGlobal>(
-    rt: &'a R,
+fn sources_of<'a>(
+    rt: &'a HostRuntime,
     first: (&'static str, &'a String),
     others: (&'static str, &'a [String]),
-) -> Result<Vec<Source<ExtractInput<'a, R>>>, AllocError> {
+) -> Result<Vec<Source<ExtractInput<'a>>>, AllocError> {
     let mut sources = Vec::new(rt.alloc());
     sources.push(source_of(rt, first.0, first.1))?;
     for name in others.1 {
@@ -62,10 +60,10 @@ fn sources_of<'a, R: Files + Input + AllocGlobal>(
 
 /// The holidays, the input before the extract, if there is one.
 #[inline(never)]
-fn source_of_holidays<'a, R: Files + Input>(
-    rt: &'a R,
+fn source_of_holidays<'a>(
+    rt: &'a HostRuntime,
     inputs: &'a InputNames,
-) -> Option<Source<ExtractInput<'a, R>>> {
+) -> Option<Source<ExtractInput<'a>>> {
     inputs.rest.first()?;
     Some(source_of(rt, "holidays", &inputs.first))
 }
@@ -73,11 +71,11 @@ fn source_of_holidays<'a, R: Files + Input>(
 /// Writes the prepared extract of the last input, with the holidays of the one before it, if there is one.
 // Inlined, it would keep its inputs on the stack beside those of `update`.
 #[inline(never)]
-fn prepare<R: Files + Input + Print + AllocGlobal, W: WriteDevice>(
-    rt: &R,
+fn prepare(
+    rt: &HostRuntime,
     call: &Call,
     drop_clashes: bool,
-    errors: &mut Sink<W>,
+    errors: &mut Sink<Stderr>,
 ) -> u8 {
     let alloc = rt.alloc();
     let mut holidays = source_of_holidays(rt, &call.inputs);
@@ -87,7 +85,7 @@ fn prepare<R: Files + Input + Print + AllocGlobal, W: WriteDevice>(
     };
     let mut written = Written::new();
     let output = Output {
-        writer: io::writer(rt),
+        writer: rt.stdout(),
         written: &mut written,
     };
     // The process ends after this: the system takes back the memory of all bodies at once.
@@ -135,8 +133,8 @@ fn prepare<R: Files + Input + Print + AllocGlobal, W: WriteDevice>(
 
 /// Adds what was read of the extract that was prepared, and how many of its records were cut: by holidays, and by
 /// clashes, if these were dropped.
-fn add_prepared<R: Files + Input>(
-    input: &ExtractInput<'_, R>,
+fn add_prepared(
+    input: &ExtractInput<'_>,
     kept: &KeptPrepare,
     clashing: Option<usize>,
     message: &mut Message,
@@ -160,11 +158,11 @@ fn add_prepared<R: Files + Input>(
 
 /// Writes what the updates make of the full extract, the first input.
 #[inline(never)]
-fn update<R: Files + Input + Print + AllocGlobal, W: WriteDevice>(
-    rt: &R,
+fn update(
+    rt: &HostRuntime,
     call: &Call,
     lenient: bool,
-    errors: &mut Sink<W>,
+    errors: &mut Sink<Stderr>,
 ) -> u8 {
     let alloc = rt.alloc();
     let InputNames { first, rest } = &call.inputs;
@@ -173,7 +171,7 @@ fn update<R: Files + Input + Print + AllocGlobal, W: WriteDevice>(
     };
     let mut written = Written::new();
     let output = Output {
-        writer: io::writer(rt),
+        writer: rt.stdout(),
         written: &mut written,
     };
     // The process ends after this: the system takes back the memory of all bodies at once.
@@ -211,9 +209,9 @@ fn update<R: Files + Input + Print + AllocGlobal, W: WriteDevice>(
 }
 
 /// The input that was read last, if one was.
-fn last_touched<'s, 'a, R: Files + Input>(
-    sources: &'s [Source<ExtractInput<'a, R>>],
-) -> Option<&'s ExtractInput<'a, R>> {
+fn last_touched<'s, 'a>(
+    sources: &'s [Source<ExtractInput<'a>>],
+) -> Option<&'s ExtractInput<'a>> {
     let mut last = None;
     for source in sources {
         if source.reader().is_touched() {
@@ -224,8 +222,8 @@ fn last_touched<'s, 'a, R: Files + Input>(
 }
 
 /// Adds what was read of the full extract, and what each update did.
-fn add_updated<R: Files + Input>(
-    sources: &[Source<ExtractInput<'_, R>>],
+fn add_updated(
+    sources: &[Source<ExtractInput<'_>>],
     kept: &KeptUpdate,
     message: &mut Message,
 ) {
@@ -242,8 +240,8 @@ fn add_updated<R: Files + Input>(
 }
 
 /// Adds what an update did, and which of its lines were waived.
-fn add_done<R: Files + Input>(
-    input: &ExtractInput<'_, R>,
+fn add_done(
+    input: &ExtractInput<'_>,
     done: &DoneUpdate,
     message: &mut Message,
 ) {
@@ -268,8 +266,8 @@ fn add_done<R: Files + Input>(
 }
 
 /// Adds the references of an update that doesn't follow the extract that those before it have left.
-fn add_references<R: Files + Input>(
-    input: &ExtractInput<'_, R>,
+fn add_references(
+    input: &ExtractInput<'_>,
     line: u64,
     kept: &KeptUpdate,
     message: &mut Message,

@@ -1,9 +1,9 @@
 //! Lines on standard error: those of a message, and what is escaped in them.
-use cif_columns::{Sink, WriteDevice};
+use cif_columns::Sink;
 use std::alloc::Global;
 use std::fmt;
 use std::fmt::{Display, Formatter};
-use std::io::Write;
+use std::io::{Stderr, Write};
 
 /// The lines that follow a fault line on standard error. They are gathered, so that one write takes them
 /// all.
@@ -31,7 +31,7 @@ impl Message {
     }
 
     /// Writes all lines. That they can't be written changes nothing.
-    pub(crate) fn tell<W: WriteDevice>(&self, errors: &mut Sink<W>) {
+    pub(crate) fn tell(&self, errors: &mut Sink<Stderr>) {
         let _ = errors.write_all(self.text.as_slice());
     }
 }

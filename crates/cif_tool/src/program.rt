@@ -7,12 +7,10 @@ use crate::feeds::feed_task;
 use crate::job::{Call, Job, JobFault, Task};
 use crate::status::{USAGE_ERROR, end};
 use crate::words::task_of;
-use cif_columns::{Sink, Source, WriteDevice};
+use cif_columns::{Sink, Source};
 use cif_extract::Fault;
-use std::env::Env;
-use std::io::ErrorKind;
+use std::io::{ErrorKind, Stderr};
 use std::mem::ManuallyDrop;
-use std::rt::Files;
 use std::{env, io};
 
 const NOT_TEXT: &str =
@@ -20,8 +18,8 @@ const NOT_TEXT: &str =
 
 /// Does what the words of the process ask for, and returns the status to exit with. Fault lines go
 /// to `errors`; that one can't be written changes no status.
-pub fn run<R: Env + Files + Input + Print + AllocGlobal, E: Print>(rt: &R, errors: &E) -> u8 {
-    let mut errors = Sink::new(io::writer(errors));
+pub fn run(rt: &HostRuntime) -> u8 {
+    let mut errors = Sink::new(rt.stderr());
     match words_of(rt) {
         Ok(words) => run_words(rt, words, &mut errors),
         Err(error) => {
@@ -36,11 +34,7 @@ pub fn run<R: Env + Files + Input + Print + AllocGlobal, E: Print>(rt: &R, error
 }
 
 /// Does what these words ask for, and returns the status to exit with.
-fn run_words<R: Env + Files + Input + Print + AllocGlobal, W: WriteDevice>(
-    rt: &R,
-    words: Vec<String>,
-    errors: &mut Sink<W>,
-) -> u8 {
+fn run_words(rt: &HostRuntime, words: Vec<String>, errors: &mut Sink<Stderr>) -> u8 {
     match task_of(rt.alloc(), words) {
         Ok(call) => match &call.task {
             Task::Extract(job) => done(rt, job, &call, errors),
@@ -54,13 +48,9 @@ fn run_words<R: Env + Files + Input + Print + AllocGlobal, W: WriteDevice>(
 /// `errors`.
 // Inlined, it would keep its faults on the stack while the task is done.
 #[inline(never)]
-fn refused<R: Env + Print + AllocGlobal, W: WriteDevice>(
-    rt: &R,
-    fault: JobFault,
-    errors: &mut Sink<W>,
-) -> u8 {
+fn refused(rt: &HostRuntime, fault: JobFault, errors: &mut Sink<Stderr>) -> u8 {
     let alloc = rt.alloc();
-    let explained = match buffered(alloc, io::writer(rt)) {
+    let explained = match buffered(alloc, rt.stdout()) {
         Ok(mut output) => fault.explain(alloc, &mut output, errors),
         Err(fault) => Err(fault),
     };
@@ -72,19 +62,14 @@ fn refused<R: Env + Print + AllocGlobal, W: WriteDevice>(
 }
 
 /// The words of the process, the program's name first. One that is no text fails them all.
-fn words_of<R: Env + AllocGlobal>(rt: &R) -> io::Result<Vec<String>> {
+fn words_of(rt: &HostRuntime) -> io::Result<Vec<String>> {
     Ok(env::args(rt)?.collect(rt.alloc())?)
 }
 
 /// Answers the job on the standard output, and returns the status to exit with.
 // Inlined, it would keep its inputs on the stack while a feed is read.
 #[inline(never)]
-fn done<R: Files + Input + Print + AllocGlobal, W: WriteDevice>(
-    rt: &R,
-    job: &Job,
-    call: &Call,
-    errors: &mut Sink<W>,
-) -> u8 {
+fn done(rt: &HostRuntime, job: &Job, call: &Call, errors: &mut Sink<Stderr>) -> u8 {
     // Of a job with one input `right` stands for no file, and is never touched.
     let right_file = call.inputs.rest.first().map(String::as_str);
     let (side, right_side) = match right_file {
@@ -97,7 +82,7 @@ fn done<R: Files + Input + Print + AllocGlobal, W: WriteDevice>(
     let mut right = Source::new(ExtractInput::of(rt, right_side, right_file));
     let mut written = Written::new();
     let output = Output {
-        writer: io::writer(rt),
+        writer: rt.stdout(),
         written: &mut written,
     };
     // The process ends after this: the system takes back the memory of all bodies at once.

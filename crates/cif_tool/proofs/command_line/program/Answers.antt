@@ -10,8 +10,7 @@ loop-parts-init c =
     let made = program_made (codes "cif") _ _ c.version.result c.subcommand_required-command.result c.described.ensures
     c.version.ensures c.subcommand_required-command.ensures in
     record {
-      app = ap (with_subcommands c.args.choices.now (app_of c.subcommand_required-command.result)) c.subcommands-parts-items.ensures
-          ∙ ap (λ (a : App). with_subcommands c.args.choices.now a subcommands) made.app;
+      app = ap (λ (a : App). with_subcommands c.args.choices.now a subcommands) made.app;
       local = made.local;
     }
 
