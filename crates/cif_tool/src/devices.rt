@@ -10,9 +10,7 @@ use cif_records::Header;
 use std::alloc::Global;
 use std::fmt::{Display, Formatter};
 use std::fs::{File, OpenFile};
-use std::io::{
-    BufRead, BufReader, BufWriter, Read, Seek, SeekFrom, StdinLock, Stdout, Write,
-};
+use std::io::{BufRead, BufReader, BufWriter, Read, Seek, SeekFrom, StdinLock, Stdout, Write};
 use std::mem::ManuallyDrop;
 use std::{fmt, fs, io};
 

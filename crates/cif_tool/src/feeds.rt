@@ -71,12 +71,7 @@ fn source_of_holidays<'a>(
 /// Writes the prepared extract of the last input, with the holidays of the one before it, if there is one.
 // Inlined, it would keep its inputs on the stack beside those of `update`.
 #[inline(never)]
-fn prepare(
-    rt: &HostRuntime,
-    call: &Call,
-    drop_clashes: bool,
-    errors: &mut Sink<Stderr>,
-) -> u8 {
+fn prepare(rt: &HostRuntime, call: &Call, drop_clashes: bool, errors: &mut Sink<Stderr>) -> u8 {
     let alloc = rt.alloc();
     let mut holidays = source_of_holidays(rt, &call.inputs);
     let file = call.inputs.rest.first().unwrap_or(&call.inputs.first);
@@ -158,12 +153,7 @@ fn add_prepared(
 
 /// Writes what the updates make of the full extract, the first input.
 #[inline(never)]
-fn update(
-    rt: &HostRuntime,
-    call: &Call,
-    lenient: bool,
-    errors: &mut Sink<Stderr>,
-) -> u8 {
+fn update(rt: &HostRuntime, call: &Call, lenient: bool, errors: &mut Sink<Stderr>) -> u8 {
     let alloc = rt.alloc();
     let InputNames { first, rest } = &call.inputs;
     let Ok(mut sources) = sources_of(rt, ("FULL", first), ("UPDATE", rest.as_slice())) else {
@@ -209,9 +199,7 @@ fn update(
 }
 
 /// The input that was read last, if one was.
-fn last_touched<'s, 'a>(
-    sources: &'s [Source<ExtractInput<'a>>],
-) -> Option<&'s ExtractInput<'a>> {
+fn last_touched<'s, 'a>(sources: &'s [Source<ExtractInput<'a>>]) -> Option<&'s ExtractInput<'a>> {
     let mut last = None;
     for source in sources {
         if source.reader().is_touched() {
@@ -222,11 +210,7 @@ fn last_touched<'s, 'a>(
 }
 
 /// Adds what was read of the full extract, and what each update did.
-fn add_updated(
-    sources: &[Source<ExtractInput<'_>>],
-    kept: &KeptUpdate,
-    message: &mut Message,
-) {
+fn add_updated(sources: &[Source<ExtractInput<'_>>], kept: &KeptUpdate, message: &mut Message) {
     if let Some((full, updates)) = sources.split_first()
         && let Some(read) = &kept.full
     {
@@ -240,11 +224,7 @@ fn add_updated(
 }
 
 /// Adds what an update did, and which of its lines were waived.
-fn add_done(
-    input: &ExtractInput<'_>,
-    done: &DoneUpdate,
-    message: &mut Message,
-) {
+fn add_done(input: &ExtractInput<'_>, done: &DoneUpdate, message: &mut Message) {
     let outcome = &done.outcome;
     let counts = &outcome.counts;
     let read = ReadFeed {
@@ -266,12 +246,7 @@ fn add_done(
 }
 
 /// Adds the references of an update that doesn't follow the extract that those before it have left.
-fn add_references(
-    input: &ExtractInput<'_>,
-    line: u64,
-    kept: &KeptUpdate,
-    message: &mut Message,
-) {
+fn add_references(input: &ExtractInput<'_>, line: u64, kept: &KeptUpdate, message: &mut Message) {
     let before = match kept.done.last() {
         Some(done) => Some(&done.header),
         None => kept.full.as_ref().map(|full| &full.header),
