@@ -21,7 +21,7 @@ const START: usize = LINE_WIDTH + 2;
 /// be opened is one that can't be read.
 #[derive(Drop)]
 pub(crate) struct ExtractInput<'a> {
-    rt: &'a HostRuntime,
+    rt: HostRuntime,
     /// What the user knows it by: of several inputs which one it is, as `LEFT`, and the file's name.
     side: &'static str,
     name: &'a str,
@@ -46,7 +46,7 @@ enum Device {
 
 impl<'a> ExtractInput<'a> {
     /// The file of this name, or the standard input where there is none or it is `-`.
-    pub(crate) fn of(rt: &'a HostRuntime, side: &'static str, file: Option<&'a str>) -> Self {
+    pub(crate) fn of(rt: HostRuntime, side: &'static str, file: Option<&'a str>) -> Self {
         ExtractInput {
             rt,
             side,
@@ -113,7 +113,7 @@ impl<'a> ExtractInput<'a> {
     /// it.
     fn again(&self) -> Option<File> {
         match &self.device {
-            Device::Ended => fs::open(self.rt, self.name).ok()?.try_clone().ok(),
+            Device::Ended => fs::open(&self.rt, self.name).ok()?.try_clone().ok(),
             Device::Opened(file) => {
                 let mut file = file.try_clone().ok()?;
                 file.seek(SeekFrom::Start(0)).ok()?;
@@ -143,7 +143,7 @@ impl Display for ExtractInput<'_> {
 impl Device {
     /// Reads as `Read` does, and touches the input first if it hasn't been touched: the file of this name, or the
     /// standard input.
-    fn read(&mut self, rt: &HostRuntime, name: &str, buf: &mut [u8]) -> io::Result<usize>
+    fn read(&mut self, rt: HostRuntime, name: &str, buf: &mut [u8]) -> io::Result<usize>
         ensures { ReadsAtMost result buf.new }
     {
         match self {
@@ -162,7 +162,7 @@ impl Device {
             Device::Unlocked => self.read_standard(rt, buf),
             Device::Closed => {
                 // A copy never has the descriptor of a standard stream, of which one may be closed.
-                let mut file = fs::open(rt, name)?.try_clone()?;
+                let mut file = fs::open(&rt, name)?.try_clone()?;
                 let count = file.read(buf);
                 *self = Device::Opened(file);
                 count
@@ -173,7 +173,7 @@ impl Device {
     /// Reads the standard input first.
     // Inlined, it would keep some kilobytes on the stack of each read.
     #[inline(never)]
-    fn read_standard(&mut self, rt: &HostRuntime, buf: &mut [u8]) -> io::Result<usize>
+    fn read_standard(&mut self, rt: HostRuntime, buf: &mut [u8]) -> io::Result<usize>
         ensures { ReadsAtMost result buf.new }
     {
         let mut reader = rt.reader();

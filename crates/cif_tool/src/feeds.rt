@@ -18,7 +18,7 @@ use std::mem::ManuallyDrop;
 // Inlined, it would keep its inputs on the stack while an extract is read.
 #[inline(never)]
 pub(crate) fn feed_task(
-    rt: &HostRuntime,
+    rt: HostRuntime,
     job: &FeedJob,
     call: &Call,
     errors: &mut Sink<Stderr>,
@@ -33,27 +33,11 @@ pub(crate) fn feed_task(
 // Inlined, it would keep a second input on the stack of its caller, and each is some kilobytes large.
 #[inline(never)]
 fn source_of<'a>(
-    rt: &'a HostRuntime,
+    rt: HostRuntime,
     side: &'static str,
     name: &'a String,
 ) -> Source<ExtractInput<'a>> {
     Source::new(ExtractInput::of(rt, side, Some(name.as_str())))
-}
-
-/// The first input, and the others, each with what it is called.
-// Inlined, it would keep copies of inputs on the stack of its caller.
-#[inline(never)]
-fn sources_of<'a>(
-    rt: &'a HostRuntime,
-    first: (&'static str, &'a String),
-    others: (&'static str, &'a [String]),
-) -> Result<Vec<Source<ExtractInput<'a>>>, AllocError> {
-    let mut sources = Vec::new(rt.alloc());
-    sources.push(source_of(rt, first.0, first.1))?;
-    for name in others.1 {
-        sources.push(source_of(rt, others.0, name))?;
-    }
-    Ok(sources)
 }
 
 // ---- prepare
@@ -61,7 +45,7 @@ fn sources_of<'a>(
 /// The holidays, the input before the extract, if there is one.
 #[inline(never)]
 fn source_of_holidays<'a>(
-    rt: &'a HostRuntime,
+    rt: HostRuntime,
     inputs: &'a InputNames,
 ) -> Option<Source<ExtractInput<'a>>> {
     inputs.rest.first()?;
@@ -71,13 +55,11 @@ fn source_of_holidays<'a>(
 /// Writes the prepared extract of the last input, with the holidays of the one before it, if there is one.
 // Inlined, it would keep its inputs on the stack beside those of `update`.
 #[inline(never)]
-fn prepare(rt: &HostRuntime, call: &Call, drop_clashes: bool, errors: &mut Sink<Stderr>) -> u8 {
+fn prepare(rt: HostRuntime, call: &Call, drop_clashes: bool, errors: &mut Sink<Stderr>) -> u8 {
     let alloc = rt.alloc();
     let mut holidays = source_of_holidays(rt, &call.inputs);
     let file = call.inputs.rest.first().unwrap_or(&call.inputs.first);
-    let Ok(mut sources) = sources_of(rt, ("", file), ("", &[])) else {
-        return end_prepare(&Err(FeedFault::Extract(Fault::Memory)), errors);
-    };
+    let mut source = source_of(rt, "", file);
     let mut written = Written::new();
     let output = Output {
         writer: rt.stdout(),
@@ -89,19 +71,14 @@ fn prepare(rt: &HostRuntime, call: &Call, drop_clashes: bool, errors: &mut Sink<
         holidays: None,
     });
     let answer = match buffered(alloc, output) {
-        Ok(mut output) => match sources.first_mut() {
-            Some(source) => {
-                answer_prepare(
-                    alloc,
-                    &mut holidays,
-                    source,
-                    &mut output,
-                    drop_clashes,
-                    &mut kept,
-                )
-            }
-            None => Err(FeedFault::Extract(Fault::Memory)),
-        },
+        Ok(mut output) => answer_prepare(
+            alloc,
+            &mut holidays,
+            &mut source,
+            &mut output,
+            drop_clashes,
+            &mut kept,
+        ),
         Err(fault) => Err(FeedFault::Extract(fault)),
     };
     let status = end_prepare(&answer, errors);
@@ -110,16 +87,16 @@ fn prepare(rt: &HostRuntime, call: &Call, drop_clashes: bool, errors: &mut Sink<
         match &answer {
             Ok(dropped) => {
                 let clashing = drop_clashes.then_some(dropped.records);
-                if let Some(source) = sources.first() {
-                    add_prepared(source.reader(), &kept, clashing, &mut message);
-                }
+                add_prepared(source.reader(), &kept, clashing, &mut message);
             }
-            Err(fault) => {
-                let holidays = holidays.as_ref().map(Source::reader);
-                if let Some(input) = last_touched(sources.as_slice()).or(holidays) {
+            Err(fault) => match holidays.as_ref().map(Source::reader) {
+                Some(input) if !source.reader().is_touched() => {
                     input.add_feed_fault(fault, &written, &mut message);
                 }
-            }
+                _ => source
+                    .reader()
+                    .add_feed_fault(fault, &written, &mut message),
+            },
         }
         message.tell(errors);
     }
@@ -151,12 +128,26 @@ fn add_prepared(
 
 // ---- update
 
+/// The full extract, and the updates.
+// Inlined, it would keep copies of inputs on the stack of its caller.
+#[inline(never)]
+fn sources_of<'a>(
+    rt: HostRuntime,
+    inputs: &'a InputNames,
+) -> Result<Vec<Source<ExtractInput<'a>>>, AllocError> {
+    let mut sources = Vec::new(rt.alloc());
+    sources.push(source_of(rt, "FULL", &inputs.first))?;
+    for name in &inputs.rest {
+        sources.push(source_of(rt, "UPDATE", name))?;
+    }
+    Ok(sources)
+}
+
 /// Writes what the updates make of the full extract, the first input.
 #[inline(never)]
-fn update(rt: &HostRuntime, call: &Call, lenient: bool, errors: &mut Sink<Stderr>) -> u8 {
+fn update(rt: HostRuntime, call: &Call, lenient: bool, errors: &mut Sink<Stderr>) -> u8 {
     let alloc = rt.alloc();
-    let InputNames { first, rest } = &call.inputs;
-    let Ok(mut sources) = sources_of(rt, ("FULL", first), ("UPDATE", rest.as_slice())) else {
+    let Ok(mut sources) = sources_of(rt, &call.inputs) else {
         return end_update(&Err(FeedFault::Extract(Fault::Memory)), &[], errors);
     };
     let mut written = Written::new();

@@ -18,7 +18,7 @@ const NOT_TEXT: &str =
 
 /// Does what the words of the process ask for, and returns the status to exit with. Fault lines go
 /// to `errors`; that one can't be written changes no status.
-pub fn run(rt: &HostRuntime) -> u8 {
+pub fn run(rt: HostRuntime) -> u8 {
     let mut errors = Sink::new(rt.stderr());
     match words_of(rt) {
         Ok(words) => run_words(rt, words, &mut errors),
@@ -34,7 +34,7 @@ pub fn run(rt: &HostRuntime) -> u8 {
 }
 
 /// Does what these words ask for, and returns the status to exit with.
-fn run_words(rt: &HostRuntime, words: Vec<String>, errors: &mut Sink<Stderr>) -> u8 {
+fn run_words(rt: HostRuntime, words: Vec<String>, errors: &mut Sink<Stderr>) -> u8 {
     match task_of(rt.alloc(), words) {
         Ok(call) => match &call.task {
             Task::Extract(job) => done(rt, job, &call, errors),
@@ -48,7 +48,7 @@ fn run_words(rt: &HostRuntime, words: Vec<String>, errors: &mut Sink<Stderr>) ->
 /// `errors`.
 // Inlined, it would keep its faults on the stack while the task is done.
 #[inline(never)]
-fn refused(rt: &HostRuntime, fault: JobFault, errors: &mut Sink<Stderr>) -> u8 {
+fn refused(rt: HostRuntime, fault: JobFault, errors: &mut Sink<Stderr>) -> u8 {
     let alloc = rt.alloc();
     let explained = match buffered(alloc, rt.stdout()) {
         Ok(mut output) => fault.explain(alloc, &mut output, errors),
@@ -62,14 +62,14 @@ fn refused(rt: &HostRuntime, fault: JobFault, errors: &mut Sink<Stderr>) -> u8 {
 }
 
 /// The words of the process, the program's name first. One that is no text fails them all.
-fn words_of(rt: &HostRuntime) -> io::Result<Vec<String>> {
-    Ok(env::args(rt)?.collect(rt.alloc())?)
+fn words_of(rt: HostRuntime) -> io::Result<Vec<String>> {
+    Ok(env::args(&rt)?.collect(rt.alloc())?)
 }
 
 /// Answers the job on the standard output, and returns the status to exit with.
 // Inlined, it would keep its inputs on the stack while a feed is read.
 #[inline(never)]
-fn done(rt: &HostRuntime, job: &Job, call: &Call, errors: &mut Sink<Stderr>) -> u8 {
+fn done(rt: HostRuntime, job: &Job, call: &Call, errors: &mut Sink<Stderr>) -> u8 {
     // Of a job with one input `right` stands for no file, and is never touched.
     let right_file = call.inputs.rest.first().map(String::as_str);
     let (side, right_side) = match right_file {
