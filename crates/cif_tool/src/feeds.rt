@@ -52,6 +52,15 @@ fn source_of_holidays<'a>(
     Some(source_of(rt, "holidays", &inputs.first))
 }
 
+/// The extract, on the heap, since a small stack has no room for it beside the holidays.
+#[inline(never)]
+fn boxed_source<'a>(
+    rt: HostRuntime,
+    name: &'a String,
+) -> Result<Box<Source<ExtractInput<'a>>>, AllocError> {
+    Ok(Box::new(rt.alloc(), source_of(rt, "", name))?)
+}
+
 /// Writes the prepared extract of the last input, with the holidays of the one before it, if there is one.
 // Inlined, it would keep its inputs on the stack beside those of `update`.
 #[inline(never)]
@@ -59,7 +68,9 @@ fn prepare(rt: HostRuntime, call: &Call, drop_clashes: bool, errors: &mut Sink<S
     let alloc = rt.alloc();
     let mut holidays = source_of_holidays(rt, &call.inputs);
     let file = call.inputs.rest.first().unwrap_or(&call.inputs.first);
-    let mut source = source_of(rt, "", file);
+    let Ok(mut source) = boxed_source(rt, file) else {
+        return end_prepare(&Err(FeedFault::Extract(Fault::Memory)), errors);
+    };
     let mut written = Written::new();
     let output = Output {
         writer: rt.stdout(),
@@ -74,7 +85,7 @@ fn prepare(rt: HostRuntime, call: &Call, drop_clashes: bool, errors: &mut Sink<S
         Ok(mut output) => answer_prepare(
             alloc,
             &mut holidays,
-            &mut source,
+            &mut *source,
             &mut output,
             drop_clashes,
             &mut kept,
