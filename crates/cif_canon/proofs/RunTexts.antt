@@ -1,5 +1,5 @@
 -- What is written of a run is the text of its record.
-use Rattle.cif_canon.proofs.Names.{All, BodyLines, HasRecord, IsRunOf, List, None, Option, Permanent, Run, Schedule, Some, Terms, ap, arith}
+use Rattle.cif_canon.proofs.Names.{BodyLines, HasRecord, IsRunOf, List, None, Option, Permanent, Run, Schedule, Some, Terms, ap, arith}
 use Rattle.cif_canon.proofs.Names.{get_or, length, length-map, map, option_and_then, option_and_then_some, option_map, record_at, record_of}
 use Rattle.cif_canon.proofs.Names.{refl, run_text, same_Some, schedule_entries, schedule_entry, slice_get, slice_get_read, slice_get_within}
 use Rattle.cif_canon.proofs.Names.{subst, sym, terms_at, text_if, ℕ, ◌<◌, ◌∙◌, ◌≡◌, ◌≤◌}
@@ -25,15 +25,6 @@ record-within {X} {K} {B} entry xs run h =
     option_and_then_some (λ (e : K × Terms B). option_map (λ b. (e.0, record_of run b)) e.1.body) (slice_get (map entry xs) run.source) h.it
     h.is (λ e at is. let below = slice_get_within (map entry xs) run.source e at in let same = length-map xs entry in
     (omega (arith, below, same)))
-
-pub sources-within : {X K B : Type 0} (entry : X → K × Terms B) (xs : List X) (runs : List Run) → All (HasRecord (map entry xs)) runs →
-    All (λ (run : Run). run.source < length xs) runs
-sources-within entry xs runs h n run below = record-within entry xs (get_or runs n run) (h n run below)
-
--- runs that are given as slices
-pub sources-slices : {X K B : Type 0} (entry : X → K × Terms B) (xs us : List X) (runs more : List Run) → us ≡ xs → more ≡ runs →
-    All (HasRecord (map entry xs)) runs → All (λ (run : Run). run.source < length us) more × All (HasRecord (map entry us)) more
-sources-slices entry xs us runs more e f h = rw (e, f) (sources-within entry xs runs h, h)
 
 -- the text of a run, by the value that stands at its source
 pub run-text : {X K B : Type 0} (entry : X → K × Terms B) (xs : List X) (run : Run) (x : X) (b : B)

@@ -1,10 +1,9 @@
 -- The records of runs with their sides, and their text.
 use Rattle.cif_canon.proofs.Names.{All, All-cons, All-head, All-nil, All-tail, AllZip, AreNone, AssocBody, AssocKey, BodyLines, Bool}
-use Rattle.cif_canon.proofs.Names.{HasRecord, HasSidedRecord, IsSidedRunOf, IsTrue, List, None, Option, Permanent, Run, Side, Sided, Some}
-use Rattle.cif_canon.proofs.Names.{Terms, Tiploc, [], ap, at_side, flat_map, get_or, length, map, nil_from_length, record_at, refl}
-use Rattle.cif_canon.proofs.Names.{sided_records, sided_run_text, subst, sym, text_if, with_record, ℕ, ◌++◌, ◌<◌, ◌↔◌, ◌∙◌, ◌∷◌, ◌≡◌, ◌≤◌}
-use Rattle.cif_canon.proofs.MergedSides.{at_side-made}
-use Rattle.cif_canon.proofs.RunTexts.{record-of_run, record-within}
+use Rattle.cif_canon.proofs.Names.{HasSidedRecord, IsSidedRunOf, IsTrue, List, None, Option, Permanent, Run, Side, Sided, Some}
+use Rattle.cif_canon.proofs.Names.{Terms, Tiploc, [], ap, at_side, flat_map, length, nil_from_length, record_at, refl}
+use Rattle.cif_canon.proofs.Names.{sided_records, sided_run_text, sym, text_if, with_record, ℕ, ◌++◌, ◌↔◌, ◌∙◌, ◌∷◌, ◌≡◌, ◌≤◌}
+use Rattle.cif_canon.proofs.RunTexts.{record-of_run}
 
 module _ {K B : Type 0} (xs ys : List (K × Terms B)) where
   -- the text of a list of runs is that of their records
@@ -50,22 +49,6 @@ module _ {K B : Type 0} (xs ys : List (K × Terms B)) where
       let there = All-head (HasSidedRecord xs ys) s runs all in
       absurd (let no : (record { side = s.side; it = there.it }) ∷ sided_records xs ys runs ≡ [] =
       sym (ap (λ o. with_record s.side o (sided_records xs ys runs)) there.is) ∙ h in cc)
-
--- the source of a run with a record is a position of its side
-module _ {X K B : Type 0} (entry : X → K × Terms B) (xs ys : List X) where
-  pub sided-within : (runs : List (Sided Run)) → All (HasSidedRecord (map entry xs) (map entry ys)) runs →
-      All (λ (run : Sided Run). run.it.source < length (at_side xs ys run.side)) runs
-  sided-within runs h n run below =
-      let s = get_or runs n run in
-      record-within entry (at_side xs ys s.side) s.it
-      (subst (λ es. HasRecord es s.it) (at_side-made (λ (es : List X). map entry es) xs ys s.side) (h n run below))
-
-  -- runs that are given as slices
-  pub sided-slices : (us vs : List X) (runs more : List (Sided Run)) → us ≡ xs → vs ≡ ys → more ≡ runs →
-      All (HasSidedRecord (map entry xs) (map entry ys)) runs →
-      All (λ (run : Sided Run). run.it.source < length (at_side us vs run.side)) more
-      × All (HasSidedRecord (map entry us) (map entry vs)) more
-  sided-slices us vs runs more e f g h = rw (e, f, g) (sided-within runs h, h)
 
 -- no location and no run are no difference
 pub none-listed : (tiplocs : List (Sided Tiploc)) (xa ya : List (AssocKey × Terms AssocBody)) (ra : List (Sided Run)) →

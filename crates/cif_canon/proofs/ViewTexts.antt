@@ -2,11 +2,10 @@
 use Rattle.cif_canon.proofs.Names.{All, AreCanonicalRecords, AssocBody, AssocKey, BodyLines, DayTexts, Err, ExtractParts, Fault, Form}
 use Rattle.cif_canon.proofs.Names.{HasRecord, IfWritten, IsDayListed, IsTrainListed, IsWithin, List, Ok, Ordering, Permanent, Result, Run}
 use Rattle.cif_canon.proofs.Names.{Terms, TrainTexts, Window, Write, ap, applies_on, association_entries, canonical-dated, flat_map}
-use Rattle.cif_canon.proofs.Names.{header_window, key_cmp, length, listed_of, listed_on, map, nat_cmp, nat_eq, nat_list_cmp_total}
-use Rattle.cif_canon.proofs.Names.{pointwise, run_text, schedule_entries, slice_cmp, ℕ, ◌++◌, ◌<◌, ◌∙◌, ◌≡◌}
+use Rattle.cif_canon.proofs.Names.{header_window, key_cmp, listed_of, listed_on, map, nat_cmp, nat_eq, nat_list_cmp_total}
+use Rattle.cif_canon.proofs.Names.{pointwise, run_text, schedule_entries, slice_cmp, ℕ, ◌++◌, ◌∙◌, ◌≡◌}
 use Rattle.cif_canon.proofs.CanonTexts.{have-records, texts-of_runs}
 use Rattle.cif_canon.proofs.ChosenRecords.{chosen-text}
-use Rattle.cif_canon.proofs.RunTexts.{sources-slices}
 use Rattle.cif_canon.proofs.RunningRecords.{applying, bodied, own, own-are, own-rising, running}
 
 -- an answer that a text was written, or a prefix of it
@@ -21,12 +20,12 @@ pub sliced : {X K B : Type 0} (text : K × Permanent B → List ℕ) (entry : X 
 sliced text entry xs ys runs rs same is =
     ap (λ zs. flat_map (run_text text (map entry zs)) runs) same ∙ ap (flat_map (run_text text (map entry ys))) is
 
--- the runs of a slice's canonical records have their sources and their records
+-- the runs of a slice's canonical records have their records
 pub have-lines : {X K B : Type 0} (cmp : K → K → Ordering) (form : Form) (window : Window) (entry : X → K × Terms B) (xs ys : List X)
     (runs own : List Run) → xs ≡ ys → runs ≡ own → AreCanonicalRecords cmp form window (map entry ys) own →
-    All (λ (run : Run). run.source < length xs) runs × All (HasRecord (map entry xs)) runs
+    All (HasRecord (map entry xs)) runs
 have-lines cmp form window entry xs ys runs own same is a =
-    sources-slices entry ys xs own runs same is
+    rw (same, is)
     (have-records (map entry ys) own a.records a.runs_of (canonical-dated cmp form window a.records a.canonical))
 
 -- what is listed of the associations' runs on a day, and of the trains'

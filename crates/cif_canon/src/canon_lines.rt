@@ -1,5 +1,5 @@
 //! The lines of a canonical form, one by one.
-ghost use Rattle.std.specs.Prelude.{◌≡◌, ◌<◌, All, length, map};
+ghost use Rattle.std.specs.Prelude.{◌≡◌, All, map};
 ghost use Rattle.std.specs.List.{enumerate_from, flat_map};
 ghost use Rattle.cif_calendar.specs.Entries.{schedule_entries};
 ghost use Rattle.cif_canon.specs.Appended.{IsAppended};
@@ -118,8 +118,7 @@ fn list_runs<L: CanonListing, W: WriteDevice>(
     runs: &[Run],
     sink: &mut Sink<W>,
 )
-    requires within { All (λ run. run.source < length schedules.now) runs.now }
-    requires records { All (HasRecord (schedule_entries schedules.now)) runs.now }
+    requires { All (HasRecord (schedule_entries schedules.now)) runs.now }
     ensures { IsAppended W.contents W.write_errors
         (flat_map (numbered_text (L.schedule_text listing.now) (schedule_entries schedules.now)) (enumerate_from 1 runs.now))
         sink.old sink.new }

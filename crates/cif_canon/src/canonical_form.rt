@@ -160,8 +160,7 @@ pub(crate) fn record_of<'a, E: Entry>(
     entries: &'a [E],
     run: &'a Run,
 ) -> CanonRecord<'a, E::Key, E::Body>
-    requires within { run.now.source < length entries.now }
-    requires record { HasRecord (keyed E.key E.terms entries.now) run.now }
+    requires { HasRecord (keyed E.key E.terms entries.now) run.now }
     ensures { record_at (keyed E.key E.terms entries.now) run.now ≡ Some result }
 {
     let entry = &entries[run.source];
@@ -217,8 +216,7 @@ pub(crate) fn write_runs<'a, E: Entry, L: Texts<CanonRecord<'a, E::Key, E::Body>
     runs: &'a [Run],
     sink: &mut Sink<W>,
 )
-    requires within { All (λ run. run.source < length entries.now) runs.now }
-    requires records { All (HasRecord (keyed E.key E.terms entries.now)) runs.now }
+    requires { All (HasRecord (keyed E.key E.terms entries.now)) runs.now }
     ensures { IsAppended W.contents W.write_errors
         (flat_map (run_text (L.text texts.now) (keyed E.key E.terms entries.now)) runs.now)
         sink.old sink.new }
@@ -232,8 +230,7 @@ pub(crate) fn write_runs<'a, E: Entry, L: Texts<CanonRecord<'a, E::Key, E::Body>
 // Inlined, it would keep the text of a body, 5 KiB, on the stack while the extract is read.
 #[inline(never)]
 fn write_schedules<W: WriteDevice>(schedules: &[Schedule], runs: &[Run], sink: &mut Sink<W>)
-    requires within { All (λ run. run.source < length schedules.now) runs.now }
-    requires records { All (HasRecord (schedule_entries schedules.now)) runs.now }
+    requires { All (HasRecord (schedule_entries schedules.now)) runs.now }
     ensures { IsAppended W.contents W.write_errors
         (flat_map (schedule_run_text (schedule_entries schedules.now)) runs.now) sink.old sink.new }
 {
@@ -252,8 +249,7 @@ fn write_schedules<W: WriteDevice>(schedules: &[Schedule], runs: &[Run], sink: &
 
 /// The body of the run's schedule.
 pub(crate) fn body_of<'a>(schedules: &'a [Schedule], run: &Run) -> &'a Body
-    requires within { run.now.source < length schedules.now }
-    requires record { HasRecord (schedule_entries schedules.now) run.now }
+    requires { HasRecord (schedule_entries schedules.now) run.now }
     ensures { body_at schedules.now run.now.source ≡ Some result.now }
 {
     match &schedules[run.source].body {
@@ -264,7 +260,6 @@ pub(crate) fn body_of<'a>(schedules: &'a [Schedule], run: &Run) -> &'a Body
 
 /// Looks at the bodies of the schedules of the next runs, `AT_ONCE` of them, each time that as many are passed.
 pub(crate) fn look_ahead_at(schedules: &[Schedule], runs: &[Run], at: usize)
-    requires within { All (λ run. run.source < length schedules.now) runs.now }
     requires records { All (HasRecord (schedule_entries schedules.now)) runs.now }
     requires position { at < length runs.now }
 {
@@ -276,8 +271,7 @@ pub(crate) fn look_ahead_at(schedules: &[Schedule], runs: &[Run], at: usize)
 /// Looks at the bodies of the runs' schedules. Where a body lies is known once its schedule has come from memory:
 /// so all schedules come first.
 fn look_ahead(schedules: &[Schedule], runs: &[Run])
-    requires within { All (λ run. run.source < length schedules.now) runs.now }
-    requires records { All (HasRecord (schedule_entries schedules.now)) runs.now }
+    requires { All (HasRecord (schedule_entries schedules.now)) runs.now }
 {
     for run in runs {
         let _ = body_of(schedules, run);
@@ -298,7 +292,6 @@ fn set_body<'a>(
     source: &mut usize,
     writer: &mut ScheduleWriter<'a>,
 )
-    requires within { run.now.source < length schedules.now }
     requires record { HasRecord (schedule_entries schedules.now) run.now }
     requires body { body_at schedules.now source.old ≡ Some writer.old }
     ensures source { source.new ≡ run.now.source }

@@ -77,8 +77,7 @@ pub(crate) fn sided_record<'a, E: Entry>(
     right: &'a [E],
     run: &'a Sided<Run>,
 ) -> CanonRecord<'a, E::Key, E::Body>
-    requires within { run.now.it.source < length (at_side left.now right.now run.now.side) }
-    requires record { HasSidedRecord (keyed E.key E.terms left.now) (keyed E.key E.terms right.now) run.now }
+    requires { HasSidedRecord (keyed E.key E.terms left.now) (keyed E.key E.terms right.now) run.now }
     ensures { record_at (at_side (keyed E.key E.terms left.now) (keyed E.key E.terms right.now) run.now.side) run.now.it
         ≡ Some result }
 {
@@ -180,8 +179,7 @@ fn write_sided_runs<
     L: Texts<Sided<CanonRecord<'a, E::Key, E::Body>>>,
     W: WriteDevice,
 >(texts: &L, left: &'a [E], right: &'a [E], runs: &'a [Sided<Run>], sink: &mut Sink<W>)
-    requires within { All (λ run. run.it.source < length (at_side left.now right.now run.side)) runs.now }
-    requires records { All (HasSidedRecord (keyed E.key E.terms left.now) (keyed E.key E.terms right.now)) runs.now }
+    requires { All (HasSidedRecord (keyed E.key E.terms left.now) (keyed E.key E.terms right.now)) runs.now }
     ensures { IsAppended W.contents W.write_errors
         (flat_map (sided_run_text (L.text texts.now) (keyed E.key E.terms left.now) (keyed E.key E.terms right.now)) runs.now)
         sink.old sink.new }

@@ -78,8 +78,7 @@ fn write_pairs<'a, E: Entry, L: Texts<ListedRecord<'a, E::Key, E::Body>>, W: Wri
     runs: &'a [Sided<Run>],
     sink: &mut Sink<W>,
 )
-    requires within { All (λ run. run.it.source < length (at_side left.now right.now run.side)) runs.now }
-    requires records { All (HasSidedRecord (keyed E.key E.terms left.now) (keyed E.key E.terms right.now)) runs.now }
+    requires { All (HasSidedRecord (keyed E.key E.terms left.now) (keyed E.key E.terms right.now)) runs.now }
     ensures { IsAppended W.contents W.write_errors
         (flat_map (L.text texts.now) (by_pairs E.Key.cmp
         (sided_records (keyed E.key E.terms left.now) (keyed E.key E.terms right.now) runs.now)))
@@ -100,7 +99,6 @@ fn first_listed<'a, E: Entry>(
     runs: &'a [Sided<Run>],
 ) -> (ListedRecord<'a, E::Key, E::Body>, &'a [Sided<Run>])
     requires some { 0 < length runs.now }
-    requires within { All (λ run. run.it.source < length (at_side left.now right.now run.side)) runs.now }
     requires records { All (HasSidedRecord (keyed E.key E.terms left.now) (keyed E.key E.terms right.now)) runs.now }
     ensures { IsFirstListed E.Key.cmp (keyed E.key E.terms left.now) (keyed E.key E.terms right.now)
         runs.now result.1.now result.0 }
@@ -129,8 +127,7 @@ fn partner<'a, E: Entry>(
     one: &CanonRecord<'_, E::Key, E::Body>,
     later: &'a [Sided<Run>],
 ) -> Option<CanonRecord<'a, E::Key, E::Body>>
-    requires within { All (λ run. run.it.source < length (at_side left.now right.now run.side)) later.now }
-    requires records { All (HasSidedRecord (keyed E.key E.terms left.now) (keyed E.key E.terms right.now)) later.now }
+    requires { All (HasSidedRecord (keyed E.key E.terms left.now) (keyed E.key E.terms right.now)) later.now }
     ensures listed { IsListedFirst E.Key.cmp (keyed E.key E.terms left.now) (keyed E.key E.terms right.now)
         (record { side = side; it = one.now }) result later.now }
     ensures some { IfSome result (λ _. 0 < length later.now) }

@@ -39,15 +39,10 @@ pub record IsTaking (choices : Choices) (whole : App) (rest : List Argument) (c 
   pub app : taking choices (app_of c) rest ≡ whole
   pub local : (out-Command c).has_globals ≡ false
 
--- its first argument
-pub first_taken : (choices : Choices) (a : App) (first : Argument) (rest : List Argument) (made : Command) (r : Arg) (new : Command) →
-    IsCommand a made → rule_of r ≡ argument choices (given first) → r.global ≡ false → AddsArg made r new →
-    IsTaking choices (taking choices a (first ∷ rest)) rest new
-first_taken choices a first rest made r new is rule local added = record {
-  app = ap (λ (b : App). taking choices b rest) (added.shape local ∙ (ap (with_rule (app_of made)) rule
-      ∙ ap (λ (b : App). with_rule b (argument choices (given first))) is.app));
-  local = added.globals ∙ ap₂ (λ x y. x || y) is.local local;
-}
+-- before its first argument
+pub none_taken : (choices : Choices) (a : App) (rest : List Argument) (made : Command) → IsCommand a made →
+    IsTaking choices (taking choices a rest) rest made
+none_taken choices a rest made is = record { app = ap (λ (b : App). taking choices b rest) is.app; local = is.local }
 
 -- one more argument
 pub argument_taken : (choices : Choices) (whole : App) (xs : List Argument) (i : ℕ) → i < length xs → (old : Command) (r : Arg)

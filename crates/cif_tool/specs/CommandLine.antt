@@ -142,13 +142,13 @@ prepare = Verbose ∷ File ∷ Holidays ∷ DropClashes ∷ []
 abbrev pub update : List Argument
 update = Verbose ∷ Full ∷ Updates ∷ Lenient ∷ []
 
--- how the program keeps a subcommand: its name, its help, and what it takes besides `--verbose`
+-- how the program keeps a subcommand: its name, its help, and what it takes
 abbrev pub Parts : Type 0
 Parts = Bor Text × Bor Text × Bor (List Argument)
 
--- its name, and all that it takes
+-- its name, and what it takes
 abbrev pub taken : Parts → Text × List Argument
-taken parts = (parts.0.now, Verbose ∷ parts.2.now)
+taken parts = (parts.0.now, parts.2.now)
 
 -- a program with these subcommands too
 abbrev pub with_subcommands : Choices → App → List (Text × List Argument) → App

@@ -93,7 +93,7 @@ impl Argument {
     }
 }
 
-/// What a subcommand is called, what help says of it, and what it takes besides `--verbose`.
+/// What a subcommand is called, what help says of it, and what it takes.
 type Parts<'a> = (&'a str, &'a str, &'a [Argument]);
 
 /// The words that name a form, those that name a format, and those that name a table.
@@ -190,7 +190,6 @@ fn with_parts<'a>(
 {
     let (name, help, arguments) = *parts;
     let mut subcommand = described(alloc, name, help);
-    subcommand = subcommand.arg(arg_of(alloc, Verbose.given(), choices))?;
     for which in arguments {
         subcommand = subcommand.arg(arg_of(alloc, which.given(), choices))?;
     }
@@ -199,22 +198,22 @@ fn with_parts<'a>(
 
 /// All subcommands, in the order of the help.
 static SUBCOMMANDS: [Parts<'static>; 12] = [
-    ("normalise", help::NORMALISE, &[File, From, To, Form]),
-    ("check", help::CHECK, &[File, From, To, Form, All]),
-    ("compare", help::COMPARE, &[Left, Right, From, To, Common]),
-    ("diff", help::DIFF, &[Left, Right, From, To, Common, Format]),
-    ("day", help::DAY, &[Date, File, Stops, Format]),
+    ("normalise", help::NORMALISE, &[Verbose, File, From, To, Form]),
+    ("check", help::CHECK, &[Verbose, File, From, To, Form, All]),
+    ("compare", help::COMPARE, &[Verbose, Left, Right, From, To, Common]),
+    ("diff", help::DIFF, &[Verbose, Left, Right, From, To, Common, Format]),
+    ("day", help::DAY, &[Verbose, Date, File, Stops, Format]),
     (
         "train",
         help::TRAIN,
-        &[Uid, File, From, To, Form, Stops, Format],
+        &[Verbose, Uid, File, From, To, Form, Stops, Format],
     ),
-    ("explain", help::EXPLAIN, &[Uid, Date, File, Format]),
-    ("clashes", help::CLASHES, &[File, From, To]),
-    ("table", help::TABLE, &[Table, File, From, To, Form]),
-    ("calendar", help::CALENDAR, &[Uid, File, From, To]),
-    ("prepare", help::PREPARE, &[File, Holidays, DropClashes]),
-    ("update", help::UPDATE, &[Full, Updates, Lenient]),
+    ("explain", help::EXPLAIN, &[Verbose, Uid, Date, File, Format]),
+    ("clashes", help::CLASHES, &[Verbose, File, From, To]),
+    ("table", help::TABLE, &[Verbose, Table, File, From, To, Form]),
+    ("calendar", help::CALENDAR, &[Verbose, Uid, File, From, To]),
+    ("prepare", help::PREPARE, &[Verbose, File, Holidays, DropClashes]),
+    ("update", help::UPDATE, &[Verbose, Full, Updates, Lenient]),
 ];
 
 /// The program with its subcommands.

@@ -1,6 +1,6 @@
 -- The text is a fold over runs with their numbers: one more goes behind it (`one-more`). Each run has a record.
-use Rattle.cif_canon.proofs.Names.{HasRecord, Run, ap, arith, enumerate_from, length, length-enumerate_from, numbered_text}
-use Rattle.cif_canon.proofs.Names.{schedule_entries, schedule_plain, subst, sym, text_if, ◌+◌, ◌<◌}
+use Rattle.cif_canon.proofs.Names.{HasRecord, ap, arith, enumerate_from, length-enumerate_from, numbered_text}
+use Rattle.cif_canon.proofs.Names.{schedule_entries, schedule_plain, subst, sym, text_if, ◌+◌}
 use Rattle.cif_canon.proofs.AppendedTexts.{all-items, nothing, one-more, text-is}
 use Rattle.cif_canon.proofs.CanonLines.{at-number}
 use Rattle.cif_canon.proofs.canon_lines.list_runs.Goals as goal
@@ -8,15 +8,10 @@ use Rattle.cif_canon.proofs.canon_lines.list_runs.Goals as goal
 pub loop-at-init : goal.loop-at-init
 loop-at-init g c = nothing _ _ _
 
-pub record_of-requires-clause-within : goal.record_of-requires-clause-within
-record_of-requires-clause-within g c =
-    subst (λ (run : Run). run.source < length c.args.schedules.now) (sym c.index-runs-at.is)
-    (c.requires.within c.loop-at.at c.index-runs-at.result c.loop-at-test.true)
-
-pub record_of-requires-clause-record : goal.record_of-requires-clause-record
-record_of-requires-clause-record g c =
+pub record_of-requires : goal.record_of-requires
+record_of-requires g c =
     subst (HasRecord (schedule_entries c.args.schedules.now)) (sym c.index-runs-at.is)
-    (c.requires.records c.loop-at.at c.index-runs-at.result c.loop-at-test.true)
+    (c.requires c.loop-at.at c.index-runs-at.result c.loop-at-test.true)
 
 pub loop-at-preserved : goal.loop-at-preserved
 loop-at-preserved g c =

@@ -1,5 +1,5 @@
 -- The text is a fold over runs: one more goes behind it (`one-more`); each run has a record.
-use Rattle.cif_canon.proofs.Names.{HasRecord, Run, ap, keyed, length, run_text, subst, sym, text_if, ◌<◌}
+use Rattle.cif_canon.proofs.Names.{HasRecord, ap, keyed, run_text, subst, sym, text_if}
 use Rattle.cif_canon.proofs.AppendedTexts.{all-items, nothing, one-more, text-is}
 use Rattle.cif_canon.proofs.canonical_form.write_runs.Goals as goal
 
@@ -13,15 +13,10 @@ loop-run-preserved g c =
     c.args.runs.now c.loop-run.run-index _ _ c.loop-run.invariant c.run-item.result _ c.loop-run-test.true c.run-item.is
     (text-is _ _ _ _ _ _ (ap (text_if text) (sym c.record_of.ensures)) c.write.ensures)
 
-pub record_of-requires-clause-within : goal.record_of-requires-clause-within
-record_of-requires-clause-within g c =
-    subst (λ (run : Run). run.source < length c.args.entries.now) (sym c.run-item.is)
-    (c.requires.within c.loop-run.run-index c.run-item.result c.loop-run-test.true)
-
-pub record_of-requires-clause-record : goal.record_of-requires-clause-record
-record_of-requires-clause-record g c =
+pub record_of-requires : goal.record_of-requires
+record_of-requires g c =
     subst (HasRecord (keyed g.E.Entry.key g.E.Entry.terms c.args.entries.now)) (sym c.run-item.is)
-    (c.requires.records c.loop-run.run-index c.run-item.result c.loop-run-test.true)
+    (c.requires c.loop-run.run-index c.run-item.result c.loop-run-test.true)
 
 pub returns : goal.returns
 returns g c =

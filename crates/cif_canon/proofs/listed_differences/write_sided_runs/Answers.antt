@@ -1,5 +1,5 @@
 -- The text is a fold over runs: one more goes behind it (`one-more`); each run has a record on its side.
-use Rattle.cif_canon.proofs.Names.{HasSidedRecord, Run, Sided, ap, at_side, keyed, length, sided_run_text, subst, sym, text_if, ◌<◌}
+use Rattle.cif_canon.proofs.Names.{HasSidedRecord, ap, keyed, sided_run_text, subst, sym, text_if}
 use Rattle.cif_canon.proofs.AppendedTexts.{all-items, nothing, one-more, text-is}
 use Rattle.cif_canon.proofs.listed_differences.write_sided_runs.Goals as goal
 
@@ -15,16 +15,11 @@ loop-run-preserved g c =
     (text-is _ _ _ _ _ _ (ap (text_if (λ e. text (record { side = c.run-item.result.side; it = e }))) (sym c.sided_record-record.ensures))
     c.write.ensures)
 
-pub sided_record-record-requires-clause-within : goal.sided_record-record-requires-clause-within
-sided_record-record-requires-clause-within g c =
-    subst (λ (run : Sided Run). run.it.source < length (at_side c.args.left.now c.args.right.now run.side)) (sym c.run-item.is)
-    (c.requires.within c.loop-run.run-index c.run-item.result c.loop-run-test.true)
-
-pub sided_record-record-requires-clause-record : goal.sided_record-record-requires-clause-record
-sided_record-record-requires-clause-record g c =
+pub sided_record-record-requires : goal.sided_record-record-requires
+sided_record-record-requires g c =
     subst (HasSidedRecord (keyed g.E.Entry.key g.E.Entry.terms c.args.left.now) (keyed g.E.Entry.key g.E.Entry.terms c.args.right.now))
     (sym c.run-item.is)
-    (c.requires.records c.loop-run.run-index c.run-item.result c.loop-run-test.true)
+    (c.requires c.loop-run.run-index c.run-item.result c.loop-run-test.true)
 
 pub returns : goal.returns
 returns g c =

@@ -1,22 +1,15 @@
 -- The first run's record is listed with its partner or without one (`pair-first`, `one-first`).
-use Rattle.cif_canon.proofs.Names.{All, All-drop, HasSidedRecord, Run, Sided, at_side, keyed, length, subst, sym, ◌<◌}
+use Rattle.cif_canon.proofs.Names.{All, All-drop, HasSidedRecord, keyed, subst, sym}
 use Rattle.cif_canon.proofs.PairedRecords.{one-first, pair-first, tail-is}
 use Rattle.cif_canon.proofs.pairs.first_listed.Goals as goal
 
-pub sided_record-one-requires-clause-record : goal.sided_record-one-requires-clause-record
-sided_record-one-requires-clause-record g c =
+pub sided_record-one-requires : goal.sided_record-one-requires
+sided_record-one-requires g c =
     subst (HasSidedRecord (keyed g.E.Entry.key g.E.Entry.terms c.args.left.now) (keyed g.E.Entry.key g.E.Entry.terms c.args.right.now))
     (sym c.index-runs-0.is) (c.requires.records 0 c.index-runs-0.result c.requires.some)
 
-pub partner-requires-clause-within : goal.partner-requires-clause-within
-partner-requires-clause-within g c =
-    subst (All (λ (run : Sided Run). run.it.source < length (at_side c.args.left.now c.args.right.now run.side)))
-    (sym (tail-is c.args.runs.now))
-    (All-drop (λ (run : Sided Run). run.it.source < length (at_side c.args.left.now c.args.right.now run.side)) 1 c.args.runs.now
-    c.requires.within)
-
-pub partner-requires-clause-records : goal.partner-requires-clause-records
-partner-requires-clause-records g c =
+pub partner-requires : goal.partner-requires
+partner-requires g c =
     let xs = keyed g.E.Entry.key g.E.Entry.terms c.args.left.now in
     let ys = keyed g.E.Entry.key g.E.Entry.terms c.args.right.now in
     subst (All (HasSidedRecord xs ys)) (sym (tail-is c.args.runs.now))

@@ -3,12 +3,12 @@ use Rattle.cif_canon.proofs.Names.{HasSidedRecord, arith, keyed, nat_tests, subs
 use Rattle.cif_canon.proofs.PairedRecords.{keys-decided, listed-one, listed-pair}
 use Rattle.cif_canon.proofs.pairs.partner.Goals as goal
 
-pub sided_record-other-requires-clause-record : goal.sided_record-other-requires-clause-record
-sided_record-other-requires-clause-record g c =
+pub sided_record-other-requires : goal.sided_record-other-requires
+sided_record-other-requires g c =
     let test = c.if-is_empty.false in
     let told = c.is_empty.ensures in
     subst (HasSidedRecord (keyed g.E.Entry.key g.E.Entry.terms c.args.left.now) (keyed g.E.Entry.key g.E.Entry.terms c.args.right.now))
-    (sym c.index-later-0.is) (c.requires.records 0 c.index-later-0.result (grind (arith, nat_tests, test, told)))
+    (sym c.index-later-0.is) (c.requires 0 c.index-later-0.result (grind (arith, nat_tests, test, told)))
 
 pub returns-then-are_pair-clause-listed : goal.returns-then-are_pair-clause-listed
 returns-then-are_pair-clause-listed g c =

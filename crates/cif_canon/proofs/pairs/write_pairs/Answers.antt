@@ -1,14 +1,13 @@
 -- What is listed first of the rest goes behind what was listed (`behind`).
-use Rattle.cif_canon.proofs.Names.{All, All-drop, HasSidedRecord, Run, Sided, [], ap, append-nil, append_assoc, arith, at_side, by_pairs}
-use Rattle.cif_canon.proofs.Names.{flat_map, keyed, length, nat_tests, nil_from_length, refl, sided_records, subst, sym, ◌++◌, ◌<◌, ◌∙◌}
+use Rattle.cif_canon.proofs.Names.{All, All-drop, HasSidedRecord, [], ap, append-nil, append_assoc, arith, by_pairs}
+use Rattle.cif_canon.proofs.Names.{flat_map, keyed, nat_tests, nil_from_length, refl, sided_records, subst, sym, ◌++◌, ◌∙◌}
 use Rattle.cif_canon.proofs.Names.{◌∷◌, ◌≡◌}
 use Rattle.cif_canon.proofs.AppendedTexts.{behind, nothing, text-is}
 use Rattle.cif_canon.proofs.pairs.write_pairs.Goals as goal
 
 pub loop-rest-init : goal.loop-rest-init
 loop-rest-init g c = record {
-  within = c.requires.within;
-  records = c.requires.records;
+  records = c.requires;
   written = ([], refl, nothing _ _ _);
 }
 
@@ -23,15 +22,11 @@ loop-rest-smaller g c = c.first_listed-first.ensures.fewer
 
 pub loop-rest-preserved : goal.loop-rest-preserved
 loop-rest-preserved g c =
-    let left = c.args.left.now in
-    let right = c.args.right.now in
-    let xs = keyed g.E.Entry.key g.E.Entry.terms left in
-    let ys = keyed g.E.Entry.key g.E.Entry.terms right in
+    let xs = keyed g.E.Entry.key g.E.Entry.terms c.args.left.now in
+    let ys = keyed g.E.Entry.key g.E.Entry.terms c.args.right.now in
     let cmp = g.E.Key.Ord.cmp in
     let f = c.first_listed-first.ensures in
     let (done, split, written) = c.loop-rest.invariant.written in record {
-      within = subst (All (λ (run : Sided Run). run.it.source < length (at_side left right run.side))) (sym f.behind)
-          (All-drop (λ (run : Sided Run). run.it.source < length (at_side left right run.side)) f.count _ c.loop-rest.invariant.within);
       records = subst (All (HasSidedRecord xs ys)) (sym f.behind)
           (All-drop (HasSidedRecord xs ys) f.count _ c.loop-rest.invariant.records);
       written = (

@@ -1,6 +1,6 @@
 -- What is written is the text of what was listed so far, and with what the rest is listed as it is all; each run that is left has a record.
-use Rattle.cif_canon.proofs.Names.{All, HasSidedRecord, IsAppended, List, Listed, Permanent, at_side, by_pairs, flat_map, keyed, length}
-use Rattle.cif_canon.proofs.Names.{sided_records, ◌++◌, ◌<◌, ◌≡◌}
+use Rattle.cif_canon.proofs.Names.{All, HasSidedRecord, IsAppended, List, Listed, Permanent, by_pairs, flat_map, keyed, length}
+use Rattle.cif_canon.proofs.Names.{sided_records, ◌++◌, ◌≡◌}
 use Rattle.cif_canon.proofs.pairs.write_pairs.Given as goal
 
 abbrev pub invariant-loop-rest : goal.invariant-loop-rest
@@ -8,7 +8,6 @@ invariant-loop-rest g l =
     let xs = keyed g.E.Entry.key g.E.Entry.terms l.left in
     let ys = keyed g.E.Entry.key g.E.Entry.terms l.right in
     record {
-      within : All (λ run. run.it.source < length (at_side l.left l.right run.side)) l.rest;
       records : All (HasSidedRecord xs ys) l.rest;
       written : (done : List (Listed (g.row.E-Key.Denot × Permanent g.row.E-Body.Denot)))
           × (by_pairs g.E.Key.Ord.cmp (sided_records xs ys l.runs) ≡ done ++ by_pairs g.E.Key.Ord.cmp (sided_records xs ys l.rest))

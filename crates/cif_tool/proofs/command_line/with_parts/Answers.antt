@@ -1,19 +1,16 @@
 -- One argument after another is taken (`argument_taken`), and then the subcommand is added.
-use Rattle.cif_tool.proofs.Names.{App, IfOk-weaker, Verbose, ap, app_of, ap₂, argument, at_drop_all, sym, taking, with_subcommand, ◌||◌}
+use Rattle.cif_tool.proofs.Names.{App, IfOk-weaker, ap, app_of, ap₂, argument, at_drop_all, sym, taking, with_subcommand, ◌||◌}
 use Rattle.cif_tool.proofs.Names.{◌∙◌}
-use Rattle.cif_tool.proofs.CommandBuilt.{argument_taken, first_taken}
+use Rattle.cif_tool.proofs.CommandBuilt.{argument_taken, none_taken}
 use Rattle.cif_tool.proofs.command_line.with_parts.Goals as goal
 
 pub loop-which-init : goal.loop-which-init
-loop-which-init c =
-    first_taken _ _ Verbose _ _ _ _ c.described-subcommand.ensures
-    (c.arg_of.ensures.rule ∙ ap (argument c.args.choices.now) c.given.ensures) c.arg_of.ensures.local c.in_ok-subcommand.ensures
+loop-which-init c = none_taken _ _ c.args.parts.now.2.now _ c.described-subcommand.ensures
 
 pub loop-which-preserved : goal.loop-which-preserved
 loop-which-preserved c =
     argument_taken _ _ _ _ c.loop-which-test.true _ _ _ c.loop-which.invariant
-    (c.arg_of-in-loop-which.ensures.rule ∙ ap (argument c.args.choices.now) c.given-in-loop-which.ensures)
-    c.arg_of-in-loop-which.ensures.local c.in_ok-subcommand-2.ensures
+    (c.arg_of.ensures.rule ∙ ap (argument c.args.choices.now) c.given.ensures) c.arg_of.ensures.local c.in_ok-subcommand.ensures
 
 pub returns : goal.returns
 returns c =

@@ -1,9 +1,8 @@
 -- What is listed of the runs is what is listed of their lines (`parts-text`).
-use Rattle.cif_canon.proofs.Names.{CanonParts, ap, association_entries, association_entry, association_plain, canon_lines, flat_map, refl}
+use Rattle.cif_canon.proofs.Names.{CanonParts, ap, association_entries, association_plain, canon_lines, flat_map, refl}
 use Rattle.cif_canon.proofs.Names.{◌∙◌}
 use Rattle.cif_canon.proofs.AppendedTexts.{text-is}
 use Rattle.cif_canon.proofs.CanonLines.{parts-text}
-use Rattle.cif_canon.proofs.RunTexts.{sources-slices}
 use Rattle.cif_canon.proofs.canonical_form.Canon.list_associations.Goals as goal
 
 pub returns : goal.returns
@@ -18,4 +17,4 @@ returns g c =
 
 pub write_runs-requires : goal.write_runs-requires
 write_runs-requires g c κs =
-    ((refl, tt), sources-slices association_entry _ _ _ _ c.as_slice.ensures.value c.as_slice-2.ensures.value c.self.invariant.0)
+    ((refl, tt), rw (c.as_slice.ensures.value, c.as_slice-2.ensures.value) c.self.invariant.0)

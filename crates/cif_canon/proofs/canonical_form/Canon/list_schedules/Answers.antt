@@ -1,9 +1,8 @@
 -- What is listed of the runs is what is listed of their lines, with their numbers (`numbered-texts`).
-use Rattle.cif_canon.proofs.Names.{CanonParts, ScheduleLines, ap, canon_lines, enumerate_from, flat_map, schedule_entries, schedule_entry}
+use Rattle.cif_canon.proofs.Names.{CanonParts, ScheduleLines, ap, canon_lines, enumerate_from, flat_map, schedule_entries}
 use Rattle.cif_canon.proofs.Names.{ℕ, ◌∙◌}
 use Rattle.cif_canon.proofs.AppendedTexts.{text-is}
 use Rattle.cif_canon.proofs.CanonLines.{numbered-texts}
-use Rattle.cif_canon.proofs.RunTexts.{sources-slices}
 use Rattle.cif_canon.proofs.canonical_form.Canon.list_schedules.Goals as goal
 
 pub returns : goal.returns
@@ -16,9 +15,5 @@ returns g c =
     ∙ ap (λ (v : CanonParts). flat_map (λ (s : ℕ × ScheduleLines). text s.0 s.1) (enumerate_from 1 v.lines.schedules)) c.self.view_is)
     (rw (c.as_slice.ensures.value, c.as_slice-2.ensures.value) at c.list_runs.ensures)
 
-pub list_runs-requires-clause-within : goal.list_runs-requires-clause-within
-list_runs-requires-clause-within g c =
-    (sources-slices schedule_entry _ _ _ _ c.as_slice.ensures.value c.as_slice-2.ensures.value c.self.invariant.1).0
-
-pub list_runs-requires-clause-records : goal.list_runs-requires-clause-records
-list_runs-requires-clause-records g c = rw (c.as_slice.ensures.value, c.as_slice-2.ensures.value) c.self.invariant.1
+pub list_runs-requires : goal.list_runs-requires
+list_runs-requires g c = rw (c.as_slice.ensures.value, c.as_slice-2.ensures.value) c.self.invariant.1

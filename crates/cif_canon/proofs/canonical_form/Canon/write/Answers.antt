@@ -1,7 +1,6 @@
 -- Five parts are appended one behind another (`canon-appended`).
-use Rattle.cif_canon.proofs.Names.{CanonParts, ap, association_entry, extract_parts, refl, schedule_entry}
+use Rattle.cif_canon.proofs.Names.{CanonParts, ap, extract_parts, refl}
 use Rattle.cif_canon.proofs.AppendedTexts.{answered, appended, text-is}
-use Rattle.cif_canon.proofs.RunTexts.{sources-slices}
 use Rattle.cif_canon.proofs.WrittenCanon.{canon-appended}
 use Rattle.cif_canon.proofs.canonical_form.Canon.write.Goals as goal
 
@@ -19,11 +18,7 @@ returns-clause-writes g c =
 
 pub write_runs-requires : goal.write_runs-requires
 write_runs-requires g c κs =
-    ((refl, tt), sources-slices association_entry _ _ _ _ c.as_slice-2.ensures.value c.as_slice-3.ensures.value c.self.invariant.0)
+    ((refl, tt), rw (c.as_slice-2.ensures.value, c.as_slice-3.ensures.value) c.self.invariant.0)
 
-pub write_schedules-requires-clause-within : goal.write_schedules-requires-clause-within
-write_schedules-requires-clause-within g c =
-    (sources-slices schedule_entry _ _ _ _ c.as_slice-4.ensures.value c.as_slice-5.ensures.value c.self.invariant.1).0
-
-pub write_schedules-requires-clause-records : goal.write_schedules-requires-clause-records
-write_schedules-requires-clause-records g c = rw (c.as_slice-4.ensures.value, c.as_slice-5.ensures.value) c.self.invariant.1
+pub write_schedules-requires : goal.write_schedules-requires
+write_schedules-requires g c = rw (c.as_slice-4.ensures.value, c.as_slice-5.ensures.value) c.self.invariant.1

@@ -1,7 +1,6 @@
 -- The runs have the records of the differences.
-use Rattle.cif_canon.proofs.Names.{DifferencesParts, ap, association_entry, by_pairs, flat_map, key_cmp, refl}
+use Rattle.cif_canon.proofs.Names.{DifferencesParts, ap, by_pairs, flat_map, key_cmp, refl}
 use Rattle.cif_canon.proofs.AppendedTexts.{text-is}
-use Rattle.cif_canon.proofs.SidedTexts.{sided-slices}
 use Rattle.cif_canon.proofs.listed_differences.Differences.list_associations.Goals as goal
 
 pub returns : goal.returns
@@ -11,8 +10,5 @@ returns g c =
     (rw (c.as_slice.ensures.value, c.as_slice-2.ensures.value, c.as_slice-3.ensures.value) at c.write_pairs.ensures)
 
 pub write_pairs-requires : goal.write_pairs-requires
-write_pairs-requires g c κs = (
-  (refl, tt),
-  sided-slices association_entry _ _ _ _ _ _ c.as_slice.ensures.value c.as_slice-2.ensures.value c.as_slice-3.ensures.value
-      c.self.invariant.0,
-)
+write_pairs-requires g c κs =
+    ((refl, tt), rw (c.as_slice.ensures.value, c.as_slice-2.ensures.value, c.as_slice-3.ensures.value) c.self.invariant.0)

@@ -1,7 +1,6 @@
 -- Three parts are appended one behind another (`differences-appended`).
-use Rattle.cif_canon.proofs.Names.{ap, association_entry, differences_text, refl, schedule_entry}
+use Rattle.cif_canon.proofs.Names.{ap, differences_text, refl}
 use Rattle.cif_canon.proofs.AppendedTexts.{answered, text-is}
-use Rattle.cif_canon.proofs.SidedTexts.{sided-slices}
 use Rattle.cif_canon.proofs.WrittenDifferences.{differences-appended}
 use Rattle.cif_canon.proofs.listed_differences.Differences.write.Goals as goal
 
@@ -18,15 +17,9 @@ returns-clause-writes g c =
     (rw (c.as_slice-5.ensures.value, c.as_slice-6.ensures.value, c.as_slice-7.ensures.value) at c.write_sided_runs-2.ensures)))
 
 pub write_sided_runs-requires : goal.write_sided_runs-requires
-write_sided_runs-requires g c κs = (
-  (refl, tt),
-  sided-slices association_entry _ _ _ _ _ _ c.as_slice-2.ensures.value c.as_slice-3.ensures.value
-      c.as_slice-4.ensures.value c.self.invariant.0,
-)
+write_sided_runs-requires g c κs =
+    ((refl, tt), rw (c.as_slice-2.ensures.value, c.as_slice-3.ensures.value, c.as_slice-4.ensures.value) c.self.invariant.0)
 
 pub write_sided_runs-requires-2 : goal.write_sided_runs-requires-2
-write_sided_runs-requires-2 g c κs = (
-  (refl, tt),
-  sided-slices schedule_entry _ _ _ _ _ _ c.as_slice-5.ensures.value c.as_slice-6.ensures.value
-      c.as_slice-7.ensures.value c.self.invariant.1,
-)
+write_sided_runs-requires-2 g c κs =
+    ((refl, tt), rw (c.as_slice-5.ensures.value, c.as_slice-6.ensures.value, c.as_slice-7.ensures.value) c.self.invariant.1)
