@@ -2,8 +2,8 @@
 use Rattle.cif_canon.proofs.Names.{AllPairs, AllPairs-filter, AllPairs-map, AreCanonicalRecords, AreRunning, Bool, Contains}
 use Rattle.cif_canon.proofs.Names.{Contains-from_map, Contains-get_or, Contains-map, Decides, Decides-and, Decides-like, Form, IsAmongDates}
 use Rattle.cif_canon.proofs.Names.{IsTotalOrder, IsTrue, IsWithin, Less, List, Ordering, Permanent, Precedes, Run, RunsOn, Some, Terms}
-use Rattle.cif_canon.proofs.Names.{Window, [], ap, applies_on, arith, bytes_decides, false, false≢true, filter, get_or, le-leb, leb-true}
-use Rattle.cif_canon.proofs.Names.{map, nat_eq, nat_le, not_less, of_key, pointwise, record_of, refl, runs-applies, same_Some}
+use Rattle.cif_canon.proofs.Names.{Window, [], ap, applies_on, arith, bytes_decides, false, false≢true, filter, get_or, if◌then◌else◌, le-leb}
+use Rattle.cif_canon.proofs.Names.{leb-true, listed_on, map, nat_eq, nat_le, not_less, of_key, pointwise, record_of, refl, runs-applies, same_Some}
 use Rattle.cif_canon.proofs.Names.{same_from_decides, slice_index_or, subst, suc, sym, true, weekday_of, zero, ℕ, ⊎_elim, ◌&&◌, ◌<◌, ◌↔◌}
 use Rattle.cif_canon.proofs.Names.{◌∙◌, ◌∷◌, ◌≡◌}
 use Rattle.cif_weeks.specs.Applies.{Applies}
@@ -30,11 +30,12 @@ applies-decided r d = Decides-like (applies_on r d)
     (Decides-and (nat_le d r.last) (slice_index_or r.days (weekday_of d) false) (leb-true d r.last, le-leb d r.last)
     (runs r.days (weekday_of d), runs-true r.days (weekday_of d))))
 
--- an answer whether a run applies is that of the test
-pub tested : {B : Type 0} (run : Run) (b : B) (d : ℕ) (answer : Bool) → IsTrue answer ↔ IsAmongDates run.first run.last run.days d →
-    answer ≡ applies_on (record_of run b) d
-tested run b d answer h =
-    same_from_decides answer (applies_on (record_of run b) d) h (applies-decided (record_of run b) d)
+-- what is listed of a record on a day, by the answer whether its run applies
+pub listed-by : {K B : Type 0} (text : K × B → List ℕ) (k : K) (run : Run) (b : B) (d : ℕ) (answer told : Bool) → answer ≡ told →
+    IsTrue answer ↔ IsAmongDates run.first run.last run.days d → (if told then text (k, b) else []) ≡ listed_on text d (k, record_of run b)
+listed-by text k run b d answer told is h =
+    ap (λ (t : Bool). if t then text (k, b) else [])
+    (sym is ∙ same_from_decides answer (applies_on (record_of run b) d) h (applies-decided (record_of run b) d))
 
 -- ---- the records that apply, and those of one train
 

@@ -1,7 +1,8 @@
 -- The call that a line spells.
-use Rattle.cif_extract.proofs.Names.{All, All-tail, At, Call, List, SpellsChange, SpellsRecord, SpellsSomeCall, SpellsStop, Turn, [], ap}
-use Rattle.cif_extract.proofs.Names.{arith, before_last, bytes_eq, call_in, call_record, change_in, codes, columns, drop, false, get_or}
-use Rattle.cif_extract.proofs.Names.{length, map, stop_in, subst, suc, sym, take, true, ℕ, ◌-◌, ◌<◌, ◌∙◌, ◌∷◌, ◌≡◌}
+use Rattle.cif_extract.proofs.Names.{All, All-tail, At, Bool, Call, List, SpellsChange, SpellsRecord, SpellsSomeCall, SpellsStop, Turn, []}
+use Rattle.cif_extract.proofs.Names.{ap, arith, before_last, bytes_eq, call_in, call_record, change_in, codes, columns, drop, false}
+use Rattle.cif_extract.proofs.Names.{get_or, length, map, nat_eq, nat_tests, stop_in, subst, suc, sym, take, true, ℕ, ◌-◌, ◌<◌, ◌∙◌, ◌∷◌}
+use Rattle.cif_extract.proofs.Names.{◌≡◌}
 use Rattle.cif_records.proofs.Changes.{change_in-spells}
 use Rattle.cif_records.proofs.Stops.{stop_in-spells}
 
@@ -28,6 +29,10 @@ module _ (line letters : List ℕ) (h : SpellsSomeCall line) (there : letters �
       let test : bytes_eq (columns 1 2 line) (codes "CR") ≡ false = ap (λ l. bytes_eq l (codes "CR")) (sym there) ∙ e in
       let it : call_in line ≡ At (stop_in line) = rw test in
       (it, subst (λ call. SpellsRecord line (call_record call)) it (spelled line h))
+
+-- where a test of their length says so, there are some lines
+pub some_lines : (lines : List (List ℕ)) (none : Bool) → none ≡ nat_eq (length lines) 0 → none ≡ false → 0 < length lines
+some_lines lines none is other = grind (arith, nat_tests, is, other)
 
 -- where others follow the first of some lines, it stands before the last
 pub first_before_last : (lines others : List (List ℕ)) (first : List ℕ) → 0 < length lines → first ≡ get_or lines 0 []

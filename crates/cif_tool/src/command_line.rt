@@ -198,21 +198,45 @@ fn with_parts<'a>(
 
 /// All subcommands, in the order of the help.
 static SUBCOMMANDS: [Parts<'static>; 12] = [
-    ("normalise", help::NORMALISE, &[Verbose, File, From, To, Form]),
+    (
+        "normalise",
+        help::NORMALISE,
+        &[Verbose, File, From, To, Form],
+    ),
     ("check", help::CHECK, &[Verbose, File, From, To, Form, All]),
-    ("compare", help::COMPARE, &[Verbose, Left, Right, From, To, Common]),
-    ("diff", help::DIFF, &[Verbose, Left, Right, From, To, Common, Format]),
+    (
+        "compare",
+        help::COMPARE,
+        &[Verbose, Left, Right, From, To, Common],
+    ),
+    (
+        "diff",
+        help::DIFF,
+        &[Verbose, Left, Right, From, To, Common, Format],
+    ),
     ("day", help::DAY, &[Verbose, Date, File, Stops, Format]),
     (
         "train",
         help::TRAIN,
         &[Verbose, Uid, File, From, To, Form, Stops, Format],
     ),
-    ("explain", help::EXPLAIN, &[Verbose, Uid, Date, File, Format]),
+    (
+        "explain",
+        help::EXPLAIN,
+        &[Verbose, Uid, Date, File, Format],
+    ),
     ("clashes", help::CLASHES, &[Verbose, File, From, To]),
-    ("table", help::TABLE, &[Verbose, Table, File, From, To, Form]),
+    (
+        "table",
+        help::TABLE,
+        &[Verbose, Table, File, From, To, Form],
+    ),
     ("calendar", help::CALENDAR, &[Verbose, Uid, File, From, To]),
-    ("prepare", help::PREPARE, &[Verbose, File, Holidays, DropClashes]),
+    (
+        "prepare",
+        help::PREPARE,
+        &[Verbose, File, Holidays, DropClashes],
+    ),
     ("update", help::UPDATE, &[Verbose, Full, Updates, Lenient]),
 ];
 

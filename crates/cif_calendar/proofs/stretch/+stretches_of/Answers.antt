@@ -92,3 +92,12 @@ returns-in_err-rights g t c =
 
 pub returns-in_err-push : goal.returns-in_err-push
 returns-in_err-push g t c = record { alike = c.look_at.ensures.alike; stretches = IfOk-from_err _ _ c.from_residual-in_err-push.ensures.0 }
+
+pub stretches_of_few-requires-clause-alike : goal.stretches_of_few-requires-clause-alike
+stretches_of_few-requires-clause-alike g t c = c.requires.alike
+
+pub stretches_of_few-requires-clause-part : goal.stretches_of_few-requires-clause-part
+stretches_of_few-requires-clause-part g t c = c.requires.part
+
+pub look_at-requires-clause-alike : goal.look_at-requires-clause-alike
+look_at-requires-clause-alike g t c = c.loop-left.invariant.alike

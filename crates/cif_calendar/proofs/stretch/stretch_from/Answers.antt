@@ -64,3 +64,15 @@ returns-clause-stretch g c = rw (take_all c.loop-index.index c.args.part.now c.l
 pub look_at-requires-clause-others : goal.look_at-requires-clause-others
 look_at-requires-clause-others g c = below-same (length c.args.members.now.positions.now) (Leader (c.args.number + c.loop-index.index))
     (omega (arith, c.loop-index-test.true, c.requires.part.within))
+
+pub bounds-part-index : goal.bounds-part-index
+bounds-part-index g c = c.loop-index-test.true
+
+pub look_at-requires-clause-alike : goal.look_at-requires-clause-alike
+look_at-requires-clause-alike g c = c.loop-index.invariant.alike
+
+pub look_at-requires-clause-below : goal.look_at-requires-clause-below
+look_at-requires-clause-below g c = c.loop-index.invariant.stretch.below
+
+pub returns-clause-alike : goal.returns-clause-alike
+returns-clause-alike g c = c.loop-index.invariant.alike

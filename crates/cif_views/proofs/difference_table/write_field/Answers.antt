@@ -1,5 +1,5 @@
 -- The cells are as one (`same-cells`), or else they go behind the row and are one (`other-cells`).
-use Rattle.cif_views.proofs.Names.{IsTrue, Whole, [], ap, arith, column, is_span, length, subst, sym, ℕ, ◌∙◌, ◌∷◌}
+use Rattle.cif_views.proofs.Names.{IsTrue, Whole, [], ap, arith, column, is_span, length, length-append, subst, sym, ℕ, ◌∙◌, ◌∷◌}
 use Rattle.cif_canon.proofs.AppendedTexts.{nothing, text-is}
 use Rattle.cif_views.proofs.DifferingFields.{other-cells, same-cells, short-name, text-span}
 use Rattle.cif_views.proofs.TableRows.{as-field, copied, more-pushed, row-is}
@@ -26,6 +26,10 @@ returns-then-eq g c =
     (same-cells (column c.args.field.now) c.requires.field c.args.begun.now c.args.kind c.args.left.now c.args.right.now
     c.text_of-one.result.now c.text_of-other.result.now c.span_in-span.result c.span_in-span.ensures c.text_of-one.ensures.text
     c.text_of-other.ensures.text _ c.eq.ensures c.if-eq.true) (nothing _ _ _)
+
+pub write-requires-clause-some : goal.write-requires-clause-some
+write-requires-clause-some g c =
+    let long = ap length c.push-2.ensures.text ∙ length-append c.push.new.self _ in omega (arith, long)
 
 pub returns : goal.returns
 returns g c =

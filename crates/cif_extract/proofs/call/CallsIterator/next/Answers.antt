@@ -1,18 +1,20 @@
 -- Of the first of the lines and the others (`first_before_last`) `first_and_rest` and `first_call` tell what the view is.
-use Rattle.cif_extract.proofs.Names.{arith, before_last, nat_tests, ◌∷◌, ◌≡◌}
-use Rattle.cif_extract.proofs.CallLines.{first_and_rest, first_before_last, first_call}
+use Rattle.cif_extract.proofs.Names.{ap, arith, before_last, length, ◌∷◌, ◌≡◌}
+use Rattle.cif_extract.proofs.CallLines.{first_and_rest, first_before_last, first_call, some_lines}
 use Rattle.cif_extract.proofs.call.CallsIterator.next.Goals as goal
 use Rattle.cif_extract.proofs.call.CallsIterator.next.Goals.{After-first-first}
 
 apart : (c : After-first-first) → before_last c.self.inside.lines ≡ c.first-first.result ∷ before_last c.rest-rest.result
 apart c =
-    let test = c.if-is_empty.false in
-    let told = c.is_empty.ensures in
-    let test-2 = c.if-is_empty-2.false in
-    let told-2 = c.is_empty-2.ensures in
     first_before_last c.self.inside.lines c.rest-rest.result c.first-first.result
-    (grind (arith, nat_tests, test, told)) c.first-first.ensures
-    c.rest-rest.ensures (grind (arith, nat_tests, test-2, told-2))
+    (some_lines c.self.inside.lines _ c.is_empty.ensures c.if-is_empty.false) c.first-first.ensures
+    c.rest-rest.ensures (some_lines c.rest-rest.result _ c.is_empty-2.ensures c.if-is_empty-2.false)
+
+pub rest-rest-requires : goal.rest-rest-requires
+rest-rest-requires c = some_lines c.self.inside.lines _ c.is_empty.ensures c.if-is_empty.false
+
+pub first-first-requires : goal.first-first-requires
+first-first-requires c = some_lines c.self.inside.lines _ c.is_empty.ensures c.if-is_empty.false
 
 pub read-requires : goal.read-requires
 read-requires c =
@@ -28,3 +30,8 @@ pub returns-clause-steps : goal.returns-clause-steps
 returns-clause-steps c =
     first_call c.args.self.now (before_last c.self.inside.lines) (before_last c.rest-rest.result) c.first-first.result c.read.result
     c.self.view_is (apart (goal.at.returns-clause-steps c).After-first-first) c.read.ensures
+
+pub returns-clause-goes : goal.returns-clause-goes
+returns-clause-goes c =
+    let shorter = ap length (returns-clause-steps c) in
+    record { on = λ finite. (tt, tt, omega (arith, shorter)); keeps = tt; rests = λ finite. tt }
