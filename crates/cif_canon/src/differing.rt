@@ -2,13 +2,13 @@
 ghost use Rattle.std.specs.Prelude.{◌≡◌, ◌↔◌, ◌<◌, IfErr, IfOk, IsTrue, OnOk, length, map};
 ghost use Rattle.cif_calendar.specs.Keys.{keyed};
 ghost use Rattle.cif_extract.specs.ExtractParts.{extract_parts};
-ghost use Rattle.cif_weeks.specs.Runs.{AreSources};
 ghost use Rattle.cif_canon.specs.Asked.{header_window};
 ghost use Rattle.cif_canon.specs.Comparison.{IsCompareFault};
 ghost use Rattle.cif_canon.specs.Differences.{AreDifferences, AreNone, TurnLeftIntoRight};
 ghost use Rattle.cif_canon.specs.Meaning.{Agree};
 ghost use Rattle.cif_canon.specs.Steps.Differences.{AreComparable};
-ghost use Rattle.cif_canon.specs.Steps.OnlySides.{AreAppendedRuns, AreDifferentRuns, AreKeyDifferences, AreRisingRuns, IsFirstSide};
+ghost use Rattle.cif_canon.specs.Steps.OnlySides.{AreAppendedRuns, AreDifferentRuns, AreKeyDifferences, AreOfOneKey, AreRisingRuns};
+ghost use Rattle.cif_canon.specs.Steps.OnlySides.{IsFirstSide};
 ghost use Rattle.cif_weeks.specs.Window.{window_from};
 ghost use Rattle.cif_canon.specs.declared.differing.Extent.TheVariants.{FirstKey};
 
@@ -151,10 +151,7 @@ fn push_differences<E: Entry>(
     right: &[E],
     other: &Calendar,
 ) -> Result<(), AllocError>
-    requires first { other.now.first ≡ one.now.first }
-    requires last { other.now.last ≡ one.now.last }
-    requires left { AreSources (map E.terms left.now) one.now }
-    requires right { AreSources (map E.terms right.now) other.now }
+    requires { AreOfOneKey (map E.terms left.now) one.now (map E.terms right.now) other.now }
     ensures { OnOk result (AreKeyDifferences (map E.terms left.now) one.now
         (map E.terms right.now) other.now found.old.items found.new.items) }
 {

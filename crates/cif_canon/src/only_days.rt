@@ -2,9 +2,8 @@
 ghost use Rattle.std.specs.Prelude.{◌≡◌, ◌↔◌, ◌≤◌, IfOk, IsTrue, map};
 ghost use Rattle.cif_calendar.specs.Calendar.{body_on};
 ghost use Rattle.cif_calendar.specs.Source.{body_at};
-ghost use Rattle.cif_weeks.specs.Runs.{AreSources};
 ghost use Rattle.cif_canon.specs.Steps.Differences.{AreAlikeBy, HasBodies, HoldsFrom, IsBodied};
-ghost use Rattle.cif_canon.specs.Steps.OnlySides.{AreOnlyRuns, AreOnlyWinners, AreRisingRuns, IsOnlyCalendar, IsOnlySource};
+ghost use Rattle.cif_canon.specs.Steps.OnlySides.{AreOfOneKey, AreOnlyRuns, AreOnlyWinners, AreRisingRuns, IsOnlyCalendar, IsOnlySource};
 
 use cif_calendar::{Calendar, Entry, Piece, same_body};
 use cif_columns::Day;
@@ -13,10 +12,7 @@ use std::alloc::{AllocError, Global};
 
 /// Whether the calendars have the same body, or none, on each day of their window.
 pub(crate) fn are_alike<E: Entry>(left: &[E], one: &Calendar, right: &[E], other: &Calendar) -> bool
-    requires first { other.now.first ≡ one.now.first }
-    requires last { other.now.last ≡ one.now.last }
-    requires left { AreSources (map E.terms left.now) one.now }
-    requires right { AreSources (map E.terms right.now) other.now }
+    requires { AreOfOneKey (map E.terms left.now) one.now (map E.terms right.now) other.now }
     ensures { IsTrue result ↔ HoldsFrom (λ d. body_on (map E.terms left.now) one.now d
         ≡ body_on (map E.terms right.now) other.now d) one.now.first one.now.last }
 {
@@ -145,10 +141,7 @@ fn only_calendar<E: Entry>(
     others: &[E],
     other: &Calendar,
 ) -> Result<Calendar, AllocError>
-    requires first { other.now.first ≡ one.now.first }
-    requires last { other.now.last ≡ one.now.last }
-    requires left { AreSources (map E.terms entries.now) one.now }
-    requires right { AreSources (map E.terms others.now) other.now }
+    requires { AreOfOneKey (map E.terms entries.now) one.now (map E.terms others.now) other.now }
     ensures { IfOk result (IsOnlyCalendar (map E.terms entries.now) one.now
         (map E.terms others.now) other.now) }
 {
@@ -180,10 +173,7 @@ pub(crate) fn only_runs<E: Entry>(
     others: &[E],
     other: &Calendar,
 ) -> Result<Vec<Run>, AllocError>
-    requires first { other.now.first ≡ one.now.first }
-    requires last { other.now.last ≡ one.now.last }
-    requires left { AreSources (map E.terms entries.now) one.now }
-    requires right { AreSources (map E.terms others.now) other.now }
+    requires { AreOfOneKey (map E.terms entries.now) one.now (map E.terms others.now) other.now }
     ensures runs { IfOk result (λ runs. AreOnlyRuns (map E.terms entries.now) one.now
         (map E.terms others.now) other.now runs.items) }
     ensures rising { IfOk result (λ runs. AreRisingRuns runs.items) }

@@ -15,7 +15,7 @@ use Rattle.cif_calendar.specs.declared.key_calendar.Piece.{Piece}
 use Rattle.cif_columns.specs.Day.{weekday_of}
 use Rattle.cif_records.specs.declared.tiploc.Tiploc.{Tiploc}
 use Rattle.cif_weeks.specs.Permanent.{Permanent}
-use Rattle.cif_weeks.specs.Runs.{IsRunOf as IsCalendarRun, window_of}
+use Rattle.cif_weeks.specs.Runs.{AreSources, IsRunOf as IsCalendarRun, window_of}
 use Rattle.cif_weeks.specs.Window.{Window}
 use Rattle.cif_weeks.specs.declared.form.Form.TheVariants.{Two}
 use Rattle.cif_weeks.specs.declared.form.Run.{Run}
@@ -37,6 +37,13 @@ IsOnlySource xs ys one other only =
 pub record AreOnlyWinners {B : Type 0} (xs ys : List (Terms B)) (p q : Piece) (first last : ℕ) (winners : List (Option ℕ)) : Type 0 where
   pub each : (d : ℕ) → first ≤ d → d ≤ last →
       IsOnlySource xs ys (winner_of p d) (winner_of q d) (slice_index_or winners (weekday_of d) None)
+
+-- the calendars of a key on both sides: they have one window, and each the sources of its entries
+pub record AreOfOneKey {B : Type 0} (xs : List (Terms B)) (c : CalendarParts) (ys : List (Terms B)) (e : CalendarParts) : Type 0 where
+  pub first : e.first ≡ c.first
+  pub last : e.last ≡ c.last
+  pub left : AreSources xs c
+  pub right : AreSources ys e
 
 -- the calendar has what is left of the source of each day of the window, by the calendars of both sides
 pub record IsOnlyCalendar {B : Type 0} (xs : List (Terms B)) (c : CalendarParts) (ys : List (Terms B)) (e : CalendarParts)

@@ -51,17 +51,13 @@ calendar-requires-in-Some g c = record {
       (All-take (λ i. i < length c.args.right.now) _ _ c.loop-first.invariant.right_within);
 }
 
-pub push_differences-requires-clause-first : goal.push_differences-requires-clause-first
-push_differences-requires-clause-first g c = c.in_ok-other.ensures.calendar.first_is ∙ sym c.in_ok-one.ensures.calendar.first_is
-
-pub push_differences-requires-clause-last : goal.push_differences-requires-clause-last
-push_differences-requires-clause-last g c = c.in_ok-other.ensures.calendar.last_is ∙ sym c.in_ok-one.ensures.calendar.last_is
-
-pub push_differences-requires-clause-left : goal.push_differences-requires-clause-left
-push_differences-requires-clause-left g c = calendar_sources _ _ _ _ _ c.in_ok-one.ensures.calendar
-
-pub push_differences-requires-clause-right : goal.push_differences-requires-clause-right
-push_differences-requires-clause-right g c = calendar_sources _ _ _ _ _ c.in_ok-other.ensures.calendar
+pub push_differences-requires : goal.push_differences-requires
+push_differences-requires g c = record {
+  first = c.in_ok-other.ensures.calendar.first_is ∙ sym c.in_ok-one.ensures.calendar.first_is;
+  last = c.in_ok-other.ensures.calendar.last_is ∙ sym c.in_ok-one.ensures.calendar.last_is;
+  left = calendar_sources _ _ _ _ _ c.in_ok-one.ensures.calendar;
+  right = calendar_sources _ _ _ _ _ c.in_ok-other.ensures.calendar;
+}
 
 pub loop-first-smaller : goal.loop-first-smaller
 loop-first-smaller g c =

@@ -18,17 +18,19 @@ returns-then-are_alike g c =
       appended = merged-none c.args.found.now.items;
     }
 
-pub only_runs-requires-2-clause-first : goal.only_runs-requires-2-clause-first
-only_runs-requires-2-clause-first g c = sym c.requires.first
+pub are_alike-requires : goal.are_alike-requires
+are_alike-requires g c = c.requires
 
-pub only_runs-requires-2-clause-last : goal.only_runs-requires-2-clause-last
-only_runs-requires-2-clause-last g c = sym c.requires.last
+pub only_runs-requires : goal.only_runs-requires
+only_runs-requires g c = c.requires
 
-pub only_runs-requires-2-clause-left : goal.only_runs-requires-2-clause-left
-only_runs-requires-2-clause-left g c = c.requires.right
-
-pub only_runs-requires-2-clause-right : goal.only_runs-requires-2-clause-right
-only_runs-requires-2-clause-right g c = c.requires.left
+pub only_runs-requires-2 : goal.only_runs-requires-2
+only_runs-requires-2 g c = record {
+  first = sym c.requires.first;
+  last = sym c.requires.last;
+  left = c.requires.right;
+  right = c.requires.left;
+}
 
 pub push_merged-requires-clause-left : goal.push_merged-requires-clause-left
 push_merged-requires-clause-left g c = subst AreRisingRuns (sym c.as_slice.ensures.value) c.in_ok-lefts.ensures.rising
