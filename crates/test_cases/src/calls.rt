@@ -25,16 +25,17 @@ mod records;
 use crate::case::day_in;
 use answer::answer;
 use call::Call;
-use cif_columns::{MAX_LINES, Sink, Source, Uid, WriteDevice, are_printable};
+use cif_columns::{MAX_LINES, Sink, Source, Uid, are_printable};
 use cif_extract::{Extract, Fault, read_extract};
 use std::alloc::Global;
+use std::io::Stdout;
 
 /// Makes the call that the words ask for, and writes what it answers.
-pub(crate) fn answer_words<W: WriteDevice>(
+pub(crate) fn answer_words(
     alloc: Global,
     words: &[String],
     text: &str,
-    sink: &mut Sink<W>,
+    sink: &mut Sink<Stdout>,
 ) -> Result<(), Fault> {
     match call_of_source(word_at(words, 1), text.as_bytes()) {
         Some(call) => answer(alloc, &call, sink)?,
@@ -44,11 +45,11 @@ pub(crate) fn answer_words<W: WriteDevice>(
 }
 
 /// Reads the extracts of the text, and makes the call that the words ask for of them.
-fn answer_extracts<W: WriteDevice>(
+fn answer_extracts(
     alloc: Global,
     words: &[String],
     text: &str,
-    sink: &mut Sink<W>,
+    sink: &mut Sink<Stdout>,
 ) -> Result<(), Fault> {
     let (left, right) = text.split_once("==\n").unwrap_or((text, text));
     let left = extract_of(alloc, left)?;

@@ -25,16 +25,16 @@ fn main(rt: HostRuntime) -> io::Result<()> {
     let words = env::args(&rt)?.collect::<Vec<String>>(rt.alloc())?;
     let text = io::read_to_string(rt.alloc(), rt.reader())?;
     if words.len() < 2 {
-        return print_answers(&rt, text.as_str());
+        return print_answers(rt, text.as_str());
     }
-    let mut sink = Sink::new(io::writer(&rt));
+    let mut sink = Sink::new(rt.stdout());
     match answer_words(rt.alloc(), words.as_slice(), text.as_str(), &mut sink) {
         Ok(()) => Ok(()),
         Err(_) => Err(io::ErrorKind::Other.into()),
     }
 }
 
-fn print_answers(rt: &(impl Print + AllocGlobal), text: &str) -> io::Result<()> {
+fn print_answers(rt: HostRuntime, text: &str) -> io::Result<()> {
     let cases = cases_of(rt.alloc(), text)?;
     for case in &cases {
         print_answer(rt, case, cases.as_slice())?;
@@ -42,11 +42,11 @@ fn print_answers(rt: &(impl Print + AllocGlobal), text: &str) -> io::Result<()> 
     Ok(())
 }
 
-fn print_answer(rt: &(impl Print + AllocGlobal), case: &Case, cases: &[Case]) -> io::Result<()> {
+fn print_answer(rt: HostRuntime, case: &Case, cases: &[Case]) -> io::Result<()> {
     let mut out = Output::new(rt.alloc());
     push_answer(rt.alloc(), &mut out, case, cases);
     let text = out.finish()?;
-    print!(rt; "== {}\n{}", case.name, text.as_str())
+    print!(&rt; "== {}\n{}", case.name, text.as_str())
 }
 
 /// Appends what the case's call answers. A call that no other module has is one of `values`.

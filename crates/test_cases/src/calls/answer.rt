@@ -1,15 +1,16 @@
 //! What a call answers, again where memory ran out to it.
 use crate::calls::call::Call;
 use cif_canon::report;
-use cif_columns::{Sink, WriteDevice, WriteFault};
+use cif_columns::{Sink, WriteFault};
 use cif_extract::Fault;
 use std::alloc::Global;
+use std::io::Stdout;
 
 /// Makes the call and writes what it answers; where that is Memory, once more.
-pub(crate) fn answer<W: WriteDevice>(
+pub(crate) fn answer(
     alloc: Global,
     call: &Call,
-    sink: &mut Sink<W>,
+    sink: &mut Sink<Stdout>,
 ) -> Result<(), WriteFault> {
     if is_refused_memory(alloc, call, sink)? {
         is_refused_memory(alloc, call, sink)?;
@@ -19,10 +20,10 @@ pub(crate) fn answer<W: WriteDevice>(
 
 /// Makes the call and writes what it answers, and whether what is handed in is as before; whether the
 /// answer is Memory.
-fn is_refused_memory<W: WriteDevice>(
+fn is_refused_memory(
     alloc: Global,
     call: &Call,
-    sink: &mut Sink<W>,
+    sink: &mut Sink<Stdout>,
 ) -> Result<bool, WriteFault> {
     let before = call.checksum()?;
     let outcome = call.make(alloc, sink);

@@ -5,17 +5,18 @@ ghost use Rattle.cif_weeks.specs.Runs.{AreSources};
 use crate::calendars::dates::calendar_of;
 use crate::calendars::positions::all_positions;
 use cif_calendar::{Calendar, CalendarFault, Entry, Piece, Window};
-use cif_columns::{Day, Sink, WriteDevice, WriteFault};
+use cif_columns::{Day, Sink, WriteFault};
 use cif_extract::{Extract, Fault, Schedule};
 use cif_weeks::{Form, Run, runs};
 use itoa::Buffer;
 use std::alloc::Global;
+use std::io::Stdout;
 
 /// Makes the calendar, and writes its pieces.
-pub(crate) fn write_calendar<W: WriteDevice>(
+pub(crate) fn write_calendar(
     alloc: Global,
     extract: &Extract,
-    sink: &mut Sink<W>,
+    sink: &mut Sink<Stdout>,
 ) -> Result<(), Fault> {
     match calendar_of_all(alloc, extract) {
         Ok(calendar) => {
@@ -27,10 +28,10 @@ pub(crate) fn write_calendar<W: WriteDevice>(
 }
 
 /// Makes the calendar and its runs in form 2, and writes these.
-pub(crate) fn write_runs<W: WriteDevice>(
+pub(crate) fn write_runs(
     alloc: Global,
     extract: &Extract,
-    sink: &mut Sink<W>,
+    sink: &mut Sink<Stdout>,
 ) -> Result<(), Fault> {
     match calendar_of_all(alloc, extract) {
         Ok(calendar) => write_runs_of(alloc, extract, &calendar, sink),
@@ -61,7 +62,7 @@ fn calendar_of_all(alloc: Global, extract: &Extract) -> Result<Calendar, Calenda
 }
 
 /// Writes on which date bodies differ. That memory ran out is a fault of the call.
-fn write_fault<W: WriteDevice>(fault: CalendarFault, sink: &mut Sink<W>) -> Result<(), Fault> {
+fn write_fault(fault: CalendarFault, sink: &mut Sink<Stdout>) -> Result<(), Fault> {
     match fault {
         CalendarFault::Ambiguous(day) => {
             sink.write_all(b"Ambiguous on ")?;
@@ -73,7 +74,7 @@ fn write_fault<W: WriteDevice>(fault: CalendarFault, sink: &mut Sink<W>) -> Resu
     }
 }
 
-fn write_pieces<W: WriteDevice>(pieces: &[Piece], sink: &mut Sink<W>) -> Result<(), WriteFault> {
+fn write_pieces(pieces: &[Piece], sink: &mut Sink<Stdout>) -> Result<(), WriteFault> {
     for piece in pieces {
         write_dates(piece.first, piece.last, sink)?;
         for winner in &piece.winners {
@@ -84,10 +85,7 @@ fn write_pieces<W: WriteDevice>(pieces: &[Piece], sink: &mut Sink<W>) -> Result<
     Ok(())
 }
 
-fn write_winner<W: WriteDevice>(
-    winner: Option<usize>,
-    sink: &mut Sink<W>,
-) -> Result<(), WriteFault> {
+fn write_winner(winner: Option<usize>, sink: &mut Sink<Stdout>) -> Result<(), WriteFault> {
     sink.write_all(b" ")?;
     match winner {
         Some(position) => sink.write_all(Buffer::new().format(position).as_bytes()),
@@ -95,11 +93,11 @@ fn write_winner<W: WriteDevice>(
     }
 }
 
-fn write_runs_of<W: WriteDevice>(
+fn write_runs_of(
     alloc: Global,
     extract: &Extract,
     calendar: &Calendar,
-    sink: &mut Sink<W>,
+    sink: &mut Sink<Stdout>,
 ) -> Result<(), Fault>
     requires { AreSources (map ⟦<Schedule as Entry>⟧.terms extract.now.schedules.items)
         calendar.now }
@@ -113,7 +111,7 @@ fn write_runs_of<W: WriteDevice>(
     }
 }
 
-fn write_each_run<W: WriteDevice>(runs: &[Run], sink: &mut Sink<W>) -> Result<(), WriteFault> {
+fn write_each_run(runs: &[Run], sink: &mut Sink<Stdout>) -> Result<(), WriteFault> {
     for run in runs {
         write_dates(run.first, run.last, sink)?;
         sink.write_all(b" ")?;
@@ -123,11 +121,7 @@ fn write_each_run<W: WriteDevice>(runs: &[Run], sink: &mut Sink<W>) -> Result<()
     Ok(())
 }
 
-fn write_dates<W: WriteDevice>(
-    first: Day,
-    last: Day,
-    sink: &mut Sink<W>,
-) -> Result<(), WriteFault> {
+fn write_dates(first: Day, last: Day, sink: &mut Sink<Stdout>) -> Result<(), WriteFault> {
     sink.write_all(&first.to_yymmdd())?;
     sink.write_all(b" ")?;
     sink.write_all(&last.to_yymmdd())

@@ -5,10 +5,11 @@ use crate::calls::records::write_records;
 use cif_canon::{
     Asked, canon, check, compare, day_view, normalise, train_view, write_comparison, write_counts,
 };
-use cif_columns::{Day, MAX_LINES, Sink, Source, Uid, WriteDevice, WriteFault};
+use cif_columns::{Day, MAX_LINES, Sink, Source, Uid, WriteFault};
 use cif_extract::{Extract, Fault, read_extract};
 use cif_weeks::Form;
 use std::alloc::Global;
+use std::io::Stdout;
 
 /// A call, with what is handed in.
 #[derive(Clone, Copy)]
@@ -32,11 +33,7 @@ const NOTHING_ASKED: Asked = Asked {
 
 impl Call<'_> {
     /// Makes the call, and writes what it returns behind what it writes itself.
-    pub(crate) fn make<W: WriteDevice>(
-        &self,
-        alloc: Global,
-        sink: &mut Sink<W>,
-    ) -> Result<(), Fault> {
+    pub(crate) fn make(&self, alloc: Global, sink: &mut Sink<Stdout>) -> Result<(), Fault> {
         match self {
             Call::ReadExtract(bytes) => write_extract(alloc, *bytes, sink),
             Call::Normalise(bytes) => write_normalised(alloc, *bytes, sink),
@@ -71,21 +68,13 @@ impl Call<'_> {
     }
 }
 
-fn write_extract<W: WriteDevice>(
-    alloc: Global,
-    bytes: &[u8],
-    sink: &mut Sink<W>,
-) -> Result<(), Fault> {
+fn write_extract(alloc: Global, bytes: &[u8], sink: &mut Sink<Stdout>) -> Result<(), Fault> {
     let extract = read_extract(alloc, &mut Source::new(bytes), MAX_LINES)?;
     write_records(&extract, sink)?;
     Ok(())
 }
 
-fn write_normalised<W: WriteDevice>(
-    alloc: Global,
-    bytes: &[u8],
-    sink: &mut Sink<W>,
-) -> Result<(), Fault> {
+fn write_normalised(alloc: Global, bytes: &[u8], sink: &mut Sink<Stdout>) -> Result<(), Fault> {
     let mut source = Source::new(bytes);
     let counts = normalise(
         alloc,
@@ -99,33 +88,25 @@ fn write_normalised<W: WriteDevice>(
     Ok(())
 }
 
-fn write_checked<W: WriteDevice>(
-    alloc: Global,
-    bytes: &[u8],
-    sink: &mut Sink<W>,
-) -> Result<(), Fault> {
+fn write_checked(alloc: Global, bytes: &[u8], sink: &mut Sink<Stdout>) -> Result<(), Fault> {
     let mut source = Source::new(bytes);
     let counts = check(alloc, &mut source, MAX_LINES, &NOTHING_ASKED, Form::Two)?;
     write_counts(&counts, sink)?;
     Ok(())
 }
 
-fn write_canon<W: WriteDevice>(
-    alloc: Global,
-    extract: &Extract,
-    sink: &mut Sink<W>,
-) -> Result<(), Fault> {
+fn write_canon(alloc: Global, extract: &Extract, sink: &mut Sink<Stdout>) -> Result<(), Fault> {
     let canon = canon(alloc, extract, Form::Two)?;
     canon.write(sink)?;
     write_counts(&canon.counts(), sink)?;
     Ok(())
 }
 
-fn write_compared<W: WriteDevice>(
+fn write_compared(
     alloc: Global,
     left: &Extract,
     right: &Extract,
-    sink: &mut Sink<W>,
+    sink: &mut Sink<Stdout>,
 ) -> Result<(), Fault> {
     write_comparison(&compare(alloc, left, right)?, sink)?;
     Ok(())
