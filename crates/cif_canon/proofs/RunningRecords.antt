@@ -2,10 +2,10 @@
 use Rattle.cif_canon.proofs.Names.{AllPairs, AllPairs-filter, AllPairs-map, AreCanonicalRecords, AreRunning, Bool, Contains}
 use Rattle.cif_canon.proofs.Names.{Contains-from_map, Contains-get_or, Contains-map, Decides, Decides-and, Decides-like, Form, IsAmongDates}
 use Rattle.cif_canon.proofs.Names.{IsTotalOrder, IsTrue, IsWithin, Less, List, Ordering, Permanent, Precedes, Run, RunsOn, Some, Terms}
-use Rattle.cif_canon.proofs.Names.{Window, [], ap, applies_on, arith, bytes_decides, false, false≢true, filter, get_or, if◌then◌else◌, le-leb}
-use Rattle.cif_canon.proofs.Names.{leb-true, listed_on, map, nat_eq, nat_le, not_less, of_key, pointwise, record_of, refl, runs-applies, same_Some}
-use Rattle.cif_canon.proofs.Names.{same_from_decides, slice_index_or, subst, suc, sym, true, weekday_of, zero, ℕ, ⊎_elim, ◌&&◌, ◌<◌, ◌↔◌}
-use Rattle.cif_canon.proofs.Names.{◌∙◌, ◌∷◌, ◌≡◌}
+use Rattle.cif_canon.proofs.Names.{Window, [], ap, applies_on, arith, bytes_decides, false, false≢true, filter, get_or, if◌then◌else◌}
+use Rattle.cif_canon.proofs.Names.{le-leb, leb-true, listed_on, map, nat_eq, nat_le, not_less, of_key, pointwise, record_of, refl}
+use Rattle.cif_canon.proofs.Names.{runs-applies, same_Some, same_from_decides, slice_index_or, subst, suc, sym, true, weekday_of, zero, ℕ}
+use Rattle.cif_canon.proofs.Names.{⊎_elim, ◌&&◌, ◌<◌, ◌↔◌, ◌∙◌, ◌∷◌, ◌≡◌}
 use Rattle.cif_weeks.specs.Applies.{Applies}
 use Rattle.cif_canon.proofs.ChosenRecords.{chosen, chosen-from}
 

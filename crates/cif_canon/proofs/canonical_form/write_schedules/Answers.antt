@@ -1,7 +1,7 @@
 -- The text is a fold over runs: one more goes behind it (`one-more`). Each run has a record, and its text is that of the writer's body
 -- (`schedule-text`).
-use Rattle.cif_canon.proofs.Names.{HasRecord, Schedule, Some, ap, arith, length, record_of, schedule_entries, schedule_entry, schedule_run_text, schedule_text, subst}
-use Rattle.cif_canon.proofs.Names.{sym, ◌<◌, ◌∙◌, ◌≡◌}
+use Rattle.cif_canon.proofs.Names.{HasRecord, Schedule, Some, ap, arith, length, record_of, schedule_entries, schedule_entry}
+use Rattle.cif_canon.proofs.Names.{schedule_run_text, schedule_text, subst, sym, ◌<◌, ◌∙◌, ◌≡◌}
 use Rattle.cif_canon.proofs.AppendedTexts.{all-items, appended, nothing, one-more, text-is}
 use Rattle.cif_canon.proofs.RunTexts.{dates-in_order, record-within, schedule-text}
 use Rattle.cif_canon.specs.Steps.Texts.{body_at}
