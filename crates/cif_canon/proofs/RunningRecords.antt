@@ -30,12 +30,14 @@ applies-decided r d = Decides-like (applies_on r d)
     (Decides-and (nat_le d r.last) (slice_index_or r.days (weekday_of d) false) (leb-true d r.last, le-leb d r.last)
     (runs r.days (weekday_of d), runs-true r.days (weekday_of d))))
 
--- what is listed of a record on a day, by the answer whether its run applies
+-- what is listed on a day of the record that an item is, by the answer whether its run applies
 pub listed-by : {K B : Type 0} (text : K × B → List ℕ) (k : K) (run : Run) (b : B) (d : ℕ) (answer told : Bool) → answer ≡ told →
-    IsTrue answer ↔ IsAmongDates run.first run.last run.days d → (if told then text (k, b) else []) ≡ listed_on text d (k, record_of run b)
-listed-by text k run b d answer told is h =
+    IsTrue answer ↔ IsAmongDates run.first run.last run.days d → (item : K × Permanent B) → (k, record_of run b) ≡ item →
+    (if told then text (k, b) else []) ≡ listed_on text d item
+listed-by text k run b d answer told is h item same =
     ap (λ (t : Bool). if t then text (k, b) else [])
     (sym is ∙ same_from_decides answer (applies_on (record_of run b) d) h (applies-decided (record_of run b) d))
+    ∙ ap (listed_on text d) same
 
 -- ---- the records that apply, and those of one train
 

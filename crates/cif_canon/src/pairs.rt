@@ -3,7 +3,6 @@ ghost use Rattle.std.specs.Prelude.{◌≡◌, ◌↔◌, ◌<◌, All, IfSome, 
 ghost use Rattle.std.specs.List.{flat_map};
 ghost use Rattle.cif_calendar.specs.Keys.{keyed};
 ghost use Rattle.cif_canon.specs.Appended.{IsAppended};
-ghost use Rattle.cif_canon.specs.Differences.{at_side};
 ghost use Rattle.cif_canon.specs.Pairs.{ArePair, by_pairs};
 ghost use Rattle.cif_canon.specs.Steps.ByPairs.{IsFirstListed, IsListedFirst};
 ghost use Rattle.cif_canon.specs.Steps.Sides.{HasSidedRecord, sided_records};

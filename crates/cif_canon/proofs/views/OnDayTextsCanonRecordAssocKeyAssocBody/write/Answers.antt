@@ -1,21 +1,16 @@
 -- A record has the text by the answer whether it applies (`listed-by`); one that doesn't apply has none.
-use Rattle.cif_canon.proofs.Names.{ap, false, listed_on, true, ◌∙◌}
 use Rattle.cif_canon.proofs.AppendedTexts.{nothing, text-is}
 use Rattle.cif_canon.proofs.RunningRecords.{listed-by}
 use Rattle.cif_canon.proofs.views.OnDayTextsCanonRecordAssocKeyAssocBody.write.Goals as goal
 
 pub returns-then-applies_on : goal.returns-then-applies_on
 returns-then-applies_on g c =
-    let text = g.L.DayLines.association c.args.self.now.lines.now in
     let e = c.item.inside in
-    let day = c.args.self.now.day in
-    text-is _ _ _ _ _ _ (listed-by text e.key.now e.run.now e.body.now day _ true c.if-applies_on.true c.applies_on.ensures
-    ∙ ap (listed_on text day) c.item.view_is) c.write_association.ensures
+    text-is _ _ _ _ _ _ (listed-by (g.L.DayLines.association c.args.self.now.lines.now) e.key.now e.run.now e.body.now
+    c.args.self.now.day _ _ c.if-applies_on.true c.applies_on.ensures _ c.item.view_is) c.write_association.ensures
 
 pub returns-else-applies_on : goal.returns-else-applies_on
 returns-else-applies_on g c =
-    let text = g.L.DayLines.association c.args.self.now.lines.now in
     let e = c.item.inside in
-    let day = c.args.self.now.day in
-    text-is _ _ _ _ _ _ (listed-by text e.key.now e.run.now e.body.now day _ false c.if-applies_on.false c.applies_on.ensures
-    ∙ ap (listed_on text day) c.item.view_is) (nothing _ _ _)
+    text-is _ _ _ _ _ _ (listed-by (g.L.DayLines.association c.args.self.now.lines.now) e.key.now e.run.now e.body.now
+    c.args.self.now.day _ _ c.if-applies_on.false c.applies_on.ensures _ c.item.view_is) (nothing _ _ _)
