@@ -1,35 +1,62 @@
--- Where no comment stands first.
-use Rattle.cif_columns.proofs.Names.{BeginWithoutComment, IfSome, List, None, Option, Some, and_parts, ap, arith, bytes_eq-Decides, codes}
-use Rattle.cif_columns.proofs.Names.{false, false_from_ne_true, get_or, get_or-take, get_or_append_left, is_comment, length, length-append}
-use Rattle.cif_columns.proofs.Names.{nat_le, nat_tests, prepend_known, sym, take, true, ℕ, ◌++◌, ◌<◌, ◌∙◌, ◌≡◌, ◌≢◌}
-use Rattle.cif_columns.proofs.FirstContents.{begins_as, comes_first, content_first}
+-- Which bytes begin as a comment does.
+use Rattle.cif_columns.proofs.Names.{All-cons, All-nil, All-take, AreUndecided, HaveNoFeed, InFeed, List, and_parts, ap, arith}
+use Rattle.cif_columns.proofs.Names.{begins_comment, bytes_eq-Decides, cases_lt, codes, cond, cond_both, false, false_from_ne_true}
+use Rattle.cif_columns.proofs.Names.{is_comment, length, length-append, length-take, most_by, nat_eq, nat_le, nat_tests, subst, sym, take}
+use Rattle.cif_columns.proofs.Names.{take-append-le, take-take, take_all, true, ℕ, ⊎_elim, [], ◌++◌, ◌+◌, ◌<◌, ◌∙◌, ◌≡◌}
+use Rattle.cif_columns.proofs.Names.{pointwise, ◌≢◌, ◌≤◌}
 
-starts : (content : List ℕ) → is_comment content ≡ true → get_or content 0 0 ≡ 47
-unfolding is_comment
-starts content is =
-    let begins = (and_parts _ _ (and_parts _ _ is).0).0 in
-    let same = (bytes_eq-Decides (codes "/!!") (take 3 content)).0 begins in
-    sym (get_or-take 3 content 0 0 (omega arith)) ∙ ap (λ l. get_or l 0 0) (sym same)
+-- a content begins as the bytes do of which it is the first
+begins_front : (content bytes : List ℕ) → take (length content) bytes ≡ content → 3 ≤ length content
+    → begins_comment content ≡ begins_comment bytes
+unfolding begins_comment
+begins_front content bytes front wide =
+    ap (pointwise nat_eq (codes "/!!")) (ap (take 3) (sym front) ∙ take-take 3 (length content) bytes wide)
 
-pub long_no_comment : (content : List ℕ) → 80 < length content → is_comment content ≡ false
-unfolding is_comment
-long_no_comment content long = false_from_ne_true _ (λ is. too_long (and_parts _ _ (and_parts _ _ is).0).1)
+-- what is overlong in a feed has two bytes more than a line at least
+at_least : (bytes : List ℕ) → 82 ≤ most_by InFeed bytes
+at_least bytes = cond_both (begins_comment bytes) 1002 82 (λ n. 82 ≤ n) (λ is. omega arith) (λ is. omega arith)
+
+begins_short : (held : List ℕ) → length held < 3 → begins_comment held ≡ false
+unfolding begins_comment
+begins_short held short = false_from_ne_true _ (λ begins.
+    let same = (bytes_eq-Decides (codes "/!!") (take 3 held)).0 begins in omega (arith, ap length same, length-take 3 held, short))
+
+-- bytes that are fewer, but decide a content, end it: so those that follow don't make them a comment
+ends_short : (held more : List ℕ) → ¬ AreUndecided (most_by InFeed held) held → length held < 3 → begins_comment (held ++ more) ≡ false
+unfolding begins_comment
+ends_short held more decided short = false_from_ne_true _ (λ begins.
+    let same = (bytes_eq-Decides (codes "/!!") (take 3 (held ++ more))).0 begins in
+    let is : take (length held) (codes "/!!") ≡ held =
+    ap (take (length held)) same ∙ take-take (length held) 3 (held ++ more) (omega (arith, short))
+    ∙ take-append-le (length held) held more (omega arith) ∙ take_all (length held) held (omega arith) in
+    decided (record {
+      no_feed = subst HaveNoFeed is (All-take (λ (b : ℕ). b ≢ 10) (length held) (codes "/!!") no_feed);
+      short = omega (arith, short, at_least held);
+    }))
   where
-    too_long : nat_le (length content) 80 ≡ true → ⊥
-    too_long short = grind (arith, nat_tests)
+    no_feed : HaveNoFeed (codes "/!!")
+    no_feed = All-cons (λ (b : ℕ). b ≢ 10) 47 (codes "!!") (λ e. absurd (omega (arith, e)))
+        (All-cons (λ (b : ℕ). b ≢ 10) 33 (codes "!") (λ e. absurd (omega (arith, e)))
+        (All-cons (λ (b : ℕ). b ≢ 10) 33 [] (λ e. absurd (omega (arith, e))) (All-nil (λ (b : ℕ). b ≢ 10))))
 
--- bytes that begin with another byte
-other_first : (bytes : List ℕ) → 0 < length bytes → get_or bytes 0 0 ≢ 47 → BeginWithoutComment bytes
-other_first bytes some other one others is =
-    let (content, rest, first) = comes_first bytes some in
-    let all = (content_first _ bytes content rest first).contents in
-    let same : one ≡ content = cc in
-    false_from_ne_true _ (λ comment.
-    other (begins_as _ bytes content rest 47 (omega arith) first (ap (λ l. get_or l 0 0) (sym same) ∙ starts one comment)))
+-- bytes that decide a content begin as they do with any that follow
+pub begins_kept : (held more : List ℕ) → ¬ AreUndecided (most_by InFeed held) held → begins_comment (held ++ more) ≡ begins_comment held
+begins_kept held more decided = ⊎_elim
+    (λ short. ends_short held more decided short ∙ sym (begins_short held short))
+    (λ wide. sym (begins_front held (held ++ more)
+    (take-append-le (length held) held more (omega arith) ∙ take_all (length held) held (omega arith)) wide))
+    (cases_lt (length held) 3)
 
--- what is left begins with what is held
-pub known_other : (held : List ℕ) (unread : Option (List ℕ)) → 0 < length held → get_or held 0 0 ≢ 47
-    → IfSome (prepend_known held unread) BeginWithoutComment
-known_other held None some other = tt
-known_other held (Some more) some other = other_first (held ++ more) (omega (arith, some, length-append held more))
-    (λ is. other (sym (get_or_append_left held more 0 0 some) ∙ is))
+-- no content that is overlong in a feed is a comment
+pub overlong_no_comment : (content bytes : List ℕ) → most_by InFeed bytes ≤ length content + 1 → take (length content) bytes ≡ content
+    → is_comment content ≡ false
+unfolding is_comment
+overlong_no_comment content bytes long front = false_from_ne_true _ (λ is.
+    let both = and_parts (begins_comment content) (nat_le (length content) 1000) is in
+    let begins : begins_comment bytes ≡ true =
+    sym (begins_front content bytes front (omega (arith, long, at_least bytes))) ∙ both.0 in
+    let most : most_by InFeed bytes ≡ 1002 = ap (λ b. cond b 1002 82) begins in
+    too_long both.1 (omega (arith, long, most)))
+  where
+    too_long : nat_le (length content) 1000 ≡ true → 1001 ≤ length content → ⊥
+    too_long short long = grind (arith, nat_tests)

@@ -1,16 +1,17 @@
 -- What a `ContentReader` answers, by what its held bytes and its source gave.
 use Rattle.cif_columns.proofs.Names.{AnswersNext, AreUndecided, Content, ContentReader, CutsNext, DecideNoContent, Err, GivenDecideContent}
-use Rattle.cif_columns.proofs.Names.{GivenDecided, HoldsNext, IsNextOf, List, NextContent, Ok, Option, Overlong, Read, ReadFault, Refused}
-use Rattle.cif_columns.proofs.Names.{Source, TooManyLines, ap, arith, content, length, most_of, nil_from_length, refl, ℕ, ◌+◌, ◌<◌, ◌≡◌}
-use Rattle.cif_columns.proofs.Names.{◌≢◌}
+use Rattle.cif_columns.proofs.Names.{GivenDecided, HoldsNext, IsNextWithin, List, Most, NextContent, Of, Ok, Option, Overlong, Read}
+use Rattle.cif_columns.proofs.Names.{ReadFault, Refused, Source, TooManyLines, ap, arith, content, length, most_by, most_of}
+use Rattle.cif_columns.proofs.Names.{nil_from_length, refl, ℕ, ◌+◌, ◌<◌, ◌≡◌, ◌≢◌}
 use Rattle.cif_columns.proofs.FirstContents.{first_some}
 use Rattle.cif_columns.proofs.GivenLinesLaws.{known_so}
 use Rattle.cif_columns.specs.ContentReader.{given, held, left, limit}
 use Rattle.cif_columns.specs.declared.ahead.NextContent.TheVariants.{End}
 
 -- what decides a content decides it where so many may come
-pub given_decide : {most m max count : ℕ} {bytes unread : Option (List ℕ)}
-    → ((given : List ℕ) → DecideNoContent most max count given → AreUndecided m given) → GivenDecided m bytes unread
+pub given_decide : {most m : Most} {max count : ℕ} {bytes unread : Option (List ℕ)}
+    → ((given : List ℕ) → DecideNoContent (most_by most given) max count given → AreUndecided (most_by m given) given)
+    → GivenDecided m bytes unread
     → GivenDecideContent most max count bytes unread
 given_decide so gave = record { given = gave.given; parts = gave.parts; decided = λ none. gave.decided (so gave.given none) }
 
@@ -34,65 +35,67 @@ module _ (most max count : ℕ) where
   none_with_room room held none = record { no_feed = none.no_feed; short = none.short; none_too_many = λ full. absurd (omega arith) }
 
 -- what isn't none begins with some byte
-pub begins_some : (most : ℕ) (bytes content : List ℕ) (after : Option (List ℕ)) (next : NextContent) → 0 < most → next ≢ End
-    → AnswersNext most bytes next content after → 0 < length bytes
-begins_some most bytes content after Content some other answer = first_some most bytes content answer.0 answer.2
+pub begins_some : (most : Most) (bytes content : List ℕ) (after : Option (List ℕ)) (next : NextContent) → 0 < most_by most bytes
+    → next ≢ End → AnswersNext most bytes next content after → 0 < length bytes
+begins_some most bytes content after Content some other answer = first_some (most_by most bytes) bytes content answer.0 answer.2
 begins_some most bytes content after Overlong some other answer = omega (arith, some, answer.1.long)
 begins_some most bytes content after End some other answer = absurd (other refl)
 
-module _ {R : Type 0} (remaining : R → Option (List ℕ)) (errors : R → Option ℕ) (old new : ContentReader) (from to : Source R)
-    (limit_now : limit new ≡ limit old) (most_now : most_of new ≡ most_of old) where
+module _ {R : Type 0} (remaining : R → Option (List ℕ)) (errors : R → Option ℕ) (most : Most) (old new : ContentReader)
+    (from to : Source R) (limit_now : limit new ≡ limit old) (most_now : most_of new ≡ most_of old) where
   -- the end, where none may
-  pub ends_next : CutsNext remaining errors 1 old.ahead from (Ok End) new.ahead to → given old ≡ limit old → given new ≡ given old
-      → IsNextOf remaining errors old from (Ok End) new to
+  pub ends_next : CutsNext remaining errors (Of 1) old.ahead from (Ok End) new.ahead to → given old ≡ limit old → given new ≡ given old
+      → IsNextWithin remaining errors most old from (Ok End) new to
   ends_next cut full same = record {
     answer = cut.answer;
     holds = same;
     limit_now = limit_now;
     most_now = most_now;
-    decided = λ other not. given_decide (none_more (most_of old) (limit old) (given old) full) (cut.decided not);
+    decided = λ other not. given_decide {m = Of 1} (λ gave. none_more (most_by most gave) (limit old) (given old) full gave)
+        (cut.decided not);
     device = cut.device;
     ended = λ e. cut.ended refl;
     fresh = cut.fresh;
   }
 
   -- a content that is one too many
-  pub refuses_next : (next : NextContent) → CutsNext remaining errors 1 old.ahead from (Ok next) new.ahead to → next ≢ End
+  pub refuses_next : (next : NextContent) → CutsNext remaining errors (Of 1) old.ahead from (Ok next) new.ahead to → next ≢ End
       → given old ≡ limit old → given new ≡ given old
-      → IsNextOf remaining errors old from (Err (Refused (given old + 1) TooManyLines)) new to
+      → IsNextWithin remaining errors most old from (Err (Refused (given old + 1) TooManyLines)) new to
   refuses_next next cut other full same = record {
     answer = known_so (left remaining old from) _ _
-        (λ bytes. begins_some 1 bytes (content new) (left remaining new to) next (omega arith) other)
+        (λ bytes. begins_some (Of 1) bytes (content new) (left remaining new to) next (omega arith) other)
         cut.answer;
     holds = (full, same, refl, refl);
     limit_now = limit_now;
     most_now = most_now;
-    decided = λ _ not. given_decide (none_more (most_of old) (limit old) (given old) full) (cut.decided not);
+    decided = λ _ not. given_decide {m = Of 1} (λ gave. none_more (most_by most gave) (limit old) (given old) full gave) (cut.decided not);
     device = cut.device;
     ended = λ e. absurd (cc);
     fresh = λ none. tt;
   }
 
   -- what comes where a content may
-  pub gives_next : (next : NextContent) → CutsNext remaining errors (most_of old) old.ahead from (Ok next) new.ahead to
-      → HoldsNext old (Ok next) new → IsNextOf remaining errors old from (Ok next) new to
+  pub gives_next : (next : NextContent) → CutsNext remaining errors most old.ahead from (Ok next) new.ahead to
+      → HoldsNext most old (Ok next) new → IsNextWithin remaining errors most old from (Ok next) new to
   gives_next next cut holds = record {
     answer = cut.answer;
     holds = holds;
     limit_now = limit_now;
     most_now = most_now;
-    decided = λ other not. given_decide (none_decided (most_of old) (limit old) (given old)) (cut.decided not);
+    decided = λ other not. given_decide {m = most} (λ gave. none_decided (most_by most gave) (limit old) (given old) gave) (cut.decided not);
     device = cut.device;
     ended = λ e. let same : next ≡ End = cc in cut.ended (ap Ok same);
     fresh = cut.fresh;
   }
 
   -- a failure of the source
-  pub fails_next : (most : ℕ) (fault : ReadFault) → CutsNext remaining errors most old.ahead from (Err fault) new.ahead to
+  pub fails_next : (m : Most) (fault : ReadFault) → CutsNext remaining errors m old.ahead from (Err fault) new.ahead to
       → given new ≡ given old
-      → ((held_now : List ℕ) → AreUndecided most held_now → DecideNoContent (most_of old) (limit old) (given old) held_now)
-      → IsNextOf remaining errors old from (Err Read) new to
-  fails_next most fault cut same so = record {
+      → ((held_now : List ℕ) → AreUndecided (most_by m held_now) held_now
+      → DecideNoContent (most_by most held_now) (limit old) (given old) held_now)
+      → IsNextWithin remaining errors most old from (Err Read) new to
+  fails_next m fault cut same so = record {
     answer = cut.answer;
     holds = (same, so (held new) cut.undecided);
     limit_now = limit_now;

@@ -1,13 +1,14 @@
 -- The content that stands first in bytes, and bytes that decide none.
 use Rattle.cif_columns.proofs.Names.{All, All-append, All-cons, All-contains, All-nil, AnswersNext, AreUndecided, BeginOverlong, Bool}
 use Rattle.cif_columns.proofs.Names.{ComesFirst, Contains-append_right, Content, EndsAtFeed, HaveNoFeed, IfSome, IsAtEnd, IsFirstContent}
-use Rattle.cif_columns.proofs.Names.{IsFirstFeed, IsLast, Keeps, List, NextContent, None, Option, Overlong, PassesFirst, Some, [], ap}
+use Rattle.cif_columns.proofs.Names.{InFeed, IsFirstFeed, IsLast, Keeps, List, Most, NextContent, None, Of, Option, Overlong, PassesFirst, Some, [], ap}
 use Rattle.cif_columns.proofs.Names.{append-nil, append_assoc, arith, cond, cond_both, contents_of, drop, drop-cons, drop_of_length-le}
 use Rattle.cif_columns.proofs.Names.{eqb-true, false, get_or, get_or_append_left, inl, inr, is_line_feed, length, length-append}
-use Rattle.cif_columns.proofs.Names.{length-take, lines, lines_of_parts, map, nat_eq, nat_tests, prepend_known, refl, slice_index}
+use Rattle.cif_columns.proofs.Names.{length-take, lines, lines_of_parts, map, most_by, nat_eq, nat_tests, prepend_known, refl, slice_index}
 use Rattle.cif_columns.proofs.Names.{slice_split, strip_carriage_return, subst, suc, sym, take, take-append-drop, take-append-le, take-take}
 use Rattle.cif_columns.proofs.Names.{take_all, true, zero, ℕ, ⊎_elim, ◌++◌, ◌+◌, ◌-◌, ◌<◌, ◌==◌, ◌∙◌, ◌∷◌, ◌≡◌, ◌≢◌, ◌≤◌, ◌⊎◌}
 use Rattle.std.proofs.lemmas.List.Splits.{slice_split_at, slice_split_none}
+use Rattle.cif_columns.proofs.Comments.{begins_kept}
 use Rattle.cif_columns.proofs.WholeLines.{lines_to_feed}
 use Rattle.cif_columns.specs.declared.ahead.NextContent.TheVariants.{End}
 
@@ -161,16 +162,19 @@ fed_some most bytes content rest fed = omega (arith, ap length fed.parts, length
 pub first_some : (most : ℕ) (bytes content rest : List ℕ) → ComesFirst most bytes content rest → 0 < length bytes
 first_some most bytes content rest = ⊎_elim (λ fed. fed_some most bytes content rest fed) (λ ended. ended.some)
 
+-- a content has no more bytes than the part that it is made of
+stripped_short : (part : List ℕ) → length (strip_carriage_return part) ≤ length part
+stripped_short part =
+    cond_both (get_or part (length part - 1) 0 == 13) (take (length part - 1) part) part (λ l. length l ≤ length part)
+    (λ is. omega (arith, length-take (length part - 1) part)) (λ is. omega arith)
+
 -- of a first line feed
 pub fed_first : (most : ℕ) (held : List ℕ) (at : ℕ) (content rest line : List ℕ) → IsFirstFeed most held at
     → line ≡ strip_carriage_return (take at held) → content ≡ take (length line) held → rest ≡ drop (at + 1) held
     → EndsAtFeed most held content rest
 fed_first most held at content rest line feed is content_is rest_is =
     let part = take at held in
-    let short : length (strip_carriage_return part) ≤ length part =
-    cond_both (get_or part (length part - 1) 0 == 13) (take (length part - 1) part) part (λ l. length l ≤ length part)
-    (λ is. omega (arith, length-take (length part - 1) part)) (λ is. omega arith) in
-    let few : length (strip_carriage_return part) ≤ at = omega (arith, short, length-take at held) in
+    let few : length (strip_carriage_return part) ≤ at = omega (arith, stripped_short part, length-take at held) in
     let below : at < length held = feed.within in
     let next : suc at ≡ at + 1 = omega arith in
     let front : take (length (strip_carriage_return part)) held ≡ strip_carriage_return part =
@@ -215,15 +219,24 @@ overlong_part most bytes begins = ⊎_elim
 
 pub overlong_content : (most : ℕ) (bytes : List ℕ) → 0 < most → BeginOverlong most bytes
     → (content : List ℕ) × (others : List (List ℕ)) × (contents_of bytes ≡ content ∷ others) × (most ≤ length content + 1)
+    × (take (length content) bytes ≡ content)
 overlong_content most bytes some begins =
     let long = begins.long in
     ⊎_elim
-    (λ none. (bytes, [], content_at_end bytes none (omega (arith, long, some)), omega (arith, long)))
+    (λ none. (
+      bytes,
+      [],
+      content_at_end bytes none (omega (arith, long, some)),
+      omega (arith, long),
+      take_all (length bytes) bytes (omega arith),
+    ))
     (λ fed. (
       strip_carriage_return fed.0,
       contents_of fed.1,
       ap contents_of fed.2 ∙ content_before fed.0 fed.1 fed.3,
       omega (arith, fed.4, stripped_long fed.0),
+      ap (take (length (strip_carriage_return fed.0))) fed.2
+          ∙ take-append-le (length (strip_carriage_return fed.0)) fed.0 (10 ∷ fed.1) (stripped_short fed.0) ∙ stripped_front fed.0,
     ))
     (overlong_or_fed most bytes begins)
 
@@ -262,21 +275,37 @@ kept_left None left keeps = tt
 kept_left (Some all) None keeps = absurd keeps
 kept_left (Some all) (Some same) keeps = ap Some keeps
 
+-- with so many bytes a content is overlong, whatever follows those that decide it
+most_kept : (most : Most) (held more : List ℕ) → ¬ AreUndecided (most_by most held) held
+    → most_by most (held ++ more) ≡ most_by most held
+most_kept (Of most) held more decided = refl
+most_kept InFeed held more decided = ap (λ b. cond b 1002 82) (begins_kept held more decided)
+
 -- what the held bytes decide is so of all that is left
-pub passed_left : (most : ℕ) (bytes remaining : Option (List ℕ)) (held content rest : List ℕ) (next : NextContent)
-    → Keeps bytes (prepend_known held remaining) → PassesFirst most held next content rest
+pub passed_left : (most : Most) (bytes remaining : Option (List ℕ)) (held content rest : List ℕ) (next : NextContent)
+    → Keeps bytes (prepend_known held remaining) → PassesFirst (most_by most held) held next content rest
     → IfSome bytes (λ all. AnswersNext most all next content (prepend_known rest remaining))
 passed_left most None remaining held content rest next keeps passes = tt
 passed_left most (Some all) None held content rest next keeps passes = absurd keeps
 passed_left most (Some all) (Some more) held content rest Content keeps passes =
-    rw (← keeps) (rest ++ more, refl, inl (fed_more most held content rest more passes))
+    let kept = most_kept most held more (fed_decides (most_by most held) (most_by most held) held content rest passes) in
+    rw (← keeps) (
+      rest ++ more,
+      refl,
+      inl (subst (λ n. EndsAtFeed n (held ++ more) content (rest ++ more)) (sym kept)
+          (fed_more (most_by most held) held content rest more passes)),
+    )
 passed_left most (Some all) (Some more) held content rest Overlong keeps passes =
-    (ap Some (ap (λ l. l ++ more) passes.1 ∙ keeps), subst (BeginOverlong most) keeps (overlong_more most held more passes.0))
+    let kept = most_kept most held more (overlong_decides (most_by most held) held passes.0) in (
+      ap Some (ap (λ l. l ++ more) passes.1 ∙ keeps),
+      subst (λ l. BeginOverlong (most_by most l) l) keeps
+          (subst (λ n. BeginOverlong n (held ++ more)) (sym kept) (overlong_more (most_by most held) held more passes.0)),
+    )
 passed_left most (Some all) (Some more) held content rest End keeps passes = absurd passes
 
 -- where the source has no more bytes, and those that are held decide none
-pub last_left : (most : ℕ) (bytes remaining : Option (List ℕ)) (held content rest : List ℕ) (next : NextContent)
-    → Keeps bytes (prepend_known held remaining) → IsAtEnd remaining → AreUndecided most held → IsLast held next content rest
+pub last_left : (most : Most) (bytes remaining : Option (List ℕ)) (held content rest : List ℕ) (next : NextContent)
+    → Keeps bytes (prepend_known held remaining) → IsAtEnd remaining → AreUndecided (most_by most held) held → IsLast held next content rest
     → IfSome bytes (λ all. AnswersNext most all next content (prepend_known rest remaining))
 last_left most None remaining held content rest next keeps end undecided last = tt
 last_left most (Some all) None held content rest next keeps end undecided last = absurd keeps
@@ -292,7 +321,7 @@ last_left most (Some all) (Some more) held content rest next keeps end undecided
       inr (record {
         some = subst (λ l. 0 < length l) same some;
         no_feed = subst HaveNoFeed same undecided.no_feed;
-        short = subst (λ l. length l < most) same undecided.short;
+        short = subst (λ l. length l < most_by most l) same undecided.short;
         is = is ∙ same;
         none = ap (λ l. l ++ more) none ∙ end;
       }),

@@ -1,10 +1,10 @@
 -- A run of `next`: one step for each answer.
-use Rattle.cif_columns.proofs.Names.{All, All-push, Answers, AreAllContents, AreContentsToCut, AreContentsToFailure, AreContentsToFault}
-use Rattle.cif_columns.proofs.Names.{AreContentsToRefusal, AreWholeContentsAndRest, Bool, DecideNoContent, DecidesNothing, EndsLine, Err}
-use Rattle.cif_columns.proofs.Names.{GivenDecide, GivenDecideContent, HasLineReason, IfSome, IsContentDecided, IsContentDecidedWithin}
-use Rattle.cif_columns.proofs.Names.{IsFirstContent, IsLine, IsNext, IsSomeAnd, LineFault, LineReader, List, None, Ok, Option, Read}
+use Rattle.cif_columns.proofs.Names.{All, All-push, Answers, AreAllContents, AreContentsToCut, AreContentsToFault}
+use Rattle.cif_columns.proofs.Names.{AreContentsToRefusal, AreWholeContentsAndRest, Bool, DecideNoContent, EndsLine, Err}
+use Rattle.cif_columns.proofs.Names.{GivenDecideContent, HasLineReason, IfSome, IsContentDecidedWithin}
+use Rattle.cif_columns.proofs.Names.{IsFirstContent, IsLine, IsNextBy, IsSomeAnd, LineFault, LineReader, List, Most, None, Ok, Option, Read}
 use Rattle.cif_columns.proofs.Names.{Reading, Refusal, Refused, Some, Source, [], ap, append-nil, append_assoc, arith, contents_of, false}
-use Rattle.cif_columns.proofs.Names.{length, length-append, lines, past, prepend_known, refl, source_ended, subst, sym, unread_of, ℕ, ◌++◌}
+use Rattle.cif_columns.proofs.Names.{length, length-append, lines, most_by, past, prepend_known, refl, source_ended, subst, sym, unread_of, ℕ, ◌++◌}
 use Rattle.cif_columns.proofs.Names.{◌+◌, ◌∙◌, ◌∷◌, ◌≡◌, ◌≤◌}
 use mathlib.Core.Logic.{inl, inr, ◌⊎◌}
 use Rattle.cif_columns.proofs.WholeLines.{ends_after, ends_before, lines_piece, lines_whole, piece_of}
@@ -158,8 +158,8 @@ module _ (P : List ℕ → Type 0) (start rest : Option (List ℕ)) (ls : List (
     })
 
     -- a failure of the source
-    pub known_cut : (most : ℕ) (hold : List ℕ) (unread : Option (List ℕ)) → IfSome rest (λ bytes. prepend_known hold unread ≡ Some bytes)
-        → DecideNoContent most max (length ls) hold
+    pub known_cut : (most : Most) (hold : List ℕ) (unread : Option (List ℕ)) → IfSome rest (λ bytes. prepend_known hold unread ≡ Some bytes)
+        → DecideNoContent (most_by most hold) max (length ls) hold
         → IfSome start (λ bytes. IsSomeAnd unread (λ others. AreContentsToCut P most max bytes others ls))
     known_cut most hold unread kept undecided = known_of _ _ kept (λ bytes others known kept.
         let (more, is, parts) = held_front hold others unread kept in
@@ -174,7 +174,7 @@ module _ (P : List ℕ → Type 0) (start rest : Option (List ℕ)) (ls : List (
         }))
 
   -- the next content is decided, unless the source told its end
-  pub known_decided : (most max number : ℕ) → number ≡ length ls + 1 → (unread : Option (List ℕ)) (ended : Bool)
+  pub known_decided : (most : Most) (max number : ℕ) → number ≡ length ls + 1 → (unread : Option (List ℕ)) (ended : Bool)
       → (ended ≡ false → GivenDecideContent most max (length ls) rest unread)
       → IfSome start (λ bytes. ended ≡ false → IsSomeAnd unread (λ others. IsContentDecidedWithin P most max bytes others number))
   known_decided most max number is unread ended decides =
@@ -279,31 +279,32 @@ module _ {R : Type 0} (remaining : R → Option (List ℕ)) where
           })
 
       -- a failure of the source
-      pub reading_fails : (past reader ≡ Reading → IfSome (left remaining reader source)
+      pub reading_fails : (most : Most) → (past reader ≡ Reading → IfSome (left remaining reader source)
           (λ bytes. Answers (limit reader) (given reader) bytes (Err Read) (left remaining reader' source')))
-          → DecidesNothing (limit reader) (given reader) (held reader')
-          → IfSome start (λ bytes. IsSomeAnd (remaining source'.reader) (λ unread. AreContentsToFailure P max bytes unread ls))
-      reading_fails answer undecided = known_cut P start rest ls so_far.known max within 82 (held reader') (remaining source'.reader)
-          (answer so_far.reads_on) (at_max (λ m n. DecidesNothing m n (held reader')) undecided)
+          → DecideNoContent (most_by most (held reader')) (limit reader) (given reader) (held reader')
+          → IfSome start (λ bytes. IsSomeAnd (remaining source'.reader) (λ unread. AreContentsToCut P most max bytes unread ls))
+      reading_fails most answer undecided = known_cut P start rest ls so_far.known max within most (held reader')
+          (remaining source'.reader) (answer so_far.reads_on)
+          (at_max (λ m n. DecideNoContent (most_by most (held reader')) m n (held reader')) undecided)
 
       -- the next line is decided, unless the source told its end
-      pub reading_decides : (number : ℕ) → number ≡ given reader + 1
+      pub reading_decides : {most : Most} (number : ℕ) → number ≡ given reader + 1
           → (source_ended source' ≡ false
-          → GivenDecide (limit reader) (given reader) (left remaining reader source) (remaining source'.reader))
+          → GivenDecideContent most (limit reader) (given reader) (left remaining reader source) (remaining source'.reader))
           → IfSome start (λ bytes. source_ended source' ≡ false
-          → IsSomeAnd (remaining source'.reader) (λ unread. IsContentDecided P max bytes unread number))
-      reading_decides number is decides = known_decided P start rest ls so_far.known 82 max number (is ∙ ap (λ n. n + 1) so_far.counted)
-          (remaining source'.reader) (source_ended source')
-          (λ not. at_max (λ m n. GivenDecide m n rest (remaining source'.reader)) (decides not))
+          → IsSomeAnd (remaining source'.reader) (λ unread. IsContentDecidedWithin P most max bytes unread number))
+      reading_decides {most} number is decides = known_decided P start rest ls so_far.known most max number
+          (is ∙ ap (λ n. n + 1) so_far.counted) (remaining source'.reader) (source_ended source')
+          (λ not. at_max (λ m n. GivenDecideContent most m n rest (remaining source'.reader)) (decides not))
 
       -- either fault
-      pub reading_faults : (errors : R → Option ℕ) (fault : LineFault)
-          → IsNext remaining errors reader source (Err fault) reader' source'
-          → IfSome start (λ bytes. AreContentsToFault P max bytes (unread_of remaining source') ls fault)
+      pub reading_faults : (errors : R → Option ℕ) {most : Most} (fault : LineFault)
+          → IsNextBy remaining errors most reader source (Err fault) reader' source'
+          → IfSome start (λ bytes. AreContentsToFault P most max bytes (unread_of remaining source') ls fault)
       reading_faults errors (Refused number why) next =
           known_both start _ _ (reading_refuses number why next.answer)
           (reading_decides number (next.fault so_far.reads_on).0 (next.decided so_far.reads_on (λ is. cc)))
-      reading_faults errors Read next = reading_fails next.answer (next.undecided so_far.reads_on refl)
+      reading_faults errors {most} Read next = reading_fails most next.answer (next.undecided so_far.reads_on refl)
 
   -- a line more
   pub reading_line : (start : Option (List ℕ)) (max : ℕ) (reader : LineReader) (source : Source R) (ls : List (List ℕ))

@@ -1,6 +1,6 @@
 -- The contents of bytes that are judged, one after another.
 use Rattle.cif_columns.proofs.Names.{All-nil, AnswersContent, AreWholeContentsAndRest, BeginOverlong, ComesFirst, ContentReader}
-use Rattle.cif_columns.proofs.Names.{DecideNoContent, EndsLine, Err, HaveNoFeed, IfSome, IsNextOf, IsSomeAnd, List, None, Ok, Option}
+use Rattle.cif_columns.proofs.Names.{DecideNoContent, EndsLine, Err, HaveNoFeed, IfSome, IsNextOf, IsSomeAnd, List, None, Of, Ok, Option}
 use Rattle.cif_columns.proofs.Names.{Overlong, Read, Refusal, Refused, Some, Source, TooManyLines, [], ap, append-nil, append_assoc, arith}
 use Rattle.cif_columns.proofs.Names.{cases_lt, cond, content, contents_of, false, inl, inr, is_line_feed, length, length-append}
 use Rattle.cif_columns.proofs.Names.{lines_of_parts, list_any, list_any-append, map, most_of, nat_tests, ne_eqb, or_parts, prepend_known}
@@ -257,7 +257,7 @@ module _ {R : Type 0} (remaining : R → Option (List ℕ)) (errors : R → Opti
     )
       where
         at : (s r : Option (List ℕ)) → IfSome s (λ bytes. IsSomeAnd r (AreJudgedAndRest bytes cs))
-            → IfSome r (λ bytes. AnswersContent (most_of reader) bytes (Ok Overlong) (content reader') (left remaining reader' source'))
+            → IfSome r (λ bytes. AnswersContent (Of (most_of reader)) bytes (Ok Overlong) (content reader') (left remaining reader' source'))
             → (long : List ℕ) × (length long ≢ 80) × IfSome s (λ bytes. judged_contents bytes ≡ cs ++ long ∷ [])
         at None r known answer = ([], omega arith, tt)
         at (Some bytes) None known answer = absurd known

@@ -1,17 +1,18 @@
 -- What a content is as a line, and what a `LineReader` answers of it.
-use Rattle.cif_columns.proofs.Names.{BadByte, BadLength, Bool, Content, ContentReader, DecideNoContent, DecidesNothing, Ended, Err, Faulted}
-use Rattle.cif_columns.proofs.Names.{GivenDecide, GivenDecideContent, HasFailedToRead, HasLineReason, HasPassedComment, HasReadOn, IfSome}
-use Rattle.cif_columns.proofs.Names.{IsFirstContent, IsLine, IsLineReason, IsNext, IsNextOf, IsNoComment, Line, LineFault, LineReader, List}
-use Rattle.cif_columns.proofs.Names.{None, Ok, Option, Overlong, PassesContent, Read, Reading, Refusal, Refused, Some, Source, [], ap}
-use Rattle.cif_columns.proofs.Names.{arith, cond, content, contents_of, eqb-true, false, is_comment, is_printable, length, line_of}
-use Rattle.cif_columns.proofs.Names.{list_all, nat_eq, nat_tests, past, reader_of, refl, source_ended, source_failed, subst, sym, true, ℕ}
-use Rattle.cif_columns.proofs.Names.{◌+◌, ◌<◌, ◌∙◌, ◌∷◌, ◌≡◌, ◌≢◌, ◌≤◌}
-use Rattle.cif_columns.proofs.Comments.{long_no_comment}
+use Rattle.cif_columns.proofs.Names.{BadByte, BadLength, BeginOverlong, Bool, Content, ContentReader, DecideNoContent, Ended, Err, Faulted}
+use Rattle.cif_columns.proofs.Names.{GivenDecideContent, HasFailedToRead, HasLineReason, HasPassedComment, HasReadOn, IfSome, InFeed}
+use Rattle.cif_columns.proofs.Names.{IsFirstContent, IsLine, IsLineReason, IsNextBy, IsNextWithin, IsNoComment, Line, LineFault}
+use Rattle.cif_columns.proofs.Names.{LineReader, List, Most, None, Ok, Option, Overlong, PassesContent, Read, Reading, Refusal, Refused}
+use Rattle.cif_columns.proofs.Names.{Some, Source, [], ap, arith, cond, content, contents_of, eqb-true, false, is_comment, is_printable}
+use Rattle.cif_columns.proofs.Names.{length, line_of, list_all, most_by, nat_eq, nat_tests, past, reader_of, refl, source_ended}
+use Rattle.cif_columns.proofs.Names.{source_failed, subst, sym, true, ℕ, ◌+◌, ◌<◌, ◌∙◌, ◌∷◌, ◌≡◌, ◌≢◌, ◌≤◌}
+use Rattle.cif_columns.proofs.Comments.{overlong_no_comment}
 use Rattle.cif_columns.proofs.FirstContents.{content_first, overlong_content, some_content}
 use Rattle.cif_columns.proofs.GivenLinesLaws.{known_so}
 use Rattle.cif_columns.proofs.PrintableBytes.{printable_fact, printable_true}
-use Rattle.cif_columns.specs.LineReader.{given, held, left, limit}
+use Rattle.cif_columns.specs.LineReader.{IsNextContent, content_of, given, held, left, limit}
 use Rattle.cif_columns.specs.declared.ahead.NextContent.TheVariants.{End}
+use Rattle.cif_columns.specs.declared.line_reader.Content.TheVariants as content_is
 
 -- ---- what a content is
 
@@ -47,14 +48,14 @@ line_err max number within one why is = at (nat_eq (length one) 80) (list_all is
 
 -- ---- what a call answers where nothing was answered before
 
-module _ {R : Type 0} {remaining : R → Option (List ℕ)} {errors : R → Option ℕ} {old new : LineReader} {from to : Source R}
+module _ {R : Type 0} {remaining : R → Option (List ℕ)} {errors : R → Option ℕ} {most : Most} {old new : LineReader} {from to : Source R}
     (reading : past old ≡ Reading) (limit_now : limit new ≡ limit old) where
   pub gives_line : (line : Line) → IsLine line → past new ≡ Reading → given old < limit old → given new ≡ given old + 1
       → IfSome (left remaining old from)
       (λ bytes. (rest : List ℕ) × (left remaining new to ≡ Some rest) × IsFirstContent bytes line rest)
       → HasReadOn errors from to
-      → (source_ended to ≡ false → GivenDecide (limit old) (given old) (left remaining old from) (remaining (reader_of to)))
-      → IsNext remaining errors old from (Ok (Some line)) new to
+      → (source_ended to ≡ false → GivenDecideContent most (limit old) (given old) (left remaining old from) (remaining (reader_of to)))
+      → IsNextBy remaining errors most old from (Ok (Some line)) new to
   gives_line line is_line past_now room counted found device decided = record {
     answer = λ _. known_so (left remaining old from) _ _ (λ bytes first. (
       first.0,
@@ -80,7 +81,7 @@ module _ {R : Type 0} {remaining : R → Option (List ℕ)} {errors : R → Opti
   gives_end : past new ≡ Ended → given new ≡ given old
       → IfSome (left remaining old from) (λ bytes. (bytes ≡ []) × (left remaining new to ≡ Some []))
       → HasReadOn errors from to → (source_failed from ≡ false) × (source_ended to ≡ true)
-      → IsNext remaining errors old from (Ok None) new to
+      → IsNextBy remaining errors most old from (Ok None) new to
   gives_end past_now same found device ended = record {
     answer = λ _. found;
     device = λ _. device;
@@ -104,8 +105,8 @@ module _ {R : Type 0} {remaining : R → Option (List ℕ)} {errors : R → Opti
       → IfSome (left remaining old from)
       (λ bytes. (one : List ℕ) × (others : List (List ℕ)) × (contents_of bytes ≡ one ∷ others) × HasLineReason (limit old) number one why)
       → HasReadOn errors from to
-      → (source_ended to ≡ false → GivenDecide (limit old) (given old) (left remaining old from) (remaining (reader_of to)))
-      → IsNext remaining errors old from (Err (Refused number why)) new to
+      → (source_ended to ≡ false → GivenDecideContent most (limit old) (given old) (left remaining old from) (remaining (reader_of to)))
+      → IsNextBy remaining errors most old from (Err (Refused number why)) new to
   refuses_next number why next is_reason past_now same found device decided = record {
     answer = λ _. known_so (left remaining old from) _ _ (λ bytes first.
         record { next = next; content = first.0; others = first.1; contents = first.2; reason = first.3 }) found;
@@ -127,7 +128,8 @@ module _ {R : Type 0} {remaining : R → Option (List ℕ)} {errors : R → Opti
 
   fails_next : past new ≡ Faulted Read → given new ≡ given old
       → IfSome (left remaining old from) (λ bytes. left remaining new to ≡ Some bytes) → HasFailedToRead errors from to
-      → DecidesNothing (limit old) (given old) (held new) → IsNext remaining errors old from (Err Read) new to
+      → DecideNoContent (most_by most (held new)) (limit old) (given old) (held new)
+      → IsNextBy remaining errors most old from (Err Read) new to
   fails_next past_now same found device undecided = record {
     answer = λ _. found;
     device = λ _. device;
@@ -148,58 +150,53 @@ module _ {R : Type 0} {remaining : R → Option (List ℕ)} {errors : R → Opti
 
 -- ---- by what its contents gave
 
--- what decides a content decides a line
-decides : (reader : LineReader) {rest unread : Option (List ℕ)}
-    → GivenDecideContent reader.contents.most (limit reader) (given reader) rest unread
-    → GivenDecide (limit reader) (given reader) rest unread
-decides reader {rest} {unread} gave =
-    subst (λ k. GivenDecideContent k (limit reader) (given reader) rest unread) reader.longest gave
-
-module _ {R : Type 0} {remaining : R → Option (List ℕ)} {errors : R → Option ℕ} {old new : LineReader} {from to : Source R}
+module _ {R : Type 0} {remaining : R → Option (List ℕ)} {errors : R → Option ℕ} {most : Most} {old new : LineReader} {from to : Source R}
     (reading : past old ≡ Reading) where
-  -- none that is overlong is a comment, or a line
-  pub passes_overlong : IsNextOf remaining errors old.contents from (Ok Overlong) new.contents to → (number : ℕ)
+  -- none that is overlong is a line, and in a feed none is a comment
+  pub passes_overlong : ((bytes : List ℕ) → 81 < most_by most bytes)
+      → IsNextWithin remaining errors most old.contents from (Ok Overlong) new.contents to → (number : ℕ)
       → number ≡ given new + 1 → past new ≡ Faulted (Refused number BadLength)
-      → PassesContent remaining errors old from (Err (Refused number BadLength)) new to
-  passes_overlong next number numbered past_now = (
+      → PassesContent remaining errors most old from (Err (Refused number BadLength)) new to
+  passes_overlong wide next number numbered past_now = (
     refuses_next reading next.limit_now number BadLength is tt past_now next.holds.1
         (known_so (left remaining old from) _ _ (λ bytes answer.
-        let (one, others, contents, long) = overlong_content old.contents.most bytes old.contents.some answer.1 in
-        (one, others, contents, (omega (arith, is, next.holds.0), omega (arith, long, old.longest)))) next.answer)
-        next.device (λ not. decides old (next.decided (λ e. absurd (cc)) not)),
-    λ _ _ _. known_so (left remaining old from) _ _ (λ bytes answer first more is.
-        let (one, others, contents, long) = overlong_content old.contents.most bytes old.contents.some answer.1 in
+        let (one, others, contents, long, front) = overlong_content (most_by most bytes) bytes (omega (arith, wide bytes)) answer.1 in
+        (one, others, contents, (omega (arith, is, next.holds.0), omega (arith, long, wide bytes)))) next.answer)
+        next.device (λ not. next.decided (λ e. absurd (cc)) not),
+    λ feed _ _ _. known_so (left remaining old from) _ _ (λ bytes answer first more is.
+        let begins = subst (λ m. BeginOverlong (most_by m bytes) bytes) feed answer.1 in
+        let some : 0 < most_by InFeed bytes = subst (λ m. 0 < most_by m bytes) feed (omega (arith, wide bytes)) in
+        let (one, others, contents, long, front) = overlong_content (most_by InFeed bytes) bytes some begins in
         let same : one ≡ first = cc in
-        ap is_comment (sym same) ∙ long_no_comment one (omega (arith, long, old.longest))) next.answer,
+        ap is_comment (sym same) ∙ overlong_no_comment one bytes long front) next.answer,
   )
     where
       is : number ≡ given old + 1
       is = numbered ∙ ap (λ n. n + 1) next.holds.1
 
-  pub passes_end : IsNextOf remaining errors old.contents from (Ok End) new.contents to → past new ≡ Ended
-      → PassesContent remaining errors old from (Ok false) new to
+  pub passes_end : IsNextWithin remaining errors most old.contents from (Ok End) new.contents to → past new ≡ Ended
+      → PassesContent remaining errors most old from (Ok false) new to
   passes_end next past_now = gives_end reading next.limit_now past_now next.holds next.answer next.device (next.ended refl)
 
-  pub passes_fault : (fault : LineFault) → IsNextOf remaining errors old.contents from (Err fault) new.contents to
-      → past new ≡ Faulted fault → PassesContent remaining errors old from (Err fault) new to
+  pub passes_fault : (fault : LineFault) → IsNextWithin remaining errors most old.contents from (Err fault) new.contents to
+      → past new ≡ Faulted fault → PassesContent remaining errors most old from (Err fault) new to
   passes_fault (Refused number why) next past_now = (
     refuses_next reading next.limit_now number why next.holds.2 (subst IsLineReason (sym next.holds.3) tt) past_now next.holds.1
         (known_so (left remaining old from) _ _ (λ bytes some.
         let (one, others, contents) = some_content bytes some in
         let over : limit old < number = omega (arith, next.holds.0, next.holds.2) in
         (one, others, contents, subst (HasLineReason (limit old) number one) (sym next.holds.3) over))
-        next.answer) next.device (λ not. decides old (next.decided (λ e. absurd (cc)) not)),
-    λ _ _ room. absurd (omega (arith, room, next.holds.0)),
+        next.answer) next.device (λ not. next.decided (λ e. absurd (cc)) not),
+    λ _ _ _ room. absurd (omega (arith, room, next.holds.0)),
   )
   passes_fault Read next past_now = (
-    fails_next reading next.limit_now past_now next.holds.0 next.answer next.device
-        (subst (λ k. DecideNoContent k (limit old) (given old) (held new)) old.longest next.holds.1),
-    λ other. absurd (other refl),
+    fails_next reading next.limit_now past_now next.holds.0 next.answer next.device next.holds.1,
+    λ _ other. absurd (other refl),
   )
 
   -- a content is a line
-  pub makes_line : IsNextOf remaining errors old.contents from (Ok Content) new.contents to → past new ≡ Reading → (line : Line)
-      → line_of (content new.contents) ≡ Ok line → IsNext remaining errors old from (Ok (Some line)) new to
+  pub makes_line : IsNextWithin remaining errors most old.contents from (Ok Content) new.contents to → past new ≡ Reading → (line : Line)
+      → line_of (content new.contents) ≡ Ok line → IsNextBy remaining errors most old from (Ok (Some line)) new to
   makes_line next past_now line is =
       let found = line_ok (content new.contents) line is in
       gives_line reading next.limit_now line found.1 past_now next.holds.0 next.holds.1
@@ -208,10 +205,10 @@ module _ {R : Type 0} {remaining : R → Option (List ℕ)} {errors : R → Opti
         answer.1,
         subst (λ l. IsFirstContent bytes l answer.0) found.0 (content_first _ bytes _ answer.0 answer.2),
       )) next.answer)
-      next.device (λ not. decides old (next.decided (λ e. absurd (cc)) not))
+      next.device (λ not. next.decided (λ e. absurd (cc)) not)
 
   -- or a comment
-  pub passes_comment : IsNextOf remaining errors old.contents from (Ok Content) new.contents to → past new ≡ Reading
+  pub passes_comment : IsNextWithin remaining errors most old.contents from (Ok Content) new.contents to → past new ≡ Reading
       → is_comment (content new.contents) ≡ true → HasPassedComment remaining errors old from new to
   passes_comment next past_now is = record {
     reading = reading;
@@ -224,9 +221,11 @@ module _ {R : Type 0} {remaining : R → Option (List ℕ)} {errors : R → Opti
   }
 
   -- or neither, and isn't counted
-  pub refuses_content : (between : ContentReader) → IsNextOf remaining errors old.contents from (Ok Content) between to → (why : Refusal)
+  pub refuses_content : (between : ContentReader) → IsNextWithin remaining errors most old.contents from (Ok Content) between to
+      → (why : Refusal)
       → line_of (content between) ≡ Err why → limit new ≡ between.limit → given new + 1 ≡ between.given
-      → past new ≡ Faulted (Refused between.given why) → IsNext remaining errors old from (Err (Refused between.given why)) new to
+      → past new ≡ Faulted (Refused between.given why)
+      → IsNextBy remaining errors most old from (Err (Refused between.given why)) new to
   refuses_content between next why is limit_now counted past_now =
       let room : between.given ≤ limit old = omega (arith, next.holds.0, next.holds.1) in
       let reason = line_err (limit old) between.given room (content between) why is in
@@ -234,14 +233,34 @@ module _ {R : Type 0} {remaining : R → Option (List ℕ)} {errors : R → Opti
       (omega (arith, counted, next.holds.1))
       (known_so (left remaining old from) _ _ (λ bytes answer.
       (content between, contents_of answer.0, (content_first _ bytes _ answer.0 answer.2).contents, reason.0)) next.answer)
-      next.device (λ not. decides old (next.decided (λ e. absurd (cc)) not))
+      next.device (λ not. next.decided (λ e. absurd (cc)) not)
 
 -- a content that was given is the first: if it is no comment, none stands there
-pub no_comment : {R : Type 0} {remaining : R → Option (List ℕ)} {errors : R → Option ℕ} (old : LineReader) {from to : Source R}
-    (between : ContentReader) → IsNextOf remaining errors old.contents from (Ok Content) between to → is_comment (content between) ≡ false
-    → IsNoComment remaining old from
+pub no_comment : {R : Type 0} {remaining : R → Option (List ℕ)} {errors : R → Option ℕ} {most : Most} (old : LineReader) {from to : Source R}
+    (between : ContentReader) → IsNextWithin remaining errors most old.contents from (Ok Content) between to
+    → is_comment (content between) ≡ false → IsNoComment remaining old from
 no_comment {remaining = remaining} old {from = from} between next none = λ _ _. known_so (left remaining old from) _ _
     (λ bytes answer first more is.
     let all = (content_first _ bytes _ answer.0 answer.2).contents in
     let same : content between ≡ first = cc in
     ap is_comment (sym same) ∙ none) next.answer
+
+-- a line that was given is a comment, or none
+pub content_next : {R : Type 0} {remaining : R → Option (List ℕ)} {errors : R → Option ℕ} (old new : LineReader) {from to : Source R}
+    (line : Line) → past old ≡ Reading → past new ≡ Reading → IsNextBy remaining errors InFeed old from (Ok (Some line)) new to
+    → IsNextContent remaining errors old from (Ok (content_of line)) line new to
+content_next {remaining = remaining} {errors} old new {from} {to} line reading past_now next = at (is_comment line) refl
+  where
+    at : (b : Bool) → b ≡ is_comment line
+        → IsNextContent remaining errors old from (Ok (cond b content_is.Comment content_is.Line)) line new to
+    at true is = record {
+      reading = reading;
+      comment = known_so (left remaining old from) _ _
+          (λ bytes found. (line, found.0, sym is, found.1, record { stands = found.2.stands; contents = found.2.contents }))
+          (next.answer reading);
+      read_on = next.device reading;
+      counted = next.counted;
+      limit_now = next.limit_now;
+      past_now = past_now ∙ sym reading;
+    }
+    at false is = (next, sym is)

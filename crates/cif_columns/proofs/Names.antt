@@ -42,9 +42,9 @@ pub use Rattle.cif_columns.specs.Activities.{AreCodes, IsCode, codes_columns, co
 pub use Rattle.cif_columns.specs.Ahead.{AnswersNext, BeginWithLine, CutsNext, GivenDecided, IsLast, PassesFirst, content_bytes, held_bytes}
 pub use Rattle.cif_columns.specs.Ahead.{known_left}
 pub use Rattle.cif_columns.specs.Clock.{IsHourMinute, is_blank, is_clock}
-unfoldable pub use Rattle.cif_columns.specs.Comment.{is_comment}
-pub use Rattle.cif_columns.specs.ContentReader.{AnswersContent, HoldsNext, IsNextOf, content, most_of}
-pub use Rattle.cif_columns.specs.Contents.{AreUndecided, BeginOverlong, ComesFirst, DecideNoContent, DecidesNothing, EndsAtFeed}
+unfoldable pub use Rattle.cif_columns.specs.Comment.{begins_comment, is_comment}
+pub use Rattle.cif_columns.specs.ContentReader.{AnswersContent, HoldsNext, IsNextOf, IsNextWithin, content, most_of}
+pub use Rattle.cif_columns.specs.Contents.{AreUndecided, BeginOverlong, ComesFirst, DecideNoContent, EndsAtFeed, most_by}
 pub use Rattle.cif_columns.specs.Contents.{HasLineReason, HaveNoFeed, IsFirstContent, IsFirstFeed, IsLineReason, StandsFirst, contents_of}
 pub use Rattle.cif_columns.specs.Contents.{lines_text}
 unfoldable pub use Rattle.cif_columns.specs.Day.{day_number, ddmmyy_in, yymmdd_in}
@@ -58,13 +58,12 @@ pub use Rattle.cif_columns.specs.Field.{AllFit, AllStandIn, FieldValue, Fits, Ro
 pub use Rattle.cif_columns.specs.Field.{is_whole_from, plain_columns, plain_line, public_time, spare, text, weekdays, width_of}
 pub use Rattle.cif_columns.specs.Field.{working_time}
 pub use Rattle.cif_columns.specs.FirstLine.{is_line_feed, is_printable, line_of}
-pub use Rattle.cif_columns.specs.GivenLines.{AreAllContents, AreContentsToCut, AreContentsToFailure, AreContentsToFault}
-pub use Rattle.cif_columns.specs.GivenLines.{AreContentsToRefusal, AreWholeContentsAndRest, EndsLine, IsContentDecided}
-pub use Rattle.cif_columns.specs.GivenLines.{IsContentDecidedWithin}
+pub use Rattle.cif_columns.specs.GivenLines.{AreAllContents, AreContentsToCut, AreContentsToFault}
+pub use Rattle.cif_columns.specs.GivenLines.{AreContentsToRefusal, AreWholeContentsAndRest, EndsLine, IsContentDecidedWithin}
 pub use Rattle.cif_columns.specs.Laws.Flags.{bits_of-flags}
 pub use Rattle.cif_columns.specs.Line.{ArePrintable, IsLine, IsPrintable}
-pub use Rattle.cif_columns.specs.LineReader.{Answers, AreAhead, BeginWithoutComment, GivenDecide, GivenDecideContent, HasPassed}
-pub use Rattle.cif_columns.specs.LineReader.{HasPassedComment, IsNext, IsNoComment, LineReads, PassesContent, past}
+pub use Rattle.cif_columns.specs.LineReader.{Answers, AreAhead, BeginWithoutComment, GivenDecideContent, HasPassed, HasPassedComment}
+pub use Rattle.cif_columns.specs.LineReader.{HasReadAhead, IsNext, IsNextBy, IsNoComment, LineReads, PassesContent, past}
 pub use Rattle.cif_columns.specs.Lines.{AreKept, first_lines_in, is_space, kept_text, lines_in, used, used_with, wide}
 pub use Rattle.cif_columns.specs.PlainTest.{IsFollowed, IsFollowedOver, IsInRange, IsPlainLineOf, IsTimed, Passes, are, asks, asks_all}
 pub use Rattle.cif_columns.specs.PlainTest.{asks_bytes, asks_clock, asks_left, asks_printable, asks_rows, asks_spaces, read_off, read_value}
@@ -76,6 +75,8 @@ unfoldable pub use Rattle.cif_columns.specs.Text.{text_of}
 pub use Rattle.cif_columns.specs.Text.{IsText, IsTrimmed, left_justified, without_leading}
 pub use Rattle.cif_columns.specs.WorkTime.{IsWorkTime, is_work_time}
 pub use Rattle.cif_columns.specs.declared.ahead.ContentReader.{ContentReader}
+pub use Rattle.cif_columns.specs.declared.ahead.Most.{Most}
+pub use Rattle.cif_columns.specs.declared.ahead.Most.TheVariants.{InFeed, Of}
 pub use Rattle.cif_columns.specs.declared.ahead.NextContent.{NextContent}
 pub use Rattle.cif_columns.specs.declared.ahead.NextContent.TheVariants.{Content, Overlong}
 pub use Rattle.cif_columns.specs.declared.line.Line.{Line}

@@ -1,7 +1,7 @@
 -- A line that is passed where it is ahead is the next line, as `read_line` gives it, from any source.
-use Rattle.cif_columns.proofs.Names.{AreAhead, ArePrintable, BeginWithLine, Content, EndsAtFeed, HasPassed, IsLine, IsNext, Keeps-refl}
-use Rattle.cif_columns.proofs.Names.{Line, LineReader, List, Ok, Option, Reading, Some, Source, ap, arith, drop, drop-cons, length}
-use Rattle.cif_columns.proofs.Names.{length-take, past, prepend_known, reader_of, sym, take-append-drop, ℕ, ◌++◌, ◌+◌, ◌<◌, ◌∙◌, ◌∷◌, ◌≡◌}
+use Rattle.cif_columns.proofs.Names.{AreAhead, ArePrintable, BeginWithLine, Content, EndsAtFeed, HasPassed, IsLine, IsNextBy, Keeps-refl}
+use Rattle.cif_columns.proofs.Names.{Line, LineReader, List, Most, Of, Ok, Option, Reading, Some, Source, ap, arith, drop, drop-cons}
+use Rattle.cif_columns.proofs.Names.{length, length-take, most_by, past, prepend_known, reader_of, sym, take-append-drop, ℕ, ◌++◌, ◌+◌, ◌<◌, ◌∙◌, ◌∷◌, ◌≡◌}
 use Rattle.cif_columns.proofs.ContentAnswers.{none_decided}
 use Rattle.cif_columns.proofs.FirstContents.{content_first, fed_decides, passed_left}
 use Rattle.cif_columns.proofs.GivenLinesLaws.{known_so}
@@ -28,11 +28,11 @@ module _ (bytes line : List ℕ) (begins : BeginWithLine bytes line) where
   }
 
 -- stand first, and are passed
-pub begins_next : {R : Type 0} (remaining : R → Option (List ℕ)) (errors : R → Option ℕ) (old new : LineReader) (source : Source R)
-    (line : Line) → past old ≡ Reading → past new ≡ Reading → given old < limit old → BeginWithLine (held old) line
+begins_next : {R : Type 0} (remaining : R → Option (List ℕ)) (errors : R → Option ℕ) (most : Most) (old new : LineReader)
+    (source : Source R) (line : Line) → past old ≡ Reading → past new ≡ Reading → given old < limit old → BeginWithLine (held old) line
     → held new ≡ drop 81 (held old) → limit new ≡ limit old → given new ≡ given old + 1
-    → IsNext remaining errors old source (Ok (Some line)) new source
-begins_next remaining errors old new source line reading past_now room begins held_now limit_now counted =
+    → IsNextBy remaining errors most old source (Ok (Some line)) new source
+begins_next remaining errors most old new source line reading past_now room begins held_now limit_now counted =
     let unread = remaining (reader_of source) in
     let fed = line_ends (held old) line begins in
     gives_line reading limit_now line (is_line (held old) line begins) past_now room counted
@@ -40,18 +40,19 @@ begins_next remaining errors old new source line reading past_now room begins he
       answer.0,
       ap (λ l. prepend_known l unread) held_now ∙ answer.1,
       content_first 82 bytes line answer.0 answer.2,
-    )) (passed_left 82 (left remaining old source) unread (held old) line (drop 81 (held old)) Content (Keeps-refl _) fed))
+    )) (passed_left (Of 82) (left remaining old source) unread (held old) line (drop 81 (held old)) Content (Keeps-refl _) fed))
     (read_nothing errors source)
     (λ not. record {
       given = held old;
       parts = Keeps-refl _;
-      decided = λ none. fed_decides 82 82 _ _ _ fed (none_decided 82 (limit old) (given old) (held old) none);
+      decided = λ none. fed_decides 82 (most_by most (held old)) _ _ _ fed
+          (none_decided (most_by most (held old)) (limit old) (given old) (held old) none);
     })
 
-pub next_passed : {R : Type 0} (remaining : R → Option (List ℕ)) (errors : R → Option ℕ) (old new : LineReader) (source : Source R)
-    (line : List ℕ) → AreAhead old line → ArePrintable line → HasPassed old new
-    → IsNext remaining errors old source (Ok (Some line)) new source
-next_passed remaining errors old new source line ahead printable passed =
-    begins_next remaining errors old new source line ahead.reading (passed.past_now ∙ ahead.reading) ahead.room
+pub next_passed : {R : Type 0} (remaining : R → Option (List ℕ)) (errors : R → Option ℕ) (most : Most) (old new : LineReader)
+    (source : Source R) (line : List ℕ) → AreAhead old line → ArePrintable line → HasPassed old new
+    → IsNextBy remaining errors most old source (Ok (Some line)) new source
+next_passed remaining errors most old new source line ahead printable passed =
+    begins_next remaining errors most old new source line ahead.reading (passed.past_now ∙ ahead.reading) ahead.room
     (record { is = ahead.first; printable = printable; within = ahead.within; feed = ahead.feed }) passed.held_now passed.limit_now
     passed.counted

@@ -2,10 +2,11 @@
 use Rattle.std.specs.Prelude.{◌≡◌, ℕ, ◌<◌, true, false, List, [], length, slice_index, slice_range, take, Option, Some, IfSome, Result, Ok}
 use Rattle.std.specs.Prelude.{IfOk, MatchResult, OnErr}
 use Rattle.std.specs.Io.KnownBytes.{Keeps, prepend_known}
-use Rattle.cif_columns.specs.Contents.{AreUndecided, BeginOverlong, ComesFirst, EndsAtFeed}
+use Rattle.cif_columns.specs.Contents.{AreUndecided, BeginOverlong, ComesFirst, EndsAtFeed, most_by}
 use Rattle.cif_columns.specs.Line.{ArePrintable}
 use Rattle.cif_columns.specs.Source.{HasFailedToRead, HasReadOn, reader_of, source_ended, source_failed}
 use Rattle.cif_columns.specs.declared.ahead.Ahead.{Ahead}
+use Rattle.cif_columns.specs.declared.ahead.Most.{Most}
 use Rattle.cif_columns.specs.declared.ahead.NextContent.{NextContent}
 use Rattle.cif_columns.specs.declared.ahead.NextContent.TheVariants as next
 use Rattle.cif_columns.specs.declared.source.ReadFault.{ReadFault}
@@ -45,27 +46,28 @@ IsLast held next.Overlong content rest = ⊥
 IsLast held next.End content rest = (held ≡ []) × (rest ≡ [])
 
 -- what a call answers, where these bytes are left: the content, and what is left after it
-abbrev pub AnswersNext : ℕ → List ℕ → NextContent → List ℕ → Option (List ℕ) → Type 0
-AnswersNext most bytes next.Content content after = (rest : List ℕ) × (after ≡ Some rest) × ComesFirst most bytes content rest
-AnswersNext most bytes next.Overlong content after = (after ≡ Some bytes) × BeginOverlong most bytes
+abbrev pub AnswersNext : Most → List ℕ → NextContent → List ℕ → Option (List ℕ) → Type 0
+AnswersNext most bytes next.Content content after =
+    (rest : List ℕ) × (after ≡ Some rest) × ComesFirst (most_by most bytes) bytes content rest
+AnswersNext most bytes next.Overlong content after = (after ≡ Some bytes) × BeginOverlong (most_by most bytes) bytes
 AnswersNext most bytes next.End content after = (bytes ≡ []) × (after ≡ Some [])
 
 -- of the bytes that were left, where they are known, the reader has these left, and has given the others, which decide a content
-pub record GivenDecided (most : ℕ) (bytes unread : Option (List ℕ)) : Type 0 where
+pub record GivenDecided (most : Most) (bytes unread : Option (List ℕ)) : Type 0 where
   pub given : List ℕ
   pub parts : Keeps bytes (prepend_known given unread)
-  pub decided : ¬ AreUndecided most given
+  pub decided : ¬ AreUndecided (most_by most given) given
 
 -- What a call that passes the next content promises: what is held and the source before, the answer, and both after.
-pub record CutsNext {R : Type 0} (remaining : R → Option (List ℕ)) (errors : R → Option ℕ) (most : ℕ) (old : Ahead) (from : Source R)
+pub record CutsNext {R : Type 0} (remaining : R → Option (List ℕ)) (errors : R → Option ℕ) (most : Most) (old : Ahead) (from : Source R)
     (result : Result NextContent ReadFault) (new : Ahead) (to : Source R) : Type 0 where
   pub answer : IfSome (known_left remaining old from)
       (λ bytes. MatchResult result (λ next. AnswersNext most bytes next (content_bytes new) (known_left remaining new to))
       (λ fault. known_left remaining new to ≡ Some bytes))
-  pub overlong : result ≡ Ok next.Overlong → BeginOverlong most (held_bytes new)
+  pub overlong : result ≡ Ok next.Overlong → BeginOverlong (most_by most (held_bytes new)) (held_bytes new)
   -- what isn't a failure is decided by the bytes so far, or by the end that the source told
   pub decided : IfOk result (λ next. source_ended to ≡ false → GivenDecided most (known_left remaining old from) (remaining (reader_of to)))
-  pub undecided : OnErr result (AreUndecided most (held_bytes new))
+  pub undecided : OnErr result (AreUndecided (most_by most (held_bytes new)) (held_bytes new))
   -- a source that fails is reported; one that has failed has no end, and gives no bytes where none are held
   pub device : MatchResult result (λ next. HasReadOn errors from to) (λ fault. HasFailedToRead errors from to)
   pub ended : result ≡ Ok next.End → (source_failed from ≡ false) × (source_ended to ≡ true)

@@ -1,7 +1,10 @@
 -- The contents of bytes, the lines among them, and why a content is no line.
-use Rattle.std.specs.Prelude.{◌≡◌, ◌≢◌, ◌⊎◌, ℕ, ◌<◌, ◌≤◌, List, [], ◌∷◌, ◌++◌, length, take, slice_index, All}
+use Rattle.std.specs.Prelude.{◌≡◌, ◌≢◌, ◌⊎◌, ℕ, ◌<◌, ◌≤◌, List, [], ◌∷◌, ◌++◌, length, take, slice_index, All, if◌then◌else◌}
 use Rattle.std.specs.List.{flat_map}
 use Rattle.std.specs.Str.Lines.{lines, strip_carriage_return}
+use Rattle.cif_columns.specs.Comment.{begins_comment}
+use Rattle.cif_columns.specs.declared.ahead.Most.{Most}
+use Rattle.cif_columns.specs.declared.ahead.Most.TheVariants.{InFeed, Of}
 use Rattle.cif_columns.specs.declared.refusal.Refusal.{Refusal}
 use Rattle.cif_columns.specs.declared.refusal.Refusal.TheVariants.{BadLength, BadByte, TooManyLines}
 use Rattle.cif_columns.specs.Line.{ArePrintable}
@@ -39,6 +42,12 @@ IsLineReason BadByte = Unit {0}
 IsLineReason _ = ⊥
 
 -- ---- contents that have fewer than so many bytes up to their line feeds
+
+-- With how many bytes and no line feed among them a content that begins as these do is overlong: in a feed a comment with two more than
+-- it may have, any other with two more than a line has.
+abbrev pub most_by : Most → List ℕ → ℕ
+most_by (Of most) bytes = most
+most_by InFeed bytes = if begins_comment bytes then 1002 else 82
 
 -- none of the bytes is a line feed
 abbrev pub HaveNoFeed : List ℕ → Type 0
@@ -86,7 +95,3 @@ pub record DecideNoContent (most max given : ℕ) (bytes : List ℕ) : Type 0 wh
   pub no_feed : HaveNoFeed bytes
   pub short : length bytes < most
   pub none_too_many : given ≡ max → bytes ≡ []
-
--- the same of lines
-abbrev pub DecidesNothing : ℕ → ℕ → List ℕ → Type 0
-DecidesNothing max given bytes = DecideNoContent 82 max given bytes

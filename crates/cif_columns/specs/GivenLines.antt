@@ -3,7 +3,9 @@ use Rattle.std.specs.Prelude.{◌≡◌, ◌⊎◌, ℕ, ◌+◌, ◌≤◌, Lis
 use Rattle.cif_columns.specs.declared.refusal.LineFault.{LineFault}
 use Rattle.cif_columns.specs.declared.refusal.LineFault.TheVariants.{Refused, Read}
 use Rattle.cif_columns.specs.declared.refusal.Refusal.{Refusal}
-use Rattle.cif_columns.specs.Contents.{contents_of, HasLineReason, DecideNoContent}
+use Rattle.cif_columns.specs.Contents.{contents_of, HasLineReason, DecideNoContent, most_by}
+use Rattle.cif_columns.specs.declared.ahead.Most.{Most}
+use Rattle.cif_columns.specs.declared.ahead.Most.TheVariants.{Of}
 use Rattle.cif_columns.specs.Line.{IsLine}
 use Rattle.cif_columns.specs.Source.{Unread}
 
@@ -37,47 +39,37 @@ pub record AreContentsToRefusal (P : List ℕ → Type 0) (max : ℕ) (bytes : L
   pub reason : HasLineReason max number content why
 
 -- Before it failed the source gave all of the bytes but those unread. What it gave are these whole contents, at most max, and a rest,
--- which decides no content of fewer than `most` bytes.
-pub record AreContentsToCut (P : List ℕ → Type 0) (most max : ℕ) (bytes unread : List ℕ) (lines : List (List ℕ)) : Type 0 where
+-- which decides no content.
+pub record AreContentsToCut (P : List ℕ → Type 0) (most : Most) (max : ℕ) (bytes unread : List ℕ) (lines : List (List ℕ)) : Type 0 where
   pub before : List ℕ
   pub rest : List ℕ
   pub parts : bytes ≡ before ++ unread
   pub whole_lines_and_rest : AreWholeContentsAndRest P before lines rest
   pub within : length lines ≤ max
-  pub undecided : DecideNoContent most max (length lines) rest
+  pub undecided : DecideNoContent (most_by most rest) max (length lines) rest
 
 -- The content of this number, where at most max may come, is decided by what the source gave: all of the bytes but those unread. These
 -- are the contents before it and a rest, which decides it.
-pub record IsContentDecidedWithin (P : List ℕ → Type 0) (most max : ℕ) (bytes unread : List ℕ) (number : ℕ) : Type 0 where
+pub record IsContentDecidedWithin (P : List ℕ → Type 0) (most : Most) (max : ℕ) (bytes unread : List ℕ) (number : ℕ) : Type 0 where
   pub lines : List (List ℕ)
   pub before : List ℕ
   pub rest : List ℕ
   pub parts : bytes ≡ before ++ unread
   pub whole_lines_and_rest : AreWholeContentsAndRest P before lines rest
   pub numbered : number ≡ length lines + 1
-  pub decided : ¬ DecideNoContent most max (length lines) rest
+  pub decided : ¬ DecideNoContent (most_by most rest) max (length lines) rest
 
 -- The content of this number is decided, whatever follows: by what the source gave of the bytes, or else by the end that it told.
-abbrev pub IsDecidedWithinOrLast : (List ℕ → Type 0) → ℕ → ℕ → List ℕ → Unread → ℕ → Type 0
+abbrev pub IsDecidedWithinOrLast : (List ℕ → Type 0) → Most → ℕ → List ℕ → Unread → ℕ → Type 0
 IsDecidedWithinOrLast P most max bytes after number = after.ended ≡ false → IsSomeAnd after.bytes
     (λ unread. IsContentDecidedWithin P most max bytes unread number)
 
--- ---- contents that have fewer than 82 bytes, as lines have
-
-abbrev pub AreContentsToFailure : (List ℕ → Type 0) → ℕ → List ℕ → List ℕ → List (List ℕ) → Type 0
-AreContentsToFailure P max bytes unread lines = AreContentsToCut P 82 max bytes unread lines
-
-abbrev pub IsContentDecided : (List ℕ → Type 0) → ℕ → List ℕ → List ℕ → ℕ → Type 0
-IsContentDecided P max bytes unread number = IsContentDecidedWithin P 82 max bytes unread number
-
-abbrev pub IsContentDecidedOrLast : (List ℕ → Type 0) → ℕ → List ℕ → Unread → ℕ → Type 0
-IsContentDecidedOrLast P max bytes after number = IsDecidedWithinOrLast P 82 max bytes after number
-
 -- the contents that were given of the bytes before this fault, where `after` is left then
-abbrev pub AreContentsToFault : (List ℕ → Type 0) → ℕ → List ℕ → Unread → List (List ℕ) → LineFault → Type 0
-AreContentsToFault P max bytes after lines (Refused number why) =
-    AreContentsToRefusal P max bytes lines number why × IsContentDecidedOrLast P max bytes after number
-AreContentsToFault P max bytes after lines Read = IsSomeAnd after.bytes (λ unread. AreContentsToFailure P max bytes unread lines)
+abbrev pub AreContentsToFault : (List ℕ → Type 0) → Most → ℕ → List ℕ → Unread → List (List ℕ) → LineFault → Type 0
+AreContentsToFault P most max bytes after lines (Refused number why) =
+    AreContentsToRefusal P max bytes lines number why × IsDecidedWithinOrLast P most max bytes after number
+AreContentsToFault P most max bytes after lines Read =
+    IsSomeAnd after.bytes (λ unread. AreContentsToCut P most max bytes unread lines)
 
 -- ---- lines alone
 
@@ -85,10 +77,10 @@ abbrev pub AreAllLines : ℕ → List ℕ → List (List ℕ) → Type 0
 AreAllLines max bytes lines = AreAllContents IsLine max bytes lines
 
 abbrev pub AreLinesToFailure : ℕ → List ℕ → List ℕ → List (List ℕ) → Type 0
-AreLinesToFailure max bytes unread lines = AreContentsToFailure IsLine max bytes unread lines
+AreLinesToFailure max bytes unread lines = AreContentsToCut IsLine (Of 82) max bytes unread lines
 
 abbrev pub IsDecided : ℕ → List ℕ → Unread → ℕ → Type 0
-IsDecided max bytes after number = IsContentDecidedOrLast IsLine max bytes after number
+IsDecided max bytes after number = IsDecidedWithinOrLast IsLine (Of 82) max bytes after number
 
 abbrev pub AreLinesToFault : ℕ → List ℕ → Unread → List (List ℕ) → LineFault → Type 0
-AreLinesToFault max bytes after lines fault = AreContentsToFault IsLine max bytes after lines fault
+AreLinesToFault max bytes after lines fault = AreContentsToFault IsLine (Of 82) max bytes after lines fault

@@ -1,6 +1,8 @@
 -- What a clause reads of a `LineReader`, and what a `next` answers.
 use Rattle.std.specs.Prelude.{◌≡◌, ℕ, ◌+◌, ◌<◌, Bool, true, false, List, [], ◌∷◌, Option, None, Some, Result, Ok, Err, if◌then◌else◌, ◌≢◌}
 use Rattle.std.specs.Prelude.{IfErr, IfOk, IfSome, OnErr, OnSome, drop, length, slice_index, take}
+use Rattle.cif_columns.specs.declared.ahead.Most.{Most}
+use Rattle.cif_columns.specs.declared.ahead.Most.TheVariants.{InFeed, Of}
 use Rattle.cif_columns.specs.declared.ahead.NextContent.TheVariants as next
 use Rattle.cif_columns.specs.declared.line.Line.{Line}
 use Rattle.cif_columns.specs.declared.line_reader.Content.{Content}
@@ -15,9 +17,9 @@ use Rattle.cif_columns.specs.declared.source.Source.{Source}
 use Rattle.cif_columns.specs.Ahead.{held_bytes, known_left}
 use Rattle.cif_columns.specs.Comment.{is_comment}
 pub use Rattle.cif_columns.specs.ContentReader.{GivenDecideContent, LineReads}
-use Rattle.cif_columns.specs.ContentReader.{IsNextOf}
-use Rattle.cif_columns.specs.Contents.{DecidesNothing, contents_of, IsFirstContent, StandsFirst, HasLineReason, IsLineReason}
-use Rattle.cif_columns.specs.Line.{IsLine}
+use Rattle.cif_columns.specs.ContentReader.{IsNextWithin}
+use Rattle.cif_columns.specs.Contents.{DecideNoContent, contents_of, IsFirstContent, StandsFirst, HasLineReason, IsLineReason, most_by}
+use Rattle.cif_columns.specs.Line.{ArePrintable, IsLine}
 use Rattle.cif_columns.specs.Source.{HasReadOn, reader_of, source_ended, source_failed}
 
 -- the bytes that are held: read, and not yet given
@@ -79,23 +81,21 @@ abbrev pub IsNextFault : ℕ → LineFault → Type 0
 IsNextFault count (Refused number why) = (number ≡ count + 1) × IsLineReason why
 IsNextFault count Read = Unit {0}
 
--- the same of lines
-abbrev pub GivenDecide : ℕ → ℕ → Option (List ℕ) → Option (List ℕ) → Type 0
-GivenDecide max count bytes unread = GivenDecideContent 82 max count bytes unread
-
--- What a call that gives the next line promises: its reader and its source before, the answer, and both after.
-pub record IsNext {R : Type 0} (remaining : R → Option (List ℕ)) (errors : R → Option ℕ) (old : LineReader) (from : Source R)
-    (result : Result (Option Line) LineFault) (new : LineReader) (to : Source R) : Type 0 where
+-- What a call that gives the next line promises: with how many bytes a content is overlong, its reader and its source before, the answer,
+-- and both after.
+pub record IsNextBy {R : Type 0} (remaining : R → Option (List ℕ)) (errors : R → Option ℕ) (most : Most) (old : LineReader)
+    (from : Source R) (result : Result (Option Line) LineFault) (new : LineReader) (to : Source R) : Type 0 where
   -- the answer is the first line of the bytes that are left, and the bytes after it are left then
   pub answer : past old ≡ Reading → IfSome (left remaining old from) (λ bytes.
       Answers (limit old) (given old) bytes result (left remaining new to))
   -- What isn't a failure is decided by the bytes so far, or by the end that the source told.
   pub decided : past old ≡ Reading → result ≢ Err Read → source_ended to ≡ false →
-      GivenDecide (limit old) (given old) (left remaining old from) (remaining (reader_of to))
+      GivenDecideContent most (limit old) (given old) (left remaining old from) (remaining (reader_of to))
   -- A source that fails is reported where the bytes before the failure decide nothing. One that has failed has no end, and an end is
   -- reported where the source told it.
   pub device : past old ≡ Reading → LineReads errors from to result
-  pub undecided : past old ≡ Reading → result ≡ Err Read → DecidesNothing (limit old) (given old) (held new)
+  pub undecided : past old ≡ Reading → result ≡ Err Read →
+      DecideNoContent (most_by most (held new)) (limit old) (given old) (held new)
   pub endless : past old ≡ Reading → result ≡ Ok None → source_failed from ≡ false
   pub told : past old ≡ Reading → result ≡ Ok None → source_ended to ≡ true
   -- for any source: a refusal names the next line, and one of the reasons of lines
@@ -109,6 +109,11 @@ pub record IsNext {R : Type 0} (remaining : R → Option (List ℕ)) (errors : R
   pub counted : IfOk result (λ line. OnSome line (given new ≡ given old + 1))
   pub ended : result ≡ Ok None → given new ≡ given old
   pub refused : OnErr result (given new ≡ given old)
+
+-- the same, where contents are lines: one is overlong with two bytes more than a line has
+abbrev pub IsNext : {R : Type 0} → (R → Option (List ℕ)) → (R → Option ℕ) → LineReader → Source R → Result (Option Line) LineFault
+    → LineReader → Source R → Type 0
+IsNext remaining errors old from result new to = IsNextBy remaining errors (Of 82) old from result new to
 
 -- These columns stand first in what is held, a line feed follows them, and a line may come.
 pub record AreAhead (r : LineReader) (columns : List ℕ) : Type 0 where
@@ -124,6 +129,12 @@ pub record HasPassed (old new : LineReader) : Type 0 where
   pub counted : given new ≡ given old + 1
   pub limit_now : limit new ≡ limit old
   pub past_now : past new ≡ past old
+
+-- A line was ahead, and was given.
+pub record HasReadAhead (old : LineReader) (line : List ℕ) (new : LineReader) : Type 0 where
+  pub ahead : AreAhead old line
+  pub printable : ArePrintable line
+  pub passed : HasPassed old new
 
 -- ---- comments
 
@@ -151,27 +162,23 @@ pub record HasPassedComment {R : Type 0} (remaining : R → Option (List ℕ)) (
   pub limit_now : limit new ≡ limit old
   pub past_now : past new ≡ past old
 
--- the same of what is held, whatever follows
-abbrev pub HoldsNoComment : LineReader → Type 0
-HoldsNoComment r = past r ≡ Reading → given r < limit r → (0 < length (held r)) × (slice_index (held r) 0 ≢ 47)
-
 -- What a call that gives the next content promises, which is a line, put into `line`, or a comment: of all but a comment what a call
 -- that gives the next line does.
 abbrev pub IsNextContent : {R : Type 0} → (R → Option (List ℕ)) → (R → Option ℕ) → LineReader → Source R → Result Content LineFault → Line
     → LineReader → Source R → Type 0
 IsNextContent remaining errors old from (Ok content.Comment) line new to = HasPassedComment remaining errors old from new to
 IsNextContent remaining errors old from (Ok content.Line) line new to =
-    IsNext remaining errors old from (Ok (Some line)) new to × (is_comment line ≡ false)
-IsNextContent remaining errors old from (Ok content.End) line new to = IsNext remaining errors old from (Ok None) new to
+    IsNextBy remaining errors InFeed old from (Ok (Some line)) new to × (is_comment line ≡ false)
+IsNextContent remaining errors old from (Ok content.End) line new to = IsNextBy remaining errors InFeed old from (Ok None) new to
 IsNextContent remaining errors old from (Err fault) line new to =
-    IsNext remaining errors old from (Err fault) new to × (fault ≢ Read → IsNoComment remaining old from)
+    IsNextBy remaining errors InFeed old from (Err fault) new to × (fault ≢ Read → IsNoComment remaining old from)
 
 -- What a call that passes the next content comes to: a content was given, which the others make a line or a comment; else it answers as
 -- they do.
-abbrev pub PassesContent : {R : Type 0} → (R → Option (List ℕ)) → (R → Option ℕ) → LineReader → Source R → Result Bool LineFault
+abbrev pub PassesContent : {R : Type 0} → (R → Option (List ℕ)) → (R → Option ℕ) → Most → LineReader → Source R → Result Bool LineFault
     → LineReader → Source R → Type 0
-PassesContent remaining errors old from (Ok true) new to =
-    IsNextOf remaining errors old.contents from (Ok next.Content) new.contents to × (past new ≡ Reading)
-PassesContent remaining errors old from (Ok false) new to = IsNext remaining errors old from (Ok None) new to
-PassesContent remaining errors old from (Err fault) new to =
-    IsNext remaining errors old from (Err fault) new to × (fault ≢ Read → IsNoComment remaining old from)
+PassesContent remaining errors most old from (Ok true) new to = (past old ≡ Reading)
+    × IsNextWithin remaining errors most old.contents from (Ok next.Content) new.contents to × (past new ≡ Reading)
+PassesContent remaining errors most old from (Ok false) new to = IsNextBy remaining errors most old from (Ok None) new to
+PassesContent remaining errors most old from (Err fault) new to = IsNextBy remaining errors most old from (Err fault) new to
+    × (most ≡ InFeed → fault ≢ Read → IsNoComment remaining old from)

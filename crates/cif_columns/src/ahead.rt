@@ -1,17 +1,17 @@
 //! The bytes that are read ahead of the lines, the line that stands first in them, and the contents that they
 //! are cut into, one by one.
-ghost use Rattle.std.specs.Prelude.{◌≡◌, ◌<◌, ◌≤◌, [], ◌≢◌, Ok, OnErr, IfSome, IfNone, IsTrue, MatchOption, length};
+ghost use Rattle.std.specs.Prelude.{◌≡◌, ◌<◌, ◌≤◌, [], ℕ, List, Ok, OnErr, IfSome, IfNone, IsTrue, MatchOption, length};
 ghost use Rattle.std.specs.Prelude.{take, drop, true, false, slice_index};
 ghost use Rattle.std.specs.Io.KnownBytes.{Keeps, IsAtEnd};
 ghost use Rattle.std.specs.Str.Lines.{strip_carriage_return};
-ghost use Rattle.cif_columns.specs.Comment.{is_comment};
-ghost use Rattle.cif_columns.specs.Contents.{HaveNoFeed, IsFirstFeed};
+ghost use Rattle.cif_columns.specs.Comment.{begins_comment, is_comment};
+ghost use Rattle.cif_columns.specs.Contents.{HaveNoFeed, IsFirstFeed, most_by};
 ghost use Rattle.cif_columns.specs.FirstLine.{line_of};
 ghost use Rattle.cif_columns.specs.Source.{Reads, reader_of, source_ended};
 ghost use Rattle.cif_columns.specs.declared.ahead.TheConstants.{AHEAD};
 ghost use Rattle.cif_columns.specs.declared.line_reader.TheConstants.{MAX_LINES};
 
-use crate::line::{LINE_TEXT_WIDTH, LINE_WIDTH, Line, are_printable};
+use crate::line::{LINE_TEXT_WIDTH, LINE_WIDTH, Line};
 use crate::refusal::{LineFault, Refusal};
 use crate::source::{ReadDevice, ReadFault, Source};
 use memchr::memchr;
@@ -29,6 +29,38 @@ pub fn line_of(content: &[u8]) -> Result<Line, Refusal>
     match Line::of(*columns) {
         Some(line) => Ok(line),
         None => Err(Refusal::BadByte),
+    }
+}
+
+/// How many bytes a line takes at most, with its ending: a carriage return and a line feed. With so
+/// many bytes and no line feed the first line is too long, whatever follows.
+pub(crate) const LONGEST_LINE: usize = LINE_WIDTH + 2;
+
+/// How many bytes a comment has at most.
+const COMMENT_WIDTH: usize = 1_000;
+
+/// How many it takes at most, with its ending.
+const LONGEST_COMMENT: usize = COMMENT_WIDTH + 2;
+
+/// With how many bytes, and no line feed among them, a content is overlong.
+#[derive(Clone, Copy)]
+pub(crate) enum Most {
+    /// With so many.
+    Of(usize),
+    /// In a feed: with as many as a comment takes at most, if it begins as one does, and else as a line.
+    InFeed,
+}
+
+impl Most {
+    /// With how many, if it begins as these bytes do.
+    fn of(self, bytes: &[u8]) -> usize
+        ensures { result ≡ most_by self bytes.now }
+    {
+        match self {
+            Most::Of(most) => most,
+            Most::InFeed if begins_comment(bytes) => LONGEST_COMMENT,
+            Most::InFeed => LONGEST_LINE,
+        }
     }
 }
 
@@ -130,18 +162,6 @@ impl Ahead {
     {
         self.start += LINE_TEXT_WIDTH;
     }
-
-    /// Whether a comment may stand first, by the first of the held bytes.
-    #[inline(always)]
-    pub(crate) fn may_begin_comment(&self) -> bool
-        ensures { result ≡ false → (0 < length (held_bytes self.now))
-            × (slice_index (held_bytes self.now) 0 ≢ 47) }
-    {
-        match self.as_slice() {
-            [first, ..] => *first == b'/',
-            [] => true,
-        }
-    }
 }
 
 /// What stands first in the bytes that are left.
@@ -161,17 +181,17 @@ impl Ahead {
     ghost use Rattle.cif_columns.specs.Contents.{AreUndecided};
 
     /// Passes the content that stands first in the held bytes and those that the source gives after
-    /// them, and tells what stands there. `most` bytes without a line feed are overlong.
+    /// them, and tells what stands there.
     ///
     /// The source is read only while the held bytes decide no content, each time once. A content is
-    /// decided by its line feed, by `most` bytes with none, and by the end of the input.
+    /// decided by its line feed, by so many bytes with none that it is overlong, and by the end of the input.
     pub(crate) fn next_content<R: ReadDevice>(
         &mut self,
-        most: usize,
+        most: Most,
         source: &mut Source<R>,
     ) -> Result<NextContent, ReadFault>
-        requires some { 0 < most }
-        requires room { most ≤ AHEAD }
+        requires some { (bytes : List ℕ) → 0 < most_by most bytes }
+        requires room { (bytes : List ℕ) → most_by most bytes ≤ AHEAD }
         ensures { CutsNext R.remaining R.read_errors most self.old source.old result self.new
             source.new }
     {
@@ -196,13 +216,14 @@ impl Ahead {
 
     /// Passes the content that stands first in the held bytes, if they decide one: it, or that it is
     /// overlong, which passes nothing.
-    fn decided_content(&mut self, most: usize) -> Option<NextContent>
-        ensures found { IfSome result (λ next. PassesFirst most (held_bytes self.old) next
-            (content_bytes self.new) (held_bytes self.new)) }
-        ensures none { IfNone result (AreUndecided most (held_bytes self.old)) }
+    fn decided_content(&mut self, most: Most) -> Option<NextContent>
+        ensures found { IfSome result (λ next. PassesFirst (most_by most (held_bytes self.old))
+            (held_bytes self.old) next (content_bytes self.new) (held_bytes self.new)) }
+        ensures none { IfNone result (AreUndecided (most_by most (held_bytes self.old)) (held_bytes self.old)) }
         ensures kept { IfNone result (held_bytes self.new ≡ held_bytes self.old) }
     {
         let held = self.as_slice();
+        let most = most.of(held);
         if let Some(at) = first_feed(held, most) {
             let len = without_carriage_return(&held[..at]).len();
             self.pass(len, at + 1);
@@ -257,7 +278,7 @@ pub struct ContentReader {
 }
 
 impl ContentReader {
-    ghost use Rattle.cif_columns.specs.ContentReader.{IsNextOf, content, given, held, limit, most_of};
+    ghost use Rattle.cif_columns.specs.ContentReader.{IsNextOf, IsNextWithin, content, given, held, limit, most_of};
 
     /// A reader that will give at most `max_contents` contents, of fewer than `most` bytes up to their
     /// line feeds.
@@ -300,8 +321,22 @@ impl ContentReader {
     pub fn next<R: ReadDevice>(&mut self, source: &mut Source<R>) -> Result<NextContent, LineFault>
         ensures { IsNextOf R.remaining R.read_errors self.old source.old result self.new source.new }
     {
+        self.next_within(Most::Of(self.most), source)
+    }
+
+    /// Gives the next content as `next` does; this many bytes without a line feed are overlong.
+    pub(crate) fn next_within<R: ReadDevice>(
+        &mut self,
+        most: Most,
+        source: &mut Source<R>,
+    ) -> Result<NextContent, LineFault>
+        requires some { (bytes : List ℕ) → 0 < most_by most bytes }
+        requires room { (bytes : List ℕ) → most_by most bytes ≤ AHEAD }
+        ensures { IsNextWithin R.remaining R.read_errors most self.old source.old result self.new
+            source.new }
+    {
         if self.given == self.limit {
-            let Ok(next) = self.ahead.next_content(1, source) else {
+            let Ok(next) = self.ahead.next_content(Most::Of(1), source) else {
                 return Err(LineFault::Read);
             };
             return match next {
@@ -312,7 +347,7 @@ impl ContentReader {
                 }),
             };
         }
-        match self.ahead.next_content(self.most, source) {
+        match self.ahead.next_content(most, source) {
             Ok(NextContent::Content) => {
                 self.given += 1;
                 Ok(NextContent::Content)
@@ -324,16 +359,21 @@ impl ContentReader {
     }
 }
 
-/// Whether the content is a comment, which says nothing: it begins with `/!!`, and has at most eighty
-/// bytes, each of which may stand in a line (files that others derive from CIF have them).
+/// Whether the bytes begin as a comment does, with `/!!`.
+#[tactic(auto, unfolding(crate::specs::Comment::begins_comment))]
+fn begins_comment(bytes: &[u8]) -> bool
+    ensures { result ≡ begins_comment bytes.now }
+{
+    bytes.starts_with(b"/!!")
+}
+
+/// Whether the content is a comment, which says nothing: it begins with `/!!`, and has at most 1,000 bytes,
+/// whatever they are (files that others derive from CIF have them).
 #[tactic(auto, unfolding(crate::specs::Comment::is_comment))]
 pub(crate) fn is_comment(content: &[u8]) -> bool
     ensures { result ≡ is_comment content.now }
 {
-    if !content.starts_with(b"/!!") {
-        return false;
-    }
-    content.len() <= LINE_WIDTH && are_printable(content)
+    begins_comment(content) && content.len() <= COMMENT_WIDTH
 }
 
 /// Where the first line feed is, if it is among the first `most` bytes.

@@ -1,18 +1,16 @@
 //! Lines, one by one, from a source that gives its bytes in any pieces.
 ghost use Rattle.std.specs.Prelude.{◌≡◌, ◌<◌, ◌≤◌, ◌+◌, [], ℕ, List, IfSome, IsTrue, false};
-ghost use Rattle.cif_columns.specs.declared.line_reader.TheConstants.{LONGEST_LINE, MAX_LINES};
+ghost use Rattle.cif_columns.specs.Contents.{most_by};
+ghost use Rattle.cif_columns.specs.declared.ahead.TheConstants.{AHEAD};
+ghost use Rattle.cif_columns.specs.declared.line_reader.TheConstants.{MAX_LINES};
 
-use crate::ahead::{ContentReader, NextContent, is_comment, line_of};
+use crate::ahead::{ContentReader, LONGEST_LINE, Most, NextContent, is_comment, line_of};
 use crate::line::{LINE_WIDTH, Line};
 use crate::refusal::{LineFault, Refusal};
 use crate::source::{ReadDevice, Source};
 
 /// The most lines that a reader may be asked to give.
 pub const MAX_LINES: u64 = 100_000_000;
-
-/// How many bytes a line takes at most, with its ending: a carriage return and a line feed. With so
-/// many bytes and no line feed the first line is too long, whatever follows.
-const LONGEST_LINE: usize = LINE_WIDTH + 2;
 
 /// What the calls so far came to.
 #[derive(Clone, Copy)]
@@ -27,8 +25,7 @@ enum Past {
 pub enum Content {
     /// A line.
     Line,
-    /// A comment, which says nothing: it begins with `/!!`, and has at most eighty bytes, from a space
-    /// to a tilde.
+    /// A comment, which says nothing: it begins with `/!!`, and has at most 1,000 bytes, whatever they are.
     Comment,
     /// Nothing: the input is at its end.
     End,
@@ -59,12 +56,11 @@ pub struct LineReader {
     past: Past,
     ghost counted: { contents.given ≤ contents.limit },
     ghost limited: { contents.limit ≤ MAX_LINES },
-    ghost longest: { contents.most ≡ LONGEST_LINE },
 }
 
 impl LineReader {
     ghost use Rattle.cif_columns.specs.LineReader.{held, given, limit, line_read, past, IsNext};
-    ghost use Rattle.cif_columns.specs.LineReader.{AreAhead, HasPassed, HoldsNoComment, IsNextContent, PassesContent};
+    ghost use Rattle.cif_columns.specs.LineReader.{AreAhead, HasPassed, HasReadAhead, IsNextContent, PassesContent};
     ghost use Rattle.cif_columns.specs.declared.line_reader.Past.TheVariants.{Faulted, Reading};
     ghost use Rattle.cif_columns.specs.declared.refusal.LineFault.{LineFault};
 
@@ -114,22 +110,14 @@ impl LineReader {
         ensures { IsNext R.remaining R.read_errors self.old source.old (line_read result line.new)
             self.new source.new }
     {
-        match self.past {
-            Past::Reading => {}
-            Past::Ended => return Ok(false),
-            Past::Faulted(fault) => return Err(fault),
-        }
-        let is_full = self.contents.given == self.contents.limit;
-        if self.contents.ahead.line_with_feed(is_full, line) {
-            self.contents.ahead.pass_line_with_feed();
-            self.contents.given += 1;
+        if self.read_ahead(line) {
             return Ok(true);
         }
         self.read_other_line(source, line)
     }
 
     /// Puts the next line into `line`, or passes the comment that stands there, and tells which. It
-    /// answers as `next` does of all but comments, which count as lines.
+    /// answers as `next` does of all but comments, which count as lines, and are decided as such.
     #[inline(always)]
     pub fn read_content<R: ReadDevice>(
         &mut self,
@@ -139,57 +127,29 @@ impl LineReader {
         ensures { IsNextContent R.remaining R.read_errors self.old source.old result line.new
             self.new source.new }
     {
-        if self.may_begin_comment() {
-            return self.read_possible_comment(source, line);
+        if self.read_ahead(line) {
+            return Ok(Content::of_line(line));
         }
-        match self.read_line(source, line) {
-            Ok(true) => Ok(Content::of_line(line)),
-            Ok(false) => Ok(Content::End),
-            Err(fault) => Err(fault),
-        }
+        self.read_other_content(source, line)
     }
 
-    /// Whether a comment may stand first. Where none does that takes a look at one byte.
+    /// Puts the line that stands first in what is held into `line`, if a line feed follows it and it may
+    /// come, and tells whether it did. Nothing is read.
     #[inline(always)]
-    fn may_begin_comment(&self) -> bool
-        ensures reading { IsTrue result → past self.now ≡ Reading }
-        ensures none { result ≡ false → HoldsNoComment self.now }
+    fn read_ahead(&mut self, line: &mut Line) -> bool
+        ensures read { IsTrue result → HasReadAhead self.old line.new self.new }
+        ensures none { result ≡ false → self.new ≡ self.old }
     {
         let Past::Reading = self.past else {
             return false;
         };
-        self.contents.given < self.contents.limit && self.contents.ahead.may_begin_comment()
-    }
-
-    /// What `read_content` does where a comment may stand first.
-    #[cold]
-    #[inline(never)]
-    fn read_possible_comment<R: ReadDevice>(
-        &mut self,
-        source: &mut Source<R>,
-        line: &mut Line,
-    ) -> Result<Content, LineFault>
-        requires { past self.old ≡ Reading }
-        ensures { IsNextContent R.remaining R.read_errors self.old source.old result line.new
-            self.new source.new }
-    {
-        match self.pass_content(source) {
-            Ok(true) => {
-                let content = self.contents.content();
-                if is_comment(content) {
-                    return Ok(Content::Comment);
-                }
-                match line_of(content) {
-                    Ok(next) => {
-                        *line = next;
-                        Ok(Content::Line)
-                    }
-                    Err(why) => Err(self.refuse(why)),
-                }
-            }
-            Ok(false) => Ok(Content::End),
-            Err(fault) => Err(fault),
+        let is_full = self.contents.given == self.contents.limit;
+        if !self.contents.ahead.line_with_feed(is_full, line) {
+            return false;
         }
+        self.contents.ahead.pass_line_with_feed();
+        self.contents.given += 1;
+        true
     }
 
     /// The columns that stand first in what is held, where a line feed follows them and a line may come.
@@ -217,8 +177,7 @@ impl LineReader {
         self.contents.given += 1;
     }
 
-    /// What `read_line` does where the held bytes don't begin with 80 bytes and a line feed, or the
-    /// line would be one too many.
+    /// What `read_line` does where no line is ahead.
     // Few lines come here, so it is kept out of the loops that `read_line` is inlined into.
     #[cold]
     #[inline(never)]
@@ -227,11 +186,10 @@ impl LineReader {
         source: &mut Source<R>,
         line: &mut Line,
     ) -> Result<bool, LineFault>
-        requires { past self.old ≡ Reading }
         ensures { IsNext R.remaining R.read_errors self.old source.old (line_read result line.new)
             self.new source.new }
     {
-        match self.pass_content(source) {
+        match self.pass_content(Most::Of(LONGEST_LINE), source) {
             Ok(true) => match line_of(self.contents.content()) {
                 Ok(next) => {
                     *line = next;
@@ -243,13 +201,53 @@ impl LineReader {
         }
     }
 
+    /// What `read_content` does where no line is ahead.
+    #[cold]
+    #[inline(never)]
+    fn read_other_content<R: ReadDevice>(
+        &mut self,
+        source: &mut Source<R>,
+        line: &mut Line,
+    ) -> Result<Content, LineFault>
+        ensures { IsNextContent R.remaining R.read_errors self.old source.old result line.new
+            self.new source.new }
+    {
+        match self.pass_content(Most::InFeed, source) {
+            Ok(true) => {
+                let content = self.contents.content();
+                if is_comment(content) {
+                    return Ok(Content::Comment);
+                }
+                match line_of(content) {
+                    Ok(next) => {
+                        *line = next;
+                        Ok(Content::Line)
+                    }
+                    Err(why) => Err(self.refuse(why)),
+                }
+            }
+            Ok(false) => Ok(Content::End),
+            Err(fault) => Err(fault),
+        }
+    }
+
     /// Passes the next content, and tells whether there is one. An end or a fault is answered from now on.
-    fn pass_content<R: ReadDevice>(&mut self, source: &mut Source<R>) -> Result<bool, LineFault>
-        requires { past self.old ≡ Reading }
-        ensures { PassesContent R.remaining R.read_errors self.old source.old result self.new
+    fn pass_content<R: ReadDevice>(
+        &mut self,
+        most: Most,
+        source: &mut Source<R>,
+    ) -> Result<bool, LineFault>
+        requires some { (bytes : List ℕ) → 81 < most_by most bytes }
+        requires room { (bytes : List ℕ) → most_by most bytes ≤ AHEAD }
+        ensures { PassesContent R.remaining R.read_errors most self.old source.old result self.new
             source.new }
     {
-        match self.contents.next(source) {
+        match self.past {
+            Past::Reading => {}
+            Past::Ended => return Ok(false),
+            Past::Faulted(fault) => return Err(fault),
+        }
+        match self.contents.next_within(most, source) {
             Ok(NextContent::Content) => Ok(true),
             Ok(NextContent::Overlong) => Err(self.stop(LineFault::Refused {
                 line: self.contents.given + 1,

@@ -1,4 +1,4 @@
--- The bytes that are left stay the same while the source is read on; more of them are held each time, and `most` decide.
+-- The bytes that are left stay the same while the source is read on; more of them are held each time, and as many as can be held decide.
 use Rattle.cif_columns.proofs.Names.{HasReadOn, Keeps, false, held_bytes, known_left, length, source_failed, ◌-◌, ◌≡◌, ◌⊎◌}
 use Rattle.cif_columns.proofs.ahead.Ahead.next_content.Given as goal
 
@@ -10,4 +10,4 @@ invariant-loop-next g l = record {
 }
 
 abbrev pub decreases-loop-next : goal.decreases-loop-next
-decreases-loop-next g l = l.most - length (held_bytes l.self)
+decreases-loop-next g l = 16384 - length (held_bytes l.self)

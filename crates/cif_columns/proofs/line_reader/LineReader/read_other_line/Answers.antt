@@ -5,13 +5,13 @@ use Rattle.cif_columns.proofs.line_reader.LineReader.read_other_line.Goals as go
 
 pub returns-in-Ok : goal.returns-in-Ok
 returns-in-Ok g c =
-    let (next, past_now) = rw c.in-Ok-true.field-0-test at c.in-Ok-true.ensures in
-    makes_line c.requires next past_now c.in-Ok.next (ap line_of (sym c.content.ensures) ∙ sym c.line_of.ensures ∙ c.in-Ok.is)
+    let (reading, next, past_now) = rw c.in-Ok-true.field-0-test at c.in-Ok-true.ensures in
+    makes_line reading next past_now c.in-Ok.next (ap line_of (sym c.content.ensures) ∙ sym c.line_of.ensures ∙ c.in-Ok.is)
 
 pub returns-in-Err : goal.returns-in-Err
 returns-in-Err g c =
-    let (next, past_now) = rw c.in-Ok-true.field-0-test at c.in-Ok-true.ensures in
+    let (reading, next, past_now) = rw c.in-Ok-true.field-0-test at c.in-Ok-true.ensures in
     let refused = c.refuse.ensures in
     rw refused.fault
-    (refuses_content c.requires _ next c.in-Err.why (ap line_of (sym c.content.ensures) ∙ sym c.line_of.ensures ∙ c.in-Err.is) refused.limit
+    (refuses_content reading _ next c.in-Err.why (ap line_of (sym c.content.ensures) ∙ sym c.line_of.ensures ∙ c.in-Err.is) refused.limit
     refused.given (refused.past ∙ ap Faulted refused.fault))
