@@ -44,7 +44,7 @@ const LONGEST_COMMENT: usize = COMMENT_WIDTH + 2;
 
 /// With how many bytes, and no line feed among them, a content is overlong.
 #[derive(Clone, Copy)]
-pub(crate) enum Most {
+pub enum Most {
     /// With so many.
     Of(usize),
     /// In a feed: with as many as a comment takes at most, if it begins as one does, and else as a line.

@@ -21,7 +21,7 @@ mod text;
 mod trials;
 
 pub use activities::Activities;
-pub use ahead::{ContentReader, NextContent, line_of};
+pub use ahead::{ContentReader, Most, NextContent, line_of};
 pub use clock::{PublicTime, WorkTime};
 pub use day::{DAYS_IN_WEEK, Day, digits_of};
 pub use days_run::DaysRun;

@@ -1,9 +1,10 @@
 -- What the contents of a feed so far have come to, and how its reading ends.
-use Rattle.cif_feed.proofs.Names.{All, All-cons, All-head, All-nil, All-tail, AreAllContents, AreContentsToFailure, AreContentsToFault}
+use Rattle.cif_feed.proofs.Names.{All, All-cons, All-head, All-nil, All-tail, AreAllContents, AreContentsToCut, AreContentsToFault}
 use Rattle.cif_feed.proofs.Names.{AreContentsToRefusal, AreWholeContentsAndRest, BadTransaction, BeginWithoutComment, Bool, BytesSpellFeed}
+use Rattle.cif_feed.proofs.Names.{begins_comment}
 use Rattle.cif_feed.proofs.Names.{Err, Extract, Feed, FeedExtract, FeedFault, FeedReading, Full, HasLineReason, HasPassedComment, HasReadOn}
 use Rattle.cif_feed.proofs.Names.{HaveRoom, Hd, HolidayCodes, IfErr, IfOk, IfSome, IsFeedContent, IsFeedCut, IsFeedFault, IsFeedTaken}
-use Rattle.cif_feed.proofs.Names.{IsFirstContent, IsFirstOfFeed, IsLine, IsLineNumber, IsNext, IsNextFault, IsNoComment, IsNoTrailer}
+use Rattle.cif_feed.proofs.Names.{InFeed, IsFirstContent, IsFirstOfFeed, IsLine, IsLineNumber, IsNextBy, IsNextFault, IsNoComment, IsNoTrailer}
 use Rattle.cif_feed.proofs.Names.{IsOfFeed, IsOwed, IsReadWhole, IsReadingContents, IsResultOf, IsSomeAnd, Kind, KnownContents, LineFault}
 use Rattle.cif_feed.proofs.Names.{LineReads, List, None, NoneOfFeedRefused, NotUpdate, Ok, Option, Refusal, Result, SayFeed, Some, Source}
 use Rattle.cif_feed.proofs.Names.{SpellFeed, TakeFault, Unread, Zz, [], answers, ap, append_assoc, append_cancel_left, arith, below_more}
@@ -15,7 +16,7 @@ use Rattle.cif_feed.proofs.Names.{not_true, notes_may_stand, of_any, option_or, 
 use Rattle.cif_feed.proofs.Names.{reader_of, reading_content, reading_feed, record_lines, refl, refuses, slice_index_or, source_failed, sym}
 use Rattle.cif_feed.proofs.Names.{take, take-append-le, take-append_seam, true, true≢false, unless, unread_of, untaken_fault, ℕ, ◌++◌, ◌+◌}
 use Rattle.cif_feed.proofs.Names.{◌<◌, ◌∙◌, ◌∷◌, ◌≡◌, ◌≢◌, ◌≤◌}
-use Rattle.cif_columns.specs.GivenLines.{IsContentDecidedOrLast}
+use Rattle.cif_columns.specs.GivenLines.{IsDecidedWithinOrLast}
 use Rattle.cif_columns.specs.LineReader.{given, left}
 use Rattle.cif_columns.specs.declared.line.Line.{Line}
 use Rattle.cif_columns.specs.declared.line_reader.LineReader.{LineReader}
@@ -180,7 +181,7 @@ module _ (feed : Feed) (allowed : HolidayCodes) (max : ℕ) where
       no_comment_there bytes rest content others known is none =
           none content others (append_cancel_left cs _ _ (sym (contents_given bytes cs rest known) ∙ is))
 
-      pub at_feed_fault : (fault : LineFault) → IfSome start (λ bytes. AreContentsToFault IsFeedContent max bytes after cs fault)
+      pub at_feed_fault : (fault : LineFault) → IfSome start (λ bytes. AreContentsToFault IsFeedContent InFeed max bytes after cs fault)
           → (fault ≢ line_fault.Read → IsNoComment remaining reader source)
           → IfSome start (λ bytes. IsFeedFault feed allowed max bytes after (Extract (of_line_fault fault)))
       at_feed_fault (line_fault.Refused number why) faults none =
@@ -190,7 +191,7 @@ module _ (feed : Feed) (allowed : HolidayCodes) (max : ℕ) where
           at : (s rest : Option (List ℕ)) → KnownContents IsFeedContent s cs rest
               → (length cs < max → IfSome rest BeginWithoutComment)
               → IfSome s (λ bytes. AreContentsToRefusal IsFeedContent max bytes cs number why
-              × IsContentDecidedOrLast IsFeedContent max bytes after number)
+              × IsDecidedWithinOrLast IsFeedContent InFeed max bytes after number)
               → IfSome s (λ bytes. IsFeedFault feed allowed max bytes after (Extract (fault.Refused number why)))
           at None rest known none r = tt
           at (Some bytes) None known none r = absurd known
@@ -212,7 +213,7 @@ module _ (feed : Feed) (allowed : HolidayCodes) (max : ℕ) where
       at_feed_fault line_fault.Read faults none = known_so start _ _ (λ bytes r. at bytes after.bytes r) faults
         where
           at : (bytes : List ℕ) (unread : Option (List ℕ))
-              → IsSomeAnd unread (λ others. AreContentsToFailure IsFeedContent max bytes others cs)
+              → IsSomeAnd unread (λ others. AreContentsToCut IsFeedContent InFeed max bytes others cs)
               → IsSomeAnd unread (IsFeedCut feed allowed max bytes)
           at bytes None r = absurd r
           at bytes (Some others) r = record { contents = cs; given = r; fine = fine }
@@ -238,15 +239,15 @@ module _ (feed : Feed) (allowed : HolidayCodes) (max : ℕ) {R : Type 0} (remain
   pub comes-untaken : (number : ℕ) (kind : Option Kind) (s : TakeFault) → 1 ≤ number → number ≤ max → HasReadOn errors old new
       → ((why : Refusal) → s ≡ untaken.Refused why → IfSome (remaining (reader_of old)) (λ bytes.
       IsFirstOfFeed feed allowed max (contents_of bytes) (fault_for feed number kind why)
-      × IsContentDecidedOrLast IsFeedContent max bytes (unread_of remaining new) number)) → Comes (Err (untaken_fault feed number kind s))
+      × IsDecidedWithinOrLast IsFeedContent InFeed max bytes (unread_of remaining new) number)) → Comes (Err (untaken_fault feed number kind s))
   comes-untaken number kind (untaken.Refused why) first within read_on h =
       let here : IsLineNumber max number = (first, omega arith) in
       refuses remaining errors old new (reading_feed feed allowed max) (fault_for feed number kind why)
       (known_so (remaining (reader_of old)) (λ bytes. IsFirstOfFeed feed allowed max (contents_of bytes) (fault_for feed number kind why)
-      × IsContentDecidedOrLast IsFeedContent max bytes (unread_of remaining new) number)
+      × IsDecidedWithinOrLast IsFeedContent InFeed max bytes (unread_of remaining new) number)
       (λ bytes. IsFeedFault feed allowed max bytes (unread_of remaining new) (fault_for feed number kind why))
       (λ bytes. named_fault feed allowed max (λ f. IsFirstOfFeed feed allowed max (contents_of bytes) f
-      × IsContentDecidedOrLast IsFeedContent max bytes (unread_of remaining new) number
+      × IsDecidedWithinOrLast IsFeedContent InFeed max bytes (unread_of remaining new) number
       → IsFeedFault feed allowed max bytes (unread_of remaining new) f)
       number kind why (λ w both. both) (λ both. both) (λ both. both)) (h why refl))
       (named_fault feed allowed max (IsOfFeed max) number kind why (λ w. here) here here)
@@ -259,7 +260,7 @@ module _ (feed : Feed) (allowed : HolidayCodes) (max : ℕ) {R : Type 0} (remain
     pub comes-line_fault : (reader : LineReader) (between : Source R)
         → IsReadingContents IsFeedContent remaining (remaining (reader_of old)) max reader between cs → HasReadOn errors old between
         → (count : ℕ) → count ≤ max → (l : LineFault)
-        → IfSome (remaining (reader_of old)) (λ bytes. AreContentsToFault IsFeedContent max bytes (unread_of remaining new) cs l)
+        → IfSome (remaining (reader_of old)) (λ bytes. AreContentsToFault IsFeedContent InFeed max bytes (unread_of remaining new) cs l)
         → (l ≢ line_fault.Read → IsNoComment remaining reader between) → IsNextFault count l
         → LineReads {A = Option Line} errors between new (Err l) → Comes (Err (Extract (of_line_fault l)))
     comes-line_fault reader between so_far read_on count within (line_fault.Refused number why) faults none next reads =
@@ -326,6 +327,7 @@ room_more cs n are few = record {
   revised = room_one _ cs n.revised (ap (λ (v : UpdateCounts). v.revised) are) few;
   taken_out = room_one _ cs n.taken_out (ap (λ (v : UpdateCounts). v.taken_out) are) few;
   open_ends = room_one _ cs n.open_ends (ap (λ (v : UpdateCounts). v.open_ends) are) few;
+  holiday_codes = room_one _ cs n.holiday_codes (ap (λ (v : UpdateCounts). v.holiday_codes) are) few;
 }
 
 -- there are so few, where a reader has given one more
@@ -335,14 +337,14 @@ few_lines reader cs n more is = omega (arith, more, is, reader.counted, reader.l
 -- ---- one content more
 
 bare_comment : is_comment (codes "/!!") ≡ true
-unfolding is_comment
+unfolding is_comment begins_comment
 bare_comment = refl
 
 module _ {R : Type 0} (remaining : R → Option (List ℕ)) (errors : R → Option ℕ) (start : Option (List ℕ)) (max : ℕ) (reader : LineReader)
     (source : Source R) (cs : List (List ℕ)) (so_far : IsReadingContents IsFeedContent remaining start max reader source cs)
     (reader' : LineReader) (source' : Source R) where
   -- a line
-  pub feed_line : (line : List ℕ) → IsLine line → IsNext remaining errors reader source (Ok (Some line)) reader' source'
+  pub feed_line : (line : List ℕ) → IsLine line → IsNextBy remaining errors InFeed reader source (Ok (Some line)) reader' source'
       → IsReadingContents IsFeedContent remaining start max reader' source' (cs ++ line ∷ [])
   feed_line line is_line next =
       reading_content remaining start max reader source cs so_far reader' source' line (λ going.

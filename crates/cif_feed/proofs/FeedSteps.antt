@@ -1,11 +1,13 @@
 -- One content more of a feed: the record that is read of it and taken, what the contents say then, and what the reading has come to.
+use Rattle.std.proofs.Common.{nat_le}
+use Rattle.cif_feed.proofs.Names.{begins_comment}
 use Rattle.cif_feed.proofs.Names.{Aa, AllStandIn, Association, BasicTerms, Bool, Bs, Err, Feed, FeedReading, Full, GoesOnPlainly, HasTaken}
 use Rattle.cif_feed.proofs.Names.{HasTakenFeed, Hd, HolidayCodes, IsClosedAt, IsFeedTaken, IsJudged, IsKeepable, IsNoteTaken, IsOwn}
 use Rattle.cif_feed.proofs.Names.{IsRecordTaken, IsStopTaken, IsTaken, IsTakenAs, Kind, Li, List, MarkParts, None, Ok, Option, OutOfOrder}
 use Rattle.cif_feed.proofs.Names.{Progress, Record, Refusal, Refused, Result, Some, SpellsAssociationBy, SpellsBasicBy, SpellsInFeed}
 use Rattle.cif_feed.proofs.Names.{SpellsRecord, Ta, TakeFault, Td, Ti, Transaction, UnlessMemory, [], and_parts, ap, append-nil, arith}
 use Rattle.cif_feed.proofs.Names.{association_mark, association_refusal_by, basic_back, basic_refusal_by, bytes_eq-Decides, code_of, codes}
-use Rattle.cif_feed.proofs.Names.{columns, cond, counts_of, ends_open, enumerate_from, false, feed_layouts, feed_refusal_as, filter}
+use Rattle.cif_feed.proofs.Names.{columns, cond, counts_of, ends_open, enumerate_from, false, feed_layouts, feed_refusal_as, filter, has_holiday_code}
 use Rattle.cif_feed.proofs.Names.{filter-append, find, fine_so, first_of, header_behind, header_from, is_association, is_basic, is_comment}
 use Rattle.cif_feed.proofs.Names.{is_deleted, is_header, is_identity, is_new, is_note, is_of_tiploc, is_open, is_record_line, is_revised}
 use Rattle.cif_feed.proofs.Names.{is_trailer, kind_in, kind_of, kind_read_as, kinds, length, length-append, lines_of, list_any}
@@ -151,9 +153,9 @@ module _ (feed : Feed) (allowed : HolidayCodes) (line : List ℕ) (before : Prog
 -- ---- comments, notes and lines
 
 begins : (c : List ℕ) → is_comment c ≡ true → columns 1 2 c ≡ take 2 (codes "/!!")
-unfolding is_comment
+unfolding is_comment begins_comment
 begins c is =
-    let same = (bytes_eq-Decides (codes "/!!") (take 3 c)).0 (and_parts _ _ (and_parts _ _ is).0).0 in
+    let same = (bytes_eq-Decides (codes "/!!") (take 3 c)).0 (and_parts (begins_comment c) (nat_le (length c) 1000) is).0 in
     sym (take-take 2 3 c (omega arith)) ∙ ap (take 2) (sym same)
 
 -- a comment is no note, and names no kind
@@ -243,6 +245,7 @@ module _ (feed : Feed) (allowed : HolidayCodes) (cs : List (List ℕ)) (c : List
     count_more (λ l. is_revised (transaction_as (kind_in l) l)),
     count_more (λ l. is_deleted (transaction_as (kind_in l) l)),
     count_more (λ l. ends_open (kind_in l) l),
+    count_more (λ l. has_holiday_code (kind_in l) l),
   ) refl
 
   -- the lines of some kinds, and what is said of each

@@ -1,4 +1,5 @@
 -- The lines of holidays, word by word, and how they are read.
+use Rattle.cif_feed.proofs.Names.{Of}
 use Rattle.cif_feed.proofs.Names.{All, All-contains, AreCodeAndDates, AreHolidaysOf, AreRead, AreWholeContentsAndRest, Bool, Contains}
 use Rattle.cif_feed.proofs.Names.{Contains-append_left, Contains-append_right, Contains-first, Contains-push, Contains-push_cases}
 use Rattle.cif_feed.proofs.Names.{ContentReader, DecideNoContent, E, Err, G, GivenDecideContent, HasGiven, HasLineMore, HasMore, HasReadOn}
@@ -335,7 +336,7 @@ module _ {R : Type 0} (remaining : R → Option (List ℕ)) (errors : R → Opti
   -- the next line is bad
   refused : (number : ℕ) → number ≡ given reader + 1
       → IfSome rest (λ bytes. (line : List ℕ) × (others : List (List ℕ)) × (contents_of bytes ≡ line ∷ others) × IsBadLine number line)
-      → (source_ended new ≡ false → GivenDecideContent 1002 100000000 (length ls) rest (remaining (reader_of new)))
+      → (source_ended new ≡ false → GivenDecideContent (Of 1002) 100000000 (length ls) rest (remaining (reader_of new)))
       → HasReadOn errors between new → Comes (Err (BadHoliday number))
   refused number next bad decided on =
       let is : number ≡ length ls + 1 = next ∙ ap (λ n. n + 1) so_far.counted in
@@ -349,15 +350,15 @@ module _ {R : Type 0} (remaining : R → Option (List ℕ)) (errors : R → Opti
         numbered = is;
         bad = found.4;
       }) (known_next IsHolidayLine start rest ls so_far.known (IsBadLine number) bad))
-      (known_decided IsHolidayLine start rest ls so_far.known 1002 100000000 number is (remaining (reader_of new)) (source_ended new)
+      (known_decided IsHolidayLine start rest ls so_far.known (Of 1002) 100000000 number is (remaining (reader_of new)) (source_ended new)
       decided))
       (omega (arith, is), omega (arith, is, within)) (read_on_both errors old between new read_on on)
 
   -- of the reader's limits and count
-  decides : GivenDecideContent reader.most reader.limit reader.given rest (remaining (reader_of new))
-      → GivenDecideContent 1002 100000000 (length ls) rest (remaining (reader_of new))
+  decides : GivenDecideContent (Of reader.most) reader.limit reader.given rest (remaining (reader_of new))
+      → GivenDecideContent (Of 1002) 100000000 (length ls) rest (remaining (reader_of new))
   decides = at_limits AreLinesAndRest remaining errors start 1002 100000000 reader between ls so_far
-      (λ k m n. GivenDecideContent k m n rest (remaining (reader_of new)))
+      (λ k m n. GivenDecideContent (Of k) m n rest (remaining (reader_of new)))
 
   module _ (next : IsNextOf remaining errors reader between (Ok Content) reader' new) where
     -- a line more
@@ -385,7 +386,7 @@ module _ {R : Type 0} (remaining : R → Option (List ℕ)) (errors : R → Opti
       → Comes (Err (BadHoliday number))
   comes-overlong next number is =
       refused number (is ∙ ap (λ n. n + 1) next.holds.1) (known_so rest _ _ (λ bytes answer.
-      let (line, others, contents, long) = overlong_content reader.most bytes reader.some answer.1 in
+      let (line, others, contents, long, front) = overlong_content reader.most bytes reader.some answer.1 in
       (line, others, contents, inr (λ fine. let short = fine.within in omega (arith, long, short, so_far.same_most)))) next.answer)
       (λ not. decides (next.decided (λ e. absurd (cc)) not)) next.device
 
@@ -400,7 +401,7 @@ module _ {R : Type 0} (remaining : R → Option (List ℕ)) (errors : R → Opti
   comes-line_fault line_fault.Read next =
       refuses remaining errors old new reading_holidays Read
       (known_so start _ _ (λ bytes cut. (ls, cut))
-      (known_cut IsHolidayLine start rest ls so_far.known 100000000 within 1002 (held reader') (remaining (reader_of new)) next.answer
+      (known_cut IsHolidayLine start rest ls so_far.known 100000000 within (Of 1002) (held reader') (remaining (reader_of new)) next.answer
       (at_limits AreLinesAndRest remaining errors start 1002 100000000 reader between ls so_far
       (λ k m n. DecideNoContent k m n (held reader')) next.holds.1))) tt (failed_after errors old between new read_on next.device)
 

@@ -29,10 +29,11 @@ pub use Rattle.cif_columns.proofs.GivenLinesLaws.{IsReadingContents, KnownConten
 pub use Rattle.cif_columns.proofs.GivenLinesLaws.{one_more, reading_content, reading_starts}
 pub use Rattle.cif_columns.proofs.JudgedContents.{AreAll, AreJudgedAndRest, content_more, given_failed, given_overlong, given_too_many}
 pub use Rattle.cif_columns.proofs.JudgedContents.{judged_all, judged_all_given, no_contents}
-unfoldable pub use Rattle.cif_columns.proofs.Names.{is_comment}
-pub use Rattle.cif_columns.proofs.Names.{All-contains, All-drop, All-push, All-take, All-weaker, AreAllContents, AreContentsToFailure}
+unfoldable pub use Rattle.cif_columns.proofs.Names.{begins_comment, is_comment}
+pub use Rattle.cif_columns.proofs.Names.{All-contains, All-drop, All-push, All-take, All-weaker, AreAllContents, AreContentsToCut}
 pub use Rattle.cif_columns.proofs.Names.{AreContentsToFault, AreContentsToRefusal, ArePrintable, BeginWithoutComment, Contains-append_right}
-pub use Rattle.cif_columns.proofs.Names.{DecideNoContent, FieldValue, GivenDecideContent, HasPassedComment, IsDay, IsFirstContent, IsNext}
+pub use Rattle.cif_columns.proofs.Names.{DecideNoContent, FieldValue, GivenDecideContent, HasPassedComment, IsDay, IsFirstContent}
+pub use Rattle.cif_columns.proofs.Names.{IsNextBy}
 pub use Rattle.cif_columns.proofs.Names.{IsNextOf, IsNoComment, RunsOn, StandsInYymmdd, and_parts, bytes_eq-Decides, cases_lt, cond_both}
 pub use Rattle.cif_columns.proofs.Names.{content, date, drop-append-add, drop-take, exactly, false_from_ne_true, false≢true}
 pub use Rattle.cif_columns.proofs.Names.{flat_map-append, get_or_default, indicator, is_whole_from, length-map, length-reverse, line_of}
@@ -44,6 +45,7 @@ pub use Rattle.cif_columns.proofs.ReadSources.{read_nothing}
 pub use Rattle.cif_columns.proofs.WrittenTexts.{failed_second, written_both, written_nothing}
 pub use Rattle.cif_columns.specs.ContentReader.{held}
 pub use Rattle.cif_columns.specs.declared.ahead.ContentReader.{ContentReader}
+pub use Rattle.cif_columns.specs.declared.ahead.Most.TheVariants.{InFeed, Of}
 pub use Rattle.cif_columns.specs.declared.refusal.Refusal.TheVariants.{BadByte, BadLength, OutOfOrder, TooManyLines}
 pub use Rattle.cif_columns.specs.declared.sink.Sink.{Sink}
 pub use Rattle.cif_records.proofs.Headers.{last_is_day}
@@ -103,7 +105,7 @@ pub use Rattle.cif_calendar.specs.Entries.{schedule_terms}
 pub use Rattle.cif_feed.specs.Changes.{AreAfter, AreRefused, ChangeParts, HaveLastWord, TellsSame, after_all, after_change, changes_of}
 pub use Rattle.cif_feed.specs.Changes.{is_changed, is_there, key_of, keyed_record, last_word, put_last, put_of, refusal, refusals}
 pub use Rattle.cif_feed.specs.Changes.{transaction_of, untouched, why_unfit, with_keys, without_key}
-pub use Rattle.cif_feed.specs.Counts.{counts_of, ends_open, is_deleted, is_new, is_revised, transaction_as}
+pub use Rattle.cif_feed.specs.Counts.{counts_of, ends_open, has_holiday_code, is_deleted, is_new, is_revised, transaction_as}
 pub use Rattle.cif_feed.specs.CutCount.{AppliesOnAny, HasCut, IsCountOf}
 unfoldable pub use Rattle.cif_feed.specs.Dropped.{dropped_text}
 pub use Rattle.cif_feed.specs.Dropped.{AreClashDays, AreDropped, more_text}

@@ -172,13 +172,15 @@ module _ (allowed : HolidayCodes) (max : ℕ) where
   reads-published f = record { fault = λ bytes after h. h; answers = λ h. h; same = refl }
 
   pub makes-published : (lines : FeedExtract) (x : PublishedExtract) → SayPublished (feed_parts lines) (published_parts x)
-      → x.passed ≡ lines.marks.passed → Makes (reading_feed Full allowed max) (reading_published allowed max) lines x
-  makes-published lines x says passed = record {
+      → x.counts ≡ lines.marks.counts → x.passed ≡ lines.marks.passed
+      → Makes (reading_feed Full allowed max) (reading_published allowed max) lines x
+  makes-published lines x says counts passed = record {
     answer = λ bytes s. record {
       spelled = record {
         spell = record { lines = feed_parts lines; spelled = s.spell; says = says };
         within = s.within;
       };
+      counts = counts ∙ ap (λ (m : MarkParts). m.counts) s.spell.says.marks;
       passed = passed ∙ ap (λ (m : MarkParts). m.passed) s.spell.says.marks;
     };
     whole = λ whole. tt;

@@ -2,11 +2,12 @@
 use Rattle.cif_feed.proofs.Names.{AlreadyThere, BadTransaction, Bool, BytesSpellPublished, Err, FeedFault, HasFailed, HasWritten, IfErr}
 use Rattle.cif_feed.proofs.Names.{IfOk, IfSome, IsDeviceOrMemory, IsPublishedOf, IsResultOf, List, Makes, MatchResult, NotThere, NotUpdate}
 use Rattle.cif_feed.proofs.Names.{Ok, Option, PublishedExtract, PublishedParts, Refuses, Result, Sink, Some, Source, Unread, Writes, []}
-use Rattle.cif_feed.proofs.Names.{all_codes, ap, append-nil, append_assoc, failed_second, flat_map-append, goes-on, inl, inr}
+use Rattle.cif_feed.proofs.Names.{all_codes, ap, append-nil, append_assoc, failed_second, goes-on, inl, inr, list_any, not}
 use Rattle.cif_feed.proofs.Names.{published_parts, published_text, reader_of, reading_published, refl, subst, sym, unread_of, updating}
-use Rattle.cif_feed.proofs.Names.{written_both, ℕ, ⊎_elim, ◌++◌, ◌∙◌, ◌∷◌, ◌≡◌, ◌⊎◌}
-use Rattle.cif_feed.specs.FeedAnswer.{AreDoneInTurn, AreGiven, AreUpdatesRead, EndsAs, FeedAnswers, FeedFinishes, IsTold, IsUpdateFault}
-use Rattle.cif_feed.specs.FeedAnswer.{OfUpdates, doing, waived_by}
+use Rattle.cif_feed.proofs.Names.{written_both, ℕ, ⊎_elim, ◌&&◌, ◌++◌, ◌||◌, ◌∙◌, ◌∷◌, ◌≡◌, ◌⊎◌}
+use Rattle.cif_feed.specs.Counts.{have_marks}
+use Rattle.cif_feed.specs.FeedAnswer.{AreDoneInTurn, AreGiven, AreUpdatesRead, EndsAs, FeedAnswers, FeedFinishes, IsTold, IsUpdateAnswer}
+use Rattle.cif_feed.specs.FeedAnswer.{IsUpdateFault, OfUpdates, UpdateTold, counts_in, waived_by}
 use Rattle.cif_columns.specs.declared.line_reader.TheConstants.{MAX_LINES}
 use Rattle.cif_extract.specs.ReadCall.{ReadCall}
 use Rattle.cif_extract.specs.declared.fault.Fault.TheVariants.{Write}
@@ -14,8 +15,7 @@ use Rattle.cif_feed.specs.declared.feed.FeedFault.TheVariants.{OutOfSequence}
 use Rattle.cif_columns.specs.declared.sink.WriteFault.{WriteFault}
 use Rattle.cif_extract.specs.declared.fault.Fault.TheVariants.{Memory, Read, Refused}
 use Rattle.cif_feed.specs.Updated.{IsOfUpdate, IsOutcomeOf, IsUpdateFault as IsOneUpdateFault}
-use Rattle.cif_feed.specs.UpdatesInTurn.{AreUpdatesDone, IsOneRefused, IsRefusedFor, IsWritten}
-use Rattle.cif_feed.specs.declared.changes.RefusedLine.{RefusedLine}
+use Rattle.cif_feed.specs.UpdatesInTurn.{AreUpdatesDone, IsOneRefused, IsRefusedFor}
 use Rattle.cif_feed.specs.declared.changes.Unfit.TheVariants as unfit
 use Rattle.cif_feed.specs.declared.feed.FeedFault.TheVariants.{BadHoliday, Extract}
 use Rattle.cif_feed.specs.declared.holidays.HolidayCodes.{HolidayCodes}
@@ -47,93 +47,102 @@ update-refused lenient old bytes after (AlreadyThere line) h = inr (inr (record 
 
 module _ {R : Type 0} (remaining : R → Option (List ℕ)) (errors : R → Option ℕ) (lenient : Bool) where
   -- updates that are done are done to the extract in turn
-  pub done-in-turn : (sources after : List (Source R)) (old new : PublishedParts) (waived : List RefusedLine) (given : List (List ℕ)) →
-      AreDoneInTurn remaining errors lenient old new sources after waived (Ok tt) → AreGiven remaining sources given →
-      AreUpdatesDone lenient MAX_LINES old given new waived
-  done-in-turn [] after old new waived given h are = subst (λ g. AreUpdatesDone lenient MAX_LINES old g new waived) (sym are) (h.2, h.3)
-  done-in-turn (s ∷ ss) after old new waived given (read, others, is, mid, first, way) (bytes, more, same, known, are) =
-      subst (λ g. AreUpdatesDone lenient MAX_LINES old g new waived) (sym same)
+  pub done-in-turn : (sources after : List (Source R)) (old new : PublishedParts) (done : List DoneUpdate) (given : List (List ℕ)) →
+      AreDoneInTurn remaining errors lenient old new sources after done (Ok tt) → AreGiven remaining sources given →
+      AreUpdatesDone lenient MAX_LINES old given new (waived_by done)
+      × (list_any (λ (u : DoneUpdate). have_marks u.outcome.counts) done ≡ list_any (λ g. have_marks (counts_in g)) given)
+  done-in-turn [] after old new done given h are = (
+    subst (λ g. AreUpdatesDone lenient MAX_LINES old g new (waived_by done)) (sym are) (h.2, ap waived_by h.3),
+    ap (list_any (λ (u : DoneUpdate). have_marks u.outcome.counts)) h.3 ∙ ap (list_any (λ g. have_marks (counts_in g))) (sym are),
+  )
+  done-in-turn (s ∷ ss) after old new done given (read, others, is, mid, way) (bytes, more, same, known, are) =
+      subst (λ g. AreUpdatesDone lenient MAX_LINES old g new (waived_by done)
+      × (list_any (λ (u : DoneUpdate). have_marks u.outcome.counts) done ≡ list_any (λ l. have_marks (counts_in l)) g)) (sym same)
       (⊎_elim (λ no. let e : Ok tt ≡ Err no.0 = no.1 in absurd (cc))
-      (λ on. (
-        mid,
-        first,
-        on.0,
-        answer-of (doing lenient old mid first) remaining errors s read bytes known tt on.2,
-        done-in-turn ss others mid new on.0 more on.3 are,
-        on.1,
+      (λ on.
+      let one : IsOutcomeOf lenient old MAX_LINES bytes mid on.0.outcome =
+      answer-of (updating lenient old mid MAX_LINES) remaining errors s read bytes known on.0.outcome on.4 in
+      let further = done-in-turn ss others mid new on.1 more on.5 are in (
+        (mid, on.0.outcome.waived.items, waived_by on.1, one.done, further.0, ap waived_by on.2),
+        ap (list_any (λ (u : DoneUpdate). have_marks u.outcome.counts)) on.2
+            ∙ (ap (λ c. have_marks c || list_any (λ (u : DoneUpdate). have_marks u.outcome.counts) on.1) one.counts
+            ∙ ap (λ b. have_marks (counts_in bytes) || b) further.1),
       )) way)
 
   -- or one isn't, for this
-  pub refused-in-turn : (sources after : List (Source R)) (old new : PublishedParts) (waived : List RefusedLine) (given : List (List ℕ))
-      (f : FeedFault) → AreDoneInTurn remaining errors lenient old new sources after waived (Err f) → AreGiven remaining sources given →
+  pub refused-in-turn : (sources after : List (Source R)) (old new : PublishedParts) (done : List DoneUpdate) (given : List (List ℕ))
+      (f : FeedFault) → AreDoneInTurn remaining errors lenient old new sources after done (Err f) → AreGiven remaining sources given →
       IsDeviceOrMemory f ⊎ IsOneRefused lenient MAX_LINES old given f
-  refused-in-turn [] after old new waived given f h are = absurd h.1
-  refused-in-turn (s ∷ ss) after old new waived given f (read, others, is, mid, first, way) (bytes, more, same, known, are) =
+  refused-in-turn [] after old new done given f h are = absurd h.1
+  refused-in-turn (s ∷ ss) after old new done given f (read, others, is, mid, way) (bytes, more, same, known, are) =
       subst (λ g. IsDeviceOrMemory f ⊎ IsOneRefused lenient MAX_LINES old g f) (sym same)
-      (⊎_elim refused (λ on. later on.0 on.2 (refused-in-turn ss others mid new on.0 more f on.3 are)) way)
+      (⊎_elim refused (λ on. later on.0.outcome on.4 (refused-in-turn ss others mid new on.1 more f on.5 are)) way)
     where
       refused : (fault : FeedFault) × (◌≡◌ {A = Result (Unit {0}) FeedFault} (Err f) (Err fault)) × (others ≡ ss)
-          × IsResultOf remaining errors (doing lenient old mid first) s read (Err fault)
+          × IsResultOf remaining errors (updating lenient old mid MAX_LINES) s read (Err fault)
           → IsDeviceOrMemory f ⊎ IsOneRefused lenient MAX_LINES old (bytes ∷ more) f
       refused (fault, is, still, call) =
           let same : fault ≡ f = cc in
           ⊎_elim inl (λ h. inr (inl h))
           (update-refused lenient old bytes _ f (subst (IsOneUpdateFault lenient old MAX_LINES bytes _) same
-          (fault-of (doing lenient old mid first) remaining errors s read bytes known fault call)))
+          (fault-of (updating lenient old mid MAX_LINES) remaining errors s read bytes known fault call)))
 
-      later : (behind : List RefusedLine) → IsResultOf remaining errors (doing lenient old mid first) s read (Ok tt) →
+      later : (outcome : Outcome) → IsResultOf remaining errors (updating lenient old mid MAX_LINES) s read (Ok outcome) →
           IsDeviceOrMemory f ⊎ IsOneRefused lenient MAX_LINES mid more f →
           IsDeviceOrMemory f ⊎ IsOneRefused lenient MAX_LINES old (bytes ∷ more) f
-      later behind call =
-          ⊎_elim inl (λ h. inr (inr (mid, first, answer-of (doing lenient old mid first) remaining errors s read bytes known tt call, h)))
+      later outcome call =
+          let one : IsOutcomeOf lenient old MAX_LINES bytes mid outcome =
+          answer-of (updating lenient old mid MAX_LINES) remaining errors s read bytes known outcome call in
+          ⊎_elim inl (λ h. inr (inr (mid, outcome.waived.items, one.done, h)))
 
   -- whatever the readers give, no other fault comes
-  pub faults-in-turn : (sources after : List (Source R)) (old new : PublishedParts) (waived : List RefusedLine) (f : FeedFault) →
-      AreDoneInTurn remaining errors lenient old new sources after waived (Err f) → IsOfUpdate MAX_LINES f
-  faults-in-turn [] after old new waived f h = absurd h.1
-  faults-in-turn (s ∷ ss) after old new waived f (read, others, is, mid, first, way) =
+  pub faults-in-turn : (sources after : List (Source R)) (old new : PublishedParts) (done : List DoneUpdate) (f : FeedFault) →
+      AreDoneInTurn remaining errors lenient old new sources after done (Err f) → IsOfUpdate MAX_LINES f
+  faults-in-turn [] after old new done f h = absurd h.1
+  faults-in-turn (s ∷ ss) after old new done f (read, others, is, mid, way) =
       ⊎_elim (λ no. let same : no.0 ≡ f = cc in
-      let call : IsResultOf remaining errors (doing lenient old mid first) s read (Err no.0) = no.3 in
+      let call : IsResultOf remaining errors (updating lenient old mid MAX_LINES) s read (Err no.0) = no.3 in
       subst (IsOfUpdate MAX_LINES) same call.answers)
-      (λ on. faults-in-turn ss others mid new on.0 f on.3) way
+      (λ on. faults-in-turn ss others mid new on.1 f on.5) way
 
--- an update that was done is told, if there is memory for it
-module _ {R : Type 0} (remaining : R → Option (List ℕ)) (errors : R → Option ℕ) (lenient : Bool) (old new : PublishedParts)
-    (s t : Source R) (outcome : Outcome) (call : IsResultOf remaining errors (updating lenient old new MAX_LINES) s t (Ok outcome)) where
-  pub told-update : (result : Result (Unit {0}) FeedFault) → IfErr result (λ f. f ≡ Extract Memory) →
-      IsResultOf remaining errors (doing lenient old new outcome.waived.items) s t result
-  told-update result h =
-      goes-on (updating lenient old new MAX_LINES) (doing lenient old new outcome.waived.items) remaining errors s t outcome call result
-      (at result h)
-    where
-      at : (r : Result (Unit {0}) FeedFault) → IfErr r (λ f. f ≡ Extract Memory) →
-          MatchResult r (Makes (updating lenient old new MAX_LINES) (doing lenient old new outcome.waived.items) outcome)
-          (Refuses (updating lenient old new MAX_LINES) (doing lenient old new outcome.waived.items) outcome)
-      at (Ok done) h = record {
-        answer = λ bytes is. let whole : IsOutcomeOf lenient old MAX_LINES bytes new outcome = is in whole.done;
-        whole = λ asked. tt;
-      }
-      at (Err f) h = subst (Refuses (updating lenient old new MAX_LINES) (doing lenient old new outcome.waived.items) outcome) (sym h)
-          (record { fault = λ bytes after is. tt; answers = tt; other = refl })
+-- an update that was done isn't listed where memory runs out
+pub none-listed : {R : Type 0} (remaining : R → Option (List ℕ)) (errors : R → Option ℕ) (lenient : Bool) (old new : PublishedParts)
+    (s t : Source R) (outcome : Outcome) → IsResultOf remaining errors (updating lenient old new MAX_LINES) s t (Ok outcome) →
+    IsResultOf remaining errors (updating lenient old new MAX_LINES) s t (Err (Extract Memory))
+none-listed remaining errors lenient old new s t outcome call =
+    goes-on (updating lenient old new MAX_LINES) (updating lenient old new MAX_LINES) remaining errors s t outcome call
+    (Err (Extract Memory)) (record { fault = λ bytes after is. tt; answers = tt; other = refl })
 
--- ---- one source more
+-- ---- no source, and one source more
+
+pub none-done : {R : Type 0} (remaining : R → Option (List ℕ)) (errors : R → Option ℕ) (lenient : Bool) (old : PublishedParts)
+    (sources : List (Source R)) → sources ≡ [] → AreDoneInTurn remaining errors lenient old old sources sources [] (Ok tt)
+none-done remaining errors lenient old sources is =
+    subst (λ l. AreDoneInTurn remaining errors lenient old old l l [] (Ok tt)) (sym is) (refl, tt, refl, refl)
 
 module _ {R : Type 0} (remaining : R → Option (List ℕ)) (errors : R → Option ℕ) (lenient : Bool) (old mid : PublishedParts)
-    (first : List RefusedLine) (sources : List (Source R)) (s t : Source R) (ss : List (Source R)) (is : sources ≡ s ∷ ss) where
+    (sources : List (Source R)) (s t : Source R) (ss : List (Source R)) (is : sources ≡ s ∷ ss) where
   pub stops-there : (result : Result (Unit {0}) FeedFault) (f : FeedFault) → result ≡ Err f →
-      IsResultOf remaining errors (doing lenient old mid first) s t (Err f) →
-      AreDoneInTurn remaining errors lenient old mid sources (t ∷ ss) first result
+      IsResultOf remaining errors (updating lenient old mid MAX_LINES) s t (Err f) →
+      AreDoneInTurn remaining errors lenient old mid sources (t ∷ ss) [] result
   stops-there result f err call =
-      subst (λ l. AreDoneInTurn remaining errors lenient old mid l (t ∷ ss) first result) (sym is)
-      (t, ss, refl, mid, first, inl (f, err, refl, call))
+      subst (λ l. AreDoneInTurn remaining errors lenient old mid l (t ∷ ss) [] result) (sym is)
+      (t, ss, refl, mid, inl (f, err, refl, call))
 
-  pub goes-further : (new : PublishedParts) (after : List (Source R)) (later : List RefusedLine) (result : Result (Unit {0}) FeedFault) →
-      IsResultOf remaining errors (doing lenient old mid first) s t (Ok tt) →
+  pub goes-further : (first : DoneUpdate) (new : PublishedParts) (after : List (Source R)) (later : List DoneUpdate)
+      (result : Result (Unit {0}) FeedFault) → first.header ≡ mid.header →
+      IsResultOf remaining errors (updating lenient old mid MAX_LINES) s t (Ok first.outcome) →
       AreDoneInTurn remaining errors lenient mid new ss after later result →
-      AreDoneInTurn remaining errors lenient old new sources (t ∷ after) (first ++ later) result
-  goes-further new after later result call on =
-      subst (λ l. AreDoneInTurn remaining errors lenient old new l (t ∷ after) (first ++ later) result) (sym is)
-      (t, after, refl, mid, first, inr (later, refl, call, on))
+      AreDoneInTurn remaining errors lenient old new sources (t ∷ after) (first ∷ later) result
+  goes-further first new after later result header call on =
+      subst (λ l. AreDoneInTurn remaining errors lenient old new l (t ∷ after) (first ∷ later) result) (sym is)
+      (t, after, refl, mid, inr (first, later, refl, header, call, on))
+
+pub listed-further : (known mid all : List DoneUpdate) (first : DoneUpdate) (later : List DoneUpdate)
+    (result : Result (Unit {0}) FeedFault) → mid ≡ known ++ first ∷ [] → IfOk result (λ done. all ≡ mid ++ later) →
+    IfOk result (λ done. all ≡ known ++ first ∷ later)
+listed-further known mid all first later (Ok done) one h = h ∙ (ap (λ t. t ++ later) one ∙ append_assoc known (first ∷ []) later)
+listed-further known mid all first later (Err f) one h = tt
 
 -- ---- the whole run
 
@@ -160,35 +169,45 @@ finished contents errors text old mid new (Err f) result w h =
     (refl, subst (λ s. HasFailed contents errors text old s) (sym h.1) w)
 
 module _ {R W A : Type 0} (remaining : R → Option (List ℕ)) (errors : R → Option ℕ) (contents : W → Option (List ℕ))
-    (write_errors : W → Option ℕ) (told : A → List RefusedLine) (lenient : Bool) (codes : HolidayCodes) (all : codes ≡ all_codes)
+    (write_errors : W → Option ℕ) (told : A → UpdateTold) (listed : A → List DoneUpdate) (lenient : Bool) (codes : HolidayCodes)
+    (all : codes ≡ all_codes)
     (full full_new : Source R) (extract : PublishedExtract)
     (read : IsResultOf remaining errors (reading_published codes MAX_LINES) full full_new (Ok extract)) (x : PublishedExtract)
-    (same : x ≡ extract) (new : PublishedParts) (updates updates_new : List (Source R)) (waived : List RefusedLine) where
+    (same : x ≡ extract) (new : PublishedParts) (updates updates_new : List (Source R)) (these : List DoneUpdate) where
   abbrev InTurn : Result (Unit {0}) FeedFault → Type 0
-  InTurn = AreDoneInTurn remaining errors lenient (published_parts x) new updates updates_new waived
+  InTurn = AreDoneInTurn remaining errors lenient (published_parts x) new updates updates_new these
 
-  abbrev Answer : List ℕ → Option (List RefusedLine) → Type 0
-  Answer text told = OfUpdates remaining (λ bytes given. IsTold (IsWritten lenient MAX_LINES bytes given text) told) full updates
+  abbrev Answer : List ℕ → Option UpdateTold → Type 0
+  Answer text told = OfUpdates remaining (λ bytes given. IsTold (IsUpdateAnswer lenient bytes given text) told) full updates
+
+  abbrev told-here : UpdateTold
+  told-here = record {
+    as_prepared = not (have_marks extract.counts) && list_any (λ (u : DoneUpdate). have_marks u.outcome.counts) these;
+    waived = waived_by these;
+  }
 
   call : IsResultOf remaining errors (reading_published all_codes MAX_LINES) full full_new (Ok extract)
   call = subst (λ may. IsResultOf remaining errors (reading_published may MAX_LINES) full full_new (Ok extract)) all read
 
+  published : (bytes : List ℕ) → remaining (reader_of full) ≡ Some bytes → IsPublishedOf all_codes MAX_LINES bytes extract
+  published bytes known =
+      answer-of (reading_published all_codes MAX_LINES) remaining errors full full_new bytes known extract call
+
   spelled : (bytes : List ℕ) → remaining (reader_of full) ≡ Some bytes →
       BytesSpellPublished all_codes MAX_LINES bytes (published_parts x)
   spelled bytes known = subst (λ e. BytesSpellPublished all_codes MAX_LINES bytes (published_parts e)) (sym same)
-      (let is : IsPublishedOf all_codes MAX_LINES bytes extract =
-      answer-of (reading_published all_codes MAX_LINES) remaining errors full full_new bytes known extract call in is.spelled)
+      (let is = published bytes known in is.spelled)
 
-  read-first : (done : Result (Unit {0}) FeedFault) (result : Result A FeedFault) → InTurn done → EndsAs told waived done result →
-      AreUpdatesRead remaining errors told lenient full full_new updates updates_new result
+  read-first : (done : Result (Unit {0}) FeedFault) (result : Result A FeedFault) → InTurn done → EndsAs listed these done result →
+      AreUpdatesRead remaining errors listed lenient full full_new updates updates_new result
   read-first done result turn ends = inr (
     extract,
     new,
-    waived,
+    these,
     done,
     call,
     subst
-        (λ e. AreDoneInTurn remaining errors lenient (published_parts e) new updates updates_new waived done) same turn,
+        (λ e. AreDoneInTurn remaining errors lenient (published_parts e) new updates updates_new these done) same turn,
     ends,
   )
 
@@ -197,33 +216,40 @@ module _ {R W A : Type 0} (remaining : R → Option (List ℕ)) (errors : R → 
     pub undone-answer : (sink : Sink W) → FeedAnswers contents write_errors told Answer sink sink result
     undone-answer sink = subst (FeedAnswers contents write_errors told Answer sink sink) (sym is)
         (silent contents write_errors told Answer sink f
-        (faults-in-turn remaining errors lenient updates updates_new (published_parts x) new waived f turn))
+        (faults-in-turn remaining errors lenient updates updates_new (published_parts x) new these f turn))
 
     pub undone-fault : OfUpdates remaining (λ bytes given. IfErr result (IsUpdateFault lenient bytes given)) full updates
     undone-fault bytes given known are = subst (λ r. IfErr r (IsUpdateFault lenient bytes given)) (sym is)
         (⊎_elim inl (λ h. inr (inr record { old = published_parts x; spelled = spelled bytes known; refused = h }))
-        (refused-in-turn remaining errors lenient updates updates_new (published_parts x) new waived given f turn are))
+        (refused-in-turn remaining errors lenient updates updates_new (published_parts x) new these given f turn are))
 
-    pub undone-reads : AreUpdatesRead remaining errors told lenient full full_new updates updates_new result
+    pub undone-reads : AreUpdatesRead remaining errors listed lenient full full_new updates updates_new result
     undone-reads = read-first (Err f) result turn is
 
   -- all are
   module _ (turn : InTurn (Ok tt)) where
-    written : Answer (published_text new) (Some waived)
-    written bytes given known are = record {
-      old = published_parts x;
-      spelled = spelled bytes known;
-      new = new;
-      done = done-in-turn remaining errors lenient updates updates_new (published_parts x) new waived given turn are;
-      text = refl;
-    }
+    written : Answer (published_text new) (Some told-here)
+    written bytes given known are =
+        let both = done-in-turn remaining errors lenient updates updates_new (published_parts x) new these given turn are in
+        let is = published bytes known in
+        record {
+          written = record {
+            old = published_parts x;
+            spelled = spelled bytes known;
+            new = new;
+            done = both.0;
+            text = refl;
+          };
+          as_prepared = ap (λ c. not (have_marks c) && list_any (λ (u : DoneUpdate). have_marks u.outcome.counts) these) is.counts
+              ∙ ap (λ b. not (have_marks (counts_in bytes)) && b) both.1;
+        }
 
     -- and the text is written, or isn't
     abbrev Ends : Sink W → Sink W → Result A FeedFault → Type 0
     Ends old after result = MatchResult result (λ a. HasWritten contents write_errors (published_text new) old after)
         (λ f. (f ≡ Extract Write) × HasFailed contents write_errors (published_text new) old after)
 
-    pub ended-answer : ((a : A) → told a ≡ waived) → (old after : Sink W) (result : Result A FeedFault) → Ends old after result →
+    pub ended-answer : ((a : A) → told a ≡ told-here) → (old after : Sink W) (result : Result A FeedFault) → Ends old after result →
         FeedAnswers contents write_errors told Answer old after result
     ended-answer is old after (Ok a) w = record {
       text = published_text new;
@@ -233,7 +259,7 @@ module _ {R W A : Type 0} (remaining : R → Option (List ℕ)) (errors : R → 
     ended-answer is old after (Err f) w = subst (λ e. FeedAnswers contents write_errors told Answer old after (Err e)) (sym w.0) record {
       text = published_text new;
       writes = w.1;
-      answer = λ bytes given known are. (waived, written bytes given known are);
+      answer = λ bytes given known are. (told-here, written bytes given known are);
     }
 
     pub ended-fault : (old after : Sink W) (result : Result A FeedFault) → Ends old after result →
@@ -241,21 +267,7 @@ module _ {R W A : Type 0} (remaining : R → Option (List ℕ)) (errors : R → 
     ended-fault old after (Ok a) w bytes given known are = tt
     ended-fault old after (Err f) w bytes given known are = subst (IsUpdateFault lenient bytes given) (sym w.0) (inl tt)
 
-    pub ended-reads : ((a : A) → told a ≡ waived) → (old after : Sink W) (result : Result A FeedFault) → Ends old after result →
-        AreUpdatesRead remaining errors told lenient full full_new updates updates_new result
+    pub ended-reads : ((a : A) → listed a ≡ these) → (old after : Sink W) (result : Result A FeedFault) → Ends old after result →
+        AreUpdatesRead remaining errors listed lenient full full_new updates updates_new result
     ended-reads is old after (Ok a) w = read-first (Ok tt) (Ok a) turn (is a, tt)
     ended-reads is old after (Err f) w = read-first (Ok tt) (Err f) turn (tt, w.0)
-
--- one update more
-pub waived-more : (known : List DoneUpdate) (update : DoneUpdate) (all : List DoneUpdate) → all ≡ known ++ update ∷ [] →
-    waived_by all ≡ waived_by known ++ update.outcome.waived.items
-waived-more known update all is =
-    ap waived_by is ∙ (flat_map-append (λ u. u.outcome.waived.items) known (update ∷ []) ∙
-    ap (λ t. waived_by known ++ t) (append-nil update.outcome.waived.items))
-
-pub waived-further : (known mid all : List DoneUpdate) (first later : List RefusedLine) (result : Result (Unit {0}) FeedFault) →
-    waived_by mid ≡ waived_by known ++ first → IfOk result (λ done. waived_by all ≡ waived_by mid ++ later) →
-    IfOk result (λ done. waived_by all ≡ waived_by known ++ (first ++ later))
-waived-further known mid all first later (Ok done) one h =
-    h ∙ (ap (λ t. t ++ later) one ∙ append_assoc (waived_by known) first later)
-waived-further known mid all first later (Err f) one h = tt

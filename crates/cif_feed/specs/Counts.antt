@@ -1,5 +1,5 @@
 -- How many lines of a feed do what, by their columns.
-use Rattle.std.specs.Prelude.{ℕ, Bool, true, false, not, ◌&&◌, List, Option, Some, None, filter, length}
+use Rattle.std.specs.Prelude.{ℕ, Bool, true, false, not, ◌&&◌, ◌||◌, ◌==◌, List, Option, Some, None, filter, length, nat_lt}
 use Rattle.cif_records.specs.Kind.{kind_in}
 use Rattle.cif_records.specs.declared.record.Kind.{Kind}
 use Rattle.cif_records.specs.declared.record.Kind.TheVariants.{Ti, Ta, Td, Aa, Bs}
@@ -36,6 +36,11 @@ ends_open (Some Aa) line = is_open 22 line && not (is_deleted (transaction_in (c
 ends_open (Some Bs) line = is_open 16 line && not (is_deleted (transaction_in (column 3 line)))
 ends_open kind line = false
 
+-- whether a BS has a holiday code: column 29 isn't a space; of one that is deleted it isn't read
+abbrev pub has_holiday_code : Option Kind → List ℕ → Bool
+has_holiday_code (Some Bs) line = not (column 29 line == 32) && not (is_deleted (transaction_in (column 3 line)))
+has_holiday_code kind line = false
+
 -- the counts of these contents
 abbrev pub counts_of : List (List ℕ) → UpdateCounts
 counts_of contents = record {
@@ -43,4 +48,9 @@ counts_of contents = record {
   revised = length (filter (λ line. is_revised (transaction_as (kind_in line) line)) contents);
   taken_out = length (filter (λ line. is_deleted (transaction_as (kind_in line) line)) contents);
   open_ends = length (filter (λ line. ends_open (kind_in line) line) contents);
+  holiday_codes = length (filter (λ line. has_holiday_code (kind_in line) line) contents);
 }
+
+-- one of them at least has an open end, or a holiday code
+abbrev pub have_marks : UpdateCounts → Bool
+have_marks counts = nat_lt 0 counts.open_ends || nat_lt 0 counts.holiday_codes

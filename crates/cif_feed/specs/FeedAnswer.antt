@@ -1,6 +1,7 @@
 -- What `prepare` and `update` answer: a text on the output, and what is told beside it.
-use Rattle.std.specs.Prelude.{◌≡◌, ◌⊎◌, ℕ, ⊤, Bool, List, [], ◌∷◌, ◌++◌, Option, None, Some, IfErr, IfOk, Result, Ok, Err}
-use Rattle.std.specs.List.{flat_map}
+use Rattle.std.specs.Prelude.{◌≡◌, ◌⊎◌, ℕ, ⊤, Bool, false, not, ◌&&◌, List, [], ◌∷◌, ◌++◌, Option, None, Some, IfErr, IfOk}
+use Rattle.std.specs.Prelude.{Result, Ok, Err}
+use Rattle.std.specs.List.{flat_map, list_any}
 use Rattle.cif_columns.specs.Contents.{contents_of}
 use Rattle.cif_columns.specs.Sink.{Writes, writer_of}
 use Rattle.cif_columns.specs.Source.{Unread, reader_of}
@@ -9,14 +10,15 @@ use Rattle.cif_columns.specs.declared.sink.Sink.{Sink}
 use Rattle.cif_columns.specs.declared.source.Source.{Source}
 use Rattle.cif_extract.specs.ReadCall.{IsResultOf, ReadCall, reading}
 use Rattle.cif_extract.specs.declared.fault.Fault.TheVariants.{Write}
+use Rattle.cif_feed.specs.Counts.{counts_of, have_marks}
 use Rattle.cif_feed.specs.FeedFault.{is_feed_read, of_holiday_fault}
 use Rattle.cif_feed.specs.FeedRefusal.{IsFirstOfFeed}
 use Rattle.cif_feed.specs.HolidayCode.{all_codes}
 use Rattle.cif_feed.specs.HolidayText.{IsFirstBadLine, IsHolidayFault, IsOfHolidays, SpellHolidays}
 use Rattle.cif_feed.specs.Holidays.{Names}
 use Rattle.cif_feed.specs.PublishedParts.{PublishedParts, published_parts, reading_published}
-use Rattle.cif_feed.specs.Updated.{IsOfUpdate, IsUpdateFault as IsOneUpdateFault, IsUpdatedBy}
-use Rattle.cif_feed.specs.UpdatesInTurn.{IsRefused}
+use Rattle.cif_feed.specs.Updated.{updating}
+use Rattle.cif_feed.specs.UpdatesInTurn.{IsRefused, IsWritten}
 use Rattle.cif_feed.specs.WrittenPrepared.{FeedWrites, IsDeviceOrMemory, IsPreparedText, codes_named, preparing}
 use Rattle.cif_feed.specs.declared.changes.RefusedLine.{RefusedLine}
 use Rattle.cif_feed.specs.declared.dropped.Dropped.{Dropped}
@@ -28,6 +30,9 @@ use Rattle.cif_feed.specs.declared.holiday_text.HolidayFault.{HolidayFault}
 use Rattle.cif_feed.specs.declared.holidays.Holidays.{Holidays}
 use Rattle.cif_feed.specs.declared.published_extract.PublishedExtract.{PublishedExtract}
 use Rattle.cif_feed.specs.declared.feed_answers.DoneUpdate.{DoneUpdate}
+use Rattle.cif_feed.specs.declared.feed_answers.KeptUpdate.{KeptUpdate}
+use Rattle.cif_feed.specs.declared.feed_answers.ReadFeed.{ReadFeed}
+use Rattle.cif_feed.specs.declared.mark.UpdateCounts.{UpdateCounts}
 
 -- where a command answers, its sink's writer holds nothing back: the whole answer is handed on
 abbrev pub IsHandedOn : {W A E : Type 0} → (W → Type 0) → Sink W → Result A E → Type 0
@@ -129,6 +134,35 @@ IsPreparedInTurn remaining errors holidays holidays_new source source_new result
 abbrev pub waived_by : List DoneUpdate → List RefusedLine
 waived_by updates = flat_map (λ u. u.outcome.waived.items) updates
 
+-- how many lines of these contents do what
+abbrev pub counts_in : List ℕ → UpdateCounts
+counts_in bytes = counts_of (contents_of bytes)
+
+-- whether a full extract looks as if it were prepared: no line of it has an open end or a holiday code, and one of an update has
+abbrev pub is_as_prepared : List ℕ → List (List ℕ) → Bool
+is_as_prepared full updates = not (have_marks (counts_in full)) && list_any (λ update. have_marks (counts_in update)) updates
+
+-- the same of what was read of it, and of these updates that were done
+abbrev pub read_as_prepared : Option ReadFeed → List DoneUpdate → Bool
+read_as_prepared None done = false
+read_as_prepared (Some full) done = not (have_marks full.counts) && list_any (λ (u : DoneUpdate). have_marks u.outcome.counts) done
+
+abbrev pub looks_prepared : KeptUpdate → Bool
+looks_prepared kept = read_as_prepared kept.full kept.done.items
+
+-- what `update` tells beside the text: that its full extract looks as if it were prepared, and which lines were waived
+pub record UpdateTold : Type 0 where
+  pub as_prepared : Bool
+  pub waived : List RefusedLine
+
+abbrev pub told_of : KeptUpdate → UpdateTold
+told_of kept = record { as_prepared = looks_prepared kept; waived = waived_by kept.done.items }
+
+-- `update` answers the bytes of a full extract and of updates by this text, and tells this
+pub record IsUpdateAnswer (lenient : Bool) (full : List ℕ) (updates : List (List ℕ)) (text : List ℕ) (told : UpdateTold) : Type 0 where
+  pub written : IsWritten lenient MAX_LINES full updates text told.waived
+  pub as_prepared : told.as_prepared ≡ is_as_prepared full updates
+
 -- these are the bytes that the readers of the sources give
 abbrev pub AreGiven : {R : Type 0} → (R → Option (List ℕ)) → List (Source R) → List (List ℕ) → Type 0
 AreGiven remaining [] given = given ≡ []
@@ -147,39 +181,42 @@ IsUpdateFault lenient full updates fault =
     IsDeviceOrMemory fault ⊎ (IsFirstOfFeed Full all_codes MAX_LINES (contents_of full) fault
     ⊎ IsRefused lenient MAX_LINES full updates fault)
 
--- reading an update and doing it, which makes `new` of `old` and waives these lines
-abbrev pub doing : Bool → PublishedParts → PublishedParts → List RefusedLine → ReadCall (Unit {0}) FeedFault
-doing lenient old new waived =
-    reading is_feed_read (λ bytes done. IsUpdatedBy lenient old MAX_LINES bytes new waived) (IsOneUpdateFault lenient old MAX_LINES)
-    (IsOfUpdate MAX_LINES)
+-- What comes of the source of an update that is done to a published extract. It is listed behind others, with the header that it leaves.
+abbrev pub IsOneDone : {R : Type 0} → (R → Option (List ℕ)) → (R → Option ℕ) → Bool → PublishedParts → PublishedParts → Source R →
+    Source R → List DoneUpdate → List DoneUpdate → Result (Unit {0}) FeedFault → Type 0
+IsOneDone remaining errors lenient old new source after listed listed_new (Ok done) = (update : DoneUpdate)
+    × (listed_new ≡ listed ++ update ∷ []) × (update.header ≡ new.header)
+    × IsResultOf remaining errors (updating lenient old new MAX_LINES) source after (Ok update.outcome)
+IsOneDone remaining errors lenient old new source after listed listed_new (Err fault) =
+    IsResultOf remaining errors (updating lenient old new MAX_LINES) source after (Err fault)
 
 -- What comes of the sources of updates that are done to a published extract, one after another. Those behind one that isn't done are as
 -- they were.
 abbrev pub AreDoneInTurn : {R : Type 0} → (R → Option (List ℕ)) → (R → Option ℕ) → Bool → PublishedParts → PublishedParts →
-    List (Source R) → List (Source R) → List RefusedLine → Result (Unit {0}) FeedFault → Type 0
-AreDoneInTurn remaining errors lenient old new [] after waived result =
-    (after ≡ []) × IfErr result (λ fault. ⊥) × (new ≡ old) × (waived ≡ [])
-AreDoneInTurn {R} remaining errors lenient old new (source ∷ sources) after waived result =
-    (read : Source R) × (others : List (Source R)) × (after ≡ read ∷ others) × (mid : PublishedParts) × (first : List RefusedLine)
+    List (Source R) → List (Source R) → List DoneUpdate → Result (Unit {0}) FeedFault → Type 0
+AreDoneInTurn remaining errors lenient old new [] after done result =
+    (after ≡ []) × IfErr result (λ fault. ⊥) × (new ≡ old) × (done ≡ [])
+AreDoneInTurn {R} remaining errors lenient old new (source ∷ sources) after done result =
+    (read : Source R) × (others : List (Source R)) × (after ≡ read ∷ others) × (mid : PublishedParts)
     × (((fault : FeedFault) × (result ≡ Err fault) × (others ≡ sources)
-    × IsResultOf remaining errors (doing lenient old mid first) source read (Err fault))
-    ⊎ ((later : List RefusedLine) × (waived ≡ first ++ later)
-    × IsResultOf remaining errors (doing lenient old mid first) source read (Ok tt)
+    × IsResultOf remaining errors (updating lenient old mid MAX_LINES) source read (Err fault))
+    ⊎ ((first : DoneUpdate) × (later : List DoneUpdate) × (done ≡ first ∷ later) × (first.header ≡ mid.header)
+    × IsResultOf remaining errors (updating lenient old mid MAX_LINES) source read (Ok first.outcome)
     × AreDoneInTurn remaining errors lenient mid new sources others later result))
 
 -- what comes of writing the extract that the updates leave, where they are done
-abbrev pub EndsAs : {A : Type 0} → (A → List RefusedLine) → List RefusedLine → Result (Unit {0}) FeedFault → Result A FeedFault → Type 0
-EndsAs told waived (Ok done) result = IfOk result (λ answer. told answer ≡ waived) × IfErr result (λ fault. fault ≡ Extract Write)
-EndsAs told waived (Err fault) result = result ≡ Err fault
+abbrev pub EndsAs : {A : Type 0} → (A → List DoneUpdate) → List DoneUpdate → Result (Unit {0}) FeedFault → Result A FeedFault → Type 0
+EndsAs listed updates (Ok done) result = IfOk result (λ answer. listed answer ≡ updates) × IfErr result (λ fault. fault ≡ Extract Write)
+EndsAs listed updates (Err fault) result = result ≡ Err fault
 
 -- What comes of the sources of a published extract and of updates: the first isn't read, and no update is touched; or it is, and the
 -- updates are done to it in turn.
-abbrev pub AreUpdatesRead : {R A : Type 0} → (R → Option (List ℕ)) → (R → Option ℕ) → (A → List RefusedLine) → Bool → Source R → Source R
+abbrev pub AreUpdatesRead : {R A : Type 0} → (R → Option (List ℕ)) → (R → Option ℕ) → (A → List DoneUpdate) → Bool → Source R → Source R
     → List (Source R) → List (Source R) → Result A FeedFault → Type 0
-AreUpdatesRead remaining errors told lenient full full_new updates updates_new result =
+AreUpdatesRead remaining errors listed lenient full full_new updates updates_new result =
     ((fault : FeedFault) × (result ≡ Err fault) × (updates_new ≡ updates)
     × IsResultOf remaining errors (reading_published all_codes MAX_LINES) full full_new (Err fault))
-    ⊎ ((extract : PublishedExtract) × (new : PublishedParts) × (waived : List RefusedLine) × (done : Result (Unit {0}) FeedFault)
+    ⊎ ((extract : PublishedExtract) × (new : PublishedParts) × (these : List DoneUpdate) × (done : Result (Unit {0}) FeedFault)
     × IsResultOf remaining errors (reading_published all_codes MAX_LINES) full full_new (Ok extract)
-    × AreDoneInTurn remaining errors lenient (published_parts extract) new updates updates_new waived done
-    × EndsAs told waived done result)
+    × AreDoneInTurn remaining errors lenient (published_parts extract) new updates updates_new these done
+    × EndsAs listed these done result)

@@ -1,8 +1,9 @@
 -- Why bytes are no published extract, or no update, or can't be read.
 use Rattle.std.specs.Prelude.{◌≡◌, ℕ, Bool, false, List, IsSomeAnd, Result, Ok, Err}
 use Rattle.cif_columns.specs.Contents.{contents_of}
-use Rattle.cif_columns.specs.GivenLines.{IsContentDecidedOrLast}
+use Rattle.cif_columns.specs.GivenLines.{IsDecidedWithinOrLast}
 use Rattle.cif_columns.specs.Source.{Unread}
+use Rattle.cif_columns.specs.declared.ahead.Most.TheVariants.{InFeed}
 use Rattle.cif_extract.specs.ReadCall.{ReadCall, reading}
 use Rattle.cif_extract.specs.ReadFault.{IsLineNumber, is_read}
 use Rattle.cif_extract.specs.declared.fault.Fault.TheVariants.{Refused, Read, Memory}
@@ -21,14 +22,14 @@ use Rattle.cif_feed.specs.declared.holiday_text.HolidayFault.TheVariants as holi
 abbrev pub IsFeedFault : Feed → HolidayCodes → ℕ → List ℕ → Unread → FeedFault → Type 0
 IsFeedFault feed allowed max bytes after (Extract (Refused line why)) =
     IsFirstOfFeed feed allowed max (contents_of bytes) (Extract (Refused line why)) ×
-    IsContentDecidedOrLast IsFeedContent max bytes after line
+    IsDecidedWithinOrLast IsFeedContent InFeed max bytes after line
 IsFeedFault feed allowed max bytes after (Extract Read) = IsSomeAnd after.bytes (IsFeedCut feed allowed max bytes)
 IsFeedFault feed allowed max bytes after (Extract Memory) = Unit {0}
 IsFeedFault feed allowed max bytes after (Extract _) = ⊥
 IsFeedFault feed allowed max bytes after (NotUpdate line) =
-    IsFirstOfFeed feed allowed max (contents_of bytes) (NotUpdate line) × IsContentDecidedOrLast IsFeedContent max bytes after line
+    IsFirstOfFeed feed allowed max (contents_of bytes) (NotUpdate line) × IsDecidedWithinOrLast IsFeedContent InFeed max bytes after line
 IsFeedFault feed allowed max bytes after (BadTransaction line) =
-    IsFirstOfFeed feed allowed max (contents_of bytes) (BadTransaction line) × IsContentDecidedOrLast IsFeedContent max bytes after line
+    IsFirstOfFeed feed allowed max (contents_of bytes) (BadTransaction line) × IsDecidedWithinOrLast IsFeedContent InFeed max bytes after line
 IsFeedFault feed allowed max bytes after _ = ⊥
 
 -- the faults of reading at most max contents, for any source

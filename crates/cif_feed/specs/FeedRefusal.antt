@@ -4,8 +4,9 @@ use Rattle.std.specs.Prelude.{Option, None, Some, if◌then◌else◌}
 use Rattle.std.specs.List.{list_all}
 use Rattle.cif_columns.specs.Comment.{is_comment}
 use Rattle.cif_columns.specs.FirstLine.{is_printable}
-use Rattle.cif_columns.specs.GivenLines.{AreContentsToFailure}
+use Rattle.cif_columns.specs.GivenLines.{AreContentsToCut}
 use Rattle.cif_columns.specs.Line.{IsLine}
+use Rattle.cif_columns.specs.declared.ahead.Most.TheVariants.{InFeed}
 use Rattle.cif_columns.specs.declared.refusal.Refusal.{Refusal}
 use Rattle.cif_columns.specs.declared.refusal.Refusal.TheVariants.{BadLength, BadByte, NotFull, OutOfOrder, Truncated, TooManyLines}
 use Rattle.cif_extract.specs.Taken.{refusal_behind}
@@ -90,8 +91,8 @@ IsFirstOfFeed feed allowed max contents fault = IsRefusedContent feed allowed ma
     IsFeedTruncated feed allowed max contents fault
 
 -- A source failed before a refused content was decided: of these bytes it gave all but those unread. What it gave are whole contents,
--- none of them refused, and then a rest, which decides no line.
+-- none of them refused, and then a rest, which decides no content.
 pub record IsFeedCut (feed : Feed) (allowed : HolidayCodes) (max : ℕ) (bytes unread : List ℕ) : Type 0 where
   pub contents : List (List ℕ)
-  pub given : AreContentsToFailure IsFeedContent max bytes unread contents
+  pub given : AreContentsToCut IsFeedContent InFeed max bytes unread contents
   pub fine : NoneOfFeedRefused feed allowed max contents

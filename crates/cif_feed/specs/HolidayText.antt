@@ -6,6 +6,7 @@ use Rattle.cif_columns.specs.Contents.{contents_of}
 use Rattle.cif_columns.specs.Day.{StandsInYymmdd}
 use Rattle.cif_columns.specs.GivenLines.{AreContentsToCut, IsDecidedWithinOrLast}
 use Rattle.cif_columns.specs.Source.{Unread}
+use Rattle.cif_columns.specs.declared.ahead.Most.TheVariants.{Of}
 use Rattle.cif_columns.specs.declared.line_reader.TheConstants.{MAX_LINES}
 use Rattle.cif_columns.specs.declared.refusal.LineFault.{LineFault}
 use Rattle.cif_columns.specs.declared.refusal.LineFault.TheVariants as line_fault
@@ -94,9 +95,9 @@ pub record IsFirstBadLine (lines : List (List ℕ)) (number : ℕ) : Type 0 wher
 -- failure of the source before one was. No contract foretells that memory runs out.
 abbrev pub IsHolidayFault : List ℕ → Unread → HolidayFault → Type 0
 IsHolidayFault bytes after (BadHoliday line) = IsFirstBadLine (contents_of bytes) line ×
-    IsDecidedWithinOrLast IsHolidayLine 1002 MAX_LINES bytes after line
+    IsDecidedWithinOrLast IsHolidayLine (Of 1002) MAX_LINES bytes after line
 IsHolidayFault bytes after Read = (lines : List (List ℕ)) ×
-    IsSomeAnd after.bytes (λ unread. AreContentsToCut IsHolidayLine 1002 MAX_LINES bytes unread lines)
+    IsSomeAnd after.bytes (λ unread. AreContentsToCut IsHolidayLine (Of 1002) MAX_LINES bytes unread lines)
 IsHolidayFault bytes after Memory = Unit {0}
 
 -- a fault of the lines as one of the holidays

@@ -15,6 +15,7 @@ use Rattle.cif_records.specs.declared.association.AssocKey.{AssocKey}
 use Rattle.cif_records.specs.declared.association.Association.{Association}
 use Rattle.cif_records.specs.declared.header.Header.{Header}
 use Rattle.cif_records.specs.declared.tiploc.Tiploc.{Tiploc}
+use Rattle.cif_feed.specs.Counts.{counts_of}
 use Rattle.cif_feed.specs.FeedFault.{IsFeedFault, IsOfFeed, is_feed_read}
 use Rattle.cif_feed.specs.FromLines.{AreTriples}
 use Rattle.cif_feed.specs.Marks.{passed_of}
@@ -113,9 +114,10 @@ published_lines p = plain_line (header_table p.header) ∷ (map line_of_tiploc p
 abbrev pub published_text : PublishedParts → List ℕ
 published_text p = lines_text (published_lines p)
 
--- the published extract that the bytes spell, and how many comments and notes were passed over
+-- the published extract that the bytes spell, how many of its lines do what, and how many comments and notes were passed over
 pub record IsPublishedOf (allowed : HolidayCodes) (max : ℕ) (bytes : List ℕ) (x : PublishedExtract) : Type 0 where
   pub spelled : BytesSpellPublished allowed max bytes (published_parts x)
+  pub counts : x.counts ≡ counts_of (contents_of bytes)
   pub passed : x.passed ≡ passed_of (contents_of bytes)
 
 -- reading one

@@ -1,18 +1,18 @@
 //! What `prepare` and `update` answer of published extracts, for any devices.
 ghost use Rattle.std.specs.Prelude.{◌≡◌, ◌++◌, IfErr, IfOk, List};
 ghost use Rattle.cif_columns.specs.declared.line_reader.TheConstants.{MAX_LINES};
-ghost use Rattle.cif_extract.specs.ReadCall.{IsResultOf};
+ghost use Rattle.std.specs.List.{list_any};
+ghost use Rattle.cif_feed.specs.Counts.{have_marks};
+ghost use Rattle.cif_feed.specs.declared.feed_answers.DoneUpdate.{DoneUpdate};
 ghost use Rattle.cif_feed.specs.PublishedParts.{published_parts};
-ghost use Rattle.cif_feed.specs.declared.changes.RefusedLine.{RefusedLine};
 ghost use Rattle.cif_feed.specs.FeedAnswer.{AreDoneInTurn, AreHolidaysRead, AreUpdatesRead, FeedAnswers, FeedFinishes, IsHandedOn};
-ghost use Rattle.cif_feed.specs.FeedAnswer.{IsPrepareAnswer, IsPrepareFault, IsPreparedInTurn, IsTold, IsUpdateFault, OfHolidays};
-ghost use Rattle.cif_feed.specs.FeedAnswer.{OfUpdates, doing, waived_by};
-ghost use Rattle.cif_feed.specs.UpdatesInTurn.{IsWritten};
+ghost use Rattle.cif_feed.specs.FeedAnswer.{IsOneDone, IsPrepareAnswer, IsPrepareFault, IsPreparedInTurn, IsTold, IsUpdateAnswer};
+ghost use Rattle.cif_feed.specs.FeedAnswer.{IsUpdateFault, OfHolidays, OfUpdates, looks_prepared, told_of};
 
 use crate::dropped::Dropped;
 use crate::feed::FeedFault;
 use crate::holidays::{HolidayCodes, Holidays};
-use crate::mark::Passed;
+use crate::mark::{Passed, UpdateCounts};
 use crate::prepare::write_prepared;
 use crate::published_extract::PublishedExtract;
 use crate::update::Outcome;
@@ -43,6 +43,27 @@ pub struct KeptUpdate {
     pub done: Vec<DoneUpdate>,
 }
 
+impl KeptUpdate {
+    /// Whether FULL looks as if it were prepared: no record of it has an open end or a holiday code, and one of
+    /// the updates that were done has.
+    pub fn looks_prepared(&self) -> bool
+        ensures { result ≡ looks_prepared self.now }
+    {
+        match &self.full {
+            Some(full) if !full.counts.have_marks() => have_marks(self.done.as_slice()),
+            _ => false,
+        }
+    }
+}
+
+/// Whether one of the updates has an open end or a holiday code.
+fn have_marks(done: &[DoneUpdate]) -> bool
+    ensures { result ≡ list_any (λ (u : DoneUpdate). have_marks u.outcome.counts) done.now }
+{
+    done.iter()
+        .any(|update| update.outcome.counts.have_marks())
+}
+
 /// What is said of a feed that was read.
 #[derive(Clone, Copy)]
 pub struct ReadFeed {
@@ -50,8 +71,8 @@ pub struct ReadFeed {
     pub header: Header,
     /// What was passed over as it was read.
     pub passed: Passed,
-    /// How many records have an open end.
-    pub open_ends: u64,
+    /// How many lines it had, by what they do.
+    pub counts: UpdateCounts,
 }
 
 impl ReadFeed {
@@ -59,18 +80,12 @@ impl ReadFeed {
     pub fn of(extract: &PublishedExtract) -> ReadFeed
         ensures header { result.header ≡ extract.now.header }
         ensures passed { result.passed ≡ extract.now.passed }
+        ensures counts { result.counts ≡ extract.now.counts }
     {
-        let mut open_ends = 0_u64;
-        for association in extract.associations.as_slice() {
-            open_ends = open_ends.saturating_add(u64::from(association.open_end));
-        }
-        for schedule in extract.schedules.as_slice() {
-            open_ends = open_ends.saturating_add(u64::from(schedule.open_end));
-        }
         ReadFeed {
             header: extract.header,
             passed: extract.passed,
-            open_ends,
+            counts: extract.counts,
         }
     }
 }
@@ -80,7 +95,7 @@ impl Display for ReadFeed {
     fn fmt<W: fmt::Write>(&self, f: &mut Formatter<W>) -> fmt::Result {
         let comments = self.passed.comments;
         let notes = self.passed.notes;
-        let open_ends = self.open_ends;
+        let open_ends = self.counts.open_ends;
         write!(
             f,
             "comments: {comments}, notes: {notes}, open ends: {open_ends}"
@@ -100,12 +115,12 @@ pub fn answer_update<R: ReadDevice, W: WriteDevice>(
     lenient: bool,
     kept: &mut KeptUpdate,
 ) -> Result<(), FeedFault>
-    ensures answer { FeedAnswers W.contents W.write_errors (λ _. waived_by kept.new.done.items)
-        (λ text told. OfUpdates R.remaining (λ bytes given. IsTold (IsWritten lenient MAX_LINES bytes given text) told)
+    ensures answer { FeedAnswers W.contents W.write_errors (λ _. told_of kept.new)
+        (λ text told. OfUpdates R.remaining (λ bytes given. IsTold (IsUpdateAnswer lenient bytes given text) told)
         full.old updates.old) sink.old sink.new result }
     ensures fault { OfUpdates R.remaining (λ bytes given. IfErr result (IsUpdateFault lenient bytes given))
         full.old updates.old }
-    ensures reads { AreUpdatesRead R.remaining R.read_errors (λ _. waived_by kept.new.done.items) lenient
+    ensures reads { AreUpdatesRead R.remaining R.read_errors (λ _. kept.new.done.items) lenient
         full.old full.new updates.old updates.new result }
     ensures handed_on { IsHandedOn W.holds_nothing sink.new result }
 {
@@ -179,10 +194,10 @@ fn do_updates<R: ReadDevice>(
     lenient: bool,
     done: &mut Vec<DoneUpdate>,
 ) -> Result<(), FeedFault>
-    ensures { (waived : List RefusedLine)
+    ensures { (these : List DoneUpdate)
         × AreDoneInTurn R.remaining R.read_errors lenient (published_parts extract.old)
-        (published_parts extract.new) updates.old updates.new waived result
-        × IfOk result (λ _. waived_by done.new.items ≡ waived_by done.old.items ++ waived) }
+        (published_parts extract.new) updates.old updates.new these result
+        × IfOk result (λ _. done.new.items ≡ done.old.items ++ these) }
 {
     match updates.split_first_mut() {
         None => Ok(()),
@@ -201,9 +216,8 @@ fn do_update<R: ReadDevice>(
     lenient: bool,
     done: &mut Vec<DoneUpdate>,
 ) -> Result<(), FeedFault>
-    ensures { (waived : List RefusedLine) × IsResultOf R.remaining R.read_errors
-        (doing lenient (published_parts extract.old) (published_parts extract.new) waived) update.old update.new result
-        × IfOk result (λ _. waived_by done.new.items ≡ waived_by done.old.items ++ waived) }
+    ensures { IsOneDone R.remaining R.read_errors lenient (published_parts extract.old) (published_parts extract.new)
+        update.old update.new done.old.items done.new.items result }
 {
     let outcome = extract.update_from(alloc, update, MAX_LINES, lenient)?;
     let header = extract.header;

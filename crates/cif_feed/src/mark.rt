@@ -1,6 +1,6 @@
 //! What the lines of a feed say beyond their records.
 ghost use Rattle.std.specs.Prelude.{◌≡◌, ◌≤◌, [], IfOk};
-ghost use Rattle.cif_feed.specs.Counts.{ends_open, is_deleted, transaction_as};
+ghost use Rattle.cif_feed.specs.Counts.{ends_open, has_holiday_code, have_marks, is_deleted, transaction_as};
 ghost use Rattle.cif_feed.specs.FeedLine.{column};
 ghost use Rattle.cif_feed.specs.Marks.{mark_parts, marks_in, record_mark, tiploc_mark};
 ghost use Rattle.cif_feed.specs.Steps.Marks.{HaveRoom, header_behind, with_counts, with_line};
@@ -81,7 +81,7 @@ pub(crate) struct Marks {
     pub(crate) tiplocs: Vec<TiplocMark>,
     pub(crate) associations: Vec<RecordMark>,
     pub(crate) schedules: Vec<RecordMark>,
-    // How many lines do what, if it is an update.
+    // How many lines do what.
     pub(crate) counts: UpdateCounts,
     pub(crate) passed: Passed,
 }
@@ -101,6 +101,7 @@ impl Marks {
                 revised: 0,
                 taken_out: 0,
                 open_ends: 0,
+                holiday_codes: 0,
             },
             passed: Passed {
                 comments: 0,
@@ -174,7 +175,7 @@ fn record_mark(last: usize, code: Option<HolidayCode>, number: u64, line: &Line)
     }
 }
 
-/// How many lines an update has, by what they do.
+/// How many lines a feed has, by what they do.
 #[derive(Clone, Copy, Debug)]
 pub struct UpdateCounts {
     /// The TI, and the AA and BS with N.
@@ -183,8 +184,10 @@ pub struct UpdateCounts {
     pub revised: u64,
     /// The TD, and the AA and BS with D.
     pub taken_out: u64,
-    /// Those that have an open end.
+    /// Those of AA and BS, but for D, that have an open end.
     pub open_ends: u64,
+    /// Those of BS, but for D, that have a holiday code.
+    pub holiday_codes: u64,
 }
 
 impl UpdateCounts {
@@ -202,6 +205,16 @@ impl UpdateCounts {
         if ends_open(kind, line) {
             self.open_ends += 1;
         }
+        if has_holiday_code(kind, line) {
+            self.holiday_codes += 1;
+        }
+    }
+
+    /// Whether a line has an open end or a holiday code, of which a prepared extract has none.
+    pub(crate) fn have_marks(&self) -> bool
+        ensures { result ≡ have_marks self.now }
+    {
+        self.open_ends > 0 || self.holiday_codes > 0
     }
 }
 
@@ -236,6 +249,14 @@ fn ends_open(kind: Option<Kind>, line: &Line) -> bool
         _ => false,
     };
     open && !is_deleted(transaction_in(line))
+}
+
+/// Whether a line of this kind has a holiday code that is read.
+fn has_holiday_code(kind: Option<Kind>, line: &Line) -> bool
+    ensures { result ≡ has_holiday_code kind line.now }
+{
+    let column: [u8; 1] = columns_at(line, 29);
+    matches!(kind, Some(Kind::Bs)) && column[0] != b' ' && !is_deleted(transaction_in(line))
 }
 
 /// Whether it is `D`.

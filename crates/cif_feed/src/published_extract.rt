@@ -10,7 +10,7 @@ ghost use Rattle.cif_feed.specs.WrittenOver.{with_code, with_columns, with_open_
 use crate::feed_reading::{FeedExtract, read_feed};
 use crate::mark::RecordMark;
 use crate::written::{Written, write_records, write_schedule};
-use crate::{Feed, FeedFault, HolidayCode, HolidayCodes, Passed};
+use crate::{Feed, FeedFault, HolidayCode, HolidayCodes, Passed, UpdateCounts};
 use cif_columns::{Line, LineTexts, ReadDevice, Sink, Source, WriteDevice, WriteFault};
 use cif_extract::{Extract, Fault, Schedule};
 use cif_records::{Association, Header, Tiploc};
@@ -50,6 +50,8 @@ pub struct PublishedExtract {
     pub associations: Vec<PublishedAssociation>,
     /// The schedules.
     pub schedules: Vec<PublishedSchedule>,
+    /// How many lines it had as it was read, by what they do.
+    pub counts: UpdateCounts,
     /// What was passed over as it was read.
     pub passed: Passed,
 }
@@ -89,6 +91,7 @@ impl PublishedExtract {
     fn of_lines(alloc: Global, lines: FeedExtract) -> Result<PublishedExtract, AllocError>
         requires { HasMarks (feed_parts lines) }
         ensures says { IfOk result (λ x. SayPublished (feed_parts lines) (published_parts x)) }
+        ensures counts { IfOk result (λ x. x.counts ≡ lines.marks.counts) }
         ensures passed { IfOk result (λ x. x.passed ≡ lines.marks.passed) }
     {
         let FeedExtract { extract, marks } = lines;
@@ -103,6 +106,7 @@ impl PublishedExtract {
             tiplocs,
             associations: from_lines(alloc, associations, marks.associations)?,
             schedules: from_lines(alloc, schedules, marks.schedules)?,
+            counts: marks.counts,
             passed: marks.passed,
         })
     }

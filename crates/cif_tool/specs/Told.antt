@@ -1,7 +1,8 @@
 -- What `prepare` and `update` say on standard error of their answer, and the status that they end with.
-use Rattle.std.specs.Prelude.{ℕ, List, ◌++◌, codes, Result, Ok, Err}
+use Rattle.std.specs.Prelude.{ℕ, Bool, List, [], ◌++◌, codes, Result, Ok, Err, if◌then◌else◌}
 use Rattle.std.specs.List.{flat_map}
 use Rattle.cif_feed.specs.Dropped.{dropped_text}
+use Rattle.cif_feed.specs.FeedAnswer.{looks_prepared}
 use Rattle.cif_feed.specs.FeedTexts.{fault_text}
 use Rattle.cif_feed.specs.Updated.{refused_fault}
 use Rattle.cif_feed.specs.declared.changes.RefusedLine.{RefusedLine}
@@ -10,6 +11,7 @@ use Rattle.cif_feed.specs.declared.dropped.DroppedKey.{DroppedKey}
 use Rattle.cif_feed.specs.declared.feed.FeedFault.{FeedFault}
 use Rattle.cif_feed.specs.declared.feed.FeedFault.TheVariants.{Extract}
 use Rattle.cif_feed.specs.declared.feed_answers.DoneUpdate.{DoneUpdate}
+use Rattle.cif_feed.specs.declared.feed_answers.KeptUpdate.{KeptUpdate}
 use Rattle.cif_tool.specs.Status.{status_of}
 
 -- a line of an update that was waived
@@ -33,10 +35,14 @@ abbrev pub told_by_prepare : Result Dropped FeedFault → List ℕ
 told_by_prepare (Ok dropped) = flat_map dropped_line dropped.keys.items
 told_by_prepare (Err fault) = refused_line fault
 
--- what `update` says of its answer, where these updates were done
-abbrev pub told_by_update : Result (Unit {0}) FeedFault → List DoneUpdate → List ℕ
-told_by_update (Ok done) updates = flat_map waived_lines updates
-told_by_update (Err fault) updates = refused_line fault
+-- the line that says that FULL looks prepared, if it does
+unfoldable pub prepared_line : Bool → List ℕ
+prepared_line looks = if looks then codes "cif: FULL has no open end and no holiday code, as if it were prepared\n" else []
+
+-- what `update` says of its answer, where it has left this
+abbrev pub told_by_update : Result (Unit {0}) FeedFault → KeptUpdate → List ℕ
+told_by_update (Ok done) kept = prepared_line (looks_prepared kept) ++ flat_map waived_lines kept.done.items
+told_by_update (Err fault) kept = refused_line fault
 
 -- the status of a fault: that of an extract of this profile has its own, and each other is a refusal
 abbrev pub feed_status_of : FeedFault → ℕ

@@ -4,7 +4,7 @@ use crate::answers::Kept;
 use crate::devices::{ExtractInput, LineAgain, MOST_LOOKED_AT, Written};
 use crate::job::{Job, JobFault};
 use crate::message::{Escaped, Message};
-use crate::refused_columns::{YYMMDD, bad_byte, columns_refused, holiday_refused};
+use crate::refused_columns::{YYMMDD, columns_refused, holiday_refused};
 use crate::words::bad_word;
 use arrayvec::ArrayString;
 use cif_canon::Format;
@@ -495,8 +495,8 @@ impl LineAgain {
         message.add_bytes(bytes);
         let begins_comment = reader == Reader::Feeds && bytes.starts_with(b"/!!");
         match (why, reader) {
-            (Refusal::BadLength | Refusal::BadByte, _) if begins_comment => {
-                self.add_comment(message);
+            (Refusal::BadLength, _) if begins_comment => {
+                message.line("a comment has at most 1,000 bytes");
             }
             (Refusal::BadLength, _) => self.add_length(message),
             (Refusal::BankHoliday, Reader::Feeds) if self.has_holiday_code() => {
@@ -510,15 +510,6 @@ impl LineAgain {
                     message.add_columns(first, last, what);
                 }
             }
-        }
-    }
-
-    /// Adds why a line that begins as a comment is none.
-    fn add_comment(&self, message: &mut Message) {
-        if self.bytes.len() > LINE_WIDTH {
-            message.line("a comment has at most 80 columns");
-        } else if let Some(column) = bad_byte(self.bytes.as_slice()) {
-            message.add_columns(column, column, "a byte of a comment is 0x20 to 0x7E");
         }
     }
 

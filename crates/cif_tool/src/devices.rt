@@ -322,7 +322,6 @@ impl LineAgain {
     pub(crate) fn is_comment(&self) -> bool {
         let mut source = Source::new(self.bytes.as_slice());
         let content = LineReader::new(1).read_content(&mut source, &mut Line::blank());
-        // Of a longer line no more bytes may be known than a comment can have.
-        self.bytes.len() <= LINE_WIDTH && matches!(content, Ok(Content::Comment))
+        self.is_whole && matches!(content, Ok(Content::Comment))
     }
 }

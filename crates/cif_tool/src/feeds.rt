@@ -139,6 +139,9 @@ fn add_prepared(
 
 // ---- update
 
+/// What FULL has to be.
+const FROM_UPDATE: &str = "FULL has to be what was published, or what cif update wrote";
+
 /// The full extract, and the updates.
 // Inlined, it would keep copies of inputs on the stack of its caller.
 #[inline(never)]
@@ -158,20 +161,20 @@ fn sources_of<'a>(
 #[inline(never)]
 fn update(rt: HostRuntime, call: &Call, lenient: bool, errors: &mut Sink<Stderr>) -> u8 {
     let alloc = rt.alloc();
-    let Ok(mut sources) = sources_of(rt, &call.inputs) else {
-        return end_update(&Err(FeedFault::Extract(Fault::Memory)), &[], errors);
-    };
-    let mut written = Written::new();
-    let output = Output {
-        writer: rt.stdout(),
-        written: &mut written,
-    };
     // The process ends after this: the system takes back the memory of all bodies at once.
     let mut kept = ManuallyDrop::new(KeptUpdate {
         extract: None,
         full: None,
         done: Vec::new(alloc),
     });
+    let Ok(mut sources) = sources_of(rt, &call.inputs) else {
+        return end_update(&Err(FeedFault::Extract(Fault::Memory)), &kept, errors);
+    };
+    let mut written = Written::new();
+    let output = Output {
+        writer: rt.stdout(),
+        written: &mut written,
+    };
     let answer = match buffered(alloc, output) {
         Ok(mut output) => match sources.split_first_mut() {
             Some((full, updates)) => {
@@ -181,7 +184,7 @@ fn update(rt: HostRuntime, call: &Call, lenient: bool, errors: &mut Sink<Stderr>
         },
         Err(fault) => Err(FeedFault::Extract(fault)),
     };
-    let status = end_update(&answer, kept.done.as_slice(), errors);
+    let status = end_update(&answer, &kept, errors);
     if call.verbose {
         let mut message = Message::new(alloc);
         match &answer {
@@ -219,6 +222,9 @@ fn add_updated(sources: &[Source<ExtractInput<'_>>], kept: &KeptUpdate, message:
         let input = full.reader();
         input.add_window(&read.header, message);
         message.line(format_args!("{input}: {read}"));
+        if kept.looks_prepared() {
+            message.line(format_args!("{input}: {FROM_UPDATE}"));
+        }
         for (update, done) in updates.iter().zip(&kept.done) {
             add_done(update.reader(), done, message);
         }
@@ -232,7 +238,7 @@ fn add_done(input: &ExtractInput<'_>, done: &DoneUpdate, message: &mut Message) 
     let read = ReadFeed {
         header: done.header,
         passed: outcome.passed,
-        open_ends: counts.open_ends,
+        counts: *counts,
     };
     input.add_window(&read.header, message);
     message.line(format_args!(

@@ -93,7 +93,7 @@ fn must_stand(kind: &str, why: Refusal, width: usize) -> &'static str {
 }
 
 /// The column of the first byte that isn't printable.
-pub(crate) fn bad_byte(line: &[u8]) -> Option<usize> {
+fn bad_byte(line: &[u8]) -> Option<usize> {
     let before = line.iter().position(|byte| !is_printable(*byte))?;
     Some(before.saturating_add(1))
 }

@@ -1,14 +1,14 @@
 //! What `prepare` and `update` say on standard error of their answer, and the status that they end with.
 ghost use Rattle.std.specs.Prelude.{◌≡◌};
 ghost use Rattle.cif_canon.specs.Appended.{IsAppended};
-ghost use Rattle.cif_tool.specs.Told.{dropped_line, feed_status_of, refused_line, waived_line};
+ghost use Rattle.cif_tool.specs.Told.{dropped_line, feed_status_of, prepared_line, refused_line, waived_line};
 ghost use Rattle.cif_tool.specs.Told.{told_by_prepare, told_by_update, told_status};
 
 use crate::status::{DONE, REFUSED, status};
 use arrayvec::ArrayString;
 use cif_canon::writing::{Texts, append, write_each};
 use cif_columns::{Sink, WriteDevice};
-use cif_feed::{DoneUpdate, Dropped, DroppedKey, FeedFault, RefusedLine};
+use cif_feed::{DoneUpdate, Dropped, DroppedKey, FeedFault, KeptUpdate, RefusedLine};
 
 /// Says what `prepare` tells of its answer, or why there is none, and gives the status that the program exits
 /// with. That it can't be written changes no status.
@@ -25,19 +25,20 @@ pub fn end_prepare<W: WriteDevice>(answer: &Result<Dropped, FeedFault>, errors: 
     }
 }
 
-/// Says what `update` tells of its answer, where these updates were done, or why there is none, and gives the
-/// status that the program exits with. That it can't be written changes no status.
+/// Says what `update` tells of its answer, where it has left this, or why there is none, and gives the status
+/// that the program exits with. That it can't be written changes no status.
 pub fn end_update<W: WriteDevice>(
     answer: &Result<(), FeedFault>,
-    done: &[DoneUpdate],
+    kept: &KeptUpdate,
     errors: &mut Sink<W>,
 ) -> u8
     ensures status { result ≡ told_status answer.now }
-    ensures told { IsAppended W.contents W.write_errors (told_by_update answer.now done.now) errors.old errors.new }
+    ensures told { IsAppended W.contents W.write_errors (told_by_update answer.now kept.now) errors.old errors.new }
 {
     match answer {
         Ok(()) => {
-            write_each(&WaivedLines, done, errors);
+            append(prepared_line(kept.looks_prepared()), errors);
+            write_each(&WaivedLines, kept.done.as_slice(), errors);
             DONE
         }
         Err(fault) => refuse(fault, errors),
@@ -103,6 +104,18 @@ fn dropped_line(key: &DroppedKey) -> ArrayString<LONGEST_DROPPED>
     line.push_str(key.text().as_str());
     line.push_str("\n");
     line
+}
+
+/// The line that says that FULL looks prepared, if it does.
+#[tactic(auto, unfolding(crate::specs::Told::prepared_line))]
+fn prepared_line(looks_prepared: bool) -> &'static str
+    ensures { result.bytes ≡ prepared_line looks_prepared }
+{
+    if looks_prepared {
+        "cif: FULL has no open end and no holiday code, as if it were prepared\n"
+    } else {
+        ""
+    }
 }
 
 /// The lines of such keys.

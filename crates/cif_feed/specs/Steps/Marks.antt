@@ -4,7 +4,7 @@ use Rattle.cif_columns.specs.declared.line_reader.TheConstants.{MAX_LINES}
 use Rattle.cif_extract.specs.declared.extract.Schedule.{Schedule}
 use Rattle.cif_records.specs.declared.association.Association.{Association}
 use Rattle.cif_records.specs.declared.record.Kind.{Kind}
-use Rattle.cif_feed.specs.Counts.{ends_open, is_deleted, is_new, is_revised, transaction_as}
+use Rattle.cif_feed.specs.Counts.{ends_open, has_holiday_code, is_deleted, is_new, is_revised, transaction_as}
 use Rattle.cif_feed.specs.FromLines.{ArePairs}
 use Rattle.cif_feed.specs.LastDay.{last_day}
 use Rattle.cif_feed.specs.Marks.{MarkParts, association_mark, schedule_mark, tiploc_mark}
@@ -25,6 +25,7 @@ with_counts c kind line = record {
   revised = plus_if c.revised (is_revised (transaction_as kind line));
   taken_out = plus_if c.taken_out (is_deleted (transaction_as kind line));
   open_ends = plus_if c.open_ends (ends_open kind line);
+  holiday_codes = plus_if c.holiday_codes (has_holiday_code kind line);
 }
 
 -- each may be one more
@@ -33,6 +34,7 @@ pub record HaveRoom (c : UpdateCounts) : Type 0 where
   pub revised : c.revised < MAX_LINES
   pub taken_out : c.taken_out < MAX_LINES
   pub open_ends : c.open_ends < MAX_LINES
+  pub holiday_codes : c.holiday_codes < MAX_LINES
 
 -- the number of the first header, where it was this one, and then a line of this kind has this number
 abbrev pub header_behind : ℕ → Option Kind → ℕ → ℕ

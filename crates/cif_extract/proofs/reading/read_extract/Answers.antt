@@ -3,6 +3,7 @@ use Rattle.cif_extract.proofs.Names.{[], arith, given, known_both, length, nothi
 use Rattle.cif_extract.proofs.Names.{reading_ends, reading_faults, reading_line, refl, rules, subst, sym, ◌++◌, ◌+◌, ◌<◌, ◌∙◌, ◌∷◌, ◌≡◌}
 use Rattle.cif_extract.proofs.Names.{◌≤◌}
 use Rattle.cif_columns.proofs.PassedLines.{next_passed}
+use Rattle.cif_columns.specs.declared.ahead.Most.TheVariants.{Of}
 use Rattle.cif_extract.proofs.FirstRefusals.{at_line}
 use Rattle.cif_extract.proofs.ReadingRuns.{HasCome, come_more, come_none, comes-end, comes-line_fault, comes-memory, comes-untaken}
 use Rattle.cif_extract.proofs.ReadingRuns.{refused_here, refused_reason}
@@ -13,8 +14,8 @@ loop-columns-preserved-in-loop-columns g c =
     let (ls, so_far, come, read_on) = c.loop-columns.invariant in
     let columns = c.in-Some.columns.now in
     let plain = c.if-goes_on_plainly.ensures refl in
-    let next = next_passed g.R.Read.remaining g.R.ReadDevice.read_errors c.loop-columns.lines c.pass_line.new.self c.loop-columns.source
-    columns c.in-Some.ensures plain.is_line.printable c.pass_line.ensures in
+    let next = next_passed g.R.Read.remaining g.R.ReadDevice.read_errors (Of 82) c.loop-columns.lines c.pass_line.new.self
+    c.loop-columns.source columns c.in-Some.ensures plain.is_line.printable c.pass_line.ensures in
     let more : given c.pass_line.new.self ≡ given c.loop-columns.lines + 1 = next.counted in
     let room : length ls < c.args.max_lines =
     omega (arith, more, so_far.counted, so_far.same_limit, next.limit_now, c.pass_line.new.self.counted) in (

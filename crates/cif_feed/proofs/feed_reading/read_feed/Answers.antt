@@ -4,6 +4,7 @@ use Rattle.cif_feed.proofs.Names.{MarkParts, [], ap, arith, is_comment, is_note,
 use Rattle.cif_feed.proofs.Names.{read_on_both, reading_decides, reading_ends, reading_faults, reading_starts, refl, sym, ◌++◌, ◌+◌, ◌<◌}
 use Rattle.cif_feed.proofs.Names.{◌∙◌, ◌∷◌, ◌≡◌, ◌≤◌}
 use Rattle.cif_columns.proofs.PassedLines.{next_passed}
+use Rattle.cif_columns.specs.declared.ahead.Most.TheVariants.{InFeed}
 use Rattle.cif_columns.specs.LineReader.{given}
 use Rattle.cif_feed.proofs.FeedRuns.{at_feed_line, comes-end, comes-line_fault, comes-memory, comes-untaken, comment_fine, feed_comment}
 use Rattle.cif_feed.proofs.FeedRuns.{feed_line, feed_reason, few_lines, line_why, none_more, none_none, room_more, room_one}
@@ -25,8 +26,8 @@ loop-columns-preserved-in-loop-columns g c =
     let (cs, so_far, taken, fine, read_on) = c.loop-columns.invariant in
     let columns = c.in-Some.columns.now in
     let stop = c.in-Ok.ensures c.args.feed c.args.allowed cs taken in
-    let next = next_passed g.R.Read.remaining g.R.ReadDevice.read_errors c.loop-columns.lines c.pass_line.new.self c.loop-columns.source
-    columns c.in-Some.ensures stop.is_line.printable c.pass_line.ensures in
+    let next = next_passed g.R.Read.remaining g.R.ReadDevice.read_errors InFeed c.loop-columns.lines c.pass_line.new.self
+    c.loop-columns.source columns c.in-Some.ensures stop.is_line.printable c.pass_line.ensures in
     let more : given c.pass_line.new.self ≡ given c.loop-columns.lines + 1 = next.counted in
     let room : length cs < c.args.max_lines =
     omega (arith, more, so_far.counted, so_far.same_limit, next.limit_now, c.pass_line.new.self.counted) in (
