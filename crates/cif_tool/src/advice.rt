@@ -1,9 +1,10 @@
 //! What `--verbose` says on standard error beyond the line that names a fault. It is said when the answer is decided
 //! and changes nothing of it.
 use crate::answers::Kept;
-use crate::devices::{ExtractInput, LineAgain, MOST_LOOKED_AT, Written};
+use crate::devices::{ExtractInput, Written};
 use crate::job::{Job, JobFault};
-use crate::message::{Escaped, Message};
+use crate::line_again::{LineAgain, MOST_LOOKED_AT};
+use crate::message::{Detail, Escaped, Message};
 use crate::refused_columns::{YYMMDD, columns_refused, holiday_refused};
 use crate::words::bad_word;
 use arrayvec::ArrayString;
@@ -20,6 +21,7 @@ use std::{io, str};
 /// A job that was done.
 #[derive(Drop)]
 pub(crate) struct DoneJob<'a, 'b> {
+    pub(crate) detail: Detail,
     pub(crate) job: &'a Job,
     /// What became of the output.
     pub(crate) written: &'a Written,
@@ -52,7 +54,9 @@ impl DoneJob<'_, '_> {
             self.left.add_reasons(reasons, message);
             return;
         }
-        self.add_windows(message);
+        if self.detail == Detail::All {
+            self.add_windows(message);
+        }
         if let Some(extract) = &kept.left {
             match self.job {
                 Job::Train(job) if !self.written.has_row(job.listing.format) => {
@@ -105,6 +109,7 @@ impl DoneJob<'_, '_> {
             Fault::Write => self.written.add_failure(message),
             Fault::Ambiguous(clash) => {
                 let _ = self.add_clash(clash, kept, message);
+                message.line(CLASHES);
             }
             Fault::Memory => {}
         }
@@ -307,6 +312,7 @@ impl ExtractInput<'_> {
         };
         match (format, why) {
             (Some(format), _) => message.line(format_args!("the input looks like {format}")),
+            (None, Refusal::Truncated) if self.start.is_empty() => message.line(EMPTY),
             (None, Refusal::Truncated) => message.line("the input ends before its trailer, ZZ"),
             (None, Refusal::TooManyLines) => {
                 message.line(format_args!("an extract has at most {MAX_LINES} lines"));
@@ -346,7 +352,10 @@ impl ExtractInput<'_> {
                     _ => None,
                 }
             }
-            (Refusal::NotFull, Some(line)) if line.is_of_update() => Some(UPDATE),
+            (Refusal::NotFull, Some(line)) if line.is_of_update() => Some(match self.side {
+                "FULL" => FULL_FIRST,
+                _ => UPDATE,
+            }),
             _ => None,
         }
     }
@@ -358,31 +367,42 @@ impl ExtractInput<'_> {
     pub(crate) fn add_feed_fault(
         &self,
         fault: &FeedFault,
+        reader: Reader,
         written: &Written,
         message: &mut Message,
     ) {
         match fault {
             FeedFault::Extract(Fault::Refused { line, why }) => {
-                self.add_refusal(*line, *why, Reader::Feeds, message);
+                self.add_refusal(*line, *why, reader, message);
             }
             FeedFault::Extract(Fault::Read) => self.add_read_failure(message),
             FeedFault::Extract(Fault::Write) => written.add_failure(message),
             FeedFault::Extract(_) => {}
             FeedFault::NotUpdate { line } => {
                 self.add_column(*line, 47, "must be U, of an update", message);
+                message.line(FULL_FIRST);
             }
             FeedFault::BadTransaction { line } => {
                 self.add_column(*line, 3, "must be N, R or D", message);
             }
-            FeedFault::NotThere { line } | FeedFault::AlreadyThere { line } => {
-                self.add_shown(*line, message);
-                message.line("an update was left out, or done twice");
-                message.line(LENIENT);
-            }
             FeedFault::BadHoliday { line } => self.add_holiday_line(*line, message),
-            // It is said with the reference of the extract.
-            FeedFault::OutOfSequence { line: _ } => {}
+            // What doesn't fit is said with the extract, by `add_unfit` and `add_out_of_sequence`.
+            FeedFault::NotThere { line: _ }
+            | FeedFault::AlreadyThere { line: _ }
+            | FeedFault::OutOfSequence { line: _ } => {}
         }
+    }
+
+    /// Adds what helps with a line of an update whose record isn't there, or is there already. By the references in their
+    /// headers the update may follow the extract.
+    pub(crate) fn add_unfit(&self, number: u64, follows: bool, message: &mut Message) {
+        self.add_shown(number, message);
+        message.line(if follows {
+            "FULL isn't what was published, or what cif update wrote"
+        } else {
+            "an update was left out or done twice, or FULL isn't what was published or what cif update wrote"
+        });
+        message.line(LENIENT);
     }
 
     /// Adds the line of this number, of which this column is refused, and what must stand there.
@@ -413,8 +433,20 @@ impl ExtractInput<'_> {
     /// Adds what is wrong with this line of holidays.
     fn add_holiday_line(&self, number: u64, message: &mut Message) {
         self.add_name(message);
+        if let Some(format) = other_format(self.start.as_slice()) {
+            let format = format.split(": take").next().unwrap_or(format);
+            message.line(format_args!("the holidays look like {format}"));
+            if format == "JSON" {
+                message.line(HOLIDAYS_OF_JSON);
+            }
+            return;
+        }
         if let Some(line) = self.line_again(message.alloc, number) {
             if line.add_holiday_word(message) {
+                let has_separator = |byte: &u8| matches!(byte, b',' | b'\t');
+                if line.bytes.as_slice().iter().any(has_separator) {
+                    message.line("words are separated by spaces, not by commas or tabs");
+                }
                 return;
             }
             message.add_bytes(line.bytes.as_slice());
@@ -434,17 +466,29 @@ const UPDATE: &str = "cif update applies an update to a full extract";
 
 const LENIENT: &str = "--lenient goes on after such a line";
 
+const FULL_FIRST: &str = "the full extract comes first, and its updates in their order behind it";
+
+const CLASHES: &str =
+    "cif clashes lists all clashes; cif prepare --drop-clashes leaves them out on their dates";
+
+const EMPTY: &str = "the input is empty: > FILE empties FILE before it is read";
+
+const HOLIDAYS_OF_JSON: &str =
+    "examples/README.md has a recipe that makes holidays of the government's list";
+
+const IGNORED: &str = "a line of --holidays with the code alone ignores it";
+
 /// Which commands read an input.
-#[derive(Clone, Copy)]
-enum Reader {
+#[derive(Clone, Copy, PartialEq, Eq)]
+pub(crate) enum Reader {
     /// Those of extracts.
     Extracts,
-    /// Those of published extracts and updates.
-    Feeds,
+    /// Those of published extracts and updates, and whether holidays are given.
+    Feeds { has_holidays: bool },
 }
 
 /// How files begin that are no extracts, and what each is.
-static BEGINNINGS: [(&[u8], &str); 7] = [
+static BEGINNINGS: [(&[u8], &str); 13] = [
     (b"\x1F\x8B", "gzip: decompress it first"),
     (b"PK\x03\x04", "a zip archive: extract it first"),
     (
@@ -453,8 +497,14 @@ static BEGINNINGS: [(&[u8], &str); 7] = [
     ),
     (b"\xFF\xFE", "UTF-16: convert it to ASCII first"),
     (b"\xFE\xFF", "UTF-16: convert it to ASCII first"),
+    (b"H\0", "UTF-16: convert it to ASCII first"),
+    (b"\0H", "UTF-16: convert it to ASCII first"),
     (b"{", "JSON: take the feed in the CIF format"),
     (b"[", "JSON: take the feed in the CIF format"),
+    (b"<?xml", "XML: take the feed in the CIF format"),
+    (b"<", "HTML, a page of the web: take the feed itself"),
+    (b"A    ", "the stations of RSP (MSN), for cif-gtfs-csv"),
+    (b"M=", "the links of RSP (ALF), for cif-gtfs-csv"),
 ];
 
 /// What an input that begins so looks like, where that is no extract.
@@ -493,16 +543,25 @@ impl LineAgain {
     fn add_to(&self, why: Refusal, reader: Reader, message: &mut Message) {
         let bytes = self.bytes.as_slice();
         message.add_bytes(bytes);
-        let begins_comment = reader == Reader::Feeds && bytes.starts_with(b"/!!");
+        let begins_comment = reader != Reader::Extracts && bytes.starts_with(b"/!!");
         match (why, reader) {
             (Refusal::BadLength, _) if begins_comment => {
                 message.line("a comment has at most 1,000 bytes");
             }
             (Refusal::BadLength, _) => self.add_length(message),
-            (Refusal::BankHoliday, Reader::Feeds) if self.has_holiday_code() => {
-                message.add_columns(29, 29, "--holidays doesn't name this code");
+            (Refusal::BankHoliday, Reader::Feeds { has_holidays }) if self.has_holiday_code() => {
+                message.add_columns(
+                    29,
+                    29,
+                    if has_holidays {
+                        "--holidays doesn't name this code"
+                    } else {
+                        "--holidays FILE gives the dates of this code"
+                    },
+                );
+                message.line(IGNORED);
             }
-            (Refusal::BankHoliday, Reader::Feeds) => {
+            (Refusal::BankHoliday, Reader::Feeds { has_holidays: _ }) => {
                 message.add_columns(29, 29, "a holiday code is a space, X, E or G");
             }
             _ => {
@@ -518,6 +577,9 @@ impl LineAgain {
         let length = self.bytes.len();
         if self.is_whole {
             message.line(format_args!("the line has {length} columns, not 80"));
+            if !self.is_ended && length < LINE_WIDTH {
+                message.line("the input ends in the midst of it");
+            }
         } else if length < MOST_LOOKED_AT {
             message.line("the line has more than 80 columns");
         } else {
@@ -599,25 +661,62 @@ fn shown<const N: usize>(bytes: &[u8]) -> ArrayString<N> {
 
 // ---- a mistaken word
 
-/// Says which of the words is mistaken, if one is, and what it must be, where `--verbose` is among them.
+/// Says which of the words is mistaken, if one is, and what it must be, on a terminal or where `--verbose` is among them.
 pub(crate) fn advise_on_word(
     alloc: Global,
     words: &[String],
     fault: &JobFault,
+    detail: Detail,
     errors: &mut Sink<Stderr>,
 ) {
-    let must = match fault {
-        JobFault::BadDate => YYMMDD,
-        JobFault::BadUid => "must be six printable ASCII characters",
-        _ => return,
-    };
-    if let Some(word) = bad_word(alloc, words, fault) {
-        let word = Escaped {
-            text: word,
-            has_lines: false,
-        };
-        let mut message = Message::new(alloc);
-        message.line(format_args!("'{word}': {must}"));
-        message.tell(errors);
+    let mut message = Message::new(alloc);
+    match fault {
+        JobFault::BadDate | JobFault::BadUid => {
+            if let Some(word) = bad_word(alloc, words, fault, detail) {
+                add_word(word, fault, &mut message);
+            }
+        }
+        JobFault::Usage(_) => match words.get(1).map(String::as_str) {
+            Some("-v" | "--verbose") => {
+                message.line("options stand behind the command: cif check --verbose FILE");
+            }
+            _ => {}
+        },
+        _ => {}
     }
+    message.tell(errors);
+}
+
+/// Adds what a word that names no date, or no UID, must be.
+fn add_word(word: &str, fault: &JobFault, message: &mut Message) {
+    let shown = Escaped {
+        text: word,
+        has_lines: false,
+    };
+    if let JobFault::BadUid = fault {
+        message.line(format_args!("'{shown}': must be six printable ASCII characters"));
+        if word.len() == 5 {
+            message.line("a space before or behind the other five belongs to it, in quotes");
+        }
+        return;
+    }
+    message.line(format_args!("'{shown}': {YYMMDD}"));
+    if let Some(date) = written_as_iso(word) {
+        message.line(format_args!("dates are YYMMDD: {date}"));
+    }
+}
+
+/// The digits of a date YYYY-MM-DD, as YYMMDD.
+fn written_as_iso(word: &str) -> Option<ArrayString<6>> {
+    let mut date = ArrayString::new();
+    for (at, byte) in word.bytes().enumerate() {
+        match (at, byte) {
+            (4 | 7, b'-') => {}
+            (4 | 7, _) => return None,
+            (0 | 1, b'0'..=b'9') => {}
+            (_, b'0'..=b'9') => date.try_push(char::from(byte)).ok()?,
+            _ => return None,
+        }
+    }
+    (date.len() == 6).then_some(date)
 }

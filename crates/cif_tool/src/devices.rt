@@ -1,10 +1,11 @@
-//! What the program reads and writes: its inputs, the output, and a line that is read again.
+//! What the program reads and writes: its inputs, and the output.
 ghost use Rattle.std.specs.Io.{ReadsAtMost};
 
-use crate::message::Escaped;
+use crate::line_again::{LastRead, LineAgain, MOST_LOOKED_AT};
+use crate::message::{Detail, Escaped};
 use crate::words::is_standard;
 use arrayvec::ArrayVec;
-use cif_columns::{Content, LINE_WIDTH, Line, LineReader, ReadDevice, Sink, Source, WriteDevice};
+use cif_columns::{LINE_WIDTH, Line, ReadDevice, Sink, WriteDevice};
 use cif_extract::Fault;
 use cif_records::Header;
 use std::alloc::Global;
@@ -23,11 +24,13 @@ const START: usize = LINE_WIDTH + 2;
 pub(crate) struct ExtractInput<'a> {
     rt: HostRuntime,
     /// What the user knows it by: of several inputs which one it is, as `LEFT`, and the file's name.
-    side: &'static str,
+    pub(crate) side: &'static str,
     name: &'a str,
     device: Device,
     /// What was read first, up to the length of a line with its ending.
     pub(crate) start: ArrayVec<u8, START>,
+    /// What was read last, of the standard input, where a line of it may be shown.
+    last: Option<LastRead>,
     /// The system's number of the error that a read ended with.
     pub(crate) failure: Option<i32>,
 }
@@ -45,8 +48,14 @@ enum Device {
 }
 
 impl<'a> ExtractInput<'a> {
-    /// The file of this name, or the standard input where there is none or it is `-`.
-    pub(crate) fn of(rt: HostRuntime, side: &'static str, file: Option<&'a str>) -> Self {
+    /// The file of this name, or the standard input where there is none or it is `-`. With help that may show one
+    /// of its lines, what is read last of the standard input is kept.
+    pub(crate) fn of(
+        rt: HostRuntime,
+        side: &'static str,
+        file: Option<&'a str>,
+        detail: Detail,
+    ) -> Self {
         ExtractInput {
             rt,
             side,
@@ -60,6 +69,10 @@ impl<'a> ExtractInput<'a> {
                 _ => Device::Unlocked,
             },
             start: ArrayVec::new(),
+            last: match file {
+                Some(name) if !is_standard(name) => None,
+                _ => detail.helps().then(|| LastRead::new(rt.alloc())),
+            },
             failure: None,
         }
     }
@@ -94,12 +107,14 @@ impl<'a> ExtractInput<'a> {
         None
     }
 
-    /// The line of this number, counted from 1, if it is still known: of a file, or the first of the standard input.
+    /// The line of this number, counted from 1, if it is still known: of a file, or the first of the standard input,
+    /// or one that was read last.
     pub(crate) fn line_again(&self, alloc: Global, number: u64) -> Option<LineAgain> {
         let Some(file) = self.again() else {
-            return match number {
-                1 => LineAgain::read(alloc, &mut self.start.as_slice(), START),
-                _ => None,
+            let last = self.last.as_ref().and_then(|last| last.line(alloc, number));
+            return match (last, number) {
+                (None, 1) => LineAgain::read(alloc, &mut self.start.as_slice(), START),
+                (last, _) => last,
             };
         };
         let mut file = BufReader::new(alloc, file).ok()?;
@@ -189,6 +204,9 @@ impl Read for ExtractInput<'_> {
             Ok(count) => {
                 let kept = count.min(self.start.remaining_capacity());
                 let _ = self.start.try_extend_from_slice(&buf[..kept]);
+                if let Some(last) = &mut self.last {
+                    last.add(&buf[..count]);
+                }
                 Ok(count)
             }
             Err(error) => {
@@ -272,6 +290,9 @@ impl WriteDevice for Output<'_> {
     }
 }
 
+/// The comments behind which a header is looked for.
+const MOST_COMMENTS: u64 = 100;
+
 /// The bytes of output that are gathered before they are written.
 const OUTPUT_BUFFER: usize = 65_536;
 
@@ -284,44 +305,5 @@ pub(crate) fn buffered<W: WriteDevice + Drop>(
     match BufWriter::with_capacity(alloc, OUTPUT_BUFFER, output) {
         Ok(output) => Ok(ManuallyDrop::new(Sink::new(output))),
         Err(_) => Err(Fault::Memory),
-    }
-}
-
-/// The bytes of a line that are looked at before it counts as endless.
-pub(crate) const MOST_LOOKED_AT: usize = 4096;
-
-/// The comments behind which a header is looked for.
-const MOST_COMMENTS: u64 = 100;
-
-/// A line of an input that is read again, without its ending.
-#[derive(Drop)]
-pub(crate) struct LineAgain {
-    /// Its bytes, or the first of them.
-    pub(crate) bytes: Vec<u8>,
-    /// Whether these are known to be all.
-    pub(crate) is_whole: bool,
-}
-
-impl LineAgain {
-    /// The next line, if there is one. Fewer bytes than `known` are all of it.
-    fn read<B: BufRead>(alloc: Global, file: &mut B, known: usize) -> Option<LineAgain> {
-        let mut bytes = Vec::new(alloc);
-        let mut line = file.by_ref().take((known as u64).saturating_add(1));
-        if line.read_until(b'\n', &mut bytes).ok()? == 0 {
-            return None;
-        }
-        let length = match bytes.as_slice() {
-            [line @ .., b'\r', b'\n'] | [line @ .., b'\n'] | line => line.len(),
-        };
-        bytes.truncate(length);
-        let is_whole = length < known;
-        Some(LineAgain { bytes, is_whole })
-    }
-
-    /// Whether it is a comment: the reader that passes over comments decides it.
-    pub(crate) fn is_comment(&self) -> bool {
-        let mut source = Source::new(self.bytes.as_slice());
-        let content = LineReader::new(1).read_content(&mut source, &mut Line::blank());
-        self.is_whole && matches!(content, Ok(Content::Comment))
     }
 }

@@ -1,8 +1,9 @@
 //! From a call that reads published extracts to its status: its inputs are opened here, and `--verbose` says more.
 //! What is read, done, written and told is said by the clauses of the functions that are called.
+use crate::advice::Reader;
 use crate::devices::{ExtractInput, Output, Written, buffered};
 use crate::job::{Call, FeedJob, InputNames};
-use crate::message::Message;
+use crate::message::{Detail, Message};
 use crate::told::{end_prepare, end_update};
 use cif_columns::{Sink, Source};
 use cif_extract::Fault;
@@ -36,8 +37,9 @@ fn source_of<'a>(
     rt: HostRuntime,
     side: &'static str,
     name: &'a String,
+    detail: Detail,
 ) -> Source<ExtractInput<'a>> {
-    Source::new(ExtractInput::of(rt, side, Some(name.as_str())))
+    Source::new(ExtractInput::of(rt, side, Some(name.as_str()), detail))
 }
 
 // ---- prepare
@@ -47,9 +49,10 @@ fn source_of<'a>(
 fn source_of_holidays<'a>(
     rt: HostRuntime,
     inputs: &'a InputNames,
+    detail: Detail,
 ) -> Option<Source<ExtractInput<'a>>> {
     inputs.rest.first()?;
-    Some(source_of(rt, "holidays", &inputs.first))
+    Some(source_of(rt, "holidays", &inputs.first, detail))
 }
 
 /// The extract, on the heap, since a small stack has no room for it beside the holidays.
@@ -57,8 +60,9 @@ fn source_of_holidays<'a>(
 fn boxed_source<'a>(
     rt: HostRuntime,
     name: &'a String,
+    detail: Detail,
 ) -> Result<Box<Source<ExtractInput<'a>>>, AllocError> {
-    Ok(Box::new(rt.alloc(), source_of(rt, "", name))?)
+    Ok(Box::new(rt.alloc(), source_of(rt, "", name, detail))?)
 }
 
 /// Writes the prepared extract of the last input, with the holidays of the one before it, if there is one.
@@ -66,9 +70,10 @@ fn boxed_source<'a>(
 #[inline(never)]
 fn prepare(rt: HostRuntime, call: &Call, drop_clashes: bool, errors: &mut Sink<Stderr>) -> u8 {
     let alloc = rt.alloc();
-    let mut holidays = source_of_holidays(rt, &call.inputs);
+    let detail = Detail::of(rt, call.verbose);
+    let mut holidays = source_of_holidays(rt, &call.inputs, detail);
     let file = call.inputs.rest.first().unwrap_or(&call.inputs.first);
-    let Ok(mut source) = boxed_source(rt, file) else {
+    let Ok(mut source) = boxed_source(rt, file, detail) else {
         return end_prepare(&Err(FeedFault::Extract(Fault::Memory)), errors);
     };
     let mut written = Written::new();
@@ -93,21 +98,24 @@ fn prepare(rt: HostRuntime, call: &Call, drop_clashes: bool, errors: &mut Sink<S
         Err(fault) => Err(FeedFault::Extract(fault)),
     };
     let status = end_prepare(&answer, errors);
-    if call.verbose {
+    if detail.helps() {
         let mut message = Message::new(alloc);
         match &answer {
+            Ok(_) if detail == Detail::Help => {}
             Ok(dropped) => {
                 let clashing = drop_clashes.then_some(dropped.records);
                 add_prepared(source.reader(), &kept, clashing, &mut message);
             }
-            Err(fault) => match holidays.as_ref().map(Source::reader) {
-                Some(input) if !source.reader().is_touched() => {
-                    input.add_feed_fault(fault, &written, &mut message);
-                }
-                _ => source
-                    .reader()
-                    .add_feed_fault(fault, &written, &mut message),
-            },
+            Err(fault) => {
+                let reader = Reader::Feeds {
+                    has_holidays: holidays.is_some(),
+                };
+                let input = match holidays.as_ref().map(Source::reader) {
+                    Some(input) if !source.reader().is_touched() => input,
+                    _ => source.reader(),
+                };
+                input.add_feed_fault(fault, reader, &written, &mut message);
+            }
         }
         message.tell(errors);
     }
@@ -142,17 +150,20 @@ fn add_prepared(
 /// What FULL has to be.
 const FROM_UPDATE: &str = "FULL has to be what was published, or what cif update wrote";
 
+const IN_THEIR_ORDER: &str = "updates stand in their order, the oldest first";
+
 /// The full extract, and the updates.
 // Inlined, it would keep copies of inputs on the stack of its caller.
 #[inline(never)]
 fn sources_of<'a>(
     rt: HostRuntime,
     inputs: &'a InputNames,
+    detail: Detail,
 ) -> Result<Vec<Source<ExtractInput<'a>>>, AllocError> {
     let mut sources = Vec::new(rt.alloc());
-    sources.push(source_of(rt, "FULL", &inputs.first))?;
+    sources.push(source_of(rt, "FULL", &inputs.first, detail))?;
     for name in &inputs.rest {
-        sources.push(source_of(rt, "UPDATE", name))?;
+        sources.push(source_of(rt, "UPDATE", name, detail))?;
     }
     Ok(sources)
 }
@@ -167,7 +178,8 @@ fn update(rt: HostRuntime, call: &Call, lenient: bool, errors: &mut Sink<Stderr>
         full: None,
         done: Vec::new(alloc),
     });
-    let Ok(mut sources) = sources_of(rt, &call.inputs) else {
+    let detail = Detail::of(rt, call.verbose);
+    let Ok(mut sources) = sources_of(rt, &call.inputs, detail) else {
         return end_update(&Err(FeedFault::Extract(Fault::Memory)), &kept, errors);
     };
     let mut written = Written::new();
@@ -185,22 +197,48 @@ fn update(rt: HostRuntime, call: &Call, lenient: bool, errors: &mut Sink<Stderr>
         Err(fault) => Err(FeedFault::Extract(fault)),
     };
     let status = end_update(&answer, &kept, errors);
-    if call.verbose {
+    if detail.helps() {
         let mut message = Message::new(alloc);
         match &answer {
+            Ok(()) if detail == Detail::Help => {}
             Ok(()) => add_updated(sources.as_slice(), &kept, &mut message),
             Err(fault) => {
                 if let Some(input) = last_touched(sources.as_slice()) {
-                    if let FeedFault::OutOfSequence { line } = fault {
-                        add_references(input, *line, &kept, &mut message);
+                    add_undone(input, fault, &kept, &written, &mut message);
+                    if sources.len() > 2 && matches!(fault, FeedFault::OutOfSequence { line: _ }) {
+                        message.line(IN_THEIR_ORDER);
                     }
-                    input.add_feed_fault(fault, &written, &mut message);
                 }
             }
         }
         message.tell(errors);
     }
     status
+}
+
+/// Adds why an update of this input isn't done, or why this input isn't read.
+fn add_undone(
+    input: &ExtractInput<'_>,
+    fault: &FeedFault,
+    kept: &KeptUpdate,
+    written: &Written,
+    message: &mut Message,
+) {
+    match fault {
+        FeedFault::OutOfSequence { line } => add_references(input, *line, kept, message),
+        FeedFault::NotThere { line } | FeedFault::AlreadyThere { line } => {
+            // An update that was read has left its header in the extract.
+            let follows = match &kept.extract {
+                Some(extract) => last_reference(&extract.header) != *b"       ",
+                None => false,
+            };
+            input.add_unfit(*line, follows, message);
+        }
+        _ => {
+            let reader = Reader::Feeds { has_holidays: true };
+            input.add_feed_fault(fault, reader, written, message);
+        }
+    }
 }
 
 /// The input that was read last, if one was.

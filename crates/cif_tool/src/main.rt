@@ -8,6 +8,7 @@ mod devices;
 mod feeds;
 mod help;
 mod job;
+mod line_again;
 mod message;
 mod program;
 mod refused_columns;

@@ -3,7 +3,36 @@ use cif_columns::Sink;
 use std::alloc::Global;
 use std::fmt;
 use std::fmt::{Display, Formatter};
-use std::io::{Stderr, Write};
+use std::io::{IsTerminal, Stderr, Write};
+
+/// How much is said on standard error.
+#[derive(Clone, Copy, PartialEq, Eq)]
+pub(crate) enum Detail {
+    /// The fault line alone, for scripts.
+    Fault,
+    /// What helps with the fault too: standard error is a terminal.
+    Help,
+    /// And what was read and done: `--verbose`.
+    All,
+}
+
+impl Detail {
+    /// As much as is asked for, or as a terminal gets.
+    pub(crate) fn of(rt: HostRuntime, verbose: bool) -> Detail {
+        if verbose {
+            Detail::All
+        } else if rt.stderr().is_terminal() {
+            Detail::Help
+        } else {
+            Detail::Fault
+        }
+    }
+
+    /// Whether it is more than the fault line.
+    pub(crate) fn helps(self) -> bool {
+        self != Detail::Fault
+    }
+}
 
 /// The lines that follow a fault line on standard error. They are gathered, so that one write takes them
 /// all.

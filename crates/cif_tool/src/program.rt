@@ -5,6 +5,7 @@ use crate::answers::{Kept, answer};
 use crate::devices::{ExtractInput, Output, Written, buffered};
 use crate::feeds::feed_task;
 use crate::job::{Call, Job, JobFault, Task};
+use crate::message::Detail;
 use crate::status::{USAGE_ERROR, end};
 use crate::words::task_of;
 use cif_columns::{Sink, Source};
@@ -56,7 +57,8 @@ fn refused(rt: HostRuntime, fault: JobFault, errors: &mut Sink<Stderr>) -> u8 {
     };
     let status = end(&explained, errors);
     if let Ok(words) = words_of(rt) {
-        advise_on_word(alloc, words.as_slice(), &fault, errors);
+        let detail = Detail::of(rt, false);
+        advise_on_word(alloc, words.as_slice(), &fault, detail, errors);
     }
     status
 }
@@ -77,9 +79,10 @@ fn done(rt: HostRuntime, job: &Job, call: &Call, errors: &mut Sink<Stderr>) -> u
         None => ("", ""),
     };
     let alloc = rt.alloc();
+    let detail = Detail::of(rt, call.verbose);
     let left_file = Some(call.inputs.first.as_str());
-    let mut left = Source::new(ExtractInput::of(rt, side, left_file));
-    let mut right = Source::new(ExtractInput::of(rt, right_side, right_file));
+    let mut left = Source::new(ExtractInput::of(rt, side, left_file, detail));
+    let mut right = Source::new(ExtractInput::of(rt, right_side, right_file, detail));
     let mut written = Written::new();
     let output = Output {
         writer: rt.stdout(),
@@ -96,8 +99,9 @@ fn done(rt: HostRuntime, job: &Job, call: &Call, errors: &mut Sink<Stderr>) -> u
         Err(fault) => Err(fault),
     };
     let status = end(&answered, errors);
-    if call.verbose {
+    if detail.helps() {
         let done_job = DoneJob {
+            detail,
             job,
             written: &written,
             left: left.reader(),

@@ -15,6 +15,7 @@ use crate::job::{
     CalendarJob, Call, CanonicalJob, CompareJob, DayJob, DiffJob, ExplainJob, FeedJob, InputNames,
     Inputs, Job, JobFault, TableJob, Task, TrainJob,
 };
+use crate::message::Detail;
 use cif_canon::{Asked, Format};
 use cif_columns::{Day, Uid, are_printable};
 use cif_views::{Listing, Table};
@@ -42,16 +43,17 @@ pub fn task_of(alloc: Global, words: Vec<String>) -> Result<Call, JobFault>
 }
 
 /// The first word that should name a date, or the UID, and doesn't, as `fault` says; none where
-/// `--verbose` isn't among the words.
+/// `--verbose` isn't among the words, and a terminal gets no help.
 #[inline(never)]
 pub(crate) fn bad_word<'a>(
     alloc: Global,
     words: &'a [String],
     fault: &JobFault,
+    detail: Detail,
 ) -> Option<&'a str> {
     match matches_of(alloc, &all_choices(), words) {
         Ok(matches) => match matches.subcommand() {
-            Some((_, inner)) if has_flag(inner, "verbose") => match fault {
+            Some((_, inner)) if detail.helps() || has_flag(inner, "verbose") => match fault {
                 JobFault::BadUid => word_of(inner, "UID"),
                 _ => bad_date(inner),
             },
