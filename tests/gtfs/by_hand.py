@@ -5,8 +5,8 @@ import re
 from datetime import date
 from pathlib import Path
 
-from feeds import Feed
-from validator import ERROR, notices
+from .feeds import Feed
+from .validator import ERROR, notices
 
 HERE = Path(__file__).resolve().parent
 

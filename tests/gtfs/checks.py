@@ -1,18 +1,16 @@
 """What the tests share: counting, running the programs, and looking at a whole feed."""
 import csv
 import subprocess
-import sys
 import zipfile
 from collections import Counter
 from pathlib import Path
 
-from definition import days_of, expected, table_rows
-from feeds import EXTENDED_TYPES, TYPES, Feed, Names, active_services, coded, shown
-from validator import ERROR, notices
+from .definition import days_of, expected, table_rows
+from .feeds import EXTENDED_TYPES, TYPES, Feed, Names, active_services, coded, shown
+from .validator import ERROR, notices
 
-GTFS = Path(__file__).resolve().parents[2] / "gtfs"
-# for the tests of single functions
-sys.path.insert(0, str(GTFS))
+TOP = Path(__file__).resolve().parents[2]
+COMPANIONS = TOP / "companions"
 FILES = ("stop_times", "trips", "calendar_dates", "calendar", "agency", "stops", "routes", "transfers", "feed_info")
 # The warnings that are known: nobody is named who answers for a feed.
 KNOWN_WARNINGS = {"missing_feed_contact_email_and_url"}
@@ -51,7 +49,7 @@ class Maker:
         self.cif, self.folder = cif, folder
 
     def run(self, *words, program="cif-gtfs"):
-        words = [GTFS / program, *(("--cif", self.cif) if program == "cif-gtfs" else ()), *words]
+        words = [COMPANIONS / program, *(("--cif", self.cif) if program == "cif-gtfs" else ()), *words]
         return subprocess.run(words, cwd=self.folder, capture_output=True, text=True, check=False)
 
     def feed(self, *words):

@@ -7,9 +7,9 @@ import subprocess
 import time
 from collections import defaultdict
 
-from checks import GTFS, Maker
-from feeds import Feed
-from by_hand import uids_of
+from .checks import COMPANIONS, Maker
+from .feeds import Feed
+from .by_hand import uids_of
 
 # A file of each kind, with what is told of it.
 BAD_FILES = {
@@ -35,7 +35,7 @@ BAD_FILES = {
         "operator_code,name,url\nSN,,www.southern.example\nSN,Southern,\n",
         (
             "line 2: name is missing",
-            "line 2: url `www.southern.example` isn't an address that begins with http:// or https://",
+            "line 2: url `www.southern.example` isn't an address of the web such as https://www.example.com/",
             "line 3: SN is double: line 2 has it too",
         ),
     ),
@@ -56,16 +56,18 @@ BAD_HEADINGS = {
     "places": ("tiploc,name,latitude\n", ("line 1: the field longitude is missing",)),
     "links": ("from,to,minutes,to\n", ("line 1: the field to is double",)),
     "operators": ("", tuple(f"line 1: the field {name} is missing" for name in ("operator_code", "name", "url"))),
-    "interchange": ('crs,minutes\nALP,"5\n', ("line 3: this is no CSV in UTF-8: unexpected end of data",)),
+    "interchange": ('crs,minutes\nALP,"5\n', ("line 2: this is no CSV: unexpected end of data",)),
 }
 
 # Stands for cif: it does what cif does, but fails, waits or ends in the middle of a table.
 FAILING = """\
 #!/bin/sh
-if [ "$2" = {table} ]; then
-    "{cif}" "$@" | head -c 700
+case " $* " in
+*" {table} "*)
+    "{cif}" "$@" 2> /dev/null | head -c 700
     {then}
-fi
+    ;;
+esac
 exec "{cif}" "$@"
 """
 
@@ -98,15 +100,18 @@ def check_user_files(counts, maker, special):
 
 
 def check_words(counts, maker, special):
-    for words in (), (special, special), ("--form", "1", special), ("--fro", "260105", special), ("-",), (".",):
+    for words in (), (special, special), ("--form", "1", special), ("--fro", "260105", special), (".",):
         refused(counts, maker, f"the words {words}", 2, None, *words)
     wanted = maker.folder / "places-wanted.csv"
     wanted.write_text("tiploc,name,latitude,longitude\n")
     for words in ("-o", special, special), ("-o", "gtfs.zip", "--places", wanted, special):
         refused(counts, maker, f"an output in the place of an input, {words[1]}", 2, None, *words)
     wanted.unlink()
-    refused(counts, maker, "a bad date", 2, ["cif: bad date"], "--from", "260230", special)
-    refused(counts, maker, "a date outside the window", 3, ["cif: OutsideWindow"], "--to", "260126", special)
+    for word in "260230", "":
+        told = ["cif: bad date", f"  '{word}': must be a valid date as six digits, YYMMDD"]
+        refused(counts, maker, f"the date {word!r}", 2, told, "--from", word, special)
+    told = ["cif: OutsideWindow", f"  {special} has the window 260105 to 260125"]
+    refused(counts, maker, "a date outside the window", 3, told, "--to", "260126", special)
 
 
 def check_failures(counts, maker, special):
@@ -116,8 +121,9 @@ def check_failures(counts, maker, special):
     kept = ("HD", "TI", "ZZ")
     goods = [at for at, line in enumerate(lines) if line.startswith("BSNL00001")][0]
     freight.write_text("".join([line for line in lines if line.startswith(kept)][:-1] + lines[goods : goods + 4] + lines[-1:]))
-    refused(counts, maker, "a refused extract", 3, [f"cif: line {len(lines)}: Truncated"], bad)
-    refused(counts, maker, "a missing extract", 4, ["cif: ReadFault"], "missing.cif")
+    truncated = [f"cif: line {len(lines)}: Truncated", f"  in {bad}", "  the input ends before its trailer, ZZ"]
+    refused(counts, maker, "a refused extract", 3, truncated, bad)
+    refused(counts, maker, "a missing extract", 4, ["cif-gtfs: missing.cif: No such file or directory"], "missing.cif")
     refused(counts, maker, "no public train", 3, [f"cif-gtfs: {freight} has no public train in its window"], freight)
     refused(counts, maker, "no folder for the zip", 4, None, "-o", "missing/gtfs.zip", special)
     refused(counts, maker, "no program cif", 4, None, "--cif", "./missing", special)
@@ -158,21 +164,21 @@ def check_signals(counts, maker, special):
     failing = failing_cif(maker, "public", "exec sleep 60")
     before = left(maker)
     for number in signal.SIGTERM, signal.SIGINT:
-        process = subprocess.Popen([GTFS / "cif-gtfs", "--cif", failing.cif, special], cwd=maker.folder, stderr=subprocess.PIPE)
+        process = subprocess.Popen([COMPANIONS / "cif-gtfs", "--cif", failing.cif, special], cwd=maker.folder, stderr=subprocess.PIPE)
         for _ in range(1200):
             if left(maker) != before:
                 break
             time.sleep(0.05)
         process.send_signal(number)
         _, told = process.communicate(timeout=30)
-        counts.same(f"stopped by {number.name}", (4, b"cif-gtfs: stopped by a signal\n"), (process.returncode, told))
+        counts.same(f"stopped by {number.name}", (4, f"cif-gtfs: interrupted by {number.name}\n".encode()), (process.returncode, told))
         counts.same(f"stopped by {number.name}, what is left", before, left(maker))
 
 
 def check_terminal(counts, maker, special):
     """On a terminal it tells how far it is, and ends with a clear line."""
     ours, theirs = pty.openpty()
-    words = [GTFS / "cif-gtfs", "--cif", maker.cif, special]
+    words = [COMPANIONS / "cif-gtfs", "--cif", maker.cif, special]
     process = subprocess.Popen(words, cwd=maker.folder, stderr=theirs)
     os.close(theirs)
     told = b""
@@ -222,8 +228,8 @@ def check_again(counts, maker, special):
 def check_collision(counts):
     """Two trips of a train with one id are refused, which needs shorter ids than there are."""
     from cif_gtfs import trips
-    from cif_gtfs.problems import REFUSED, Problem
     from cif_gtfs.trains import Train
+    from cif_shared.endings import Refused
 
     train, found = Train("1", " 00001", 1, "1A01", "SN", 2), trips.TripsOfUid(" 00001")
     length, trips.ID_BYTES = trips.ID_BYTES, 1
@@ -232,9 +238,9 @@ def check_collision(counts):
             rows = [b"ALPHA\t%d\t09:00:00\t09:00:00\t1\t0\n" % number, b"BETA\t1\t10:00:00\t10:00:00\t0\t1\n"]
             found.add(train, rows, 1)
         counts.test("two trips with one id", False, "they are taken")
-    except Problem as problem:
-        told = problem.text.startswith("cif-gtfs: two trips of the train  00001 have the id _00001-")
-        counts.test("two trips with one id", told and problem.status == REFUSED, problem.text)
+    except Refused as refused_trip:
+        told = refused_trip.lines[0].startswith("two trips of the train  00001 have the id _00001-")
+        counts.test("two trips with one id", told, refused_trip.lines)
     finally:
         trips.ID_BYTES = length
     counts.test("the length of ids", length >= 5, length)
@@ -242,14 +248,14 @@ def check_collision(counts):
 
 def check_blocks(counts):
     """The rows of some schedules are the same in blocks of any size."""
-    from cif_gtfs.extract import rows_of
+    from cif_shared.tables import lines_of_schedules
 
     rows = [b"%d\t%d\tcall" % (schedule, call) for schedule in range(1, 130) for call in range(schedule % 7)]
     for wanted in ([1, 2, 5, 8, 9, 10, 11, 99, 100, 101, 128, 129], [129], [1], [6], list(range(1, 130)), []):
         want = [row for row in rows if int(row.split(b"\t")[0]) in wanted]
         for size in (1, 7, 16, 40, 100, 1000, 10**6):
             table = io.BytesIO(b"".join(row + b"\n" for row in rows))
-            got = list(rows_of(table, [b"%d" % number for number in wanted], size))
+            got = list(lines_of_schedules(table, [b"%d" % number for number in wanted], size))
             counts.test(f"rows of {len(wanted)} schedules in blocks of {size}", want == got, got[:5])
 
 

@@ -3,8 +3,8 @@ import csv
 import io
 from collections import Counter, defaultdict, namedtuple
 
-from definition import seconds_of
-from validator import WEEKDAYS
+from .definition import seconds_of
+from .validator import WEEKDAYS
 
 TYPES = {"rail": "2", "sleeper": "2", "metro": "1", "bus": "3", "replacement": "3", "ship": "4"}
 EXTENDED_TYPES = {**TYPES, "sleeper": "105", "replacement": "714"}

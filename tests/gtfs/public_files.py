@@ -1,4 +1,4 @@
-"""The files that cif-gtfs-csv makes of made-up public ones, whose layouts are those of gtfs/cif_gtfs/public_files.py."""
+"""The files that cif-gtfs-csv makes of made-up public ones, whose layouts are those of companions/cif_gtfs_csv."""
 import csv
 import io
 from pathlib import Path
@@ -97,7 +97,7 @@ def check_places_of_master(counts, text):
 def check_grid(counts):
     from math import degrees
 
-    from cif_gtfs.grid import latitude_and_longitude, on_airy
+    from cif_gtfs_csv.grid import latitude_and_longitude, on_airy
 
     for name, want, got, near in (
         ("on the grid's datum", ON_AIRY, tuple(map(degrees, on_airy(*POINT))), 0.00000001),
@@ -118,7 +118,7 @@ def check(counts, maker):
         for bad, told in BAD[kind]:
             (maker.folder / "bad").write_text(bad)
             done = maker.run(kind, "bad", program="cif-gtfs-csv")
-            counts.same(f"{kind}, {told}", (3, "", f"cif-gtfs: bad: {told}\n"), (done.returncode, done.stdout, done.stderr))
+            counts.same(f"{kind}, {told}", (3, "", f"cif-gtfs-csv: bad: {told}\n"), (done.returncode, done.stdout, done.stderr))
     for kind, want in ("naptan-places", OF_NAPTAN), ("msn-interchange", INTERCHANGE), ("alf-links", LINKS):
         counts.same(kind, want, outputs[kind])
     check_places_of_master(counts, outputs["msn-places"])
