@@ -7,12 +7,12 @@ from __future__ import annotations
 
 from collections import Counter
 from enum import Enum
-from typing import Dict, Iterable, List, Mapping, NamedTuple, Optional, Sequence, Set, Tuple
+from typing import Dict, Iterable, List, Mapping, NamedTuple, Optional, Sequence, Tuple
 
-from cif_shared.dates import Dates, Window, count_of, moved, numbers_of
+from cif_shared.dates import Dates, Window, count_of, moved
 from cif_shared.tables import AssociationRow
 
-from .trains import Train
+from .calls import DAY, HOUR, Spot, Variant
 
 DIVIDE = "VV"
 JOIN = "JJ"
@@ -20,6 +20,8 @@ NEXT = "NP"
 CATEGORIES = (DIVIDE, JOIN, NEXT)
 DAYS_LATER = {"": 0, "S": 0, "N": 1, "P": -1}
 PASSENGER = ("", "P")
+# Nobody stays seated for longer than this.
+LONGEST_WAIT = 6 * HOUR
 
 
 class Role(Enum):
@@ -41,25 +43,12 @@ class Reason(Enum):
     NOT_ENDED = "the associated train doesn't end there"
     NONE_BEFORE = "the base train has no public call before it"
     NONE_AFTER = "the base train has no public call after it"
+    TOO_EARLY = "the next train leaves before the first one arrives"
+    TOO_LATE = "the next train leaves more than six hours after the first one arrives"
     MIDNIGHTS = "its trains are linked over two midnights"
 
 
-class Spot(NamedTuple):
-    """Where an association is on the way of a train."""
-
-    location: str
-    suffix: str
-
-
-class Stop(NamedTuple):
-    """A call where an association may be: its number, LO, LI or LT, platform, and its working times
-    as they stand."""
-
-    number: int
-    record: str
-    platform: str
-    arrival: str
-    departure: str
+LeftOut = Dict[Reason, int]
 
 
 class Terms(NamedTuple):
@@ -74,14 +63,6 @@ class Terms(NamedTuple):
     associated_suffix: str
 
 
-# A train by its UID, on a date by its number.
-TrainOnDate = Tuple[str, int]
-# A stop and a trip of it, by their ids.
-TripEnd = Tuple[bytes, bytes]
-# The end of a trip and the beginning of the one that it is linked with.
-Link = Tuple[bytes, bytes, bytes, bytes]
-
-
 class Association:
     """An association, the dates on which it holds, and those on which it is shown."""
 
@@ -90,41 +71,27 @@ class Association:
         self.dates: Dates = 0
         self.shown: Dates = 0
         self.days_later = DAYS_LATER.get(terms.indicator, 0)
-        # where linked trips end and begin, with the dates of each
-        self.ends: List[Tuple[Dates, TripEnd]] = []
-        self.begins: List[Tuple[Dates, TripEnd]] = []
+        self.spots = {role: self.spot(role) for role in Role}
+
+    def spot(self, role: Role) -> Spot:
+        """Where a train of this role has to stop, and which call that has to be."""
+        terms = self.terms
+        if role is Role.BASE:
+            kind = "LT" if terms.category == NEXT else ""
+            return Spot(terms.location, terms.base_suffix, kind)
+        kind = "LT" if terms.category == JOIN else "LO"
+        return Spot(terms.location, terms.associated_suffix, kind)
 
     def uid(self, role: Role) -> str:
         return self.terms.base if role is Role.BASE else self.terms.associated
-
-    def spot(self, role: Role) -> Spot:
-        """Where a train of this role has to stop."""
-        base = role is Role.BASE
-        suffix = self.terms.base_suffix if base else self.terms.associated_suffix
-        return Spot(self.terms.location, suffix)
-
-    def record(self, role: Role) -> Optional[str]:
-        """The sort of call that this has to be, or None for any."""
-        if role is Role.BASE:
-            return "LT" if self.terms.category == NEXT else None
-        return "LT" if self.terms.category == JOIN else "LO"
-
-    def trains_on(self, base_day: int) -> Tuple[TrainOnDate, TrainOnDate]:
-        associated = (self.terms.associated, base_day + self.days_later)
-        return (self.terms.base, base_day), associated
 
     def own_dates(self, role: Role) -> Dates:
         """The dates on which it is shown, as dates of the train of this role."""
         return self.shown if role is Role.BASE else moved(self.shown, self.days_later)
 
-    def links(self) -> Set[Link]:
-        """The trips that are linked."""
-        return {
-            (*end, *begin)
-            for dates, end in self.ends
-            for others, begin in self.begins
-            if dates & others
-        }
+    def ends_at(self, role: Role) -> bool:
+        """Whether it is where a trip of the train of this role ends, and not where one begins."""
+        return (self.terms.category == JOIN) != (role is Role.BASE)
 
 
 # An association of a train, and the role of the train.
@@ -160,50 +127,38 @@ def by_uid(associations: Iterable[Association]) -> Dict[str, List[Held]]:
     return found
 
 
-Stops = Mapping[Spot, Sequence[Stop]]
+# ---- which are shown
 
 
-class Variant:
-    """A public train, the numbers and the rows of its public calls, and the calls where its
-    associations may be."""
-
-    def __init__(self, train: Train, numbers: List[int], rows: bytes, stops: Stops) -> None:
-        self.train = train
-        self.numbers = numbers
-        self.rows = rows
-        self.stops = stops
-
-    def add_dates(self, dates: Dates) -> None:
-        self.train = self.train._replace(dates=self.train.dates | dates)
-
-    def stop(self, association: Association, role: Role) -> Optional[Stop]:
-        """Its first stop at the place of an association, of the sort that this has to be. It stops
-        where its call has a working arrival or departure, or is public."""
-        wanted = association.record(role)
-        for stop in self.stops.get(association.spot(role), ()):
-            stops_there = stop.arrival or stop.departure or stop.number in self.numbers
-            if wanted in (None, stop.record) and stops_there:
-                return stop
-        return None
+def wait_of(association: Association, base: Variant, associated: Variant) -> int:
+    """How long riders stay seated between the two trains, in seconds."""
+    at_base = base.times(association.spots[Role.BASE])
+    at_associated = associated.times(association.spots[Role.ASSOCIATED])
+    later = association.days_later * DAY
+    if association.terms.category == JOIN:
+        return at_base.departure - at_associated.arrival - later
+    return at_associated.departure + later - at_base.arrival
 
 
 def obstacle(association: Association, base: Variant, associated: Variant) -> Optional[Reason]:
     """Why the association of two trains can't be shown, or None."""
     category = association.terms.category
-    at_base = base.stop(association, Role.BASE)
-    if at_base is None:
+    number = base.number(association.spots[Role.BASE])
+    if number is None:
         return Reason.BASE_GOES_ON if category == NEXT else Reason.BASE_ELSEWHERE
-    if associated.stop(association, Role.ASSOCIATED) is None:
+    if associated.number(association.spots[Role.ASSOCIATED]) is None:
         return Reason.NOT_ENDED if category == JOIN else Reason.NOT_BEGUN
-    if category == DIVIDE and base.numbers[0] >= at_base.number:
+    if category == DIVIDE and base.first_public >= number:
         return Reason.NONE_BEFORE
-    if category == JOIN and base.numbers[-1] <= at_base.number:
+    if category == JOIN and base.last_public <= number:
         return Reason.NONE_AFTER
-    return None
+    wait = wait_of(association, base, associated)
+    if wait < 0:
+        return Reason.TOO_EARLY
+    return Reason.TOO_LATE if wait > LONGEST_WAIT else None
 
 
 Variants = Mapping[str, Sequence[Variant]]
-LeftOut = Dict[Reason, int]
 
 
 def decide(association: Association, variants: Variants, left_out: LeftOut) -> None:
@@ -217,9 +172,9 @@ def decide(association: Association, variants: Variants, left_out: LeftOut) -> N
         left_out[Reason.INDICATOR] += count_of(possible)
         return
     for base in variants.get(terms.base, ()):
-        for associated in variants.get(terms.associated, ()):
-            others = moved(associated.train.dates, -association.days_later)
-            both = association.dates & base.train.dates & others
+        of_base = possible & base.dates
+        for associated in variants.get(terms.associated, ()) if of_base else ():
+            both = of_base & moved(associated.dates, -association.days_later)
             if not both:
                 continue
             reason = obstacle(association, base, associated)
@@ -231,64 +186,9 @@ def decide(association: Association, variants: Variants, left_out: LeftOut) -> N
     left_out[Reason.NOT_PUBLIC] += count_of(possible)
 
 
-Overnight = Tuple[Association, int]
-
-
-def group_of(
-    start: TrainOnDate, of_uid: Mapping[str, Sequence[Held]]
-) -> Tuple[Set[TrainOnDate], Set[Overnight]]:
-    """The trains on dates that are linked with one, and the overnight associations among them."""
-    group = {start}
-    overnight: Set[Overnight] = set()
-    pending = [start]
-    while pending:
-        uid, day = pending.pop()
-        for association, role in of_uid[uid]:
-            base_day = day if role is Role.BASE else day - association.days_later
-            if base_day < 0 or not association.shown >> base_day & 1:
-                continue
-            if association.days_later:
-                overnight.add((association, base_day))
-            trains = association.trains_on(base_day)
-            pending += [train for train in trains if train not in group]
-            group.update(trains)
-    return group, overnight
-
-
-def move_overnight(
-    associations: Iterable[Association], of_uid: Mapping[str, Sequence[Held]], left_out: LeftOut
-) -> Dict[str, Dates]:
-    """For each train its dates on which it counts to the day before: those of the later trains of
-    overnight associations, and of all that are linked with them. Where that would take more than
-    one day, the overnight associations aren't shown."""
-    moved_dates: Dict[str, Dates] = Counter()
-    seen: Set[TrainOnDate] = set()
-    dropped: Set[Overnight] = set()
-    for association in associations:
-        for day in numbers_of(association.shown) if association.days_later else ():
-            if (association.terms.base, day) in seen:
-                continue
-            group, overnight = group_of((association.terms.base, day), of_uid)
-            seen |= group
-            first = min(number for _, number in group)
-            last = max(number for _, number in group)
-            if last > first + 1:
-                dropped |= overnight
-                continue
-            for uid, number in group:
-                moved_dates[uid] |= 1 << number if number == last else 0
-    for association, day in dropped:
-        association.shown &= ~(1 << day)
-    left_out[Reason.MIDNIGHTS] += len(dropped)
-    return moved_dates
-
-
-def decide_all(
-    associations: Sequence[Association], variants: Variants
-) -> Tuple[Dict[str, Dates], LeftOut]:
-    """Decides of all associations. Returns the dates on which trains are moved, and how many dates
-    are left out by reason."""
+def decide_all(associations: Iterable[Association], variants: Variants) -> LeftOut:
+    """Decides of all associations. Returns how many dates are left out by reason."""
     left_out: LeftOut = Counter()
     for association in associations:
         decide(association, variants, left_out)
-    return move_overnight(associations, by_uid(associations), left_out), left_out
+    return left_out

@@ -4,41 +4,32 @@ from __future__ import annotations
 from contextlib import contextmanager
 from dataclasses import dataclass
 from itertools import groupby
+from operator import itemgetter
 from pathlib import Path
-from typing import IO, Dict, Iterator, List, Mapping, NamedTuple, Set, Tuple
+from typing import IO, Dict, Iterable, Iterator, List, Mapping, NamedTuple, Optional, Sequence, Set
+from typing import Tuple
 
 from cif_shared.csv_files import Key
-from cif_shared.dates import Window
+from cif_shared.dates import Dates, Window, count_of
 from cif_shared.endings import Refused
-from cif_shared.files import BLOCK, new_files, scratch_file
+from cif_shared.files import BLOCK, NewFiles, new_files, scratch_file
 from cif_shared.operators import OperatorRow
 from cif_shared.places import PlaceRow, Places
 from cif_shared.progress import Progress
-from cif_shared.tables import AssociationRow, Extract, Header, ScheduleRow, Table, TiplocRow
-from cif_shared.tables import rows_of_schedules
+from cif_shared.tables import AssociationRow, Extract, Header, Table, TiplocRow
+from cif_shared.tables import lines_of_schedules
 
 from . import feed
-from .associations import Association, LeftOut, Link, Reason, Spot, Stop, Variant
-from .associations import associations_of, by_uid, decide_all, Role
+from .associations import CATEGORIES, Association, LeftOut, Reason, Role, associations_of
+from .associations import by_uid, decide_all
+from .calls import RunsAs, Spot, Stop, Variant, stops_at
+from .compositions import compositions_of, groups_of, linked_dates
 from .routes import Routes
 from .services import Services
 from .stops import Stops
-from .trains import Calls, Kind, Train, public_trains, trains_of
-from .trips import Linked, TripsOfUid, add_linked, pieces_of
+from .trains import About, Kind, PublicTrain, ScheduleReader, public_trains
+from .trips import Assembly, Link, TripsOfUid, add_records
 from .user_files import InterchangeRow, LinkRow
-
-
-class CallRow(NamedTuple):
-    """A call of a schedule."""
-
-    schedule: str
-    location: str
-    suffix: str
-    call: str
-    record: str
-    platform: str
-    arrival: str
-    departure: str
 
 
 class UserFiles(NamedTuple):
@@ -50,12 +41,29 @@ class UserFiles(NamedTuple):
     links: Mapping[Key, LinkRow]
 
 
+class Outputs(NamedTuple):
+    """The places of the files that are written: the zip, the list of places without coordinates,
+    and the schedules of trips, if these are asked for."""
+
+    feed: Path
+    wanted: Path
+    trips: Optional[Path]
+
+
+class Wishes(NamedTuple):
+    """How a feed is to be made."""
+
+    types: Mapping[Kind, int]
+    whole_trains: bool
+    publisher: feed.Publisher
+
+
 class Schedules:
     """The rows of `schedules`, in a temporary file."""
 
-    def __init__(self, names: List[str], rows: IO[bytes]) -> None:
+    def __init__(self, names: List[str], file: IO[bytes]) -> None:
         self.names = names
-        self.file = rows
+        self.file = file
         self.count = 0
 
     def fill(self, table: Table) -> None:
@@ -63,41 +71,46 @@ class Schedules:
             self.count += block.count(b"\n")
             self.file.write(block)
 
-    def rows(self) -> Iterator[ScheduleRow]:
+    def lines(self) -> IO[bytes]:
         """All rows, from the first on."""
         self.file.seek(0)
-        return Table(self.names, self.file).rows(ScheduleRow)
+        return self.file
+
+    def numbers_of(self, uids: Iterable[str]) -> Dict[bytes, str]:
+        """The UIDs of the schedules of these, by their numbers."""
+        wanted = {uid.encode(): uid for uid in uids}
+        cells = (line.split(b"\t", 2) for line in self.lines())
+        return {number: wanted[uid] for number, uid, _ in cells if uid in wanted}
 
 
 @dataclass
 class Timetable:
-    """What is read of an extract before its calls."""
+    """What is read of an extract before its public calls."""
 
     header: Header
     window: Window
     places: Places
     associations: List[Association]
     schedules: Schedules
-    types: Mapping[Kind, int]
-    # of each train with associations, where these may be
+    # of each train with associations, where it has to stop for these
     spots: Dict[str, Set[Spot]]
 
-    def trains(self) -> Iterator[Train]:
-        return trains_of(self.schedules.rows(), self.window, self.types)
+    def trains(self, table: Table, types: Mapping[Kind, int]) -> Iterator[PublicTrain]:
+        reader = ScheduleReader(self.schedules.names, self.window, types)
+        return public_trains(self.schedules.lines(), reader, table)
 
 
 def spots_of(associations: List[Association]) -> Dict[str, Set[Spot]]:
     found: Dict[str, Set[Spot]] = {}
     for association in associations:
-        for role in Role:
-            found.setdefault(association.uid(role), set()).add(association.spot(role))
+        if association.terms.category in CATEGORIES:
+            for role in Role:
+                found.setdefault(association.uid(role), set()).add(association.spots[role])
     return found
 
 
 @contextmanager
-def read_timetable(
-    extract: Extract, given: Mapping[Key, PlaceRow], types: Mapping[Kind, int]
-) -> Iterator[Timetable]:
+def read_timetable(extract: Extract, given: Mapping[Key, PlaceRow]) -> Iterator[Timetable]:
     header = extract.header()
     window = Window(header.first_date, header.last_date)
     places = Places(extract.rows("tiplocs", TiplocRow), given)
@@ -106,106 +119,161 @@ def read_timetable(
         with extract.table("schedules") as table:
             schedules = Schedules(table.names, file)
             schedules.fill(table)
-        spots = spots_of(associations)
-        yield Timetable(header, window, places, associations, schedules, types, spots)
+        yield Timetable(header, window, places, associations, schedules, spots_of(associations))
 
 
-StopsOfSchedule = Dict[Spot, List[Stop]]
-
-
-def read_stops(extract: Extract, timetable: Timetable) -> Dict[str, StopsOfSchedule]:
-    """Of each schedule with associations the calls where these may be."""
-    spots = {
-        row.schedule: timetable.spots[row.uid]
-        for row in timetable.schedules.rows()
-        if row.uid in timetable.spots
+def read_stops(extract: Extract, timetable: Timetable) -> Dict[bytes, List[Stop]]:
+    """Of each schedule with associations the calls at their locations, by its number."""
+    wanted = timetable.schedules.numbers_of(timetable.spots)
+    found: Dict[bytes, List[Stop]] = {}
+    if not wanted:
+        return found
+    locations = {
+        uid: {spot.location.encode() for spot in spots} for uid, spots in timetable.spots.items()
     }
-    found: Dict[str, StopsOfSchedule] = {}
-    if spots:
-        with extract.table("calls") as table:
-            for row in rows_of_schedules(table, list(spots), CallRow):
-                spot = Spot(row.location, row.suffix)
-                if spot in spots[row.schedule]:
-                    stop = Stop(int(row.call), row.record, row.platform, row.arrival, row.departure)
-                    found.setdefault(row.schedule, {}).setdefault(spot, []).append(stop)
+    with extract.table("calls") as table:
+        location = table.names.index("location")
+        read = table.reader(Stop)
+        for row in lines_of_schedules(table.lines, list(wanted)):
+            # few rows are decoded
+            cells = row.split(b"\t", location + 1)
+            if cells[location] in locations[wanted[cells[0]]]:
+                found.setdefault(cells[0], []).append(read(row))
     return found
 
 
-def variants_of(
-    trains: List[Tuple[Train, Calls]], stops: Mapping[str, StopsOfSchedule]
-) -> List[Variant]:
-    """The public trains of one UID, those that differ in nothing but dates as one."""
-    found: Dict[object, Variant] = {}
-    for train, calls in trains:
-        own_stops = stops.get(train.schedule, {})
-        numbers = b" ".join(calls.numbers)
-        rows = b"".join(calls.rows)
-        key = (train._replace(schedule="", dates=0), numbers, rows, str(own_stops))
-        if key not in found:
-            numbers_of_calls = list(map(int, calls.numbers))
-            found[key] = Variant(train._replace(dates=0), numbers_of_calls, rows, own_stops)
-        found[key].add_dates(train.dates)
-    return list(found.values())
+class Variants:
+    """The public trains of the UIDs with associations, those that differ in nothing but dates as
+    one."""
+
+    def __init__(self, spots: Mapping[str, Set[Spot]], stops: Mapping[bytes, List[Stop]]) -> None:
+        self.spots = spots
+        self.stops = stops
+        self.of_uid: Dict[str, List[Variant]] = {}
+        self.known: Dict[object, Variant] = {}
+
+    def add(self, train: PublicTrain, about: About) -> None:
+        schedule = train.schedule
+        calls = train.calls
+        stops = self.stops.get(schedule.number, [])
+        key = (schedule.uid, about, calls.numbers, calls.rows, tuple(stops))
+        variant = self.known.get(key)
+        if variant is None:
+            numbers = [int(number) for number in calls.numbers]
+            at_spots = stops_at(self.spots[schedule.uid], stops, numbers)
+            variant = self.known[key] = Variant(about, numbers, calls.rows, at_spots)
+            self.of_uid.setdefault(schedule.uid, []).append(variant)
+        variant.dates |= schedule.dates
+        variant.records.append(RunsAs(schedule.dates, schedule.record))
 
 
-Variants = Dict[str, List[Variant]]
+class LeftOutCounts(NamedTuple):
+    """How many dates are left out: of trains that aren't for riders, and of associations."""
+
+    trains: int
+    associations: LeftOut
+
+    def lines(self) -> List[str]:
+        lines = [
+            f"associations left out: {reason.value}: {self.associations[reason]}"
+            for reason in Reason
+            if self.associations[reason]
+        ]
+        if self.trains:
+            lines.insert(0, f"trains left out: they aren't for riders: {self.trains}")
+        return lines
 
 
-def write_linked(
-    timetable: Timetable, variants: Variants, files: feed.TripFiles
-) -> Tuple[Set[Link], LeftOut]:
-    """Writes the trips of the trains with associations. Returns the links, and how many dates are
-    left out by reason."""
-    moved_dates, left_out = decide_all(timetable.associations, variants)
-    held = by_uid(timetable.associations)
-    links: Set[Link] = set()
-    for uid, of_train in variants.items():
+class Conversion:
+    """Writes the trips of a timetable."""
+
+    def __init__(
+        self,
+        timetable: Timetable,
+        wishes: Wishes,
+        files: feed.TripFiles,
+        records: Optional[IO[bytes]],
+    ) -> None:
+        self.timetable = timetable
+        self.wishes = wishes
+        self.files = files
+        self.records = records
+        self.not_for_riders = 0
+
+    def write(self, trips: TripsOfUid) -> None:
+        self.files.write(trips.trips.values())
+        if self.records is not None:
+            rows = feed.trip_record_rows(trips.trips.values(), trips.uid)
+            self.records.write(feed.csv_of(rows))
+
+    def write_plain(self, uid: str, trains: Iterable[PublicTrain]) -> None:
+        """Writes the trips of a train without associations."""
         trips = TripsOfUid(uid)
-        for variant in of_train:
-            dates = variant.train.dates
-            for piece in pieces_of(dates, held.get(uid, ()), moved_dates[uid]):
-                links |= add_linked(trips, Linked(variant, piece), files.stops.ids)
-        files.write(trips.all())
-    for association in timetable.associations:
-        links |= association.links()
-    return links, left_out
+        for schedule, calls in trains:
+            if schedule.about is None:
+                self.not_for_riders += count_of(schedule.dates)
+                continue
+            trip = trips.add(schedule.about, calls.rows)
+            trip.dates |= schedule.dates
+            if self.records is not None:
+                trip.records.append(schedule.record)
+        self.write(trips)
 
-
-def write_trips(
-    extract: Extract, timetable: Timetable, files: feed.TripFiles, progress: Progress
-) -> Tuple[Set[Link], LeftOut]:
-    """Writes all trips. Returns the links between trips, and how many dates of associations are
-    left out by reason."""
-    stops = read_stops(extract, timetable)
-    variants: Variants = {}
-    with extract.table("public") as table:
-        found = public_trains(timetable.trains(), table.lines)
-        for uid, group in groupby(found, key=lambda each: each[0].uid):
-            of_uid = list(group)
-            done = int(of_uid[-1][0].schedule)
-            progress.show_share("reading calls", done, timetable.schedules.count)
-            if uid in timetable.spots:
-                variants[uid] = variants_of(of_uid, stops)
+    def take(self, variants: Variants, trains: Iterable[PublicTrain]) -> None:
+        """Keeps the trains of a UID with associations."""
+        for train in trains:
+            if train.schedule.about is None:
+                self.not_for_riders += count_of(train.schedule.dates)
             else:
-                trips = TripsOfUid(uid)
-                for train, calls in of_uid:
-                    trips.add(train, calls.rows, train.dates)
-                files.write(trips.all())
-    return write_linked(timetable, variants, files)
+                variants.add(train, train.schedule.about)
+
+    def read_trains(self, extract: Extract, progress: Progress) -> Variants:
+        """Writes the trips of all trains without associations. Returns the others."""
+        variants = Variants(self.timetable.spots, read_stops(extract, self.timetable))
+        count = self.timetable.schedules.count
+        with extract.table("public") as table:
+            found = self.timetable.trains(table, self.wishes.types)
+            for uid, trains in groupby(found, key=lambda train: train.schedule.uid):
+                if uid in self.timetable.spots:
+                    self.take(variants, trains)
+                    continue
+                of_uid = list(trains)
+                progress.show_share("reading calls", int(of_uid[-1].schedule.number), count)
+                self.write_plain(uid, of_uid)
+        return variants
+
+    def write_linked(self, variants: Mapping[str, Sequence[Variant]]) -> Tuple[List[Link], LeftOut]:
+        """Writes the trips of trains with associations. Returns the links, and how many dates of
+        associations are left out by reason."""
+        associations = self.timetable.associations
+        left_out = decide_all(associations, variants)
+        assembly = Assembly(self.wishes.whole_trains)
+        for group in groups_of(associations, left_out):
+            for composition in compositions_of(group, variants):
+                assembly.add(composition)
+        held = by_uid(associations)
+        for uid, of_train in variants.items():
+            trips = assembly.trips(uid)
+            linked = linked_dates(held.get(uid, ()))
+            for variant in of_train:
+                add_unlinked(trips, variant, variant.dates & ~linked)
+            self.write(trips.in_order())
+        return list(assembly.links.values()), left_out
+
+
+def add_unlinked(trips: TripsOfUid, variant: Variant, dates: Dates) -> None:
+    """Adds the trip of a train on dates on which it isn't linked."""
+    if dates:
+        trip = trips.add(variant.about, variant.public_rows())
+        trip.dates |= dates
+        add_records(trip, variant.records, dates)
 
 
 class Outcome(NamedTuple):
-    """How many places have no coordinates, and how many dates of associations are left out."""
+    """How many places have no coordinates, and what is left out."""
 
     wanted: int
-    left_out: LeftOut
-
-    def lines(self) -> List[str]:
-        return [
-            f"associations left out: {reason.value}: {self.left_out[reason]}"
-            for reason in Reason
-            if self.left_out[reason]
-        ]
+    left_out: LeftOutCounts
 
 
 def wanted_rows(stops: Stops) -> List[feed.Row]:
@@ -214,24 +282,34 @@ def wanted_rows(stops: Stops) -> List[feed.Row]:
     return [(each.name, names(each.name), "", "") for each in stops.without_coordinates()]
 
 
+def write_wanted(rows: List[feed.Row], path: Path, files: NewFiles) -> None:
+    """Writes the list of places without coordinates, or removes an older one."""
+    if rows:
+        heading = ("tiploc", "name", "latitude", "longitude")
+        files.create(path).write(feed.csv_of([heading, *rows]))
+    else:
+        files.remove(path)
+
+
 def convert(
-    extract: Extract,
-    given: UserFiles,
-    types: Mapping[Kind, int],
-    outputs: Tuple[Path, Path],
-    progress: Progress,
+    extract: Extract, given: UserFiles, wishes: Wishes, outputs: Outputs, progress: Progress
 ) -> Outcome:
-    """Writes the zip, and beside it the list of places without coordinates."""
-    output, wanted_path = outputs
+    """Writes the zip, and what belongs beside it."""
     progress.show("reading trains and associations")
-    with read_timetable(extract, given.places, types) as timetable, new_files() as files:
+    with read_timetable(extract, given.places) as timetable, new_files() as files:
         stops = Stops(timetable.places)
         routes = Routes(stops)
         services = Services(timetable.window)
-        with feed.new_zip(files.create(output)) as archive, scratch_file() as trips:
+        records = None
+        if outputs.trips:
+            records = files.create(outputs.trips)
+            records.write(feed.csv_of([feed.TRIP_RECORDS]))
+        with feed.new_zip(files.create(outputs.feed)) as archive, scratch_file() as trips:
             with feed.entry(archive, "stop_times") as stop_times:
                 trip_files = feed.TripFiles(stops, routes, services, (trips, stop_times))
-                links, left_out = write_trips(extract, timetable, trip_files, progress)
+                conversion = Conversion(timetable, wishes, trip_files, records)
+                variants = conversion.read_trains(extract, progress)
+                links, left_out = conversion.write_linked(variants.of_uid)
             if not routes.rows:
                 raise Refused(f"{extract.path} has no public train in its window")
             trip_files.flush()
@@ -244,9 +322,8 @@ def convert(
             feed.write_file(archive, "routes", [routes.rows[name] for name in sorted(routes.rows)])
             transfers = feed.transfer_rows(links, stops, given.interchange, given.links)
             feed.write_file(archive, "transfers", transfers)
-            feed.write_file(archive, "feed_info", [feed.feed_info_row(timetable.header)])
+            about = feed.feed_info_row(timetable.header, wishes.publisher)
+            feed.write_file(archive, "feed_info", [about])
         wanted = wanted_rows(stops)
-        if wanted:
-            heading = ("tiploc", "name", "latitude", "longitude")
-            files.create(wanted_path).write(feed.csv_of([heading, *wanted]))
-    return Outcome(len(wanted), left_out)
+        write_wanted(wanted, outputs.wanted, files)
+    return Outcome(len(wanted), LeftOutCounts(conversion.not_for_riders, left_out))

@@ -14,14 +14,13 @@ from cif_shared.dates import WEEKDAYS
 from cif_shared.files import BLOCK, scratch_file
 from cif_shared.tables import Header
 
-from .associations import Link
 from .routes import Routes
 from .services import Services
 from .stops import Stops
-from .trips import Trip
+from .trips import Link, Trip
 from .user_files import InterchangeRow, LinkRow
 
-PUBLISHER = "Made by cif-gtfs"
+# The address of an operator whose own isn't known.
 WEB = "https://www.nationalrail.co.uk/"
 TIMEZONE = "Europe/London"
 LANGUAGE = "en"
@@ -30,14 +29,14 @@ HEADINGS: Dict[str, str] = {
     "stops": "stop_id stop_code stop_name stop_lat stop_lon location_type parent_station"
     " platform_code",
     "routes": "route_id agency_id route_long_name route_type",
-    "trips": "route_id service_id trip_id trip_headsign trip_short_name direction_id",
+    "trips": "route_id service_id trip_id trip_headsign trip_short_name direction_id block_id",
     "stop_times": "trip_id stop_sequence stop_id arrival_time departure_time drop_off_type"
     " pickup_type",
     "calendar": f"service_id {' '.join(WEEKDAYS)} start_date end_date",
     "calendar_dates": "service_id date exception_type",
     "transfers": "from_stop_id to_stop_id from_trip_id to_trip_id transfer_type min_transfer_time",
     "feed_info": "feed_publisher_name feed_publisher_url feed_lang default_lang feed_start_date"
-    " feed_end_date feed_version",
+    " feed_end_date feed_version feed_contact_email",
 }
 CHANGE_IN_TIME = 2
 STAY_SEATED = 4
@@ -95,6 +94,10 @@ def write_services(archive: zipfile.ZipFile, services: Services) -> None:
         copy_file(archive, "calendar", calendar)
 
 
+# What stands before the stop in the rows of a trip.
+SEQUENCE = [b",%d," % number for number in range(1, 1000)]
+
+
 class TripFiles:
     """Writes the rows of trips and of their stop times as they come."""
 
@@ -119,19 +122,23 @@ class TripFiles:
         self.rows.clear()
 
     def trip_row(self, trip: Trip) -> Row:
-        train = trip.train
-        shown = self.routes.shown(train.operator, train.route_type, trip.ends)
+        shown = self.routes.shown(trip.about.operator, trip.about.route_type, trip.ends)
         service = self.services.id_of(trip.dates)
-        about = (shown.headsign, train.identity, shown.direction)
-        return (shown.route, service, trip.id.decode(), *about)
+        about = (shown.headsign, trip.about.identity, shown.direction)
+        return (shown.route, service, trip.id.decode(), *about, trip.block.decode())
 
     def stop_time_rows(self, trip: Trip) -> bytes:
-        rows = []
-        for sequence, row in enumerate(trip.rows, 1):
-            location, platform, times = row.split(b"\t", 2)
-            stop = self.stops.ids[location, platform]
-            rows.append(b"%s\t%d\t%s\t%s" % (trip.id, sequence, stop, times))
+        stops = self.stops.ids
+        name = trip.id
+        while len(SEQUENCE) < len(trip.rows):
+            SEQUENCE.append(b",%d," % (len(SEQUENCE) + 1))
         # times, set down and pick up stand in the order of the heading
+        rows = [
+            name + sequence + stops[location, platform] + b"," + times
+            for sequence, (location, platform, times) in zip(
+                SEQUENCE, [row.split(b"\t", 2) for row in trip.rows]
+            )
+        ]
         return b"".join(rows).replace(b"\t", b",")
 
 
@@ -154,21 +161,43 @@ def transfer_rows(
 ) -> List[TransferRow]:
     """The rows of linked trips, of the times of change, and of the links between stations."""
     rows = []
-    for link in sorted(links):
-        end, ending, begin, beginning = (text.decode() for text in link)
-        rows.append(TransferRow(end, begin, ending, beginning, STAY_SEATED, None))
+    for one, other in links:
+        ends = (one.rows[-1].split(b"\t", 2), other.rows[0].split(b"\t", 2))
+        end, begin = (stops.ids[location, platform].decode() for location, platform, _ in ends)
+        rows.append(TransferRow(end, begin, one.id.decode(), other.id.decode(), STAY_SEATED, None))
+    rows.sort(key=lambda row: (row.from_trip, row.to_trip))
     stations = {station.code: station.id for station in stops.stations()}
     changes = [(row.crs, row.crs, row.minutes) for row in interchange.values()]
     changes += [(row.origin, row.destination, row.minutes) for row in fixed_links.values()]
-    for one, other, minutes in changes:
-        if one in stations and other in stations:
-            ends = (stations[one], stations[other])
-            rows.append(TransferRow(*ends, "", "", CHANGE_IN_TIME, minutes * 60))
+    for origin, destination, minutes in changes:
+        if origin in stations and destination in stations:
+            way = (stations[origin], stations[destination])
+            rows.append(TransferRow(*way, "", "", CHANGE_IN_TIME, minutes * 60))
     return rows
 
 
-def feed_info_row(header: Header) -> Row:
+class Publisher(NamedTuple):
+    """Who answers for a feed."""
+
+    name: str
+    url: str
+    email: str
+
+
+def feed_info_row(header: Header, publisher: Publisher) -> Row:
     dates = [date.replace("-", "") for date in (header.first_date, header.last_date)]
     version = (header.current_reference, header.extract_date, header.extract_time)
     words = " ".join(filter(None, (word.strip() for word in version)))
-    return (PUBLISHER, WEB, LANGUAGE, LANGUAGE, *dates, words)
+    about = (publisher.name, publisher.url, LANGUAGE, LANGUAGE)
+    return (*about, *dates, words, publisher.email)
+
+
+TRIP_RECORDS = "trip_id uid first_date last_date days_run days_later retail_service_id".split()
+
+
+def trip_record_rows(trips: Iterable[Trip], uid: str) -> Iterator[Row]:
+    """The schedules that trips are made of, for whoever matches trains of real time."""
+    for trip in trips:
+        for record in trip.records:
+            first, last, days_run, retail = (cell.decode() for cell in record)
+            yield (trip.id.decode(), uid, first, last, days_run, trip.days_later, retail)

@@ -1,9 +1,14 @@
 """The services of GTFS: each is a set of dates."""
 from __future__ import annotations
 
+from hashlib import blake2b
 from typing import Dict, Iterator, List, NamedTuple
 
 from cif_shared.dates import Dates, Window, between, count_of, numbers_of
+from cif_shared.endings import Refused
+
+# A hash in an id has twice as many digits.
+ID_BYTES = 5
 
 
 class Usual(NamedTuple):
@@ -29,10 +34,21 @@ class Services:
     def __init__(self, window: Window) -> None:
         self.window = window
         self.texts = [f"{day:%Y%m%d}" for day in window.days]
-        self.ids: Dict[Dates, int] = {}
+        self.ids: Dict[Dates, str] = {}
+        self.dates: Dict[str, Dates] = {}
 
-    def id_of(self, dates: Dates) -> int:
-        return self.ids.setdefault(dates, len(self.ids) + 1)
+    def id_of(self, dates: Dates) -> str:
+        if dates not in self.ids:
+            found = self.ids[dates] = self.new_id(dates)
+            if self.dates.setdefault(found, dates) != dates:
+                raise Refused(f"two services have the id {found}")
+        return self.ids[dates]
+
+    def new_id(self, dates: Dates) -> str:
+        """A short hash of the dates, the same in each window that has them."""
+        first = (dates & -dates).bit_length() - 1
+        content = f"{self.texts[first]} {dates >> first:x}"
+        return blake2b(content.encode(), digest_size=ID_BYTES).hexdigest()
 
     def usual(self, dates: Dates) -> Usual:
         first = (dates & -dates).bit_length() - 1

@@ -1,11 +1,14 @@
-"""The public trains of an extract: schedules with two public calls or more."""
+"""The public trains of an extract: schedules with two public calls or more that are for riders."""
 from __future__ import annotations
 
 from enum import Enum
-from typing import IO, Dict, Iterable, Iterator, List, Mapping, NamedTuple, Tuple
+from itertools import groupby
+from operator import itemgetter
+from typing import IO, Dict, Iterable, Iterator, List, Mapping, NamedTuple, Optional, Tuple
 
 from cif_shared.dates import Dates, Window
-from cif_shared.tables import ScheduleRow
+from cif_shared.files import BLOCK
+from cif_shared.tables import Table
 
 
 class Kind(Enum):
@@ -30,75 +33,131 @@ TYPES: Dict[Kind, int] = {
 }
 EXTENDED_TYPES: Dict[Kind, int] = {**TYPES, Kind.SLEEPER: 105, Kind.REPLACEMENT: 714}
 
+# What has public times now and then, though it isn't for riders, from memory: empty stock, staff
+# trains, post and parcels, departmental trains, light locomotives; and by their status freight and
+# trips of freight. A category of freight has a digit.
+NOT_FOR_RIDERS = set("EE EL ES OS JJ PM PP PV DD DH DI DQ DT DY ZB ZZ".split())
+FREIGHT = set("FT23")
+DIGITS = set("0123456789")
 
-class Train(NamedTuple):
-    """What a schedule says of its train besides the calls."""
 
-    schedule: str
-    uid: str
-    dates: Dates
+class Sort(NamedTuple):
+    """The fields of a schedule that say what its train is."""
+
+    status: str
+    category: str
+    identity: str
+    sleepers: str
+    operator: str
+
+
+class About(NamedTuple):
+    """What a trip shows of its train besides the calls."""
+
     identity: str
     operator: str
     route_type: int
 
+    def text(self) -> bytes:
+        return f"{self.identity}\t{self.operator}\t{self.route_type}\n".encode()
 
-def kind_of(row: ScheduleRow) -> Kind:
+
+def is_for_riders(sort: Sort) -> bool:
+    is_freight = sort.status in FREIGHT or bool(DIGITS & set(sort.category))
+    return not is_freight and sort.category not in NOT_FOR_RIDERS
+
+
+def kind_of(sort: Sort) -> Kind:
     """The kind of a train. From memory, as CIF has them: category BR is a bus that replaces trains,
     BS another bus, SS a ship, OL an underground or metro train, XZ a sleeper; status B or 5 is a
     bus, S or 4 a ship; a train with sleeping cars says which."""
-    if row.category == "BR":
+    if sort.category == "BR":
         return Kind.REPLACEMENT
-    if row.category == "BS" or row.status in ("B", "5"):
+    if sort.category == "BS" or sort.status in ("B", "5"):
         return Kind.BUS
-    if row.category == "SS" or row.status in ("S", "4"):
+    if sort.category == "SS" or sort.status in ("S", "4"):
         return Kind.SHIP
-    if row.category == "OL":
+    if sort.category == "OL":
         return Kind.METRO
-    sleeps = row.category == "XZ" or row.sleepers in ("B", "F", "S")
+    sleeps = sort.category == "XZ" or sort.sleepers in ("B", "F", "S")
     return Kind.SLEEPER if sleeps else Kind.RAIL
 
 
-def trains_of(
-    rows: Iterable[ScheduleRow], window: Window, types: Mapping[Kind, int]
-) -> Iterator[Train]:
-    """The train of each schedule, with the route type of its kind."""
-    for row in rows:
-        dates = window.dates(row.first_date, row.last_date, row.days_run)
-        route_type = types[kind_of(row)]
-        yield Train(row.schedule, row.uid, dates, row.identity, row.operator_code, route_type)
+class Schedule(NamedTuple):
+    """A schedule: its number, when it runs, and what its train is, or None if that isn't for
+    riders."""
+
+    number: bytes
+    uid: str
+    dates: Dates
+    about: Optional[About]
+    # first and last date, days run, and the retail service id, as they stand
+    record: Tuple[bytes, bytes, bytes, bytes]
+
+
+FIELDS = "schedule uid first_date last_date days_run reserved_a".split()
+SORT_FIELDS = "status category identity sleepers operator_code".split()
+
+
+class ScheduleReader:
+    """Reads rows of `schedules`. What many rows have alike is worked out once."""
+
+    def __init__(self, names: List[str], window: Window, types: Mapping[Kind, int]) -> None:
+        self.cells_at = itemgetter(*(names.index(name) for name in FIELDS))
+        self.sort_at = itemgetter(*(names.index(name) for name in SORT_FIELDS))
+        self.window = window
+        self.types = types
+        self.known: Dict[Tuple[bytes, ...], Optional[About]] = {}
+
+    def about(self, cells: Tuple[bytes, ...]) -> Optional[About]:
+        sort = Sort(*(cell.decode() for cell in cells))
+        if not is_for_riders(sort):
+            return None
+        return About(sort.identity, sort.operator, self.types[kind_of(sort)])
+
+    def read(self, line: bytes) -> Schedule:
+        cells = line.rstrip(b"\n").split(b"\t")
+        number, uid, first, last, days_run, retail = self.cells_at(cells)
+        sort = self.sort_at(cells)
+        if sort not in self.known:
+            self.known[sort] = self.about(sort)
+        dates = self.window.dates(first.decode(), last.decode(), days_run.decode())
+        record = (first, last, days_run, retail)
+        return Schedule(number, uid.decode(), dates, self.known[sort], record)
 
 
 class Calls(NamedTuple):
-    """The public calls of a schedule: their numbers, and their rows from the location on."""
+    """The public calls of a schedule: its number, and of each call the number and the row from the
+    location on."""
 
-    schedule: str
-    numbers: List[bytes]
-    rows: List[bytes]
-
-
-def calls_by_schedule(lines: IO[bytes]) -> Iterator[Calls]:
-    schedule = b""
-    numbers: List[bytes] = []
-    rows: List[bytes] = []
-    for line in lines:
-        number, call, row = line.split(b"\t", 2)
-        if number != schedule:
-            if rows:
-                yield Calls(schedule.decode(), numbers, rows)
-            schedule = number
-            numbers = []
-            rows = []
-        numbers.append(call)
-        rows.append(row)
-    if rows:
-        yield Calls(schedule.decode(), numbers, rows)
+    schedule: bytes
+    numbers: Tuple[bytes, ...]
+    rows: Tuple[bytes, ...]
 
 
-def public_trains(trains: Iterator[Train], lines: IO[bytes]) -> Iterator[Tuple[Train, Calls]]:
-    """Each public train with its public calls, in the order of the extract."""
-    for calls in calls_by_schedule(lines):
-        train = next(trains)
-        while train.schedule != calls.schedule:
-            train = next(trains)
+def calls_by_schedule(table: Table) -> Iterator[Calls]:
+    """The rows of `public`, schedule by schedule."""
+    cells = (line.split(b"\t", 2) for line in table.lines)
+    for schedule, rows in groupby(cells, itemgetter(0)):
+        _, numbers, rows_of_calls = zip(*rows)
+        yield Calls(schedule, numbers, rows_of_calls)
+
+
+class PublicTrain(NamedTuple):
+    """A schedule with two public calls or more."""
+
+    schedule: Schedule
+    calls: Calls
+
+
+def public_trains(
+    schedules: Iterable[bytes], reader: ScheduleReader, table: Table
+) -> Iterator[PublicTrain]:
+    """Each schedule with two public calls or more, in the order of the extract. The lines are those
+    of `schedules`."""
+    lines = iter(schedules)
+    for calls in calls_by_schedule(table):
+        start = calls.schedule + b"\t"
+        line = next(line for line in lines if line.startswith(start))
         if len(calls.rows) > 1:
-            yield train, calls
+            yield PublicTrain(reader.read(line), calls)

@@ -1,51 +1,47 @@
 """Trips: the calls of a train, or of a part of it, on all dates on which they are the same."""
 from __future__ import annotations
 
-from bisect import bisect
 from hashlib import blake2b
-from typing import Dict, Iterable, Iterator, List, Mapping, NamedTuple, Optional, Sequence, Set
-from typing import Tuple, ValuesView
+from typing import Dict, FrozenSet, Iterable, List, Mapping, NamedTuple, Optional, Sequence, Set
+from typing import Tuple
 
 from cif_shared.dates import Dates, moved
 from cif_shared.endings import Refused
 
-from .associations import DIVIDE, JOIN, Association, Held, Link, Role, Stop, TripEnd, Variant
+from .associations import DIVIDE, JOIN, Role
+from .calls import RunsAs, Variant, arriving, days_later, is_for_nobody, leaving, met
+from .compositions import Composition, Edge, Node
 from .routes import Ends
-from .stops import Place, coded
-from .trains import Train
+from .stops import coded
+from .trains import About
 
-HOUR = 3600
-DAY = 86400
+# A hash in an id has twice as many digits.
 ID_BYTES = 5
-NEVER = "1"
-
-
-class Call(NamedTuple):
-    """A call of a trip, as a row of `public` has it, with its times in seconds."""
-
-    number: int
-    location: str
-    platform: str
-    arrival: int
-    departure: int
-    set_down: str
-    pick_up: str
 
 
 class Trip:
-    """A trip of GTFS: what it shows, and the dates of its service. Its rows are those of `public`
-    from the location on."""
+    """A trip of GTFS: what it shows, the dates of its service, and the schedules that it is made
+    of. Its rows are those of `public` from the location on."""
 
-    def __init__(self, trip_id: bytes, train: Train, rows: Sequence[bytes], ends: Ends) -> None:
+    def __init__(self, trip_id: bytes, about: About, rows: Sequence[bytes]) -> None:
         self.id = trip_id
-        self.train = train
+        self.about = about
         self.rows = rows
-        self.ends = ends
+        self.ends = Ends(location_of(rows[0]), location_of(rows[-1]))
         self.dates: Dates = 0
+        # the id of the first part of its train, if that is cut, and how many days later than the
+        # service the train runs
+        self.block = b""
+        self.days_later = 0
+        self.records: List[Sequence[bytes]] = []
 
 
 def location_of(row: bytes) -> bytes:
     return row[: row.index(b"\t")]
+
+
+def digest_of(content: bytes) -> str:
+    return blake2b(content, digest_size=ID_BYTES).hexdigest()
 
 
 class TripsOfUid:
@@ -55,251 +51,261 @@ class TripsOfUid:
         self.uid = uid
         self.name = coded(uid)
         self.trips: Dict[bytes, Trip] = {}
-        self.ids: Set[str] = set()
+        self.ids: Set[bytes] = set()
 
-    def add(
-        self,
-        train: Train,
-        rows: Sequence[bytes],
-        dates: Dates,
-        ends: Optional[Ends] = None,
-        marks: Sequence[str] = (),
-    ) -> Trip:
-        """Adds these dates to the trip of a train that has these rows. A trip that is linked or a
-        part of a train is told from others by the ends of the whole train too, and by marks, which
-        say with what it is linked."""
-        head = f"{train.identity}\t{train.operator}\t{train.route_type}\n".encode()
-        content = head + b"".join(rows)
-        if ends:
-            content += b"%s\t%s\n" % ends + b"".join(f"{mark}\n".encode() for mark in marks)
+    def add(self, about: About, rows: Sequence[bytes], mark: bytes = b"") -> Trip:
+        """The trip of a train that has these rows. A mark tells those of compositions from others."""
+        content = about.text() + b"".join(rows) + mark
         trip = self.trips.get(content)
         if trip is None:
-            ends = ends or Ends(location_of(rows[0]), location_of(rows[-1]))
-            trip = self.trips[content] = Trip(self.new_id(content), train, rows, ends)
-        trip.dates |= dates
+            trip = self.trips[content] = Trip(self.new_id(content), about, rows)
         return trip
 
-    def all(self) -> ValuesView[Trip]:
-        return self.trips.values()
+    def in_order(self) -> TripsOfUid:
+        """The same with the trips rising by their ids, in whatever order they were added."""
+        self.trips = dict(sorted(self.trips.items(), key=lambda item: item[1].id))
+        return self
 
     def new_id(self, content: bytes) -> bytes:
         """The UID and a short hash, the same in each window."""
-        found = f"{self.name}-{blake2b(content, digest_size=ID_BYTES).hexdigest()}"
+        found = f"{self.name}-{digest_of(content)}".encode()
         if found in self.ids:
-            raise Refused(f"two trips of the train {self.uid} have the id {found}")
+            raise Refused(f"two trips of the train {self.uid} have the id {found.decode()}")
         self.ids.add(found)
-        return found.encode()
+        return found
 
 
-# ---- calls and rows
+def add_records(trip: Trip, records: Sequence[RunsAs], dates: Dates) -> None:
+    """Adds the schedules that a train is on some dates."""
+    trip.records += [
+        each.record for each in records if each.dates & dates and each.record not in trip.records
+    ]
 
 
-def seconds_of(text: str) -> int:
-    hours, minutes, seconds = text.split(":")
-    return int(hours) * HOUR + int(minutes) * 60 + int(seconds)
+# ---- trains that are linked
 
 
-def written(moment: int) -> str:
-    return f"{moment // HOUR:02}:{moment // 60 % 60:02}:{moment % 60:02}"
+class Held(NamedTuple):
+    """An association of a train, its role, and the place of its call."""
 
-
-def call_of(number: int, row: bytes) -> Call:
-    location, platform, arrival, departure, set_down, pick_up = row.decode().split("\t")
-    times = (seconds_of(arrival), seconds_of(departure))
-    return Call(number, location, platform, *times, set_down, pick_up)
-
-
-def calls_of(variant: Variant) -> List[Call]:
-    return list(map(call_of, variant.numbers, variant.rows.splitlines()))
-
-
-def row_of(call: Call, days: int) -> bytes:
-    """The row of a call of a train that counts so many days earlier."""
-    times = [written(moment + days * DAY) for moment in (call.arrival, call.departure)]
-    cells = (call.location, call.platform, *times, call.set_down, call.pick_up)
-    return "\t".join(cells).encode() + b"\n"
-
-
-# ---- stops that aren't public
-
-
-def rounded_up(time: str) -> int:
-    """The seconds of a working time, rounded up to the minute."""
-    return int(time[:2]) * HOUR + int(time[2:4]) * 60 + 60 * time.endswith("H")
-
-
-def at_or_after(earliest: int, seconds: int) -> int:
-    """The first moment at this time of day that isn't before the earliest."""
-    return earliest + (seconds - earliest) % DAY
-
-
-def at_or_before(latest: int, seconds: int) -> int:
-    return latest - (latest - seconds) % DAY
-
-
-def call_at(stop: Stop, location: str, before: Optional[Call], after: Optional[Call]) -> Call:
-    """A call for a stop that isn't public, between the calls beside it, of which one may lack:
-    nobody gets on or off.
-
-    `cif` tells the days of public calls alone. So the day of this one is the one on which it is
-    nearest after the call before it, or else nearest before the call after it; as in `cif`, a time
-    that falls by an hour or less is no new day.
-    """
-    arrival = rounded_up(stop.arrival or stop.departure)
-    departure = rounded_up(stop.departure or stop.arrival)
-    if before:
-        arrival = at_or_after(before.departure - HOUR, arrival)
-        departure = at_or_after(arrival - HOUR, departure)
-    elif after:
-        departure = at_or_before(after.arrival + HOUR, departure)
-        arrival = at_or_before(departure + HOUR, arrival)
-    least = before.departure if before else 0
-    arrival = max(arrival, least)
-    departure = max(arrival, departure, least)
-    if after:
-        arrival = min(arrival, after.arrival)
-        departure = min(departure, after.arrival)
-    return Call(stop.number, location, stop.platform, arrival, departure, NEVER, NEVER)
-
-
-def with_stops(calls: Sequence[Call], stops: Iterable[Tuple[str, Stop]]) -> List[Call]:
-    """The calls with those at these stops, each with its location, that aren't public."""
-    found = list(calls)
-    public = {call.number for call in calls}
-    others = sorted({(stop.number, location, stop) for location, stop in stops})
-    others = [other for other in others if other[0] not in public]
-    later = [other for other in others if other[0] > calls[0].number]
-    earlier = others[: len(others) - len(later)]
-    for number, location, stop in later + earlier[::-1]:
-        at = bisect([call.number for call in found], number)
-        before = found[at - 1] if at else None
-        after = found[at] if at < len(found) else None
-        found.insert(at, call_at(stop, location, before, after))
-    return found
-
-
-# ---- trains with associations
-
-
-class Piece(NamedTuple):
-    """Some dates of a train, on all of which the same associations are shown, and whether it counts
-    to the day before then."""
-
-    dates: Dates
-    held: Tuple[Held, ...]
-    days: int
-
-
-def pieces_of(dates: Dates, associations: Iterable[Held], moved_dates: Dates) -> Iterator[Piece]:
-    """The dates of a train in pieces."""
-    pieces: List[Tuple[Dates, Tuple[Held, ...]]] = [(dates, ())]
-    for association, role in associations:
-        shown = association.own_dates(role)
-        split: List[Tuple[Dates, Tuple[Held, ...]]] = []
-        for some, held in pieces:
-            split += [(some & shown, (*held, (association, role))), (some & ~shown, held)]
-        pieces = [piece for piece in split if piece[0]]
-    for some, held in pieces:
-        for part, days in (some & ~moved_dates, 0), (some & moved_dates, 1):
-            if part:
-                yield Piece(part, held, days)
-
-
-def is_cut(association: Association, role: Role) -> bool:
-    return role is Role.BASE and association.terms.category in (DIVIDE, JOIN)
-
-
-def cut(calls: Sequence[Call], places: Sequence[int]) -> List[List[Call]]:
-    """The calls of each part of a train that is cut at these places. At a cut one part only
-    arrives, and the next only leaves."""
-    parts = []
-    ends = [0, *places, len(calls) - 1]
-    for first, last in zip(ends, ends[1:]):
-        part = list(calls[first : last + 1])
-        if first:
-            part[0] = part[0]._replace(arrival=part[0].departure, set_down=NEVER)
-        if last < len(calls) - 1:
-            part[-1] = part[-1]._replace(departure=part[-1].arrival, pick_up=NEVER)
-        parts.append(part)
-    return parts
-
-
-def stop_at(variant: Variant, association: Association, role: Role) -> Stop:
-    """The stop of an association that is shown."""
-    stop = variant.stop(association, role)
-    assert stop is not None
-    return stop
+    edge: Edge
+    role: Role
+    place: int
 
 
 class Part(NamedTuple):
-    """A part of a train, with the associations that link its end and its beginning."""
+    """A part of a train: its rows, and the associations that link its end and its beginning."""
 
-    calls: List[Call]
-    ends: List[Held]
-    begins: List[Held]
-
-
-class Linked:
-    """The parts of a train on the dates of a piece."""
-
-    def __init__(self, variant: Variant, piece: Piece) -> None:
-        self.variant = variant
-        self.piece = piece
-        stops = [(each[0].terms.location, stop_at(variant, *each)) for each in piece.held]
-        public = calls_of(variant)
-        self.ends = Ends(public[0].location.encode(), public[-1].location.encode())
-        calls = with_stops(public, stops)
-        numbers = [call.number for call in calls]
-        at = [numbers.index(stop.number) for _, stop in stops]
-        places = {place for place, each in zip(at, piece.held) if is_cut(*each)}
-        self.starts = [0, *sorted(places - {0, len(calls) - 1})]
-        self.last = len(calls) - 1
-        self.parts = [Part(part, [], []) for part in cut(calls, self.starts[1:])]
-        for place, held in zip(at, piece.held):
-            self.link(held, place)
-
-    def link(self, held: Held, place: int) -> None:
-        """Adds an association to the part that ends at its place, or begins there."""
-        association, role = held
-        if (association.terms.category == JOIN) != (role is Role.BASE):
-            self.parts[[*self.starts[1:], self.last].index(place)].ends.append(held)
-        else:
-            self.parts[self.starts.index(place)].begins.append(held)
-
-    def rows(self, part: Part) -> List[bytes]:
-        return [row_of(call, self.piece.days) for call in part.calls]
+    rows: List[bytes]
+    ends: List[Edge]
+    begins: List[Edge]
 
 
-def marks_of(part: Part) -> List[str]:
-    """What tells a linked trip from others with the same calls."""
-    marks = sorted(" ".join(("to", *association.terms)) for association, _ in part.ends)
-    return marks + sorted(" ".join(("from", *association.terms)) for association, _ in part.begins)
+class LinkedTrain(NamedTuple):
+    """A train of a composition: its variant, how many days earlier it counts, and its parts."""
 
+    variant: Variant
+    days: int
+    parts: List[Part]
 
-def add_linked(trips: TripsOfUid, linked: Linked, stops: Mapping[Place, bytes]) -> Set[Link]:
-    """Adds the trips of a train's parts to those of its UID. Returns the links from part to part."""
-    links: Set[Link] = set()
-    piece = linked.piece
-    before: Optional[TripEnd] = None
-    for part in linked.parts:
-        marks = marks_of(part)
-        ends = linked.ends if marks or len(linked.parts) > 1 else None
-        dates = moved(piece.dates, -piece.days)
-        trip = trips.add(linked.variant.train, linked.rows(part), dates, ends, marks)
-        begin, end = [
-            (stops[call.location.encode(), call.platform.encode()], trip.id)
-            for call in (part.calls[0], part.calls[-1])
+    def text(self) -> bytes:
+        """What tells it from other trains."""
+        rows = b"|\n".join(b"".join(part.rows) for part in self.parts)
+        return self.variant.about.text() + b"%d\n" % self.days + rows
+
+    def ends(self) -> Ends:
+        """The first and the last place of the whole train for riders."""
+        rows = self.variant.rows
+        return Ends(*(location_of(rows[at]) for at in self.variant.public_ends()))
+
+    def section(self, start: int, stop: int) -> List[bytes]:
+        """The rows from one place to another, and of those that aren't public only these two."""
+        hidden = self.variant.hidden - {start, stop}
+        return [
+            days_later(self.variant.rows[at], self.days)
+            for at in range(start, stop + 1)
+            if at not in hidden
         ]
-        for association, role in part.ends:
-            association.ends.append((base_dates(piece.dates, association, role), end))
-        for association, role in part.begins:
-            association.begins.append((base_dates(piece.dates, association, role), begin))
-        if before:
-            links.add((*before, *begin))
-        before = end
-    return links
 
 
-def base_dates(dates: Dates, association: Association, role: Role) -> Dates:
-    """The dates of a train as those of the base train of its association."""
-    return dates if role is Role.BASE else moved(dates, -association.days_later)
+def held_by(composition: Composition, node: Node) -> List[Held]:
+    """The associations of a train."""
+    variant = composition.variants[node]
+    return [
+        Held(edge, role, variant.place[edge.association.spots[role]])
+        for edge in composition.edges
+        for role in Role
+        if edge.node(role) == node
+    ]
+
+
+def is_cut(held: Held) -> bool:
+    return held.role is Role.BASE and held.edge.association.terms.category in (DIVIDE, JOIN)
+
+
+def parts_of(variant: Variant, all_held: Sequence[Held], days: int) -> List[Part]:
+    """The parts of a train that counts so many days earlier. It is cut where it divides or is
+    joined: one part only arrives there, and the next only leaves. A stop that isn't public is among
+    the calls only if it is the place of one of the associations."""
+    hidden = variant.hidden - {held.place for held in all_held}
+    shown = [at for at in range(len(variant.rows)) if at not in hidden]
+    cuts = sorted({held.place for held in all_held if is_cut(held)} - {shown[0], shown[-1]})
+    starts = [shown[0], *cuts]
+    stops = [*cuts, shown[-1]]
+    parts = []
+    for start, stop in zip(starts, stops):
+        rows = [variant.rows[at] for at in shown[shown.index(start) : shown.index(stop) + 1]]
+        if start in cuts:
+            rows[0] = leaving(rows[0])
+        if stop in cuts:
+            rows[-1] = arriving(rows[-1])
+        parts.append(Part([days_later(row, days) for row in rows], [], []))
+    for held in all_held:
+        if held.edge.association.ends_at(held.role):
+            parts[stops.index(held.place)].ends.append(held.edge)
+        else:
+            parts[starts.index(held.place)].begins.append(held.edge)
+    return parts
+
+
+def mark_of(composition: Composition, trains: Mapping[Node, LinkedTrain]) -> bytes:
+    """What tells a composition from others: its trains, and the associations that link them."""
+    texts = [node.uid.encode() + b"\n" + train.text() for node, train in trains.items()]
+    for edge in composition.edges:
+        days = trains[edge.node(Role.BASE)].days
+        texts.append("\t".join((str(days), *edge.association.terms)).encode())
+    return blake2b(b"\n\n".join(sorted(texts))).digest()
+
+
+Link = Tuple[Trip, Trip]
+
+
+class Assembly:
+    """The trips of all linked trains, and the links between them."""
+
+    def __init__(self, whole_trains: bool) -> None:
+        self.whole_trains = whole_trains
+        self.of_uid: Dict[str, TripsOfUid] = {}
+        self.links: Dict[Tuple[bytes, bytes], Link] = {}
+
+    def trips(self, uid: str) -> TripsOfUid:
+        if uid not in self.of_uid:
+            self.of_uid[uid] = TripsOfUid(uid)
+        return self.of_uid[uid]
+
+    def add(self, composition: Composition) -> None:
+        """Adds the trips of a composition, which all have its dates, and the links between them."""
+        first = min(node.offset for node in composition.variants)
+        trains: Dict[Node, LinkedTrain] = {}
+        for node, variant in composition.variants.items():
+            days = node.offset - first
+            parts = parts_of(variant, held_by(composition, node), days)
+            trains[node] = LinkedTrain(variant, days, parts)
+        mark = mark_of(composition, trains)
+        dates = moved(composition.dates, first)
+        if self.whole_trains:
+            for node, train in trains.items():
+                rows = WholeTrains(composition, trains).rows(node)
+                self.add_trip(node, train, rows, mark, dates)
+        else:
+            self.add_parts(trains, mark, dates)
+
+    def add_trip(
+        self, node: Node, train: LinkedTrain, rows: List[bytes], mark: bytes, dates: Dates
+    ) -> Trip:
+        mark = b"%d\n%s" % (train.days, mark)
+        trip = self.trips(node.uid).add(train.variant.about, rows, mark)
+        trip.dates |= dates
+        trip.days_later = train.days
+        add_records(trip, train.variant.records, moved(dates, train.days))
+        return trip
+
+    def add_parts(self, trains: Mapping[Node, LinkedTrain], mark: bytes, dates: Dates) -> None:
+        """Adds the trips of the parts of trains, and the links between them."""
+        ends: Dict[Edge, Trip] = {}
+        begins: Dict[Edge, Trip] = {}
+        for node, train in trains.items():
+            trips: List[Trip] = []
+            for number, part in enumerate(train.parts):
+                own_mark = b"%d\n%s" % (number, mark)
+                trip = self.add_trip(node, train, part.rows, own_mark, dates)
+                trip.ends = train.ends()
+                ends.update((edge, trip) for edge in part.ends)
+                begins.update((edge, trip) for edge in part.begins)
+                trips.append(trip)
+            for trip in trips if len(trips) > 1 else ():
+                trip.block = trips[0].id
+            self.add_links(zip(trips, trips[1:]))
+        self.add_links((ends[edge], begins[edge]) for edge in ends)
+
+    def add_links(self, links: Iterable[Link]) -> None:
+        for one, other in links:
+            self.links[one.id, other.id] = (one, other)
+
+
+class WholeTrains:
+    """Trains of a composition that aren't cut: one that leaves another train has the calls of this
+    before, and one that joins another train has the calls of this after, as calls of its own."""
+
+    def __init__(self, composition: Composition, trains: Mapping[Node, LinkedTrain]) -> None:
+        self.composition = composition
+        self.trains = trains
+
+    def joint(self, node: Node, joins: bool) -> Optional[Edge]:
+        """The association by which a train joins another, or leaves another; the first of several."""
+        found = [
+            edge
+            for edge in self.composition.edges
+            if edge.node(Role.ASSOCIATED) == node
+            and (edge.association.terms.category == JOIN) == joins
+        ]
+        found.sort(key=lambda edge: edge.association.terms)
+        return found[0] if found else None
+
+    def place(self, edge: Edge, role: Role) -> int:
+        variant = self.trains[edge.node(role)].variant
+        return variant.place[edge.association.spots[role]]
+
+    def rows(self, node: Node) -> List[bytes]:
+        """All calls of a train."""
+        leaves = self.joint(node, joins=False)
+        joins = self.joint(node, joins=True)
+        first, last = self.trains[node].variant.public_ends()
+        start = self.place(leaves, Role.ASSOCIATED) if leaves else first
+        stop = self.place(joins, Role.ASSOCIATED) if joins else last
+        rows = self.trains[node].section(start, stop)
+        seen = frozenset([node])
+        return self.with_next(joins, self.with_former(leaves, rows, seen), seen)
+
+    def with_former(
+        self, edge: Optional[Edge], rows: List[bytes], seen: FrozenSet[Node]
+    ) -> List[bytes]:
+        """The calls of the train that an association leaves, and then these."""
+        if edge is None or edge.node(Role.BASE) in seen:
+            return rows
+        base = edge.node(Role.BASE)
+        leaves = self.joint(base, joins=False)
+        first, _ = self.trains[base].variant.public_ends()
+        start = self.place(leaves, Role.ASSOCIATED) if leaves else first
+        before = self.trains[base].section(start, self.place(edge, Role.BASE))
+        return joined(self.with_former(leaves, before, seen | {base}), rows)
+
+    def with_next(
+        self, edge: Optional[Edge], rows: List[bytes], seen: FrozenSet[Node]
+    ) -> List[bytes]:
+        """These calls, and then those of the train that an association joins."""
+        if edge is None or edge.node(Role.BASE) in seen:
+            return rows
+        base = edge.node(Role.BASE)
+        joins = self.joint(base, joins=True)
+        _, last = self.trains[base].variant.public_ends()
+        stop = self.place(joins, Role.ASSOCIATED) if joins else last
+        after = self.trains[base].section(self.place(edge, Role.BASE), stop)
+        return joined(rows, self.with_next(joins, after, seen | {base}))
+
+
+def joined(before: Sequence[bytes], after: Sequence[bytes]) -> List[bytes]:
+    """The calls of one train and of the next, of which the last and the first are at one place. If
+    nobody gets on or off there, the train doesn't call there."""
+    call = met(before[-1], after[0])
+    return [*before[:-1], *(() if is_for_nobody(call) else (call,)), *after[1:]]

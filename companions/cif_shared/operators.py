@@ -1,9 +1,15 @@
-"""The names of operators, which CIF gives as codes of two letters."""
+"""The names of operators, which CIF gives as codes of two letters.
+
+operators.csv has names from memory. What the user says of an operator comes before them.
+"""
 from __future__ import annotations
 
-from typing import Mapping, NamedTuple, Optional
+from pathlib import Path
+from typing import Dict, Mapping, NamedTuple, Optional
 
-from .csv_files import Field, Key, Layout, plain_text, web_address
+from .csv_files import Field, Key, Layout, plain_text, read_file, web_address
+
+KNOWN = Path(__file__).resolve().parent / "operators.csv"
 
 
 class OperatorRow(NamedTuple):
@@ -25,8 +31,15 @@ OPERATORS = Layout(
 )
 
 
+def read_operators(path: Optional[str]) -> Dict[Key, OperatorRow]:
+    """What is known of operators, by their codes."""
+    known = read_file(OPERATORS, str(KNOWN))
+    known.update(read_file(OPERATORS, path))
+    return known
+
+
 def operator_name(code: str, given: Mapping[Key, OperatorRow]) -> str:
-    """The name that the user gives an operator, or else its code."""
+    """The name of an operator, or else its code."""
     row = given.get((code,))
     if row is not None:
         return row.name
