@@ -76,7 +76,8 @@ def split(group: Group, node: Node, of_uid: OfUid) -> List[Group]:
 
 
 def groups_around(uid: str, dates: Dates, of_uid: OfUid) -> Iterator[Group]:
-    """The groups that a train is in on its dates."""
+    """The groups that a train is in on its dates. One in which it runs on several is given once, by
+    the first of these."""
     start = Node(uid, 0)
     pending: List[Tuple[Group, Set[Node]]] = [
         (Group(dates, frozenset([start]), frozenset()), set())
@@ -85,7 +86,8 @@ def groups_around(uid: str, dates: Dates, of_uid: OfUid) -> Iterator[Group]:
         group, seen = pending.pop()
         node = next((node for node in group.nodes if node not in seen), None)
         if node is None:
-            yield group
+            if all(node.offset >= 0 for node in group.nodes if node.uid == uid):
+                yield group
         else:
             pending += [(each, seen | {node}) for each in split(group, node, of_uid)]
 

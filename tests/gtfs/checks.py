@@ -83,9 +83,9 @@ def first_difference(want, got):
     return f"lacks {list(want - got)[:2]}, has {list(got - want)[:2]}"
 
 
-def left_out_of(text):
-    """How many dates of associations are told to be left out."""
-    return sum(int(line.rpartition(": ")[2]) for line in text.splitlines() if "associations left out" in line)
+def left_out_of(text, what):
+    """How many dates of associations, or of trains, are reported to be left out."""
+    return sum(int(line.rpartition(": ")[2]) for line in text.splitlines() if f"{what} left out" in line)
 
 
 def check_feed(counts, maker, source):
@@ -106,24 +106,28 @@ def check_feed(counts, maker, source):
         uids = {coded(uid): uid for day in days.values() for uid in day.trains}
         want = expected(days, types)
         compare(counts, name, days, Feed(files, uids), names, want)
-        counts.same(f"{name}, associations left out", want[2], left_out_of(done.stderr))
+        counts.same(f"{name}, associations left out", want.left_out, left_out_of(done.stderr, "associations"))
+        not_for_riders = sum(day.not_for_riders for day in days.values())
+        counts.same(f"{name}, trains left out", not_for_riders, left_out_of(done.stderr, "trains"))
 
 
 def compare(counts, name, days, feed, names, want):
     """Date by date what a feed has and what it has to have."""
-    trips, links, _, distinct = want
+
+    def as_shown(contents):
+        return tuple(shown(content, names) for content in contents)
+
     for day in days:
-        got_trips, got_links = feed.on(day)
-        want_trips = {}
-        for content, count in trips[day].items():
-            of_content = shown(content, names)
-            want_trips[of_content] = want_trips.get(of_content, 0) + count
-        want_links = {(shown(one, names), shown(other, names)) for one, other in links[day]}
-        unequal = first_difference(want_trips.items(), got_trips.items())
-        counts.test(f"{name}, trips on {day}", want_trips == dict(got_trips), unequal)
-        counts.test(f"{name}, links on {day}", want_links == got_links, first_difference(want_links, got_links))
+        got = feed.on(day)
+        for what, wanted, found in (
+            ("trips", Counter(as_shown(want.trips[day].elements())), got.trips),
+            ("links", Counter(map(as_shown, want.links[day])), Counter(got.links)),
+            ("blocks", Counter(map(as_shown, want.blocks[day].elements())), got.blocks),
+        ):
+            unequal = first_difference(wanted.items(), found.items())
+            counts.test(f"{name}, {what} on {day}", wanted == found, unequal)
     counts.test(f"{name}, links on no date", not feed.idle_links(days), feed.idle_links(days)[:2])
-    counts.same(f"{name}, the number of distinct trips", len(distinct), len(feed.trips))
+    counts.same(f"{name}, the number of distinct trips", want.distinct, len(feed.trips))
     dates = Counter()
     for service in feed.of_service:
         dates[frozenset(day for day in days if service in active_services(feed.rows, day))] += 1
