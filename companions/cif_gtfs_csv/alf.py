@@ -17,8 +17,8 @@ FORMS = (
 
 
 def links(path: str) -> List[Row]:
-    """The links. GTFS can't say when a link is there: of several between two stations the slowest
-    counts."""
+    """The links, each in both directions, unless the file has both. GTFS can't say when a link is
+    there: of several from one station to another the slowest counts."""
     found: Dict[Tuple[str, str], int] = {}
     for number, line in lines_of(path):
         if not line.strip() or line.startswith(COMMENT):
@@ -30,4 +30,6 @@ def links(path: str) -> List[Row]:
         ends = (fields["O"], fields["D"])
         if ends[0] != ends[1]:
             found[ends] = max(int(fields["T"]), found.get(ends, 0))
-    return [("from", "to", "minutes"), *((*ends, found[ends]) for ends in sorted(found))]
+    back = {(end, start): time for (start, end), time in found.items()}
+    both = {**back, **found}
+    return [("from", "to", "minutes"), *((*ends, both[ends]) for ends in sorted(both))]

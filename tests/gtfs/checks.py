@@ -2,11 +2,12 @@
 import csv
 import subprocess
 import zipfile
-from collections import Counter
+from collections import Counter, defaultdict
+from datetime import timedelta
 from pathlib import Path
 
 from .definition import days_of, expected, table_rows
-from .feeds import EXTENDED_TYPES, TYPES, Feed, Names, active_services, coded, shown
+from .feeds import EXTENDED_TYPES, TYPES, Feed, Names, active_services, coded, rows_of, shown
 from .validator import ERROR, notices
 
 TOP = Path(__file__).resolve().parents[2]
@@ -96,7 +97,7 @@ def check_feed(counts, maker, source):
     write_csv(maker.folder / "places.csv", places)
     names = Names(tiplocs, places)
     for options, types in ((), TYPES), (("--extended-types",), EXTENDED_TYPES):
-        done, files = maker.feed("--places", "places.csv", *options, source.path)
+        done, files = maker.feed("--places", "places.csv", "--trips", "trips.csv", *options, source.path)
         counts.same(f"{name}, status", 0, done.returncode)
         counts.same(f"{name}, the files", FILES, tuple(files))
         found = notices(files)
@@ -105,7 +106,9 @@ def check_feed(counts, maker, source):
         counts.test(f"{name}, warnings", not others, others[:3])
         uids = {coded(uid): uid for day in days.values() for uid in day.trains}
         want = expected(days, types)
-        compare(counts, name, days, Feed(files, uids), names, want)
+        feed = Feed(files, uids)
+        compare(counts, name, days, feed, names, want)
+        check_records(counts, name, days, feed, rows_of((maker.folder / "trips.csv").read_text()))
         counts.same(f"{name}, associations left out", want.left_out, left_out_of(done.stderr, "associations"))
         not_for_riders = sum(day.not_for_riders for day in days.values())
         counts.same(f"{name}, trains left out", not_for_riders, left_out_of(done.stderr, "trains"))
@@ -132,3 +135,30 @@ def compare(counts, name, days, feed, names, want):
     for service in feed.of_service:
         dates[frozenset(day for day in days if service in active_services(feed.rows, day))] += 1
     counts.test(f"{name}, services", frozenset() not in dates and set(dates.values()) <= {1}, dates.most_common(1))
+
+
+def check_records(counts, name, days, feed, rows):
+    """On each date each trip is of one schedule, which applies on the date of its train."""
+    of_trip, idle = defaultdict(list), {tuple(row.values()) for row in rows}
+    for row in rows:
+        of_trip[row["trip_id"]].append(row)
+    for day in days:
+        wrong = []
+        for trip in feed.running(day):
+            found = [row for row in of_trip[trip] if applies(row, day + timedelta(days=int(row["days_later"])))]
+            idle -= {tuple(row.values()) for row in found}
+            if len(found) != 1 or not is_of_train(found[0], days, day):
+                wrong.append((trip, found))
+        counts.test(f"{name}, schedules of trips on {day}", not wrong, wrong[:2])
+    counts.test(f"{name}, schedules of trips on no date", not idle, list(idle)[:2])
+
+
+def is_of_train(row, days, day):
+    """Whether a row has what the schedule of its train has."""
+    train = days[day + timedelta(days=int(row["days_later"]))].public[row["uid"]].row
+    names = ("first_date", "last_date", "days_run")
+    return [train[field] for field in (*names, "reserved_a")] == [row[field] for field in (*names, "retail_service_id")]
+
+
+def applies(row, day):
+    return row["first_date"] <= day.isoformat() <= row["last_date"] and row["days_run"][day.weekday()] == "1"
