@@ -6,8 +6,10 @@ from collections import Counter, defaultdict
 from datetime import timedelta
 from pathlib import Path
 
+from . import network
 from .definition import days_of, expected, table_rows
 from .feeds import EXTENDED_TYPES, TYPES, Feed, Names, active_services, coded, rows_of, shown
+from .journeys import by_definition, by_feed, transfers_of
 from .validator import ERROR, notices
 
 TOP = Path(__file__).resolve().parents[2]
@@ -162,3 +164,42 @@ def is_of_train(row, days, day):
 
 def applies(row, day):
     return row["first_date"] <= day.isoformat() <= row["last_date"] and row["days_run"][day.weekday()] == "1"
+
+
+# ---- earliest arrivals
+
+CHANGE, WALK = 5, 12
+
+
+def check_journeys(counts, maker, source, queries):
+    """Who searches a feed arrives when the definition says, whether the planner knows linked trips, or blocks alone, or none."""
+    days = days_of(source)
+    places = made_places(network.STATIONS)
+    write_csv(maker.folder / "places.csv", places)
+    write_csv(maker.folder / "interchange.csv", [{"crs": crs, "minutes": CHANGE} for crs in network.CRS.values()])
+    walk = {"from": network.CRS["MAIN0"], "to": network.CRS["WEST2"], "minutes": WALK}
+    write_csv(maker.folder / "links.csv", [walk])
+    names = Names(table_rows(source.lines("table", "tiplocs")), places)
+    options = ("--places", "places.csv", "--interchange", "interchange.csv", "--links", "links.csv")
+    uids = {coded(uid): uid for day in days.values() for uid in day.trains}
+    cut, whole = (Feed(maker.feed(*options, *more, source.path)[1], uids) for more in ((), ("--whole-trains",)))
+    counts.same("whole trains, links and blocks", ([], {""}), (whole.links, set(whole.block.values())))
+    change = {names.station(place): CHANGE * 60 for place in network.STATIONS}
+    walks = {names.station("MAIN0"): {names.station("WEST2"): WALK * 60}}
+    counts.same("times of change and links", (change, walks), transfers_of(cut))
+    linked, alone = by_definition(days, names), by_definition(days, names, linked=False)
+    planners = (
+        ("linked trips", linked, by_feed(cut, days), False),
+        ("blocks", alone, by_feed(cut, days, links=False, blocks=True), False),
+        ("whole trains", linked, by_feed(whole, days), True),
+    )
+    later = 0
+    for query in queries:
+        for name, truth, planner, pairs in planners:
+            want = truth.earliest(names.station(query[0]), query[1], change, walks, pairs)
+            got = planner.earliest(names.station(query[0]), query[1], change, walks)
+            unequal = {place: (want.get(place), got.get(place)) for place in {*want, *got} if want.get(place) != got.get(place)}
+            counts.test(f"arrivals from {query} by {name}", want and not unequal, unequal)
+        without = alone.earliest(names.station(query[0]), query[1], change, walks)
+        later += sum(without.get(place) != arrival for place, arrival in want.items())
+    counts.test("arrivals that linked trips bring forward", later > len(queries), later)
