@@ -6,10 +6,11 @@ location, platform, arrival, departure, set down, pick up.
 from __future__ import annotations
 
 from bisect import bisect
-from typing import Dict, Iterable, List, NamedTuple, Optional, Sequence, Tuple
+from typing import Dict, Iterable, List, NamedTuple, Optional, Sequence, Set
 
 from cif_shared.dates import Dates
 
+from .routes import Ends
 from .trains import About
 
 HOUR = 3600
@@ -155,8 +156,14 @@ class Variant:
         self.rows = list(rows)
         self.insert({int(stop.call): stop for stop in stops.values()})
         self.place = {spot: self.numbers.index(int(stop.call)) for spot, stop in stops.items()}
-        public = set(numbers)
-        self.hidden = {at for at, number in enumerate(self.numbers) if number not in public}
+        self.hidden: Set[int] = set()
+        if len(self.numbers) > len(numbers):
+            public = set(numbers)
+            self.hidden = {at for at, number in enumerate(self.numbers) if number not in public}
+        # the places of the first and of the last public call
+        self.first = self.numbers.index(self.first_public)
+        self.last = self.numbers.index(self.last_public)
+        self.ends = Ends(*(self.rows[at].split(b"\t", 1)[0] for at in (self.first, self.last)))
 
     def insert(self, stops: Dict[int, Stop]) -> None:
         """Adds the stops that aren't public: first those after the first public call, in order, and
@@ -170,10 +177,6 @@ class Variant:
             after = self.rows[at] if at < len(self.rows) else None
             self.numbers.insert(at, number)
             self.rows.insert(at, row_at(stops[number], before, after))
-
-    def public_ends(self) -> Tuple[int, int]:
-        """The places of the first and of the last public call."""
-        return self.numbers.index(self.first_public), self.numbers.index(self.last_public)
 
     def public_rows(self) -> List[bytes]:
         return [row for at, row in enumerate(self.rows) if at not in self.hidden]

@@ -52,14 +52,17 @@ class Sort(NamedTuple):
 
 
 class About(NamedTuple):
-    """What a trip shows of its train besides the calls."""
+    """What a trip shows of its train besides the calls, and the same as a text."""
 
     identity: str
     operator: str
     route_type: int
+    text: bytes
 
-    def text(self) -> bytes:
-        return f"{self.identity}\t{self.operator}\t{self.route_type}\n".encode()
+
+def about_of(identity: str, operator: str, route_type: int) -> About:
+    text = f"{identity}\t{operator}\t{route_type}\n".encode()
+    return About(identity, operator, route_type, text)
 
 
 def is_for_riders(sort: Sort) -> bool:
@@ -113,7 +116,7 @@ class ScheduleReader:
         sort = Sort(*(cell.decode() for cell in cells))
         if not is_for_riders(sort):
             return None
-        return About(sort.identity, sort.operator, self.types[kind_of(sort)])
+        return about_of(sort.identity, sort.operator, self.types[kind_of(sort)])
 
     def read(self, line: bytes) -> Schedule:
         cells = line.rstrip(b"\n").split(b"\t")

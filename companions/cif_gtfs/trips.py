@@ -23,11 +23,11 @@ class Trip:
     """A trip of GTFS: what it shows, the dates of its service, and the schedules that it is made
     of. Its rows are those of `public` from the location on."""
 
-    def __init__(self, trip_id: bytes, about: About, rows: Sequence[bytes]) -> None:
+    def __init__(self, trip_id: bytes, about: About, rows: Sequence[bytes], ends: Ends) -> None:
         self.id = trip_id
         self.about = about
         self.rows = rows
-        self.ends = Ends(location_of(rows[0]), location_of(rows[-1]))
+        self.ends = ends
         self.dates: Dates = 0
         # the id of the first part of its train, if that is cut, and how many days later than the
         # service the train runs
@@ -36,8 +36,9 @@ class Trip:
         self.records: List[Sequence[bytes]] = []
 
 
-def location_of(row: bytes) -> bytes:
-    return row[: row.index(b"\t")]
+def ends_of(rows: Sequence[bytes]) -> Ends:
+    """The locations of the first and of the last call."""
+    return Ends(rows[0].split(b"\t", 1)[0], rows[-1].split(b"\t", 1)[0])
 
 
 def digest_of(content: bytes) -> str:
@@ -53,12 +54,16 @@ class TripsOfUid:
         self.trips: Dict[bytes, Trip] = {}
         self.ids: Set[bytes] = set()
 
-    def add(self, about: About, rows: Sequence[bytes], mark: bytes = b"") -> Trip:
-        """The trip of a train that has these rows. A mark tells those of compositions from others."""
-        content = about.text() + b"".join(rows) + mark
+    def add(
+        self, about: About, rows: Sequence[bytes], ends: Optional[Ends] = None, mark: bytes = b""
+    ) -> Trip:
+        """The trip of a train that has these rows, and other ends if it is a part of a train. A mark
+        tells those of compositions from others."""
+        content = about.text + b"".join(rows) + mark
         trip = self.trips.get(content)
         if trip is None:
-            trip = self.trips[content] = Trip(self.new_id(content), about, rows)
+            trip = Trip(self.new_id(content), about, rows, ends or ends_of(rows))
+            self.trips[content] = trip
         return trip
 
     def in_order(self) -> TripsOfUid:
@@ -111,12 +116,7 @@ class LinkedTrain(NamedTuple):
     def text(self) -> bytes:
         """What tells it from other trains."""
         rows = b"|\n".join(b"".join(part.rows) for part in self.parts)
-        return self.variant.about.text() + b"%d\n" % self.days + rows
-
-    def ends(self) -> Ends:
-        """The first and the last place of the whole train for riders."""
-        rows = self.variant.rows
-        return Ends(*(location_of(rows[at]) for at in self.variant.public_ends()))
+        return self.variant.about.text + b"%d\n" % self.days + rows
 
     def section(self, start: int, stop: int) -> List[bytes]:
         """The rows from one place to another, and of those that aren't public only these two."""
@@ -128,15 +128,15 @@ class LinkedTrain(NamedTuple):
         ]
 
 
-def held_by(composition: Composition, node: Node) -> List[Held]:
-    """The associations of a train."""
-    variant = composition.variants[node]
-    return [
-        Held(edge, role, variant.place[edge.association.spots[role]])
-        for edge in composition.edges
-        for role in Role
-        if edge.node(role) == node
-    ]
+def held_by(composition: Composition) -> Dict[Node, List[Held]]:
+    """The associations of each train."""
+    found: Dict[Node, List[Held]] = {node: [] for node in composition.variants}
+    for edge in composition.edges:
+        for role in Role:
+            node = edge.node(role)
+            place = composition.variants[node].place[edge.association.spots[role]]
+            found[node].append(Held(edge, role, place))
+    return found
 
 
 def is_cut(held: Held) -> bool:
@@ -147,19 +147,27 @@ def parts_of(variant: Variant, all_held: Sequence[Held], days: int) -> List[Part
     """The parts of a train that counts so many days earlier. It is cut where it divides or is
     joined: one part only arrives there, and the next only leaves. A stop that isn't public is among
     the calls only if it is the place of one of the associations."""
-    hidden = variant.hidden - {held.place for held in all_held}
-    shown = [at for at in range(len(variant.rows)) if at not in hidden]
-    cuts = sorted({held.place for held in all_held if is_cut(held)} - {shown[0], shown[-1]})
-    starts = [shown[0], *cuts]
-    stops = [*cuts, shown[-1]]
+    places = [held.place for held in all_held]
+    hidden = variant.hidden.difference(places)
+    first, last = variant.first, variant.last
+    if variant.hidden:
+        first = min(first, *places)
+        last = max(last, *places)
+    cuts = sorted({held.place for held in all_held if is_cut(held)} - {first, last})
+    starts = [first, *cuts]
+    stops = [*cuts, last]
     parts = []
     for start, stop in zip(starts, stops):
-        rows = [variant.rows[at] for at in shown[shown.index(start) : shown.index(stop) + 1]]
+        rows = variant.rows[start : stop + 1]
+        if hidden:
+            rows = [row for at, row in enumerate(rows, start) if at not in hidden]
         if start in cuts:
             rows[0] = leaving(rows[0])
         if stop in cuts:
             rows[-1] = arriving(rows[-1])
-        parts.append(Part([days_later(row, days) for row in rows], [], []))
+        if days:
+            rows = [days_later(row, days) for row in rows]
+        parts.append(Part(rows, [], []))
     for held in all_held:
         if held.edge.association.ends_at(held.role):
             parts[stops.index(held.place)].ends.append(held.edge)
@@ -197,24 +205,30 @@ class Assembly:
         """Adds the trips of a composition, which all have its dates, and the links between them."""
         first = min(node.offset for node in composition.variants)
         trains: Dict[Node, LinkedTrain] = {}
-        for node, variant in composition.variants.items():
+        for node, all_held in held_by(composition).items():
+            variant = composition.variants[node]
             days = node.offset - first
-            parts = parts_of(variant, held_by(composition, node), days)
-            trains[node] = LinkedTrain(variant, days, parts)
+            trains[node] = LinkedTrain(variant, days, parts_of(variant, all_held, days))
         mark = mark_of(composition, trains)
         dates = moved(composition.dates, first)
         if self.whole_trains:
             for node, train in trains.items():
                 rows = WholeTrains(composition, trains).rows(node)
-                self.add_trip(node, train, rows, mark, dates)
+                self.add_trip(node, train, rows, None, mark, dates)
         else:
             self.add_parts(trains, mark, dates)
 
     def add_trip(
-        self, node: Node, train: LinkedTrain, rows: List[bytes], mark: bytes, dates: Dates
+        self,
+        node: Node,
+        train: LinkedTrain,
+        rows: List[bytes],
+        ends: Optional[Ends],
+        mark: bytes,
+        dates: Dates,
     ) -> Trip:
         mark = b"%d\n%s" % (train.days, mark)
-        trip = self.trips(node.uid).add(train.variant.about, rows, mark)
+        trip = self.trips(node.uid).add(train.variant.about, rows, ends, mark)
         trip.dates |= dates
         trip.days_later = train.days
         add_records(trip, train.variant.records, moved(dates, train.days))
@@ -228,8 +242,7 @@ class Assembly:
             trips: List[Trip] = []
             for number, part in enumerate(train.parts):
                 own_mark = b"%d\n%s" % (number, mark)
-                trip = self.add_trip(node, train, part.rows, own_mark, dates)
-                trip.ends = train.ends()
+                trip = self.add_trip(node, train, part.rows, train.variant.ends, own_mark, dates)
                 ends.update((edge, trip) for edge in part.ends)
                 begins.update((edge, trip) for edge in part.begins)
                 trips.append(trip)
@@ -270,10 +283,10 @@ class WholeTrains:
         """All calls of a train."""
         leaves = self.joint(node, joins=False)
         joins = self.joint(node, joins=True)
-        first, last = self.trains[node].variant.public_ends()
-        start = self.place(leaves, Role.ASSOCIATED) if leaves else first
-        stop = self.place(joins, Role.ASSOCIATED) if joins else last
-        rows = self.trains[node].section(start, stop)
+        train = self.trains[node]
+        start = self.place(leaves, Role.ASSOCIATED) if leaves else train.variant.first
+        stop = self.place(joins, Role.ASSOCIATED) if joins else train.variant.last
+        rows = train.section(start, stop)
         seen = frozenset([node])
         return self.with_next(joins, self.with_former(leaves, rows, seen), seen)
 
@@ -285,7 +298,7 @@ class WholeTrains:
             return rows
         base = edge.node(Role.BASE)
         leaves = self.joint(base, joins=False)
-        first, _ = self.trains[base].variant.public_ends()
+        first = self.trains[base].variant.first
         start = self.place(leaves, Role.ASSOCIATED) if leaves else first
         before = self.trains[base].section(start, self.place(edge, Role.BASE))
         return joined(self.with_former(leaves, before, seen | {base}), rows)
@@ -298,7 +311,7 @@ class WholeTrains:
             return rows
         base = edge.node(Role.BASE)
         joins = self.joint(base, joins=True)
-        _, last = self.trains[base].variant.public_ends()
+        last = self.trains[base].variant.last
         stop = self.place(joins, Role.ASSOCIATED) if joins else last
         after = self.trains[base].section(self.place(edge, Role.BASE), stop)
         return joined(rows, self.with_next(joins, after, seen | {base}))

@@ -13,7 +13,7 @@ from collections import defaultdict
 from datetime import date, timedelta
 
 from cif_gtfs import trips
-from cif_gtfs.trains import About
+from cif_gtfs.trains import about_of
 from cif_shared.endings import Refused
 from cif_shared.tables import lines_of_schedules
 
@@ -386,7 +386,7 @@ def check_again(counts, maker, special):
 
 def check_collision(counts):
     """Two trips of a train with one id are refused, which needs shorter ids than there are."""
-    about, found = About("1A01", "SN", 2), trips.TripsOfUid(" 00001")
+    about, found = about_of("1A01", "SN", 2), trips.TripsOfUid(" 00001")
     length, trips.ID_BYTES = trips.ID_BYTES, 1
     try:
         for number in range(300):
