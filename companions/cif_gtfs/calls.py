@@ -144,6 +144,10 @@ class Variant:
     """A public train on the dates on which it is the same. Its calls are the public ones, and all
     stops where its associations may be, `hidden` ones of which aren't public."""
 
+    __slots__ = tuple(
+        "about dates records first_public last_public numbers rows place hidden first last ends".split()
+    )
+
     def __init__(
         self, about: About, numbers: Sequence[int], rows: Sequence[bytes], stops: Dict[Spot, Stop]
     ) -> None:

@@ -6,7 +6,19 @@ from dataclasses import dataclass
 from itertools import groupby
 from operator import itemgetter
 from pathlib import Path
-from typing import IO, Dict, Iterable, Iterator, List, Mapping, NamedTuple, Optional, Sequence, Set
+from typing import (
+    IO,
+    Callable,
+    Dict,
+    Iterable,
+    Iterator,
+    List,
+    Mapping,
+    NamedTuple,
+    Optional,
+    Sequence,
+    Set,
+)
 from typing import Tuple
 
 from cif_shared.csv_files import Key
@@ -16,8 +28,7 @@ from cif_shared.files import BLOCK, NewFiles, new_files, scratch_file
 from cif_shared.operators import OperatorRow
 from cif_shared.places import PlaceRow, Places
 from cif_shared.progress import Progress
-from cif_shared.tables import AssociationRow, Extract, Header, Table, TiplocRow
-from cif_shared.tables import lines_of_schedules
+from cif_shared.tables import AssociationRow, Extract, Header, Table, TiplocRow, rows_with
 
 from . import feed
 from .associations import CATEGORIES, Association, LeftOut, Reason, Role, associations_of
@@ -122,49 +133,52 @@ def read_timetable(extract: Extract, given: Mapping[Key, PlaceRow]) -> Iterator[
         yield Timetable(header, window, places, associations, schedules, spots_of(associations))
 
 
-def read_stops(extract: Extract, timetable: Timetable) -> Dict[bytes, List[Stop]]:
-    """Of each schedule with associations the calls at their locations, by its number."""
-    wanted = timetable.schedules.numbers_of(timetable.spots)
-    found: Dict[bytes, List[Stop]] = {}
-    if not wanted:
-        return found
+class StopRows(NamedTuple):
+    """Of each schedule with associations the calls at their locations, by its number, as rows of
+    `calls`, and what reads these."""
+
+    rows: Dict[bytes, List[bytes]]
+    read: Callable[[bytes], Stop]
+
+    def take(self, schedule: bytes) -> List[bytes]:
+        return self.rows.pop(schedule, [])
+
+
+def read_stops(extract: Extract, timetable: Timetable) -> Optional[StopRows]:
+    uids = timetable.schedules.numbers_of(timetable.spots)
+    if not uids:
+        return None
     locations = {
         uid: {spot.location.encode() for spot in spots} for uid, spots in timetable.spots.items()
     }
+    wanted = {number: locations[uid] for number, uid in uids.items()}
     with extract.table("calls") as table:
-        location = table.names.index("location")
-        read = table.reader(Stop)
-        for row in lines_of_schedules(table.lines, list(wanted)):
-            # few rows are decoded
-            cells = row.split(b"\t", location + 1)
-            if cells[location] in locations[wanted[cells[0]]]:
-                found.setdefault(cells[0], []).append(read(row))
-    return found
+        found: Dict[bytes, List[bytes]] = {}
+        for row in rows_with(table.lines, table.names.index("location"), wanted):
+            found.setdefault(row[: row.index(b"\t")], []).append(row)
+        return StopRows(found, table.reader(Stop))
 
 
-class Variants:
-    """The public trains of the UIDs with associations, those that differ in nothing but dates as
-    one."""
-
-    def __init__(self, spots: Mapping[str, Set[Spot]], stops: Mapping[bytes, List[Stop]]) -> None:
-        self.spots = spots
-        self.stops = stops
-        self.of_uid: Dict[str, List[Variant]] = {}
-        self.known: Dict[object, Variant] = {}
-
-    def add(self, train: PublicTrain, about: About) -> None:
-        schedule = train.schedule
-        calls = train.calls
-        stops = self.stops.get(schedule.number, [])
-        key = (schedule.uid, about, calls.numbers, calls.rows, tuple(stops))
-        variant = self.known.get(key)
+def variants_of(
+    trains: Iterable[PublicTrain], spots: Set[Spot], stops: StopRows, with_records: bool
+) -> List[Variant]:
+    """The public trains of one UID, those that differ in nothing but dates as one."""
+    found: Dict[object, Variant] = {}
+    for schedule, calls in trains:
+        if schedule.about is None:
+            continue
+        rows = tuple(calls.rows())
+        numbers = tuple(calls.numbers())
+        at_spots = [stops.read(row) for row in stops.take(schedule.number)]
+        key = (schedule.about, numbers, rows, tuple(at_spots))
+        variant = found.get(key)
         if variant is None:
-            numbers = [int(number) for number in calls.numbers]
-            at_spots = stops_at(self.spots[schedule.uid], stops, numbers)
-            variant = self.known[key] = Variant(about, numbers, calls.rows, at_spots)
-            self.of_uid.setdefault(schedule.uid, []).append(variant)
+            places = stops_at(spots, at_spots, numbers)
+            variant = found[key] = Variant(schedule.about, numbers, rows, places)
         variant.dates |= schedule.dates
-        variant.records.append(RunsAs(schedule.dates, schedule.record))
+        if with_records:
+            variant.records.append(RunsAs(schedule.dates, schedule.record))
+    return list(found.values())
 
 
 class LeftOutCounts(NamedTuple):
@@ -182,6 +196,10 @@ class LeftOutCounts(NamedTuple):
         if self.trains:
             lines.insert(0, f"trains left out: they aren't for riders: {self.trains}")
         return lines
+
+
+def uid_of(train: PublicTrain) -> str:
+    return train.schedule.uid
 
 
 class Conversion:
@@ -210,36 +228,32 @@ class Conversion:
         """Writes the trips of a train without associations."""
         trips = TripsOfUid(uid)
         for schedule, calls in trains:
-            if schedule.about is None:
-                self.not_for_riders += count_of(schedule.dates)
-                continue
-            trip = trips.add(schedule.about, calls.rows)
-            trip.dates |= schedule.dates
-            if self.records is not None:
-                trip.records.append(schedule.record)
+            if schedule.about is not None:
+                trip = trips.add(schedule.about, calls.rows())
+                trip.dates |= schedule.dates
+                if self.records is not None:
+                    trip.records.append(schedule.record)
         self.write(trips)
 
-    def take(self, variants: Variants, trains: Iterable[PublicTrain]) -> None:
-        """Keeps the trains of a UID with associations."""
-        for train in trains:
-            if train.schedule.about is None:
-                self.not_for_riders += count_of(train.schedule.dates)
-            else:
-                variants.add(train, train.schedule.about)
-
-    def read_trains(self, extract: Extract, progress: Progress) -> Variants:
+    def read_trains(self, extract: Extract, progress: Progress) -> Dict[str, List[Variant]]:
         """Writes the trips of all trains without associations. Returns the others."""
-        variants = Variants(self.timetable.spots, read_stops(extract, self.timetable))
+        variants: Dict[str, List[Variant]] = {}
+        stops = read_stops(extract, self.timetable)
         count = self.timetable.schedules.count
         with extract.table("public") as table:
             found = self.timetable.trains(table, self.wishes.types)
-            for uid, trains in groupby(found, key=lambda train: train.schedule.uid):
-                if uid in self.timetable.spots:
-                    self.take(variants, trains)
-                    continue
-                of_uid = list(trains)
-                progress.show_share("reading calls", int(of_uid[-1].schedule.number), count)
-                self.write_plain(uid, of_uid)
+            for uid, group in groupby(found, key=uid_of):
+                trains = list(group)
+                for schedule, _ in trains:
+                    if schedule.about is None:
+                        self.not_for_riders += count_of(schedule.dates)
+                progress.show_share("reading calls", int(trains[-1].schedule.number), count)
+                if stops and uid in self.timetable.spots:
+                    with_records = self.records is not None
+                    of_uid = variants_of(trains, self.timetable.spots[uid], stops, with_records)
+                    variants[uid] = of_uid
+                else:
+                    self.write_plain(uid, trains)
         return variants
 
     def write_linked(self, variants: Mapping[str, Sequence[Variant]]) -> Tuple[List[Link], LeftOut]:
@@ -309,7 +323,7 @@ def convert(
                 trip_files = feed.TripFiles(stops, routes, services, (trips, stop_times))
                 conversion = Conversion(timetable, wishes, trip_files, records)
                 variants = conversion.read_trains(extract, progress)
-                links, left_out = conversion.write_linked(variants.of_uid)
+                links, left_out = conversion.write_linked(variants)
             if not routes.rows:
                 raise Refused(f"{extract.path} has no public train in its window")
             trip_files.flush()

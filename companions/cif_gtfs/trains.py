@@ -1,10 +1,10 @@
 """The public trains of an extract: schedules with two public calls or more that are for riders."""
 from __future__ import annotations
 
+import re
 from enum import Enum
-from itertools import groupby
 from operator import itemgetter
-from typing import IO, Dict, Iterable, Iterator, List, Mapping, NamedTuple, Optional, Tuple
+from typing import Dict, Iterable, Iterator, List, Mapping, NamedTuple, Optional, Tuple
 
 from cif_shared.dates import Dates, Window
 from cif_shared.files import BLOCK
@@ -129,21 +129,40 @@ class ScheduleReader:
         return Schedule(number, uid.decode(), dates, self.known[sort], record)
 
 
+# The rows of a schedule in `public`, and what each has after the number of the schedule.
+ROWS_OF_SCHEDULE = re.compile(rb"^([0-9]+)\t.*\n(?:\1\t.*\n)*", re.MULTILINE)
+ROW = re.compile(rb"^[0-9]+\t[0-9]+\t(.*\n)", re.MULTILINE)
+NUMBER = re.compile(rb"^[0-9]+\t([0-9]+)", re.MULTILINE)
+
+
 class Calls(NamedTuple):
-    """The public calls of a schedule: its number, and of each call the number and the row from the
-    location on."""
+    """The public calls of a schedule: its number, and its rows as they stand."""
 
     schedule: bytes
-    numbers: Tuple[bytes, ...]
-    rows: Tuple[bytes, ...]
+    text: bytes
+
+    def rows(self) -> List[bytes]:
+        """The rows from the location on."""
+        return ROW.findall(self.text)
+
+    def numbers(self) -> List[int]:
+        return [int(number) for number in NUMBER.findall(self.text)]
 
 
 def calls_by_schedule(table: Table) -> Iterator[Calls]:
-    """The rows of `public`, schedule by schedule."""
-    cells = (line.split(b"\t", 2) for line in table.lines)
-    for schedule, rows in groupby(cells, itemgetter(0)):
-        _, numbers, rows_of_calls = zip(*rows)
-        yield Calls(schedule, numbers, rows_of_calls)
+    """The rows of `public`, schedule by schedule, cut from blocks. The last ones of a block may go
+    on in the next."""
+    rest = b""
+    for block in iter(lambda: table.lines.read(BLOCK), b""):
+        text = rest + block
+        last = None
+        for found in ROWS_OF_SCHEDULE.finditer(text):
+            if last:
+                yield Calls(last[1], last[0])
+            last = found
+        rest = text[last.start() :] if last else text
+    for found in ROWS_OF_SCHEDULE.finditer(rest):
+        yield Calls(found[1], found[0])
 
 
 class PublicTrain(NamedTuple):
@@ -162,5 +181,5 @@ def public_trains(
     for calls in calls_by_schedule(table):
         start = calls.schedule + b"\t"
         line = next(line for line in lines if line.startswith(start))
-        if len(calls.rows) > 1:
+        if calls.text.count(b"\n") > 1:
             yield PublicTrain(reader.read(line), calls)

@@ -23,6 +23,8 @@ class Trip:
     """A trip of GTFS: what it shows, the dates of its service, and the schedules that it is made
     of. Its rows are those of `public` from the location on."""
 
+    __slots__ = ("id", "about", "rows", "ends", "dates", "block", "days_later", "records")
+
     def __init__(self, trip_id: bytes, about: About, rows: Sequence[bytes], ends: Ends) -> None:
         self.id = trip_id
         self.about = about

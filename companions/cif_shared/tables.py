@@ -9,21 +9,11 @@ import tempfile
 from contextlib import contextmanager
 from operator import itemgetter
 from pathlib import Path
-from typing import (
-    IO,
-    Callable,
-    Iterator,
-    List,
-    NamedTuple,
-    Optional,
-    Sequence,
-    Tuple,
-    Type,
-    TypeVar,
-)
+from typing import IO, Callable, Collection, Iterator, List, Mapping, NamedTuple, Optional
+from typing import Sequence, Type, TypeVar
 
 from .cif import Cif
-from .endings import Failed, Misused
+from .endings import CifEnded, Failed, Misused
 from .files import BLOCK, reporting
 
 Row = TypeVar("Row", bound=NamedTuple)
@@ -96,41 +86,47 @@ class Table(NamedTuple):
         return map(self.reader(kind), self.lines)
 
 
-def rows_of_schedules(
-    table: Table, schedules: Sequence[str], kind: Type[Row], size: int = BLOCK
-) -> Iterator[Row]:
-    """The rows that a table has of these schedules, whose numbers rise in both."""
-    numbers = [number.encode() for number in schedules]
-    return map(table.reader(kind), lines_of_schedules(table.lines, numbers, size))
-
-
-def lines_of_schedules(
-    stream: IO[bytes], schedules: Sequence[bytes], size: int = BLOCK
+def rows_with(
+    stream: IO[bytes], place: int, wanted: Mapping[bytes, Collection[bytes]], size: int = BLOCK
 ) -> Iterator[bytes]:
-    """The same as lines. It looks for them in blocks, since cutting a country's calls into lines
-    takes far longer."""
-    pending = list(schedules[::-1])
-    rest = b"\n"
-    for block in iter(lambda: stream.read(size), b""):
-        text = rest + block
-        end = text.rfind(b"\n")
-        at = 0
-        # what is looked through begins with the end of a row, and so does what is left for the next
-        # block
-        text, rest = text[: end + 1], text[end:]
-        if end == 0:
-            continue
-        last = int(text[text.rfind(b"\n", 0, end) + 1 :].split(b"\t", 1)[0])
-        while pending and int(pending[-1]) <= last:
-            prefix = b"\n%s\t" % pending[-1]
-            at = max(at, text.find(prefix, at))
-            while text.startswith(prefix, at):
-                end_of_row = text.index(b"\n", at + 1)
-                yield text[at + 1 : end_of_row]
-                at = end_of_row
-            if int(pending[-1]) == last:
+    """The rows that a table of calls has of some schedules, whose numbers rise in both, with one of
+    the texts that are wanted of the schedule in this place. It looks for them in blocks, since
+    cutting a country's calls into rows takes far longer. Each schedule has calls."""
+    text = b"\n"
+    at = 0
+    for number, texts in wanted.items():
+        start = b"\n%s\t" % number
+        next_start = b"\n%d\t" % (int(number) + 1)
+        first = text.find(start, at)
+        end = text.find(next_start, first + 1) if first >= 0 else -1
+        while end < 0:
+            # what was looked through is left out, but for the beginning of a row
+            text = text[first if first >= 0 else text.rfind(b"\n") :]
+            block = stream.read(size)
+            text += block
+            first = text.find(start)
+            end = text.find(next_start, first + 1) if first >= 0 else -1
+            if not block:
+                end = text.rfind(b"\n") if end < 0 else end
                 break
-            pending.pop()
+        at = end
+        if first >= 0:
+            yield from rows_in(text[first + 1 : end + 1], place, texts)
+
+
+def rows_in(text: bytes, place: int, texts: Collection[bytes]) -> Iterator[bytes]:
+    """The rows of a text that have one of these texts in a place, in order."""
+    found = set()
+    for each in texts:
+        cell = b"\t%s\t" % each
+        at = text.find(cell)
+        while at >= 0:
+            first = text.rfind(b"\n", 0, at) + 1
+            row = text[first : text.index(b"\n", at)]
+            if row.split(b"\t", place + 1)[place] == each:
+                found.add((first, row))
+            at = text.find(cell, at + 1)
+    return (row for _, row in sorted(found))
 
 
 class State(NamedTuple):
@@ -161,6 +157,8 @@ class Extract:
         self.words = words
         self.copied = copied
         self.state = state_of(path)
+        # a file with the records before the schedules, of which alone small tables are made
+        self.head: Optional[Path] = None
 
     def check_state(self) -> None:
         if state_of(self.path) != self.state:
@@ -174,19 +172,59 @@ class Extract:
         with open(self.path if self.copied else os.devnull, "rb") as stdin:
             try:
                 with self.cif.output(words, stdin) as lines:
-                    names = lines.readline().decode().rstrip("\n").split("\t")
-                    yield Table(names, lines)
+                    yield heading_of(lines)
             finally:
                 self.check_state()
 
     def rows(self, name: str, kind: Type[Row]) -> List[Row]:
-        """All rows of a table that isn't a big one."""
+        """All rows of a table of header, places or associations. Nothing of these depends on the
+        schedules, after which none of them stands; so what is before the schedules is enough. What
+        is refused is read whole, so that it is reported as a part of the whole."""
+        if self.head:
+            try:
+                with open(self.head, "rb") as stdin:
+                    with self.cif.output(["table", *self.words, name, "-"], stdin) as lines:
+                        return list(heading_of(lines).rows(kind))
+            except CifEnded:
+                pass
         with self.table(name) as table:
             return list(table.rows(kind))
 
     def header(self) -> Header:
         [header] = self.rows("header", Header)
         return header
+
+
+def heading_of(lines: IO[bytes]) -> Table:
+    return Table(lines.readline().decode().rstrip("\n").split("\t"), lines)
+
+
+SCHEDULE = b"BS"
+TRAILER = b"ZZ".ljust(80) + b"\n"
+# An extract has lines of 80 columns.
+LONGEST = 100
+
+
+def write_head(extract: IO[bytes], head: IO[bytes]) -> bool:
+    """Writes what stands before the first schedule. Returns whether there is a schedule."""
+    for line in iter(lambda: extract.readline(LONGEST), b""):
+        if line.startswith(SCHEDULE):
+            head.write(TRAILER)
+            return True
+        if not line.endswith(b"\n"):
+            return False
+        head.write(line)
+    return False
+
+
+@contextmanager
+def with_head(extract: Extract) -> Iterator[Extract]:
+    """The extract with a file of what stands before its schedules."""
+    with tempfile.NamedTemporaryFile() as file:
+        with open(extract.path, "rb") as whole, reporting(os.dup(file.fileno()), file.name) as head:
+            found = write_head(whole, head)
+        extract.head = Path(file.name) if found else None
+        yield extract
 
 
 @contextmanager
@@ -199,17 +237,20 @@ def open_extract(
     words += [*(("--to", last) if last is not None else ())]
     if name == "-":
         with copy_of(sys.stdin.buffer) as path:
-            yield Extract(cif, path, words, copied=True)
+            with with_head(Extract(cif, path, words, copied=True)) as extract:
+                yield extract
         return
     mode = os.stat(name).st_mode
     if not (stat.S_ISREG(mode) or stat.S_ISFIFO(mode)):
         raise Misused(f"{name} has to be a file, a pipe, or - for standard input")
     with open(name, "rb") as file:
         if stat.S_ISREG(mode):
-            yield Extract(cif, Path(name), words)
+            with with_head(Extract(cif, Path(name), words)) as extract:
+                yield extract
         else:
             with copy_of(file) as path:
-                yield Extract(cif, path, words, copied=True)
+                with with_head(Extract(cif, path, words, copied=True)) as extract:
+                    yield extract
 
 
 @contextmanager

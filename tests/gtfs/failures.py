@@ -15,7 +15,7 @@ from datetime import date, timedelta
 from cif_gtfs import trips
 from cif_gtfs.trains import about_of
 from cif_shared.endings import Refused
-from cif_shared.tables import lines_of_schedules
+from cif_shared.tables import rows_with
 
 from .checks import COMPANIONS, TOP, Maker
 from .feeds import Feed, active_services
@@ -403,12 +403,18 @@ def check_collision(counts):
 
 def check_blocks(counts):
     """The rows of some schedules are the same in blocks of any size."""
-    rows = [b"%d\t%d\tcall" % (schedule, call) for schedule in range(1, 130) for call in range(schedule % 7)]
+    rows = [
+        b"%d\t%d\tLO\t%s\t%s" % (schedule, call, b"AB"[call % 2 :][:1], b"AB"[schedule % 2 :][:1])
+        for schedule in range(1, 130)
+        for call in range(1 + schedule % 7)
+    ]
     for wanted in ([1, 2, 5, 8, 9, 10, 11, 99, 100, 101, 128, 129], [129], [1], [6], list(range(1, 130)), []):
-        want = [row for row in rows if int(row.split(b"\t")[0]) in wanted]
+        texts = {b"%d" % number: {b"A", b"none"} if number % 3 else {b"A", b"B"} for number in wanted}
+        cells = ((row, row.split(b"\t")) for row in rows)
+        want = [row for row, cell in cells if cell[3] in texts.get(cell[0], ())]
         for size in (1, 7, 16, 40, 100, 1000, 10**6):
             table = io.BytesIO(b"".join(row + b"\n" for row in rows))
-            got = list(lines_of_schedules(table, [b"%d" % number for number in wanted], size))
+            got = list(rows_with(table, 3, texts, size))
             counts.test(f"rows of {len(wanted)} schedules in blocks of {size}", want == got, got[:5])
 
 
