@@ -221,7 +221,8 @@ def write_head(extract: IO[bytes], head: IO[bytes]) -> bool:
 def with_head(extract: Extract) -> Iterator[Extract]:
     """The extract with a file of what stands before its schedules."""
     with tempfile.NamedTemporaryFile() as file:
-        with open(extract.path, "rb") as whole, reporting(os.dup(file.fileno()), file.name) as head:
+        descriptor = os.dup(file.fileno())
+        with open(extract.path, "rb") as whole, reporting(descriptor, tempfile.gettempdir()) as head:
             found = write_head(whole, head)
         extract.head = Path(file.name) if found else None
         yield extract
