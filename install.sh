@@ -1,5 +1,5 @@
 #!/bin/sh
-# Installs cif and cif-gtfs below a prefix, or removes them: `install.sh --help` has the details.
+# Installs cif and the programs of companions/ below a prefix, or removes them: `install.sh --help` has the details.
 #
 # All files are copied first, each into its folder, and then renamed. If anything fails, the files that were there
 # before are put back. No path goes through `$(..)`, which would lose a line feed at its end.
@@ -23,7 +23,7 @@ help() {
     usage
     cat << 'END'
 
-Installs the programs cif, cif-gtfs and cif-gtfs-csv, their manual pages and their
+Installs cif and the programs of companions/, their manual pages and their
 completions for bash, zsh and fish below PREFIX, a folder such as /usr/local or
 "$HOME/.local". All but cif are Python, of which they need 3.8 or later.
 
@@ -37,29 +37,27 @@ If DESTDIR is set, every path begins with it, and PREFIX has to be absolute.
 END
 }
 
-modules="__init__ associations command_line conversion dates extract feed grid places problems public_files routes
-    trains trips user_files"
-
 # each STEP: calls STEP for each file, with its source, its mode and its place, until a call fails
 each() {
-    "$1" "$cif" 755 "$base/bin/cif" &&
-        "$1" "$top/man/cif.1" 644 "$base/share/man/man1/cif.1" &&
-        "$1" "$top/completions/cif.bash" 644 "$base/share/bash-completion/completions/cif" &&
-        "$1" "$top/completions/_cif" 644 "$base/share/zsh/site-functions/_cif" &&
-        "$1" "$top/completions/cif.fish" 644 "$base/share/fish/vendor_completions.d/cif.fish" &&
-        "$1" "$top/man/cif-gtfs.1" 644 "$base/share/man/man1/cif-gtfs.1" &&
-        "$1" "$top/completions/_cif-gtfs" 644 "$base/share/zsh/site-functions/_cif-gtfs" &&
-        each_of_gtfs "$1" cif-gtfs && each_of_gtfs "$1" cif-gtfs-csv || return
-    for module in $modules; do
-        "$1" "$top/gtfs/cif_gtfs/$module.py" 644 "$base/share/cif-gtfs/cif_gtfs/$module.py" || return
+    "$1" "$cif" 755 "$base/bin/cif" || return
+    for file in "$top"/man/*; do
+        "$1" "$file" 644 "$base/share/man/man1/${file##*/}" || return
     done
-}
-
-# each_of_gtfs STEP NAME: the same for a program of gtfs/ and its completions that are found by its name
-each_of_gtfs() {
-    "$1" "$top/gtfs/$2" 755 "$base/bin/$2" &&
-        "$1" "$top/completions/cif-gtfs.bash" 644 "$base/share/bash-completion/completions/$2" &&
-        "$1" "$top/completions/cif-gtfs.fish" 644 "$base/share/fish/vendor_completions.d/$2.fish"
+    for file in "$top"/completions/*; do
+        place=${file##*/}
+        case $place in
+        *.bash) place=bash-completion/completions/${place%.bash} ;;
+        *.fish) place=fish/vendor_completions.d/$place ;;
+        *) place=zsh/site-functions/$place ;;
+        esac
+        "$1" "$file" 644 "$base/share/$place" || return
+    done
+    for file in "$top"/companions/cif-*; do
+        "$1" "$file" 755 "$base/bin/${file##*/}" || return
+    done
+    for file in "$top"/companions/*/*.*; do
+        "$1" "$file" 644 "$base/share/cif/${file#"$top"/companions/}" || return
+    done
 }
 
 report() {

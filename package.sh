@@ -10,7 +10,7 @@
 #
 # PATH_TO_CIF is the built program. Without it, that is crates/cif_tool/out/cif_tool. VERSION is what the program
 # prints. The Debian package depends on the packages of the libraries that `ldd` lists, and recommends Python, which
-# cif-gtfs needs. Every time stamp is that of the program, or SOURCE_DATE_EPOCH, so the same files give the same bytes.
+# the programs of companions/ need. Every time stamp is that of the program, or SOURCE_DATE_EPOCH, so the same files give the same bytes.
 # Debian's base system has all that this needs.
 #
 # If anything fails, the files of FOLDER are as they were before.
@@ -128,8 +128,11 @@ put 755 "$work/$name" "$cif" "$top/install.sh"
 put_documents "$work/$name"
 put 644 "$work/$name/man" "$top"/man/*
 put 644 "$work/$name/completions" "$top"/completions/*
-put 755 "$work/$name/gtfs" "$top/gtfs/cif-gtfs" "$top/gtfs/cif-gtfs-csv"
-put 644 "$work/$name/gtfs/cif_gtfs" "$top"/gtfs/cif_gtfs/*.py
+put 755 "$work/$name/companions" "$top"/companions/cif-*
+for package in "$top"/companions/*/; do
+    package=${package%/}
+    put 644 "$work/$name/companions/${package##*/}" "$package"/*.*
+done
 tar --sort=name --owner=0 --group=0 --numeric-owner --mtime="@$time" -C "$work" -cf "$work/$name.tar" "$name"
 gzip -9n "$work/$name.tar"
 

@@ -1,4 +1,4 @@
-# Completion of cif-gtfs and cif-gtfs-csv for fish. tests/gtfs compares its words with the help that the programs print.
+# Completion of cif-gtfs for fish. tests/gtfs compares its words with the help that the program prints.
 
 complete -c cif-gtfs -l places -r -F -d 'Names and coordinates'
 complete -c cif-gtfs -l operators -r -F -d 'Names of operators'
@@ -7,9 +7,12 @@ complete -c cif-gtfs -l links -r -F -d 'Links between stations'
 complete -c cif-gtfs -l from -x -d 'First date of the window'
 complete -c cif-gtfs -l to -x -d 'Last date of the window'
 complete -c cif-gtfs -l extended-types -d 'Route types for sleepers and replacement buses'
+complete -c cif-gtfs -l whole-trains -d 'No linked trips'
+complete -c cif-gtfs -l publisher -x -d 'Who publishes the feed'
+complete -c cif-gtfs -l url -x -d 'Address of the publisher on the web'
+complete -c cif-gtfs -l email -x -d 'Address of the publisher for mail'
+complete -c cif-gtfs -l trips -r -F -d 'A further file to write, of trips'
 complete -c cif-gtfs -s o -l output -r -F -d 'The zip to write'
 complete -c cif-gtfs -l cif -r -F -d 'The program cif'
 complete -c cif-gtfs -s h -l help -d 'Print help'
-
-complete -c cif-gtfs-csv -n '__fish_is_nth_token 1' -f -a 'naptan-places msn-places msn-interchange alf-links'
-complete -c cif-gtfs-csv -s h -l help -d 'Print help'
+complete -c cif-gtfs -s V -l version -d 'Print version'

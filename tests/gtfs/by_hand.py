@@ -5,8 +5,8 @@ import re
 from datetime import date
 from pathlib import Path
 
-from feeds import Feed
-from validator import ERROR, notices
+from .feeds import Feed
+from .validator import ERROR, notices
 
 HERE = Path(__file__).resolve().parent
 
@@ -58,8 +58,8 @@ def link_text(link):
 def check_dates(counts, want, feed):
     for name in want:
         if found := re.fullmatch(r"(trips|links) on (\d\d)(\d\d)(\d\d)", name):
-            trips, links = feed.on(date(2000 + int(found[2]), int(found[3]), int(found[4])))
-            got = map(trip_text, trips.elements()) if found[1] == "trips" else map(link_text, links)
+            on_date = feed.on(date(2000 + int(found[2]), int(found[3]), int(found[4])))
+            got = map(trip_text, on_date.trips.elements()) if found[1] == "trips" else map(link_text, on_date.links)
             counts.same(f"special.cif by hand, {name}", want[name], sorted(got))
 
 

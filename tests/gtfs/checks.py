@@ -1,18 +1,19 @@
 """What the tests share: counting, running the programs, and looking at a whole feed."""
 import csv
 import subprocess
-import sys
 import zipfile
-from collections import Counter
+from collections import Counter, defaultdict
+from datetime import timedelta
 from pathlib import Path
 
-from definition import days_of, expected, table_rows
-from feeds import EXTENDED_TYPES, TYPES, Feed, Names, active_services, coded, shown
-from validator import ERROR, notices
+from . import network
+from .definition import days_of, expected, table_rows
+from .feeds import EXTENDED_TYPES, TYPES, Feed, Names, active_services, coded, rows_of, shown
+from .journeys import by_definition, by_feed, transfers_of
+from .validator import ERROR, notices
 
-GTFS = Path(__file__).resolve().parents[2] / "gtfs"
-# for the tests of single functions
-sys.path.insert(0, str(GTFS))
+TOP = Path(__file__).resolve().parents[2]
+COMPANIONS = TOP / "companions"
 FILES = ("stop_times", "trips", "calendar_dates", "calendar", "agency", "stops", "routes", "transfers", "feed_info")
 # The warnings that are known: nobody is named who answers for a feed.
 KNOWN_WARNINGS = {"missing_feed_contact_email_and_url"}
@@ -51,7 +52,7 @@ class Maker:
         self.cif, self.folder = cif, folder
 
     def run(self, *words, program="cif-gtfs"):
-        words = [GTFS / program, *(("--cif", self.cif) if program == "cif-gtfs" else ()), *words]
+        words = [COMPANIONS / program, *(("--cif", self.cif) if program == "cif-gtfs" else ()), *words]
         return subprocess.run(words, cwd=self.folder, capture_output=True, text=True, check=False)
 
     def feed(self, *words):
@@ -85,9 +86,9 @@ def first_difference(want, got):
     return f"lacks {list(want - got)[:2]}, has {list(got - want)[:2]}"
 
 
-def left_out_of(text):
-    """How many dates of associations are told to be left out."""
-    return sum(int(line.rpartition(": ")[2]) for line in text.splitlines() if "associations left out" in line)
+def left_out_of(text, what):
+    """How many dates of associations, or of trains, are reported to be left out."""
+    return sum(int(line.rpartition(": ")[2]) for line in text.splitlines() if f"{what} left out" in line)
 
 
 def check_feed(counts, maker, source):
@@ -98,7 +99,7 @@ def check_feed(counts, maker, source):
     write_csv(maker.folder / "places.csv", places)
     names = Names(tiplocs, places)
     for options, types in ((), TYPES), (("--extended-types",), EXTENDED_TYPES):
-        done, files = maker.feed("--places", "places.csv", *options, source.path)
+        done, files = maker.feed("--places", "places.csv", "--trips", "trips.csv", *options, source.path)
         counts.same(f"{name}, status", 0, done.returncode)
         counts.same(f"{name}, the files", FILES, tuple(files))
         found = notices(files)
@@ -107,26 +108,98 @@ def check_feed(counts, maker, source):
         counts.test(f"{name}, warnings", not others, others[:3])
         uids = {coded(uid): uid for day in days.values() for uid in day.trains}
         want = expected(days, types)
-        compare(counts, name, days, Feed(files, uids), names, want)
-        counts.same(f"{name}, associations left out", want[2], left_out_of(done.stderr))
+        feed = Feed(files, uids)
+        compare(counts, name, days, feed, names, want)
+        check_records(counts, name, days, feed, rows_of((maker.folder / "trips.csv").read_text()))
+        counts.same(f"{name}, associations left out", want.left_out, left_out_of(done.stderr, "associations"))
+        not_for_riders = sum(day.not_for_riders for day in days.values())
+        counts.same(f"{name}, trains left out", not_for_riders, left_out_of(done.stderr, "trains"))
 
 
 def compare(counts, name, days, feed, names, want):
     """Date by date what a feed has and what it has to have."""
-    trips, links, _, distinct = want
+
+    def as_shown(contents):
+        return tuple(shown(content, names) for content in contents)
+
     for day in days:
-        got_trips, got_links = feed.on(day)
-        want_trips = {}
-        for content, count in trips[day].items():
-            of_content = shown(content, names)
-            want_trips[of_content] = want_trips.get(of_content, 0) + count
-        want_links = {(shown(one, names), shown(other, names)) for one, other in links[day]}
-        unequal = first_difference(want_trips.items(), got_trips.items())
-        counts.test(f"{name}, trips on {day}", want_trips == dict(got_trips), unequal)
-        counts.test(f"{name}, links on {day}", want_links == got_links, first_difference(want_links, got_links))
+        got = feed.on(day)
+        for what, wanted, found in (
+            ("trips", Counter(as_shown(want.trips[day].elements())), got.trips),
+            ("links", Counter(map(as_shown, want.links[day])), Counter(got.links)),
+            ("blocks", Counter(map(as_shown, want.blocks[day].elements())), got.blocks),
+        ):
+            unequal = first_difference(wanted.items(), found.items())
+            counts.test(f"{name}, {what} on {day}", wanted == found, unequal)
     counts.test(f"{name}, links on no date", not feed.idle_links(days), feed.idle_links(days)[:2])
-    counts.same(f"{name}, the number of distinct trips", len(distinct), len(feed.trips))
+    counts.same(f"{name}, the number of distinct trips", want.distinct, len(feed.trips))
     dates = Counter()
     for service in feed.of_service:
         dates[frozenset(day for day in days if service in active_services(feed.rows, day))] += 1
     counts.test(f"{name}, services", frozenset() not in dates and set(dates.values()) <= {1}, dates.most_common(1))
+
+
+def check_records(counts, name, days, feed, rows):
+    """On each date each trip is of one schedule, which applies on the date of its train."""
+    of_trip, idle = defaultdict(list), {tuple(row.values()) for row in rows}
+    for row in rows:
+        of_trip[row["trip_id"]].append(row)
+    for day in days:
+        wrong = []
+        for trip in feed.running(day):
+            found = [row for row in of_trip[trip] if applies(row, day + timedelta(days=int(row["days_later"])))]
+            idle -= {tuple(row.values()) for row in found}
+            if len(found) != 1 or not is_of_train(found[0], days, day):
+                wrong.append((trip, found))
+        counts.test(f"{name}, schedules of trips on {day}", not wrong, wrong[:2])
+    counts.test(f"{name}, schedules of trips on no date", not idle, list(idle)[:2])
+
+
+def is_of_train(row, days, day):
+    """Whether a row has what the schedule of its train has."""
+    train = days[day + timedelta(days=int(row["days_later"]))].public[row["uid"]].row
+    names = ("first_date", "last_date", "days_run")
+    return [train[field] for field in (*names, "reserved_a")] == [row[field] for field in (*names, "retail_service_id")]
+
+
+def applies(row, day):
+    return row["first_date"] <= day.isoformat() <= row["last_date"] and row["days_run"][day.weekday()] == "1"
+
+
+# ---- earliest arrivals
+
+CHANGE, WALK = 5, 12
+
+
+def check_journeys(counts, maker, source, queries):
+    """Who searches a feed arrives when the definition says, whether the planner knows linked trips, or blocks alone, or none."""
+    days = days_of(source)
+    places = made_places(network.STATIONS)
+    write_csv(maker.folder / "places.csv", places)
+    write_csv(maker.folder / "interchange.csv", [{"crs": crs, "minutes": CHANGE} for crs in network.CRS.values()])
+    walk = {"from": network.CRS["MAIN0"], "to": network.CRS["WEST2"], "minutes": WALK}
+    write_csv(maker.folder / "links.csv", [walk])
+    names = Names(table_rows(source.lines("table", "tiplocs")), places)
+    options = ("--places", "places.csv", "--interchange", "interchange.csv", "--links", "links.csv")
+    uids = {coded(uid): uid for day in days.values() for uid in day.trains}
+    cut, whole = (Feed(maker.feed(*options, *more, source.path)[1], uids) for more in ((), ("--whole-trains",)))
+    counts.same("whole trains, links and blocks", ([], {""}), (whole.links, set(whole.block.values())))
+    change = {names.station(place): CHANGE * 60 for place in network.STATIONS}
+    walks = {names.station("MAIN0"): {names.station("WEST2"): WALK * 60}}
+    counts.same("times of change and links", (change, walks), transfers_of(cut))
+    linked, alone = by_definition(days, names), by_definition(days, names, linked=False)
+    planners = (
+        ("linked trips", linked, by_feed(cut, days), False),
+        ("blocks", alone, by_feed(cut, days, links=False, blocks=True), False),
+        ("whole trains", linked, by_feed(whole, days), True),
+    )
+    later = 0
+    for query in queries:
+        for name, truth, planner, pairs in planners:
+            want = truth.earliest(names.station(query[0]), query[1], change, walks, pairs)
+            got = planner.earliest(names.station(query[0]), query[1], change, walks)
+            unequal = {place: (want.get(place), got.get(place)) for place in {*want, *got} if want.get(place) != got.get(place)}
+            counts.test(f"arrivals from {query} by {name}", want and not unequal, unequal)
+        without = alone.earliest(names.station(query[0]), query[1], change, walks)
+        later += sum(without.get(place) != arrival for place, arrival in want.items())
+    counts.test("arrivals that linked trips bring forward", later > len(queries), later)

@@ -3,6 +3,7 @@
 A day of `cif day` gives trains with all their calls, and associations. The reference of tests/fuzz says which calls are public.
 The table `schedules` of `cif` gives what `day` doesn't show: operator, category, status and sleepers.
 """
+import re
 from collections import Counter, defaultdict, namedtuple
 from datetime import date, timedelta
 
@@ -10,6 +11,7 @@ from reference.public import Call as ReferenceCall
 from reference.public import public_calls
 
 DAY, HOUR = 86400, 3600
+LONGEST_WAIT = 6 * HOUR
 DAYS_LATER = {"": 0, "S": 0, "N": 1, "P": -1}
 SHOWN_BY = {"VV", "JJ", "NP"}
 
@@ -29,17 +31,29 @@ def seconds_of(time):
     return hours * HOUR + minutes * 60 + seconds
 
 
+# The kinds of train, as docs/GTFS.md lists them: the first line that fits says what a train is.
+KINDS = (
+    ("replacement", "category", ("BR",)),
+    ("bus", "category", ("BS",)),
+    ("bus", "status", ("B", "5")),
+    ("ship", "category", ("SS",)),
+    ("ship", "status", ("S", "4")),
+    ("metro", "category", ("OL",)),
+    ("sleeper", "category", ("XZ",)),
+    ("sleeper", "sleepers", ("B", "F", "S")),
+)
+# What isn't for riders: by the category empty stock, staff, post, departmental trains, light locomotives, and freight with its
+# digits; by the status freight.
+NO_RIDERS = re.compile(r"E[ELS]|OS|JJ|P[MPV]|D[DHIQTY]|Z[BZ]|.*[0-9].*")
+
+
 def kind_of(row):
     """The kind of a train by its row of `schedules`."""
-    if row["category"] == "BR":
-        return "replacement"
-    if row["category"] == "BS" or row["status"] in ("B", "5"):
-        return "bus"
-    if row["category"] == "SS" or row["status"] in ("S", "4"):
-        return "ship"
-    if row["category"] == "OL":
-        return "metro"
-    return "sleeper" if row["category"] == "XZ" or row["sleepers"] in ("B", "F", "S") else "rail"
+    return next((kind for kind, field, values in KINDS if row[field] in values), "rail")
+
+
+def is_for_riders(row):
+    return not NO_RIDERS.fullmatch(row["category"]) and row["status"] not in ("F", "T", "2", "3")
 
 
 class Train:
@@ -70,6 +84,11 @@ class Train:
                 return stop
         return None
 
+    def set_way(self, spots):
+        """All its calls: the public ones, and its stops at all places where it has associations on any date."""
+        stops = [stop for stop in (self.stop(*spot) for spot in spots) if stop]
+        self.way = {call.number: call for call in with_stops(self.calls, stops)}
+
 
 class Day:
     """The public trains and the associations of a date."""
@@ -85,7 +104,9 @@ class Day:
                 self.trains[row["uid"]].add(row)
         for train in self.trains.values():
             train.calls = train.public()
-        self.public = {uid: train for uid, train in self.trains.items() if len(train.calls) > 1}
+        with_calls = {uid: train for uid, train in self.trains.items() if len(train.calls) > 1}
+        self.public = {uid: train for uid, train in with_calls.items() if is_for_riders(train.row)}
+        self.not_for_riders = len(with_calls) - len(self.public)
 
 
 def applying(rows, day):
@@ -103,7 +124,17 @@ def days_of(source):
         schedules[row["uid"]].append(row)
     first, last = (date.fromisoformat(header[name]) for name in ("first_date", "last_date"))
     dates = [first + timedelta(days=number) for number in range((last - first).days + 1)]
-    return {day: Day(source, day, schedules) for day in dates}
+    days = {day: Day(source, day, schedules) for day in dates}
+    spots = defaultdict(set)
+    for day in days:
+        for held in held_on(days, day):
+            if held.category in SHOWN_BY:
+                for role, uid in ("base", held.base), ("associated", held.associated):
+                    spots[uid].add(spot_of(held, role))
+    for day in days.values():
+        for uid, train in day.public.items():
+            train.set_way(spots[uid])
+    return days
 
 
 # ---- associations
@@ -123,23 +154,34 @@ def held_on(days, day):
             yield Held(*(row[name] for name in (*names, "base_suffix", "associated_suffix")), day, other)
 
 
+def spot_of(held, role):
+    """Where a train of this role has to stop, and with which record if that matters."""
+    if role == "base":
+        return held.location, held.base_suffix, "LT" if held.category == "NP" else None
+    return held.location, held.associated_suffix, "LT" if held.category == "JJ" else "LO"
+
+
 def can_be_shown(held, days):
-    """Whether the trains are public and the association is where one begins or ends and the other stops, with a ride to link."""
+    """Whether the trains are public, the association is where one begins or ends and the other stops, with a ride to link, and
+    the next train leaves when the first one has arrived, and not long after."""
     if held.associated_day not in days:
         return False
     base = days[held.base_day].public.get(held.base)
     associated = days[held.associated_day].public.get(held.associated)
     if not base or not associated:
         return False
-    at_base = base.stop(held.location, held.base_suffix, "LT" if held.category == "NP" else None)
-    at_associated = associated.stop(held.location, held.associated_suffix, "LT" if held.category == "JJ" else "LO")
-    if not at_base or not at_associated:
+    stops = base.stop(*spot_of(held, "base")), associated.stop(*spot_of(held, "associated"))
+    if not all(stops):
         return False
-    if held.category == "VV":
-        return any(call.number < at_base["number"] for call in base.calls)
+    at_base, at_associated = base.way[stops[0]["number"]], associated.way[stops[1]["number"]]
+    if held.category == "VV" and not any(call.number < at_base.number for call in base.calls):
+        return False
+    if held.category == "JJ" and not any(call.number > at_base.number for call in base.calls):
+        return False
+    later = (held.associated_day - held.base_day).days * DAY
     if held.category == "JJ":
-        return any(call.number > at_base["number"] for call in base.calls)
-    return True
+        return 0 <= at_base.departure - (at_associated.arrival + later) <= LONGEST_WAIT
+    return 0 <= at_associated.departure + later - at_base.arrival <= LONGEST_WAIT
 
 
 def ends_of(held):
@@ -225,14 +267,9 @@ Part = namedtuple("Part", "content first last marks")
 
 def parts_of(uid, train, held, days_later, types):
     """The parts of a train with these associations, each with its role."""
-    stops = {}
-    for association, role in held:
-        record = "LT" if association.category == "NP" else None
-        if role == "associated":
-            record = "LT" if association.category == "JJ" else "LO"
-        suffix = association.base_suffix if role == "base" else association.associated_suffix
-        stops[association, role] = train.stop(association.location, suffix, record)
-    calls = with_stops(train.calls, stops.values())
+    stops = {(association, role): train.stop(*spot_of(association, role)) for association, role in held}
+    numbers = {call.number for call in train.calls} | {stop["number"] for stop in stops.values()}
+    calls = [train.way[number] for number in sorted(numbers)]
     numbers = [call.number for call in calls]
     cuts = {stops[each]["number"] for each in held if each[1] == "base" and each[0].category != "NP"}
     cuts = sorted(cuts - {numbers[0], numbers[-1]})
@@ -255,9 +292,12 @@ def parts_of(uid, train, held, days_later, types):
     return parts
 
 
+# What has to be there: for each date the contents of trips, the links between them, and the parts of each train that is cut; the
+# number of dates on which an association isn't shown, and the number of distinct trips.
+Expected = namedtuple("Expected", "trips links blocks left_out distinct")
+
+
 def expected(days, types):
-    """What has to be there: for each date the contents of trips and the links between them; the number of dates on which an
-    association isn't shown; and the distinct trips, each a content with the associations at its ends."""
     shown, left_out, moved = shown_and_moved(days)
     held = defaultdict(list)
     for association in shown:
@@ -268,22 +308,34 @@ def expected(days, types):
     for day in days:
         for uid, train in days[day].public.items():
             parts[uid, day] = parts_of(uid, train, held[uid, day], int((uid, day) in moved), types)
-    trips, links = {day: Counter() for day in days}, {day: set() for day in days}
+    trips, links, blocks = {day: Counter() for day in days}, {day: set() for day in days}, {day: Counter() for day in days}
     distinct = set()
+    groups = groups_of(shown)
     for (uid, day), of_train in parts.items():
         counts_to = day - timedelta(days=(uid, day) in moved)
-        for part in of_train:
-            trips[counts_to][part.content] += 1
-            distinct.add((part.content, len(of_train) > 1 or bool(part.marks), frozenset(part.marks)))
+        trips[counts_to].update(part.content for part in of_train)
         for one, other in zip(of_train, of_train[1:]):
             links[counts_to].add((one.content, other.content))
+        if len(of_train) > 1:
+            blocks[counts_to][tuple(part.content for part in of_train)] += 1
+        group = group_text(groups[uid, day], parts, held) if (uid, day) in groups else None
+        distinct |= {(part.content, group, number, day != counts_to) for number, part in enumerate(of_train)}
     for association in shown:
         base, associated = ends_of(association)
         one, other = (associated, base) if association.category == "JJ" else (base, associated)
         ending = part_at(parts[one], association, "associated" if one is associated else "base")
         beginning = part_at(parts[other], association, "associated" if other is associated else "base")
         links[base[1] - timedelta(days=base in moved)].add((ending.content, beginning.content))
-    return trips, links, left_out, distinct
+    return Expected(trips, links, blocks, left_out, len(distinct))
+
+
+def group_text(group, parts, held):
+    """What trains that are linked have alike on all dates on which they are linked so: all their calls, and what links them."""
+    first = min(day for _, day in group)
+    trains = frozenset((uid, day - first, tuple(part.content for part in parts[uid, day])) for uid, day in group)
+    return trains, frozenset(
+        (association[:7], association.base_day - first) for end in group for association, _ in held[end]
+    )
 
 
 def part_at(parts, association, role):

@@ -1,15 +1,25 @@
 """What is refused, that a failure leaves nothing, and what stays the same from run to run."""
+import gzip
 import io
 import os
 import pty
+import shutil
 import signal
+import stat
 import subprocess
 import time
+import zipfile
 from collections import defaultdict
+from datetime import date, timedelta
 
-from checks import GTFS, Maker
-from feeds import Feed
-from by_hand import uids_of
+from cif_gtfs import trips
+from cif_gtfs.trains import about_of
+from cif_shared.endings import Refused
+from cif_shared.tables import rows_with
+
+from .checks import COMPANIONS, TOP, Maker
+from .feeds import Feed, active_services
+from .by_hand import uids_of
 
 # A file of each kind, with what is told of it.
 BAD_FILES = {
@@ -20,7 +30,13 @@ BAD_FILES = {
         ",Gamma,51.5,0.5\n"
         "DELTA,Delta,north,181\n"
         "ALPHA,Again,1,1\n"
-        "OMEGA,Omega\n",
+        "OMEGA,Omega\n"
+        'THETA,"The\nta",51,0\n'
+        "IOTA,Io\x7fta,51,0\n"
+        "KAPPA,Kappa,.9,-1\n"
+        "MU,Mu,-89.5,3\n"
+        "NU,Nu,-.5,+60.\n"
+        'XI,"Xi\n\n",-.5\n',
         (
             "line 2: latitude `91` isn't a number of degrees from -90 to 90",
             "line 3: longitude is missing",
@@ -29,14 +45,24 @@ BAD_FILES = {
             "line 5: longitude `181` isn't a number of degrees from -180 to 180",
             "line 6: ALPHA is double: line 2 has it too",
             "line 7: 2 fields, and the first line has 4",
+            "line 8: name `The?ta` has a line break or another control character",
+            "line 10: name `Io?ta` has a line break or another control character",
+            "line 11: `0.9`, `-1` is near 0, 0, where no railway is",
+            "line 12: latitude `-89.5` is at a pole",
+            "line 14: 3 fields, and the first line has 4",
         ),
     ),
     "operators": (
-        "operator_code,name,url\nSN,,www.southern.example\nSN,Southern,\n",
+        "operator_code,name,url\nSN,,www.southern.example\nSN,Southern,\n"
+        "A1,A,https://?query\nA2,A,https://-a.example/\nA3,A,http://host:x/\nA4,A,http://localhost\n",
         (
             "line 2: name is missing",
-            "line 2: url `www.southern.example` isn't an address that begins with http:// or https://",
+            "line 2: url `www.southern.example` isn't an address of the web such as https://www.example.com/",
             "line 3: SN is double: line 2 has it too",
+            *(
+                f"line {line}: url `{url}` isn't an address of the web such as https://www.example.com/"
+                for line, url in enumerate(("https://?query", "https://-a.example/", "http://host:x/", "http://localhost"), 4)
+            ),
         ),
     ),
     "interchange": (
@@ -56,16 +82,28 @@ BAD_HEADINGS = {
     "places": ("tiploc,name,latitude\n", ("line 1: the field longitude is missing",)),
     "links": ("from,to,minutes,to\n", ("line 1: the field to is double",)),
     "operators": ("", tuple(f"line 1: the field {name} is missing" for name in ("operator_code", "name", "url"))),
-    "interchange": ('crs,minutes\nALP,"5\n', ("line 3: this is no CSV in UTF-8: unexpected end of data",)),
+    "interchange": ('crs,minutes\nALP,5\nBET,"5\n\n', ("line 3: this is no CSV: unexpected end of data",)),
 }
+HEADING = b"tiploc,name,latitude,longitude\n"
+# What isn't a file of places at all.
+OTHER_FILES = {
+    "not UTF-8": (HEADING + b"ALPHA,Alph\xe4,,\n", "line 2: this is no CSV in UTF-8: invalid continuation byte"),
+    "a byte 0": (HEADING + b"ALPHA,,,\nBETA,B\0,,\n", "line 3: this is no text: it has a byte 0"),
+    "a long line": (HEADING + b"A" * 70000, "line 2: the line or the file is too long: this is another file"),
+    "many mistakes": (HEADING + b"ALPHA,A,x,\n" * 30, None),
+}
+
+EXAMPLES = TOP / "examples"
 
 # Stands for cif: it does what cif does, but fails, waits or ends in the middle of a table.
 FAILING = """\
 #!/bin/sh
-if [ "$2" = {table} ]; then
-    "{cif}" "$@" | head -c 700
+case " $* " in
+*" {table} "*)
+    "{cif}" "$@" 2> /dev/null | head -c 700
     {then}
-fi
+    ;;
+esac
 exec "{cif}" "$@"
 """
 
@@ -93,20 +131,130 @@ def check_user_files(counts, maker, special):
             (maker.folder / "bad.csv").write_text(text)
             lines = [f"cif-gtfs: bad.csv: {line}" for line in told]
             refused(counts, maker, f"a bad file of {kind}", 3, lines, f"--{kind}", "bad.csv", special)
+            # one that isn't there
             missing = ["cif-gtfs: missing.csv: No such file or directory"]
             refused(counts, maker, f"a missing file of {kind}", 4, missing, f"--{kind}", "missing.csv", special)
 
 
+def check_other_files(counts, maker, special):
+    for name, (data, told) in OTHER_FILES.items():
+        (maker.folder / "bad.csv").write_bytes(data)
+        lines = None if told is None else [f"cif-gtfs: bad.csv: {told}"]
+        refused(counts, maker, f"a file with {name}", 3, lines, "--places", "bad.csv", special)
+    done = maker.run("--places", "bad.csv", special)
+    lines = done.stderr.splitlines()
+    counts.test("many mistakes", len(lines) == 21 and lines[-1] == "cif-gtfs: bad.csv: and 39 more", lines[-3:])
+    endless = ["cif-gtfs: /dev/zero: line 1: the line or the file is too long: this is another file"]
+    refused(counts, maker, "an endless file", 3, endless, "--places", "/dev/zero", special)
+
+
+def check_outputs(counts, maker, special):
+    """An output is a file, or a link to one, and what was there stays if it isn't."""
+    folder = maker.folder
+    os.mkfifo(folder / "fifo")
+    (folder / "folder").mkdir()
+    others = ["fifo", "folder", "folder/", "missing/", "-", ""]
+    if os.geteuid() == 0:
+        os.mknod(folder / "device", 0o666 | stat.S_IFCHR, os.makedev(1, 3))
+        others.append("device")
+    kinds = {path.name: path.stat().st_mode for path in folder.iterdir()}
+    for output in others:
+        refused(counts, maker, f"the output {output!r}", 2, None, "-o", output, special)
+        refused(counts, maker, f"the trips {output!r}", 2, None, "--trips", output, special)
+    counts.same("what wasn't a file stays", kinds, {path.name: path.stat().st_mode for path in folder.iterdir()})
+    refused(counts, maker, "two outputs in one place", 2, None, "-o", "one", "--trips", "./one", special)
+    for output in others:
+        if output in ("fifo", "device"):
+            (folder / output).unlink()
+    (folder / "target.zip").write_text("older")
+    (folder / "target.zip").chmod(0o640)
+    (folder / "folder" / "link.zip").symlink_to("../target.zip")
+    maker.run("-o", "folder/link.zip", special)
+    counts.test("a link stays", (folder / "folder" / "link.zip").is_symlink())
+    counts.test("the file behind a link is replaced", zipfile.is_zipfile(folder / "target.zip"))
+    counts.same("the mode of a file that is replaced", 0o640, stat.S_IMODE((folder / "target.zip").stat().st_mode))
+
+
+def check_wanted(counts, maker, special):
+    """An older list of places without coordinates goes when no place is without, but not if somebody has filled it in."""
+    folder = maker.folder / "folder"
+    wanted = folder / "places-wanted.csv"
+    counts.test("places are wanted beside the name that is given", wanted.exists())
+    places = maker.folder / "all.csv"
+    names = [line.partition(",")[0] for line in wanted.read_text().splitlines()[1:]]
+    places.write_text("tiploc,name,latitude,longitude\n" + "".join(f"{name},,51,-.5\n" for name in names))
+    filled = wanted.read_text().replace(",,\n", ",51,0\n")
+    unfilled, _ = wanted.read_text(), wanted.write_text(filled)
+    told = ["cif-gtfs: folder/places-wanted.csv has been filled in: rename it, and give it by --places"]
+    refused(counts, maker, "a list that is filled in", 2, told, "-o", "folder/feed.zip", special)
+    counts.same("a list that is filled in stays", filled, wanted.read_text())
+    wanted.write_text(unfilled)
+    done = maker.run("-o", "folder/feed.zip", "--places", places, special)
+    counts.same("no place is wanted", (0, False), (done.returncode, wanted.exists()))
+    shutil.rmtree(folder)
+    for name in "all.csv", "target.zip":
+        (maker.folder / name).unlink()
+
+
+def check_pipes(counts, maker, special):
+    """An extract from standard input, or from a pipe, makes the same feed."""
+    want = maker.feed(special)[1]
+    feed = maker.folder / "feed.zip"
+    for name in "-", "/dev/stdin":
+        feed.unlink()
+        words = [COMPANIONS / "cif-gtfs", "--cif", maker.cif, "-o", feed, name]
+        done = subprocess.run(words, input=special.read_bytes(), capture_output=True, cwd=maker.folder, check=False)
+        counts.same(f"an extract from {name}, status", 1, done.returncode)
+        with zipfile.ZipFile(feed) as archive:
+            got = {entry.removesuffix(".txt"): archive.read(entry).decode() for entry in archive.namelist()}
+        counts.test(f"an extract from {name}", want == got)
+    feed.unlink()
+    (maker.folder / "places-wanted.csv").unlink()
+
+
+def check_hints(counts, maker, special):
+    """What cif says of an input that isn't an extract helps."""
+    packed, update = maker.folder / "packed.gz", EXAMPLES / "update.cif"
+    packed.write_bytes(gzip.compress(special.read_bytes()))
+    for path, hint in (packed, "decompress it"), (EXAMPLES / "published.cif", "cif prepare"), (update, "cif update"):
+        done = maker.run(path)
+        counts.test(f"{path.name} is refused with a hint", done.returncode == 3 and hint in done.stderr, done.stderr)
+
+
+def check_space(counts, maker, special):
+    """Where temporary files can't be written, their folder is named."""
+    temporary = maker.folder / "temporary"
+    temporary.mkdir()
+    limited = 'ulimit -f 2; TMPDIR=$1; export TMPDIR; shift; exec "$@"'
+    words = ["sh", "-c", limited, "sh", temporary, COMPANIONS / "cif-gtfs", "--cif", maker.cif, special]
+    done = subprocess.run(words, capture_output=True, text=True, cwd=maker.folder, check=False)
+    counts.same("no space", (4, f"cif-gtfs: {temporary}: File too large\n"), (done.returncode, done.stderr))
+    counts.same("no space, what is left", [], sorted(temporary.iterdir()))
+    temporary.rmdir()
+
+
+def check_publisher(counts, maker, special):
+    words = ("--publisher", "Acme, Feeds", "--url", "https://acme.example/x?y", "--email", "feeds@acme.example")
+    [about] = maker.feed(*words, special)[1]["feed_info"].splitlines()[1:]
+    counts.test("the publisher", about.startswith('"Acme, Feeds",https://acme.example/x?y,'), about)
+    counts.test("the publisher's mail", about.endswith(",feeds@acme.example"), about)
+    for option, bad in ("--publisher", "a\nb"), ("--url", "acme.example"), ("--email", "acme"), ("--email", "a b@c.example"):
+        refused(counts, maker, f"{option} {bad!r}", 2, None, option, bad, special)
+
+
 def check_words(counts, maker, special):
-    for words in (), (special, special), ("--form", "1", special), ("--fro", "260105", special), ("-",), (".",):
+    for words in (), (special, special), ("--form", "1", special), ("--fro", "260105", special), (".",):
         refused(counts, maker, f"the words {words}", 2, None, *words)
     wanted = maker.folder / "places-wanted.csv"
     wanted.write_text("tiploc,name,latitude,longitude\n")
     for words in ("-o", special, special), ("-o", "gtfs.zip", "--places", wanted, special):
         refused(counts, maker, f"an output in the place of an input, {words[1]}", 2, None, *words)
     wanted.unlink()
-    refused(counts, maker, "a bad date", 2, ["cif: bad date"], "--from", "260230", special)
-    refused(counts, maker, "a date outside the window", 3, ["cif: OutsideWindow"], "--to", "260126", special)
+    for word in "260230", "":
+        told = ["cif: bad date", f"  '{word}': must be a valid date as six digits, YYMMDD"]
+        refused(counts, maker, f"the date {word!r}", 2, told, "--from", word, special)
+    told = ["cif: OutsideWindow", f"  {special} has the window 260105 to 260125"]
+    refused(counts, maker, "a date outside the window", 3, told, "--to", "260126", special)
 
 
 def check_failures(counts, maker, special):
@@ -116,8 +264,9 @@ def check_failures(counts, maker, special):
     kept = ("HD", "TI", "ZZ")
     goods = [at for at, line in enumerate(lines) if line.startswith("BSNL00001")][0]
     freight.write_text("".join([line for line in lines if line.startswith(kept)][:-1] + lines[goods : goods + 4] + lines[-1:]))
-    refused(counts, maker, "a refused extract", 3, [f"cif: line {len(lines)}: Truncated"], bad)
-    refused(counts, maker, "a missing extract", 4, ["cif: ReadFault"], "missing.cif")
+    truncated = [f"cif: line {len(lines)}: Truncated", f"  in {bad}", "  the input ends before its trailer, ZZ"]
+    refused(counts, maker, "a refused extract", 3, truncated, bad)
+    refused(counts, maker, "a missing extract", 4, ["cif-gtfs: missing.cif: No such file or directory"], "missing.cif")
     refused(counts, maker, "no public train", 3, [f"cif-gtfs: {freight} has no public train in its window"], freight)
     refused(counts, maker, "no folder for the zip", 4, None, "-o", "missing/gtfs.zip", special)
     refused(counts, maker, "no program cif", 4, None, "--cif", "./missing", special)
@@ -141,7 +290,12 @@ def check_failing_cif(counts, maker, special, table):
     failing = failing_cif(maker, table, "echo 'cif: Memory' >&2; exit 4")
     refused(counts, failing, f"cif fails at {table}", 4, ["cif: Memory"], special)
     failing = failing_cif(maker, table, "kill -KILL $$")
-    refused(counts, failing, f"cif is killed at {table}", 4, None, special)
+    killed = [f"cif was killed by SIGKILL: {failing.cif}"]
+    refused(counts, failing, f"cif is killed at {table}", 4, killed, special)
+    for status in 1, 7:
+        failing = failing_cif(maker, table, f"exit {status}")
+        ended = [f"cif ended with status {status}, which isn't one of its faults: {failing.cif}"]
+        refused(counts, failing, f"cif ends with {status} at {table}", 4, ended, special)
 
 
 def check_changed(counts, maker, special):
@@ -158,28 +312,28 @@ def check_signals(counts, maker, special):
     failing = failing_cif(maker, "public", "exec sleep 60")
     before = left(maker)
     for number in signal.SIGTERM, signal.SIGINT:
-        process = subprocess.Popen([GTFS / "cif-gtfs", "--cif", failing.cif, special], cwd=maker.folder, stderr=subprocess.PIPE)
+        process = subprocess.Popen([COMPANIONS / "cif-gtfs", "--cif", failing.cif, special], cwd=maker.folder, stderr=subprocess.PIPE)
         for _ in range(1200):
             if left(maker) != before:
                 break
             time.sleep(0.05)
         process.send_signal(number)
         _, told = process.communicate(timeout=30)
-        counts.same(f"stopped by {number.name}", (4, b"cif-gtfs: stopped by a signal\n"), (process.returncode, told))
+        counts.same(f"stopped by {number.name}", (4, f"cif-gtfs: interrupted by {number.name}\n".encode()), (process.returncode, told))
         counts.same(f"stopped by {number.name}, what is left", before, left(maker))
 
 
 def check_terminal(counts, maker, special):
     """On a terminal it tells how far it is, and ends with a clear line."""
     ours, theirs = pty.openpty()
-    words = [GTFS / "cif-gtfs", "--cif", maker.cif, special]
+    words = [COMPANIONS / "cif-gtfs", "--cif", maker.cif, special]
     process = subprocess.Popen(words, cwd=maker.folder, stderr=theirs)
     os.close(theirs)
     told = b""
     while block := read_terminal(ours):
         told += block
     process.wait()
-    counts.test("on a terminal", b"reading calls: 100 %" in told and b"\r\x1b[Kcif-gtfs: " in told, told)
+    counts.test("on a terminal", b"reading calls: " in told and b"writing the other files\r" in told and b"\r\x1b[Kcif-gtfs: " in told, told)
 
 
 def read_terminal(device):
@@ -199,6 +353,12 @@ def ids_by_shown(files):
     return feed, found
 
 
+def dates_of(feed, service):
+    """The dates of a service from 1 to 31 January 2026."""
+    days = [date(2026, 1, 1) + timedelta(days=number) for number in range(31)]
+    return frozenset(day for day in days if service in active_services(feed.rows, day))
+
+
 def check_windows(counts, maker, special):
     """In another window the same trips have the same ids, and so have linked ones that no end of the window touches."""
     whole, in_whole = ids_by_shown(maker.feed(special)[1])
@@ -206,6 +366,11 @@ def check_windows(counts, maker, special):
     both = in_part.keys() & in_whole.keys()
     counts.test("ids in another window", len(both) > 9 and all(in_part[trip] == in_whole[trip] for trip in both), in_part)
     counts.test("linked trips in another window", len(part.links) > 5 and set(part.links) <= set(whole.links), part.links)
+    ids = [{row["service_id"]: dates_of(feed, row["service_id"]) for row in feed.rows["trips"]} for feed in (whole, part)]
+    both = ids[0].keys() & ids[1].keys()
+    counts.test("services in another window", len(both) > 5 and all(ids[0][name] == ids[1][name] for name in both), both)
+    same = [name for name, dates in ids[1].items() if dates in ids[0].values()]
+    counts.test("services with the same dates in another window", both == set(same), both)
     [about] = part.rows["feed_info"]
     counts.same("the dates of a part", ("20260107", "20260119"), (about["feed_start_date"], about["feed_end_date"]))
 
@@ -221,20 +386,16 @@ def check_again(counts, maker, special):
 
 def check_collision(counts):
     """Two trips of a train with one id are refused, which needs shorter ids than there are."""
-    from cif_gtfs import trips
-    from cif_gtfs.problems import REFUSED, Problem
-    from cif_gtfs.trains import Train
-
-    train, found = Train("1", " 00001", 1, "1A01", "SN", 2), trips.TripsOfUid(" 00001")
+    about, found = about_of("1A01", "SN", 2), trips.TripsOfUid(" 00001")
     length, trips.ID_BYTES = trips.ID_BYTES, 1
     try:
         for number in range(300):
             rows = [b"ALPHA\t%d\t09:00:00\t09:00:00\t1\t0\n" % number, b"BETA\t1\t10:00:00\t10:00:00\t0\t1\n"]
-            found.add(train, rows, 1)
+            found.add(about, rows)
         counts.test("two trips with one id", False, "they are taken")
-    except Problem as problem:
-        told = problem.text.startswith("cif-gtfs: two trips of the train  00001 have the id _00001-")
-        counts.test("two trips with one id", told and problem.status == REFUSED, problem.text)
+    except Refused as refused_trip:
+        told = refused_trip.lines[0].startswith("two trips of the train  00001 have the id _00001-")
+        counts.test("two trips with one id", told, refused_trip.lines)
     finally:
         trips.ID_BYTES = length
     counts.test("the length of ids", length >= 5, length)
@@ -242,14 +403,18 @@ def check_collision(counts):
 
 def check_blocks(counts):
     """The rows of some schedules are the same in blocks of any size."""
-    from cif_gtfs.extract import rows_of
-
-    rows = [b"%d\t%d\tcall" % (schedule, call) for schedule in range(1, 130) for call in range(schedule % 7)]
+    rows = [
+        b"%d\t%d\tLO\t%s\t%s" % (schedule, call, b"AB"[call % 2 :][:1], b"AB"[schedule % 2 :][:1])
+        for schedule in range(1, 130)
+        for call in range(1 + schedule % 7)
+    ]
     for wanted in ([1, 2, 5, 8, 9, 10, 11, 99, 100, 101, 128, 129], [129], [1], [6], list(range(1, 130)), []):
-        want = [row for row in rows if int(row.split(b"\t")[0]) in wanted]
+        texts = {b"%d" % number: {b"A", b"none"} if number % 3 else {b"A", b"B"} for number in wanted}
+        cells = ((row, row.split(b"\t")) for row in rows)
+        want = [row for row, cell in cells if cell[3] in texts.get(cell[0], ())]
         for size in (1, 7, 16, 40, 100, 1000, 10**6):
             table = io.BytesIO(b"".join(row + b"\n" for row in rows))
-            got = list(rows_of(table, [b"%d" % number for number in wanted], size))
+            got = list(rows_with(table, 3, texts, size))
             counts.test(f"rows of {len(wanted)} schedules in blocks of {size}", want == got, got[:5])
 
 
@@ -258,8 +423,15 @@ def check(counts, maker, special):
     folder.mkdir()
     maker = Maker(maker.cif, folder)
     check_user_files(counts, maker, special)
+    check_other_files(counts, maker, special)
     check_words(counts, maker, special)
+    check_outputs(counts, maker, special)
+    check_wanted(counts, maker, special)
+    check_pipes(counts, maker, special)
     check_failures(counts, maker, special)
+    check_hints(counts, maker, special)
+    check_space(counts, maker, special)
+    check_publisher(counts, maker, special)
     check_changed(counts, maker, special)
     check_signals(counts, maker, special)
     check_terminal(counts, maker, special)

@@ -3,8 +3,8 @@ import csv
 import io
 from collections import Counter, defaultdict, namedtuple
 
-from definition import seconds_of
-from validator import WEEKDAYS
+from .definition import seconds_of
+from .validator import WEEKDAYS
 
 TYPES = {"rail": "2", "sleeper": "2", "metro": "1", "bus": "3", "replacement": "3", "ship": "4"}
 EXTENDED_TYPES = {**TYPES, "sleeper": "105", "replacement": "714"}
@@ -80,6 +80,10 @@ def active_services(feed, day):
     return active
 
 
+# What a feed has on a date.
+OnDate = namedtuple("OnDate", "trips links blocks")
+
+
 class Feed:
     """A feed by its rows, with the UIDs of its trains by the texts that ids have of them."""
 
@@ -91,13 +95,14 @@ class Feed:
             call = (int(row["stop_sequence"]), row["stop_id"], *times, row["drop_off_type"], row["pickup_type"])
             calls[row["trip_id"]].append(call)
         routes = {row["route_id"]: row for row in self.rows["routes"]}
-        self.trips, self.of_service = {}, defaultdict(list)
+        self.trips, self.of_service, self.block = {}, defaultdict(list), {}
         for row in self.rows["trips"]:
             route = routes[row["route_id"]]
             ends = tuple(row["route_id"].split("-")[-2:])
             about = (route["agency_id"], route["route_type"], ends, row["direction_id"], row["trip_headsign"])
             of_trip = tuple(call[1:] for call in sorted(calls[row["trip_id"]]))
             name = row["trip_id"]
+            self.block[name] = row["block_id"]
             self.trips[name] = Shown(uids[name.rpartition("-")[0]], row["trip_short_name"], *about, of_trip)
             self.of_service[row["service_id"]].append(name)
         self.links = [
@@ -113,8 +118,17 @@ class Feed:
         """The ids of the trips of a date."""
         return {name for service in active_services(self.rows, day) for name in self.of_service[service]}
 
+    def span(self, name):
+        """When a trip leaves its first stop and arrives at its last."""
+        calls = self.trips[name].calls
+        return calls[0][2], calls[-1][1]
+
     def on(self, day):
-        """The trips of a date, and the links whose trips both run on it."""
+        """What is there on a date: the trips, the links whose trips both run on it, and the trips of each block in order."""
         names = self.running(day)
         links = {(self.trips[one], self.trips[other]) for one, other in self.links if {one, other} <= names}
-        return Counter(self.trips[name] for name in names), links
+        blocks = defaultdict(list)
+        for name in sorted(names, key=self.span):
+            if self.block[name]:
+                blocks[self.block[name]].append(self.trips[name])
+        return OnDate(Counter(self.trips[name] for name in names), links, Counter(map(tuple, blocks.values())))

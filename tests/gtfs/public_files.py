@@ -1,20 +1,24 @@
-"""The files that cif-gtfs-csv makes of made-up public ones, whose layouts are those of gtfs/cif_gtfs/public_files.py."""
+"""The files that cif-gtfs-csv makes of made-up public ones, whose layouts are those of companions/cif_gtfs_csv."""
 import csv
 import io
 from pathlib import Path
 
 NAPTAN = """\
-ATCOCode,NaptanCode,CommonName,Street,Longitude,Latitude,StopType
-0100BRP90310,bstgwpa,Temple Meads Stn,Redcliffe Way,-2.58569,51.44902,BCT
-9100VICTRIC,,London Victoria Rail Station,"Terminus Place, Victoria",-0.14453,51.49520,RLY
-9100CLPHMJC,,Clapham Junction Rail Station,,-0.17040,51.46421,RLY
-9100NOWHERE,,Nowhere Rail Station,,,,RLY
-9100BRGHTN,,"Brighton, the Station",,-0.14102,50.82906,RLY
-9100VICTRIC,,Again,,1,1,RLY
+ATCOCode,NaptanCode,CommonName,Street,GridType,Easting,Northing,Longitude,Latitude,StopType
+0100BRP90310,bstgwpa,Temple Meads Stn,Redcliffe Way,,,,-2.58569,51.44902,BCT
+9100VICTRIC,,London Victoria Rail Station,"Terminus Place, Victoria",UKOS,1,1,-0.14453,51.49520,RLY
+9100CLPHMJC,,Clapham Junction Rail Station,,,,,-0.17040,51.46421,RLY
+9100NOWHERE,,Nowhere Rail Station,,,,,,,RLY
+9100BRGHTN,,"Brighton, the Station",,,,,-0.14102,50.82906,RLY
+9100VICTRIC,,Again,,,,,1,1,RLY
+9100CAISTER,,Caister,,UKOS,651410,313177,,,RLY
+9100BELFAST,,Belfast,,IrishOS,333700,374000,,,RLY
 """
 OF_NAPTAN = """\
 tiploc,name,latitude,longitude
+BELFAST,Belfast,,
 BRGHTN,"Brighton, the Station",50.82906,-0.14102
+CAISTER,Caister,52.65798,1.71605
 CLPHMJC,Clapham Junction,51.46421,-0.17040
 NOWHERE,Nowhere,,
 VICTRIC,London Victoria,51.49520,-0.14453
@@ -46,8 +50,9 @@ M=WALK,O=EUS,D=KGX,T=10,S=0001,E=2359,P=4,R=1111111
 M=TUBE,O=EUS,D=KGX,T=12,S=0600,E=2359,P=5,R=1111100,F=01/02/2026,U=02/03/2026
 M=WALK,O=KGX,D=EUS,T=10,S=0001,E=2359,P=4,R=1111111
 M=WALK,O=KGX,D=KGX,T=3,S=0001,E=2359,P=4,R=1111111
+M=TUBE,O=WAT,D=EUS,T=25,S=0600,E=2359,P=5,R=1111100
 """
-LINKS = "from,to,minutes\nEUS,KGX,12\nKGX,EUS,10\n"
+LINKS = "from,to,minutes\nEUS,KGX,12\nEUS,WAT,25\nKGX,EUS,10\nWAT,EUS,25\n"
 
 # A point whose coordinates the Ordnance Survey's guide to its grid has, from memory: on the grid, and on the grid's datum.
 POINT, ON_AIRY = (651409.903, 313177.270), (52 + 39 / 60 + 27.2531 / 3600, 1 + 43 / 60 + 4.5177 / 3600)
@@ -63,9 +68,10 @@ def with_record(*fields):
 BAD = {
     "naptan-places": (
         ("ATCOCode,CommonName,Longitude\n", "line 1: the field Latitude is missing or double"),
-        (NAPTAN + "9100HOVE,,Hove,,-0.2,ninety,RLY\n", "line 8: Latitude `ninety` isn't a number of degrees from -90 to 90"),
-        (NAPTAN + "9100HOVE,,Hove,,-0.2,,RLY\n", "line 8: one of Longitude and Latitude is missing"),
-        (NAPTAN + "9100HOVE,,Hove\n", "line 8: 3 fields, and the first line has 7"),
+        (NAPTAN + "9100HOVE,,Hove,,,,,-0.2,ninety,RLY\n", "line 10: Latitude `ninety` isn't a number of degrees from -90 to 90"),
+        (NAPTAN + "9100HOVE,,Hove,,,,,-0.2,,RLY\n", "line 10: one of Longitude and Latitude is missing"),
+        (NAPTAN + "9100HOVE,,Hove\n", "line 10: 3 fields, and the first line has 10"),
+        (NAPTAN + "9100HOVE,,Hove,,,1,east,,,RLY\n", "line 10: Northing `east` isn't a number of metres"),
     ),
     "msn-places": (
         (with_record("", "HOV", "15288", "61055", 5), "line 8: the TIPLOC is missing"),
@@ -78,8 +84,8 @@ BAD = {
         (with_record("HOVE", "HOV", "15288", "61055", ""), "line 8: minimum time of change `` isn't one or two digits"),
     ),
     "alf-links": (
-        (ALF + "M=WALK,O=EUS,T=10\n", "line 6: D= isn't a CRS code"),
-        (ALF + "M=WALK,O=EUS,D=KGX,T=ten\n", "line 6: T= isn't minutes"),
+        (ALF + "M=WALK,O=EUS,T=10\n", "line 7: D= isn't a CRS code"),
+        (ALF + "M=WALK,O=EUS,D=KGX,T=ten\n", "line 7: T= isn't minutes"),
     ),
 }
 
@@ -97,7 +103,7 @@ def check_places_of_master(counts, text):
 def check_grid(counts):
     from math import degrees
 
-    from cif_gtfs.grid import latitude_and_longitude, on_airy
+    from cif_gtfs_csv.grid import latitude_and_longitude, on_airy
 
     for name, want, got, near in (
         ("on the grid's datum", ON_AIRY, tuple(map(degrees, on_airy(*POINT))), 0.00000001),
@@ -118,7 +124,7 @@ def check(counts, maker):
         for bad, told in BAD[kind]:
             (maker.folder / "bad").write_text(bad)
             done = maker.run(kind, "bad", program="cif-gtfs-csv")
-            counts.same(f"{kind}, {told}", (3, "", f"cif-gtfs: bad: {told}\n"), (done.returncode, done.stdout, done.stderr))
+            counts.same(f"{kind}, {told}", (3, "", f"cif-gtfs-csv: bad: {told}\n"), (done.returncode, done.stdout, done.stderr))
     for kind, want in ("naptan-places", OF_NAPTAN), ("msn-interchange", INTERCHANGE), ("alf-links", LINKS):
         counts.same(kind, want, outputs[kind])
     check_places_of_master(counts, outputs["msn-places"])

@@ -37,7 +37,7 @@ OPTIONAL = {
         **{"parent_station": ANY, "platform_code": ANY},
     },
     "routes": {"route_short_name": ANY, "route_long_name": ANY},
-    "trips": {"trip_headsign": ANY, "trip_short_name": ANY, "direction_id": "0|1"},
+    "trips": {"trip_headsign": ANY, "trip_short_name": ANY, "direction_id": "0|1", "block_id": ANY},
     "stop_times": {"arrival_time": TIME, "departure_time": TIME, "pickup_type": "[0-3]", "drop_off_type": "[0-3]"},
     "calendar": {},
     "calendar_dates": {},
@@ -270,8 +270,38 @@ def check_transfers(feed):
                 feed.note(WARNING, "transfer_with_suspicious_mid_trip_in_seat", row)
             if len({place_of(feed, end["stop_id"]) for end in ends}) > 1:
                 feed.note(ERROR, "linked_trips_at_different_places", row)
+            if seconds_of(ends[0]["arrival_time"]) > seconds_of(ends[1]["departure_time"]):
+                feed.note(ERROR, "link_back_in_time", row)
         if None not in stops and kilometres(*stops) > FARTHEST:
             feed.note(WARNING, "transfer_distance_too_large", row)
+
+
+def check_continuations(feed):
+    """Where a trip goes on as several, or several as one, all these have one service."""
+    service = {row["trip_id"]: row["service_id"] for row in feed.all("trips")}
+    for field, other in ("from_trip_id", "to_trip_id"), ("to_trip_id", "from_trip_id"):
+        services = defaultdict(set)
+        for row in feed.all("transfers"):
+            if row["transfer_type"] == "4":
+                services[row[field]] |= {service.get(row[other]), service.get(row[field])}
+        several = [name for name, found in services.items() if len(found) > 1]
+        feed.note(ERROR, "linked_trips_of_other_services", *several)
+
+
+def check_blocks(feed):
+    """Trips of a block that run on one date don't overlap. Here they have one service."""
+    blocks = defaultdict(list)
+    for row in feed.all("trips"):
+        if row.get("block_id"):
+            calls = sorted(feed.calls[row["trip_id"]], key=number_of)
+            span = seconds_of(calls[0]["departure_time"]), seconds_of(calls[-1]["arrival_time"])
+            blocks[row["block_id"]].append((*span, row["service_id"], row["route_id"]))
+    for name, trips in blocks.items():
+        trips.sort()
+        if any(one[1] > other[0] for one, other in zip(trips, trips[1:])):
+            feed.note(ERROR, "block_trips_with_overlapping_stop_times", name)
+        if len({(service, route) for _, _, service, route in trips}) > 1 or len(trips) < 2:
+            feed.note(ERROR, "block_of_other_services_or_of_one_trip", name)
 
 
 def number_of(row):
@@ -294,7 +324,10 @@ def check_about(feed):
         feed.note(ERROR, "more_than_one_entity", "feed_info")
 
 
-CHECKS = (check_keys, check_references, check_stops, check_routes, check_trips, check_services, check_transfers, check_about)
+CHECKS = (
+    *(check_keys, check_references, check_stops, check_routes, check_trips, check_services),
+    *(check_transfers, check_continuations, check_blocks, check_about),
+)
 
 
 def notices(files):

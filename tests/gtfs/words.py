@@ -3,9 +3,8 @@ import re
 import subprocess
 from pathlib import Path
 
-from checks import GTFS
+from .checks import COMPANIONS, TOP
 
-TOP = Path(__file__).resolve().parents[2]
 WIDTH = 80
 PROGRAMS = ("cif-gtfs", "cif-gtfs-csv")
 
@@ -32,12 +31,12 @@ printf '%s\\n' "${COMPREPLY[@]}"
 
 
 def help_of(name):
-    return subprocess.run([GTFS / name, "--help"], capture_output=True, check=True, text=True).stdout
+    return subprocess.run([COMPANIONS / name, "--help"], capture_output=True, check=True, text=True).stdout
 
 
 def options_in(text):
     """The options that a usage or a list of options names."""
-    return set(re.findall(r"(?<![\w-])(--?[a-z][a-z-]*)", text))
+    return set(re.findall(r"(?<![\w-])(--?[a-zA-Z][a-z-]*)", text))
 
 
 def options_of_help(text):
@@ -50,48 +49,45 @@ def options_of_page(text):
     return options_in(re.sub(r"Fl (?:Fl )?", lambda flag: "--" if flag[0].count("Fl") > 1 else "-", "\n".join(tags)))
 
 
-def options_of_fish(text, name):
-    found = set()
-    for line in text.splitlines():
-        if line.startswith(f"complete -c {name} "):
-            found |= {f"-{letter}" for letter in re.findall(r" -s (\w)", line)}
-            found |= {f"--{word}" for word in re.findall(r" -l ([\w-]+)", line)}
-    return found
+def options_of_fish(text):
+    letters = {f"-{letter}" for letter in re.findall(r" -s (\w)", text)}
+    return letters | {f"--{word}" for word in re.findall(r" -l ([\w-]+)", text)}
 
 
-def options_of_zsh(text, name):
-    _, _, arm = text.partition(f"    ({name})\n")
-    arm, _, _ = arm.partition(";;")
-    return {option.rstrip("=+") for option in re.findall(r"['{,](--?[a-z][a-z-]*[=+]?)", arm)}
+def options_of_zsh(text):
+    return {option.rstrip("=+") for option in re.findall(r"['{,](--?[a-zA-Z][a-z-]*[=+]?)", text)}
 
 
 def offered(line):
     *words, last = line.split(" ")
-    completion = TOP / "completions" / "cif-gtfs.bash"
+    completion = TOP / "completions" / f"{words[0]}.bash"
     done = subprocess.run(["bash", "-c", BASH, "bash", completion, *words, last], capture_output=True, text=True, check=False)
     return done.stdout.split() + done.stderr.splitlines()
 
 
+def completion(name):
+    return (TOP / "completions" / name).read_text()
+
+
 def check(counts):
     page = (TOP / "man" / "cif-gtfs.1").read_text()
-    completions = {name: (TOP / "completions" / name).read_text() for name in ("_cif-gtfs", "cif-gtfs.fish", "cif-gtfs.bash")}
     for name in PROGRAMS:
         text = help_of(name)
         counts.test(f"{name} --help, width", all(len(line) <= WIDTH for line in text.splitlines()), text)
         options = options_of_help(text)
         counts.test(f"{name} --help, options", {"-h", "--help"} <= options, options)
-        counts.same(f"{name}, options in _cif-gtfs", options, options_of_zsh(completions["_cif-gtfs"], name))
-        counts.same(f"{name}, options in cif-gtfs.fish", options, options_of_fish(completions["cif-gtfs.fish"], name))
-        counts.same(f"{name}, options in cif-gtfs.bash", sorted(options), sorted(offered(f"{name} -")))
+        counts.same(f"{name}, options for zsh", options, options_of_zsh(completion(f"_{name}")))
+        counts.same(f"{name}, options for fish", options, options_of_fish(completion(f"{name}.fish")))
+        counts.same(f"{name}, options for bash", sorted(options), sorted(offered(f"{name} -")))
     counts.same("cif-gtfs, options in cif-gtfs.1", options_of_help(help_of("cif-gtfs")), options_of_page(page))
     synopsis = page.partition(".Sh SYNOPSIS")[2].partition(".Sh DESCRIPTION")[0]
     words = re.findall(r"^\.Op Fl (?:Fl )?([\w-]+)", synopsis, re.MULTILINE)
     usage = re.findall(r"\[--?([\w-]+)", help_of("cif-gtfs").partition("\n\n")[0])
-    counts.same("cif-gtfs, SYNOPSIS", [word for word in usage if word != "h"], words)
+    counts.same("cif-gtfs, SYNOPSIS", [word for word in usage if word not in ("h", "V")], words)
     kinds = re.findall(r"^  ([a-z]+-[a-z]+) ", help_of("cif-gtfs-csv"), re.MULTILINE)
     counts.same("cif-gtfs-csv, kinds in cif-gtfs.1", kinds, re.findall(r"^\.It Cm ([\w-]+)", page, re.MULTILINE))
-    for name, text in completions.items():
-        counts.test(f"cif-gtfs-csv, kinds in {name}", " ".join(kinds) in text, kinds)
+    for name in "_cif-gtfs-csv", "cif-gtfs-csv.fish", "cif-gtfs-csv.bash":
+        counts.test(f"cif-gtfs-csv, kinds in {name}", " ".join(kinds) in completion(name), kinds)
     statuses = re.findall(r"^  (\d)  ", help_of("cif-gtfs"), re.MULTILINE)
     counts.same("cif-gtfs, statuses", statuses, re.findall(r"^\.It (\d)$", page, re.MULTILINE))
     for line, offers in LINES.items():

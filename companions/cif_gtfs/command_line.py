@@ -1,0 +1,155 @@
+"""The arguments of cif-gtfs, what it reports, and its status."""
+from __future__ import annotations
+
+import argparse
+import gc
+import os
+import sys
+from pathlib import Path
+from typing import Optional, Sequence
+
+from cif_shared.arguments import add_cif, add_help, add_names, add_window, new_parser
+from cif_shared.cif import find_cif
+from cif_shared.csv_files import MOST_BYTES, Mistake, mail_address, plain_text, read_file
+from cif_shared.csv_files import web_address
+from cif_shared.endings import SUCCESS, Misused
+from cif_shared.files import output_path
+from cif_shared.operators import read_operators
+from cif_shared.places import PLACES
+from cif_shared.progress import Progress
+from cif_shared.running import run
+from cif_shared.tables import open_extract
+
+from .conversion import Outputs, UserFiles, Wishes, convert
+from .feed import Publisher
+from .trains import EXTENDED_TYPES, TYPES
+from .user_files import INTERCHANGE, LINKS
+
+PROGRAM = "cif-gtfs"
+# The status of a feed with places that have no coordinates.
+WANTING = 1
+# What stands for a publisher that isn't named. GTFS requires a name and an address.
+PUBLISHER = "Made by cif-gtfs, publisher not named"
+NO_WEB = "https://example.com/"
+
+ABOUT = """\
+Makes a GTFS feed of a CIF timetable extract, which has to be one that
+`cif normalise` accepts.
+"""
+STATUSES = """\
+statuses:
+  0  success
+  1  success, but places have no coordinates, which GTFS requires:
+     places-wanted.csv beside the zip lists them
+  2  a usage error
+  3  a file is refused: the same file will be refused again
+  4  a file can't be read or written, or memory ran out
+"""
+
+
+def arguments_of(words: Optional[Sequence[str]]) -> argparse.Namespace:
+    parser = new_parser(PROGRAM, ABOUT, STATUSES)
+    add = parser.add_argument
+    add_names(parser)
+    add("--interchange", metavar="FILE", help="minimum times of change: crs, minutes")
+    add("--links", metavar="FILE", help="links between stations: from, to, minutes")
+    add_window(parser)
+    add(
+        "--extended-types",
+        action="store_true",
+        help="route types 105 for sleepers and 714 for replacement buses",
+    )
+    add(
+        "--whole-trains",
+        action="store_true",
+        help="no linked trips: portions have the calls that they share with another train",
+    )
+    add("--publisher", metavar="NAME", help="who publishes the feed")
+    add("--url", metavar="URL", help="the address of the publisher on the web")
+    add("--email", metavar="ADDRESS", help="the address of the publisher for mail")
+    add(
+        "--trips",
+        metavar="TRIPS.csv",
+        help="a further file to write: of each trip the UID, dates and retail service id",
+    )
+    add(
+        "-o",
+        "--output",
+        default="gtfs.zip",
+        metavar="GTFS.zip",
+        help="the zip to write, gtfs.zip by default",
+    )
+    add_cif(parser)
+    add_help(parser)
+    add("extract", metavar="EXTRACT", help="the extract, or - for standard input")
+    return parser.parse_args(words)
+
+
+def outputs_of(asked: argparse.Namespace) -> Outputs:
+    """The places of the outputs. One in the place of an input is refused."""
+    feed = output_path(asked.output)
+    wanted = Path(asked.output).parent / "places-wanted.csv"
+    trips = output_path(asked.trips) if asked.trips is not None else None
+    outputs = [place for place in (feed, wanted, trips) if place]
+    inputs = (asked.extract, asked.places, asked.operators, asked.interchange, asked.links)
+    for name in (each for each in inputs if each):
+        for output in outputs:
+            if output.exists() and os.path.exists(name) and output.samefile(name):
+                raise Misused(f"{output} would take the place of an input: rename one of them")
+    if len({place.resolve() for place in outputs}) < len(outputs):
+        raise Misused("two outputs have one place")
+    if wanted.exists() and not is_unfilled(wanted):
+        raise Misused(f"{wanted} has been filled in: rename it, and give it by --places")
+    return Outputs(feed, wanted, trips)
+
+
+def is_unfilled(path: Path) -> bool:
+    """Whether a list of places without coordinates is as it was written."""
+    with open(path, "rb") as file:
+        lines = file.read(MOST_BYTES).splitlines()
+    return all(line.endswith(b",,") for line in lines[1:])
+
+
+def publisher_of(asked: argparse.Namespace) -> Publisher:
+    """Who answers for the feed, as the user says."""
+    for option, value, read in (
+        ("--publisher", asked.publisher, plain_text),
+        ("--url", asked.url, web_address),
+        ("--email", asked.email, mail_address),
+    ):
+        try:
+            if value is not None:
+                read(value)
+        except Mistake as mistake:
+            raise Misused(f"{option} `{value}` {mistake}") from None
+    return Publisher(asked.publisher or PUBLISHER, asked.url or NO_WEB, asked.email or "")
+
+
+def make_feed(asked: argparse.Namespace, progress: Progress) -> int:
+    """The status, after the zip is written."""
+    outputs = outputs_of(asked)
+    types = EXTENDED_TYPES if asked.extended_types else TYPES
+    wishes = Wishes(types, asked.whole_trains, publisher_of(asked))
+    given = UserFiles(
+        read_file(PLACES, asked.places),
+        read_operators(asked.operators),
+        read_file(INTERCHANGE, asked.interchange),
+        read_file(LINKS, asked.links),
+    )
+    with open_extract(find_cif(asked.cif), asked.extract, asked.first, asked.last) as extract:
+        outcome = convert(extract, given, wishes, outputs, progress)
+    progress.clear()
+    for line in outcome.left_out.lines():
+        print(f"{PROGRAM}: {line}", file=sys.stderr)
+    if not outcome.wanted:
+        return SUCCESS
+    wanted = f"places without coordinates: {outcome.wanted}, listed in {outputs.wanted}"
+    print(f"{PROGRAM}: {wanted}", file=sys.stderr)
+    return WANTING
+
+
+def main(words: Optional[Sequence[str]] = None) -> int:
+    asked = arguments_of(words)
+    # nothing that is kept has cycles, and looking for them takes a tenth of the time
+    gc.disable()
+    return run(PROGRAM, lambda progress: make_feed(asked, progress))

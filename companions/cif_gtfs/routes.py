@@ -1,0 +1,90 @@
+"""Routes: the trains of one operator and type between two stations, in both directions."""
+from __future__ import annotations
+
+from typing import Dict, List, Mapping, NamedTuple, Set, Tuple
+
+from cif_shared.csv_files import Key
+from cif_shared.operators import OperatorRow, operator_name
+
+from .stops import Stops, coded
+
+NO_OPERATOR = "unknown"
+
+
+class RouteRow(NamedTuple):
+    """A route as routes.txt has it."""
+
+    id: str
+    agency: str
+    name: str
+    type: int
+
+
+class AgencyRow(NamedTuple):
+    """An operator as agency.txt has it."""
+
+    id: str
+    name: str
+    url: str
+    timezone: str
+    language: str
+
+
+class Shown(NamedTuple):
+    """How a trip is shown: its route, which way it goes, and where to."""
+
+    route: str
+    direction: int
+    headsign: str
+
+
+class Ends(NamedTuple):
+    """The locations between which a train goes."""
+
+    first: bytes
+    last: bytes
+
+
+RouteKey = Tuple[str, int, Ends]
+
+
+class Routes:
+    """The routes that were asked for, by their ids."""
+
+    def __init__(self, stops: Stops) -> None:
+        self.stops = stops
+        self.known: Dict[RouteKey, Shown] = {}
+        self.rows: Dict[str, RouteRow] = {}
+        self.operators: Set[str] = set()
+
+    def shown(self, operator: str, route_type: int, ends: Ends) -> Shown:
+        """How a trip is shown whose train goes from one location to another."""
+        key = (operator, route_type, ends)
+        if key not in self.known:
+            self.known[key] = self.new(*key)
+        return self.known[key]
+
+    def new(self, operator: str, route_type: int, ends: Ends) -> Shown:
+        """Direction 0 is from the end whose id comes first."""
+        locations = [end.decode() for end in ends]
+        names = {self.stops.end_of(end): self.stops.places.station_name(end) for end in locations}
+        way = [self.stops.end_of(end) for end in locations]
+        agency = coded(operator) or NO_OPERATOR
+        route = "-".join([agency, str(route_type), *sorted(way)])
+        self.operators.add(operator)
+        name = " - ".join(names[end] for end in sorted(way))
+        self.rows[route] = RouteRow(route, agency, name, route_type)
+        return Shown(route, int(way != sorted(way)), names[way[1]])
+
+    def agencies(
+        self, given: Mapping[Key, OperatorRow], web: str, timezone: str, language: str
+    ) -> List[AgencyRow]:
+        """The rows of agency.txt, with the names and addresses that the user gives."""
+        rows = []
+        for operator in sorted(self.operators):
+            known = given.get((operator,))
+            agency = coded(operator) or NO_OPERATOR
+            url = known.url if known and known.url else web
+            name = operator_name(operator, given)
+            rows.append(AgencyRow(agency, name, url, timezone, language))
+        return rows

@@ -1,0 +1,76 @@
+"""The services of GTFS: each is a set of dates."""
+from __future__ import annotations
+
+from hashlib import blake2b
+from typing import Dict, Iterator, List, NamedTuple
+
+from cif_shared.dates import Dates, Window, between, count_of, numbers_of
+from cif_shared.endings import Refused
+
+# A hash in an id has twice as many digits.
+ID_BYTES = 5
+
+
+class Usual(NamedTuple):
+    """The usual dates of a service: the numbers of its first and last date, the weekdays, Monday
+    first, of which more than half between these are its, and all dates of these weekdays there."""
+
+    first: int
+    last: int
+    runs: List[int]
+    dates: Dates
+
+
+class ServiceRows(NamedTuple):
+    """The row of a service in calendar.txt, if it has one, and its rows in calendar_dates.txt."""
+
+    calendar: str
+    exceptions: str
+
+
+class Services:
+    """The services, one for each distinct set of dates."""
+
+    def __init__(self, window: Window) -> None:
+        self.window = window
+        self.texts = [f"{day:%Y%m%d}" for day in window.days]
+        self.ids: Dict[Dates, str] = {}
+        self.dates: Dict[str, Dates] = {}
+
+    def id_of(self, dates: Dates) -> str:
+        if dates not in self.ids:
+            found = self.ids[dates] = self.new_id(dates)
+            if self.dates.setdefault(found, dates) != dates:
+                raise Refused(f"two services have the id {found}")
+        return self.ids[dates]
+
+    def new_id(self, dates: Dates) -> str:
+        """A short hash of the dates, the same in each window that has them."""
+        first = (dates & -dates).bit_length() - 1
+        content = f"{self.texts[first]} {dates >> first:x}"
+        return blake2b(content.encode(), digest_size=ID_BYTES).hexdigest()
+
+    def usual(self, dates: Dates) -> Usual:
+        first = (dates & -dates).bit_length() - 1
+        last = dates.bit_length() - 1
+        span = between(first, last)
+        runs: List[int] = []
+        usual = 0
+        for weekday in self.window.weekdays:
+            runs.append(int(2 * count_of(dates & weekday) > count_of(span & weekday)))
+            usual |= span & weekday if runs[-1] else 0
+        return Usual(first, last, runs, usual)
+
+    def rows(self) -> Iterator[ServiceRows]:
+        """The rows of each service: exceptions are dates that are added (1) and dates that are
+        taken away (2). A service without a usual weekday has only the former. They are texts, as
+        there are many."""
+        for dates, service in self.ids.items():
+            usual = self.usual(dates)
+            span = f"{self.texts[usual.first]},{self.texts[usual.last]}"
+            calendar = f"{service},{','.join(map(str, usual.runs))},{span}\n" if usual.dates else ""
+            added = numbers_of(dates & ~usual.dates)
+            removed = numbers_of(usual.dates & ~dates)
+            exceptions = [f"{service},{self.texts[number]},1\n" for number in added]
+            exceptions += [f"{service},{self.texts[number]},2\n" for number in removed]
+            yield ServiceRows(calendar, "".join(exceptions))

@@ -1,0 +1,114 @@
+"""Stations and stops: their ids and rows.
+
+A station is made of each CRS code. Below it are its TIPLOCs, and the platforms of these. A TIPLOC
+without a CRS code is a stop by itself, whatever its platforms.
+"""
+from __future__ import annotations
+
+import re
+from typing import Dict, List, NamedTuple, Optional, Tuple
+
+from cif_shared.places import NO_COORDINATES, Places, Tiploc
+
+# What stands for a place without a TIPLOC in ids.
+NO_TIPLOC = "_"
+STOP = 0
+STATION = 1
+
+
+def coded(text: str) -> str:
+    """The text as a part of an id: letters, digits, `_` for a space, and `%XX` for all else."""
+    plain = re.sub(r"[^A-Za-z0-9 ]", lambda other: f"%{ord(other[0]):02X}", text)
+    return plain.replace(" ", "_")
+
+
+def stop_id(name: str) -> str:
+    return coded(name) or NO_TIPLOC
+
+
+def station_id(crs: str) -> str:
+    return f"station:{coded(crs)}"
+
+
+class StopRow(NamedTuple):
+    """A station or a stop as stops.txt has it."""
+
+    id: str
+    code: str
+    name: str
+    latitude: Optional[float]
+    longitude: Optional[float]
+    location_type: int
+    parent: str
+    platform: str
+
+
+Place = Tuple[bytes, bytes]
+
+
+class StopIds(Dict[Place, bytes]):
+    """The stop id of each location and platform, made when it is asked for first."""
+
+    def __init__(self, places: Places) -> None:
+        super().__init__()
+        self.places = places
+
+    def __missing__(self, place: Place) -> bytes:
+        name, platform = (text.decode() for text in place)
+        found = stop_id(name)
+        if platform and self.places.tiploc(name).crs:
+            found = f"{found}/{coded(platform)}"
+        self[place] = found.encode()
+        return self[place]
+
+
+class Stops:
+    """The stops of a feed. `ids` has those that were asked for."""
+
+    def __init__(self, places: Places) -> None:
+        self.places = places
+        self.ids = StopIds(places)
+
+    def end_of(self, name: str) -> str:
+        """The id of the station of a TIPLOC, or of the stop that it is by itself."""
+        tiploc = self.places.tiploc(name)
+        return station_id(tiploc.crs) if tiploc.crs else stop_id(name)
+
+    def used(self) -> List[Tiploc]:
+        """The TIPLOCs that have a stop, rising."""
+        return [
+            self.places.tiploc(name) for name in sorted({name.decode() for name, _ in self.ids})
+        ]
+
+    def without_coordinates(self) -> List[Tiploc]:
+        """The TIPLOCs in use that have no coordinates, nor their stations."""
+        return [
+            tiploc
+            for tiploc in self.used()
+            if self.places.coordinates(tiploc.name) == NO_COORDINATES
+        ]
+
+    def station(self, crs: str) -> StopRow:
+        first = self.places.of_station[crs][0].name
+        latitude, longitude = self.places.coordinates(first)
+        name = self.places.station_name(first)
+        return StopRow(station_id(crs), crs, name, latitude, longitude, STATION, "", "")
+
+    def stations(self) -> List[StopRow]:
+        """The stations in use, rising by CRS code."""
+        return [self.station(crs) for crs in sorted({tiploc.crs for tiploc in self.used()} - {""})]
+
+    def stop(self, place: Place, stop: bytes) -> StopRow:
+        location, platform = (text.decode() for text in place)
+        tiploc = self.places.tiploc(location)
+        latitude, longitude = self.places.coordinates(location)
+        name = tiploc.given_name or self.places.station_name(location)
+        parent = station_id(tiploc.crs) if tiploc.crs else ""
+        below = platform if parent else ""
+        return StopRow(stop.decode(), tiploc.crs, name, latitude, longitude, STOP, parent, below)
+
+    def rows(self) -> List[StopRow]:
+        """The rows of stops.txt: stations, and then the stops that calls have."""
+        # a TIPLOC without a CRS code has one stop for all its platforms
+        stops = {self.stop(place, stop) for place, stop in self.ids.items()}
+        return self.stations() + sorted(stops, key=lambda stop: stop.id)

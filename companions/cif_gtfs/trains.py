@@ -1,0 +1,185 @@
+"""The public trains of an extract: schedules with two public calls or more that are for riders."""
+from __future__ import annotations
+
+import re
+from enum import Enum
+from operator import itemgetter
+from typing import Dict, Iterable, Iterator, List, Mapping, NamedTuple, Optional, Tuple
+
+from cif_shared.dates import Dates, Window
+from cif_shared.files import BLOCK
+from cif_shared.tables import Table
+
+
+class Kind(Enum):
+    """The kinds of train."""
+
+    RAIL = "rail"
+    SLEEPER = "sleeper"
+    METRO = "metro"
+    BUS = "bus"
+    REPLACEMENT = "replacement"
+    SHIP = "ship"
+
+
+# The route types of GTFS.
+TYPES: Dict[Kind, int] = {
+    Kind.RAIL: 2,
+    Kind.SLEEPER: 2,
+    Kind.METRO: 1,
+    Kind.BUS: 3,
+    Kind.REPLACEMENT: 3,
+    Kind.SHIP: 4,
+}
+EXTENDED_TYPES: Dict[Kind, int] = {**TYPES, Kind.SLEEPER: 105, Kind.REPLACEMENT: 714}
+
+# What has public times now and then, though it isn't for riders, from memory: empty stock, staff
+# trains, post and parcels, departmental trains, light locomotives; and by their status freight and
+# trips of freight. A category of freight has a digit.
+NOT_FOR_RIDERS = set("EE EL ES OS JJ PM PP PV DD DH DI DQ DT DY ZB ZZ".split())
+FREIGHT = set("FT23")
+DIGITS = set("0123456789")
+
+
+class Sort(NamedTuple):
+    """The fields of a schedule that say what its train is."""
+
+    status: str
+    category: str
+    identity: str
+    sleepers: str
+    operator: str
+
+
+class About(NamedTuple):
+    """What a trip shows of its train besides the calls, and the same as a text."""
+
+    identity: str
+    operator: str
+    route_type: int
+    text: bytes
+
+
+def about_of(identity: str, operator: str, route_type: int) -> About:
+    text = f"{identity}\t{operator}\t{route_type}\n".encode()
+    return About(identity, operator, route_type, text)
+
+
+def is_for_riders(sort: Sort) -> bool:
+    is_freight = sort.status in FREIGHT or bool(DIGITS & set(sort.category))
+    return not is_freight and sort.category not in NOT_FOR_RIDERS
+
+
+def kind_of(sort: Sort) -> Kind:
+    """The kind of a train. From memory, as CIF has them: category BR is a bus that replaces trains,
+    BS another bus, SS a ship, OL an underground or metro train, XZ a sleeper; status B or 5 is a
+    bus, S or 4 a ship; a train with sleeping cars says which."""
+    if sort.category == "BR":
+        return Kind.REPLACEMENT
+    if sort.category == "BS" or sort.status in ("B", "5"):
+        return Kind.BUS
+    if sort.category == "SS" or sort.status in ("S", "4"):
+        return Kind.SHIP
+    if sort.category == "OL":
+        return Kind.METRO
+    sleeps = sort.category == "XZ" or sort.sleepers in ("B", "F", "S")
+    return Kind.SLEEPER if sleeps else Kind.RAIL
+
+
+class Schedule(NamedTuple):
+    """A schedule: its number, when it runs, and what its train is, or None if that isn't for
+    riders."""
+
+    number: bytes
+    uid: str
+    dates: Dates
+    about: Optional[About]
+    # first and last date, days run, and the retail service id, as they stand
+    record: Tuple[bytes, bytes, bytes, bytes]
+
+
+FIELDS = "schedule uid first_date last_date days_run reserved_a".split()
+SORT_FIELDS = "status category identity sleepers operator_code".split()
+
+
+class ScheduleReader:
+    """Reads rows of `schedules`. What many rows have alike is worked out once."""
+
+    def __init__(self, names: List[str], window: Window, types: Mapping[Kind, int]) -> None:
+        self.cells_at = itemgetter(*(names.index(name) for name in FIELDS))
+        self.sort_at = itemgetter(*(names.index(name) for name in SORT_FIELDS))
+        self.window = window
+        self.types = types
+        self.known: Dict[Tuple[bytes, ...], Optional[About]] = {}
+
+    def about(self, cells: Tuple[bytes, ...]) -> Optional[About]:
+        sort = Sort(*(cell.decode() for cell in cells))
+        if not is_for_riders(sort):
+            return None
+        return about_of(sort.identity, sort.operator, self.types[kind_of(sort)])
+
+    def read(self, line: bytes) -> Schedule:
+        cells = line.rstrip(b"\n").split(b"\t")
+        number, uid, first, last, days_run, retail = self.cells_at(cells)
+        sort = self.sort_at(cells)
+        if sort not in self.known:
+            self.known[sort] = self.about(sort)
+        dates = self.window.dates(first.decode(), last.decode(), days_run.decode())
+        record = (first, last, days_run, retail)
+        return Schedule(number, uid.decode(), dates, self.known[sort], record)
+
+
+# The rows of a schedule in `public`, and what each has after the number of the schedule.
+ROWS_OF_SCHEDULE = re.compile(rb"^([0-9]+)\t.*\n(?:\1\t.*\n)*", re.MULTILINE)
+ROW = re.compile(rb"^[0-9]+\t[0-9]+\t(.*\n)", re.MULTILINE)
+NUMBER = re.compile(rb"^[0-9]+\t([0-9]+)", re.MULTILINE)
+
+
+class Calls(NamedTuple):
+    """The public calls of a schedule: its number, and its rows as they stand."""
+
+    schedule: bytes
+    text: bytes
+
+    def rows(self) -> List[bytes]:
+        """The rows from the location on."""
+        return ROW.findall(self.text)
+
+    def numbers(self) -> List[int]:
+        return [int(number) for number in NUMBER.findall(self.text)]
+
+
+def calls_by_schedule(table: Table) -> Iterator[Calls]:
+    """The rows of `public`, schedule by schedule, cut from blocks. The last ones of a block may go
+    on in the next."""
+    rest = b""
+    for block in iter(lambda: table.lines.read(BLOCK), b""):
+        text = rest + block
+        last = None
+        for found in ROWS_OF_SCHEDULE.finditer(text):
+            if last:
+                yield Calls(last[1], last[0])
+            last = found
+        rest = text[last.start() :] if last else text
+    for found in ROWS_OF_SCHEDULE.finditer(rest):
+        yield Calls(found[1], found[0])
+
+
+class PublicTrain(NamedTuple):
+    """A schedule with two public calls or more."""
+
+    schedule: Schedule
+    calls: Calls
+
+
+def public_trains(
+    schedules: Iterable[bytes], reader: ScheduleReader, table: Table
+) -> Iterator[PublicTrain]:
+    """Each schedule with two public calls or more, in the order of the extract. The lines are those
+    of `schedules`."""
+    lines = iter(schedules)
+    for calls in calls_by_schedule(table):
+        start = calls.schedule + b"\t"
+        line = next(line for line in lines if line.startswith(start))
+        if calls.text.count(b"\n") > 1:
+            yield PublicTrain(reader.read(line), calls)

@@ -1,0 +1,326 @@
+"""Trips: the calls of a train, or of a part of it, on all dates on which they are the same."""
+from __future__ import annotations
+
+from hashlib import blake2b
+from typing import Dict, FrozenSet, Iterable, List, Mapping, NamedTuple, Optional, Sequence, Set
+from typing import Tuple
+
+from cif_shared.dates import Dates, moved
+from cif_shared.endings import Refused
+
+from .associations import DIVIDE, JOIN, Role
+from .calls import RunsAs, Variant, arriving, days_later, is_for_nobody, leaving, met
+from .compositions import Composition, Edge, Node
+from .routes import Ends
+from .stops import coded
+from .trains import About
+
+# A hash in an id has twice as many digits.
+ID_BYTES = 5
+
+
+class Trip:
+    """A trip of GTFS: what it shows, the dates of its service, and the schedules that it is made
+    of. Its rows are those of `public` from the location on."""
+
+    __slots__ = ("id", "about", "rows", "ends", "dates", "block", "days_later", "records")
+
+    def __init__(self, trip_id: bytes, about: About, rows: Sequence[bytes], ends: Ends) -> None:
+        self.id = trip_id
+        self.about = about
+        self.rows = rows
+        self.ends = ends
+        self.dates: Dates = 0
+        # the id of the first part of its train, if that is cut, and how many days later than the
+        # service the train runs
+        self.block = b""
+        self.days_later = 0
+        self.records: List[Sequence[bytes]] = []
+
+
+def ends_of(rows: Sequence[bytes]) -> Ends:
+    """The locations of the first and of the last call."""
+    return Ends(rows[0].split(b"\t", 1)[0], rows[-1].split(b"\t", 1)[0])
+
+
+def digest_of(content: bytes) -> str:
+    return blake2b(content, digest_size=ID_BYTES).hexdigest()
+
+
+class TripsOfUid:
+    """The trips of one UID by their contents, so that those with equal contents are one."""
+
+    def __init__(self, uid: str) -> None:
+        self.uid = uid
+        self.name = coded(uid)
+        self.trips: Dict[bytes, Trip] = {}
+        self.ids: Set[bytes] = set()
+
+    def add(
+        self, about: About, rows: Sequence[bytes], ends: Optional[Ends] = None, mark: bytes = b""
+    ) -> Trip:
+        """The trip of a train that has these rows, and other ends if it is a part of a train. A mark
+        tells those of compositions from others."""
+        content = about.text + b"".join(rows) + mark
+        trip = self.trips.get(content)
+        if trip is None:
+            trip = Trip(self.new_id(content), about, rows, ends or ends_of(rows))
+            self.trips[content] = trip
+        return trip
+
+    def in_order(self) -> TripsOfUid:
+        """The same with the trips rising by their ids, in whatever order they were added."""
+        self.trips = dict(sorted(self.trips.items(), key=lambda item: item[1].id))
+        return self
+
+    def new_id(self, content: bytes) -> bytes:
+        """The UID and a short hash, the same in each window."""
+        found = f"{self.name}-{digest_of(content)}".encode()
+        if found in self.ids:
+            raise Refused(f"two trips of the train {self.uid} have the id {found.decode()}")
+        self.ids.add(found)
+        return found
+
+
+def add_records(trip: Trip, records: Sequence[RunsAs], dates: Dates) -> None:
+    """Adds the schedules that a train is on some dates."""
+    trip.records += [
+        each.record for each in records if each.dates & dates and each.record not in trip.records
+    ]
+
+
+# ---- trains that are linked
+
+
+class Held(NamedTuple):
+    """An association of a train, its role, and the place of its call."""
+
+    edge: Edge
+    role: Role
+    place: int
+
+
+class Part(NamedTuple):
+    """A part of a train: its rows, and the associations that link its end and its beginning."""
+
+    rows: List[bytes]
+    ends: List[Edge]
+    begins: List[Edge]
+
+
+class LinkedTrain(NamedTuple):
+    """A train of a composition: its variant, how many days earlier it counts, and its parts."""
+
+    variant: Variant
+    days: int
+    parts: List[Part]
+
+    def text(self) -> bytes:
+        """What tells it from other trains."""
+        rows = b"|\n".join(b"".join(part.rows) for part in self.parts)
+        return self.variant.about.text + b"%d\n" % self.days + rows
+
+    def section(self, start: int, stop: int) -> List[bytes]:
+        """The rows from one place to another, and of those that aren't public only these two."""
+        hidden = self.variant.hidden - {start, stop}
+        return [
+            days_later(self.variant.rows[at], self.days)
+            for at in range(start, stop + 1)
+            if at not in hidden
+        ]
+
+
+def held_by(composition: Composition) -> Dict[Node, List[Held]]:
+    """The associations of each train."""
+    found: Dict[Node, List[Held]] = {node: [] for node in composition.variants}
+    for edge in composition.edges:
+        for role in Role:
+            node = edge.node(role)
+            place = composition.variants[node].place[edge.association.spots[role]]
+            found[node].append(Held(edge, role, place))
+    return found
+
+
+def is_cut(held: Held) -> bool:
+    return held.role is Role.BASE and held.edge.association.terms.category in (DIVIDE, JOIN)
+
+
+def parts_of(variant: Variant, all_held: Sequence[Held], days: int) -> List[Part]:
+    """The parts of a train that counts so many days earlier. It is cut where it divides or is
+    joined: one part only arrives there, and the next only leaves. A stop that isn't public is among
+    the calls only if it is the place of one of the associations."""
+    places = [held.place for held in all_held]
+    hidden = variant.hidden.difference(places)
+    first, last = variant.first, variant.last
+    if variant.hidden:
+        first = min(first, *places)
+        last = max(last, *places)
+    cuts = sorted({held.place for held in all_held if is_cut(held)} - {first, last})
+    starts = [first, *cuts]
+    stops = [*cuts, last]
+    parts = []
+    for start, stop in zip(starts, stops):
+        rows = variant.rows[start : stop + 1]
+        if hidden:
+            rows = [row for at, row in enumerate(rows, start) if at not in hidden]
+        if start in cuts:
+            rows[0] = leaving(rows[0])
+        if stop in cuts:
+            rows[-1] = arriving(rows[-1])
+        if days:
+            rows = [days_later(row, days) for row in rows]
+        parts.append(Part(rows, [], []))
+    for held in all_held:
+        if held.edge.association.ends_at(held.role):
+            parts[stops.index(held.place)].ends.append(held.edge)
+        else:
+            parts[starts.index(held.place)].begins.append(held.edge)
+    return parts
+
+
+def mark_of(composition: Composition, trains: Mapping[Node, LinkedTrain]) -> bytes:
+    """What tells a composition from others: its trains, and the associations that link them."""
+    texts = [node.uid.encode() + b"\n" + train.text() for node, train in trains.items()]
+    for edge in composition.edges:
+        days = trains[edge.node(Role.BASE)].days
+        texts.append("\t".join((str(days), *edge.association.terms)).encode())
+    return blake2b(b"\n\n".join(sorted(texts))).digest()
+
+
+Link = Tuple[Trip, Trip]
+
+
+class Assembly:
+    """The trips of all linked trains, and the links between them."""
+
+    def __init__(self, whole_trains: bool) -> None:
+        self.whole_trains = whole_trains
+        self.of_uid: Dict[str, TripsOfUid] = {}
+        self.links: Dict[Tuple[bytes, bytes], Link] = {}
+
+    def trips(self, uid: str) -> TripsOfUid:
+        if uid not in self.of_uid:
+            self.of_uid[uid] = TripsOfUid(uid)
+        return self.of_uid[uid]
+
+    def add(self, composition: Composition) -> None:
+        """Adds the trips of a composition, which all have its dates, and the links between them."""
+        first = min(node.offset for node in composition.variants)
+        trains: Dict[Node, LinkedTrain] = {}
+        for node, all_held in held_by(composition).items():
+            variant = composition.variants[node]
+            days = node.offset - first
+            trains[node] = LinkedTrain(variant, days, parts_of(variant, all_held, days))
+        mark = mark_of(composition, trains)
+        dates = moved(composition.dates, first)
+        if self.whole_trains:
+            for node, train in trains.items():
+                rows = WholeTrains(composition, trains).rows(node)
+                self.add_trip(node, train, rows, None, mark, dates)
+        else:
+            self.add_parts(trains, mark, dates)
+
+    def add_trip(
+        self,
+        node: Node,
+        train: LinkedTrain,
+        rows: List[bytes],
+        ends: Optional[Ends],
+        mark: bytes,
+        dates: Dates,
+    ) -> Trip:
+        mark = b"%d\n%s" % (train.days, mark)
+        trip = self.trips(node.uid).add(train.variant.about, rows, ends, mark)
+        trip.dates |= dates
+        trip.days_later = train.days
+        add_records(trip, train.variant.records, moved(dates, train.days))
+        return trip
+
+    def add_parts(self, trains: Mapping[Node, LinkedTrain], mark: bytes, dates: Dates) -> None:
+        """Adds the trips of the parts of trains, and the links between them."""
+        ends: Dict[Edge, Trip] = {}
+        begins: Dict[Edge, Trip] = {}
+        for node, train in trains.items():
+            trips: List[Trip] = []
+            for number, part in enumerate(train.parts):
+                own_mark = b"%d\n%s" % (number, mark)
+                trip = self.add_trip(node, train, part.rows, train.variant.ends, own_mark, dates)
+                ends.update((edge, trip) for edge in part.ends)
+                begins.update((edge, trip) for edge in part.begins)
+                trips.append(trip)
+            for trip in trips if len(trips) > 1 else ():
+                trip.block = trips[0].id
+            self.add_links(zip(trips, trips[1:]))
+        self.add_links((ends[edge], begins[edge]) for edge in ends)
+
+    def add_links(self, links: Iterable[Link]) -> None:
+        for one, other in links:
+            self.links[one.id, other.id] = (one, other)
+
+
+class WholeTrains:
+    """Trains of a composition that aren't cut: one that leaves another train has the calls of this
+    before, and one that joins another train has the calls of this after, as calls of its own."""
+
+    def __init__(self, composition: Composition, trains: Mapping[Node, LinkedTrain]) -> None:
+        self.composition = composition
+        self.trains = trains
+
+    def joint(self, node: Node, joins: bool) -> Optional[Edge]:
+        """The association by which a train joins another, or leaves another; the first of several."""
+        found = [
+            edge
+            for edge in self.composition.edges
+            if edge.node(Role.ASSOCIATED) == node
+            and (edge.association.terms.category == JOIN) == joins
+        ]
+        found.sort(key=lambda edge: edge.association.terms)
+        return found[0] if found else None
+
+    def place(self, edge: Edge, role: Role) -> int:
+        variant = self.trains[edge.node(role)].variant
+        return variant.place[edge.association.spots[role]]
+
+    def rows(self, node: Node) -> List[bytes]:
+        """All calls of a train."""
+        leaves = self.joint(node, joins=False)
+        joins = self.joint(node, joins=True)
+        train = self.trains[node]
+        start = self.place(leaves, Role.ASSOCIATED) if leaves else train.variant.first
+        stop = self.place(joins, Role.ASSOCIATED) if joins else train.variant.last
+        rows = train.section(start, stop)
+        seen = frozenset([node])
+        return self.with_next(joins, self.with_former(leaves, rows, seen), seen)
+
+    def with_former(
+        self, edge: Optional[Edge], rows: List[bytes], seen: FrozenSet[Node]
+    ) -> List[bytes]:
+        """The calls of the train that an association leaves, and then these."""
+        if edge is None or edge.node(Role.BASE) in seen:
+            return rows
+        base = edge.node(Role.BASE)
+        leaves = self.joint(base, joins=False)
+        first = self.trains[base].variant.first
+        start = self.place(leaves, Role.ASSOCIATED) if leaves else first
+        before = self.trains[base].section(start, self.place(edge, Role.BASE))
+        return joined(self.with_former(leaves, before, seen | {base}), rows)
+
+    def with_next(
+        self, edge: Optional[Edge], rows: List[bytes], seen: FrozenSet[Node]
+    ) -> List[bytes]:
+        """These calls, and then those of the train that an association joins."""
+        if edge is None or edge.node(Role.BASE) in seen:
+            return rows
+        base = edge.node(Role.BASE)
+        joins = self.joint(base, joins=True)
+        last = self.trains[base].variant.last
+        stop = self.place(joins, Role.ASSOCIATED) if joins else last
+        after = self.trains[base].section(self.place(edge, Role.BASE), stop)
+        return joined(rows, self.with_next(joins, after, seen | {base}))
+
+
+def joined(before: Sequence[bytes], after: Sequence[bytes]) -> List[bytes]:
+    """The calls of one train and of the next, of which the last and the first are at one place. If
+    nobody gets on or off there, the train doesn't call there."""
+    call = met(before[-1], after[0])
+    return [*before[:-1], *(() if is_for_nobody(call) else (call,)), *after[1:]]

@@ -1,0 +1,1 @@
+"""Makes files for the other programs of public ones, whose layouts are from memory."""

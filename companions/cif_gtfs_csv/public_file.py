@@ -1,0 +1,34 @@
+"""A public file, line by line."""
+from __future__ import annotations
+
+from typing import Iterator, NamedTuple, Sequence, Tuple, Union
+
+from cif_shared.csv_files import Lines, Unreadable
+from cif_shared.endings import Refused
+
+MOST_BYTES = 1 << 30
+
+Row = Sequence[Union[str, int]]
+PLACES: Row = ("tiploc", "name", "latitude", "longitude")
+
+
+class NumberedLine(NamedTuple):
+    """A line without its end, and its number."""
+
+    number: int
+    text: str
+
+
+def refusal(path: str, line: int, text: str) -> Refused:
+    return Refused(f"{path}: line {line}: {text}")
+
+
+def lines_of(path: str) -> Iterator[NumberedLine]:
+    """The lines of a file. What isn't UTF-8 in it isn't read."""
+    with open(path, "rb") as file:
+        lines = Lines(file, "replace", MOST_BYTES)
+        try:
+            for line in lines:
+                yield NumberedLine(lines.number, line.rstrip("\r\n"))
+        except Unreadable as problem:
+            raise refusal(path, lines.number, str(problem)) from None

@@ -1,0 +1,86 @@
+"""The program `cif`: where it is, and what it writes."""
+from __future__ import annotations
+
+import shutil
+import signal
+import subprocess
+import sys
+from contextlib import contextmanager
+from pathlib import Path
+from typing import IO, Collection, Iterator, Optional, Sequence
+
+from .endings import FAILED, REFUSED, SUCCESS, USAGE, CifEnded, Ending, Failed
+from .files import BLOCK, scratch_file
+
+# The statuses of cif that say of themselves why it ended.
+FAULTS = (USAGE, REFUSED, FAILED)
+
+
+def find_cif(asked: Optional[str]) -> Cif:
+    """The program that is asked for, or else the one beside this program, or one folder above, or
+    on the PATH."""
+    if asked is not None:
+        return Cif(asked)
+    own = Path(sys.argv[0]).resolve().parent
+    found = shutil.which("cif", path=str(own)) or shutil.which("cif", path=str(own.parent))
+    found = found or shutil.which("cif")
+    if found is None:
+        raise Failed("cif isn't found: --cif says which program it is")
+    return Cif(found)
+
+
+class Cif:
+    """The program `cif` by its path."""
+
+    def __init__(self, path: str) -> None:
+        self.path = path
+
+    @contextmanager
+    def output(
+        self,
+        words: Sequence[str],
+        stdin: Optional[IO[bytes]] = None,
+        good: Collection[int] = (SUCCESS,),
+    ) -> Iterator[IO[bytes]]:
+        """What a call writes, as it comes. If the block ends early, so does `cif`. If its status
+        isn't a good one, the run ends with what it reported and what would help."""
+        with scratch_file() as report:
+            call = [self.path, *words[:1], "--verbose", *words[1:]]
+            try:
+                process = subprocess.Popen(
+                    call, stdin=stdin or subprocess.DEVNULL, stdout=subprocess.PIPE, stderr=report
+                )
+            except OSError as problem:
+                raise Failed(f"{self.path} can't be run: {problem.strerror}") from None
+            with process:
+                assert process.stdout is not None
+                try:
+                    yield process.stdout
+                except Exception as problem:
+                    if isinstance(problem, (Ending, OSError, MemoryError)):
+                        process.kill()
+                        raise
+                    # what it wrote makes no sense, perhaps since it failed
+                    while process.stdout.read(BLOCK):
+                        pass
+                    if process.wait() in good:
+                        raise
+                except BaseException:
+                    process.kill()
+                    raise
+            if process.returncode not in good:
+                report.seek(0)
+                raise self.ending(process.returncode, report.read())
+
+    def ending(self, status: int, report: bytes) -> CifEnded:
+        """How the run ends after a call that ended so."""
+        lines = report.decode(errors="replace").splitlines()
+        if status < 0:
+            lines.append(f"cif was killed by {signal.Signals(-status).name}: {self.path}")
+        elif status not in FAULTS:
+            lines.append(
+                f"cif ended with status {status}, which isn't one of its faults: {self.path}"
+            )
+        elif not lines:
+            lines.append(f"cif ended with status {status}, and doesn't say why: {self.path}")
+        return CifEnded(status if status in FAULTS else FAILED, "\n".join(lines))

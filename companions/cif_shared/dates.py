@@ -1,0 +1,60 @@
+"""Sets of dates of a window.
+
+A set of dates is a number: bit 0 is the first date of the window, bit 1 the next one, and so on.
+"""
+from __future__ import annotations
+
+from datetime import date, timedelta
+from typing import Callable, Dict, Iterator, List
+
+Dates = int
+
+WEEKDAYS = ("monday", "tuesday", "wednesday", "thursday", "friday", "saturday", "sunday")
+
+
+def ones_of(number: int) -> int:
+    return bin(number).count("1")
+
+
+# Python has it built in from 3.10 on.
+count_of: Callable[[Dates], int] = getattr(int, "bit_count", ones_of)
+
+
+def numbers_of(dates: Dates) -> Iterator[int]:
+    """The numbers of the dates in a set, rising."""
+    while dates:
+        lowest = dates & -dates
+        yield lowest.bit_length() - 1
+        dates ^= lowest
+
+
+def moved(dates: Dates, days: int) -> Dates:
+    """The dates so many days later. Those before the window are left out."""
+    return dates << days if days >= 0 else dates >> -days
+
+
+def between(first: int, last: int) -> Dates:
+    """The dates from one number to another, both included."""
+    return (2 << last) - (1 << first)
+
+
+class Window:
+    """The dates from the first to the last."""
+
+    def __init__(self, first: str, last: str) -> None:
+        start = date.fromisoformat(first)
+        count = (date.fromisoformat(last) - start).days + 1
+        self.days: List[date] = [start + timedelta(days=number) for number in range(count)]
+        self.numbers = {day.isoformat(): number for number, day in enumerate(self.days)}
+        # of each weekday, Monday first, its dates
+        self.weekdays: List[Dates] = [0] * 7
+        for number, day in enumerate(self.days):
+            self.weekdays[day.weekday()] |= 1 << number
+        self.of_days_run: Dict[str, Dates] = {}
+
+    def dates(self, first: str, last: str, days_run: str) -> Dates:
+        """The dates from the first to the last that are of these weekdays."""
+        if days_run not in self.of_days_run:
+            runs = (dates for dates, bit in zip(self.weekdays, days_run) if bit == "1")
+            self.of_days_run[days_run] = sum(runs)
+        return between(self.numbers[first], self.numbers[last]) & self.of_days_run[days_run]

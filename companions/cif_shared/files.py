@@ -1,0 +1,135 @@
+"""Files that a run writes: temporary ones, and those that take their places once all is well."""
+from __future__ import annotations
+
+import io
+import os
+import signal
+import stat
+import tempfile
+from contextlib import contextmanager
+from pathlib import Path
+from typing import IO, Any, Iterator, List, Tuple
+
+from .endings import Failed, Misused
+from .running import INTERRUPTS
+
+BLOCK = 1 << 20
+
+
+class ReportingFile(io.FileIO):
+    """A file whose faults name a path, which those of reading and writing otherwise don't."""
+
+    def __init__(self, descriptor: int, path: str) -> None:
+        super().__init__(descriptor, "r+")
+        self.path = path
+
+    def write(self, data: Any) -> int:
+        try:
+            return super().write(data) or 0
+        except OSError as problem:
+            raise Failed(f"{self.path}: {problem.strerror}") from None
+
+
+def reporting(descriptor: int, path: str) -> IO[bytes]:
+    return io.BufferedRandom(ReportingFile(descriptor, path), BLOCK)
+
+
+@contextmanager
+def scratch_file() -> Iterator[IO[bytes]]:
+    """A temporary file. Its faults name the folder for temporary files, which TMPDIR can change."""
+    with tempfile.TemporaryFile(buffering=0) as file:
+        with reporting(os.dup(file.fileno()), tempfile.gettempdir()) as scratch:
+            yield scratch
+
+
+def output_path(text: str) -> Path:
+    """The place of an output: that of a regular file, or where there is nothing yet. A link is
+    followed."""
+    if text in ("", "-"):
+        raise Misused(f"the output `{text}` has to be a file")
+    path = Path(os.path.realpath(text))
+    if path.is_dir() or text.endswith(os.sep):
+        raise Misused(f"the output {text} has to be a file, and isn't: it is a folder")
+    if path.exists() and not stat.S_ISREG(path.stat().st_mode):
+        raise Misused(f"the output {text} has to be a file, and isn't: it is a device or a pipe")
+    return path
+
+
+def mode_for(path: Path) -> int:
+    """The mode of a new file: that of the file in its place, or what the umask leaves."""
+    if path.exists():
+        return stat.S_IMODE(path.stat().st_mode)
+    mask = os.umask(0)
+    os.umask(mask)
+    return 0o666 & ~mask
+
+
+class NewFiles:
+    """New files, each written beside its place."""
+
+    def __init__(self) -> None:
+        self.written: List[Tuple[Path, Path]] = []
+        self.unwanted: List[Path] = []
+        self.opened: List[IO[bytes]] = []
+
+    def reserve(self, place: Path) -> Path:
+        """The path of a new file that is empty, for whoever opens it by its name."""
+        descriptor, name = tempfile.mkstemp(dir=place.parent, prefix=f".{place.name}.")
+        self.written.append((Path(name), place))
+        os.fchmod(descriptor, mode_for(place))
+        os.close(descriptor)
+        return Path(name)
+
+    def create(self, place: Path) -> IO[bytes]:
+        """A new file to write into."""
+        path = self.reserve(place)
+        file = reporting(os.open(path, os.O_RDWR), str(place))
+        self.opened.append(file)
+        return file
+
+    def remove(self, place: Path) -> None:
+        """Removes the file there, if there is one, once the new ones are in their places."""
+        self.unwanted.append(place)
+
+    def finish(self) -> None:
+        """Puts all into their places, which no interrupt stops halfway."""
+        for file in self.opened:
+            file.close()
+        for path, _ in self.written:
+            synchronise(path)
+        signal.pthread_sigmask(signal.SIG_BLOCK, INTERRUPTS)
+        try:
+            for path, place in self.written:
+                os.replace(path, place)
+            for place in self.unwanted:
+                if place.exists():
+                    place.unlink()
+        finally:
+            signal.pthread_sigmask(signal.SIG_UNBLOCK, INTERRUPTS)
+
+    def discard(self) -> None:
+        """Leaves nothing of what isn't in its place."""
+        for path, _ in self.written:
+            if path.exists():
+                path.unlink()
+
+
+def synchronise(path: Path) -> None:
+    """Waits until a file is on its disk, so that a machine that stops has the older file or this."""
+    descriptor = os.open(path, os.O_RDONLY)
+    try:
+        os.fsync(descriptor)
+    finally:
+        os.close(descriptor)
+
+
+@contextmanager
+def new_files() -> Iterator[NewFiles]:
+    """Files that take their places together at the end. If anything fails, nothing is left."""
+    files = NewFiles()
+    try:
+        yield files
+        files.finish()
+    except BaseException:
+        files.discard()
+        raise

@@ -1,0 +1,1 @@
+"""Compares what `cif` answers to generated inputs with what the reference answers."""
