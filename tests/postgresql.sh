@@ -30,7 +30,7 @@ start_postgresql() {
         stop_postgresql
         return 1
     }
-    export PGHOST="$postgresql" PGUSER=tests PGDATABASE=postgres PGOPTIONS= PGPASSFILE="$postgresql/none" PSQLRC=/dev/null
+    export PGHOST="$postgresql" PGUSER=tests PGDATABASE=postgres PGOPTIONS="" PGPASSFILE="$postgresql/none" PSQLRC=/dev/null
     unset PGPORT PGSERVICE
 }
 

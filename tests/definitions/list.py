@@ -51,7 +51,10 @@ def case_of(at):
     own = module(crate, inner)
     if name in own.definitions:
         return at
-    return next((("definition", crate, inner, other) for other in own.order if own.has_case(other, name)), None)
+    return next(
+        (("definition", crate, inner, other) for other in own.order if own.has_case(other, name)),
+        None,
+    )
 
 
 def is_kept(at):

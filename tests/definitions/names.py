@@ -22,10 +22,13 @@ TOP = Path(__file__).resolve().parents[2]
 PATH = re.compile(r"[\w./-]*/[\w./-]*|[\w-]+\.(?:rt|antt|py|rs|c|sh|rows|md|cif|txt|edit)")
 NAME = re.compile(r"[A-Za-z_]\w*(?:-\w+)*")
 DECLARED = re.compile(
-    r"\b(?:fn|mod|struct|enum|trait|impl|for|record|data|abbrev|unfoldable|ensures|requires|ghost) +(?:pub +)?(?:\w+::)*(\w+)|^(?:\s*pub )?(\w+) :",
+    r"\b(?:fn|mod|struct|enum|trait|impl|for|record|data|abbrev|unfoldable|ensures|requires|ghost) +"
+    r"(?:pub +)?(?:\w+::)*(\w+)|^(?:\s*pub )?(\w+) :",
     re.M,
 )
-IN_FILE = re.compile(r"((?:`[\w:-]+`(?:, and |, | and ))*`[\w:-]+`) (?:(?:of|in) (?:`cif_\w+`, )?|\()`([\w./-]+\.(?:rt|antt|py|rows))`")
+IN_FILE = re.compile(
+    r"((?:`[\w:-]+`(?:, and |, | and ))*`[\w:-]+`) (?:(?:of|in) (?:`cif_\w+`, )?|\()`([\w./-]+\.(?:rt|antt|py|rows))`"
+)
 OF_RECORD = re.compile(r"`(\w+)` of `([A-Z]\w+)`")
 
 
@@ -95,7 +98,9 @@ class Contracts:
 
     def fields_of(self, name):
         """The fields of a record, or of those that a definition cites by another name."""
-        return self.fields.get(name, set()).union(*(self.fields.get(other, set()) for other in self.cites.get(name, ())))
+        return self.fields.get(name, set()).union(
+            *(self.fields.get(other, set()) for other in self.cites.get(name, ()))
+        )
 
     def names_of(self, name):
         """The clauses and the invariants of all that has the name, and the fields of the records that they cite."""
@@ -136,7 +141,11 @@ def wrong_clauses(cell, above, known):
         own = owners_of(before, begun + named_before if colon else [], row or above, known)
         clauses = last_names(behind if colon else before)
         row += [name for name in own if name not in row]
-        beside = ["IsResultOf" if name == "reads" else name for name in clauses if name[0].isupper() or name == "reads"]
+        beside = [
+            "IsResultOf" if name == "reads" else name
+            for name in clauses
+            if name[0].isupper() or name == "reads"
+        ]
         allowed = set().union(*map(known.names_of, own), *map(known.fields_of, beside))
         yield from (name for name in clauses if name[0].islower() and name not in allowed)
         begun = []
@@ -157,15 +166,24 @@ def clauses_elsewhere(document, known):
 
 def main():
     files = all_files()
-    code = [file for file in files if re.match(r"(crates|tests)/.*(\.(rt|antt|py|c|sh|rows)|/run|/stdin)$", file)]
-    text = "\n".join((TOP / file).read_text(errors="replace") for file in code if (TOP / file).is_file())
+    code = [
+        file
+        for file in files
+        if re.match(r"(crates|tests)/.*(\.(rt|antt|py|c|sh|rows)|/run|/stdin)$", file)
+    ]
+    text = "\n".join(
+        (TOP / file).read_text(errors="replace") for file in code if (TOP / file).is_file()
+    )
     words = set(NAME.findall(text)) | {part for file in files for part in file.split("/")}
     declared = {name for pair in DECLARED.findall(text) for name in pair}
     missing = []
     for document in sys.argv[1:]:
         missing += [*missing_names(document, files, words), *names_elsewhere(document, files)]
         if "PROMISES" in document:
-            missing += [*undeclared_names(document, declared), *clauses_elsewhere(document, Contracts())]
+            missing += [
+                *undeclared_names(document, declared),
+                *clauses_elsewhere(document, Contracts()),
+            ]
     print("\n".join(missing))
     return 1 if missing else 0
 

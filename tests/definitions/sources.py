@@ -145,8 +145,16 @@ def clauses(crate, source, function, names):
     contract = contracts(text, function)[0] + "\n{"
     lines = []
     for name in names:
-        lines.append(re.search(r"ensures " + name + r" \{(.*?)\}\s*(?=ensures|requires|//|\{\Z)", contract, re.S).group(1))
-    return lines, ghost_imports(text), [DEVICES[name] for name in re.findall(r"\b\w+: (\w+)", contract) if name in DEVICES]
+        lines.append(
+            re.search(
+                r"ensures " + name + r" \{(.*?)\}\s*(?=ensures|requires|//|\{\Z)", contract, re.S
+            ).group(1)
+        )
+    return (
+        lines,
+        ghost_imports(text),
+        [DEVICES[name] for name in re.findall(r"\b\w+: (\w+)", contract) if name in DEVICES],
+    )
 
 
 def declaration(text, name):
@@ -168,7 +176,11 @@ def said_of(crate, source, name):
     lines += re.findall(r"ghost \w+ = \{(.*?)\};", model, re.S)
     found = cited(lines, ghost_imports(text), {}, crate, source)
     members = re.sub(r"ghost .*", "", fields)
-    return found + [MODELS[word] for word in re.findall(r"\b[A-Z]\w+", members) if word in MODELS and word != name]
+    return found + [
+        MODELS[word]
+        for word in re.findall(r"\b[A-Z]\w+", members)
+        if word in MODELS and word != name
+    ]
 
 
 def all_contracts():
@@ -197,7 +209,11 @@ def all_records():
     """The fields of each record of specs/, and of each other definition there the names that it cites, by their names."""
     fields, cites = {}, {}
     for file in ROOT.glob("crates/cif_*/specs/**/*.antt"):
-        for body in re.findall(r"^(?:abbrev )?pub .*?(?=^(?:abbrev |unfoldable )?pub |\Z)", file.read_text(), re.M | re.S):
+        for body in re.findall(
+            r"^(?:abbrev )?pub .*?(?=^(?:abbrev |unfoldable )?pub |\Z)",
+            file.read_text(),
+            re.M | re.S,
+        ):
             name = HEAD.match(body).group(1)
             if body.startswith("pub record"):
                 fields.setdefault(name, set()).update(FIELD.findall(body))
