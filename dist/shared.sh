@@ -1,15 +1,15 @@
 # shellcheck shell=bash
-# What dist/make and tests/dist/run share: what is written in dist/BUILT. Both set $top to the top of the repository.
+# What dist/make and tests/dist/run share: what is written in dist/BUILT.
 
-# sources_hash: one hash of all that dist/cif is made of, as it is committed
+# sources_hash TOP: one hash of all that dist/cif is made of, as it is committed in the repository
 sources_hash() (
-    cd "$top" && set -o pipefail &&
+    cd "$1" && set -o pipefail &&
         git ls-tree HEAD crates.txt crates/cif_*/src crates/cif_*/specs crates/cif_*/proofs | git hash-object --stdin
 )
 
-# changed_sources: those of these files that aren't as they are committed
+# changed_sources TOP: those of these files that aren't as they are committed
 changed_sources() (
-    cd "$top" && git status --porcelain -- crates.txt crates/cif_*/src crates/cif_*/specs crates/cif_*/proofs
+    cd "$1" && git status --porcelain -- crates.txt crates/cif_*/src crates/cif_*/specs crates/cif_*/proofs
 )
 
 # stripped FROM TO: copies a program without its names of functions, by the kit's own tool, so that each machine with this kit
