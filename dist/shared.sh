@@ -1,10 +1,10 @@
 # shellcheck shell=bash
 # What dist/make and tests/dist/run share: what is written in dist/BUILT.
 
-# sources_hash TOP: one hash of all that dist/cif is made of, as it is committed in the repository
+# sources_hash TOP COMMIT: one hash of all that dist/cif is made of, as that commit of the repository has it
 sources_hash() (
     cd "$1" && set -o pipefail &&
-        git ls-tree HEAD crates.txt crates/cif_*/src crates/cif_*/specs crates/cif_*/proofs | git hash-object --stdin
+        git ls-tree "$2" crates.txt crates/cif_*/src crates/cif_*/specs crates/cif_*/proofs | git hash-object --stdin
 )
 
 # changed_sources TOP: those of these files that aren't as they are committed
