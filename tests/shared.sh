@@ -103,14 +103,14 @@ skip() {
     skipped=$((skipped + $1))
 }
 
-# end: prints the counts; the status is 0 if none failed and some ran
+# end: prints the counts; the status is 0 if none failed, and some ran or were skipped
 end() {
     if [ "$skipped" -eq 0 ]; then
         echo "$passed passed, $failed failed"
     else
         echo "$passed passed, $failed failed, $skipped skipped"
     fi
-    [ "$failed" -eq 0 ] && [ "$passed" -gt 0 ]
+    [ "$failed" -eq 0 ] && [ $((passed + skipped)) -gt 0 ]
 }
 
 # preload SOURCE: builds a library from the C file, which includes nothing, with the compiler of the kit, or of the machine
