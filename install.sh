@@ -2,7 +2,8 @@
 # Installs cif and the programs of companions/ below a prefix, or removes them: `install.sh --help` has the details.
 #
 # All files are copied first, each into its folder, and then renamed. If anything fails, the files that were there
-# before are put back. No path goes through `$(..)`, which would lose a line feed at its end.
+# before are put back. What an installation that was killed has left, `NAME.cif-new.PID` and `NAME.cif-old.PID`, the next one
+# removes, or --uninstall. No path goes through `$(..)`, which would lose a line feed at its end.
 set -u
 umask 022
 case $0 in
@@ -28,10 +29,10 @@ completions for bash, zsh and fish below PREFIX, a folder such as /usr/local or
 "$HOME/.local". All but cif are Python, of which they need 3.8 or later.
 
 PATH_TO_CIF is the program. Without it, the program is `cif` beside this script,
-as in an unpacked package, or else crates/cif_tool/out/cif_tool, as in a clone
-where it has been built.
+as in an unpacked package, or else dist/cif, as in a clone of the repository.
 
---uninstall removes these files. It leaves the folders.
+--uninstall removes these files, and what an installation that was killed has
+left. It leaves the folders.
 
 If DESTDIR is set, every path begins with it, and PREFIX has to be absolute.
 END
@@ -79,34 +80,45 @@ folder() {
 }
 
 copy() {
-    folder "${3%/*}" && cp -- "$1" "$3.new.$$" && chmod -- "$2" "$3.new.$$"
+    folder "${3%/*}" && cp -- "$1" "$3.cif-new.$$" && chmod -- "$2" "$3.cif-new.$$"
 }
 
 keep_old() {
     if [ -e "$3" ] && [ ! -f "$3" ]; then
         report "$3 isn't a file"
     elif [ -e "$3" ] || [ -L "$3" ]; then
-        cp -pP -- "$3" "$3.old.$$"
+        cp -pP -- "$3" "$3.cif-old.$$"
     fi
 }
 
 rename() {
-    mv -f -- "$3.new.$$" "$3"
+    mv -f -- "$3.cif-new.$$" "$3"
 }
 
 undo() {
-    if [ "$renaming" = no ] || [ -e "$3.new.$$" ]; then
-        rm -f -- "$3.new.$$" "$3.old.$$"
-    elif [ -e "$3.old.$$" ] || [ -L "$3.old.$$" ]; then
-        mv -f -- "$3.old.$$" "$3" || report "the older file is $3.old.$$"
+    if [ "$renaming" = no ] || [ -e "$3.cif-new.$$" ]; then
+        rm -f -- "$3.cif-new.$$" "$3.cif-old.$$"
+    elif [ -e "$3.cif-old.$$" ] || [ -L "$3.cif-old.$$" ]; then
+        mv -f -- "$3.cif-old.$$" "$3" || report "the older file is $3.cif-old.$$"
     else
         rm -f -- "$3"
     fi
     return 0
 }
 
-clear_old() {
-    rm -f -- "$3.old.$$"
+# runs PID: whether this is another installation that still runs
+runs() {
+    [ "$1" != $$ ] && grep -aqs 'install\.sh' "/proc/$1/cmdline"
+}
+
+# clear_left: removes the older file, and what installations that were killed have left there
+clear_left() {
+    for left in "$3".cif-old.[0-9]* "$3".cif-new.[0-9]*; do
+        if { [ -f "$left" ] || [ -L "$left" ]; } && ! runs "${left##*.}"; then
+            found=yes
+            rm -f -- "$left" || status=1
+        fi
+    done
 }
 
 name_place() {
@@ -115,6 +127,7 @@ name_place() {
 
 # remove: removes what it can of the files, so that no call of it fails
 remove() {
+    clear_left "$@"
     if [ -f "$3" ] || [ -L "$3" ]; then
         found=yes
         rm -f -- "$3" && name_place "$@" || status=1
@@ -164,7 +177,7 @@ esac
 base=${DESTDIR-}${1%/}
 cif=${2-$top/cif}
 if [ $# -eq 1 ] && [ ! -e "$cif" ]; then
-    cif=$top/crates/cif_tool/out/cif_tool
+    cif=$top/dist/cif
 fi
 case $cif in
 */*) ;;
@@ -181,7 +194,7 @@ if [ $step = uninstall ]; then
     exit $status
 fi
 if [ ! -f "$cif" ] || [ ! -x "$cif" ]; then
-    report "there is no program $cif: build it as README.md says, or give its path after PREFIX"
+    report "there is no program $cif: give its path after PREFIX"
     exit 1
 fi
 case $("$cif" --version 2> /dev/null < /dev/null) in
@@ -203,5 +216,5 @@ if ! each rename || [ $stopped = yes ]; then
     give_up
 fi
 trap '' 1 2 15
-each clear_old
+each clear_left
 each name_place || :

@@ -1,14 +1,14 @@
 #!/bin/sh
 # package.sh FOLDER [PATH_TO_CIF]
 #
-# Writes the packages of the built program into FOLDER:
+# Writes the packages of the program into FOLDER:
 #
 #   cif-VERSION-x86_64-linux.tar.gz  the programs, install.sh and what it installs, the documents and the examples
 #   cif_VERSION_amd64.deb            for Debian: what install.sh installs, below /usr, with the licence, the documents
 #                                    and the examples
 #   cif-VERSION.sha256               the SHA-256 of both, for `sha256sum -c`
 #
-# PATH_TO_CIF is the built program. Without it, that is crates/cif_tool/out/cif_tool. VERSION is what the program
+# PATH_TO_CIF is the program. Without it, that is dist/cif. VERSION is what the program
 # prints. The Debian package depends on the packages of the libraries that `ldd` lists, and recommends Python, which
 # the programs of companions/ need. Every time stamp is that of the program, or SOURCE_DATE_EPOCH, so the same files give the same bytes.
 # Debian's base system has all that this needs.
@@ -57,11 +57,11 @@ trap 'exit 1' 1 2 15
 
 # The files of the Debian package. install.sh refuses a program that isn't cif.
 root=$work/root
-DESTDIR=$root "$top/install.sh" /usr "${2-$top/crates/cif_tool/out/cif_tool}" > /dev/null
+DESTDIR=$root "$top/install.sh" /usr "${2-$top/dist/cif}" > /dev/null
 cif=$root/usr/bin/cif
 version=$("$cif" --version)
 version=${version#cif }
-time=${SOURCE_DATE_EPOCH:-$(stat -c %Y -- "${2-$top/crates/cif_tool/out/cif_tool}")}
+time=${SOURCE_DATE_EPOCH:-$(stat -c %Y -- "${2-$top/dist/cif}")}
 
 # put MODE PLACE FILE..: copies the files into the folder PLACE
 put() {

@@ -14,6 +14,7 @@ begin() {
     trap 'exit 2' 1 2 15
     passed=0
     failed=0
+    skipped=0
 }
 
 # unpack FILE..: makes a folder of each row in the files, and sets $rows to the folder that has them; $form_1 has a copy in
@@ -97,19 +98,37 @@ fail() {
     failed=$((failed + 1))
 }
 
-# end: prints the counts; the status is 0 if all passed and some ran
-end() {
-    echo "$passed passed, $failed failed"
-    [ "$failed" -eq 0 ] && [ "$passed" -gt 0 ]
+# skip COUNT: counts tests that can't be made here; whoever calls it says why
+skip() {
+    skipped=$((skipped + $1))
 }
 
-# preload SOURCE: builds a library from the C file, which includes nothing, with the compiler of the
-# kit that proves the program; sets $library to its path
+# end: prints the counts; the status is 0 if none failed, and some ran or were skipped
+end() {
+    if [ "$skipped" -eq 0 ]; then
+        echo "$passed passed, $failed failed"
+    else
+        echo "$passed passed, $failed failed, $skipped skipped"
+    fi
+    [ "$failed" -eq 0 ] && [ $((passed + skipped)) -gt 0 ]
+}
+
+# preload SOURCE: builds a library from the C file, which includes nothing, with the compiler of the kit, or of the machine
+# where there is no kit; sets $library to its path. The status is 1 where there is no compiler.
 preload() {
-    compiler=$(dirname "$(rt doc)")/toolchain/bin/clang
     library=$work/$(basename "$1" .c).so
-    if ! "$compiler" -shared -fPIC -O1 -nostdlib --ld-path="$(dirname "$compiler")/ld.lld" -o "$library" "$1"; then
-        echo "$1 can't be built" >&2
+    if command -v rt > /dev/null; then
+        tools=$(dirname "$(rt doc)")/toolchain/bin
+        set -- "$1" "$tools/clang" --ld-path="$tools/ld.lld"
+    elif command -v cc > /dev/null; then
+        set -- "$1" cc
+    else
+        return 1
+    fi
+    source=$1
+    shift
+    if ! "$@" -shared -fPIC -O1 -nostdlib -o "$library" "$source"; then
+        echo "$source can't be built" >&2
         exit 2
     fi
 }

@@ -1,0 +1,222 @@
+"""What list.py and names.py read of the crates: the definitions of specs/, what each cites, and the contracts of functions."""
+import re
+from pathlib import Path
+
+ROOT = Path(__file__).resolve().parents[2]
+OWN = re.compile(r"^Rattle\.(cif_\w+)\.specs\.(.+)$")
+HEAD = re.compile(r"^(?:abbrev |unfoldable )?(?:pub )?(?:record |data |abbrev )?([^\s({:]+)")
+FIELD = re.compile(r"^\s+(?:pub )?(\w+) :", re.M)
+CLAUSE = re.compile(r"\b(?:ensures|requires|ghost) (\w+):? (?:= )?\{")
+
+
+class Module:
+    """A module of specs/: what its imports bring, and its definitions, each with its lines and with its text."""
+
+    def __init__(self, crate, name):
+        self.crate, self.name = crate, name
+        self.file = ROOT / "crates" / crate / "specs" / (name.replace(".", "/") + ".antt")
+        self.imports, self.definitions, self.texts, self.order = {}, {}, {}, []
+        current, comments = None, []
+        for line in self.file.read_text().splitlines():
+            if line.startswith(("use ", "pub use ")):
+                self.imports.update(imported(line.split("use ", 1)[1]))
+                current, comments = None, []
+            elif not line.strip() or line.startswith("pub mod"):
+                comments = []
+            elif line.startswith("--"):
+                comments.append(line)
+            elif line[0].isspace():
+                if current:
+                    self.add(current, line)
+            else:
+                current = HEAD.match(line).group(1)
+                self.begin(current, comments)
+                self.add(current, line)
+                comments = []
+
+    def begin(self, name, comments):
+        """Another line at the margin: it begins the definition, or goes on with it."""
+        if name not in self.definitions:
+            self.definitions[name], self.texts[name] = [], list(comments)
+            self.order.append(name)
+
+    def add(self, name, line):
+        self.texts[name].append(line)
+        if not line.lstrip().startswith("--"):
+            self.definitions[name].append(line)
+
+    def has_case(self, definition, name):
+        """Whether a line of the definition begins with the name."""
+        case = re.compile(r"\s*(pub )?" + re.escape(name) + r"\b")
+        return any(case.match(line) for line in self.definitions[definition])
+
+
+def imported(text):
+    """The names that an import brings, each with the path that it stands for."""
+    text = text.strip().rstrip(";")
+    match = re.match(r"^(.*)\.\{(.*)\}$", text)
+    if not match:
+        path, _, alias = text.partition(" as ")
+        return {alias or path.rsplit(".", 1)[-1]: (path, None)}
+    names = {}
+    for part in match.group(2).split(","):
+        name, _, alias = part.strip().partition(" as ")
+        names[alias.strip() or name.strip()] = (match.group(1), name.strip())
+    return names
+
+
+MODULES = {}
+
+
+def module(crate, name):
+    if (crate, name) not in MODULES:
+        MODULES[crate, name] = Module(crate, name)
+    return MODULES[crate, name]
+
+
+def place(path, name):
+    """Where a name of an import is defined: a module and its name, or the type of the code that it is, or nothing."""
+    own = OWN.match(path)
+    if not own:
+        return None
+    crate, inner = own.group(1), own.group(2)
+    if inner.startswith("declared."):
+        source, *rest = inner.split(".")[1:]
+        return ("type", crate, source, rest[0] if rest else name)
+    if inner.startswith("contracts."):
+        return None
+    return ("definition", crate, inner, name)
+
+
+def cited(lines, imports, own, crate, inner):
+    """What the lines cite, in that order."""
+    found = []
+    for line in lines:
+        line = re.sub(r'"[^"]*"', "", line.split(" -- ")[0])
+        for word in re.findall(r"[^\s(){},;:\[\]]+", line):
+            for part in (word, word.split(".")[0]):
+                if part in imports:
+                    at = place(*imports[part]) if imports[part][1] else None
+                    if imports[part][1] is None and "." in word:
+                        at = place(imports[part][0], word.split(".", 1)[1])
+                    if at:
+                        found.append(at)
+                    break
+                if part in own:
+                    found.append(("definition", crate, inner, part))
+                    break
+    return found
+
+
+def sources():
+    """The files of src/ in all crates."""
+    return sorted(ROOT.glob("crates/cif_*/src/*.rt"))
+
+
+def declared(pattern):
+    """The types or traits that the sources declare so, by their names."""
+    found = {}
+    for file in sources():
+        for name in re.findall(pattern, file.read_text(), re.M):
+            found[name] = ("type", file.parts[-3], file.stem, name)
+    return found
+
+
+MODELS = declared(r"^impl(?:<[^\n]*?>)? Model for (\w+)")
+DEVICES = declared(r"^pub trait (\w+Device)")
+
+
+def ghost_imports(text):
+    """What the ghost imports of a text bring."""
+    names = {}
+    for line in re.findall(r"^\s*ghost use (.*?);", text, re.M | re.S):
+        names.update(imported(" ".join(line.split())))
+    return names
+
+
+def contracts(text, function):
+    """The signatures and contracts of the functions of this name in the text of a source."""
+    return re.findall(r"\bfn " + function + r"\b.*?(?=\n\s*\{)", text, re.S)
+
+
+def clauses(crate, source, function, names):
+    """The text of the clauses, the imports of the file, and the traits of the function's devices."""
+    text = (ROOT / "crates" / crate / "src" / source).read_text()
+    contract = contracts(text, function)[0] + "\n{"
+    lines = []
+    for name in names:
+        lines.append(
+            re.search(
+                r"ensures " + name + r" \{(.*?)\}\s*(?=ensures|requires|//|\{\Z)", contract, re.S
+            ).group(1)
+        )
+    return (
+        lines,
+        ghost_imports(text),
+        [DEVICES[name] for name in re.findall(r"\b\w+: (\w+)", contract) if name in DEVICES],
+    )
+
+
+def declaration(text, name):
+    """How the text of a source declares a type or a trait, and its impl of Model, if it has one; each may be empty."""
+    fields = re.search(r"(?:struct|enum|trait) " + name + r"\b(?:[^\n{]*;\n|.*?\n\})", text, re.S)
+    model = re.search(r"^impl(?:<[^\n]*?>)? Model for " + name + r"\b.*?\n\}", text, re.M | re.S)
+    return fields.group(0) if fields else "", model.group(0) if model else ""
+
+
+def source_text(crate, source):
+    return (ROOT / "crates" / crate / "src" / f"{source}.rt").read_text()
+
+
+def said_of(crate, source, name):
+    """What a type says of its fields and of its value in the logic, or a trait of its calls; and what its fields are."""
+    text = source_text(crate, source)
+    fields, model = declaration(text, name)
+    lines = re.findall(r"(?:ghost|ensures) \w+:? \{(.*?)\}\s*(?=\n|,|;)", fields, re.S)
+    lines += re.findall(r"ghost \w+ = \{(.*?)\};", model, re.S)
+    found = cited(lines, ghost_imports(text), {}, crate, source)
+    members = re.sub(r"ghost .*", "", fields)
+    return found + [
+        MODELS[word]
+        for word in re.findall(r"\b[A-Z]\w+", members)
+        if word in MODELS and word != name
+    ]
+
+
+def all_contracts():
+    """The signatures and contracts of all functions, by their names."""
+    found = {}
+    for file in sources():
+        text = file.read_text()
+        begins = [match.start() for match in re.finditer(r"\bfn \w+", text)]
+        for begin, end in zip(begins, begins[1:] + [len(text)]):
+            contract = re.split(r"\n\s*\{", text[begin:end], maxsplit=1)[0]
+            found.setdefault(re.match(r"fn (\w+)", contract).group(1), []).append(contract)
+    return found
+
+
+def all_declarations():
+    """What the sources declare types and traits to be, by their names."""
+    found = {}
+    for file in sources():
+        text = file.read_text()
+        for name in re.findall(r"^(?:pub )?(?:struct|enum|trait) (\w+)", text, re.M):
+            found.setdefault(name, []).extend(filter(None, declaration(text, name)))
+    return found
+
+
+def all_records():
+    """The fields of each record of specs/, and of each other definition there the names that it cites, by their names."""
+    fields, cites = {}, {}
+    for file in ROOT.glob("crates/cif_*/specs/**/*.antt"):
+        for body in re.findall(
+            r"^(?:abbrev )?pub .*?(?=^(?:abbrev |unfoldable )?pub |\Z)",
+            file.read_text(),
+            re.M | re.S,
+        ):
+            name = HEAD.match(body).group(1)
+            if body.startswith("pub record"):
+                fields.setdefault(name, set()).update(FIELD.findall(body))
+            else:
+                cites.setdefault(name, set()).update(re.findall(r"\b[A-Z]\w+", body))
+    return fields, cites
