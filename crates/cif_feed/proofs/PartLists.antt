@@ -6,6 +6,8 @@ use Rattle.cif_feed.proofs.Names.{added_before, all_pairs_push, ap, append-nil, 
 use Rattle.cif_feed.proofs.Names.{false, get_or, get_or-drop, get_or_default, inl, inr, is_gt, length, length-drop, ltb-false, ltb-true}
 use Rattle.cif_feed.proofs.Names.{map, map-append, nat_cmp, nat_lt, part_entry, records_on, refl, rules, subst, sym, true, weekday_of, ℕ}
 use Rattle.cif_feed.proofs.Names.{⊎_elim, ◌++◌, ◌+◌, ◌-◌, ◌<◌, ◌↔◌, ◌∙◌, ◌∷◌, ◌≡◌, ◌≤◌, ◌⊎◌}
+use Rattle.cif_feed.proofs.Names.{IsStopOn, Option, sooner_of}
+use Rattle.std.specs.Prelude.{min}
 use Rattle.cif_feed.specs.PreparedRecord.{terms_on}
 
 -- ---- what a comparison says
@@ -18,64 +20,82 @@ gt-upto a b gt is upto = search rules
 
 -- ---- the first of the dates from a day on
 
--- The dates before the place come before `from`, and those from it up to the index too, or they don't have their weekdays in the mask.
-module _ (dates later : List ℕ) (days : List Bool) (from place index : ℕ) (rise : IsNonDecreasing dates)
+-- The dates before the place come before `from`, and P doesn't hold of those from it up to the index.
+module _ (dates later : List ℕ) (P : ℕ → Type 0) (from place index : ℕ) (rise : IsNonDecreasing dates)
     (before : (k : ℕ) → k < place → get_or dates k 0 < from) (is : later ≡ drop place dates)
-    (others : (k : ℕ) → k < index → (get_or later k 0 < from) ⊎ (¬ RunsOn days (weekday_of (get_or later k 0)))) where
+    (others : (k : ℕ) → k < index → ¬ P (get_or later k 0)) where
   long : length later ≡ length dates - place
   long = ap length is ∙ length-drop place dates
 
   at_later : (j : ℕ) → get_or later j 0 ≡ get_or dates (place + j) 0
   at_later j = ap (λ (l : List ℕ). get_or l j 0) is ∙ get_or-drop place dates j 0
 
-  -- a day from `from` on that comes before the date at the index isn't one of them
-  passed : (d : ℕ) → from ≤ d → (index < length later → d < get_or later index 0) → ¬ IsDateOnDaysRun dates days d
-  passed d early ahead on = at on.listed
-    where
-      at : Contains dates d → ⊥
-      at (k, below, at_k) =
-          let here : get_or dates k 0 ≡ d = get_or_default dates k 0 d below ∙ at_k in
-          ⊎_elim
-          (λ (low : k < place). let gone : get_or dates k 0 < from = before k low in absurd (omega arith))
-          (λ (high : place ≤ k). ⊎_elim
-          (λ (seen : k - place < index).
-          let there : get_or later (k - place) 0 ≡ d =
-          at_later (k - place) ∙ ap (λ (n : ℕ). get_or dates n 0) (omega arith) ∙ here in
-          ⊎_elim
-          (λ (gone : get_or later (k - place) 0 < from). absurd (omega arith))
-          (λ off. off (subst (λ (n : ℕ). RunsOn days (weekday_of n)) (sym there) on.on_weekday))
-          (others (k - place) seen))
-          (λ (unseen : index ≤ k - place).
-          let in_later : index < length later = omega (arith, long) in
-          let sooner = ahead in_later in
-          let up : get_or dates (place + index) 0 ≤ get_or dates k 0 = rise (place + index) k 0 (omega arith) below in
-          let one = at_later index in absurd (omega arith))
-          (cases_lt (k - place) index))
-          (cases_lt k place)
+  -- nor of any from `from` on that comes before the date at the index
+  pub passed : (d : ℕ) → from ≤ d → (index < length later → d < get_or later index 0) → Contains dates d → ¬ P d
+  passed d early ahead (k, below, at_k) holds =
+      let here : get_or dates k 0 ≡ d = get_or_default dates k 0 d below ∙ at_k in
+      ⊎_elim
+      (λ (low : k < place). let gone : get_or dates k 0 < from = before k low in absurd (omega arith))
+      (λ (high : place ≤ k). ⊎_elim
+      (λ (seen : k - place < index).
+      let there : get_or later (k - place) 0 ≡ d =
+      at_later (k - place) ∙ ap (λ (n : ℕ). get_or dates n 0) (omega arith) ∙ here in
+      others (k - place) seen (subst P (sym there) holds))
+      (λ (unseen : index ≤ k - place).
+      let in_later : index < length later = omega (arith, long) in
+      let sooner = ahead in_later in
+      let up : get_or dates (place + index) 0 ≤ get_or dates k 0 = rise (place + index) k 0 (omega arith) below in
+      let one = at_later index in absurd (omega arith))
+      (cases_lt (k - place) index))
+      (cases_lt k place)
+
+-- a date that is left is one of them
+pub left-contains : (dates later : List ℕ) (place index date : ℕ) → later ≡ drop place dates → index < length later
+    → date ≡ get_or later index date → Contains dates date
+left-contains dates later place index date is below at =
+    let long : length later ≡ length dates - place = ap length is ∙ length-drop place dates in (
+      place + index,
+      (let there : place + index < length dates = omega arith in there),
+      sym (at ∙ ap (λ (l : List ℕ). get_or l index date) is ∙ get_or-drop place dates index date),
+    )
+
+-- P is that the weekday of a date is in the mask
+module _ (dates later : List ℕ) (days : List Bool) (from place index : ℕ) (rise : IsNonDecreasing dates)
+    (before : (k : ℕ) → k < place → get_or dates k 0 < from) (is : later ≡ drop place dates)
+    (others : (k : ℕ) → k < index → ¬ RunsOn days (weekday_of (get_or later k 0))) where
+  none_on : (d : ℕ) → from ≤ d → (index < length later → d < get_or later index 0) → ¬ IsDateOnDaysRun dates days d
+  none_on d early ahead on =
+      passed dates later (λ (n : ℕ). RunsOn days (weekday_of n)) from place index rise before is others d early ahead on.listed on.on_weekday
 
   -- none is found where the date at the index, if there is one, comes after the last
   pub none-found : (last : ℕ) → (index < length later → last < get_or later index 0)
       → IsFirstFrom (IsDateOnDaysRun dates days) from last None
-  none-found last behind d early late = passed d early (λ there. let b = behind there in omega arith)
+  none-found last behind d early late = none_on d early (λ there. let b = behind there in omega arith)
+
+  size : length later ≡ length dates - place
+  size = ap length is ∙ length-drop place dates
+
+  at_place : get_or later index 0 ≡ get_or dates (place + index) 0
+  at_place = ap (λ (l : List ℕ). get_or l index 0) is ∙ get_or-drop place dates index 0
 
   -- the date at the index isn't before the first
   pub from-late : (date : ℕ) → index < length later → date ≡ get_or later index 0
       → ((k : ℕ) → place ≤ k → k < length dates → from ≤ get_or dates k 0) → from ≤ date
   from-late date there at after = (
-      let below : place + index < length dates = omega (arith, long) in
-      let same : date ≡ get_or dates (place + index) 0 = at ∙ at_later index in
+      let below : place + index < length dates = omega (arith, size) in
+      let same : date ≡ get_or dates (place + index) 0 = at ∙ at_place in
       let a = after (place + index) (omega arith) below in omega arith)
 
   -- the date at the index is found where its weekday is in the mask
   pub date-found : (last date : ℕ) → index < length later → date ≡ get_or later index 0 → date ≤ last → RunsOn days (weekday_of date)
       → from ≤ date → IsFirstFrom (IsDateOnDaysRun dates days) from last (Some date)
   date-found last date there at upto on late =
-      let below : place + index < length dates = omega (arith, long) in
-      let same : date ≡ get_or dates (place + index) 0 = at ∙ at_later index in (
+      let below : place + index < length dates = omega (arith, size) in
+      let same : date ≡ get_or dates (place + index) 0 = at ∙ at_place in (
         late,
         upto,
         record { listed = (place + index, below, get_or_default dates (place + index) date 0 below ∙ sym same); on_weekday = on },
-        λ e early sooner. passed e early (λ h. omega (arith, at)),
+        λ e early sooner. none_on e early (λ h. omega (arith, at)),
       )
 
 -- ---- lists of parts
@@ -122,48 +142,46 @@ module _ {B : Type 0} (Stops : ℕ → Type 0) (r : Terms B) where
   parts-all parts day so_far end =
       record { rising = so_far.rising; are = so_far.are; covered = λ d from upto. so_far.covered d from (omega arith) }
 
-module _ {B : Type 0} (dates : List ℕ) (r : Terms B) where
-  -- a holiday of the code, on one of the record's days whose weekday is set, is a cut
-  cut-here : (d : ℕ) → r.first ≤ d → d ≤ r.last → IsDateOnDaysRun dates r.days d → IsCut (Contains dates) r d
-  cut-here d from upto on = record { applies = record { begun = from; unfinished = upto; on_weekday = on.on_weekday }; stops = on.listed }
+module _ {B : Type 0} (Stops : ℕ → Type 0) (r : Terms B) where
+  -- what stops it, on one of the record's days whose weekday is set, is a cut
+  cut-here : (d : ℕ) → r.first ≤ d → d ≤ r.last → IsStopOn Stops r.days d → IsCut Stops r d
+  cut-here d from upto on = record { applies = record { begun = from; unfinished = upto; on_weekday = on.on_weekday }; stops = on.stops }
 
-  here-cut : (d : ℕ) → IsCut (Contains dates) r d → IsDateOnDaysRun dates r.days d
-  here-cut d cut = record { listed = cut.stops; on_weekday = cut.applies.on_weekday }
+  here-cut : (d : ℕ) → IsCut Stops r d → IsStopOn Stops r.days d
+  here-cut d cut = record { stops = cut.stops; on_weekday = cut.applies.on_weekday }
 
-  module _ (first : ℕ) (own : List Part) (so_far : ArePartsBefore (Contains dates) r first own)
-      (begins : MayBegin (Contains dates) r first) where
+  module _ (first : ℕ) (own : List Part) (so_far : ArePartsBefore Stops r first own) (begins : MayBegin Stops r first) where
     -- the first cut from the day on
-    module _ (cut : ℕ) (found : IsFirstFrom (IsDateOnDaysRun dates r.days) first r.last (Some cut)) where
-      is_cut : IsCut (Contains dates) r cut
+    module _ (cut : ℕ) (found : IsFirstFrom (IsStopOn Stops r.days) first r.last (Some cut)) where
+      is_cut : IsCut Stops r cut
       is_cut = cut-here cut (let from = begins.from in let later = found.0 in omega arith) found.1 found.2
 
       to_cut : (b : Bool) → nat_lt first cut ≡ b
-          → ArePartsBefore (Contains dates) r cut (own ++ cond b (record { first = first; last = cut - 1 } ∷ []) [])
+          → ArePartsBefore Stops r cut (own ++ cond b (record { first = first; last = cut - 1 } ∷ []) [])
       to_cut true is =
           let early : first < cut = ltb-true first cut is in
           let p : Part = record { first = first; last = cut - 1 } in
           let end : p.last + 1 ≡ cut = omega arith in
-          subst (λ (n : ℕ). ArePartsBefore (Contains dates) r n (own ++ p ∷ [])) end
-          (parts-push (Contains dates) r own p so_far (record {
+          subst (λ (n : ℕ). ArePartsBefore Stops r n (own ++ p ∷ [])) end
+          (parts-push Stops r own p so_far (record {
             in_order = omega arith;
             from = begins.from;
             upto = (let upto = found.1 in omega arith);
             whole = λ d from upto cuts. found.3 d from (omega arith) (here-cut d cuts);
             begins = begins.begins;
-            ends = inr (subst (λ (n : ℕ). IsCut (Contains dates) r n) (sym end) is_cut);
+            ends = inr (subst (λ (n : ℕ). IsCut Stops r n) (sym end) is_cut);
           }))
       to_cut false is =
           let late : cut ≤ first = ltb-false first cut is in
           let same : first ≡ cut = (let later = found.0 in omega arith) in
-          subst (λ (l : List Part). ArePartsBefore (Contains dates) r cut l) (sym (append-nil own))
-          (subst (λ (n : ℕ). ArePartsBefore (Contains dates) r n own) same so_far)
+          subst (λ (l : List Part). ArePartsBefore Stops r cut l) (sym (append-nil own))
+          (subst (λ (n : ℕ). ArePartsBefore Stops r n own) same so_far)
 
-      after_cut : ArePartsBefore (Contains dates) r (cut + 1) (own ++ before_cut first cut)
-      after_cut = parts-cut (Contains dates) r (own ++ before_cut first cut) cut (to_cut (nat_lt first cut) refl) is_cut
+      after_cut : ArePartsBefore Stops r (cut + 1) (own ++ before_cut first cut)
+      after_cut = parts-cut Stops r (own ++ before_cut first cut) cut (to_cut (nat_lt first cut) refl) is_cut
 
       -- the parts go on after the cut
-      pub parts-next : cut < r.last
-          → ArePartsBefore (Contains dates) r (cut + 1) (own ++ before_cut first cut) × MayBegin (Contains dates) r (cut + 1)
+      pub parts-next : cut < r.last → ArePartsBefore Stops r (cut + 1) (own ++ before_cut first cut) × MayBegin Stops r (cut + 1)
       parts-next before = (
         after_cut,
         record {
@@ -174,16 +192,16 @@ module _ {B : Type 0} (dates : List ℕ) (r : Terms B) where
       )
 
       -- the cut is the record's last day
-      pub parts-cut_last : r.last ≤ cut → AreParts (Contains dates) r (own ++ before_cut first cut)
+      pub parts-cut_last : r.last ≤ cut → AreParts Stops r (own ++ before_cut first cut)
       parts-cut_last end =
-          parts-all (Contains dates) r (own ++ before_cut first cut) (cut + 1) after_cut (let upto = found.1 in omega arith)
+          parts-all Stops r (own ++ before_cut first cut) (cut + 1) after_cut (let upto = found.1 in omega arith)
 
     -- there is none
-    pub parts-last : IsFirstFrom (IsDateOnDaysRun dates r.days) first r.last None
-        → AreParts (Contains dates) r (own ++ record { first = first; last = r.last } ∷ [])
+    pub parts-last : IsFirstFrom (IsStopOn Stops r.days) first r.last None
+        → AreParts Stops r (own ++ record { first = first; last = r.last } ∷ [])
     parts-last none =
         let p : Part = record { first = first; last = r.last } in
-        parts-all (Contains dates) r (own ++ p ∷ []) (r.last + 1) (parts-push (Contains dates) r own p so_far (record {
+        parts-all Stops r (own ++ p ∷ []) (r.last + 1) (parts-push Stops r own p so_far (record {
           in_order = begins.upto;
           from = begins.from;
           upto = omega arith;
@@ -280,40 +298,104 @@ module _ {B : Type 0} (Stops : ℕ → Type 0) (r : Terms B) where
       (λ cut. absurd (is_p.whole p.first (omega arith) is_p.in_order cut))
       (are.covered p.first is_p.from (let up = is_p.in_order in let upto = is_p.upto in omega arith))
 
+-- ---- the first day that stops a record
+
+-- a first day from an earlier one on, if it isn't before this one
+pub first-later : (P : ℕ → Type 0) (start from last : ℕ) (known : Option ℕ) → start ≤ from → IsFirstFrom P start last known
+    → ((d : ℕ) → known ≡ Some d → from ≤ d) → IsFirstFrom P from last known
+first-later P start from last None early none late = λ d later upto. none d (omega arith) upto
+first-later P start from last (Some d) early found late = (late d refl, found.1, found.2, λ e later before. found.3 e (omega arith) before)
+
+module _ (P Q : ℕ → Type 0) (from last : ℕ) where
+  either-sooner : (d e : ℕ) → IsFirstFrom P from last (Some d) → IsFirstFrom Q from last (Some e) → (d ≤ e) ⊎ (e < d)
+      → IsFirstFrom (λ n. P n ⊎ Q n) from last (Some (min d e))
+  either-sooner d e one other (inl sooner) =
+      let is : d ≡ min d e = omega arith in
+      subst (λ n. IsFirstFrom (λ m. P m ⊎ Q m) from last (Some n)) is
+      (one.0, one.1, inl one.2, λ f later before. ⊎_elim (λ p. one.3 f later before p) (λ q. other.3 f later (omega arith) q))
+  either-sooner d e one other (inr later) =
+      let is : e ≡ min d e = omega arith in
+      subst (λ n. IsFirstFrom (λ m. P m ⊎ Q m) from last (Some n)) is
+      (other.0, other.1, inr other.2, λ f after before. ⊎_elim (λ p. one.3 f after (omega arith) p) (λ q. other.3 f after before q))
+
+  -- the first of which either holds is the sooner of the first ones
+  first-either : (one other : Option ℕ) → IsFirstFrom P from last one → IsFirstFrom Q from last other
+      → IsFirstFrom (λ n. P n ⊎ Q n) from last (sooner_of one other)
+  first-either None None none nor = λ d later upto. ⊎_elim (λ p. none d later upto p) (λ q. nor d later upto q)
+  first-either None (Some e) none found = (
+    found.0,
+    found.1,
+    inr found.2,
+    λ f later before.
+        ⊎_elim (λ p. none f later (let upto = found.1 in omega arith) p) (λ q. found.3 f later before q),
+  )
+  first-either (Some d) None found none = (
+    found.0,
+    found.1,
+    inl found.2,
+    λ f later before.
+        ⊎_elim (λ p. found.3 f later before p) (λ q. none f later (let upto = found.1 in omega arith) q),
+  )
+  first-either (Some d) (Some e) one other = either-sooner d e one other (⊎_elim (λ less. inr less) (λ upto. inl upto) (cases_lt e d))
+
+-- of which one holds exactly where the other does
+first-same : (P Q : ℕ → Type 0) → ((d : ℕ) → P d ↔ Q d) → (from last : ℕ) (found : Option ℕ) → IsFirstFrom P from last found
+    → IsFirstFrom Q from last found
+first-same P Q same from last None none = λ d later upto has. none d later upto ((same d).1 has)
+first-same P Q same from last (Some d) found =
+    (found.0, found.1, (same d).0 found.2, λ e later before has. found.3 e later before ((same e).1 has))
+
+-- the days that stop a record by two lists
+pub first-stop : (holidays clashes : List ℕ) (days : List Bool) (from last : ℕ) (one other : Option ℕ)
+    → IsFirstFrom (IsDateOnDaysRun holidays days) from last one → IsFirstFrom (IsDateOnDaysRun clashes days) from last other
+    → IsFirstFrom (IsStopOn (λ d. Contains holidays d ⊎ Contains clashes d) days) from last (sooner_of one other)
+first-stop holidays clashes days from last one other first second =
+    first-same (λ d. IsDateOnDaysRun holidays days d ⊎ IsDateOnDaysRun clashes days d)
+    (IsStopOn (λ d. Contains holidays d ⊎ Contains clashes d) days) (λ d. (
+      λ on. ⊎_elim
+          (λ one. record { stops = inl one.listed; on_weekday = one.on_weekday })
+          (λ other. record { stops = inr other.listed; on_weekday = other.on_weekday })
+          on,
+      λ stop. ⊎_elim
+          (λ one. inl (record { listed = one; on_weekday = stop.on_weekday }))
+          (λ other. inr (record { listed = other; on_weekday = stop.on_weekday }))
+          stop.stops,
+    )) from last (sooner_of one other)
+    (first-either (IsDateOnDaysRun holidays days) (IsDateOnDaysRun clashes days) from last one other first second)
+
+pub first-found : (holidays clashes : List ℕ) (days : List Bool) (from last : ℕ) (one other found it : Option ℕ)
+    → IsFirstFrom (IsDateOnDaysRun holidays days) from last one → IsFirstFrom (IsDateOnDaysRun clashes days) from last other
+    → found ≡ sooner_of one other → found ≡ it
+    → IsFirstFrom (IsStopOn (λ d. Contains holidays d ⊎ Contains clashes d) days) from last it
+first-found holidays clashes days from last one other found it first second sooner is =
+    subst (λ (o : Option ℕ). IsFirstFrom (IsStopOn (λ d. Contains holidays d ⊎ Contains clashes d) days) from last o) (sym sooner ∙ is)
+    (first-stop holidays clashes days from last one other first second)
+
 -- ---- one cut after another
 
-module _ {K B : Type 0} (stops left : List ℕ) (k : K) (r : Terms B) where
-  -- The records that were there, and those of the parts before `first`, on which another may begin. None of the first n of the days that
-  -- are left is a cut from that day on.
-  pub record IsCutUpTo (old now : List (K × Terms B)) (first n : ℕ) : Type 0 where
+module _ {K B : Type 0} (Stops : ℕ → Type 0) (k : K) (r : Terms B) where
+  -- the records that were there, and those of the parts before `first`, on which another may begin
+  pub record IsCutUpTo (old now : List (K × Terms B)) (first : ℕ) : Type 0 where
     pub own : List Part
     pub are : now ≡ old ++ map (part_entry k r) own
-    pub so_far : ArePartsBefore (Contains stops) r first own
-    pub begins : MayBegin (Contains stops) r first
-    pub passed : (j : ℕ) → j < n → (get_or left j 0 < first) ⊎ (¬ RunsOn r.days (weekday_of (get_or left j 0)))
+    pub so_far : ArePartsBefore Stops r first own
+    pub begins : MayBegin Stops r first
 
-  pub cut-nothing : (old : List (K × Terms B)) → r.first ≤ r.last → IsCutUpTo old old r.first 0
+  pub cut-nothing : (old : List (K × Terms B)) → r.first ≤ r.last → IsCutUpTo old old r.first
   cut-nothing old up = record {
     own = [];
     are = sym (append-nil old);
-    so_far = parts-none (Contains stops) r;
-    begins = may-begin (Contains stops) r up;
-    passed = λ j below. absurd (omega arith);
+    so_far = parts-none Stops r;
+    begins = may-begin Stops r up;
   }
 
-module _ {K B : Type 0} (stops left : List ℕ) (k : K) (r : Terms B) (rise : IsNonDecreasing stops)
-    (from : IsLeftFrom stops r.first left) where
-  module _ (old now : List (K × Terms B)) (first n : ℕ) (cut : IsCutUpTo stops left k r old now first n) where
-    before : (j : ℕ) → j < from.place → get_or stops j 0 < first
-    before j below = (let b = from.before j below in let f = cut.begins.from in omega arith)
-
+  module _ (old now : List (K × Terms B)) (first : ℕ) (cut : IsCutUpTo old now first) (new : List (K × Terms B)) where
     -- the part up to the record's last day ends the list
-    end : (new : List (K × Terms B)) → IsAdded k r first r.last now new → IsFirstFrom (IsDateOnDaysRun stops r.days) first r.last None
-        → AreAdded (Contains stops) k r old new
-    end new added none =
+    pub cut-end : IsAdded k r first r.last now new → IsFirstFrom (IsStopOn Stops r.days) first r.last None → AreAdded Stops k r old new
+    cut-end added none =
         let p : Part = record { first = first; last = r.last } in (
           cut.own ++ p ∷ [],
-          parts-last stops r first cut.own cut.so_far cut.begins none,
+          parts-last Stops r first cut.own cut.so_far cut.begins none,
           added ∙ ap (λ l. l ++ (k, terms_on r first r.last) ∷ []) cut.are
               ∙ append_assoc old (map (part_entry k r) cut.own) ((k, terms_on r first r.last) ∷ [])
               ∙ ap (λ l. old ++ l) (ap (λ q. map (part_entry k r) cut.own ++ q ∷ [])
@@ -324,72 +406,25 @@ module _ {K B : Type 0} (stops left : List ℕ) (k : K) (r : Terms B) (rise : Is
               ∙ sym (map-append (part_entry k r) cut.own (p ∷ []))),
         )
 
-    -- no day is left, or the next one is behind the record
-    pub cut-end : (new : List (K × Terms B)) → IsAdded k r first r.last now new → ¬ n < length left → AreAdded (Contains stops) k r old new
-    cut-end new added over = end new added
-        (none-found stops left r.days first from.place n rise before from.is cut.passed r.last (λ below. absurd (over below)))
-
-    pub cut-behind : (new : List (K × Terms B)) (stop : ℕ) → IsAdded k r first r.last now new → n < length left → stop ≡ get_or left n 0
-        → r.last < stop → AreAdded (Contains stops) k r old new
-    cut-behind new stop added below is behind = end new added
-        (none-found stops left r.days first from.place n rise before from.is cut.passed r.last (λ there. omega (arith, is)))
-
-    -- a day that is no cut
-    pub cut-passed : (stop : ℕ) → stop ≡ get_or left n 0 → (stop < first) ⊎ (¬ RunsOn r.days (weekday_of stop))
-        → IsCutUpTo stops left k r old now first (n + 1)
-    cut-passed stop is off = record {
-      own = cut.own;
-      are = cut.are;
-      so_far = cut.so_far;
-      begins = cut.begins;
-      passed = λ j below. ⊎_elim
-          (λ (earlier : j < n). cut.passed j earlier)
-          (λ later. let here : n ≡ j = omega arith in
-          subst (λ m. (get_or left m 0 < first) ⊎ (¬ RunsOn r.days (weekday_of (get_or left m 0)))) here
-          (subst (λ m. (m < first) ⊎ (¬ RunsOn r.days (weekday_of m))) is off))
-          (cases_lt j n);
-    }
-
     -- a cut
-    module _ (new : List (K × Terms B)) (stop : ℕ) (added : new ≡ now ++ added_before k r first stop) (below : n < length left)
-        (is : stop ≡ get_or left n 0) (late : first ≤ stop) (upto : stop ≤ r.last) (runs : RunsOn r.days (weekday_of stop)) where
-      found : IsFirstFrom (IsDateOnDaysRun stops r.days) first r.last (Some stop)
-      found = date-found stops left r.days first from.place n rise before from.is cut.passed r.last stop below is upto runs late
-
+    module _ (stop : ℕ) (added : new ≡ now ++ added_before k r first stop)
+        (found : IsFirstFrom (IsStopOn Stops r.days) first r.last (Some stop)) where
       joined : new ≡ old ++ map (part_entry k r) (cut.own ++ before_cut first stop)
       joined = added ∙ ap (λ l. l ++ added_before k r first stop) cut.are
           ∙ append_assoc old (map (part_entry k r) cut.own) (added_before k r first stop)
           ∙ ap (λ l. old ++ l) (sym (map-append (part_entry k r) cut.own (before_cut first stop)))
 
-      pub cut-last : ¬ stop < r.last → AreAdded (Contains stops) k r old new
+      pub cut-last : ¬ stop < r.last → AreAdded Stops k r old new
       cut-last end = (
         cut.own ++ before_cut first stop,
-        parts-cut_last stops r first cut.own cut.so_far cut.begins stop found (omega arith),
+        parts-cut_last Stops r first cut.own cut.so_far cut.begins stop found (omega arith),
         joined,
       )
 
-      pub cut-next : stop < r.last → IsCutUpTo stops left k r old new (stop + 1) (n + 1)
+      pub cut-next : stop < r.last → IsCutUpTo old new (stop + 1)
       cut-next more =
-          let next = parts-next stops r first cut.own cut.so_far cut.begins stop found more in record {
-            own = cut.own ++ before_cut first stop;
-            are = joined;
-            so_far = next.0;
-            begins = next.1;
-            passed = λ j b. ⊎_elim
-                (λ (earlier : j < n). ⊎_elim (λ gone. inl (omega arith)) (λ off. inr off) (cut.passed j earlier))
-                (λ later. inl (let here : n ≡ j = omega arith in
-                let same : get_or left j 0 ≡ stop = ap (λ m. get_or left m 0) (sym here) ∙ sym is in omega arith))
-                (cases_lt j n);
-          }
-
--- a record that never runs is its one part
-pub never-cut : {K B : Type 0} (stops : List ℕ) (k : K) (r : Terms B) (old new : List (K × Terms B)) → r.first ≤ r.last
-    → ((w : ℕ) → ¬ RunsOn r.days w) → IsAdded k r r.first r.last old new → AreAdded (Contains stops) k r old new
-never-cut {K} {B} stops k r old new up never added = (
-  record { first = r.first; last = r.last } ∷ [],
-  parts-whole (Contains stops) r up (λ d cut. never (weekday_of d) cut.applies.on_weekday),
-  added ∙ ap (λ (m : ℕ). old ++ (let t : Terms B = record r { last = m } in (k, t)) ∷ []) (omega arith),
-)
+          let next = parts-next Stops r first cut.own cut.so_far cut.begins stop found more in
+          record { own = cut.own ++ before_cut first stop; are = joined; so_far = next.0; begins = next.1 }
 
 -- ---- one record more
 

@@ -1,6 +1,8 @@
 -- What the listing of a record's parts has come to.
 use Rattle.std.specs.Prelude.{◌≡◌, ◌⊎◌, ℕ, ◌+◌, ◌-◌, ◌<◌, ◌≤◌, nat_lt, List, [], ◌∷◌, ◌++◌, All, AllPairs, map, length, drop}
-use Rattle.std.specs.Prelude.{if◌then◌else◌, slice_index}
+use Rattle.std.specs.Prelude.{if◌then◌else◌, Bool, None, Option, Some, min, slice_index}
+use Rattle.cif_columns.specs.Day.{weekday_of}
+use Rattle.cif_columns.specs.DaysRun.{RunsOn}
 use Rattle.cif_calendar.specs.Terms.{Terms}
 use Rattle.cif_feed.specs.Parts.{AreParts, HaveDay, IsBefore, IsCut, IsPart, Part}
 use Rattle.cif_feed.specs.Prepared.{part_entry}
@@ -54,3 +56,14 @@ pub record IsLeftFrom (days : List ℕ) (from : ℕ) (left : List ℕ) : Type 0 
   pub before : (k : ℕ) → k < place → slice_index days k < from
   pub behind : (k : ℕ) → place ≤ k → k < length days → from ≤ slice_index days k
   pub is : left ≡ drop place days
+
+-- the sooner of two days, where there are both
+abbrev pub sooner_of : Option ℕ → Option ℕ → Option ℕ
+sooner_of None other = other
+sooner_of (Some d) None = Some d
+sooner_of (Some d) (Some e) = Some (min d e)
+
+-- day d stops a record on a weekday of the mask
+pub record IsStopOn (Stops : ℕ → Type 0) (days : List Bool) (d : ℕ) : Type 0 where
+  pub stops : Stops d
+  pub on_weekday : RunsOn days (weekday_of d)
