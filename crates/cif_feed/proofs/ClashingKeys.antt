@@ -1,21 +1,16 @@
 -- What is found in a prepared extract that only holidays cut: the clash days of the published one.
-use Rattle.cif_feed.proofs.Names.{AppliesOnAny, AreAllFound, AreClashDates, AreClashDays, AreDropped, AreFound, AssocBody, AssocKey}
-use Rattle.cif_feed.proofs.Names.{Association, BodyLines, Clash, Contains, Contains-none, Dropped, DroppedKey, ExtractParts, Global, Header}
-use Rattle.cif_feed.proofs.Names.{Holidays, IsClashDay, IsCountOf, IsCutAt, IsPrepared, List, Option, Ordering, PreparedRecord}
-use Rattle.cif_feed.proofs.Names.{PublishedAssociation, PublishedExtract, PublishedParts, PublishedSchedule, PublishedTerms}
-use Rattle.cif_feed.proofs.Names.{ReadsAssociations, ReadsTrains, Schedule, Terms, Vec, [], ap, append_assoc, arith, association_entries}
-use Rattle.cif_feed.proofs.Names.{association_on, association_terms, codes, cond, decimal, dropped_text, false, key_cmp, last_day}
-use Rattle.cif_feed.proofs.Names.{last_is_day, length, map, more_text, nat_cmp, prepared_parts, published_association_terms}
-use Rattle.cif_feed.proofs.Names.{published_associations, published_schedule_terms, published_schedules, records_on, refl, schedule_entries}
-use Rattle.cif_feed.proofs.Names.{schedule_on, schedule_terms, slice_cmp, subst, sym, true, ℕ, ◌++◌, ◌+◌, ◌<◌, ◌==◌, ◌↔◌, ◌∙◌, ◌∷◌, ◌≡◌}
-use Rattle.cif_feed.proofs.Names.{◌≤◌}
-use Rattle.cif_feed.proofs.Names.{RisingDays, published_parts}
+use Rattle.cif_feed.proofs.Names.{AppliesOnAny, AreAllFound, AreClashDays, AreDropped, AreFound, AssocBody, AssocKey, BodyLines, Clash}
+use Rattle.cif_feed.proofs.Names.{Contains, Dropped, DroppedKey, ExtractParts, Holidays, IsClashDay, IsCountOf, IsCutAt, IsPrepared, List}
+use Rattle.cif_feed.proofs.Names.{Option, Ordering, PublishedAssociation, PublishedExtract, PublishedParts, PublishedSchedule}
+use Rattle.cif_feed.proofs.Names.{PublishedTerms, ReadsAssociations, ReadsTrains, RisingDays, [], ap, append_assoc, arith}
+use Rattle.cif_feed.proofs.Names.{association_entries, codes, cond, decimal, dropped_text, false, key_cmp, last_day, last_is_day, map}
+use Rattle.cif_feed.proofs.Names.{more_text, nat_cmp, published_association_terms, published_associations, published_parts}
+use Rattle.cif_feed.proofs.Names.{published_schedule_terms, published_schedules, schedule_entries, slice_cmp, subst, sym, true, ℕ, ◌++◌}
+use Rattle.cif_feed.proofs.Names.{◌+◌, ◌==◌, ◌∙◌, ◌≡◌, ◌≤◌}
 use Rattle.cif_extract.specs.Clash.{clash_text}
 use Rattle.cif_extract.specs.declared.fault.Clash.TheVariants as clash
-use Rattle.cif_calendar.specs.Keys.{of_key}
 use Rattle.cif_calendar.specs.Ranks.{IsNumberOf}
 use Rattle.cif_feed.proofs.CutCounts.{count-map, count-same}
-use Rattle.cif_feed.proofs.PreparedLists.{prepared-associations, prepared-schedules}
 use Rattle.cif_feed.proofs.PreparedRuns.{closed-associations, closed-schedules, cut-prepared, cut-whole}
 use Rattle.cif_feed.specs.Dropped.{told_as}
 

@@ -1,10 +1,11 @@
 -- The clash days of records of which some don't count on their holidays: code by code, and at last of all that count.
-use Rattle.cif_feed.proofs.Names.{AreClashDates, AreClashDatesOn, AreClashDays, AreMerged, ArePositionsOf, Contains, Contains-cases}
-use Rattle.cif_feed.proofs.Names.{Contains-first, Contains-none, Contains-rest, CountOn, CountsAmong, E, G, HasCodeAt, HolidayCode, Holidays}
-use Rattle.cif_feed.proofs.Names.{IsChosen, IsHoliday, IsHolidayOf, List, None, Option, PublishedTerms, Records, SameRecords, Some, Terms}
-use Rattle.cif_feed.proofs.Names.{AllPairs, Bool, Contains-append_left, Contains-permutation, Contains-push, Contains-push_cases, IsPermutation-sym, IsTrue, drop, false, false≢true, get_or, length, nat_cmp, take, take_all, take_more, true, ◌++◌, ◌-◌}
-use Rattle.cif_feed.proofs.Names.{X, [], ap, arith, code_list, dates_of, inl, inr, keyed, map, option_map, published_by, refl, same_Some}
-use Rattle.cif_feed.proofs.Names.{slice_get, subst, sym, ℕ, ⊎_elim, ◌+◌, ◌<◌, ◌↔◌, ◌∙◌, ◌∷◌, ◌≡◌, ◌≤◌, ◌⊎◌}
+use Rattle.cif_feed.proofs.Names.{AllPairs, AreClashDates, AreClashDatesOn, AreClashDays, AreMerged, ArePositionsOf, Bool, Contains}
+use Rattle.cif_feed.proofs.Names.{Contains-append_left, Contains-cases, Contains-first, Contains-none, Contains-permutation, Contains-push}
+use Rattle.cif_feed.proofs.Names.{Contains-push_cases, Contains-rest, CountOn, CountsAmong, E, G, HasCodeAt, HolidayCode, Holidays}
+use Rattle.cif_feed.proofs.Names.{IsChosen, IsHoliday, IsHolidayOf, IsPermutation-sym, IsTrue, List, None, Option, PublishedTerms, Records}
+use Rattle.cif_feed.proofs.Names.{SameRecords, Some, Terms, X, [], ap, arith, code_list, dates_of, drop, false, false≢true, get_or, inl}
+use Rattle.cif_feed.proofs.Names.{inr, keyed, length, map, nat_cmp, option_map, published_by, refl, same_Some, slice_get, subst, sym, take}
+use Rattle.cif_feed.proofs.Names.{take_all, take_more, true, ℕ, ⊎_elim, ◌++◌, ◌+◌, ◌-◌, ◌<◌, ◌↔◌, ◌∙◌, ◌∷◌, ◌≡◌, ◌⊎◌}
 use Rattle.std.proofs.Common.{IsPermutation, eqb}
 use Rattle.std.specs.List.{dedup}
 use Rattle.std.specs.List.Sorted.{IsSorted}

@@ -1,13 +1,12 @@
 -- Keys and their clash days are found one after another, over positions in the order of the keys.
-use Rattle.cif_feed.proofs.Names.{AllPairs, AnyHasKey, AreClashDates, AreFound, AreOfFirstKey, ArePositionsOf, BTreeMap, Clash, Contains}
-use Rattle.cif_feed.proofs.Names.{Contains-append_left, Contains-first, Contains-get_or, Contains-none, Contains-push, Contains-push_cases}
-use Rattle.cif_feed.proofs.Names.{Contains-rest, DroppedKey, Equal, Global, Greater, IsChosen, IsKeyTold, IsRising, IsTold, IsTotalOrder}
-use Rattle.cif_feed.proofs.Names.{Less, List, None, Option, Ordering, ReadsDates, Records, SameRecords, Terms, Vec, [], all_pairs_push, ap}
-use Rattle.cif_feed.proofs.Names.{append-nil, append_assoc, ap₂, arith, cond, days_in, days_with, drop, get, get_or, has-key, inl, is_eq}
-use Rattle.cif_feed.proofs.Names.{keyed, length, map, map-append, not_less, refl, slice_get_within, subst, sym, take, tied_itself, ℕ}
-use Rattle.cif_feed.proofs.Names.{⊎_elim, ◌++◌, ◌<◌, ◌↔◌, ◌∙◌, ◌∷◌, ◌≡◌, ◌⊎◌}
-use Rattle.cif_feed.proofs.Names.{AreClashDatesOn, AreClashDays, CountsAmong, Holidays, IsNonDecreasing, PublishedTerms, RisingDays, cases_lt}
-use Rattle.cif_feed.proofs.Names.{code_list, published_by, ◌≤◌}
+use Rattle.cif_feed.proofs.Names.{AllPairs, AnyHasKey, AreClashDatesOn, AreClashDays, AreFound, AreOfFirstKey, ArePositionsOf, BTreeMap}
+use Rattle.cif_feed.proofs.Names.{Clash, Contains, Contains-append_left, Contains-first, Contains-get_or, Contains-none, Contains-push}
+use Rattle.cif_feed.proofs.Names.{Contains-push_cases, Contains-rest, CountsAmong, DroppedKey, Equal, Greater, Holidays, IsKeyTold}
+use Rattle.cif_feed.proofs.Names.{IsNonDecreasing, IsRising, IsTold, IsTotalOrder, Less, List, None, Option, Ordering, PublishedTerms}
+use Rattle.cif_feed.proofs.Names.{ReadsDates, RisingDays, Terms, [], all_pairs_push, ap, append-nil, append_assoc, ap₂, arith, cases_lt}
+use Rattle.cif_feed.proofs.Names.{code_list, cond, days_in, days_with, drop, get, get_or, has-key, inl, is_eq, keyed, length, map}
+use Rattle.cif_feed.proofs.Names.{map-append, not_less, published_by, refl, slice_get_within, subst, sym, take, tied_itself, ℕ, ⊎_elim}
+use Rattle.cif_feed.proofs.Names.{◌++◌, ◌<◌, ◌↔◌, ◌∙◌, ◌∷◌, ◌≡◌, ◌≤◌, ◌⊎◌}
 use Rattle.std.specs.Map.{lookup}
 use Rattle.cif_calendar.proofs.KeyTurns.{decided, first-leads, no-entry, one-key, rising-after}
 use Rattle.cif_calendar.proofs.PassedKeys.{HasPassed, key-or-later, later-less, left-before, passed-more, turn}
@@ -196,8 +195,8 @@ module _ {K B : Type 0} (cmp : K → K → Ordering) (es : List (K × Terms B)) 
       pub added : all ≡ known ++ map (told_as name days) keys
       pub reads : ReadsDates stands_for days found
 
-    pub found-nothing : ((k : K) → ((r : Terms B) → of_key es k r → ⊥) → Are k []) → (rest : List ℕ) → ((i : ℕ) → i < length es → Contains rest i) → IsRising cmp es rest
-        → (found : R → Option RisingDays) → ((r : R) → found r ≡ None) → AreFoundUpTo known found rest
+    pub found-nothing : ((k : K) → ((r : Terms B) → of_key es k r → ⊥) → Are k []) → (rest : List ℕ)
+        → ((i : ℕ) → i < length es → Contains rest i) → IsRising cmp es rest → (found : R → Option RisingDays) → ((r : R) → found r ≡ None) → AreFoundUpTo known found rest
     found-nothing empty rest whole rising found none = record {
       keys = [];
       days = λ k. [];

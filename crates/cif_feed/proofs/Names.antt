@@ -155,8 +155,8 @@ pub use Rattle.cif_feed.specs.Steps.HolidayReading.{HasLineMore, IsDateFault, Is
 pub use Rattle.cif_feed.specs.Steps.Judging.{HasJudged, IsFinished, IsInOrder, SomeHasReason}
 pub use Rattle.cif_feed.specs.Steps.Marks.{HasMarks, HaveRoom, IsClosed, header_behind, last_of_association, last_of_schedule, one_if}
 pub use Rattle.cif_feed.specs.Steps.Marks.{plus_if, with_counts, with_line}
-pub use Rattle.cif_feed.specs.Steps.PartsSoFar.{AreAdded, ArePartsBefore, IsAdded, IsLeftFrom, IsPushed, IsStopOn, MayBegin, added_before}
-pub use Rattle.cif_feed.specs.Steps.PartsSoFar.{before_cut, records_on, sooner_of}
+pub use Rattle.cif_feed.specs.Steps.PartsSoFar.{AreAdded, ArePartsBefore, IsAdded, IsFromNext, IsLeftFrom, IsPushed, IsStopOn, MayBegin}
+pub use Rattle.cif_feed.specs.Steps.PartsSoFar.{added_before, before_cut, first_upto, records_on, sooner_of}
 pub use Rattle.cif_feed.specs.Steps.Written.{head_text, prepared_association_text, prepared_schedule_text, published_association_text}
 pub use Rattle.cif_feed.specs.Steps.Written.{published_schedule_text, records_text, tiploc_text, trailer_text}
 pub use Rattle.cif_feed.specs.Transaction.{transaction_letter}

@@ -1,12 +1,14 @@
 -- The parts of a record, one cut after another, among days that don't fall.
 use Rattle.cif_feed.proofs.Names.{All-contains, All-push, All-weaker, AreAdded, AreParts, ArePartsBefore, Bool, Contains}
-use Rattle.cif_feed.proofs.Names.{Contains-append_left, Contains-push, IsAdded, IsBefore, IsCut, IsDateOnDaysRun, IsFirstFrom, IsLeftFrom}
-use Rattle.cif_feed.proofs.Names.{IsNonDecreasing, IsPart, IsPushed, List, MayBegin, None, Part, PreparedRecord, RunsOn, Some, Terms, []}
-use Rattle.cif_feed.proofs.Names.{added_before, all_pairs_push, ap, append-nil, append_assoc, arith, before_cut, cases_lt, cond, drop}
-use Rattle.cif_feed.proofs.Names.{false, get_or, get_or-drop, get_or_default, inl, inr, is_gt, length, length-drop, ltb-false, ltb-true}
-use Rattle.cif_feed.proofs.Names.{map, map-append, nat_cmp, nat_lt, part_entry, records_on, refl, rules, subst, sym, true, weekday_of, ℕ}
-use Rattle.cif_feed.proofs.Names.{⊎_elim, ◌++◌, ◌+◌, ◌-◌, ◌<◌, ◌↔◌, ◌∙◌, ◌∷◌, ◌≡◌, ◌≤◌, ◌⊎◌}
-use Rattle.cif_feed.proofs.Names.{IsStopOn, Option, sooner_of}
+use Rattle.cif_feed.proofs.Names.{Contains-append_left, Contains-first, Contains-none, Contains-push, IsAdded, IsBefore, IsCut}
+use Rattle.cif_feed.proofs.Names.{IsDateOnDaysRun, IsFirstFrom, IsFromNext, IsLeftFrom, IsNonDecreasing, IsPart, IsPushed, IsStopOn, List}
+use Rattle.cif_feed.proofs.Names.{MayBegin, None, Option, Part, PreparedRecord, RunsOn, Some, Terms, [], added_before, all_pairs_push, ap}
+use Rattle.cif_feed.proofs.Names.{append-nil, append_assoc, arith, before_cut, cases_lt, cond, drop, false, first_upto, get_or, get_or-drop}
+use Rattle.cif_feed.proofs.Names.{get_or_default, inl, inr, is_gt, length, length-drop, ltb-false, ltb-true, map, map-append, nat_cmp}
+use Rattle.cif_feed.proofs.Names.{nat_lt, part_entry, records_on, refl, rules, sooner_of, subst, sym, true, weekday_of, ℕ, ⊎_elim, ◌++◌}
+use Rattle.cif_feed.proofs.Names.{◌+◌, ◌-◌, ◌<◌, ◌↔◌, ◌∙◌, ◌∷◌, ◌≡◌, ◌≤◌, ◌⊎◌}
+use Rattle.std.specs.Ordering.{is_le}
+use Rattle.std.proofs.lemmas.List.Sorted.{IsNonDecreasingBy-drop}
 use Rattle.std.specs.Prelude.{min}
 use Rattle.cif_feed.specs.PreparedRecord.{terms_on}
 
@@ -17,6 +19,12 @@ gt-after a b gt is after = search rules
 
 pub gt-upto : (a b : ℕ) (gt : Bool) → gt ≡ is_gt (nat_cmp a b) → gt ≡ false → a ≤ b
 gt-upto a b gt is upto = search rules
+
+le-upto : (a b : ℕ) → is_le (nat_cmp a b) ≡ true → a ≤ b
+le-upto a b is = search rules
+
+le-after : (a b : ℕ) → is_le (nat_cmp a b) ≡ false → b < a
+le-after a b is = search rules
 
 -- ---- the first of the dates from a day on
 
@@ -59,44 +67,96 @@ left-contains dates later place index date is below at =
       sym (at ∙ ap (λ (l : List ℕ). get_or l index date) is ∙ get_or-drop place dates index date),
     )
 
--- P is that the weekday of a date is in the mask
-module _ (dates later : List ℕ) (days : List Bool) (from place index : ℕ) (rise : IsNonDecreasing dates)
-    (before : (k : ℕ) → k < place → get_or dates k 0 < from) (is : later ≡ drop place dates)
-    (others : (k : ℕ) → k < index → ¬ RunsOn days (weekday_of (get_or later k 0))) where
-  none_on : (d : ℕ) → from ≤ d → (index < length later → d < get_or later index 0) → ¬ IsDateOnDaysRun dates days d
-  none_on d early ahead on =
-      passed dates later (λ (n : ℕ). RunsOn days (weekday_of n)) from place index rise before is others d early ahead on.listed on.on_weekday
+-- ---- the dates that are left
 
-  -- none is found where the date at the index, if there is one, comes after the last
-  pub none-found : (last : ℕ) → (index < length later → last < get_or later index 0)
-      → IsFirstFrom (IsDateOnDaysRun dates days) from last None
-  none-found last behind d early late = none_on d early (λ there. let b = behind there in omega arith)
+drop-contains : (n : ℕ) (xs : List ℕ) (d : ℕ) → Contains (drop n xs) d → Contains xs d
+drop-contains n xs d (k, below, is) =
+    let long : length (drop n xs) ≡ length xs - n = length-drop n xs in
+    (n + k, (let there : n + k < length xs = omega arith in there), sym (get_or-drop n xs k d) ∙ is)
 
-  size : length later ≡ length dates - place
-  size = ap length is ∙ length-drop place dates
+contains-drop : (n : ℕ) (xs : List ℕ) (d k : ℕ) → n ≤ k → k < length xs → get_or xs k d ≡ d → Contains (drop n xs) d
+contains-drop n xs d k from below is =
+    let long : length (drop n xs) ≡ length xs - n = length-drop n xs in (
+      k - n,
+      (let there : k - n < length (drop n xs) = omega arith in there),
+      get_or-drop n xs (k - n) d ∙ ap (λ (j : ℕ). get_or xs j d) (omega arith) ∙ is,
+    )
 
-  at_place : get_or later index 0 ≡ get_or dates (place + index) 0
-  at_place = ap (λ (l : List ℕ). get_or l index 0) is ∙ get_or-drop place dates index 0
+-- The dates that are left are among them, and each of them from `from` on whose weekday is in the mask is left. The first is such a one, or
+-- after the last.
+pub record IsRestOf (dates : List ℕ) (days : List Bool) (from last : ℕ) (rest : List ℕ) : Type 0 where
+  pub rising : IsNonDecreasing rest
+  pub among : (d : ℕ) → Contains rest d → Contains dates d
+  pub kept : (d : ℕ) → Contains dates d → from ≤ d → RunsOn days (weekday_of d) → Contains rest d
+  pub next : 0 < length rest → (last < get_or rest 0 0) ⊎ ((from ≤ get_or rest 0 0) × RunsOn days (weekday_of (get_or rest 0 0)))
 
-  -- the date at the index isn't before the first
-  pub from-late : (date : ℕ) → index < length later → date ≡ get_or later index 0
-      → ((k : ℕ) → place ≤ k → k < length dates → from ≤ get_or dates k 0) → from ≤ date
-  from-late date there at after = (
-      let below : place + index < length dates = omega (arith, size) in
-      let same : date ≡ get_or dates (place + index) 0 = at ∙ at_place in
-      let a = after (place + index) (omega arith) below in omega arith)
+-- those from the next one on
+rest-next : (dates : List ℕ) (days : List Bool) (from last : ℕ) (rest later : List ℕ) → IsNonDecreasing rest
+    → ((d : ℕ) → Contains rest d → Contains dates d)
+    → ((d : ℕ) → Contains dates d → from ≤ d → RunsOn days (weekday_of d) → Contains rest d)
+    → IsFromNext days from last rest later → IsRestOf dates days from last later
+rest-next dates days from last rest later rise among kept n = record {
+  rising = subst IsNonDecreasing (sym n.is) (IsNonDecreasingBy-drop (λ (d : ℕ). d) n.place rest rise);
+  among = λ d has. among d (drop-contains n.place rest d (subst (λ l. Contains l d) n.is has));
+  kept = λ d has early runs. subst (λ l. Contains l d) (sym n.is) (at d early runs (kept d has early runs));
+  next = n.next;
+}
+  where
+    at : (d : ℕ) → from ≤ d → RunsOn days (weekday_of d) → Contains rest d → Contains (drop n.place rest) d
+    at d early runs (k, below, is) =
+        let here : get_or rest k 0 ≡ d = get_or_default rest k 0 d below ∙ is in
+        ⊎_elim
+        (λ (low : k < n.place). ⊎_elim
+        (λ (gone : get_or rest k 0 < from). absurd (omega arith))
+        (λ off. absurd (off (subst (λ (m : ℕ). RunsOn days (weekday_of m)) (sym here) runs)))
+        (n.passed k low))
+        (λ (high : n.place ≤ k). contains-drop n.place rest d k high below is)
+        (cases_lt k n.place)
 
-  -- the date at the index is found where its weekday is in the mask
-  pub date-found : (last date : ℕ) → index < length later → date ≡ get_or later index 0 → date ≤ last → RunsOn days (weekday_of date)
-      → from ≤ date → IsFirstFrom (IsDateOnDaysRun dates days) from last (Some date)
-  date-found last date there at upto on late =
-      let below : place + index < length dates = omega (arith, size) in
-      let same : date ≡ get_or dates (place + index) 0 = at ∙ at_place in (
-        late,
-        upto,
-        record { listed = (place + index, below, get_or_default dates (place + index) date 0 below ∙ sym same); on_weekday = on },
-        λ e early sooner. none_on e early (λ h. omega (arith, at)),
-      )
+pub rest-later : (dates : List ℕ) (days : List Bool) (start from last : ℕ) (rest later : List ℕ) → IsRestOf dates days start last rest
+    → start ≤ from → IsFromNext days from last rest later → IsRestOf dates days from last later
+rest-later dates days start from last rest later r after =
+    rest-next dates days from last rest later r.rising r.among (λ d has early runs. r.kept d has (omega arith) runs)
+
+pub rest-first : (dates : List ℕ) (days : List Bool) (from last : ℕ) (left later : List ℕ) → IsNonDecreasing dates
+    → IsLeftFrom dates from left → IsFromNext days from last left later → IsRestOf dates days from last later
+rest-first dates days from last left later rise l = rest-next dates days from last left later
+    (subst IsNonDecreasing (sym l.is) (IsNonDecreasingBy-drop (λ (d : ℕ). d) l.place dates rise))
+    (λ d has. drop-contains l.place dates d (subst (λ xs. Contains xs d) l.is has))
+    (λ d has early runs. subst (λ xs. Contains xs d) (sym l.is) (at d early has))
+  where
+    at : (d : ℕ) → from ≤ d → Contains dates d → Contains (drop l.place dates) d
+    at d early (k, below, is) =
+        let here : get_or dates k 0 ≡ d = get_or_default dates k 0 d below ∙ is in
+        ⊎_elim
+        (λ (low : k < l.place). let gone : get_or dates k 0 < from = l.before k low in absurd (omega arith))
+        (λ (high : l.place ≤ k). contains-drop l.place dates d k high below is)
+        (cases_lt k l.place)
+
+-- the first date that is left is none before
+first-least : (d : ℕ) (rest : List ℕ) (e : ℕ) → IsNonDecreasing (d ∷ rest) → Contains (d ∷ rest) e → d ≤ e
+first-least d rest e rise (k, below, is) = (let up : d ≤ get_or (d ∷ rest) k e = rise 0 k e (omega arith) below in omega arith)
+
+-- the first one from `from` to the last whose weekday is in the mask
+pub rest-found : (dates : List ℕ) (days : List Bool) (from last : ℕ) (rest : List ℕ) → IsRestOf dates days from last rest
+    → IsFirstFrom (IsDateOnDaysRun dates days) from last (first_upto last rest)
+rest-found dates days from last [] r = λ d early late on. Contains-none d (r.kept d on.listed early on.on_weekday)
+rest-found dates days from last (d ∷ rest) r = at (is_le (nat_cmp d last)) refl
+  where
+    at : (b : Bool) → is_le (nat_cmp d last) ≡ b → IsFirstFrom (IsDateOnDaysRun dates days) from last (cond b (Some d) None)
+    at true is = ⊎_elim
+        (λ (behind : last < d). absurd (let upto : d ≤ last = le-upto d last is in omega arith))
+        (λ on. (
+          on.0,
+          le-upto d last is,
+          record { listed = r.among d (Contains-first d rest); on_weekday = on.1 },
+          λ e early sooner other. let least : d ≤ e = first-least d rest e r.rising (r.kept e other.listed early other.on_weekday) in
+              omega arith,
+        ))
+        (r.next (omega arith))
+    at false is = λ e early late other.
+        let least : d ≤ e = first-least d rest e r.rising (r.kept e other.listed early other.on_weekday) in
+        let after : last < d = le-after d last is in omega arith
 
 -- ---- lists of parts
 
@@ -300,12 +360,6 @@ module _ {B : Type 0} (Stops : ℕ → Type 0) (r : Terms B) where
 
 -- ---- the first day that stops a record
 
--- a first day from an earlier one on, if it isn't before this one
-pub first-later : (P : ℕ → Type 0) (start from last : ℕ) (known : Option ℕ) → start ≤ from → IsFirstFrom P start last known
-    → ((d : ℕ) → known ≡ Some d → from ≤ d) → IsFirstFrom P from last known
-first-later P start from last None early none late = λ d later upto. none d (omega arith) upto
-first-later P start from last (Some d) early found late = (late d refl, found.1, found.2, λ e later before. found.3 e (omega arith) before)
-
 module _ (P Q : ℕ → Type 0) (from last : ℕ) where
   either-sooner : (d e : ℕ) → IsFirstFrom P from last (Some d) → IsFirstFrom Q from last (Some e) → (d ≤ e) ⊎ (e < d)
       → IsFirstFrom (λ n. P n ⊎ Q n) from last (Some (min d e))
@@ -363,13 +417,15 @@ first-stop holidays clashes days from last one other first second =
     )) from last (sooner_of one other)
     (first-either (IsDateOnDaysRun holidays days) (IsDateOnDaysRun clashes days) from last one other first second)
 
-pub first-found : (holidays clashes : List ℕ) (days : List Bool) (from last : ℕ) (one other found it : Option ℕ)
-    → IsFirstFrom (IsDateOnDaysRun holidays days) from last one → IsFirstFrom (IsDateOnDaysRun clashes days) from last other
-    → found ≡ sooner_of one other → found ≡ it
+pub rests-found : (holidays clashes : List ℕ) (days : List Bool) (from last : ℕ) (left other : List ℕ) (one two found it : Option ℕ)
+    → IsRestOf holidays days from last left → IsRestOf clashes days from last other → one ≡ first_upto last left
+    → two ≡ first_upto last other → found ≡ sooner_of one two → found ≡ it
     → IsFirstFrom (IsStopOn (λ d. Contains holidays d ⊎ Contains clashes d) days) from last it
-first-found holidays clashes days from last one other found it first second sooner is =
+rests-found holidays clashes days from last left other one two found it first second is_one is_two sooner is =
     subst (λ (o : Option ℕ). IsFirstFrom (IsStopOn (λ d. Contains holidays d ⊎ Contains clashes d) days) from last o) (sym sooner ∙ is)
-    (first-stop holidays clashes days from last one other first second)
+    (first-stop holidays clashes days from last one two
+    (subst (IsFirstFrom (IsDateOnDaysRun holidays days) from last) (sym is_one) (rest-found holidays days from last left first))
+    (subst (IsFirstFrom (IsDateOnDaysRun clashes days) from last) (sym is_two) (rest-found clashes days from last other second)))
 
 -- ---- one cut after another
 

@@ -1,10 +1,10 @@
 -- What runs by the prepared records is what runs by the published ones.
-use Rattle.cif_feed.proofs.Names.{All-contains, All-map, Applies, AreClashDates, AreClashDays, AreClosed, AreDropped, AreParts, ArePrepared}
+use Rattle.cif_feed.proofs.Names.{All-contains, All-map, Applies, AreClashDays, AreClosed, AreDropped, AreParts, ArePrepared}
 use Rattle.cif_feed.proofs.Names.{Bool, Contains, Contains-append_cases, Contains-append_left, Contains-append_right, Contains-cases}
 use Rattle.cif_feed.proofs.Names.{Contains-first, Contains-none, Contains-rest, CountOn, Dropped, ExtractParts, HolidayCode, Holidays}
-use Rattle.cif_feed.proofs.Names.{IsClash, IsClashDay, IsClear, IsHolidayOf, IsPart, IsPreparedAs, IsStop, IsStopAmong, IsTrue, List, None}
+use Rattle.cif_feed.proofs.Names.{IsClashDay, IsClear, IsHolidayOf, IsPart, IsPreparedAs, IsStop, IsStopAmong, IsTrue, List, None}
 use Rattle.cif_feed.proofs.Names.{Option, Part, PublishedAssociation, PublishedParts, PublishedSchedule, PublishedTerms, Records, Runs}
-use Rattle.cif_feed.proofs.Names.{SayAsPublished, SayOfDay, SayTheSame, Some, Terms, WinAlso, Wins, [], ap, arith, association_entries}
+use Rattle.cif_feed.proofs.Names.{SayAsPublished, SayOfDay, SayTheSame, Some, Terms, Wins, [], ap, arith, association_entries}
 use Rattle.cif_feed.proofs.Names.{cases_lt, cond, ended, false, false≢true, get_or, inl, inr, last_day, last_is_day, map, max, part_terms}
 use Rattle.cif_feed.proofs.Names.{prepared_last, published_associations, published_schedules, refl, schedule_entries, subst, sym, true, ℕ}
 use Rattle.cif_feed.proofs.Names.{⊎_elim, ◌+◌, ◌<◌, ◌↔◌, ◌∙◌, ◌∷◌, ◌≡◌, ◌≤◌, ◌⊎◌}

@@ -3,7 +3,8 @@ ghost use Rattle.std.specs.Prelude.{◌≡◌, ◌≤◌, ◌++◌, ◌⊎◌, �
 ghost use Rattle.std.specs.List.Sorted.{IsNonDecreasing};
 ghost use Rattle.cif_feed.specs.Parts.{ended};
 ghost use Rattle.cif_feed.specs.HolidayDates.{IsDateOnDaysRun, IsFirstFrom};
-ghost use Rattle.cif_feed.specs.Steps.PartsSoFar.{AreAdded, IsLeftFrom, IsPushed, added_before, records_on, sooner_of};
+ghost use Rattle.cif_feed.specs.Steps.PartsSoFar.{AreAdded, IsFromNext, IsLeftFrom, IsPushed, added_before, first_upto};
+ghost use Rattle.cif_feed.specs.Steps.PartsSoFar.{records_on, sooner_of};
 
 use crate::written::{Written, write_schedule};
 use cif_calendar::Entry;
@@ -86,18 +87,22 @@ pub(crate) fn add_parts<'a, E: Entry>(
 {
     let mut first = entry.first();
     let days = entry.days();
-    let mut holiday = next_on(holidays, days, first, last);
-    let mut clash = next_on(clash_dates, days, first, last);
-    while let Some(cut) = sooner(&holiday, &clash) {
+    let mut holidays_left = from_next(from_day(holidays, first), days, first, last);
+    let mut clashes_left = from_next(from_day(clash_dates, first), days, first, last);
+    loop {
+        let holiday = first_up_to(holidays_left, last);
+        let clash = first_up_to(clashes_left, last);
+        let Some(cut) = sooner(&holiday, &clash) else {
+            return push(entry, first, last, prepared);
+        };
         add_before(entry, first, cut, prepared)?;
         match cut.next_up_to(last) {
             Some(next) => first = next,
             None => return Ok(()),
         }
-        go_on(holidays, &mut holiday, days, first, last);
-        go_on(clash_dates, &mut clash, days, first, last);
+        holidays_left = from_next(holidays_left, days, first, last);
+        clashes_left = from_next(clashes_left, days, first, last);
     }
-    push(entry, first, last, prepared)
 }
 
 /// The sooner of two dates, where there are both.
@@ -112,36 +117,38 @@ fn sooner(one: &Option<Day>, other: &Option<Day>) -> Option<Day>
     }
 }
 
-/// Makes `known`, the first of the dates from some date to `last` whose weekday is in the mask, the first from a later
-/// date on.
-fn go_on(dates: &[Day], known: &mut Option<Day>, days: DaysRun, from: Day, last: Day)
-    requires rising { IsNonDecreasing dates.now }
-    requires known { (start : ℕ) × (start ≤ from) × IsFirstFrom (IsDateOnDaysRun dates.now days) start last known.old }
-    ensures { IsFirstFrom (IsDateOnDaysRun dates.now days) from last known.new }
-{
-    let Some(day) = known else {
-        return;
-    };
-    if *day < from {
-        *known = next_on(dates, days, from, last);
-    }
-}
-
 /// The first of the dates from `from` to `last` whose weekday is in the mask.
 pub(crate) fn next_on(dates: &[Day], days: DaysRun, from: Day, last: Day) -> Option<Day>
     requires { IsNonDecreasing dates.now }
     ensures { IsFirstFrom (IsDateOnDaysRun dates.now days) from last result }
 {
-    let later = from_day(dates, from);
-    for day in later {
+    first_up_to(from_next(from_day(dates, from), days, from, last), last)
+}
+
+/// The first of the dates, if it isn't after `last`.
+fn first_up_to(dates: &[Day], last: Day) -> Option<Day>
+    ensures { result ≡ first_upto last dates.now }
+{
+    match dates {
+        [day, ..] if *day <= last => Some(*day),
+        _ => None,
+    }
+}
+
+/// The dates without the first ones that come before `from` or whose weekdays aren't in the mask. After `last` none is
+/// looked at.
+fn from_next(dates: &[Day], days: DaysRun, from: Day, last: Day) -> &[Day]
+    ensures { IsFromNext days from last dates.now result.now }
+{
+    for (count, day) in dates.iter().enumerate() {
         if *day > last {
-            return None;
+            return &dates[count..];
         }
-        if days.has(day.weekday()) {
-            return Some(*day);
+        if from <= *day && days.has(day.weekday()) {
+            return &dates[count..];
         }
     }
-    None
+    &[]
 }
 
 /// The dates from this one on.

@@ -12,7 +12,8 @@ use Rattle.cif_feed.specs.declared.holidays.Holidays.{Holidays}
 abbrev pub code_list : List HolidayCode
 code_list = X ∷ E ∷ G ∷ []
 
--- The days, rising, are those from `first` to the one before `to` with a clash, where each day has records of its own. The others are clear.
+-- The days, rising, are those from `first` to the one before `to` with a clash, where each day has records of its own. The others are
+-- clear.
 pub record AreClashDatesOn {B : Type 0} (records : ℕ → Records B) (first to : ℕ) (days : List ℕ) : Type 0 where
   pub rising : AllPairs ◌<◌ days
   pub are : (d : ℕ) → Contains days d ↔ IsClashBetween (records d) first to d

@@ -1,6 +1,6 @@
 -- Without a code the members' own clash dates; with one more, those on its holidays are others (`with-code`).
-use Rattle.cif_feed.proofs.Names.{AreClashDatesOn, Contains, CountsAmong, Global, HasCodeAt, HolidayCode, IfOk-weaker, List, Vec, X, arith, drop}
-use Rattle.cif_feed.proofs.Names.{false≢true, get_or, length, nil_from_length, subst, sym, take, ℕ, ◌+◌, ◌-◌, ◌↔◌, ◌≡◌}
+use Rattle.cif_feed.proofs.Names.{AreClashDatesOn, Contains, CountsAmong, Global, HasCodeAt, HolidayCode, IfOk-weaker, List, Vec, X, arith}
+use Rattle.cif_feed.proofs.Names.{drop, false≢true, get_or, length, nil_from_length, subst, sym, take, ℕ, ◌+◌, ◌-◌, ◌↔◌, ◌≡◌}
 use Rattle.cif_feed.proofs.CountedClashes.{chosen-dates, first-and-rest, with-code, without-code}
 use Rattle.cif_feed.proofs.counting.+clash_dates_by.Goals as goal
 
@@ -37,7 +37,8 @@ returns g t c =
     let code = get_or codes 0 X in
     let others = take (length codes - 1) (drop 1 codes) in
     let rest = c.as_slice.result.now in
-    IfOk-weaker _ _ _ (λ (days : Vec ℕ Global) merged. subst (λ (l : List HolidayCode). AreClashDatesOn (CountsAmong h published entries members l)
+    IfOk-weaker _ _ _ (λ (days : Vec ℕ Global) merged. subst
+    (λ (l : List HolidayCode). AreClashDatesOn (CountsAmong h published entries members l)
     window.first (window.last + 1) days.items) (sym (first-and-rest codes X c.in-len1-up.len_at_least))
     (with-code h published entries code others members rest
     (subst (λ (l : List ℕ). (i : ℕ) → Contains l i ↔ (Contains members i × (¬ HasCodeAt published entries code i)))

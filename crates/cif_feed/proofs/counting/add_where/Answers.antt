@@ -1,6 +1,5 @@
 -- One date more is there, if it is wanted (`also-more`, `also-passed`).
-use Rattle.cif_feed.proofs.Names.{IsHoliday, IsTrue, List, false, false≢true, get_or_read, rules, subst, sym, take_all, true, ℕ, ◌↔◌, ◌∙◌}
-use Rattle.cif_feed.proofs.Names.{◌≡◌}
+use Rattle.cif_feed.proofs.Names.{IsHoliday, IsTrue, List, false≢true, subst, sym, take_all, ℕ, ◌↔◌, ◌∙◌}
 use Rattle.std.specs.Cmp.{booleans_Decides}
 use Rattle.cif_feed.proofs.CountedClashes.{AreAlso, also-more, also-none, also-passed, wanted-not, wanted-so}
 use Rattle.cif_feed.proofs.counting.add_where.Goals as goal

@@ -1,6 +1,6 @@
 -- One position more is there, unless its entry has the code (`also-more`, `also-passed`).
-use Rattle.cif_feed.proofs.Names.{All-contains, Contains, Contains-get_or, Contains-none, HasCodeAt, List, [], arith, false, false≢true}
-use Rattle.cif_feed.proofs.Names.{get_or, get_or_default, inr, length, rules, subst, sym, take, take_all, true, ℕ, ⊎_elim, ◌<◌, ◌∙◌, ◌≡◌}
+use Rattle.cif_feed.proofs.Names.{All-contains, Contains-get_or, Contains-none, HasCodeAt, List, [], false, false≢true}
+use Rattle.cif_feed.proofs.Names.{get_or, get_or_default, inr, length, rules, subst, sym, take_all, true, ℕ, ⊎_elim, ◌<◌, ◌∙◌, ◌≡◌}
 use Rattle.cif_feed.proofs.CountedClashes.{AreAlso, also-more, also-none, also-passed, code-here}
 use Rattle.cif_feed.proofs.counting.without_code.Goals as goal
 use Rattle.cif_feed.proofs.counting.without_code.Given.{Over}

@@ -1,6 +1,6 @@
 -- It applies on a date, or on none of them all: no date before its first or after its last is one of its own (`passed`).
-use Rattle.cif_feed.proofs.Names.{AppliesAsPublished, arith, cases_lt, ended, false≢true, get_or, get_or_read, length, refl, subst, sym, ℕ}
-use Rattle.cif_feed.proofs.Names.{⊎_elim, ◌+◌, ◌<◌, ◌∙◌, ◌≡◌, ◌≤◌}
+use Rattle.cif_feed.proofs.Names.{AppliesAsPublished, arith, cases_lt, ended, false≢true, get_or, get_or_read, refl, subst, sym, ℕ}
+use Rattle.cif_feed.proofs.Names.{⊎_elim, ◌<◌, ◌∙◌, ◌≡◌}
 use Rattle.cif_feed.proofs.PartLists.{gt-after, left-contains, passed}
 use Rattle.cif_feed.proofs.cut_count.applies_on_any.Goals as goal
 

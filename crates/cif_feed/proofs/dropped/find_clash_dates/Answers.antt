@@ -1,6 +1,6 @@
 -- Key by key (`FoundKeys`): the first run of positions is all of a key, whose clash dates are found.
-use Rattle.cif_feed.proofs.Names.{All, All-drop, All-take, AreClashDays, List, all-within, eqb-true, get, keyed, length, nil_from_length, published_by, subst, sym, ℕ}
-use Rattle.cif_feed.proofs.Names.{◌+◌, ◌<◌}
+use Rattle.cif_feed.proofs.Names.{All, All-drop, All-take, AreClashDays, List, all-within, eqb-true, get, keyed, length, nil_from_length}
+use Rattle.cif_feed.proofs.Names.{published_by, subst, sym, ℕ, ◌+◌, ◌<◌}
 use Rattle.cif_calendar.proofs.FirstClash.{same_key-cmp}
 use Rattle.cif_feed.proofs.CountedClashes.{counted-none}
 use Rattle.cif_feed.proofs.FoundKeys.{AreFoundUpTo, found-all, found-more, found-nothing, get-none}

@@ -1,6 +1,6 @@
--- The entry is cut up to `first` (`IsCutUpTo`), and the next of each list is known.
-use Rattle.cif_feed.proofs.Names.{Contains, IsDateOnDaysRun, IsFirstFrom, ended, records_on, ℕ, ◌+◌, ◌-◌, ◌⊎◌}
-use Rattle.cif_feed.proofs.PartLists.{IsCutUpTo}
+-- The entry is cut up to `first` (`IsCutUpTo`), and of each list the dates from then on are left.
+use Rattle.cif_feed.proofs.Names.{Contains, ended, records_on, ℕ, ◌+◌, ◌-◌, ◌⊎◌}
+use Rattle.cif_feed.proofs.PartLists.{IsCutUpTo, IsRestOf}
 use Rattle.cif_feed.proofs.parts.add_parts.Given as goal
 
 abbrev pub invariant-loop-cut : goal.invariant-loop-cut
@@ -9,8 +9,8 @@ invariant-loop-cut g l = record {
       (ended l.last (g.E.Entry.terms l.entry))
       (records_on g.E.Entry.key g.E.Entry.terms l.initial.prepared.items) (records_on g.E.Entry.key g.E.Entry.terms l.prepared.items)
       l.first;
-  holiday : IsFirstFrom (IsDateOnDaysRun l.holidays (g.E.Entry.terms l.entry).days) l.first l.last l.holiday;
-  clash : IsFirstFrom (IsDateOnDaysRun l.clash_dates (g.E.Entry.terms l.entry).days) l.first l.last l.clash;
+  holidays : IsRestOf l.holidays (g.E.Entry.terms l.entry).days l.first l.last l.holidays_left;
+  clashes : IsRestOf l.clash_dates (g.E.Entry.terms l.entry).days l.first l.last l.clashes_left;
 }
 
 abbrev pub decreases-loop-cut : goal.decreases-loop-cut
