@@ -196,7 +196,8 @@ module _ {K B : Type 0} (cmp : K → K → Ordering) (es : List (K × Terms B)) 
       pub reads : ReadsDates stands_for days found
 
     pub found-nothing : ((k : K) → ((r : Terms B) → of_key es k r → ⊥) → Are k []) → (rest : List ℕ)
-        → ((i : ℕ) → i < length es → Contains rest i) → IsRising cmp es rest → (found : R → Option RisingDays) → ((r : R) → found r ≡ None) → AreFoundUpTo known found rest
+        → ((i : ℕ) → i < length es → Contains rest i) → IsRising cmp es rest → (found : R → Option RisingDays)
+        → ((r : R) → found r ≡ None) → AreFoundUpTo known found rest
     found-nothing empty rest whole rising found none = record {
       keys = [];
       days = λ k. [];
