@@ -1,4 +1,4 @@
--- What is found in a prepared extract that only holidays cut: the clash days of the published one.
+-- What is told of the keys that clash, and what is cut at their clash days: the extract without clashes.
 use Rattle.cif_feed.proofs.Names.{AppliesOnAny, AreAllFound, AreClashDays, AreDropped, AreFound, AssocBody, AssocKey, BodyLines, Clash}
 use Rattle.cif_feed.proofs.Names.{Contains, Dropped, DroppedKey, ExtractParts, Holidays, IsClashDay, IsCountOf, IsCutAt, IsPrepared, List}
 use Rattle.cif_feed.proofs.Names.{Option, Ordering, PublishedAssociation, PublishedExtract, PublishedParts, PublishedSchedule}

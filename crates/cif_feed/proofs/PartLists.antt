@@ -482,6 +482,17 @@ module _ {K B : Type 0} (Stops : ℕ → Type 0) (k : K) (r : Terms B) where
           let next = parts-next Stops r first cut.own cut.so_far cut.begins stop found more in
           record { own = cut.own ++ before_cut first stop; are = joined; so_far = next.0; begins = next.1 }
 
+-- a record that nothing stops is its one part
+pub never-stopped : {K B : Type 0} (holidays clashes : List ℕ) (k : K) (r : Terms B) (old new : List (K × Terms B)) → r.first ≤ r.last
+    → holidays ≡ [] → clashes ≡ [] → IsAdded k r r.first r.last old new
+    → AreAdded (λ d. Contains holidays d ⊎ Contains clashes d) k r old new
+never-stopped holidays clashes k r old new up none nor added =
+    let Stops = λ (d : ℕ). Contains holidays d ⊎ Contains clashes d in
+    cut-end Stops k r old old r.first (cut-nothing Stops k r old up) new added (λ d early late stop. ⊎_elim
+    (λ has. Contains-none d (subst (λ (l : List ℕ). Contains l d) none has))
+    (λ has. Contains-none d (subst (λ (l : List ℕ). Contains l d) nor has))
+    stop.stops)
+
 -- ---- one record more
 
 -- a record that was pushed

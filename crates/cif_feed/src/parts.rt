@@ -86,6 +86,9 @@ pub(crate) fn add_parts<'a, E: Entry>(
         (records_on E.key E.terms prepared.old.items) (records_on E.key E.terms prepared.new.items)) }
 {
     let mut first = entry.first();
+    if holidays.is_empty() && clash_dates.is_empty() {
+        return push(entry, first, last, prepared);
+    }
     let days = entry.days();
     let mut holidays_left = from_next(from_day(holidays, first), days, first, last);
     let mut clashes_left = from_next(from_day(clash_dates, first), days, first, last);

@@ -1,9 +1,19 @@
 -- Cut by cut (`IsCutUpTo`): one ends a part, and after it another begins, unless the entry ends there.
-use Rattle.cif_feed.proofs.Names.{Bool, Contains, IfOk-weaker, IsFromNext, List, None, Some, arith, ended, records_on, subst, sym, ℕ, ◌≤◌}
-use Rattle.cif_feed.proofs.Names.{◌⊎◌}
-use Rattle.cif_feed.proofs.PartLists.{IsCutUpTo, IsRestOf, cut-end, cut-last, cut-next, cut-nothing, pushed-added, rest-first, rest-later}
-use Rattle.cif_feed.proofs.PartLists.{rests-found}
+use Rattle.cif_feed.proofs.Names.{Bool, Contains, IfOk-weaker, IsFromNext, List, None, Some, arith, ended, length, nil_from_length}
+use Rattle.cif_feed.proofs.Names.{records_on, rules, subst, sym, ℕ, ◌≡◌, ◌≤◌, ◌⊎◌}
+use Rattle.cif_feed.proofs.PartLists.{IsCutUpTo, IsRestOf, cut-end, cut-last, cut-next, cut-nothing, never-stopped, pushed-added}
+use Rattle.cif_feed.proofs.PartLists.{pushed-from, rest-first, rest-later, rests-found}
 use Rattle.cif_feed.proofs.parts.add_parts.Goals as goal
+
+pub returns-then-is_empty-2 : goal.returns-then-is_empty-2
+returns-then-is_empty-2 g c =
+    let r = ended c.args.last (g.E.Entry.terms c.args.entry.now) in
+    let none : length c.args.holidays.now ≡ 0 = search rules in
+    let nor : length c.args.clash_dates.now ≡ 0 = search rules in
+    IfOk-weaker _ _ _ (λ done pushed. never-stopped c.args.holidays.now c.args.clash_dates.now (g.E.Entry.key c.args.entry.now) r _ _
+    c.requires.in_order (nil_from_length _ none) (nil_from_length _ nor)
+    (pushed-from g.E.Entry.key g.E.Entry.terms c.args.entry.now c.first-first.result r.first c.args.last _ _ c.first-first.ensures pushed))
+    c.push.ensures
 
 pub loop-cut-init : goal.loop-cut-init
 loop-cut-init g c =
@@ -36,7 +46,7 @@ returns-in_default g c =
     (rests-found c.args.holidays.now c.args.clash_dates.now r.days c.loop-cut.first c.args.last c.loop-cut.holidays_left.now
     c.loop-cut.clashes_left.now c.first_up_to-holiday.result c.first_up_to-clash.result c.sooner.result None
     c.loop-cut.invariant.holidays c.loop-cut.invariant.clashes c.first_up_to-holiday.ensures c.first_up_to-clash.ensures
-    c.sooner.ensures c.in_default.is)) c.push.ensures
+    c.sooner.ensures c.in_default.is)) c.push-in_default.ensures
 
 pub returns-in-None : goal.returns-in-None
 returns-in-None g c =
