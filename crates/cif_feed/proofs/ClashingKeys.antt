@@ -1,62 +1,43 @@
--- What is found in a prepared extract that only holidays cut: the clash days of the published one.
-use Rattle.cif_feed.proofs.Names.{AppliesOnAny, AreAllFound, AreClashDates, AreClashDays, AreDropped, AreFound, AssocBody, AssocKey}
-use Rattle.cif_feed.proofs.Names.{Association, BodyLines, Clash, Contains, Contains-none, Dropped, DroppedKey, ExtractParts, Global, Header}
-use Rattle.cif_feed.proofs.Names.{Holidays, IsClashDay, IsCountOf, IsCutAt, IsPrepared, List, Option, Ordering, PreparedRecord}
-use Rattle.cif_feed.proofs.Names.{PublishedAssociation, PublishedExtract, PublishedParts, PublishedSchedule, PublishedTerms}
-use Rattle.cif_feed.proofs.Names.{ReadsAssociations, ReadsTrains, Schedule, Terms, Vec, [], ap, append_assoc, arith, association_entries}
-use Rattle.cif_feed.proofs.Names.{association_on, association_terms, codes, cond, decimal, dropped_text, false, key_cmp, last_day}
-use Rattle.cif_feed.proofs.Names.{last_is_day, length, map, more_text, nat_cmp, prepared_parts, published_association_terms}
-use Rattle.cif_feed.proofs.Names.{published_associations, published_schedule_terms, published_schedules, records_on, refl, schedule_entries}
-use Rattle.cif_feed.proofs.Names.{schedule_on, schedule_terms, slice_cmp, subst, sym, true, ℕ, ◌++◌, ◌+◌, ◌<◌, ◌==◌, ◌↔◌, ◌∙◌, ◌∷◌, ◌≡◌}
-use Rattle.cif_feed.proofs.Names.{◌≤◌}
+-- What is told of the keys that clash, and what is cut at their clash days: the extract without clashes.
+use Rattle.cif_feed.proofs.Names.{AppliesOnAny, AreAllFound, AreClashDays, AreDropped, AreFound, AssocBody, AssocKey, BodyLines, Clash}
+use Rattle.cif_feed.proofs.Names.{Contains, Dropped, DroppedKey, ExtractParts, Holidays, IsClashDay, IsCountOf, IsCutAt, IsPrepared, List}
+use Rattle.cif_feed.proofs.Names.{Option, Ordering, PublishedAssociation, PublishedExtract, PublishedParts, PublishedSchedule}
+use Rattle.cif_feed.proofs.Names.{PublishedTerms, ReadsAssociations, ReadsTrains, RisingDays, [], ap, append_assoc, arith}
+use Rattle.cif_feed.proofs.Names.{association_entries, codes, cond, decimal, dropped_text, false, key_cmp, last_day, last_is_day, map}
+use Rattle.cif_feed.proofs.Names.{more_text, nat_cmp, published_association_terms, published_associations, published_parts}
+use Rattle.cif_feed.proofs.Names.{published_schedule_terms, published_schedules, schedule_entries, slice_cmp, subst, sym, true, ℕ, ◌++◌}
+use Rattle.cif_feed.proofs.Names.{◌+◌, ◌==◌, ◌∙◌, ◌≡◌, ◌≤◌}
 use Rattle.cif_extract.specs.Clash.{clash_text}
 use Rattle.cif_extract.specs.declared.fault.Clash.TheVariants as clash
-use Rattle.cif_calendar.specs.Keys.{of_key}
 use Rattle.cif_calendar.specs.Ranks.{IsNumberOf}
 use Rattle.cif_feed.proofs.CutCounts.{count-map, count-same}
-use Rattle.cif_feed.proofs.PreparedLists.{prepared-associations, prepared-schedules}
-use Rattle.cif_feed.proofs.PreparedRuns.{clash-days, closed-associations, closed-schedules, cut-prepared, cut-whole, whole-clear}
+use Rattle.cif_feed.proofs.PreparedRuns.{closed-associations, closed-schedules, cut-prepared, cut-whole}
 use Rattle.cif_feed.specs.Dropped.{told_as}
 
--- what is in no list has no days
-no-days : {K : Type 0} (keys : List K) (k : K) (days : List ℕ) → Contains keys k ↔ (0 < length days) → keys ≡ [] → days ≡ []
-no-days keys k [] each none = refl
-no-days keys k (d ∷ days) each none =
-    absurd (Contains-none k (subst (λ l. Contains l k) none (each.1 (let some : 0 < length (d ∷ days) = omega arith in some))))
-
-no-keys : {A B : Type 0} (f : A → B) (xs : List A) (ys : List B) → map f xs ++ ys ≡ [] → (xs ≡ []) × (ys ≡ [])
-no-keys f [] ys e = (refl, e)
-no-keys f (x ∷ xs) ys e = absurd (cc)
-
-no-map : {A B : Type 0} (f : A → B) (xs : List A) → map f xs ≡ [] → xs ≡ []
-no-map f [] e = refl
-no-map f (x ∷ xs) e = absurd (cc)
-
 -- what is found in records that are those of an extract, in the window of its header
-found-in : {R K B : Type 0} (cmp : K → K → Ordering) (name : K → ℕ → Clash) (stands_for : R → K → Type 0) (es fs : List (K × Terms B))
-    (first one last other : ℕ) (known all : List DroppedKey) (found : R → Option (Vec ℕ Global)) → es ≡ fs → first ≡ one → last ≡ other
-    → AreFound cmp name stands_for es first (last + 1) known all found → AreFound cmp name stands_for fs one (other + 1) known all found
-found-in cmp name stands_for es fs first one last other known all found is f l a =
-    subst (λ n. AreFound cmp name stands_for fs n (other + 1) known all found) f
-    (subst (λ n. AreFound cmp name stands_for fs first (n + 1) known all found) l
-    (subst (λ xs. AreFound cmp name stands_for xs first (last + 1) known all found) is a))
+found-in : {R K B : Type 0} (h : Holidays) (cmp : K → K → Ordering) (name : K → ℕ → Clash) (stands_for : R → K → Type 0)
+    (es fs : List (K × PublishedTerms B)) (first one last other : ℕ) (known all : List DroppedKey) (found : R → Option RisingDays)
+    → es ≡ fs → first ≡ one → last ≡ other → AreFound cmp name stands_for (AreClashDays h es first (last + 1)) known all found
+    → AreFound cmp name stands_for (AreClashDays h fs one (other + 1)) known all found
+found-in h cmp name stands_for es fs first one last other known all found is f l a =
+    subst (λ n. AreFound cmp name stands_for (AreClashDays h fs n (other + 1)) known all found) f
+    (subst (λ n. AreFound cmp name stands_for (AreClashDays h fs first (n + 1)) known all found) l
+    (subst (λ xs. AreFound cmp name stands_for (AreClashDays h xs first (last + 1)) known all found) is a))
 
-pub all-found : (x : PublishedExtract) (xs ys : List (PreparedRecord Association ℕ)) (ss ts : List (PreparedRecord Schedule ℕ))
-    (first last : ℕ) (known between all : List DroppedKey) (associations : AssocKey → Option (Vec ℕ Global))
-    (trains : ℕ → Option (Vec ℕ Global)) → xs ≡ ys → ss ≡ ts → first ≡ x.header.first → last ≡ x.header.last
+pub all-found : (h : Holidays) (x : PublishedExtract) (xs : List PublishedAssociation) (ss : List PublishedSchedule)
+    (first last : ℕ) (known between all : List DroppedKey) (associations : AssocKey → Option RisingDays)
+    (trains : ℕ → Option RisingDays) → xs ≡ x.associations.items → ss ≡ x.schedules.items → first ≡ x.header.first → last ≡ x.header.last
     → AreFound key_cmp clash.Association (λ (rank key : AssocKey). rank ≡ key)
-    (records_on {K = AssocKey} {B = AssocBody} (λ (a : Association). a.key) association_terms xs)
-    first (last + 1) known between associations
-    → AreFound (slice_cmp nat_cmp) clash.Train IsNumberOf
-    (records_on {K = List ℕ} {B = BodyLines} (λ (s : Schedule). s.uid) schedule_terms ss) first (last + 1) between all trains
-    → AreAllFound (prepared_parts x ys ts) known all associations trains
-all-found x xs ys ss ts first last known between all associations trains same same_also f l a t = (
+    (AreClashDays h (published_associations xs) first (last + 1)) known between associations
+    → AreFound (slice_cmp nat_cmp) clash.Train IsNumberOf (AreClashDays h (published_schedules ss) first (last + 1)) between all trains
+    → AreAllFound h (published_parts x) known all associations trains
+all-found h x xs ss first last known between all associations trains same same_also f l a t = (
   between,
-  found-in key_cmp clash.Association (λ (rank key : AssocKey). rank ≡ key) _ (association_entries (map association_on ys)) first
-      x.header.first last x.header.last known between associations
-      (prepared-associations xs ∙ ap (λ zs. association_entries (map association_on zs)) same) f l a,
-  found-in (slice_cmp nat_cmp) clash.Train IsNumberOf _ (schedule_entries (map schedule_on ts)) first x.header.first last x.header.last
-      between all trains (prepared-schedules ss ∙ ap (λ zs. schedule_entries (map schedule_on zs)) same_also) f l t,
+  found-in h key_cmp clash.Association (λ (rank key : AssocKey). rank ≡ key) (published_associations xs)
+      (published_associations x.associations.items) first x.header.first last x.header.last known between associations
+      (ap published_associations same) f l a,
+  found-in h (slice_cmp nat_cmp) clash.Train IsNumberOf (published_schedules ss) (published_schedules x.schedules.items) first
+      x.header.first last x.header.last between all trains (ap published_schedules same_also) f l t,
 )
 
 module _ (h : Holidays) (p : PublishedParts) where
@@ -74,24 +55,14 @@ module _ (h : Holidays) (p : PublishedParts) where
         (schedule_entries x.schedules) cut.cut_schedules;
   }
 
-  module _ (x : ExtractParts) (whole : IsPrepared h false p x) (known all : List DroppedKey) (empty : known ≡ [])
-      (associations : AssocKey → Option (Vec ℕ Global)) (trains : ℕ → Option (Vec ℕ Global))
-      (found : AreAllFound x known all associations trains) where
+  module _ (known all : List DroppedKey) (empty : known ≡ []) (associations : AssocKey → Option RisingDays)
+      (trains : ℕ → Option RisingDays) (found : AreAllFound h p known all associations trains) where
     associations-are : (k : AssocKey)
         → AreClashDays h (published_associations p.associations) p.header.first (p.header.last + 1) k (found.1.days k)
-    associations-are k =
-        clash-days h (published_associations p.associations) (closed-associations p.associations) p.header.first p.header.last day
-        (association_entries x.associations) whole.associations k (found.1.days k)
-        (subst (λ (v : Header). AreClashDates (of_key (association_entries x.associations) k) v.first (v.last + 1) (found.1.days k))
-        whole.header (found.1.are.are k))
+    associations-are k = found.1.are.are k
 
-    trains-are : (k : List ℕ)
-        → AreClashDays h (published_schedules p.schedules) p.header.first (p.header.last + 1) k (found.2.days k)
-    trains-are k =
-        clash-days h (published_schedules p.schedules) (closed-schedules p.schedules) p.header.first p.header.last day
-        (schedule_entries x.schedules) whole.schedules k (found.2.days k)
-        (subst (λ (v : Header). AreClashDates (of_key (schedule_entries x.schedules) k) v.first (v.last + 1) (found.2.days k))
-        whole.header (found.2.are.are k))
+    trains-are : (k : List ℕ) → AreClashDays h (published_schedules p.schedules) p.header.first (p.header.last + 1) k (found.2.days k)
+    trains-are k = found.2.are.are k
 
     are_keys : all ≡ map (told_as clash.Association found.1.days) found.1.keys ++ map (told_as clash.Train found.2.days) found.2.keys
     are_keys = found.2.added
@@ -144,23 +115,7 @@ module _ (h : Holidays) (p : PublishedParts) where
       records = records;
     }
 
-    -- where there are none, the extract is the one without clashes
-    pub none-dropped : all ≡ [] → IsPrepared h true p x
-    none-dropped none =
-        let (no_associations, no_trains) = no-keys (told_as clash.Association found.1.days) found.1.keys
-        (map (told_as clash.Train found.2.days) found.2.keys) (sym are_keys ∙ none) in
-        let no_uids = no-map (told_as clash.Train found.2.days) found.2.keys no_trains in record {
-          header = whole.header;
-          tiplocs = whole.tiplocs;
-          associations = whole-clear h (published_associations p.associations) (closed-associations p.associations) p.header.first
-              p.header.last day (association_entries x.associations) found.1.days associations-are
-              (λ k. no-days found.1.keys k (found.1.days k) (found.1.are.each k) no_associations) whole.associations;
-          schedules = whole-clear h (published_schedules p.schedules) (closed-schedules p.schedules) p.header.first p.header.last day
-              (schedule_entries x.schedules) found.2.days trains-are
-              (λ k. no-days found.2.keys k (found.2.days k) (found.2.are.each k) no_uids) whole.schedules;
-        }
-
-    -- and what is cut at them is it
+    -- what is cut at them is the extract without clashes
     pub cut-dropped : (y : ExtractParts) → IsCutAt h p found.1.days found.2.days y → IsPrepared h true p y
     cut-dropped y cut = record {
       header = cut.header;

@@ -1,59 +1,43 @@
 -- Keys and their clash days are found one after another, over positions in the order of the keys.
-use Rattle.cif_feed.proofs.Names.{AllPairs, AnyHasKey, AreClashDates, AreFound, AreOfFirstKey, ArePositionsOf, BTreeMap, Clash, Contains}
-use Rattle.cif_feed.proofs.Names.{Contains-append_left, Contains-first, Contains-get_or, Contains-none, Contains-push, Contains-push_cases}
-use Rattle.cif_feed.proofs.Names.{Contains-rest, DroppedKey, Equal, Global, Greater, IsChosen, IsKeyTold, IsRising, IsTold, IsTotalOrder}
-use Rattle.cif_feed.proofs.Names.{Less, List, None, Option, Ordering, ReadsDates, Records, SameRecords, Terms, Vec, [], all_pairs_push, ap}
-use Rattle.cif_feed.proofs.Names.{append-nil, append_assoc, ap₂, arith, cond, days_in, days_with, drop, get, get_or, has-key, inl, is_eq}
-use Rattle.cif_feed.proofs.Names.{keyed, length, map, map-append, not_less, refl, slice_get_within, subst, sym, take, tied_itself, ℕ}
-use Rattle.cif_feed.proofs.Names.{⊎_elim, ◌++◌, ◌<◌, ◌↔◌, ◌∙◌, ◌∷◌, ◌≡◌, ◌⊎◌}
+use Rattle.cif_feed.proofs.Names.{AllPairs, AnyHasKey, AreClashDatesOn, AreClashDays, AreFound, AreOfFirstKey, ArePositionsOf, BTreeMap}
+use Rattle.cif_feed.proofs.Names.{Clash, Contains, Contains-append_left, Contains-first, Contains-get_or, Contains-none, Contains-push}
+use Rattle.cif_feed.proofs.Names.{Contains-push_cases, Contains-rest, CountsAmong, DroppedKey, Equal, Greater, Holidays, IsKeyTold}
+use Rattle.cif_feed.proofs.Names.{IsNonDecreasing, IsRising, IsTold, IsTotalOrder, Less, List, None, Option, Ordering, PublishedTerms}
+use Rattle.cif_feed.proofs.Names.{ReadsDates, RisingDays, Terms, [], all_pairs_push, ap, append-nil, append_assoc, ap₂, arith, cases_lt}
+use Rattle.cif_feed.proofs.Names.{code_list, cond, days_in, days_with, drop, get, get_or, has-key, inl, is_eq, keyed, length, map}
+use Rattle.cif_feed.proofs.Names.{map-append, not_less, published_by, refl, slice_get_within, subst, sym, take, tied_itself, ℕ, ⊎_elim}
+use Rattle.cif_feed.proofs.Names.{◌++◌, ◌<◌, ◌↔◌, ◌∙◌, ◌∷◌, ◌≡◌, ◌≤◌, ◌⊎◌}
 use Rattle.std.specs.Map.{lookup}
 use Rattle.cif_calendar.proofs.KeyTurns.{decided, first-leads, no-entry, one-key, rising-after}
 use Rattle.cif_calendar.proofs.PassedKeys.{HasPassed, key-or-later, later-less, left-before, passed-more, turn}
-use Rattle.cif_calendar.proofs.Positions.{positions-records}
-use Rattle.cif_calendar.proofs.Sets.{IsClash-same, IsClear-same}
 use Rattle.cif_calendar.specs.Keys.{of_key}
+use Rattle.cif_feed.proofs.CountedClashes.{counted-days}
 use Rattle.cif_feed.specs.Dropped.{told_as}
 
--- ---- the clash days of sets of records
-
--- sets with the same records have the same clash days
-pub dates-same : {B : Type 0} (xs ys : Records B) → SameRecords xs ys → SameRecords ys xs → (first to : ℕ) (days : List ℕ)
-    → AreClashDates xs first to days → AreClashDates ys first to days
-dates-same xs ys e back first to days a = record {
-  rising = a.rising;
-  are = λ d. (
-    λ has. let is = (a.are d).0 has in record { from = is.from; before = is.before; clash = IsClash-same xs ys e d is.clash },
-    λ is. (a.are d).1 (record { from = is.from; before = is.before; clash = IsClash-same ys xs back d is.clash }),
-  );
-  clear = λ d from before lacks. IsClear-same xs ys e d (a.clear d from before lacks);
-}
-
--- without a record there are none
-dates-empty : {B : Type 0} (records : Records B) → ((r : Terms B) → records r → ⊥) → (first to : ℕ) → AreClashDates records first to []
-dates-empty records none first to = record {
-  rising = λ i j d less below. absurd (omega arith);
-  are = λ d. (λ has. absurd (Contains-none d has), λ is. absurd (none is.clash.one is.clash.one_wins.listed));
-  clear = λ d from before lacks. record { agree = λ r s r_wins s_wins. absurd (none r r_wins.listed) };
-}
-
 -- a key is told by its first position
-pub key-told : {E K B R : Type 0} (key : E → K) (terms : E → Terms B) (xs : List E) (members : List ℕ) (cmp : K → K → Ordering)
-    (name : K → ℕ → Clash) (stands_for : R → K → Type 0) (first to : ℕ) (known all : List DroppedKey) (old new : R → Option (Vec ℕ Global))
-    (entry : E) (found : List ℕ) → 0 < length members → get_or members 0 0 < length xs → entry ≡ get_or xs (get_or members 0 0) entry
-    → AreClashDates (IsChosen (map terms xs) members) first to found → IsTold cmp name stands_for (key entry) found known all old new
-    → (k : K) → ArePositionsOf (keyed key terms xs) k members
-    → IsKeyTold cmp name stands_for (keyed key terms xs) first to k known all old new
-key-told {B = B} key terms xs members cmp name stands_for first to known all old new entry found some below is dates told k p =
+pub key-told : {A K B R : Type 0} (h : Holidays) (key : A → K) (terms : A → Terms B) (published : A → PublishedTerms B)
+    → ((x : A) → (published x).terms ≡ terms x) → (xs : List A) (members : List ℕ) (cmp : K → K → Ordering)
+    (name : K → ℕ → Clash) (stands_for : R → K → Type 0) (first to : ℕ) (known all : List DroppedKey) (old new : R → Option RisingDays)
+    (entry : A) (found : List ℕ) → 0 < length members → get_or members 0 0 < length xs → entry ≡ get_or xs (get_or members 0 0) entry
+    → AreClashDatesOn (CountsAmong h published xs members code_list) first to found
+    → IsTold cmp name stands_for (key entry) found known all old new → (k : K) → ArePositionsOf (keyed key terms xs) k members
+    → IsKeyTold cmp name stands_for (AreClashDays h (published_by key published xs) first to) k known all old new
+key-told h key terms published own xs members cmp name stands_for first to known all old new entry found some below is dates told k p =
     let position = get_or members 0 0 in
     let at = p.found position (Contains-get_or members 0 0 some) in
     let same = one-key (keyed key terms xs) position (key entry) k (has-key key terms xs position entry below is)
-    (record { terms = at.0; at = at.1 }) in
-    let e : SameRecords (IsChosen (map terms xs) members) (of_key (keyed key terms xs) k) = positions-records key terms xs k members p in (
+    (record { terms = at.0; at = at.1 }) in (
       found,
-      dates-same (IsChosen (map terms xs) members) (of_key (keyed key terms xs) k) e (record { same = λ r. ((e.same r).1, (e.same r).0) })
-          first to found dates,
+      counted-days h key terms published own xs k members p first to found dates,
       subst (λ j. IsTold cmp name stands_for j found known all old new) same told,
     )
+
+-- days that rise don't fall
+pub rising-days : (days : List ℕ) → AllPairs ◌<◌ days → IsNonDecreasing days
+rising-days days rise i j d upto below = ⊎_elim
+    (λ (less : i < j). let up = rise i j d less below in omega arith)
+    (λ (back : j ≤ i). let same : i ≡ j = omega arith in omega (arith, ap (λ n. get_or days n d) same))
+    (cases_lt i j)
 
 -- ---- maps
 
@@ -68,7 +52,7 @@ map-agree {A} {B} f g (x ∷ xs) same =
 pub get-none : {R X : Type 0} (cmp : R → R → Ordering) (m : BTreeMap R X) → m.entries ≡ [] → (r : R) → get cmp m r ≡ None
 get-none cmp m empty r = ap (lookup (λ k. is_eq (cmp r k))) empty
 
-pub reads-none : {R K : Type 0} (stands_for : R → K → Type 0) (found : R → Option (Vec ℕ Global)) → ((r : R) → found r ≡ None)
+pub reads-none : {R K : Type 0} (stands_for : R → K → Type 0) (found : R → Option RisingDays) → ((r : R) → found r ≡ None)
     → ReadsDates stands_for (λ k. []) found
 reads-none stands_for found none r k stands = ap days_in (none r)
 
@@ -89,10 +73,7 @@ module _ {K : Type 0} (cmp : K → K → Ordering) (total : IsTotalOrder cmp) (s
 
 -- ---- one key after another
 
-module _ {K B : Type 0} (cmp : K → K → Ordering) (es : List (K × Terms B)) (first to : ℕ) where
-  abbrev Are : K → List ℕ → Type 0
-  Are k = AreClashDates (of_key es k) first to
-
+module _ {K B : Type 0} (cmp : K → K → Ordering) (es : List (K × Terms B)) (Are : K → List ℕ → Type 0) where
   -- these keys have clash days, and so have no others but those with entries at `rest`, which are after them
   pub record AreSearched (keys : List K) (days : K → List ℕ) (rest : List ℕ) : Type 0 where
     pub rising : IsRising cmp es rest
@@ -103,15 +84,15 @@ module _ {K B : Type 0} (cmp : K → K → Ordering) (es : List (K × Terms B)) 
     pub done : (k : K) → (AnyHasKey es rest k → ⊥) → Are k (days k)
     pub ahead : (k : K) → AnyHasKey es rest k → days k ≡ []
 
-  searched-nothing : (rest : List ℕ) → ((i : ℕ) → i < length es → Contains rest i) → IsRising cmp es rest
-      → AreSearched [] (λ k. []) rest
-  searched-nothing rest whole rising = record {
+  searched-nothing : ((k : K) → ((r : Terms B) → of_key es k r → ⊥) → Are k []) → (rest : List ℕ)
+      → ((i : ℕ) → i < length es → Contains rest i) → IsRising cmp es rest → AreSearched [] (λ k. []) rest
+  searched-nothing empty rest whole rising = record {
     rising = rising;
     passed = λ i j has. inl (whole i (slice_get_within es i (j, has.terms) has.at));
     keys_rising = λ i j d less below. absurd (omega arith);
     before = λ j k has any. absurd (Contains-none j has);
     each = λ k. (λ has. absurd (Contains-none k has), λ some. absurd (let none : 0 < 0 = some in omega arith));
-    done = λ k none. dates-empty (of_key es k) (no-entry es rest whole k none) first to;
+    done = λ k none. empty k (no-entry es rest whole k none);
     ahead = λ k any. refl;
   }
 
@@ -207,25 +188,26 @@ module _ {K B : Type 0} (cmp : K → K → Ordering) (es : List (K × Terms B)) 
 
   -- These keys are told behind those that were known, and their days are found for what stands for them.
   module _ {R : Type 0} (name : K → ℕ → Clash) (stands_for : R → K → Type 0) (known : List DroppedKey) where
-    pub record AreFoundUpTo (all : List DroppedKey) (found : R → Option (Vec ℕ Global)) (rest : List ℕ) : Type 0 where
+    pub record AreFoundUpTo (all : List DroppedKey) (found : R → Option RisingDays) (rest : List ℕ) : Type 0 where
       pub keys : List K
       pub days : K → List ℕ
       pub searched : AreSearched keys days rest
       pub added : all ≡ known ++ map (told_as name days) keys
       pub reads : ReadsDates stands_for days found
 
-    pub found-nothing : (rest : List ℕ) → ((i : ℕ) → i < length es → Contains rest i) → IsRising cmp es rest
-        → (found : R → Option (Vec ℕ Global)) → ((r : R) → found r ≡ None) → AreFoundUpTo known found rest
-    found-nothing rest whole rising found none = record {
+    pub found-nothing : ((k : K) → ((r : Terms B) → of_key es k r → ⊥) → Are k []) → (rest : List ℕ)
+        → ((i : ℕ) → i < length es → Contains rest i) → IsRising cmp es rest → (found : R → Option RisingDays)
+        → ((r : R) → found r ≡ None) → AreFoundUpTo known found rest
+    found-nothing empty rest whole rising found none = record {
       keys = [];
       days = λ k. [];
-      searched = searched-nothing rest whole rising;
+      searched = searched-nothing empty rest whole rising;
       added = sym (append-nil known);
       reads = λ r k stands. ap days_in (none r);
     }
 
-    pub found-all : (all : List DroppedKey) (found : R → Option (Vec ℕ Global)) → AreFoundUpTo all found []
-        → AreFound cmp name stands_for es first to known all found
+    pub found-all : (all : List DroppedKey) (found : R → Option RisingDays) → AreFoundUpTo all found []
+        → AreFound cmp name stands_for Are known all found
     found-all all found a =
         let s = a.searched in record {
           keys = a.keys;
@@ -241,7 +223,7 @@ module _ {K B : Type 0} (cmp : K → K → Ordering) (es : List (K × Terms B)) 
 
     -- one key more
     found-one : IsTotalOrder cmp → ((j k : K) → cmp j k ≡ Equal → j ≡ k) → (all more : List DroppedKey)
-        (old new : R → Option (Vec ℕ Global)) (rest : List ℕ) → AreFoundUpTo all old rest → (n : ℕ) (run : AreOfFirstKey cmp es rest n)
+        (old new : R → Option RisingDays) (rest : List ℕ) → AreFoundUpTo all old rest → (n : ℕ) (run : AreOfFirstKey cmp es rest n)
         → (dates : List ℕ) → Are run.key dates → IsTold cmp name stands_for run.key dates all more old new
         → AreFoundUpTo more new (drop n rest)
     found-one total same all more old new rest a n run [] its t =
@@ -269,8 +251,8 @@ module _ {K B : Type 0} (cmp : K → K → Ordering) (es : List (K × Terms B)) 
         }
 
     pub found-more : IsTotalOrder cmp → ((j k : K) → cmp j k ≡ Equal → j ≡ k) → (all more : List DroppedKey)
-        (old new : R → Option (Vec ℕ Global)) (rest : List ℕ) → AreFoundUpTo all old rest → (n : ℕ) (run : AreOfFirstKey cmp es rest n)
-        → ((k : K) → ArePositionsOf es k (take n rest) → IsKeyTold cmp name stands_for es first to k all more old new)
+        (old new : R → Option RisingDays) (rest : List ℕ) → AreFoundUpTo all old rest → (n : ℕ) (run : AreOfFirstKey cmp es rest n)
+        → ((k : K) → ArePositionsOf es k (take n rest) → IsKeyTold cmp name stands_for Are k all more old new)
         → AreFoundUpTo more new (drop n rest)
     found-more total same all more old new rest a n run own =
         let (dates, its, t) = own run.key (own-turn total same a.keys a.days rest a.searched n run) in

@@ -14,6 +14,7 @@ pub mod SameDeletions
 pub mod ToldReasons
 pub mod JudgedRuns
 pub mod WrittenItems
+pub mod CountedClashes
 pub mod CutCounts
 pub mod ChangeLaws
 pub mod OwnParts

@@ -148,16 +148,17 @@ pub use Rattle.cif_feed.specs.RecordLines.{is_association, is_basic, is_header, 
 pub use Rattle.cif_feed.specs.RecordLines.{notes_may_stand, record_lines}
 pub use Rattle.cif_feed.specs.SpellsFeed.{BytesSpellFeed, FeedParts, SayFeed, SpellFeed, feed_parts}
 pub use Rattle.cif_feed.specs.Steps.Changes.{AreLast, IsDone, SaysAlone, SaysThere, at_keys, is_position, last_from, last_line, same_by}
+pub use Rattle.cif_feed.specs.Steps.Counting.{AreClashDatesOn, AreMerged, CountsAmong, HasCodeAt, code_list}
 pub use Rattle.cif_feed.specs.Steps.Dropping.{AreAllFound, AreFound, IsCutAt, IsKeyTold, IsStopAmong, IsTold, ReadsAssociations, ReadsDates}
-pub use Rattle.cif_feed.specs.Steps.Dropping.{ReadsTrains, days_in, days_with}
+pub use Rattle.cif_feed.specs.Steps.Dropping.{ReadsTrains, days_in, days_with, published_by}
 pub use Rattle.cif_feed.specs.Steps.FeedReading.{HasTakenFeed, IsFeedTaken, IsNoteTaken, IsOwn, IsRecordTaken, IsStopTaken, read_as}
 pub use Rattle.cif_feed.specs.Steps.FeedReading.{with_passed}
 pub use Rattle.cif_feed.specs.Steps.HolidayReading.{HasLineMore, IsDateFault, IsLineFault}
 pub use Rattle.cif_feed.specs.Steps.Judging.{HasJudged, IsFinished, IsInOrder, SomeHasReason}
 pub use Rattle.cif_feed.specs.Steps.Marks.{HasMarks, HaveRoom, IsClosed, header_behind, last_of_association, last_of_schedule, one_if}
 pub use Rattle.cif_feed.specs.Steps.Marks.{plus_if, with_counts, with_line}
-pub use Rattle.cif_feed.specs.Steps.PartsSoFar.{AreAdded, ArePartsBefore, IsAdded, IsLeftFrom, IsPushed, MayBegin, added_before, before_cut}
-pub use Rattle.cif_feed.specs.Steps.PartsSoFar.{records_on}
+pub use Rattle.cif_feed.specs.Steps.PartsSoFar.{AreAdded, ArePartsBefore, IsAdded, IsFromNext, IsLeftFrom, IsPushed, IsStopOn, MayBegin}
+pub use Rattle.cif_feed.specs.Steps.PartsSoFar.{added_before, before_cut, first_upto, records_on, sooner_of}
 pub use Rattle.cif_feed.specs.Steps.Written.{head_text, prepared_association_text, prepared_schedule_text, published_association_text}
 pub use Rattle.cif_feed.specs.Steps.Written.{published_schedule_text, records_text, tiploc_text, trailer_text}
 pub use Rattle.cif_feed.specs.Transaction.{transaction_letter}
@@ -192,6 +193,7 @@ pub use Rattle.cif_feed.specs.declared.mark.RecordMark.{RecordMark}
 pub use Rattle.cif_feed.specs.declared.mark.TiplocMark.{TiplocMark}
 pub use Rattle.cif_feed.specs.declared.mark.Transaction.{Transaction}
 pub use Rattle.cif_feed.specs.declared.parts.PreparedRecord.{PreparedRecord}
+pub use Rattle.cif_feed.specs.declared.parts.RisingDays.{RisingDays}
 pub use Rattle.cif_feed.specs.declared.published_extract.PublishedAssociation.{PublishedAssociation}
 pub use Rattle.cif_feed.specs.declared.published_extract.PublishedExtract.{PublishedExtract}
 pub use Rattle.cif_feed.specs.declared.published_extract.PublishedSchedule.{PublishedSchedule}

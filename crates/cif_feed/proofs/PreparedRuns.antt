@@ -1,10 +1,10 @@
 -- What runs by the prepared records is what runs by the published ones.
-use Rattle.cif_feed.proofs.Names.{All-contains, All-map, Applies, AreClashDates, AreClashDays, AreClosed, AreDropped, AreParts, ArePrepared}
+use Rattle.cif_feed.proofs.Names.{All-contains, All-map, Applies, AreClashDays, AreClosed, AreDropped, AreParts, ArePrepared}
 use Rattle.cif_feed.proofs.Names.{Bool, Contains, Contains-append_cases, Contains-append_left, Contains-append_right, Contains-cases}
 use Rattle.cif_feed.proofs.Names.{Contains-first, Contains-none, Contains-rest, CountOn, Dropped, ExtractParts, HolidayCode, Holidays}
-use Rattle.cif_feed.proofs.Names.{IsClash, IsClashDay, IsClear, IsHolidayOf, IsPart, IsPreparedAs, IsStop, IsStopAmong, IsTrue, List, None}
+use Rattle.cif_feed.proofs.Names.{IsClashDay, IsClear, IsHolidayOf, IsPart, IsPreparedAs, IsStop, IsStopAmong, IsTrue, List, None}
 use Rattle.cif_feed.proofs.Names.{Option, Part, PublishedAssociation, PublishedParts, PublishedSchedule, PublishedTerms, Records, Runs}
-use Rattle.cif_feed.proofs.Names.{SayAsPublished, SayOfDay, SayTheSame, Some, Terms, WinAlso, Wins, [], ap, arith, association_entries}
+use Rattle.cif_feed.proofs.Names.{SayAsPublished, SayOfDay, SayTheSame, Some, Terms, Wins, [], ap, arith, association_entries}
 use Rattle.cif_feed.proofs.Names.{cases_lt, cond, ended, false, false≢true, get_or, inl, inr, last_day, last_is_day, map, max, part_terms}
 use Rattle.cif_feed.proofs.Names.{prepared_last, published_associations, published_schedules, refl, schedule_entries, subst, sym, true, ℕ}
 use Rattle.cif_feed.proofs.Names.{⊎_elim, ◌+◌, ◌<◌, ◌↔◌, ◌∙◌, ◌∷◌, ◌≡◌, ◌≤◌, ◌⊎◌}
@@ -260,7 +260,7 @@ equal m n = ⊎_elim
     (cases_lt m n)
 
 -- a number is in a list or not
-in-list : (d : ℕ) (days : List ℕ) → Contains days d ⊎ (¬ Contains days d)
+pub in-list : (d : ℕ) (days : List ℕ) → Contains days d ⊎ (¬ Contains days d)
 in-list d [] = inr (Contains-none d)
 in-list d (e ∷ days) = ⊎_elim
     (λ has. inl (Contains-rest e days d has))
@@ -270,49 +270,10 @@ in-list d (e ∷ days) = ⊎_elim
     (equal e d))
     (in-list d days)
 
--- a clash among records whose bodies win among others too
-clash-also : {B : Type 0} (xs ys : Records B) (d : ℕ) → WinAlso xs ys d → IsClash xs d → IsClash ys d
-clash-also xs ys d also clash =
-    let (s, s_wins, s_letter, s_body) = also.winner clash.one clash.one_wins in
-    let (t, t_wins, t_letter, t_body) = also.winner clash.other clash.other_wins in
-    record {
-      one = s;
-      other = t;
-      one_wins = s_wins;
-      other_wins = t_wins;
-      bodies_differ = λ e. clash.bodies_differ (sym s_body ∙ e ∙ t_body);
-    }
-
 module _ {K B : Type 0} (h : Holidays) (entries : List (K × PublishedTerms B)) (closed : AreClosed entries) (first last : ℕ)
     (is_day : last ≤ last_day) where
   abbrev Stop : Bool → K → Option HolidayCode → ℕ → Type 0
   Stop drops = IsStop drops h entries first (last + 1)
-
-  -- the clash days of the records that only holidays stop are those of the published ones
-  pub clash-days : (prepared : List (K × Terms B)) → ArePrepared (Stop false) last entries prepared → (k : K) (days : List ℕ)
-      → AreClashDates (of_key prepared k) first (last + 1) days → AreClashDays h entries first (last + 1) k days
-  clash-days prepared are k days a = record {
-    rising = a.rising;
-    are = λ d. (
-      λ has. let is = (a.are d).0 has in
-          record {
-            from = is.from;
-            before = is.before;
-            clash = clash-also (of_key prepared k) (CountOn h entries k d) d
-                (says d (let b = is.before in omega arith)).winners.0 is.clash;
-          },
-      λ is. (a.are d).1 (record {
-        from = is.from;
-        before = is.before;
-        clash = clash-also (CountOn h entries k d) (of_key prepared k) d
-            (says d (let b = is.before in omega arith)).winners.1 is.clash;
-      }),
-    );
-    clear = λ d from before lacks. (says d (omega arith)).clear.0 (a.clear d from before lacks);
-  }
-    where
-      says : (d : ℕ) → d ≤ last → SayTheSame (of_key prepared k) (CountOn h entries k d) d
-      says d upto = says-same (Stop false) last entries prepared are closed k d upto (omega arith) h (λ code. (λ is. is, λ is. is))
 
   -- what is cut at the clash days of its keys is the prepared extract without clashes
   pub cut-prepared : (prepared : List (K × Terms B)) (days : K → List ℕ) → ((k : K) → AreClashDays h entries first (last + 1) k (days k))
@@ -328,15 +289,6 @@ module _ {K B : Type 0} (h : Holidays) (entries : List (K × PublishedTerms B)) 
   cut-whole prepared = prepared-same (IsStopAmong h (λ (k : K). [])) (Stop false) (λ k code d. (
     λ stop. ⊎_elim (λ holiday. holiday) (λ day. absurd (Contains-none d day)) stop,
     λ holiday. inl holiday,
-  )) last entries prepared
-
-  -- without a clash day it is the one without clashes too
-  pub whole-clear : (prepared : List (K × Terms B)) (days : K → List ℕ) → ((k : K) → AreClashDays h entries first (last + 1) k (days k))
-      → ((k : K) → days k ≡ []) → ArePrepared (Stop false) last entries prepared → ArePrepared (Stop true) last entries prepared
-  whole-clear prepared days are none = prepared-same (Stop false) (Stop true) (λ k code d. (
-    λ holiday. inl holiday,
-    λ stop. ⊎_elim (λ holiday. holiday)
-        (λ clash. absurd (Contains-none d (subst (λ l. Contains l d) (none k) (((are k).are d).1 clash)))) stop,
   )) last entries prepared
 
   module _ (prepared : List (K × Terms B)) (k : K) (d : ℕ) (from : first ≤ d) (upto : d ≤ last) where

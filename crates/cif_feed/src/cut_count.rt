@@ -1,6 +1,7 @@
 //! How many records holidays cut, and how many apply on a date on which their key clashes.
 ghost use Rattle.std.specs.Prelude.{◌≡◌, ◌↔◌, ◌<◌, ◌≤◌, ◌+◌, ◌^◌, ℕ, Contains, IsTrue, List, length};
 ghost use Rattle.std.specs.BTreeMap.{get};
+ghost use Rattle.std.specs.List.Sorted.{IsNonDecreasing};
 ghost use Rattle.std.specs.Ordering.{nat_cmp};
 ghost use Rattle.cif_feed.specs.CutCount.{AppliesOnAny, HasCut, IsCountOf};
 ghost use Rattle.cif_feed.specs.PublishedParts.{published_association_terms, published_schedule_terms};
@@ -13,6 +14,7 @@ ghost use Rattle.cif_feed.specs.declared.published_extract.PublishedSchedule.{Pu
 ghost use Rattle.cif_records.specs.AssocKey.{key_cmp};
 ghost use Rattle.cif_records.specs.declared.association.AssocKey.{AssocKey};
 
+use crate::parts::from_day;
 use crate::prepare::{ClashDates, dates_of, prepared_last};
 use crate::{HolidayCode, Holidays, PublishedExtract, PublishedSchedule};
 use cif_calendar::{Dates, Entry};
@@ -92,7 +94,8 @@ fn plus_if(count: usize, counts: bool) -> usize
     if counts { count + 1 } else { count }
 }
 
-/// Whether the entry, whose last date is `last`, applies on one of the dates, with these holidays.
+/// Whether the entry, whose last date is `last`, applies on one of the dates, with these holidays. Only the dates
+/// between its first and its last are looked at.
 fn applies_on_any<E: Entry>(
     entry: &E,
     last: Day,
@@ -100,10 +103,15 @@ fn applies_on_any<E: Entry>(
     holidays: &Holidays,
     dates: &[Day],
 ) -> bool
+    requires { IsNonDecreasing dates.now }
     ensures { IsTrue result ↔ ((d : ℕ) × Contains dates.now d
         × AppliesAsPublished holidays.now code (ended last (E.terms entry.now)) d) }
 {
-    for day in dates {
+    let later = from_day(dates, entry.first());
+    for day in later {
+        if *day > last {
+            return false;
+        }
         if applies_on(entry, last, code, holidays, *day) {
             return true;
         }

@@ -2,12 +2,17 @@
 ghost use Rattle.std.specs.Prelude.{◌≡◌, ◌+◌, ◌<◌, All, [], IfOk, length};
 ghost use Rattle.std.specs.BTreeMap.{get};
 ghost use Rattle.cif_calendar.specs.Keys.{ArePositionsOf, keyed};
-ghost use Rattle.cif_feed.specs.Dropped.{dropped_text};
-ghost use Rattle.cif_feed.specs.Steps.Dropping.{AreFound, IsKeyTold, IsTold};
+ghost use Rattle.std.specs.List.Sorted.{IsNonDecreasing};
+ghost use Rattle.cif_feed.specs.Dropped.{AreClashDays, dropped_text};
+ghost use Rattle.cif_feed.specs.Steps.Dropping.{AreFound, IsKeyTold, IsTold, published_by};
 
+use crate::Holidays;
+use crate::counting::counted_clash_dates;
+use crate::parts::RisingDays;
 use crate::prepare::ClashDates;
+use crate::published_entry::PublishedEntry;
 use arrayvec::ArrayString;
-use cif_calendar::{NamedEntry, Window, clash_dates, count_of_first_key, positions_by_key};
+use cif_calendar::{NamedEntry, Window, count_of_first_key, positions_by_key};
 use cif_columns::Day;
 use cif_extract::Clash;
 use itoa::Buffer;
@@ -72,31 +77,34 @@ impl Dropped {
 }
 
 /// The dates of the window on which keys of the entries clash. These keys are told behind others, rising.
-pub(crate) fn find_clash_dates<E: NamedEntry>(
+pub(crate) fn find_clash_dates<E: PublishedEntry>(
     alloc: Global,
     entries: &[E],
+    holidays: &Holidays,
     window: &Window,
     told: &mut Vec<DroppedKey>,
 ) -> Result<ClashDates<E::Rank>, AllocError>
-    ensures { IfOk result (λ dates. AreFound E.Key.cmp E.clash_of E.stands_for (keyed E.key E.terms entries.now)
-        window.now.first (window.now.last + 1) told.old.items told.new.items (get E.Rank.cmp dates)) }
+    ensures { IfOk result (λ dates. AreFound E.Key.cmp E.clash_of E.stands_for
+        (AreClashDays holidays.now (published_by E.key E.published entries.now) window.now.first (window.now.last + 1))
+        told.old.items told.new.items (get E.Rank.cmp dates)) }
 {
     let positions = positions_by_key(alloc, entries)?;
     let mut dates = BTreeMap::new(alloc);
     let mut rest = positions.as_slice();
     while !rest.is_empty() {
         let (members, later) = rest.split_at(count_of_first_key(entries, rest));
-        add_key(alloc, entries, members, window, &mut dates, told)?;
+        add_key(alloc, entries, members, holidays, window, &mut dates, told)?;
         rest = later;
     }
     Ok(dates)
 }
 
 /// Tells the key whose entries are at `members` with its clash dates in the window, if it has one.
-fn add_key<E: NamedEntry>(
+fn add_key<E: PublishedEntry>(
     alloc: Global,
     entries: &[E],
     members: &[usize],
+    holidays: &Holidays,
     window: &Window,
     dates: &mut ClashDates<E::Rank>,
     told: &mut Vec<DroppedKey>,
@@ -104,10 +112,11 @@ fn add_key<E: NamedEntry>(
     requires within { All (λ i. i < length entries.now) members.now }
     requires some { 0 < length members.now }
     ensures { IfOk result (λ _. (k : E.Key) → ArePositionsOf (keyed E.key E.terms entries.now) k members.now
-        → IsKeyTold E.Key.cmp E.clash_of E.stands_for (keyed E.key E.terms entries.now) window.now.first (window.now.last + 1) k
+        → IsKeyTold E.Key.cmp E.clash_of E.stands_for
+        (AreClashDays holidays.now (published_by E.key E.published entries.now) window.now.first (window.now.last + 1)) k
         told.old.items told.new.items (get E.Rank.cmp dates.old) (get E.Rank.cmp dates.new)) }
 {
-    let found = clash_dates(alloc, entries, members, window)?;
+    let found = counted_clash_dates(alloc, entries, members, holidays, window)?;
     let entry = &entries[members[0]];
     tell(entry, found, dates, told)
 }
@@ -119,6 +128,7 @@ fn tell<E: NamedEntry>(
     dates: &mut ClashDates<E::Rank>,
     told: &mut Vec<DroppedKey>,
 ) -> Result<(), AllocError>
+    requires rising { IsNonDecreasing found.items }
     ensures { IfOk result (λ _. IsTold E.Key.cmp E.clash_of E.stands_for (E.key entry.now) found.items
         told.old.items told.new.items (get E.Rank.cmp dates.old) (get E.Rank.cmp dates.new)) }
 {
@@ -129,6 +139,6 @@ fn tell<E: NamedEntry>(
         clash: entry.clash_on(*first),
         more: found.len() - 1,
     })?;
-    dates.insert(entry.rank(), found)?;
+    dates.insert(entry.rank(), RisingDays { days: found })?;
     Ok(())
 }

@@ -3,6 +3,7 @@ ghost use Rattle.std.specs.Prelude.{◌≡◌, ◌<◌, ◌≤◌, ◌⊎◌, �
 ghost use Rattle.std.specs.List.Sorted.{IsNonDecreasing};
 ghost use Rattle.cif_feed.specs.HolidayCode.{code_in, letter};
 
+use crate::parts::next_on;
 use cif_columns::{Day, DaysRun};
 use std::alloc::{AllocError, Global};
 
@@ -147,16 +148,7 @@ impl HolidayDates {
     fn next_on(&self, days: DaysRun, from: Day, last: Day) -> Option<Day>
         ensures { IsFirstFrom (IsDateOnDaysRun self.now.days.items days) from last result }
     {
-        let later = &self.days.as_slice()[self.count_before(from)..];
-        for day in later {
-            if *day > last {
-                return None;
-            }
-            if days.has(day.weekday()) {
-                return Some(*day);
-            }
-        }
-        None
+        next_on(self.days.as_slice(), days, from, last)
     }
 }
 

@@ -2,6 +2,7 @@
 #![tactic(auto)]
 
 mod changes;
+mod counting;
 mod cut_count;
 mod dropped;
 mod feed;
@@ -15,6 +16,7 @@ pub mod laws;
 mod mark;
 mod parts;
 mod prepare;
+mod published_entry;
 mod published_extract;
 mod reasons;
 mod record_keys;

@@ -1,14 +1,15 @@
 //! The records of a prepared extract: those of the published one, on their dates between their cuts.
-ghost use Rattle.std.specs.Prelude.{◌≡◌, ◌≤◌, ◌++◌, ◌⊎◌, ◌↔◌, ℕ, IfOk, Contains};
+ghost use Rattle.std.specs.Prelude.{◌≡◌, ◌≤◌, ◌++◌, ◌⊎◌, ℕ, IfOk, Contains, max};
 ghost use Rattle.std.specs.List.Sorted.{IsNonDecreasing};
 ghost use Rattle.cif_feed.specs.Parts.{ended};
-ghost use Rattle.cif_feed.specs.PreparedRecord.{terms_on};
-ghost use Rattle.cif_feed.specs.Steps.PartsSoFar.{AreAdded, IsLeftFrom, IsPushed, added_before, records_on};
+ghost use Rattle.cif_feed.specs.HolidayDates.{IsDateOnDaysRun, IsFirstFrom};
+ghost use Rattle.cif_feed.specs.Steps.PartsSoFar.{AreAdded, IsFromNext, IsLeftFrom, IsPushed, added_before, first_upto};
+ghost use Rattle.cif_feed.specs.Steps.PartsSoFar.{records_on, sooner_of};
 
 use crate::written::{Written, write_schedule};
-use cif_calendar::{Dates, Entry, NamedEntry};
-use cif_columns::{Day, DaysRun, LineTexts, Sink, Stp, WriteDevice, WriteFault};
-use cif_extract::{Clash, Schedule};
+use cif_calendar::Entry;
+use cif_columns::{Day, DaysRun, LineTexts, Sink, WriteDevice, WriteFault};
+use cif_extract::Schedule;
 use cif_records::Association;
 use std::alloc::AllocError;
 
@@ -23,65 +24,12 @@ pub struct PreparedRecord<'a, E, D> {
     pub(crate) last: D,
 }
 
-impl<'a, E: Entry> Entry for PreparedRecord<'a, E, Day> {
-    type Key = E::Key;
-
-    type Rank = E::Rank;
-
-    type Body = E::Body;
-
-    ghost use Rattle.std.proofs.Math.Nat.{le-max_left};
-
-    ghost key = { λ p. E.key p.entry.now };
-
-    ghost stands_for = { E.stands_for };
-
-    ghost terms = { λ p. terms_on (E.terms p.entry.now) p.first p.last };
-
-    fn key(&self) -> &E::Key {
-        self.entry.key()
-    }
-
-    fn rank(&self) -> E::Rank {
-        self.entry.rank()
-    }
-
-    fn first(&self) -> Day {
-        self.first
-    }
-
-    fn last(&self) -> Day {
+impl<'a, E> PreparedRecord<'a, E, Day> {
+    /// Its last date.
+    fn last(&self) -> Day
+        ensures { result ≡ max self.now.first self.now.last }
+    {
         self.first.max(self.last)
-    }
-
-    fn days(&self) -> DaysRun {
-        self.entry.days()
-    }
-
-    fn letter(&self) -> Stp {
-        self.entry.letter()
-    }
-
-    fn body(&self) -> Option<&E::Body> {
-        self.entry.body()
-    }
-
-    ghost same_key = { E.same_key };
-
-    ghost same_order = { E.same_order };
-
-    ghost same_body = { E.same_body };
-
-    ghost dates_ordered = { λ p. le-max_left p.first p.last };
-
-    ghost cancelled = { λ p. E.cancelled p.entry.now };
-}
-
-impl<'a, E: NamedEntry> NamedEntry for PreparedRecord<'a, E, Day> {
-    ghost clash_of = { E.clash_of };
-
-    fn clash_on(&self, day: Day) -> Clash {
-        self.entry.clash_on(day)
     }
 }
 
@@ -114,73 +62,96 @@ impl<'a> Written for PreparedRecord<'a, Schedule, Day> {
     }
 }
 
-/// Appends the entry on its dates between its cuts: its dates, up to `last`, that are holidays or clash dates. What
-/// `stops` holds doesn't matter: it lends its memory.
+/// Dates that don't fall.
+#[derive(Drop)]
+pub(crate) struct RisingDays {
+    pub(crate) days: Vec<Day>,
+    ghost rising: { IsNonDecreasing days.items },
+}
+
+/// Appends the entry on its dates between its cuts: its dates, up to `last`, that are holidays or clash dates. Of
+/// these only those between its first and its last date are looked at.
 pub(crate) fn add_parts<'a, E: Entry>(
     entry: &'a E,
     last: Day,
     holidays: &[Day],
     clash_dates: &[Day],
-    stops: &mut Vec<Day>,
     prepared: &mut Vec<PreparedRecord<'a, E, Day>>,
 ) -> Result<(), AllocError>
     requires in_order { (E.terms entry.now).first ≤ last }
-    requires rising { IsNonDecreasing holidays.now }
+    requires holidays { IsNonDecreasing holidays.now }
+    requires clash_dates { IsNonDecreasing clash_dates.now }
     ensures { IfOk result (λ _. AreAdded (λ (d : ℕ). Contains holidays.now d ⊎ Contains clash_dates.now d)
         (E.key entry.now) (ended last (E.terms entry.now))
         (records_on E.key E.terms prepared.old.items) (records_on E.key E.terms prepared.new.items)) }
 {
-    if clash_dates.is_empty() {
-        return add_between(entry, last, holidays, prepared);
-    }
-    gather(holidays, clash_dates, stops)?;
-    add_between(entry, last, stops.as_slice(), prepared)
-}
-
-/// Puts the dates of both into one list, rising.
-fn gather(holidays: &[Day], clash_dates: &[Day], stops: &mut Vec<Day>) -> Result<(), AllocError>
-    ensures rising { IfOk result (λ _. IsNonDecreasing stops.new.items) }
-    ensures both { IfOk result (λ _. (d : ℕ) → Contains stops.new.items d
-        ↔ (Contains holidays.now d ⊎ Contains clash_dates.now d)) }
-{
-    stops.clear();
-    stops.extend_from_slice(holidays)?;
-    stops.extend_from_slice(clash_dates)?;
-    stops.sort()?;
-    Ok(())
-}
-
-/// Appends the entry on its dates, up to `last`, between the stops on which it would apply.
-fn add_between<'a, E: Entry>(
-    entry: &'a E,
-    last: Day,
-    stops: &[Day],
-    prepared: &mut Vec<PreparedRecord<'a, E, Day>>,
-) -> Result<(), AllocError>
-    requires in_order { (E.terms entry.now).first ≤ last }
-    requires rising { IsNonDecreasing stops.now }
-    ensures { IfOk result (λ _. AreAdded (Contains stops.now) (E.key entry.now) (ended last (E.terms entry.now))
-        (records_on E.key E.terms prepared.old.items) (records_on E.key E.terms prepared.new.items)) }
-{
     let mut first = entry.first();
-    let days = entry.days();
-    let Some(_) = days.first() else {
+    if holidays.is_empty() && clash_dates.is_empty() {
         return push(entry, first, last, prepared);
-    };
-    let left = from_day(stops, first);
-    for stop in left {
-        if *stop > last {
+    }
+    let days = entry.days();
+    let mut holidays_left = from_next(from_day(holidays, first), days, first, last);
+    let mut clashes_left = from_next(from_day(clash_dates, first), days, first, last);
+    loop {
+        let holiday = first_up_to(holidays_left, last);
+        let clash = first_up_to(clashes_left, last);
+        let Some(cut) = sooner(&holiday, &clash) else {
             return push(entry, first, last, prepared);
+        };
+        add_before(entry, first, cut, prepared)?;
+        match cut.next_up_to(last) {
+            Some(next) => first = next,
+            None => return Ok(()),
         }
-        if (Dates { first, last, days }).has(*stop) {
-            add_before(entry, first, *stop, prepared)?;
-            match stop.next_up_to(last) {
-                Some(next) => first = next,
-                None => return Ok(()),
-            }
+        holidays_left = from_next(holidays_left, days, first, last);
+        clashes_left = from_next(clashes_left, days, first, last);
+    }
+}
+
+/// The sooner of two dates, where there are both.
+fn sooner(one: &Option<Day>, other: &Option<Day>) -> Option<Day>
+    ensures { result ≡ sooner_of one.now other.now }
+{
+    match (one, other) {
+        (Some(day), Some(later)) => Some((*day).min(*later)),
+        (Some(day), None) => Some(*day),
+        (None, Some(day)) => Some(*day),
+        (None, None) => None,
+    }
+}
+
+/// The first of the dates from `from` to `last` whose weekday is in the mask.
+pub(crate) fn next_on(dates: &[Day], days: DaysRun, from: Day, last: Day) -> Option<Day>
+    requires { IsNonDecreasing dates.now }
+    ensures { IsFirstFrom (IsDateOnDaysRun dates.now days) from last result }
+{
+    first_up_to(from_next(from_day(dates, from), days, from, last), last)
+}
+
+/// The first of the dates, if it isn't after `last`.
+fn first_up_to(dates: &[Day], last: Day) -> Option<Day>
+    ensures { result ≡ first_upto last dates.now }
+{
+    match dates {
+        [day, ..] if *day <= last => Some(*day),
+        _ => None,
+    }
+}
+
+/// The dates without the first ones that come before `from` or whose weekdays aren't in the mask. After `last` none is
+/// looked at.
+fn from_next(dates: &[Day], days: DaysRun, from: Day, last: Day) -> &[Day]
+    ensures { IsFromNext days from last dates.now result.now }
+{
+    for (count, day) in dates.iter().enumerate() {
+        if *day > last {
+            return &dates[count..];
+        }
+        if from <= *day && days.has(day.weekday()) {
+            return &dates[count..];
         }
     }
-    push(entry, first, last, prepared)
+    &[]
 }
 
 /// The dates from this one on.

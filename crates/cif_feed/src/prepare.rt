@@ -1,6 +1,7 @@
 //! The prepared extract of a published one, the parts of its records: making and writing it.
 ghost use Rattle.std.specs.Prelude.{◌≡◌, ◌≤◌, ℕ, List, Option, IfOk, IfSome, false, map, true};
 ghost use Rattle.std.specs.BTreeMap.{get};
+ghost use Rattle.std.specs.List.Sorted.{IsNonDecreasing};
 ghost use Rattle.std.specs.Ordering.{nat_cmp};
 ghost use Rattle.cif_calendar.specs.Entries.{association_entries, schedule_entries};
 ghost use Rattle.cif_columns.specs.Sink.{Writes};
@@ -19,7 +20,7 @@ ghost use Rattle.cif_records.specs.AssocKey.{key_cmp};
 ghost use Rattle.cif_records.specs.declared.association.AssocKey.{AssocKey};
 
 use crate::dropped::find_clash_dates;
-use crate::parts::add_parts;
+use crate::parts::{RisingDays, add_parts};
 use crate::written::write_records;
 use crate::{
     Dropped, DroppedKey, FeedFault, Holidays, PreparedRecord, PublishedAssociation,
@@ -148,18 +149,35 @@ impl PublishedExtract {
     ) -> Result<(Prepared<'a>, Dropped), AllocError>
         ensures { IfOk result (λ done. IsPreparedAs holidays.now true (published_parts self.now) done.0 done.1) }
     {
-        let whole = self.prepare(alloc, holidays)?;
         let mut keys = Vec::new(alloc);
-        let (associations, trains) = whole.clash_dates(alloc, &mut keys)?;
+        let (associations, trains) = self.clash_dates(alloc, holidays, &mut keys)?;
         let records = self.count_clashing_associations(holidays, &associations)
             + self.count_clashing_schedules(holidays, &trains);
-        let dropped = Dropped { keys, records };
-        if dropped.keys.is_empty() {
-            return Ok((whole, dropped));
-        }
-        drop(whole);
         let prepared = self.cut(alloc, holidays, &associations, &trains)?;
-        Ok((prepared, dropped))
+        Ok((prepared, Dropped { keys, records }))
+    }
+
+    /// The dates on which keys of associations and of trains clash. These keys are told.
+    fn clash_dates(
+        &self,
+        alloc: Global,
+        holidays: &Holidays,
+        told: &mut Vec<DroppedKey>,
+    ) -> Result<(ClashDates<AssocKey>, ClashDates<u64>), AllocError>
+        ensures { IfOk result (λ dates. AreAllFound holidays.now (published_parts self.now) told.old.items told.new.items
+            (get key_cmp dates.0) (get nat_cmp dates.1)) }
+    {
+        let window = Window::of(&self.header);
+        let associations = find_clash_dates(
+            alloc,
+            self.associations.as_slice(),
+            holidays,
+            &window,
+            told,
+        )?;
+        let schedules = self.schedules.as_slice();
+        let trains = find_clash_dates(alloc, schedules, holidays, &window, told)?;
+        Ok((associations, trains))
     }
 
     /// Its records between their cuts: the holidays of their codes, and the dates on which their keys clash.
@@ -205,33 +223,19 @@ impl<'a> Prepared<'a> {
             sink,
         )
     }
-
-    /// The dates on which keys of associations and of trains clash. These keys are told.
-    fn clash_dates(
-        &self,
-        alloc: Global,
-        told: &mut Vec<DroppedKey>,
-    ) -> Result<(ClashDates<AssocKey>, ClashDates<u64>), AllocError>
-        ensures { IfOk result (λ dates. AreAllFound self.now told.old.items told.new.items
-            (get key_cmp dates.0) (get nat_cmp dates.1)) }
-    {
-        let window = Window::of(&self.published.header);
-        let associations = find_clash_dates(alloc, self.associations.as_slice(), &window, told)?;
-        let trains = find_clash_dates(alloc, self.schedules.as_slice(), &window, told)?;
-        Ok((associations, trains))
-    }
 }
 
 /// For what stands for each key that clashes, the dates on which it does.
-pub(crate) type ClashDates<R> = BTreeMap<R, Vec<Day>>;
+pub(crate) type ClashDates<R> = BTreeMap<R, RisingDays>;
 
 /// The dates on which the key of the entry clashes.
 pub(crate) fn dates_of<'d, E: Entry>(dates: &'d ClashDates<E::Rank>, entry: &E) -> &'d [Day]
-    ensures { (days : E.Key → List ℕ) → ReadsDates E.stands_for days (get E.Rank.cmp dates.now)
+    ensures reads { (days : E.Key → List ℕ) → ReadsDates E.stands_for days (get E.Rank.cmp dates.now)
         → result.now ≡ days (E.key entry.now) }
+    ensures rising { IsNonDecreasing result.now }
 {
     match dates.get(&entry.rank()) {
-        Some(days) => days.as_slice(),
+        Some(found) => found.days.as_slice(),
         None => &[],
     }
 }
@@ -248,13 +252,12 @@ fn cut_associations<'a>(
         → ArePrepared (IsStopAmong h days) window_last (published_associations associations.now)
         (association_entries (map association_on prepared.items))) }
 {
-    let mut stops = Vec::new(alloc);
     let mut prepared = Vec::with_capacity(alloc, associations.len())?;
     for one in associations {
         let association = &one.association;
         let last = prepared_last(association, one.open_end, window_last);
         let dates = dates_of(clash_dates, association);
-        add_parts(association, last, &[], dates, &mut stops, &mut prepared)?;
+        add_parts(association, last, &[], dates, &mut prepared)?;
     }
     Ok(prepared)
 }
@@ -272,20 +275,12 @@ fn cut_schedules<'a>(
         → ArePrepared (IsStopAmong holidays.now days) window_last (published_schedules schedules.now)
         (schedule_entries (map schedule_on prepared.items))) }
 {
-    let mut stops = Vec::new(alloc);
     let mut prepared = Vec::with_capacity(alloc, schedules.len())?;
     for one in schedules {
         let schedule = &one.schedule;
         let last = prepared_last(schedule, one.open_end, window_last);
         let dates = dates_of(clash_dates, schedule);
-        add_parts(
-            schedule,
-            last,
-            holidays.of(one.code),
-            dates,
-            &mut stops,
-            &mut prepared,
-        )?;
+        add_parts(schedule, last, holidays.of(one.code), dates, &mut prepared)?;
     }
     Ok(prepared)
 }

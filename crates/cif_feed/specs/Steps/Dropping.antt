@@ -1,34 +1,31 @@
 -- The clash days of keys, by what stands for the keys.
-use Rattle.std.specs.Prelude.{◌≡◌, ◌⊎◌, ℕ, ◌+◌, ◌<◌, List, [], ◌∷◌, ◌++◌, Option, None, Some, Vec, Contains, length, map, if◌then◌else◌}
-use Rattle.std.specs.Global.{Global}
+use Rattle.std.specs.Prelude.{◌≡◌, ◌⊎◌, ℕ, ◌+◌, ◌<◌, List, [], ◌∷◌, ◌++◌, Option, None, Some, Contains, length, map, if◌then◌else◌}
 use Rattle.std.specs.Ordering.{is_eq, nat_cmp}
 use Rattle.std.specs.Cmp.Lexicographic.{slice_cmp}
 use Rattle.std.specs.declared.cmp.Ordering.{Ordering}
-use Rattle.cif_calendar.specs.ClashDates.{AreClashDates}
 use Rattle.cif_calendar.specs.Entries.{association_entries, schedule_entries}
-use Rattle.cif_calendar.specs.Keys.{of_key}
 use Rattle.cif_calendar.specs.Ranks.{IsNumberOf}
-use Rattle.cif_calendar.specs.Terms.{Terms}
 use Rattle.cif_extract.specs.ExtractParts.{ExtractParts}
 use Rattle.cif_extract.specs.declared.fault.Clash.{Clash}
 use Rattle.cif_extract.specs.declared.fault.Clash.TheVariants as clash
 use Rattle.cif_records.specs.AssocKey.{key_cmp}
 use Rattle.cif_records.specs.declared.association.AssocKey.{AssocKey}
-use Rattle.cif_feed.specs.Dropped.{AreKeysWithDays, told_as}
+use Rattle.cif_feed.specs.Dropped.{AreClashDays, AreKeysWithDays, told_as}
 use Rattle.cif_feed.specs.Prepared.{ArePrepared}
-use Rattle.cif_feed.specs.Published.{IsHolidayOf}
+use Rattle.cif_feed.specs.Published.{IsHolidayOf, PublishedTerms}
 use Rattle.cif_feed.specs.PublishedParts.{PublishedParts, published_associations, published_schedules}
 use Rattle.cif_feed.specs.declared.dropped.DroppedKey.{DroppedKey}
 use Rattle.cif_feed.specs.declared.holidays.HolidayCode.{HolidayCode}
 use Rattle.cif_feed.specs.declared.holidays.Holidays.{Holidays}
+use Rattle.cif_feed.specs.declared.parts.RisingDays.{RisingDays}
 
 -- the days that were found for what stands for a key, if any were
-abbrev pub days_in : Option (Vec ℕ Global) → List ℕ
+abbrev pub days_in : Option RisingDays → List ℕ
 days_in None = []
-days_in (Some days) = days.items
+days_in (Some found) = found.days.items
 
 -- what is found for each that stands for a key are the days of the key
-abbrev pub ReadsDates : {R K : Type 0} → (R → K → Type 0) → (K → List ℕ) → (R → Option (Vec ℕ Global)) → Type 0
+abbrev pub ReadsDates : {R K : Type 0} → (R → K → Type 0) → (K → List ℕ) → (R → Option RisingDays) → Type 0
 ReadsDates {R} {K} stands_for days found = (r : R) (k : K) → stands_for r k → days_in (found r) ≡ days k
 
 -- the days of one key are these, and those of the others are as they were
@@ -37,42 +34,46 @@ days_with cmp k found days j = if is_eq (cmp k j) then found else days j
 
 -- The key with its days, if it has one, is told behind those that were known, and its days are found for what stands for it.
 pub record IsTold {R K : Type 0} (cmp : K → K → Ordering) (name : K → ℕ → Clash) (stands_for : R → K → Type 0) (k : K) (found : List ℕ)
-    (known all : List DroppedKey) (old new : R → Option (Vec ℕ Global)) : Type 0 where
+    (known all : List DroppedKey) (old new : R → Option RisingDays) : Type 0 where
   pub none : found ≡ [] → (all ≡ known) × ((r : R) → new r ≡ old r)
   pub told : 0 < length found → all ≡ known ++ told_as name (λ _. found) k ∷ []
   pub reads : 0 < length found → (days : K → List ℕ) → ReadsDates stands_for days old
       → ReadsDates stands_for (days_with cmp k found days) new
 
--- key k of the entries is told with its clash days, if it has one
-abbrev pub IsKeyTold : {R K B : Type 0} → (K → K → Ordering) → (K → ℕ → Clash) → (R → K → Type 0) → List (K × Terms B) → ℕ → ℕ → K
-    → List DroppedKey → List DroppedKey → (R → Option (Vec ℕ Global)) → (R → Option (Vec ℕ Global)) → Type 0
-IsKeyTold cmp name stands_for entries first to k known all old new =
-    (found : List ℕ) × AreClashDates (of_key entries k) first to found × IsTold cmp name stands_for k found known all old new
+-- key k is told with its days, if it has one
+abbrev pub IsKeyTold : {R K : Type 0} → (K → K → Ordering) → (K → ℕ → Clash) → (R → K → Type 0) → (K → List ℕ → Type 0) → K
+    → List DroppedKey → List DroppedKey → (R → Option RisingDays) → (R → Option RisingDays) → Type 0
+IsKeyTold cmp name stands_for Are k known all old new =
+    (found : List ℕ) × Are k found × IsTold cmp name stands_for k found known all old new
 
--- Behind what was known the keys of the entries with a clash day are told, and their days are found for what stands for the keys.
-pub record AreFound {R K B : Type 0} (cmp : K → K → Ordering) (name : K → ℕ → Clash) (stands_for : R → K → Type 0)
-    (entries : List (K × Terms B)) (first to : ℕ) (known all : List DroppedKey) (found : R → Option (Vec ℕ Global)) : Type 0 where
+-- Behind what was known the keys that have a day are told, and their days are found for what stands for the keys.
+pub record AreFound {R K : Type 0} (cmp : K → K → Ordering) (name : K → ℕ → Clash) (stands_for : R → K → Type 0)
+    (Are : K → List ℕ → Type 0) (known all : List DroppedKey) (found : R → Option RisingDays) : Type 0 where
   pub keys : List K
   pub days : K → List ℕ
-  pub are : AreKeysWithDays cmp (λ (k : K). AreClashDates (of_key entries k) first to) keys days
+  pub are : AreKeysWithDays cmp Are keys days
   pub added : all ≡ known ++ map (told_as name days) keys
   pub reads : ReadsDates stands_for days found
 
 -- the days of associations, and of trains, by what stands for their keys
-abbrev pub ReadsAssociations : (AssocKey → List ℕ) → (AssocKey → Option (Vec ℕ Global)) → Type 0
+abbrev pub ReadsAssociations : (AssocKey → List ℕ) → (AssocKey → Option RisingDays) → Type 0
 ReadsAssociations days found = ReadsDates (λ (rank key : AssocKey). rank ≡ key) days found
 
-abbrev pub ReadsTrains : (List ℕ → List ℕ) → (ℕ → Option (Vec ℕ Global)) → Type 0
+abbrev pub ReadsTrains : (List ℕ → List ℕ) → (ℕ → Option RisingDays) → Type 0
 ReadsTrains days found = ReadsDates IsNumberOf days found
 
--- the clash days of the keys of an extract are found, and the keys are told behind those that were known
-abbrev pub AreAllFound : ExtractParts → List DroppedKey → List DroppedKey → (AssocKey → Option (Vec ℕ Global)) → (ℕ → Option (Vec ℕ Global))
-    → Type 0
-AreAllFound x known all associations trains = (between : List DroppedKey)
-    × AreFound key_cmp clash.Association (λ (rank key : AssocKey). rank ≡ key) (association_entries x.associations) x.header.first
-    (x.header.last + 1) known between associations
-    × AreFound (slice_cmp nat_cmp) clash.Train IsNumberOf (schedule_entries x.schedules) x.header.first (x.header.last + 1)
-    between all trains
+-- the published entries by their keys
+abbrev pub published_by : {A K B : Type 0} → (A → K) → (A → PublishedTerms B) → List A → List (K × PublishedTerms B)
+published_by key published entries = map (λ e. (key e, published e)) entries
+
+-- the clash days of the keys of a published extract are found, and the keys are told behind those that were known
+abbrev pub AreAllFound : Holidays → PublishedParts → List DroppedKey → List DroppedKey → (AssocKey → Option RisingDays)
+    → (ℕ → Option RisingDays) → Type 0
+AreAllFound h p known all associations trains = (between : List DroppedKey)
+    × AreFound key_cmp clash.Association (λ (rank key : AssocKey). rank ≡ key)
+    (AreClashDays h (published_associations p.associations) p.header.first (p.header.last + 1)) known between associations
+    × AreFound (slice_cmp nat_cmp) clash.Train IsNumberOf
+    (AreClashDays h (published_schedules p.schedules) p.header.first (p.header.last + 1)) between all trains
 
 -- day d stops the records of key k with this code: a holiday of the code, or one of the days that the key has here
 abbrev pub IsStopAmong : {K : Type 0} → Holidays → (K → List ℕ) → K → Option HolidayCode → ℕ → Type 0

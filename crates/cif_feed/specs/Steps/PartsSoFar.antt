@@ -1,6 +1,9 @@
 -- What the listing of a record's parts has come to.
 use Rattle.std.specs.Prelude.{◌≡◌, ◌⊎◌, ℕ, ◌+◌, ◌-◌, ◌<◌, ◌≤◌, nat_lt, List, [], ◌∷◌, ◌++◌, All, AllPairs, map, length, drop}
-use Rattle.std.specs.Prelude.{if◌then◌else◌, slice_index}
+use Rattle.std.specs.Prelude.{if◌then◌else◌, Bool, None, Option, Some, min, slice_index}
+use Rattle.std.specs.Ordering.{is_le, nat_cmp}
+use Rattle.cif_columns.specs.Day.{weekday_of}
+use Rattle.cif_columns.specs.DaysRun.{RunsOn}
 use Rattle.cif_calendar.specs.Terms.{Terms}
 use Rattle.cif_feed.specs.Parts.{AreParts, HaveDay, IsBefore, IsCut, IsPart, Part}
 use Rattle.cif_feed.specs.Prepared.{part_entry}
@@ -54,3 +57,27 @@ pub record IsLeftFrom (days : List ℕ) (from : ℕ) (left : List ℕ) : Type 0 
   pub before : (k : ℕ) → k < place → slice_index days k < from
   pub behind : (k : ℕ) → place ≤ k → k < length days → from ≤ slice_index days k
   pub is : left ≡ drop place days
+
+-- the sooner of two days, where there are both
+abbrev pub sooner_of : Option ℕ → Option ℕ → Option ℕ
+sooner_of None other = other
+sooner_of (Some d) None = Some d
+sooner_of (Some d) (Some e) = Some (min d e)
+
+-- the first of the days, if it isn't after the last one
+abbrev pub first_upto : ℕ → List ℕ → Option ℕ
+first_upto last [] = None
+first_upto last (d ∷ days) = if is_le (nat_cmp d last) then Some d else None
+
+-- The days that are left begin with the next one from this one on whose weekday is in the mask, or with one after the last.
+pub record IsFromNext (mask : List Bool) (from last : ℕ) (days left : List ℕ) : Type 0 where
+  pub place : ℕ
+  pub is : left ≡ drop place days
+  pub passed : (k : ℕ) → k < place → (slice_index days k < from) ⊎ (¬ RunsOn mask (weekday_of (slice_index days k)))
+  pub next : 0 < length left
+      → (last < slice_index left 0) ⊎ ((from ≤ slice_index left 0) × RunsOn mask (weekday_of (slice_index left 0)))
+
+-- day d stops a record on a weekday of the mask
+pub record IsStopOn (Stops : ℕ → Type 0) (days : List Bool) (d : ℕ) : Type 0 where
+  pub stops : Stops d
+  pub on_weekday : RunsOn days (weekday_of d)

@@ -1,27 +1,44 @@
--- It applies on a date, or on none of them all.
-use Rattle.cif_feed.proofs.Names.{AppliesAsPublished, arith, cases_lt, ended, false≢true, get_or, get_or_default, get_or_read, refl, subst}
-use Rattle.cif_feed.proofs.Names.{sym, ℕ, ⊎_elim, ◌<◌, ◌∙◌, ◌≡◌}
+-- It applies on a date, or on none of them all: no date before its first or after its last is one of its own (`passed`).
+use Rattle.cif_feed.proofs.Names.{AppliesAsPublished, arith, cases_lt, ended, false≢true, get_or, get_or_read, refl, subst, sym, ℕ}
+use Rattle.cif_feed.proofs.Names.{⊎_elim, ◌<◌, ◌∙◌, ◌≡◌}
+use Rattle.cif_feed.proofs.PartLists.{gt-after, left-contains, passed}
 use Rattle.cif_feed.proofs.cut_count.applies_on_any.Goals as goal
 
 pub loop-day-preserved : goal.loop-day-preserved
 loop-day-preserved g c = λ k below.
-    let dates = c.args.dates.now in
+    let later = c.from_day-later.result.now in
     let index = c.loop-day.day-index in
-    let at = get_or_read dates index c.day-item.result c.loop-day-test.true c.day-item.is 0 in
+    let at = get_or_read later index c.day-item.result c.loop-day-test.true c.day-item.is 0 in
+    let P = λ (d : ℕ). AppliesAsPublished c.args.holidays.now c.args.code (ended c.args.last (g.E.Entry.terms c.args.entry.now)) d in
     ⊎_elim
     (λ (early : k < index). c.loop-day.invariant k early)
     (λ late on. let here : k ≡ index = omega arith in
     false≢true (sym c.if-applies_on.false ∙ c.applies_on.ensures.1
-    (subst (λ (d : ℕ). AppliesAsPublished c.args.holidays.now c.args.code (ended c.args.last (g.E.Entry.terms c.args.entry.now)) d) (sym at)
-    (subst (λ (j : ℕ). AppliesAsPublished c.args.holidays.now c.args.code (ended c.args.last (g.E.Entry.terms c.args.entry.now))
-    (get_or dates j 0)) here on))))
+    (subst P (sym at) (subst (λ (j : ℕ). P (get_or later j 0)) here on))))
     (cases_lt k index)
+
+pub returns-then-gt : goal.returns-then-gt
+returns-then-gt g c = (
+  λ e. absurd (false≢true e),
+  λ some. let left = c.from_day-later.ensures in
+      let later = c.from_day-later.result.now in
+      let index = c.loop-day.day-index in
+      let at = get_or_read later index c.day-item.result c.loop-day-test.true c.day-item.is 0 in
+      let after = gt-after c.day-item.result c.args.last c.gt.result c.gt.ensures c.if-gt.true in
+      let begun = some.2.applies.begun in
+      let upto = some.2.applies.unfinished in
+      absurd (passed c.args.dates.now later
+      (λ (d : ℕ). AppliesAsPublished c.args.holidays.now c.args.code (ended c.args.last (g.E.Entry.terms c.args.entry.now)) d)
+      c.first.result left.place index c.requires left.before left.is c.loop-day.invariant some.0 (omega (arith, c.first.ensures))
+      (λ below. omega (arith, at)) some.1 some.2),
+)
 
 pub returns-then-applies_on : goal.returns-then-applies_on
 returns-then-applies_on g c = (
   λ e. (
     c.day-item.result,
-    (c.loop-day.day-index, c.loop-day-test.true, sym c.day-item.is),
+    left-contains c.args.dates.now c.from_day-later.result.now c.from_day-later.ensures.place c.loop-day.day-index c.day-item.result
+        c.from_day-later.ensures.is c.loop-day-test.true c.day-item.is,
     c.applies_on.ensures.0 c.if-applies_on.true,
   ),
   λ some. refl,
@@ -30,8 +47,12 @@ returns-then-applies_on g c = (
 pub returns : goal.returns
 returns g c = (
   λ e. absurd (false≢true e),
-  λ some. let (k, below, is) = some.1 in
-      absurd (c.loop-day.invariant k (omega (arith, c.loop-day-test.false))
-      (subst (λ (d : ℕ). AppliesAsPublished c.args.holidays.now c.args.code (ended c.args.last (g.E.Entry.terms c.args.entry.now)) d)
-      (sym (get_or_default c.args.dates.now k 0 some.0 below ∙ is)) some.2)),
+  λ some. let left = c.from_day-later.ensures in
+      let later = c.from_day-later.result.now in
+      let index = c.loop-day.day-index in
+      let begun = some.2.applies.begun in
+      absurd (passed c.args.dates.now later
+      (λ (d : ℕ). AppliesAsPublished c.args.holidays.now c.args.code (ended c.args.last (g.E.Entry.terms c.args.entry.now)) d)
+      c.first.result left.place index c.requires left.before left.is c.loop-day.invariant some.0 (omega (arith, c.first.ensures))
+      (λ below. absurd (omega (arith, c.loop-day-test.false))) some.1 some.2),
 )

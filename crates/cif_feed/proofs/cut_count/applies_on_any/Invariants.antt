@@ -4,4 +4,4 @@ use Rattle.cif_feed.proofs.cut_count.applies_on_any.Given as goal
 
 abbrev pub invariant-loop-day : goal.invariant-loop-day
 invariant-loop-day g l = (k : ℕ) → k < l.day-index
-    → ¬ AppliesAsPublished l.holidays l.code (ended l.last (g.E.Entry.terms l.entry)) (get_or l.dates k 0)
+    → ¬ AppliesAsPublished l.holidays l.code (ended l.last (g.E.Entry.terms l.entry)) (get_or l.later k 0)

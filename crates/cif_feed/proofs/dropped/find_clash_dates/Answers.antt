@@ -1,21 +1,26 @@
 -- Key by key (`FoundKeys`): the first run of positions is all of a key, whose clash dates are found.
-use Rattle.cif_feed.proofs.Names.{All, All-drop, All-take, List, all-within, eqb-true, get, keyed, length, nil_from_length, subst, sym, ℕ}
-use Rattle.cif_feed.proofs.Names.{◌+◌, ◌<◌}
+use Rattle.cif_feed.proofs.Names.{All, All-drop, All-take, AreClashDays, List, all-within, eqb-true, get, keyed, length, nil_from_length}
+use Rattle.cif_feed.proofs.Names.{published_by, subst, sym, ℕ, ◌+◌, ◌<◌}
 use Rattle.cif_calendar.proofs.FirstClash.{same_key-cmp}
+use Rattle.cif_feed.proofs.CountedClashes.{counted-none}
 use Rattle.cif_feed.proofs.FoundKeys.{AreFoundUpTo, found-all, found-more, found-nothing, get-none}
 use Rattle.cif_feed.proofs.dropped.find_clash_dates.Goals as goal
 
 pub loop-rest-init : goal.loop-rest-init
 loop-rest-init g c =
     let es = keyed g.E.Entry.key g.E.Entry.terms c.args.entries.now in
-    let window = c.args.window.now in record {
+    let are = AreClashDays c.args.holidays.now (published_by g.E.Entry.key g.E.PublishedEntry.published c.args.entries.now)
+    c.args.window.now.first (c.args.window.now.last + 1) in record {
       within = subst (λ (rest : List ℕ). All (λ i. i < length c.args.entries.now) rest) (sym c.as_slice-rest.ensures.value)
           (all-within g.E.Entry.key g.E.Entry.terms c.args.entries.now c.in_ok-positions.positions.items c.in_ok-positions.ensures.within);
-      found = subst (λ (rest : List ℕ). AreFoundUpTo g.E.Key.Ord.cmp es window.first (window.last + 1) g.E.NamedEntry.clash_of
+      found = subst (λ (rest : List ℕ). AreFoundUpTo g.E.Key.Ord.cmp es are g.E.NamedEntry.clash_of
           g.E.Entry.stands_for c.args.told.now.items c.args.told.now.items
           (get g.E.Rank.Ord.cmp c.new-dates.result) rest) (sym c.as_slice-rest.ensures.value)
-          (found-nothing g.E.Key.Ord.cmp es window.first (window.last + 1) g.E.NamedEntry.clash_of g.E.Entry.stands_for
-          c.args.told.now.items c.in_ok-positions.positions.items c.in_ok-positions.ensures.whole c.in_ok-positions.ensures.rising
+          (found-nothing g.E.Key.Ord.cmp es are g.E.NamedEntry.clash_of g.E.Entry.stands_for
+          c.args.told.now.items
+          (λ k none. counted-none c.args.holidays.now g.E.Entry.key g.E.Entry.terms g.E.PublishedEntry.published
+          g.met.E.PublishedEntry.own_terms c.args.entries.now k none c.args.window.now.first (c.args.window.now.last + 1))
+          c.in_ok-positions.positions.items c.in_ok-positions.ensures.whole c.in_ok-positions.ensures.rising
           (get g.E.Rank.Ord.cmp c.new-dates.result)
           (get-none g.E.Rank.Ord.cmp c.new-dates.result c.new-dates.ensures.empty));
     }
@@ -37,13 +42,14 @@ add_key-requires-clause-within g c =
 pub loop-rest-preserved : goal.loop-rest-preserved
 loop-rest-preserved g c =
     let es = keyed g.E.Entry.key g.E.Entry.terms c.args.entries.now in
-    let window = c.args.window.now in
+    let are = AreClashDays c.args.holidays.now (published_by g.E.Entry.key g.E.PublishedEntry.published c.args.entries.now)
+    c.args.window.now.first (c.args.window.now.last + 1) in
     let same = same_key-cmp g.E.Key.PartialEq.eq g.E.Key.Ord.cmp g.met.E.Key.Ord.matches_eq g.met.E.Entry.same_key in
     record {
       within = subst (λ (rest : List ℕ). All (λ i. i < length c.args.entries.now) rest) (sym c.split_at.ensures.back)
           (All-drop (λ i. i < length c.args.entries.now) c.count_of_first_key.result c.loop-rest.rest.now c.loop-rest.invariant.within);
       found = rw (c.split_at.ensures.back)
-          (found-more g.E.Key.Ord.cmp es window.first (window.last + 1) g.E.NamedEntry.clash_of g.E.Entry.stands_for c.args.told.now.items
+          (found-more g.E.Key.Ord.cmp es are g.E.NamedEntry.clash_of g.E.Entry.stands_for c.args.told.now.items
           g.met.E.Key.Ord.total same c.loop-rest.told.items _ _ _ c.loop-rest.rest.now c.loop-rest.invariant.found
           c.count_of_first_key.result c.count_of_first_key.ensures (rw c.split_at.ensures.front at c.in_ok-add_key.ensures));
     }
@@ -51,9 +57,10 @@ loop-rest-preserved g c =
 pub returns : goal.returns
 returns g c =
     let es = keyed g.E.Entry.key g.E.Entry.terms c.args.entries.now in
-    let window = c.args.window.now in
-    found-all g.E.Key.Ord.cmp es window.first (window.last + 1) g.E.NamedEntry.clash_of g.E.Entry.stands_for c.args.told.now.items
+    let are = AreClashDays c.args.holidays.now (published_by g.E.Entry.key g.E.PublishedEntry.published c.args.entries.now)
+    c.args.window.now.first (c.args.window.now.last + 1) in
+    found-all g.E.Key.Ord.cmp es are g.E.NamedEntry.clash_of g.E.Entry.stands_for c.args.told.now.items
     c.loop-rest.told.items (get g.E.Rank.Ord.cmp c.loop-rest.dates)
-    (subst (λ (rest : List ℕ). AreFoundUpTo g.E.Key.Ord.cmp es window.first (window.last + 1) g.E.NamedEntry.clash_of
+    (subst (λ (rest : List ℕ). AreFoundUpTo g.E.Key.Ord.cmp es are g.E.NamedEntry.clash_of
     g.E.Entry.stands_for c.args.told.now.items c.loop-rest.told.items (get g.E.Rank.Ord.cmp c.loop-rest.dates) rest)
     (nil_from_length c.loop-rest.rest.now (eqb-true _ _ (sym c.loop-rest-test.ensures))) c.loop-rest.invariant.found)

@@ -15,7 +15,7 @@ loop-one-preserved c = λ h days reads.
     added-more (λ (x : PublishedAssociation). (x.association.key, published_association_terms x)) h days c.args.window_last
     c.args.associations.now c.loop-one.one-index c.one-item.result (association_entries (map association_on c.loop-one.prepared.items))
     (association_entries (map association_on c.add_parts.new.prepared.items)) last [] c.dates_of-dates.result.now
-    c.loop-one-test.true c.one-item.is (c.prepared_last-last.ensures.last None) refl (c.dates_of-dates.ensures days reads) added
+    c.loop-one-test.true c.one-item.is (c.prepared_last-last.ensures.last None) refl (c.dates_of-dates.ensures.reads days reads) added
     (c.loop-one.invariant h days reads)
 
 pub returns : goal.returns

@@ -18,7 +18,7 @@ loop-one-preserved c = λ days reads.
     c.args.schedules.now c.loop-one.one-index c.one-item.result (schedule_entries (map schedule_on c.loop-one.prepared.items))
     (schedule_entries (map schedule_on c.add_parts.new.prepared.items)) last holidays dates
     c.loop-one-test.true c.one-item.is (c.prepared_last-last.ensures.last c.one-item.result.code) c.of.ensures.days
-    (c.dates_of-dates.ensures days reads) added (c.loop-one.invariant days reads)
+    (c.dates_of-dates.ensures.reads days reads) added (c.loop-one.invariant days reads)
 
 pub returns : goal.returns
 returns c = λ days reads.

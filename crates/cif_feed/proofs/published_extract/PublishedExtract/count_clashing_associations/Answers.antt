@@ -14,7 +14,7 @@ loop-one-preserved c =
       within-more c.loop-one.count c.loop-one.one-index c.applies_on_any.result few,
       λ days reads. count-more _ c.as_slice-associations.result.now c.loop-one.one-index c.one-item.result c.loop-one.count
           c.loop-one-test.true c.one-item.is (count days reads) c.applies_on_any.result
-          (decided (days c.one-item.result.association.key) (c.dates_of-dates.ensures days reads)),
+          (decided (days c.one-item.result.association.key) (c.dates_of-dates.ensures.reads days reads)),
     )
 
 pub returns-clause-count : goal.returns-clause-count

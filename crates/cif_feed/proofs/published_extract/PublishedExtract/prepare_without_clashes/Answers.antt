@@ -1,23 +1,7 @@
--- Where no key clashes the whole extract is the one without clashes; else what is cut at the clash dates is (`ClashingKeys`).
-use Rattle.cif_feed.proofs.Names.{get, key_cmp, length, nat_cmp, nil_from_length, published_parts, refl, rules, ◌≡◌}
-use Rattle.cif_feed.proofs.ClashingKeys.{cut-dropped, none-dropped, told-dropped}
+-- What is cut at the clash dates of its keys is the extract without clashes (`ClashingKeys`).
+use Rattle.cif_feed.proofs.Names.{get, key_cmp, nat_cmp, published_parts, refl}
+use Rattle.cif_feed.proofs.ClashingKeys.{cut-dropped, told-dropped}
 use Rattle.cif_feed.proofs.published_extract.PublishedExtract.prepare_without_clashes.Goals as goal
-
-pub returns-then-is_empty : goal.returns-then-is_empty
-returns-then-is_empty c =
-    let h = c.args.holidays.now in
-    let p = published_parts c.args.self.now in
-    let all = c.clash_dates.new.told.items in
-    let none : length all ≡ 0 = search rules in
-    let associations = get key_cmp c.in_ok-associations.associations in
-    let trains = get nat_cmp c.in_ok-associations.trains in
-    record {
-      prepared = none-dropped h p c.in_ok-whole.whole c.in_ok-whole.ensures c.new-keys.result.items all c.new-keys.ensures.items
-          associations trains c.in_ok-associations.ensures (nil_from_length all none);
-      told = told-dropped h p c.in_ok-whole.whole c.in_ok-whole.ensures c.new-keys.result.items all c.new-keys.ensures.items
-          associations trains c.in_ok-associations.ensures _ _ c.count_clashing_associations.ensures.count
-          c.count_clashing_schedules.ensures.count _ refl refl;
-    }
 
 pub returns : goal.returns
 returns c =
@@ -28,9 +12,8 @@ returns c =
     let trains = get nat_cmp c.in_ok-associations.trains in
     let found = c.in_ok-associations.ensures in
     record {
-      prepared = cut-dropped h p c.in_ok-whole.whole c.in_ok-whole.ensures c.new-keys.result.items all c.new-keys.ensures.items
-          associations trains found c.in_ok-prepared.prepared
-          (c.in_ok-prepared.ensures found.1.days found.2.days found.1.reads found.2.reads);
-      told = told-dropped h p c.in_ok-whole.whole c.in_ok-whole.ensures c.new-keys.result.items all c.new-keys.ensures.items
-          associations trains found _ _ c.count_clashing_associations.ensures.count c.count_clashing_schedules.ensures.count _ refl refl;
+      prepared = cut-dropped h p c.new-keys.result.items all c.new-keys.ensures.items associations trains found
+          c.in_ok-prepared.prepared (c.in_ok-prepared.ensures found.1.days found.2.days found.1.reads found.2.reads);
+      told = told-dropped h p c.new-keys.result.items all c.new-keys.ensures.items associations trains found _ _
+          c.count_clashing_associations.ensures.count c.count_clashing_schedules.ensures.count _ refl refl;
     }

@@ -1,0 +1,8 @@
+-- Of the positions so far those without the code are there.
+use Rattle.cif_feed.proofs.Names.{HasCodeAt, [], take, ℕ}
+use Rattle.cif_feed.proofs.CountedClashes.{AreAlso}
+use Rattle.cif_feed.proofs.counting.without_code.Given as goal
+
+abbrev pub invariant-loop-position : goal.invariant-loop-position
+invariant-loop-position g l =
+    AreAlso (λ (i : ℕ). ¬ HasCodeAt g.E.PublishedEntry.published l.entries l.code i) [] (take l.position-index l.members) l.rest.items

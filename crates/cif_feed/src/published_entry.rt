@@ -1,0 +1,198 @@
+//! The records of a published extract as entries of the calendar.
+ghost use Rattle.std.specs.Prelude.{◌≡◌, ◌↔◌, Some, IsTrue};
+ghost use Rattle.cif_feed.specs.declared.holidays.HolidayCode.{HolidayCode};
+
+use crate::{HolidayCode, PublishedAssociation, PublishedSchedule};
+use cif_calendar::{Entry, NamedEntry};
+use cif_columns::{Day, DaysRun, Stp, Uid};
+use cif_extract::{Body, Clash};
+use cif_records::{AssocBody, AssocKey};
+
+/// A record of a published extract: an entry, which doesn't count on the holidays of its code. Where its end is open,
+/// its last date is the last day there is.
+pub(crate) trait PublishedEntry: NamedEntry {
+    ghost use Rattle.cif_feed.specs.Published.{PublishedTerms};
+
+    // What the rules read of it.
+    ghost published: { Self → PublishedTerms Self.Body };
+
+    /// Its holiday code.
+    fn code(&self) -> Option<HolidayCode>
+        ensures { result ≡ (published self.now).code };
+
+    // Its dates, its letter and what runs are those of the entry.
+    ghost own_terms: { (e : Self) → (published e).terms ≡ Self.terms e };
+}
+
+/// Whether the entry has the code.
+pub(crate) fn is_of<E: PublishedEntry>(entry: &E, code: HolidayCode) -> bool
+    ensures { IsTrue result ↔ ((E.published entry.now).code ≡ Some code) }
+{
+    entry.code() == Some(code)
+}
+
+impl Entry for PublishedAssociation {
+    type Key = AssocKey;
+
+    type Rank = AssocKey;
+
+    type Body = AssocBody;
+
+    ghost use Rattle.cif_calendar.specs.Entries.{association_terms};
+    ghost use Rattle.cif_calendar.specs.Laws.Bodied.{cancelled-from_bodied};
+    ghost use Rattle.cif_calendar.specs.Laws.Ranks.{order_of_keys};
+    ghost use Rattle.cif_records.specs.AssocKey.{key_cmp};
+    ghost use Rattle.std.proofs.Common.{rules};
+    ghost use Rattle.std.proofs.lemmas.Grind.{common_steps};
+    ghost use Rattle.std.specs.Cmp.Lexicographic.{bytes_decides, pointwise_decides};
+
+    ghost key = { λ a. a.association.key };
+
+    ghost stands_for = { λ rank key. rank ≡ key };
+
+    ghost terms = { λ a. association_terms a.association };
+
+    fn key(&self) -> &AssocKey {
+        self.association.key()
+    }
+
+    fn rank(&self) -> AssocKey {
+        self.association.rank()
+    }
+
+    fn first(&self) -> Day {
+        self.association.first()
+    }
+
+    fn last(&self) -> Day {
+        self.association.last()
+    }
+
+    fn days(&self) -> DaysRun {
+        self.association.days()
+    }
+
+    fn letter(&self) -> Stp {
+        self.association.letter()
+    }
+
+    fn body(&self) -> Option<&AssocBody> {
+        self.association.body()
+    }
+
+    ghost same_key = { Prim.search (rules, common_steps, pointwise_decides, bytes_decides) };
+
+    ghost same_body = { Prim.search (rules, common_steps, pointwise_decides, bytes_decides) };
+
+    ghost same_order = { order_of_keys key_cmp };
+
+    ghost dates_ordered = { λ a. a.association.in_order };
+
+    ghost cancelled = { λ a. cancelled-from_bodied a.association.letter a.association.body a.association.bodied };
+}
+
+impl NamedEntry for PublishedAssociation {
+    ghost use Rattle.cif_extract.specs.declared.fault.Clash.TheVariants as clash;
+
+    ghost clash_of = { clash.Association };
+
+    fn clash_on(&self, day: Day) -> Clash {
+        self.association.clash_on(day)
+    }
+}
+
+impl PublishedEntry for PublishedAssociation {
+    ghost use Rattle.std.specs.Prelude.{refl};
+    ghost use Rattle.cif_feed.specs.PublishedParts.{published_association_terms};
+
+    ghost published = { published_association_terms };
+
+    fn code(&self) -> Option<HolidayCode> {
+        None
+    }
+
+    ghost own_terms = { λ a. refl };
+}
+
+impl Entry for PublishedSchedule {
+    type Key = Uid;
+
+    type Rank = u64;
+
+    type Body = Body;
+
+    ghost use Rattle.cif_calendar.specs.Entries.{schedule_terms};
+    ghost use Rattle.cif_calendar.specs.Laws.Bodied.{cancelled-from_bodied};
+    ghost use Rattle.cif_calendar.specs.Laws.Ranks.{order_of_numbers};
+    ghost use Rattle.cif_calendar.specs.Ranks.{IsNumberOf};
+    ghost use Rattle.std.proofs.Common.{rules};
+    ghost use Rattle.std.proofs.lemmas.Grind.{common_steps};
+    ghost use Rattle.std.specs.Cmp.Lexicographic.{bytes_decides, pointwise_decides};
+
+    ghost key = { λ s. s.schedule.uid };
+
+    ghost stands_for = { IsNumberOf };
+
+    ghost terms = { λ s. schedule_terms s.schedule };
+
+    fn key(&self) -> &Uid {
+        self.schedule.key()
+    }
+
+    fn rank(&self) -> u64 {
+        self.schedule.rank()
+    }
+
+    fn first(&self) -> Day {
+        self.schedule.first()
+    }
+
+    fn last(&self) -> Day {
+        self.schedule.last()
+    }
+
+    fn days(&self) -> DaysRun {
+        self.schedule.days()
+    }
+
+    fn letter(&self) -> Stp {
+        self.schedule.letter()
+    }
+
+    fn body(&self) -> Option<&Body> {
+        self.schedule.body()
+    }
+
+    ghost same_key = { Prim.search (rules, common_steps, bytes_decides) };
+
+    ghost same_body = { pointwise_decides bytes_decides };
+
+    ghost same_order = { order_of_numbers };
+
+    ghost dates_ordered = { λ s. s.schedule.in_order };
+
+    ghost cancelled = { λ s. cancelled-from_bodied s.schedule.letter s.schedule.body s.schedule.bodied };
+}
+
+impl NamedEntry for PublishedSchedule {
+    ghost use Rattle.cif_extract.specs.declared.fault.Clash.TheVariants as clash;
+
+    ghost clash_of = { clash.Train };
+
+    fn clash_on(&self, day: Day) -> Clash {
+        self.schedule.clash_on(day)
+    }
+}
+
+impl PublishedEntry for PublishedSchedule {
+    ghost use Rattle.std.specs.Prelude.{refl};
+    ghost use Rattle.cif_feed.specs.PublishedParts.{published_schedule_terms};
+
+    ghost published = { published_schedule_terms };
+
+    fn code(&self) -> Option<HolidayCode> {
+        self.code
+    }
+
+    ghost own_terms = { λ s. refl };
+}
