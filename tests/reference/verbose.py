@@ -10,7 +10,7 @@ from .extracts import COMMENT, NOTES, contents_of, line_of
 from .faults import Refusal
 from .published import count_clashing, count_cut, count_open_ends, of_kind, transaction_of
 
-# An input: its name as it is shown, its bytes, or None where it can't be read, and whether a line of it can be read again.
+# An input: its name as it is shown, its bytes, or None where it can't be read, and whether it is a file, which can be read again.
 Input = namedtuple("Input", "name data again")
 
 SIDES = {"compare": ("LEFT", "RIGHT"), "diff": ("LEFT", "RIGHT"), "prepare": ("", "holidays")}
@@ -19,11 +19,13 @@ SIDES = {"compare": ("LEFT", "RIGHT"), "diff": ("LEFT", "RIGHT"), "prepare": (""
 HIDDEN = re.compile("[\x00-\x1f\x7f-\x9f]|([\u2028-\u202e\u2066-\u2069])")
 LETTERS = {"\t": r"\t", "\n": r"\n", "\r": r"\r"}
 
-# How many bytes are kept of an input that can't be read again, how many are looked at of a line of another one, and behind how
-# many comments a header is looked for there.
-KEPT, LOOKED_AT, COMMENTS = 82, 4096, 100
+# How many bytes of a line are looked at, and behind how many comments of a file a header is looked for.
+LOOKED_AT, COMMENTS = 4096, 100
 
-WANTED = {"bad date": "must be a valid date as six digits, YYMMDD", "bad UID": "must be six printable ASCII characters"}
+WANTED = {
+    "bad date": "must be a valid date as six digits, YYMMDD",
+    "bad UID": "must be six printable ASCII characters",
+}
 NO_FILE = "No such file or directory (os error 2)"
 BEGINNINGS = {
     b"\x1f\x8b": "gzip: decompress it first",
@@ -31,12 +33,27 @@ BEGINNINGS = {
     b"\xef\xbb\xbf": "text with a byte order mark: remove its first three bytes",
     b"\xff\xfe": "UTF-16: convert it to ASCII first",
     b"\xfe\xff": "UTF-16: convert it to ASCII first",
+    b"H\0": "UTF-16: convert it to ASCII first",
+    b"\0H": "UTF-16: convert it to ASCII first",
     b"{": "JSON: take the feed in the CIF format",
     b"[": "JSON: take the feed in the CIF format",
+    b"<?xml": "XML: take the feed in the CIF format",
+    b"<": "HTML, a page of the web: take the feed itself",
+    b"A    ": "the stations of RSP (MSN), for cif-gtfs-csv",
+    b"M=": "the links of RSP (ALF), for cif-gtfs-csv",
 }
-HOLIDAY_LINE = "a line has a code, X, E or G, and dates YYMMDD, in at most 1,000 bytes; # begins a remark"
+HOLIDAYS_OF_JSON = "examples/README.md has a recipe that makes holidays of the government's list"
+SEPARATORS = "words are separated by spaces, not by commas or tabs"
+HOLIDAY_LINE = (
+    "a line has a code, X, E or G, and dates YYMMDD, in at most 1,000 bytes; # begins a remark"
+)
 NO_HOLIDAY_CODE = "a code is X, E or G"
-OF_COMMENT, LONG_COMMENT = "a byte of a comment is 0x20 to 0x7E", "a comment has at most 80 columns"
+LONG_COMMENT = "a comment has at most 1,000 bytes"
+EMPTY = "the input is empty: > FILE empties FILE before it is read"
+ENDS_IN_IT = "the input ends in the midst of it"
+FULL_FIRST = "the full extract comes first, and its updates in their order behind it"
+IN_THEIR_ORDER = "updates stand in their order, the oldest first"
+CLASHES = "cif clashes lists all clashes; cif prepare --drop-clashes leaves them out on their dates"
 LENIENT = "--lenient goes on after such a line"
 
 # What must stand in columns that are refused: by the reason, or else by what stands there.
@@ -61,6 +78,8 @@ MUST = {
     values.public_time: "a public time is HHMM",
 }
 NOT_NAMED, NO_CODE = "--holidays doesn't name this code", "a holiday code is a space, X, E or G"
+NO_HOLIDAYS = "--holidays FILE gives the dates of this code"
+IGNORED = "a line of --holidays with the code alone ignores it"
 
 # ---- the commands that help
 
@@ -80,21 +99,10 @@ def letter_of_header(one):
     return header[46:47] if header[:2] == b"HD" else b""
 
 
-def begins_as_full(one):
-    """Whether an input begins with the header of a full extract."""
-    try:
-        layouts.read("HD", line_of(contents_of(one.data)[0]), {})
-    except Refusal:
-        return False
-    return one.data[:2] == b"HD"
-
-
 def helps(reason, line, one):
     """The command that accepts a line of an input which others refuse, if there is one."""
     if reason == "OpenEnd":
         return PREPARE
-    if line is None:
-        return None
     if reason == "UnknownRecord" and line[:2].decode("latin-1") in NOTES:
         return PREPARE
     if reason in ("BadLength", "UnknownRecord") and COMMENT.fullmatch(line):
@@ -110,8 +118,6 @@ def help_with_all(one, reasons):
     found = {helps(name, line, one) for name, line in lines.items()}
     if UPDATE in found:
         return [UPDATE]
-    if "NotFull" in lines and lines["NotFull"] is None and not begins_as_full(one):
-        return []
     return [command for command in (PREPARE, PREPARE_WITH_HOLIDAYS) if command in found]
 
 
@@ -128,7 +134,11 @@ def escaped(text):
 
 def inputs_of(job, names, data):
     """The inputs of these names."""
-    sides = ("FULL", *["UPDATE"] * len(data)) if job.command == "update" else SIDES.get(job.command, ("",))
+    sides = (
+        ("FULL", *["UPDATE"] * len(data))
+        if job.command == "update"
+        else SIDES.get(job.command, ("",))
+    )
     found = []
     for side, name, content in zip(sides, names, data):
         shown = "standard input" if name == "-" else escaped(name)
@@ -137,10 +147,8 @@ def inputs_of(job, names, data):
 
 
 def line_again(one, number):
-    """The content of the line of this number, or its first bytes, where it is still known."""
-    if one.again:
-        return contents_of(one.data)[number - 1]
-    return contents_of(one.data[:KEPT])[0] if number == 1 else None
+    """The content of the line of this number."""
+    return contents_of(one.data)[number - 1]
 
 
 def shown(line):
@@ -171,7 +179,9 @@ def of_extracts(job, inputs, extracts, lines):
     """What is said of the lines that were answered about these extracts."""
     said = [window(one)[2] for one in inputs]
     has_schedule = any(entry.key == (job.uid,) for entry in extracts[0].schedules)
-    is_missing = not has_schedule if job.command == "calendar" else len(lines) == (job.format == "tsv")
+    is_missing = (
+        not has_schedule if job.command == "calendar" else len(lines) == (job.format == "tsv")
+    )
     if job.uid and is_missing:
         known = has_schedule or any(job.uid in entry.key[:2] for entry in extracts[0].associations)
         said.append("there are records with this UID" if known else "no record has this UID")
@@ -189,14 +199,28 @@ def of_feed(one, records, more):
 
 def of_prepared(one, records, holidays, clashes):
     """The same of prepare; clashes has the clash dates of the keys, or is None where they aren't dropped."""
-    by_clashes = "" if clashes is None else f", records cut by clashes: {count_clashing(records, holidays, clashes)}"
-    return of_feed(one, records, f", records cut by holidays: {count_cut(records, holidays)}{by_clashes}")
+    by_clashes = (
+        ""
+        if clashes is None
+        else f", records cut by clashes: {count_clashing(records, holidays, clashes)}"
+    )
+    return of_feed(
+        one, records, f", records cut by holidays: {count_cut(records, holidays)}{by_clashes}"
+    )
+
+
+def of_prepared_full(one):
+    return f"{one.name}: FULL has to be what was published, or what cif update wrote"
 
 
 def of_update(one, records, waived):
     done = [transaction_of(record) for record in records]
     new, revised, deleted = (done.count(transaction) for transaction in "NRD")
-    said = of_feed(one, records, f", lines new: {new}, revised: {revised}, deleted: {deleted}, waived: {len(waived)}")
+    said = of_feed(
+        one,
+        records,
+        f", lines new: {new}, revised: {revised}, deleted: {deleted}, waived: {len(waived)}",
+    )
     return said + [f"{one.name}: waived: {line}" for line in waived]
 
 
@@ -207,7 +231,10 @@ def of_windows(inputs, fault):
     firsts, lasts, said = zip(*map(window, inputs))
     if max(firsts) > min(lasts):
         return [*said, "they have no date in common"]
-    return [*said, *["--common compares the dates that both have"] * (fault.name == "WindowsDiffer")]
+    return [
+        *said,
+        *["--common compares the dates that both have"] * (fault.name == "WindowsDiffer"),
+    ]
 
 
 def of_line(job, one, fault):
@@ -215,33 +242,36 @@ def of_line(job, one, fault):
     line = line_again(one, fault.line)
     is_feed, refusal = job.command in ("prepare", "update"), fault.refusal
     command = None if is_feed and fault.name != "NotFull" else helps(fault.name, line, one)
-    if line is None:
-        return [command] if command else []
+    if command == UPDATE and job.command == "update" and fault.at == 0:
+        command = FULL_FIRST
     said = [shown(line)]
-    if is_feed and fault.name in ("BadLength", "BadByte") and line[:3] == b"/!!":
-        said += of_comment(line)
+    if is_feed and fault.name == "BadLength" and line[:3] == b"/!!":
+        said.append(LONG_COMMENT)
     elif fault.name == "BadLength":
-        said.append(length(one, line))
+        said += length(one, line)
+    elif refusal.first and fault.name == "BankHoliday" and is_feed:
+        said += of_code(job, refusal, line)
     elif refusal.first:
-        must = MUST.get(fault.name) or MUST[refusal.read]
-        if fault.name == "BankHoliday" and is_feed:
-            must = NOT_NAMED if has_code(line) else NO_CODE
-        said += columns(refusal.first, refusal.last, must)
-    return [*said, command] if command else said
+        said += columns(refusal.first, refusal.last, MUST.get(fault.name) or MUST[refusal.read])
+    return [*said, *[FULL_FIRST] * (fault.name == "NotUpdate"), *[command] * bool(command)]
 
 
-def of_comment(line):
-    """What is said of a line that begins as a comment and isn't one."""
-    if len(line) > layouts.WIDTH:
-        return [LONG_COMMENT]
-    column = next(column for column, byte in enumerate(line, 1) if not 0x20 <= byte <= 0x7E)
-    return columns(column, column, OF_COMMENT)
+def of_code(job, refusal, line):
+    """What is said of a holiday code that may not stand there."""
+    if not has_code(line):
+        return columns(refusal.first, refusal.last, NO_CODE)
+    return [
+        *columns(refusal.first, refusal.last, NO_HOLIDAYS if job.holidays is None else NOT_NAMED),
+        IGNORED,
+    ]
 
 
 def length(one, line):
-    if not one.again and len(line) == KEPT:
-        return "the line has more than 80 columns"
-    return f"the line has {'thousands of' if len(line) >= LOOKED_AT else len(line)} columns, not 80"
+    said = f"the line has {'thousands of' if len(line) >= LOOKED_AT else len(line)} columns, not 80"
+    is_cut = (
+        len(line) < layouts.WIDTH and line == contents_of(one.data)[-1] and one.data.endswith(line)
+    )
+    return [said, ENDS_IN_IT] if is_cut else [said]
 
 
 def columns(first, last, must):
@@ -250,35 +280,58 @@ def columns(first, last, must):
 
 
 def of_holidays(one, line):
-    """What is said of a line of holidays: its first mistaken word, if all of it is known and not too long."""
-    if line is None or len(line) > WIDTH:
-        return [*([] if line is None else [shown(line)]), HOLIDAY_LINE]
-    words = [*re.finditer(rb"[^ ]+", line.split(b"#", 1)[0])]
-    if not one.again and len(line) == KEPT and words and words[-1].end() == KEPT:
-        words.pop()
-    for number, word in enumerate(words):
+    """What is said of a line of holidays: what the file looks like, or the first mistaken word, if the line isn't too long."""
+    if format_of(one):
+        name = format_of(one).split(": take", 1)[0]
+        return [f"the holidays look like {name}", *[HOLIDAYS_OF_JSON] * (name == "JSON")]
+    if len(line) > WIDTH:
+        return [shown(line), HOLIDAY_LINE]
+    more = [SEPARATORS] * (b"," in line or b"\t" in line)
+    for number, word in enumerate(re.finditer(rb"[^ ]+", line.split(b"#", 1)[0])):
         text = word[0].decode("latin-1")
         if text not in values.HOLIDAY_CODES if number == 0 else from_yymmdd(text) is None:
-            said = columns(word.start() + 1, word.end(), WANTED["bad date"] if number else NO_HOLIDAY_CODE)
-            return [shown(line), *said] if word.end() <= layouts.WIDTH else [shown(word[0]), said[1]]
+            said = columns(
+                word.start() + 1, word.end(), WANTED["bad date"] if number else NO_HOLIDAY_CODE
+            )
+            return [
+                *(
+                    [shown(line), *said]
+                    if word.end() <= layouts.WIDTH
+                    else [shown(word[0]), said[1]]
+                ),
+                *more,
+            ]
     return [shown(line), HOLIDAY_LINE]
 
 
+def format_of(one):
+    """The other format as which an input begins, if it does."""
+    return next(
+        (said for beginning, said in BEGINNINGS.items() if one.data.startswith(beginning)), None
+    )
+
+
 def other_format(one):
-    """What an input looks like that begins as another format does."""
-    return [f"the input looks like {said}" for beginning, said in BEGINNINGS.items() if one.data.startswith(beginning)]
+    return [f"the input looks like {format_of(one)}"] if format_of(one) else []
 
 
 def of_unfit(inputs, fault):
     """What is said of a line of an update that doesn't fit, or of its header."""
     one, before = inputs[fault.at], inputs[fault.at - 1]
-    line = line_again(one, fault.line)
-    said = [] if line is None else [shown(line)]
+    said, last = [shown(line_again(one, fault.line))], header_of(one)["last_file"]
     if fault.name != "OutOfSequence":
-        return [*said, "an update was left out, or done twice", LENIENT]
-    last, current = header_of(one)["last_file"], header_of(before)["current_file"]
-    said.append(f"its last reference is [{last}], and the extract's current reference is [{current}]")
-    return [*said, "an update was left out or done twice, or is of another feed", LENIENT]
+        left_out = "an update was left out or done twice, or FULL isn't what was published or what cif update wrote"
+        return [
+            *said,
+            "FULL isn't what was published, or what cif update wrote" if last.strip() else left_out,
+            LENIENT,
+        ]
+    current = header_of(before)["current_file"]
+    said.append(
+        f"its last reference is [{last}], and the extract's current reference is [{current}]"
+    )
+    said += ["an update was left out or done twice, or is of another feed", LENIENT]
+    return said + [IN_THEIR_ORDER] * (len(inputs) > 2)
 
 
 def of_refused(job, inputs, fault):
@@ -291,14 +344,23 @@ def of_refused(job, inputs, fault):
     if fault.line == 1 and other_format(one):
         return other_format(one)
     if fault.name == "Truncated":
-        return ["the input ends before its trailer, ZZ"]
+        return ["the input ends before its trailer, ZZ" if one.data else EMPTY]
     return of_line(job, one, fault)
+
+
+def of_word(fault):
+    """What more is said of a word that names no date, or no UID."""
+    if fault.name == "bad UID":
+        five = len(fault.word.encode(errors="surrogateescape")) == 5
+        return ["a space before or behind the other five belongs to it, in quotes"] * five
+    iso = re.fullmatch("[0-9]{2}([0-9]{2})-([0-9]{2})-([0-9]{2})", fault.word)
+    return [f"dates are YYMMDD: {''.join(iso.groups())}"] if iso else []
 
 
 def of_fault(job, inputs, fault):
     """What is said of a fault."""
     if fault.word is not None:
-        return [f"'{escaped(fault.word)}': {WANTED[fault.name]}"]
+        return [f"'{escaped(fault.word)}': {WANTED[fault.name]}", *of_word(fault)]
     if fault.name in ("OutsideWindow", "WindowsDiffer"):
         return of_windows(inputs, fault)
     if fault.name == "WindowReversed":
@@ -308,4 +370,7 @@ def of_fault(job, inputs, fault):
     one = inputs[fault.at]
     if fault.name == "ReadFault":
         return [f"in {one.name}: {NO_FILE}"]
-    return [f"in {one.name}", *(clashing(*fault.clash) if fault.clash else of_refused(job, inputs, fault))]
+    return [
+        f"in {one.name}",
+        *([*clashing(*fault.clash), CLASHES] if fault.clash else of_refused(job, inputs, fault)),
+    ]

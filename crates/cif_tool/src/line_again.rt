@@ -58,6 +58,8 @@ pub(crate) struct LastRead {
     bytes: Vec<u8>,
     /// How many lines stood before them; not known once memory ran out.
     lines_before: Option<u64>,
+    /// Whether nothing follows them.
+    is_end: bool,
 }
 
 impl LastRead {
@@ -66,11 +68,14 @@ impl LastRead {
         LastRead {
             bytes: Vec::new(alloc),
             lines_before: Some(0),
+            is_end: false,
         }
     }
 
-    /// Keeps the bytes that were read now, and forgets the first lines if it has too many.
+    /// Keeps the bytes that were read now, where there were some before the end, and forgets the first lines if it has
+    /// too many.
     pub(crate) fn add(&mut self, read: &[u8]) {
+        self.is_end = read.is_empty();
         if self.bytes.len() >= MOST_KEPT {
             self.forget(self.bytes.len().saturating_sub(LEAST_KEPT));
         }
@@ -107,6 +112,8 @@ impl LastRead {
         for _ in 0..before {
             rest.skip_until(b'\n').ok()?;
         }
-        LineAgain::read(alloc, &mut rest, MOST_LOOKED_AT)
+        let mut line = LineAgain::read(alloc, &mut rest, MOST_LOOKED_AT)?;
+        line.is_whole &= line.is_ended || self.is_end;
+        Some(line)
     }
 }
