@@ -59,10 +59,10 @@ class Row:
             raise Mistake("a second status")
         self.status = int(status)
 
-    def add(self, name, content):
+    def add(self, name, data):
         if name in self.files or name in ("args", "status"):
             raise Mistake(f"the row can't have another {name}")
-        self.files[name] = content
+        self.files[name] = data
 
 
 def unescaped(text):

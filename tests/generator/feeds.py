@@ -138,8 +138,8 @@ def small_feeds(rng):
     updates = [update._replace(files=("full.cif", name)) for name in ("update.cif", "-")]
     check = Job("check", all=rng.random() < 0.5, verbose=True)
     checks = [check._replace(files=(name,)) for name in ("extract.cif", "-")]
-    published, full_and_update = small_published(rng), small_update(rng)
-    behind = [f"{some_comment(rng)}\n".encode() + data for data in (published[0], full_and_update[1])]
-    sorts = [(prepare, 0, published), (full, 0, full_and_update), (updates, 1, full_and_update)]
+    of_prepare, full_and_update = small_published(rng), small_update(rng)
+    behind = [f"{some_comment(rng)}\n".encode() + data for data in (of_prepare[0], full_and_update[1])]
+    sorts = [(prepare, 0, of_prepare), (full, 0, full_and_update), (updates, 1, full_and_update)]
     sorts += [(checks, 0, [data]) for data in behind]
     return [([OfSmall(job, at) for job in jobs], inputs) for jobs, at, inputs in sorts]

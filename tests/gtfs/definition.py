@@ -61,6 +61,8 @@ class Train:
 
     def __init__(self, row):
         self.row, self.stops = row, []
+        # its public calls, and by their numbers these and its stops where it has associations on any date
+        self.calls, self.way = [], {}
 
     def add(self, row):
         names = ("location", "suffix", "arrival", "departure", "pass", "public_arrival", "public_departure")
@@ -85,7 +87,6 @@ class Train:
         return None
 
     def set_way(self, spots):
-        """All its calls: the public ones, and its stops at all places where it has associations on any date."""
         stops = [stop for stop in (self.stop(*spot) for spot in spots) if stop]
         self.way = {call.number: call for call in with_stops(self.calls, stops)}
 

@@ -319,8 +319,9 @@ def check_signals(counts, maker, special):
             time.sleep(0.05)
         process.send_signal(number)
         _, told = process.communicate(timeout=30)
-        counts.same(f"stopped by {number.name}", (4, f"cif-gtfs: interrupted by {number.name}\n".encode()), (process.returncode, told))
-        counts.same(f"stopped by {number.name}, what is left", before, left(maker))
+        name = signal.Signals(number).name
+        counts.same(f"stopped by {name}", (4, f"cif-gtfs: interrupted by {name}\n".encode()), (process.returncode, told))
+        counts.same(f"stopped by {name}, what is left", before, left(maker))
 
 
 def check_terminal(counts, maker, special):

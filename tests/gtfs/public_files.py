@@ -1,7 +1,10 @@
 """The files that cif-gtfs-csv makes of made-up public ones, whose layouts are those of companions/cif_gtfs_csv."""
 import csv
 import io
+from math import degrees
 from pathlib import Path
+
+from cif_gtfs_csv.grid import latitude_and_longitude, on_airy
 
 NAPTAN = """\
 ATCOCode,NaptanCode,CommonName,Street,GridType,Easting,Northing,Longitude,Latitude,StopType
@@ -94,17 +97,13 @@ def check_places_of_master(counts, text):
     rows = list(csv.DictReader(io.StringIO(text, newline="")))
     counts.same("msn-places, TIPLOCs", sorted(OF_MSN), [row["tiploc"] for row in rows])
     for row in rows:
-        name, *degrees = OF_MSN[row["tiploc"]]
+        name, *place = OF_MSN[row["tiploc"]]
         got = [float(row[field]) if row[field] else None for field in ("latitude", "longitude")]
-        near = all(abs(one - other) < 0.001 if one else one == other for one, other in zip(degrees, got))
+        near = all(abs(one - other) < 0.001 if one else one == other for one, other in zip(place, got))
         counts.test(f"msn-places, {row['tiploc']}", row["name"] == name and near, row)
 
 
 def check_grid(counts):
-    from math import degrees
-
-    from cif_gtfs_csv.grid import latitude_and_longitude, on_airy
-
     for name, want, got, near in (
         ("on the grid's datum", ON_AIRY, tuple(map(degrees, on_airy(*POINT))), 0.00000001),
         ("in WGS 84", IN_WGS_84, latitude_and_longitude(*POINT), NEAR),

@@ -1,7 +1,6 @@
 """The help of cif-gtfs and cif-gtfs-csv against their manual page and the completions for bash, zsh and fish."""
 import re
 import subprocess
-from pathlib import Path
 
 from .checks import COMPANIONS, TOP
 
@@ -60,8 +59,8 @@ def options_of_zsh(text):
 
 def offered(line):
     *words, last = line.split(" ")
-    completion = TOP / "completions" / f"{words[0]}.bash"
-    done = subprocess.run(["bash", "-c", BASH, "bash", completion, *words, last], capture_output=True, text=True, check=False)
+    path = TOP / "completions" / f"{words[0]}.bash"
+    done = subprocess.run(["bash", "-c", BASH, "bash", path, *words, last], capture_output=True, text=True, check=False)
     return done.stdout.split() + done.stderr.splitlines()
 
 

@@ -1,3 +1,4 @@
+# shellcheck shell=sh
 # The trials of tests/process/run with the preloaded library. They also need cp, dd, env, tr and wc.
 
 READ_FAULT="cif: ReadFault"

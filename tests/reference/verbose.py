@@ -8,7 +8,7 @@ from .explanation import clashing
 from .holidays import WIDTH
 from .extracts import COMMENT, NOTES, contents_of, line_of
 from .faults import Refusal
-from .published import count_clashing, count_cut, count_open_ends, of_kind, transaction_of
+from .published import count_clashing, count_cut, count_open_ends, transaction_of
 
 # An input: its name as it is shown, its bytes, or None where it can't be read, and whether a line of it can be read again.
 Input = namedtuple("Input", "name data again")
@@ -131,8 +131,8 @@ def inputs_of(job, names, data):
     sides = ("FULL", *["UPDATE"] * len(data)) if job.command == "update" else SIDES.get(job.command, ("",))
     found = []
     for side, name, content in zip(sides, names, data):
-        shown = "standard input" if name == "-" else escaped(name)
-        found.append(Input(f"{side} ({shown})" if side else shown, content, name != "-"))
+        written = "standard input" if name == "-" else escaped(name)
+        found.append(Input(f"{side} ({written})" if side else written, content, name != "-"))
     return found
 
 
