@@ -16,7 +16,8 @@ TOP = Path(__file__).resolve().parents[2]
 PATH = re.compile(r"[\w./-]*/[\w./-]*|[\w-]+\.(?:rt|antt|py|rs|c|sh|rows|md|cif|txt|edit)")
 NAME = re.compile(r"[A-Za-z_]\w*(?:-\w+)*")
 DECLARED = re.compile(
-    r"\b(?:fn|mod|struct|enum|trait|impl|for|record|data|abbrev|unfoldable|ensures|requires|ghost) +(?:pub +)?(?:\w+::)*(\w+)|^(?:\s*pub )?(\w+) :",
+    r"\b(?:fn|mod|struct|enum|trait|impl|for|record|data|abbrev|unfoldable|ensures|requires|ghost) +"
+    r"(?:pub +)?(?:\w+::)*(\w+)|^(?:\s*pub )?(\w+) :",
     re.M,
 )
 

@@ -334,7 +334,8 @@ def check_terminal(counts, maker, special):
     while block := read_terminal(ours):
         told += block
     process.wait()
-    counts.test("on a terminal", b"reading calls: " in told and b"writing the other files\r" in told and b"\r\x1b[Kcif-gtfs: " in told, told)
+    parts = (b"reading calls: ", b"writing the other files\r", b"\r\x1b[Kcif-gtfs: ")
+    counts.test("on a terminal", all(part in told for part in parts), told)
 
 
 def read_terminal(device):

@@ -88,6 +88,7 @@ owes() {
 
 # tells PATTERN: whether the library says so
 tells() {
+    # shellcheck disable=SC2254 # it is a pattern
     case $told in
     $1) ;;
     *) return 1 ;;
