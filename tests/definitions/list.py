@@ -143,8 +143,16 @@ def clauses(crate, source, function, names):
     contract = re.search(r"fn " + function + r"\b.*?\n\{", text, re.S).group(0)
     lines = []
     for name in names:
-        lines.append(re.search(r"ensures " + name + r" \{(.*?)\}\s*(?=ensures|requires|//|\{\Z)", contract, re.S).group(1))
-    return lines, imports, [DEVICES[name] for name in re.findall(r"\b\w+: (\w+)", contract) if name in DEVICES]
+        lines.append(
+            re.search(
+                r"ensures " + name + r" \{(.*?)\}\s*(?=ensures|requires|//|\{\Z)", contract, re.S
+            ).group(1)
+        )
+    return (
+        lines,
+        imports,
+        [DEVICES[name] for name in re.findall(r"\b\w+: (\w+)", contract) if name in DEVICES],
+    )
 
 
 def said_of(crate, source, name):
@@ -157,7 +165,11 @@ def said_of(crate, source, name):
     lines += re.findall(r"ghost \w+ = \{(.*?)\};", model.group(0) if model else "", re.S)
     found = cited(lines, ghost_imports(text), {}, crate, source)
     members = re.sub(r"ghost .*", "", fields)
-    return found + [MODELS[word] for word in re.findall(r"\b[A-Z]\w+", members) if word in MODELS and word != name]
+    return found + [
+        MODELS[word]
+        for word in re.findall(r"\b[A-Z]\w+", members)
+        if word in MODELS and word != name
+    ]
 
 
 def resting(waiting, seen):
@@ -178,7 +190,11 @@ def resting(waiting, seen):
         own = module(crate, inner)
         if name not in own.definitions:
             # a case of an enum, or a field: what defines it is meant
-            waiting[:0] = [("definition", crate, inner, other) for other in own.order if own.has_case(other, name)][:1]
+            waiting[:0] = [
+                ("definition", crate, inner, other)
+                for other in own.order
+                if own.has_case(other, name)
+            ][:1]
             continue
         body = own.definitions[name]
         print(f"{crate} specs/{inner.replace('.', '/')}.antt {name} {len(body)}")

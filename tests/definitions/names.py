@@ -65,12 +65,23 @@ def undeclared_names(document, declared):
 
 def main():
     files = all_files()
-    sources = [file for file in files if re.match(r"(crates|tests)/.*(\.(rt|antt|py|c|sh|rows)|/run|/stdin)$", file)]
-    text = "\n".join((TOP / file).read_text(errors="replace") for file in sources if (TOP / file).is_file())
+    sources = [
+        file
+        for file in files
+        if re.match(r"(crates|tests)/.*(\.(rt|antt|py|c|sh|rows)|/run|/stdin)$", file)
+    ]
+    text = "\n".join(
+        (TOP / file).read_text(errors="replace") for file in sources if (TOP / file).is_file()
+    )
     words = set(NAME.findall(text)) | {part for file in files for part in file.split("/")}
     declared = {name for pair in DECLARED.findall(text) for name in pair}
     missing = [line for document in sys.argv[1:] for line in missing_names(document, files, words)]
-    missing += [line for document in sys.argv[1:] if "PROMISES" in document for line in undeclared_names(document, declared)]
+    missing += [
+        line
+        for document in sys.argv[1:]
+        if "PROMISES" in document
+        for line in undeclared_names(document, declared)
+    ]
     print("\n".join(missing))
     return 1 if missing else 0
 

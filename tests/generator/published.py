@@ -8,7 +8,17 @@ from .spelling import some_habits, spelled, with_columns
 from .windows import bounded, some_day
 
 NO_CODES = ("x", "Y", "e", "0", "1", "~")
-NO_COMMENTS = ("/!!" + "~" * 78, "/!!\t", "/!!" + " " * 76 + "\x7f", "/!", "//!", " /!!", "/!x".ljust(80), "/! !".ljust(80), "")
+NO_COMMENTS = (
+    "/!!" + "~" * 78,
+    "/!!\t",
+    "/!!" + " " * 76 + "\x7f",
+    "/!",
+    "//!",
+    " /!!",
+    "/!x".ljust(80),
+    "/! !".ljust(80),
+    "",
+)
 
 # How likely each line has such a thing, in one extract.
 ODDS_OF_LINES = (0, 0, 0.05, 0.3)
@@ -37,7 +47,11 @@ def some_note(rng):
 def with_stray_line(rng, lines):
     """The lines with one that may not stand there, or only by chance."""
     at = rng.randint(0, len(lines))
-    return [*lines[:at], rng.choice([some_note(rng), some_note(rng), rng.choice(NO_COMMENTS)]), *lines[at:]]
+    return [
+        *lines[:at],
+        rng.choice([some_note(rng), some_note(rng), rng.choice(NO_COMMENTS)]),
+        *lines[at:],
+    ]
 
 
 def published(rng, lines, odds):
@@ -69,11 +83,37 @@ def spelled_as_published(rng, lines, odds):
 
 # ---- holidays
 
-NO_HOLIDAYS = (b"Y 260406", b"X260406", b"X 260230", b"X 999999", b"X E 260406", b"x 260406", b"X\t260406", b"\tX", b"\t")
-NO_HOLIDAYS += (b"X 26040", b"X 2604061", b"X 260406,260504", b"X 26 406", b"XE", b"260406", b"X ; remark", b"/!! made by hand")
+NO_HOLIDAYS = (
+    b"Y 260406",
+    b"X260406",
+    b"X 260230",
+    b"X 999999",
+    b"X E 260406",
+    b"x 260406",
+    b"X\t260406",
+    b"\tX",
+    b"\t",
+)
+NO_HOLIDAYS += (
+    b"X 26040",
+    b"X 2604061",
+    b"X 260406,260504",
+    b"X 26 406",
+    b"XE",
+    b"260406",
+    b"X ; remark",
+    b"/!! made by hand",
+)
 NO_HOLIDAYS += (b"X 260406\r", b"X 260406\x00", b"\xa0", b"X \xc2\xa0")
-NO_HOLIDAYS += (b"X" + b" 260406" * 11 + b" 26040", b"E" + b" 260406" * 11 + b"  260431#", b"G".rjust(79) + b" 260406 ~" + b"!" * 90)
-NO_HOLIDAYS += tuple(said.ljust(1001, sign) for said, sign in ((b"#", b"#"), (b"", b" "), (b"X", b" "), (b"X 260406 #", b"\xff")))
+NO_HOLIDAYS += (
+    b"X" + b" 260406" * 11 + b" 26040",
+    b"E" + b" 260406" * 11 + b"  260431#",
+    b"G".rjust(79) + b" 260406 ~" + b"!" * 90,
+)
+NO_HOLIDAYS += tuple(
+    said.ljust(1001, sign)
+    for said, sign in ((b"#", b"#"), (b"", b" "), (b"X", b" "), (b"X 260406 #", b"\xff"))
+)
 
 
 def some_holiday(rng, lines, days):
@@ -92,11 +132,18 @@ def holiday_lines(rng, code, days):
     for day in rng.sample(days, len(days)):
         at = rng.randrange(len(found))
         found[at] += b" " * rng.choice([1, 1, 1, 2, 5]) + yymmdd(day).encode()
-    return [b" " * rng.choice([0, 0, 0, 2]) + code.encode() + said + b" " * rng.choice([0, 0, 0, 1, 3]) for said in found]
+    return [
+        b" " * rng.choice([0, 0, 0, 2]) + code.encode() + said + b" " * rng.choice([0, 0, 0, 1, 3])
+        for said in found
+    ]
 
 
 def some_remark(rng):
-    signs = [byte for byte in range(256) if byte != 0x0A] if rng.random() < 0.5 else list(PRINTABLE.encode())
+    signs = (
+        [byte for byte in range(256) if byte != 0x0A]
+        if rng.random() < 0.5
+        else list(PRINTABLE.encode())
+    )
     return b"#" + bytes(rng.choices(signs, k=rng.choice([0, 1, 5, 40])))
 
 
@@ -104,7 +151,9 @@ def some_holidays(rng, lines, odds):
     """A text of holidays, which names most codes of these lines."""
     found = [rng.choice([b"", b"", b"   "]) for _ in range(rng.choice([0, 0, 1, 3]))]
     for code in HOLIDAY_CODES:
-        of_code = [line for line in lines if line[:2] == "BS" and field_text(line, "bank_holiday") == code]
+        of_code = [
+            line for line in lines if line[:2] == "BS" and field_text(line, "bank_holiday") == code
+        ]
         days = []
         for _ in range(rng.choice([0, 1, 2, 4, 12]) if of_code else 0):
             days.append(some_holiday(rng, of_code, days))

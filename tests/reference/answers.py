@@ -16,7 +16,23 @@ from .reasons import all_reasons, listed
 # is none; without a form it is 2, without a format text, and common, all and others say whether such an option is there. Files
 # and holidays are names; where there is no file, the command reads standard input, as it does where the name is `-`.
 NAMES = "command files day uid first last form common stops table format all holidays drop_clashes lenient verbose"
-DEFAULTS = ((), None, None, None, None, None, False, False, None, None, False, None, False, False, False)
+DEFAULTS = (
+    (),
+    None,
+    None,
+    None,
+    None,
+    None,
+    False,
+    False,
+    None,
+    None,
+    False,
+    None,
+    False,
+    False,
+    False,
+)
 Job = namedtuple("Job", NAMES, defaults=DEFAULTS)
 
 Answer = namedtuple("Answer", "stdout stderr status")
@@ -44,7 +60,10 @@ OF_TWO = ("compare", "diff")
 OF_FEEDS = ("prepare", "update")
 
 # How the fault is told that two inputs are standard input.
-TWICE = {"prepare": "--holidays and FILE are both standard input", "update": "two inputs are standard input"}
+TWICE = {
+    "prepare": "--holidays and FILE are both standard input",
+    "update": "two inputs are standard input",
+}
 TWICE |= dict.fromkeys(OF_TWO, "LEFT and RIGHT are both standard input")
 
 # Where the command line itself is at fault, standard error begins so, and what follows isn't fixed.
@@ -100,7 +119,12 @@ def of_prepare(job, inputs):
     if clashes:
         records = published.prepared(read, holidays, clashes)
     told = [published.told(key, days) for key, days in (clashes or {}).items()]
-    return published.written(records), 0, told, verbose.of_prepared(inputs[0], read, holidays, clashes)
+    return (
+        published.written(records),
+        0,
+        told,
+        verbose.of_prepared(inputs[0], read, holidays, clashes),
+    )
 
 
 def of_update(job, inputs):
@@ -160,7 +184,9 @@ def said(job, day, extracts):
     if job.command == "day":
         return (tables.day_table if as_table else texts.day_view)(meaning, day, job.stops), 0
     if job.command == "train":
-        return (tables.train_table if as_table else texts.train_view)(meaning, job.uid, form, job.stops), 0
+        return (tables.train_table if as_table else texts.train_view)(
+            meaning, job.uid, form, job.stops
+        ), 0
     if job.command == "diff" and as_table:
         heading, *rows = tables.difference_table(meaning, *others)
         return [heading, *rows], SOME if rows else 0
@@ -183,11 +209,32 @@ def agrees(want, got):
 
 def is_mistake(job):
     """Whether the command doesn't take such options or such a table, or not so many files."""
-    names = ("first", "last", "form", "common", "stops", "format", "all", "holidays", "drop_clashes", "lenient")
+    names = (
+        "first",
+        "last",
+        "form",
+        "common",
+        "stops",
+        "format",
+        "all",
+        "holidays",
+        "drop_clashes",
+        "lenient",
+    )
     given = {name for name in names if getattr(job, name) not in (None, False)}
-    taken = job.form in (None, "1", "2") and job.format in (None, "text", "tsv") and job.table in (None, *tables.TABLES)
+    taken = (
+        job.form in (None, "1", "2")
+        and job.format in (None, "text", "tsv")
+        and job.table in (None, *tables.TABLES)
+    )
     count = len(job.files)
-    fits = count >= 2 if job.command == "update" else count == 2 if job.command in OF_TWO else count <= 1
+    fits = (
+        count >= 2
+        if job.command == "update"
+        else count == 2
+        if job.command in OF_TWO
+        else count <= 1
+    )
     return not (given <= OPTIONS[job.command] and taken and fits)
 
 

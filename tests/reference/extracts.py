@@ -85,7 +85,11 @@ def place_behind(kind, fields, before):
         return before
     if kind in ("TA", "TD"):
         return "TI"
-    alone = (fields["letter"] == "C" or fields["transaction"] == "D") if kind == "BS" else before.endswith(OF_CANCELLATION)
+    alone = (
+        (fields["letter"] == "C" or fields["transaction"] == "D")
+        if kind == "BS"
+        else before.endswith(OF_CANCELLATION)
+    )
     return kind + OF_CANCELLATION if alone and kind in ("BS", "BX") else kind
 
 
@@ -138,7 +142,9 @@ def extract_of(records):
     """The extract that these records are."""
     [header] = of_kind(records, "HD")
     tiplocs = [record.fields["tiploc"] for record in of_kind(records, "TI")]
-    associations, schedules = ([entry(record) for record in of_kind(records, kind)] for kind in ("AA", "BS"))
+    associations, schedules = (
+        [entry(record) for record in of_kind(records, kind)] for kind in ("AA", "BS")
+    )
     return Extract(header.fields, tiplocs, associations, schedules)
 
 

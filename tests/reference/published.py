@@ -9,7 +9,11 @@ from .layouts import BODIES, LAYOUTS, plain, window_of
 from .meaning import name_of
 
 OPEN_ENDS = {values.last_date: values.last_date_or_open_end}
-TRANSACTIONS = {values.full: values.update, values.new: values.transaction, values.of_update: values.as_it_stands}
+TRANSACTIONS = {
+    values.full: values.update,
+    values.new: values.transaction,
+    values.of_update: values.as_it_stands,
+}
 
 
 def read_published(data, codes=values.HOLIDAY_CODES):
@@ -19,7 +23,9 @@ def read_published(data, codes=values.HOLIDAY_CODES):
 
 
 def read_update(data):
-    readers = OPEN_ENDS | TRANSACTIONS | {values.bank_holiday: values.holiday_code(values.HOLIDAY_CODES)}
+    readers = (
+        OPEN_ENDS | TRANSACTIONS | {values.bank_holiday: values.holiday_code(values.HOLIDAY_CODES)}
+    )
     return records_of(data, Sort((*KINDS, *NOTES), readers, True))
 
 
@@ -31,13 +37,20 @@ def plain_lines(record):
     if record.fields.get("letter") != "C":
         return [plain(record.kind, record.fields), *record.lines]
     body = [field for field in LAYOUTS[record.kind] if field.name in BODIES[record.kind]]
-    return [plain(record.kind, record.fields | {field.name: " " * (field.last - field.first + 1) for field in body})]
+    return [
+        plain(
+            record.kind,
+            record.fields | {field.name: " " * (field.last - field.first + 1) for field in body},
+        )
+    ]
 
 
 def written(records):
     """The lines of an extract: those of each kind in the order of its records."""
     kinds = ("HD", "TI", "AA", "BS", "ZZ")
-    return [line for kind in kinds for record in of_kind(records, kind) for line in plain_lines(record)]
+    return [
+        line for kind in kinds for record in of_kind(records, kind) for line in plain_lines(record)
+    ]
 
 
 # ---- prepared
@@ -46,7 +59,9 @@ def written(records):
 def span(record, window):
     """The first and the last date of an association or a schedule; an open end is one of the window, or the first date."""
     first, last = record.fields["first"], record.fields["last"]
-    return from_yymmdd(first), max(from_yymmdd(first), window[1]) if last == values.OPEN_END else from_yymmdd(last)
+    return from_yymmdd(first), max(
+        from_yymmdd(first), window[1]
+    ) if last == values.OPEN_END else from_yymmdd(last)
 
 
 def holidays_of(record, holidays):
@@ -57,7 +72,11 @@ def holidays_of(record, holidays):
 def cuts(record, window, days):
     """Those of the days at which it is cut, rising."""
     first, last = span(record, window)
-    return [day for day in sorted(days) if first <= day <= last and record.fields["days"][day.weekday()] == "1"]
+    return [
+        day
+        for day in sorted(days)
+        if first <= day <= last and record.fields["days"][day.weekday()] == "1"
+    ]
 
 
 def parts(record, window, days):
@@ -75,7 +94,11 @@ def prepared(records, holidays, clashes=None):
     window, found = window_in(records), []
     for record in records:
         if record.kind in BODIES:
-            found += parts(record, window, holidays_of(record, holidays).union((clashes or {}).get(key_of(record), ())))
+            found += parts(
+                record,
+                window,
+                holidays_of(record, holidays).union((clashes or {}).get(key_of(record), ())),
+            )
         else:
             found.append(record)
     return found
@@ -89,7 +112,11 @@ def window_in(records):
 def count_cut(records, holidays):
     """How many records are cut by holidays."""
     window = window_in(records)
-    return sum(bool(cuts(record, window, holidays_of(record, holidays))) for record in records if record.kind in BODIES)
+    return sum(
+        bool(cuts(record, window, holidays_of(record, holidays)))
+        for record in records
+        if record.kind in BODIES
+    )
 
 
 def count_clashing(records, holidays, clashes):
@@ -124,10 +151,16 @@ def put_by(record):
     """The record that a line of an update puts, if it puts one."""
     if record.kind == "TA":
         tiploc, new = record.fields["tiploc"], record.fields["new_tiploc"]
-        return record._replace(kind="TI", fields={"tiploc": (tiploc[:7] if new == " " * 7 else new) + tiploc[7:]})
+        return record._replace(
+            kind="TI", fields={"tiploc": (tiploc[:7] if new == " " * 7 else new) + tiploc[7:]}
+        )
     if transaction_of(record) == "D":
         return None
-    return record if record.kind == "TI" else record._replace(fields=record.fields | {"transaction": "N"})
+    return (
+        record
+        if record.kind == "TI"
+        else record._replace(fields=record.fields | {"transaction": "N"})
+    )
 
 
 def transaction_of(record):
@@ -140,7 +173,11 @@ def refusal_of(record, put, there):
     new = transaction_of(record) == "N"
     if not new and update_key(record) not in there:
         return "NotThere"
-    also = put is not None and (new or update_key(put) != update_key(record)) and update_key(put) in there
+    also = (
+        put is not None
+        and (new or update_key(put) != update_key(record))
+        and update_key(put) in there
+    )
     return "AlreadyThere" if also else None
 
 
@@ -152,7 +189,11 @@ def follows(update_header, header):
 
 def updated(records, update, lenient):
     """The records after an update, and its lines that are waived, each by its number with its refusal."""
-    [header], [trailer], [update_header] = of_kind(records, "HD"), of_kind(records, "ZZ"), of_kind(update, "HD")
+    [header], [trailer], [update_header] = (
+        of_kind(records, "HD"),
+        of_kind(records, "ZZ"),
+        of_kind(update, "HD"),
+    )
     there = [(update_key(record), record) for record in records if record.kind not in ("HD", "ZZ")]
     waived = []
 

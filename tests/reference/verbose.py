@@ -23,7 +23,10 @@ LETTERS = {"\t": r"\t", "\n": r"\n", "\r": r"\r"}
 # many comments a header is looked for there.
 KEPT, LOOKED_AT, COMMENTS = 82, 4096, 100
 
-WANTED = {"bad date": "must be a valid date as six digits, YYMMDD", "bad UID": "must be six printable ASCII characters"}
+WANTED = {
+    "bad date": "must be a valid date as six digits, YYMMDD",
+    "bad UID": "must be six printable ASCII characters",
+}
 NO_FILE = "No such file or directory (os error 2)"
 BEGINNINGS = {
     b"\x1f\x8b": "gzip: decompress it first",
@@ -34,7 +37,9 @@ BEGINNINGS = {
     b"{": "JSON: take the feed in the CIF format",
     b"[": "JSON: take the feed in the CIF format",
 }
-HOLIDAY_LINE = "a line has a code, X, E or G, and dates YYMMDD, in at most 1,000 bytes; # begins a remark"
+HOLIDAY_LINE = (
+    "a line has a code, X, E or G, and dates YYMMDD, in at most 1,000 bytes; # begins a remark"
+)
 NO_HOLIDAY_CODE = "a code is X, E or G"
 OF_COMMENT, LONG_COMMENT = "a byte of a comment is 0x20 to 0x7E", "a comment has at most 80 columns"
 LENIENT = "--lenient goes on after such a line"
@@ -128,7 +133,11 @@ def escaped(text):
 
 def inputs_of(job, names, data):
     """The inputs of these names."""
-    sides = ("FULL", *["UPDATE"] * len(data)) if job.command == "update" else SIDES.get(job.command, ("",))
+    sides = (
+        ("FULL", *["UPDATE"] * len(data))
+        if job.command == "update"
+        else SIDES.get(job.command, ("",))
+    )
     found = []
     for side, name, content in zip(sides, names, data):
         written = "standard input" if name == "-" else escaped(name)
@@ -171,7 +180,9 @@ def of_extracts(job, inputs, extracts, lines):
     """What is said of the lines that were answered about these extracts."""
     said = [window(one)[2] for one in inputs]
     has_schedule = any(entry.key == (job.uid,) for entry in extracts[0].schedules)
-    is_missing = not has_schedule if job.command == "calendar" else len(lines) == (job.format == "tsv")
+    is_missing = (
+        not has_schedule if job.command == "calendar" else len(lines) == (job.format == "tsv")
+    )
     if job.uid and is_missing:
         known = has_schedule or any(job.uid in entry.key[:2] for entry in extracts[0].associations)
         said.append("there are records with this UID" if known else "no record has this UID")
@@ -189,14 +200,24 @@ def of_feed(one, records, more):
 
 def of_prepared(one, records, holidays, clashes):
     """The same of prepare; clashes has the clash dates of the keys, or is None where they aren't dropped."""
-    by_clashes = "" if clashes is None else f", records cut by clashes: {count_clashing(records, holidays, clashes)}"
-    return of_feed(one, records, f", records cut by holidays: {count_cut(records, holidays)}{by_clashes}")
+    by_clashes = (
+        ""
+        if clashes is None
+        else f", records cut by clashes: {count_clashing(records, holidays, clashes)}"
+    )
+    return of_feed(
+        one, records, f", records cut by holidays: {count_cut(records, holidays)}{by_clashes}"
+    )
 
 
 def of_update(one, records, waived):
     done = [transaction_of(record) for record in records]
     new, revised, deleted = (done.count(transaction) for transaction in "NRD")
-    said = of_feed(one, records, f", lines new: {new}, revised: {revised}, deleted: {deleted}, waived: {len(waived)}")
+    said = of_feed(
+        one,
+        records,
+        f", lines new: {new}, revised: {revised}, deleted: {deleted}, waived: {len(waived)}",
+    )
     return said + [f"{one.name}: waived: {line}" for line in waived]
 
 
@@ -207,7 +228,10 @@ def of_windows(inputs, fault):
     firsts, lasts, said = zip(*map(window, inputs))
     if max(firsts) > min(lasts):
         return [*said, "they have no date in common"]
-    return [*said, *["--common compares the dates that both have"] * (fault.name == "WindowsDiffer")]
+    return [
+        *said,
+        *["--common compares the dates that both have"] * (fault.name == "WindowsDiffer"),
+    ]
 
 
 def of_line(job, one, fault):
@@ -259,14 +283,22 @@ def of_holidays(one, line):
     for number, word in enumerate(words):
         text = word[0].decode("latin-1")
         if text not in values.HOLIDAY_CODES if number == 0 else from_yymmdd(text) is None:
-            said = columns(word.start() + 1, word.end(), WANTED["bad date"] if number else NO_HOLIDAY_CODE)
-            return [shown(line), *said] if word.end() <= layouts.WIDTH else [shown(word[0]), said[1]]
+            said = columns(
+                word.start() + 1, word.end(), WANTED["bad date"] if number else NO_HOLIDAY_CODE
+            )
+            return (
+                [shown(line), *said] if word.end() <= layouts.WIDTH else [shown(word[0]), said[1]]
+            )
     return [shown(line), HOLIDAY_LINE]
 
 
 def other_format(one):
     """What an input looks like that begins as another format does."""
-    return [f"the input looks like {said}" for beginning, said in BEGINNINGS.items() if one.data.startswith(beginning)]
+    return [
+        f"the input looks like {said}"
+        for beginning, said in BEGINNINGS.items()
+        if one.data.startswith(beginning)
+    ]
 
 
 def of_unfit(inputs, fault):
@@ -277,7 +309,9 @@ def of_unfit(inputs, fault):
     if fault.name != "OutOfSequence":
         return [*said, "an update was left out, or done twice", LENIENT]
     last, current = header_of(one)["last_file"], header_of(before)["current_file"]
-    said.append(f"its last reference is [{last}], and the extract's current reference is [{current}]")
+    said.append(
+        f"its last reference is [{last}], and the extract's current reference is [{current}]"
+    )
     return [*said, "an update was left out or done twice, or is of another feed", LENIENT]
 
 
@@ -308,4 +342,7 @@ def of_fault(job, inputs, fault):
     one = inputs[fault.at]
     if fault.name == "ReadFault":
         return [f"in {one.name}: {NO_FILE}"]
-    return [f"in {one.name}", *(clashing(*fault.clash) if fault.clash else of_refused(job, inputs, fault))]
+    return [
+        f"in {one.name}",
+        *(clashing(*fault.clash) if fault.clash else of_refused(job, inputs, fault)),
+    ]
