@@ -124,7 +124,7 @@ class ScheduleReader:
         sort = self.sort_at(cells)
         if sort not in self.known:
             self.known[sort] = self.about(sort)
-        dates = self.window.dates(first.decode(), last.decode(), days_run.decode())
+        dates = self.window.dates(first, last, days_run)
         record = (first, last, days_run, retail)
         return Schedule(number, uid.decode(), dates, self.known[sort], record)
 
