@@ -1,3 +1,4 @@
+# shellcheck shell=sh
 # What the scripts of bench/ share. A script sources this file and then calls `begin`.
 # It needs a POSIX shell, rustc, awk, sed and sort.
 

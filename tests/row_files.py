@@ -59,10 +59,10 @@ class Row:
             raise Mistake("a second status")
         self.status = int(status)
 
-    def add(self, name, content):
+    def add(self, name, data):
         if name in self.files or name in ("args", "status"):
             raise Mistake(f"the row can't have another {name}")
-        self.files[name] = content
+        self.files[name] = data
 
 
 def unescaped(text):
@@ -151,7 +151,11 @@ def make_folder(folder, words, status, files):
 def make_folders(rows, form_1, row):
     """Writes the row, and if it is one of both forms its copy in form 1."""
     make_folder(rows / row.name, row.words, row.status, row.whole)
-    if row.words and row.words[0] in ("normalise", "check", "train", "table") and "--form" not in row.words:
+    if (
+        row.words
+        and row.words[0] in ("normalise", "check", "train", "table")
+        and "--form" not in row.words
+    ):
         files = dict(row.whole)
         files["stdout"] = files.pop("stdout-in-form-1", files["stdout"])
         words = [row.words[0], "--form", "1", *row.words[1:]]
@@ -188,7 +192,9 @@ def text_of(name, words, files, status):
         elif whole or file not in ("stdout", "stderr"):
             lines.append(f"-- {file}")
             *ended, last = whole.split(b"\n")
-            lines += [line_of(line, True) for line in ended] + ([line_of(last, False)] if last else [])
+            lines += [line_of(line, True) for line in ended] + (
+                [line_of(last, False)] if last else []
+            )
     if status:
         lines.append(f"-- status {status}")
     return "".join(line + "\n" for line in lines)

@@ -1,3 +1,4 @@
+# shellcheck shell=sh
 # What the runners of tests/ share. A runner sets $here to its folder, sources this file and then calls `begin`.
 # It needs a POSIX shell, cmp, find, grep, python3 and sed.
 

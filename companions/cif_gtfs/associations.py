@@ -112,7 +112,8 @@ def associations_of(rows: Iterable[AssociationRow], window: Window) -> List[Asso
                 row.base_suffix,
                 row.associated_suffix,
             )
-            dates = window.dates(row.first_date, row.last_date, row.days_run)
+            span = (row.first_date, row.last_date, row.days_run)
+            dates = window.dates(*(text.encode() for text in span))
             found.setdefault(terms, Association(terms)).dates |= dates
     return list(found.values())
 

@@ -4,7 +4,6 @@ from __future__ import annotations
 from contextlib import contextmanager
 from dataclasses import dataclass
 from itertools import groupby
-from operator import itemgetter
 from pathlib import Path
 from typing import (
     IO,
@@ -38,7 +37,7 @@ from .compositions import compositions_of, groups_of, linked_dates
 from .routes import Routes
 from .services import Services
 from .stops import Stops
-from .trains import About, Kind, PublicTrain, ScheduleReader, public_trains
+from .trains import Kind, PublicTrain, ScheduleReader, public_trains
 from .trips import Assembly, Link, TripsOfUid, add_records
 from .user_files import InterchangeRow, LinkRow
 

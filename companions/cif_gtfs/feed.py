@@ -165,7 +165,7 @@ def transfer_rows(
         ends = (one.rows[-1].split(b"\t", 2), other.rows[0].split(b"\t", 2))
         end, begin = (stops.ids[location, platform].decode() for location, platform, _ in ends)
         rows.append(TransferRow(end, begin, one.id.decode(), other.id.decode(), STAY_SEATED, None))
-    rows.sort(key=lambda row: (row.from_trip, row.to_trip))
+    rows.sort(key=lambda row: (row.from_stop, row.from_trip, row.to_stop, row.to_trip))
     stations = {station.code: station.id for station in stops.stations()}
     changes = [(row.crs, row.crs, row.minutes) for row in interchange.values()]
     changes += [(row.origin, row.destination, row.minutes) for row in fixed_links.values()]

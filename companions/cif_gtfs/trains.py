@@ -124,7 +124,7 @@ class ScheduleReader:
         sort = self.sort_at(cells)
         if sort not in self.known:
             self.known[sort] = self.about(sort)
-        dates = self.window.dates(first.decode(), last.decode(), days_run.decode())
+        dates = self.window.dates(first, last, days_run)
         record = (first, last, days_run, retail)
         return Schedule(number, uid.decode(), dates, self.known[sort], record)
 
@@ -155,12 +155,10 @@ def calls_by_schedule(table: Table) -> Iterator[Calls]:
     rest = b""
     for block in iter(lambda: table.lines.read(BLOCK), b""):
         text = rest + block
-        last = None
-        for found in ROWS_OF_SCHEDULE.finditer(text):
-            if last:
-                yield Calls(last[1], last[0])
-            last = found
-        rest = text[last.start() :] if last else text
+        groups = list(ROWS_OF_SCHEDULE.finditer(text))
+        for found in groups[:-1]:
+            yield Calls(found[1], found[0])
+        rest = text[groups[-1].start() :] if groups else text
     for found in ROWS_OF_SCHEDULE.finditer(rest):
         yield Calls(found[1], found[0])
 
@@ -180,6 +178,6 @@ def public_trains(
     lines = iter(schedules)
     for calls in calls_by_schedule(table):
         start = calls.schedule + b"\t"
-        line = next(line for line in lines if line.startswith(start))
+        line = next((line for line in lines if line.startswith(start)), b"")
         if calls.text.count(b"\n") > 1:
             yield PublicTrain(reader.read(line), calls)

@@ -251,7 +251,7 @@ class Assembly:
             for trip in trips if len(trips) > 1 else ():
                 trip.block = trips[0].id
             self.add_links(zip(trips, trips[1:]))
-        self.add_links((ends[edge], begins[edge]) for edge in ends)
+        self.add_links((end, begins[edge]) for edge, end in ends.items())
 
     def add_links(self, links: Iterable[Link]) -> None:
         for one, other in links:

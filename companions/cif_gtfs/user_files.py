@@ -1,7 +1,7 @@
 """The files of the user that are about changing trains."""
 from __future__ import annotations
 
-from typing import Iterator, NamedTuple
+from typing import NamedTuple
 
 from cif_shared.csv_files import Field, Layout, crs_code, minutes
 

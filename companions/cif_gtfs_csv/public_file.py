@@ -1,7 +1,7 @@
 """A public file, line by line."""
 from __future__ import annotations
 
-from typing import Iterator, NamedTuple, Sequence, Tuple, Union
+from typing import Iterator, NamedTuple, Sequence, Union
 
 from cif_shared.csv_files import Lines, Unreadable
 from cif_shared.endings import Refused

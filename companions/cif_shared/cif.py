@@ -56,7 +56,7 @@ class Cif:
                 assert process.stdout is not None
                 try:
                     yield process.stdout
-                except Exception as problem:
+                except Exception as problem:  # pylint: disable=broad-except
                     if isinstance(problem, (Ending, OSError, MemoryError)):
                         process.kill()
                         raise

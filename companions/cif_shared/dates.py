@@ -45,16 +45,17 @@ class Window:
         start = date.fromisoformat(first)
         count = (date.fromisoformat(last) - start).days + 1
         self.days: List[date] = [start + timedelta(days=number) for number in range(count)]
-        self.numbers = {day.isoformat(): number for number, day in enumerate(self.days)}
+        self.numbers = {day.isoformat().encode(): number for number, day in enumerate(self.days)}
         # of each weekday, Monday first, its dates
         self.weekdays: List[Dates] = [0] * 7
         for number, day in enumerate(self.days):
             self.weekdays[day.weekday()] |= 1 << number
-        self.of_days_run: Dict[str, Dates] = {}
+        self.of_days_run: Dict[bytes, Dates] = {}
 
-    def dates(self, first: str, last: str, days_run: str) -> Dates:
-        """The dates from the first to the last that are of these weekdays."""
-        if days_run not in self.of_days_run:
-            runs = (dates for dates, bit in zip(self.weekdays, days_run) if bit == "1")
-            self.of_days_run[days_run] = sum(runs)
-        return between(self.numbers[first], self.numbers[last]) & self.of_days_run[days_run]
+    def dates(self, first: bytes, last: bytes, days_run: bytes) -> Dates:
+        """The dates from the first to the last that are of these weekdays, as a table has them."""
+        runs = self.of_days_run.get(days_run)
+        if runs is None:
+            weekdays = zip(self.weekdays, days_run.decode())
+            runs = self.of_days_run[days_run] = sum(dates for dates, bit in weekdays if bit == "1")
+        return ((2 << self.numbers[last]) - (1 << self.numbers[first])) & runs

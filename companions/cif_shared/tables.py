@@ -222,7 +222,9 @@ def with_head(extract: Extract) -> Iterator[Extract]:
     """The extract with a file of what stands before its schedules."""
     with tempfile.NamedTemporaryFile() as file:
         descriptor = os.dup(file.fileno())
-        with open(extract.path, "rb") as whole, reporting(descriptor, tempfile.gettempdir()) as head:
+        with open(extract.path, "rb") as whole, reporting(
+            descriptor, tempfile.gettempdir()
+        ) as head:
             found = write_head(whole, head)
         extract.head = Path(file.name) if found else None
         yield extract

@@ -10,7 +10,12 @@ NO_END = Answer(b"", b"", f"none after {SECONDS} seconds")
 def words_of(job):
     """The words of a command: its options come first, and then its places."""
     words = [job.command]
-    for option, word in ("--from", job.first), ("--to", job.last), ("--form", job.form), ("--format", job.format):
+    for option, word in (
+        ("--from", job.first),
+        ("--to", job.last),
+        ("--form", job.form),
+        ("--format", job.format),
+    ):
         words += [] if word is None else [option, word]
     words += ["--common"] if job.common else []
     words += ["--stops"] if job.stops else []
@@ -19,7 +24,11 @@ def words_of(job):
     words += ["--drop-clashes"] if job.drop_clashes else []
     words += ["--lenient"] if job.lenient else []
     words += ["--verbose"] if job.verbose else []
-    return words + [word for word in (job.table, job.uid, job.day) if word is not None] + list(job.files)
+    return (
+        words
+        + [word for word in (job.table, job.uid, job.day) if word is not None]
+        + list(job.files)
+    )
 
 
 def written(folder, job, inputs):
@@ -34,7 +43,14 @@ def answer_of(cif, folder, job):
     """What the program prints and ends with in that folder."""
     piped = (folder / "stdin").read_bytes() if "-" in names_of(job) else b""
     try:
-        done = subprocess.run([cif, *words_of(job)], cwd=folder, input=piped, capture_output=True, timeout=SECONDS, check=False)
+        done = subprocess.run(
+            [cif, *words_of(job)],
+            cwd=folder,
+            input=piped,
+            capture_output=True,
+            timeout=SECONDS,
+            check=False,
+        )
     except subprocess.TimeoutExpired:
         return NO_END
     return Answer(done.stdout, done.stderr, done.returncode)

@@ -39,7 +39,9 @@ def counts_of(output):
     """What check has to say of a canonical extract."""
     kinds = [line[:2] for line in output.splitlines()]
     numbers = (kinds.count(kind) for kind in (b"TI", b"AA", b"BS"))
-    return Answer("accepted: {} tiplocs, {} associations, {} schedules\n".format(*numbers).encode(), b"", 0)
+    return Answer(
+        "accepted: {} tiplocs, {} associations, {} schedules\n".format(*numbers).encode(), b"", 0
+    )
 
 
 def of_canonical(job, inputs, output, options):
@@ -49,27 +51,40 @@ def of_canonical(job, inputs, output, options):
     if job.first or job.last:
         undated = plain_job._replace(first=None, last=None)
         yield Trial("the output again, without dates", undated, [output], Answer(output, b"", 0))
-    yield Trial("the input's counts", plain_job._replace(command="check"), inputs, counts_of(output))
+    yield Trial(
+        "the input's counts", plain_job._replace(command="check"), inputs, counts_of(output)
+    )
     compared = Job("compare", BOTH, first=job.first, last=job.last)
     yield Trial("the input and its output", compared, [*inputs, output], SAME)
     if options:
         other = plain_job._replace(form=OTHER_FORM[job.form])
         others = answer(other, inputs)
         yield Trial("the output in the other form", other, [output], others)
-        yield Trial("the output back from the other form", plain_job, [others.stdout], Answer(output, b"", 0))
+        yield Trial(
+            "the output back from the other form",
+            plain_job,
+            [others.stdout],
+            Answer(output, b"", 0),
+        )
 
 
 def of_second_extracts(rng, job, inputs, output, timetable):
     """Of two other extracts: one says the same, and one is changed in one place."""
     compared = Job("compare", BOTH, first=job.first, last=job.last)
-    same, changed = some_bytes(rng, said_otherwise(rng, timetable)), some_bytes(rng, changed_once(rng, timetable))
+    same, changed = some_bytes(rng, said_otherwise(rng, timetable)), some_bytes(
+        rng, changed_once(rng, timetable)
+    )
     yield Trial("what says the same", job._replace(files=()), [same], Answer(output, b"", 0))
     yield Trial("the input and what says the same", compared, [*inputs, same], SAME)
     normalised, comparison = answer(job, [changed]), answer(compared, [*inputs, changed])
     if (normalised.stdout == output) != (comparison.stdout == SAME.stdout):
-        raise Inconsistent("what is changed in one place has one canonical extract with the input, or compares as the same")
+        raise Inconsistent(
+            "what is changed in one place has one canonical extract with the input, or compares as the same"
+        )
     yield Trial("what is changed in one place", job._replace(files=()), [changed], normalised)
-    yield Trial("the input and what is changed in one place", compared, [*inputs, changed], comparison)
+    yield Trial(
+        "the input and what is changed in one place", compared, [*inputs, changed], comparison
+    )
 
 
 def with_dates(job, inputs):
@@ -112,16 +127,22 @@ def with_letter(lines, letter):
 
 def turned_into(left, differences, header):
     """An extract in which nothing runs of what only the left one says, and what only the right one says overlays the rest."""
-    ours, theirs = ([line[2:] for line in differences.splitlines() if line[:1] == mark] for mark in (b"<", b">"))
+    ours, theirs = (
+        [line[2:] for line in differences.splitlines() if line[:1] == mark] for mark in (b"<", b">")
+    )
     _, tiplocs, associations, schedules = records_of(left.splitlines())
     _, no_tiplocs, no_associations, no_schedules = records_of(with_letter(ours, b"C"))
     _, new_tiplocs, new_associations, new_schedules = records_of(with_letter(theirs, b"O"))
     places = [line for line in tiplocs if line not in no_tiplocs] + new_tiplocs
 
     def extract(*records):
-        return b"".join(line + b"\n" for line in [header, *places, *chain(*records), b"ZZ".ljust(80)])
+        return b"".join(
+            line + b"\n" for line in [header, *places, *chain(*records), b"ZZ".ljust(80)]
+        )
 
-    cancelled = answer(Job("normalise"), [extract(associations, no_associations, schedules, no_schedules)]).stdout
+    cancelled = answer(
+        Job("normalise"), [extract(associations, no_associations, schedules, no_schedules)]
+    ).stdout
     _, _, associations, schedules = records_of(cancelled.splitlines())
     return extract(associations, new_associations, schedules, new_schedules)
 
@@ -141,7 +162,9 @@ def of_differences(job, inputs, want):
     turned = turned_into(left, want.stdout, right.splitlines()[0])
     if answer(Job("normalise"), [turned]).stdout != right:
         raise Inconsistent("the differences don't turn the left extract into the right one")
-    yield Trial("the left one turned into the right one", Job("normalise"), [turned], Answer(right, b"", 0))
+    yield Trial(
+        "the left one turned into the right one", Job("normalise"), [turned], Answer(right, b"", 0)
+    )
 
 
 def of_difference_table(job, inputs, want):
@@ -149,11 +172,15 @@ def of_difference_table(job, inputs, want):
     listed = job._replace(format=None)
     text = answer(listed, inputs)
     if text.status != want.status:
-        raise Inconsistent("the table of differences has rows and their text has no line, or the other way round")
+        raise Inconsistent(
+            "the table of differences has rows and their text has no line, or the other way round"
+        )
     yield Trial("the same as text", listed, inputs, text)
     other = answer(job, inputs[::-1])
     if sides_changed(want.stdout) != sorted(other.stdout.splitlines()):
-        raise Inconsistent("the differences in the other order aren't these with their sides changed")
+        raise Inconsistent(
+            "the differences in the other order aren't these with their sides changed"
+        )
     yield Trial("the other order", job, inputs[::-1], other)
     yield from of_equal_jobs(job, inputs, want)
 
@@ -181,11 +208,20 @@ def of_explanation(job, inputs, want):
     yield Trial("the day of it", day, inputs, listed)
     if listed.status == 0:
         of_uid = [line for line in listed.stdout.split(b"\n") if job.uid.encode() in uids_of(line)]
-        won = [line for line in want.stdout.split(b"\n") if line.startswith(b"wins  ") and line[10:11] != b"C"]
+        won = [
+            line
+            for line in want.stdout.split(b"\n")
+            if line.startswith(b"wins  ") and line[10:11] != b"C"
+        ]
         if of_uid != list(dict.fromkeys(line[7:10] + line[34:] for line in won)):
             raise Inconsistent("the records that win aren't what the day has")
         canonical = [answer(Job("normalise"), inputs).stdout]
-        yield Trial("the same of the canonical extract", job._replace(files=()), canonical, answer(job, canonical))
+        yield Trial(
+            "the same of the canonical extract",
+            job._replace(files=()),
+            canonical,
+            answer(job, canonical),
+        )
 
 
 def uids_of(line):
@@ -197,7 +233,12 @@ def of_clashes(job, inputs, want):
     """The first clash is the one for which check refuses the extract; and each is explained."""
     checked = answer(job._replace(command="check"), inputs)
     lines = want.stdout.splitlines()
-    if lines and checked != Answer(b"", b"cif: Ambiguous: " + lines[0] + b"\n", REFUSED) or not lines and checked.status:
+    if (
+        lines
+        and checked != Answer(b"", b"cif: Ambiguous: " + lines[0] + b"\n", REFUSED)
+        or not lines
+        and checked.status
+    ):
         raise Inconsistent("the first clash isn't the one that check names")
     yield Trial("the check of it", job._replace(command="check"), inputs, checked)
     for line in lines[:2]:
@@ -214,11 +255,19 @@ def of_view(job, inputs, want):
 
 def of_table(job, inputs, want):
     """The tables have as many records as check says."""
-    counted = answer(Job("check", first=job.first, last=job.last, form=job.form), inputs).stdout.decode()
-    numbers = dict(zip(("tiplocs", "associations", "schedules"), map(int, re.findall("[0-9]+", counted))))
+    counted = answer(
+        Job("check", first=job.first, last=job.last, form=job.form), inputs
+    ).stdout.decode()
+    numbers = dict(
+        zip(("tiplocs", "associations", "schedules"), map(int, re.findall("[0-9]+", counted)))
+    )
     heading, *rows = want.stdout.splitlines()
-    if len(rows) != numbers.get(job.table, len(rows)) or any(row.count(b"\t") != heading.count(b"\t") for row in rows):
-        raise Inconsistent("a table has another number of rows than check says, or of fields than its heading")
+    if len(rows) != numbers.get(job.table, len(rows)) or any(
+        row.count(b"\t") != heading.count(b"\t") for row in rows
+    ):
+        raise Inconsistent(
+            "a table has another number of rows than check says, or of fields than its heading"
+        )
     yield from of_view(job, inputs, want)
 
 
@@ -227,7 +276,9 @@ def of_calendar(job, inputs, want):
     output = answer(Job("normalise", first=job.first, last=job.last), inputs)
     if output.status == 0:
         runs = want._replace(stdout=want.stdout.translate(bytes.maketrans(b"NOC", b"PP.")))
-        yield Trial("the same of the canonical extract", job._replace(files=()), [output.stdout], runs)
+        yield Trial(
+            "the same of the canonical extract", job._replace(files=()), [output.stdout], runs
+        )
 
 
 def of_prepared(job, inputs, want):
@@ -271,7 +322,9 @@ def of_small_extracts(rng, turn, options):
     yield from of_damage_in_turn(jobs, [data, data], turns_of(turn, SMALL))
     for job, inputs in small_views(rng, timetable) if options else ():
         yield Trial("small", job, inputs, answer(job, inputs))
-    data, job = spelled(rng, [with_one_moved(rng, line) for line in timetable.lines()], PLAIN), Job("normalise")
+    data, job = spelled(rng, [with_one_moved(rng, line) for line in timetable.lines()], PLAIN), Job(
+        "normalise"
+    )
     yield Trial("small, with moved texts", job, [data], answer(job, [data]))
 
 
@@ -288,7 +341,9 @@ def of_damage_in_turn(jobs, inputs, turns):
     can be done in one place some job.
     """
     lines = inputs[jobs[0].damaged].splitlines(keepends=True)
-    found = list(product(jobs, wrong_columns(lines))) + list(zip(cycle(jobs), places_of_damage(lines)))
+    found = list(product(jobs, wrong_columns(lines))) + list(
+        zip(cycle(jobs), places_of_damage(lines))
+    )
     for turn in turns:
         (job, at), damage = found[turn % len(found)]
         of_job = inputs[: len(names_of(job))]

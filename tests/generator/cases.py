@@ -17,7 +17,16 @@ from .windows import bounded, some_day, some_window, with_one_end_moved
 # where an input was damaged or isn't there.
 Case = namedtuple("Case", "job inputs timetable")
 
-COMMANDS = {"normalise": 32, "check": 6, "compare": 14, "diff": 16, "day": 7, "train": 10, "explain": 9, "clashes": 6}
+COMMANDS = {
+    "normalise": 32,
+    "check": 6,
+    "compare": 14,
+    "diff": 16,
+    "day": 7,
+    "train": 10,
+    "explain": 9,
+    "clashes": 6,
+}
 COMMANDS |= {command: 13 for command in OF_FEEDS}
 
 # Whether the program has the tables of the reference: those of whole extracts, calendars, and those of the other commands.
@@ -28,16 +37,60 @@ FORMATS, NO_FORMATS = (None, None, "text", "tsv", "tsv", "tsv"), ("csv", "TSV", 
 NO_TABLES = ("stops", "Calls", "call", "", "schedules ")
 FORMS = (None, None, "1", "1", "2")
 NO_FORMS = ("3", "0", "", "12", "1 ", "one")
-BAD_DATE_WORDS = ("260230", "2601141", "26014", "", "26 114", "999999", "abcdef", "260114 ", "26\u06611", "\u0662\u0666\u0661")
-BAD_DATE_WORDS += ("26\n114", "26\x01\r\x1f\x80\x9f\xa0", "\u2027\u2028\u202e\u202f", "\u2065\u2066\u2069\u206a")
-BAD_UID_WORDS = ("C0012", "C001234", "", "C0012\t", "C0012\u00e9", "C001\u00e9", "C0012\x7f", "C0\n\r12", "\x1bC0012~\\")
+BAD_DATE_WORDS = (
+    "260230",
+    "2601141",
+    "26014",
+    "",
+    "26 114",
+    "999999",
+    "abcdef",
+    "260114 ",
+    "26\u06611",
+    "\u0662\u0666\u0661",
+)
+BAD_DATE_WORDS += (
+    "26\n114",
+    "26\x01\r\x1f\x80\x9f\xa0",
+    "\u2027\u2028\u202e\u202f",
+    "\u2065\u2066\u2069\u206a",
+)
+BAD_UID_WORDS = (
+    "C0012",
+    "C001234",
+    "",
+    "C0012\t",
+    "C0012\u00e9",
+    "C001\u00e9",
+    "C0012\x7f",
+    "C0\n\r12",
+    "\x1bC0012~\\",
+)
 
 # How likely a job has dates, and how likely each fault of a job or its inputs is: where most cases are to be accepted, and
 # where many are to have several faults, which show the fault that comes first.
-FAULTS = ("dates", "mistake", "no date", "outside", "reversed", "no UID", "no file", "damage", "another window", "clash")
+FAULTS = (
+    "dates",
+    "mistake",
+    "no date",
+    "outside",
+    "reversed",
+    "no UID",
+    "no file",
+    "damage",
+    "another window",
+    "clash",
+)
 FAULTS += ("no code", "no holidays", "stray line", "astray", "wrong header")
-SELDOM = dict(zip(FAULTS, (0.4, 0.005, 0.02, 0.04, 0.04, 0.04, 0.02, 0.15, 0.08, None, 0.06, 0.05, 0.04, 0.1, 0.01)))
-OFTEN = dict(zip(FAULTS, (0.8, 0.05, 0.2, 0.3, 0.4, 0.4, 0.1, 0.3, 0.4, 1, 0.3, 0.3, 0.3, 0.4, 0.2)))
+SELDOM = dict(
+    zip(
+        FAULTS,
+        (0.4, 0.005, 0.02, 0.04, 0.04, 0.04, 0.02, 0.15, 0.08, None, 0.06, 0.05, 0.04, 0.1, 0.01),
+    )
+)
+OFTEN = dict(
+    zip(FAULTS, (0.8, 0.05, 0.2, 0.3, 0.4, 0.4, 0.1, 0.3, 0.4, 1, 0.3, 0.3, 0.3, 0.4, 0.2))
+)
 
 # The same of clashes, for the commands that accept them.
 CLASHES = (0, 0.2, 1, 1)
@@ -97,7 +150,11 @@ def uid_and_day(rng, timetable, odds):
 def beside_it(rng, window):
     """A window of the next days, which has some dates in common, or now and then none."""
     first, last = window
-    days = rng.choice([1, 1, 2, 7, (last - first).days + rng.choice([0, 1])]) * rng.choice([1, 1, -1]) * DAY
+    days = (
+        rng.choice([1, 1, 2, 7, (last - first).days + rng.choice([0, 1])])
+        * rng.choice([1, 1, -1])
+        * DAY
+    )
     return bounded(first + days), bounded(last + days)
 
 
@@ -120,14 +177,24 @@ def second_timetable(rng, job, timetable, odds):
     if job.common and rng.random() < 0.7:
         other.window = beside_it(rng, other.window)
     elif rng.random() < odds["another window"]:
-        other.window = some_window(rng) if rng.random() < 0.5 else with_one_end_moved(rng, other.window)
+        other.window = (
+            some_window(rng) if rng.random() < 0.5 else with_one_end_moved(rng, other.window)
+        )
     return other
 
 
 def some_files(rng, command, odds):
-    names = ("left.cif", "right.cif") if command in OF_TWO else ("extract.cif",) if rng.random() < 0.3 else ()
+    names = (
+        ("left.cif", "right.cif")
+        if command in OF_TWO
+        else ("extract.cif",)
+        if rng.random() < 0.3
+        else ()
+    )
     if rng.random() < 0.1:
-        names = rng.choice([("-", *names[1:]), (*names[:-1], "-"), ("-",) * len(names)] if names else [("-",)])
+        names = rng.choice(
+            [("-", *names[1:]), (*names[:-1], "-"), ("-",) * len(names)] if names else [("-",)]
+        )
     return (*names, "further.cif") if names and rng.random() < odds["mistake"] else names
 
 
@@ -156,7 +223,9 @@ def some_job(rng, command, timetable, options, odds):
         uid, day = uid_and_day(rng, timetable, odds)
         job = job._replace(uid=uid, day=day)
     if command == "table":
-        job = job._replace(table=rng.choice(NO_TABLES if rng.random() < odds["mistake"] else list(TABLES)))
+        job = job._replace(
+            table=rng.choice(NO_TABLES if rng.random() < odds["mistake"] else list(TABLES))
+        )
     if command == "calendar":
         job = job._replace(uid=uid_word(rng, timetable.schedules, odds))
     return with_options(rng, job, timetable, odds) if options else job
@@ -164,7 +233,9 @@ def some_job(rng, command, timetable, options, odds):
 
 def with_options(rng, job, timetable, odds):
     """The job with options that its command takes, and now and then with others."""
-    taken = set().union(*OPTIONS.values()) if rng.random() < odds["mistake"] else OPTIONS[job.command]
+    taken = (
+        set().union(*OPTIONS.values()) if rng.random() < odds["mistake"] else OPTIONS[job.command]
+    )
     if "first" in taken:
         first, last = window_words(rng, timetable.window, odds)
         job = job._replace(first=first, last=last)
@@ -177,18 +248,38 @@ def with_options(rng, job, timetable, odds):
     if "all" in taken:
         job = job._replace(all=rng.random() < 0.5)
     if "format" in taken and HAS_TABLES:
-        job = job._replace(format=rng.choice(FORMATS if rng.random() > odds["mistake"] else NO_FORMATS))
+        job = job._replace(
+            format=rng.choice(FORMATS if rng.random() > odds["mistake"] else NO_FORMATS)
+        )
     return job._replace(verbose=rng.random() < 0.5)
 
 
 def small_jobs(timetable):
     """Jobs of each command of extracts, of which one input is to be damaged: a file, or standard input."""
     uid, day = "C00123", yymmdd(timetable.window[0])
-    jobs = [Job("normalise"), Job("check"), Job("check", all=True), Job("day", day=day), Job("train", uid=uid)]
-    jobs += [Job("explain", uid=uid, day=day), Job("clashes"), Job("table", table="calls"), Job("calendar", uid=uid)]
-    found = [OfSmall(job._replace(files=files), 0) for job in jobs for files in ((), ("extract.cif",))]
+    jobs = [
+        Job("normalise"),
+        Job("check"),
+        Job("check", all=True),
+        Job("day", day=day),
+        Job("train", uid=uid),
+    ]
+    jobs += [
+        Job("explain", uid=uid, day=day),
+        Job("clashes"),
+        Job("table", table="calls"),
+        Job("calendar", uid=uid),
+    ]
+    found = [
+        OfSmall(job._replace(files=files), 0) for job in jobs for files in ((), ("extract.cif",))
+    ]
     for command in OF_TWO:
-        both = ("left.cif", "right.cif"), ("-", "right.cif"), ("left.cif", "right.cif"), ("left.cif", "-")
+        both = (
+            ("left.cif", "right.cif"),
+            ("-", "right.cif"),
+            ("left.cif", "right.cif"),
+            ("left.cif", "-"),
+        )
         found += [OfSmall(Job(command, files), at) for files, at in zip(both, (0, 0, 1, 1))]
     return [OfSmall(job._replace(verbose=True), at) for job, at in found]
 
@@ -196,9 +287,15 @@ def small_jobs(timetable):
 def small_views(rng, timetable):
     """Jobs about small extracts with their inputs: about a UID, and about two windows, which may share one date or none."""
     records = timetable.associations + timetable.schedules
-    uid, data = rng.choice([*(uid_of(rng, record) for record in records), "NONE  "]), some_bytes(rng, timetable)
+    uid, data = rng.choice([*(uid_of(rng, record) for record in records), "NONE  "]), some_bytes(
+        rng, timetable
+    )
     day, layout = yymmdd(timetable.window[0]), rng.choice(["text", "tsv"])
-    jobs = [Job("calendar", uid=uid), Job("train", uid=uid, format=layout), Job("explain", uid=uid, day=day, format=layout)]
+    jobs = [
+        Job("calendar", uid=uid),
+        Job("train", uid=uid, format=layout),
+        Job("explain", uid=uid, day=day, format=layout),
+    ]
     other = timetable.copy()
     other.window = beside_it(rng, timetable.window)
     two = Job(rng.choice(OF_TWO), ("left.cif", "right.cif"), common=rng.random() < 0.3)

@@ -5,8 +5,39 @@ from reference import values
 from reference.faults import Refusal
 from reference.layouts import LAYOUTS, read
 
-NO_DATES = ("260230", "290229", "260001", "261301", "260100", "260132", "26 105", "26010A", "      ", "000000")
-IDENTITIES = ("HD", "TI", "TA", "TD", "AA", "BS", "BX", "LO", "LI", "CR", "LT", "ZZ", "TN", "LN", "/!!", "XX", "  ", "bs", "B ")
+NO_DATES = (
+    "260230",
+    "290229",
+    "260001",
+    "261301",
+    "260100",
+    "260132",
+    "26 105",
+    "26010A",
+    "      ",
+    "000000",
+)
+IDENTITIES = (
+    "HD",
+    "TI",
+    "TA",
+    "TD",
+    "AA",
+    "BS",
+    "BX",
+    "LO",
+    "LI",
+    "CR",
+    "LT",
+    "ZZ",
+    "TN",
+    "LN",
+    "/!!",
+    "XX",
+    "  ",
+    "bs",
+    "B ",
+)
 
 
 def with_other_signs(text, signs):
@@ -14,11 +45,26 @@ def with_other_signs(text, signs):
     return [text[:at] + sign + text[at + 1 :] for at, others in enumerate(signs) for sign in others]
 
 
-TIMES = (*with_other_signs("0000", ("/3: ", "/: ", "/6: ", "/: ")), *with_other_signs("    ", "0000"), "2400", "0900", "9:00")
+TIMES = (
+    *with_other_signs("0000", ("/3: ", "/: ", "/6: ", "/: ")),
+    *with_other_signs("    ", "0000"),
+    "2400",
+    "0900",
+    "9:00",
+)
 BAD_FIELDS = {
     values.full: ("U", "F", " ", "f"),
     values.new: ("R", "D", "N", " ", "n"),
-    values.header_date: ("999999", "311259", *NO_DATES, "311299", "010160", "300226", "290228", "010100"),
+    values.header_date: (
+        "999999",
+        "311259",
+        *NO_DATES,
+        "311299",
+        "010160",
+        "300226",
+        "290228",
+        "010100",
+    ),
     values.first_date: ("999999", "591231", *NO_DATES, "999999", "991231", "600101", "000229"),
     values.last_date: ("999999", "600101", *NO_DATES, "999999", "991231", "591231", "999998"),
     values.days_run: ("1111112", "       ", "111111 ", "A000000", "0000000"),
@@ -27,12 +73,44 @@ BAD_FIELDS = {
     values.working_time: (*(time + " " for time in TIMES), "0000X", "0000h", "    H", "0000H"),
     values.public_time: (*TIMES, "090 ", "-100"),
 }
-ODD_BYTES = (b"\t", b"\r", b"\n", b"\x00", b"\x1f", b"\x7f", b"\x80", b"\xc3\xa9", b"\xff", b" ", b"~", b"0", b"A")
+ODD_BYTES = (
+    b"\t",
+    b"\r",
+    b"\n",
+    b"\x00",
+    b"\x1f",
+    b"\x7f",
+    b"\x80",
+    b"\xc3\xa9",
+    b"\xff",
+    b" ",
+    b"~",
+    b"0",
+    b"A",
+)
 ENDINGS = (b"\r", b"\r\n", b"\r\r\n", b"\n\r", b"\n\n", b" \n", b" \r\n", b" ", b"")
 # What may stand before the first line: how inputs of other formats begin, and what is like it.
-BEGINNINGS = (b"\x1f\x8b", b"\x1f\x8c", b"PK\x03\x04", b"PK\x05\x06", b"\xef\xbb\xbf", b"\xff\xfe", b"\xff\xfe\x00\x00")
+BEGINNINGS = (
+    b"\x1f\x8b",
+    b"\x1f\x8c",
+    b"PK\x03\x04",
+    b"PK\x05\x06",
+    b"\xef\xbb\xbf",
+    b"\xff\xfe",
+    b"\xff\xfe\x00\x00",
+)
 BEGINNINGS += (b"\xfe\xff", b"\x00\x00\xfe\xff", b"\xef\xbb", b"{", b"[", b"(")
-BEHIND = (b"\n", b"\r", b"\r\n", b" ", b"\x1a", b"ZZ".ljust(80) + b"\n", b"AA".ljust(80) + b"\n", b"X" * 81, b"X" * 82)
+BEHIND = (
+    b"\n",
+    b"\r",
+    b"\r\n",
+    b" ",
+    b"\x1a",
+    b"ZZ".ljust(80) + b"\n",
+    b"AA".ljust(80) + b"\n",
+    b"X" * 81,
+    b"X" * 82,
+)
 
 # ---- of bytes
 
@@ -148,7 +226,12 @@ def reversed_dates(rng, lines):
     at = rng.choice([at for at, line in enumerate(lines) if line[:2] in columns] or [None])
     if at is not None:
         line, first = lines[at], columns[lines[at][:2]]
-        lines[at] = line[:first] + line[first + 6 : first + 12] + line[first : first + 6] + line[first + 12 :]
+        lines[at] = (
+            line[:first]
+            + line[first + 6 : first + 12]
+            + line[first : first + 6]
+            + line[first + 12 :]
+        )
 
 
 # ---- of fields
@@ -225,18 +308,33 @@ def damaged(rng, data):
 def spoiled(line, sort):
     """The line with another text in one field; and with such texts in two fields that are read otherwise."""
     kind, idle = sort
-    fields = [(field, BAD_FIELDS[field.read]) for field in LAYOUTS.get(kind, ()) if field.read in BAD_FIELDS]
+    fields = [
+        (field, BAD_FIELDS[field.read])
+        for field in LAYOUTS.get(kind, ())
+        if field.read in BAD_FIELDS
+    ]
     for field, texts in fields:
         yield from (with_text(line, field, text) for text in texts[: 1 if idle else None])
     for (one, ones), (other, others) in combinations(fields, 2):
         if one.read != other.read and not idle:
-            yield from (with_text(with_text(line, one, text), other, last) for text, last in product(ones[:2], others[:2]))
+            yield from (
+                with_text(with_text(line, one, text), other, last)
+                for text, last in product(ones[:2], others[:2])
+            )
 
 
 def of_other_bytes(line):
     """Lines that are shorter or longer than this one, or have another byte."""
     content = line.rstrip(b"\n")
-    contents = [b"", content[:30], content[:-1], content + b"|", content + b"||", b"~" * 4095, b"~" * 4096]
+    contents = [
+        b"",
+        content[:30],
+        content[:-1],
+        content + b"|",
+        content + b"||",
+        b"~" * 4095,
+        b"~" * 4096,
+    ]
     contents += [b"/!!" + b"-" * 77, b"/!!" + b"-" * 78, b"/!! caf\xe9".ljust(80)]
     contents += [content[:-1] + byte for byte in (b"\x1f", b"\x7f", b"~")]
     yield from (other + ending for other in contents for ending in (b"\n", b"\r\n"))
@@ -258,7 +356,9 @@ def places_of_damage(lines):
 
 def wrong_columns(lines):
     """What may stand for a line so that it is refused: once for each kind, each reason and the columns of it."""
-    found, sorts = {kind: (0, lines[0] + empty_line(kind)) for kind in ("TA", "TD")}, sorts_of(lines)
+    found, sorts = {kind: (0, lines[0] + empty_line(kind)) for kind in ("TA", "TD")}, sorts_of(
+        lines
+    )
     for sort in sorted(set(sorts)):
         at = sorts.index(sort)
         for line in spoiled(lines[at], sort):

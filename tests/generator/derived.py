@@ -22,7 +22,9 @@ def split_by_weekday(rng, records, at):
     """A record becomes two, each with some of its weekdays, and perhaps both with one of them."""
     record = records[at]
     sides = [rng.choice(["10", "01", "11"]) if bit == "1" else "00" for bit in record.days]
-    records[at : at + 1] = [replace(record, days="".join(side[number] for side in sides)) for number in (0, 1)]
+    records[at : at + 1] = [
+        replace(record, days="".join(side[number] for side in sides)) for number in (0, 1)
+    ]
 
 
 def part_again(rng, records, at):
@@ -36,7 +38,9 @@ def part_again(rng, records, at):
 def overlaid(rng, records, at):
     """An overlay with the body of a permanent record stands over it, where no other overlay does."""
     record = records[at]
-    if record.letter == "P" and not any(other.key == record.key and other.letter == "O" for other in records):
+    if record.letter == "P" and not any(
+        other.key == record.key and other.letter == "O" for other in records
+    ):
         first, last = some_part(rng, (record.first, record.last))
         records.append(replace(record, letter="O", first=first, last=last))
 
@@ -68,13 +72,17 @@ def said_otherwise(rng, timetable):
 def with_another_date(rng, record):
     """One day more or less at one of its ends."""
     if rng.random() < 0.5:
-        return replace(record, first=min(bounded(record.first + rng.choice([-1, 1]) * DAY), record.last))
+        return replace(
+            record, first=min(bounded(record.first + rng.choice([-1, 1]) * DAY), record.last)
+        )
     return replace(record, last=max(bounded(record.last + rng.choice([-1, 1]) * DAY), record.first))
 
 
 def with_another_weekday(rng, record):
     at = rng.randrange(7)
-    return replace(record, days=record.days[:at] + "10"[int(record.days[at])] + record.days[at + 1 :])
+    return replace(
+        record, days=record.days[:at] + "10"[int(record.days[at])] + record.days[at + 1 :]
+    )
 
 
 def with_another_uid(rng, record):
@@ -88,7 +96,13 @@ def with_another_body(rng, record):
     return replace(record, body=changed(rng, record.kind, record.body))
 
 
-CHANGES = (with_another_date, with_another_weekday, with_another_uid, with_another_body, with_another_body)
+CHANGES = (
+    with_another_date,
+    with_another_weekday,
+    with_another_uid,
+    with_another_body,
+    with_another_body,
+)
 
 
 def changed_once(rng, timetable):

@@ -9,7 +9,15 @@ from reference.values import OPEN_END
 
 from .damage import damaged
 from .fields import changed, some_body
-from .published import field_text, published, some_comment, some_holidays, some_note, spelled_as_published, with_field
+from .published import (
+    field_text,
+    published,
+    some_comment,
+    some_holidays,
+    some_note,
+    spelled_as_published,
+    with_field,
+)
 from .spelling import some_habits, spelled
 from .timetables import each_sort, some_timetable
 from .updates import header_line, header_of_update, some_update, with_same_key
@@ -24,12 +32,16 @@ def some_published(rng):
     timetable = some_timetable(rng, rng.choice([0, 0.3, 1]))
     if timetable.schedules and rng.random() < 0.3:
         base = ("base", rng.choice(timetable.schedules).key[0][1])
-        timetable.associations = [replace(record, key=(base, *record.key[1:])) for record in timetable.associations]
+        timetable.associations = [
+            replace(record, key=(base, *record.key[1:])) for record in timetable.associations
+        ]
     for records in timetable.associations, timetable.schedules:
         for at, record in enumerate(records):
             if rng.random() < 0.05:
                 first = bounded(timetable.window[1] + rng.choice([1, 2, 30]) * DAY)
-                records[at] = replace(record, first=first, last=bounded(first + rng.choice([0, 9]) * DAY))
+                records[at] = replace(
+                    record, first=first, last=bounded(first + rng.choice([0, 9]) * DAY)
+                )
         if records and rng.random() < 0.3:
             records.append(with_same_key(rng, timetable, rng.choice(records)))
     return timetable
@@ -44,8 +56,12 @@ def with_clashes(rng, timetable):
             body = some_body(rng, record.kind) if record.letter == "C" else record.body
             letter = rng.choice(["P", "O", "N", *record.letter.strip("C") * 3])
             for _ in range(rng.choice([1, 2, 3])):
-                last, days = bounded(first + rng.choice([0, 0, 1, 7, 30]) * DAY), some_mask(rng, ["1111111", record.days])
-                records.append(replace(record, first=first, last=last, days=days, letter=letter, body=body))
+                last, days = bounded(first + rng.choice([0, 0, 1, 7, 30]) * DAY), some_mask(
+                    rng, ["1111111", record.days]
+                )
+                records.append(
+                    replace(record, first=first, last=last, days=days, letter=letter, body=body)
+                )
                 first = some_day(rng, (first, last))
                 body = changed(rng, record.kind, body) if rng.random() < 0.7 else body
 
@@ -59,7 +75,9 @@ def some_prepare(rng, odds):
     inputs = [spelled(rng, lines, some_habits(rng))]
     coded = any(line[:2] == "BS" and field_text(line, "bank_holiday") != " " for line in lines)
     if rng.random() < (1 - odds["no code"] if coded else 0.4):
-        job = job._replace(holidays="-" if job.files == ("extract.cif",) and rng.random() < 0.3 else "holidays.txt")
+        job = job._replace(
+            holidays="-" if job.files == ("extract.cif",) and rng.random() < 0.3 else "holidays.txt"
+        )
         inputs.append(some_holidays(rng, lines, odds))
     if rng.random() < odds["mistake"]:
         job = job._replace(files=rng.choice([(), ("-",)]), holidays="-")
@@ -93,7 +111,9 @@ def some_feed(rng, command, odds):
         if name != "-" and rng.random() < odds["no file"]:
             inputs[at] = None
     if rng.random() < odds["mistake"] / 2:
-        job = job._replace(**rng.choice([{"form": "2"}, {"first": "260105"}, {"all": True}, {"stops": True}]))
+        job = job._replace(
+            **rng.choice([{"form": "2"}, {"first": "260105"}, {"all": True}, {"stops": True}])
+        )
     return job, inputs
 
 
@@ -125,21 +145,29 @@ def small_update(rng):
             for record in records:
                 one, *behind = record.lines()
                 lines += [with_field(one, "transaction", transaction), *behind]
-    return ["\n".join(of_one).encode() + b"\n" for of_one in (timetable.lines(), [*lines, plain("ZZ", {})])]
+    return [
+        "\n".join(of_one).encode() + b"\n"
+        for of_one in (timetable.lines(), [*lines, plain("ZZ", {})])
+    ]
 
 
 def small_feeds(rng):
     """Jobs of prepare, those of update whose FULL is to be damaged, those whose UPDATE is, and those of check, which are about
     an extract or an update behind a comment; each with the inputs.
     """
-    prepare = [Job("prepare", files, holidays="holidays.txt", verbose=True) for files in ((), ("extract.cif",))]
+    prepare = [
+        Job("prepare", files, holidays="holidays.txt", verbose=True)
+        for files in ((), ("extract.cif",))
+    ]
     update = Job("update", lenient=rng.random() < 0.5, verbose=True)
     full = [update._replace(files=(name, "update.cif")) for name in ("full.cif", "-")]
     updates = [update._replace(files=("full.cif", name)) for name in ("update.cif", "-")]
     check = Job("check", all=rng.random() < 0.5, verbose=True)
     checks = [check._replace(files=(name,)) for name in ("extract.cif", "-")]
-    published, full_and_update = small_published(rng), small_update(rng)
-    behind = [f"{some_comment(rng)}\n".encode() + data for data in (published[0], full_and_update[1])]
-    sorts = [(prepare, 0, published), (full, 0, full_and_update), (updates, 1, full_and_update)]
+    of_prepare, full_and_update = small_published(rng), small_update(rng)
+    behind = [
+        f"{some_comment(rng)}\n".encode() + data for data in (of_prepare[0], full_and_update[1])
+    ]
+    sorts = [(prepare, 0, of_prepare), (full, 0, full_and_update), (updates, 1, full_and_update)]
     sorts += [(checks, 0, [data]) for data in behind]
     return [([OfSmall(job, at) for job in jobs], inputs) for jobs, at, inputs in sorts]

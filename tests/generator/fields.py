@@ -32,7 +32,14 @@ def text(rng, width):
 
 
 def hour_and_minute(rng):
-    return rng.choice(["0000", "2359", f"{rng.randrange(24):02}{rng.randrange(60):02}", f"{rng.randrange(24):02}00"])
+    return rng.choice(
+        [
+            "0000",
+            "2359",
+            f"{rng.randrange(24):02}{rng.randrange(60):02}",
+            f"{rng.randrange(24):02}00",
+        ]
+    )
 
 
 def working_time(rng, width):
@@ -59,7 +66,9 @@ MAKERS = {
 def made(rng, kind, names=None):
     """Names and texts of the fields of a record, or of those that are named."""
     fields = [field for field in LAYOUTS[kind] if names is None or field.name in names]
-    return tuple((field.name, MAKERS[field.read](rng, field.last - field.first + 1)) for field in fields)
+    return tuple(
+        (field.name, MAKERS[field.read](rng, field.last - field.first + 1)) for field in fields
+    )
 
 
 def journey(rng):
@@ -136,7 +145,9 @@ def with_other_fields(rng, body):
         at = rng.randrange(len(lines))
         kind, fields = lines[at]
         others = zip(fields, with_another_field(rng, kind, fields))
-        lines[at] = kind, tuple(field if field[0] in ("location", "suffix") else other for field, other in others)
+        lines[at] = kind, tuple(
+            field if field[0] in ("location", "suffix") else other for field, other in others
+        )
     return replace(body, lines=tuple(lines))
 
 

@@ -24,7 +24,9 @@ def some_habits(rng):
     if rng.random() < 0.3:
         return PLAIN
     odds = (0, 0, 0.1, 0.6)
-    return Habits(rng.choice(odds), rng.choice(odds), rng.choice((0, 0, 0, 1, 0.5)), rng.random() < 0.8)
+    return Habits(
+        rng.choice(odds), rng.choice(odds), rng.choice((0, 0, 0, 1, 0.5)), rng.random() < 0.8
+    )
 
 
 def moved_text(rng, columns):
@@ -34,7 +36,9 @@ def moved_text(rng, columns):
 
 def with_gaps(rng, columns):
     """Activities in other pairs of columns, in their order."""
-    codes = [columns[at : at + 2] for at in range(0, len(columns), 2) if columns[at : at + 2] != "  "]
+    codes = [
+        columns[at : at + 2] for at in range(0, len(columns), 2) if columns[at : at + 2] != "  "
+    ]
     while 2 * len(codes) < len(columns):
         codes.insert(rng.randint(0, len(codes)), "  ")
     return "".join(codes)
@@ -45,17 +49,25 @@ MOVES = {values.text: moved_text, values.activities: with_gaps}
 
 def meaningful_fields(kind, line):
     """The fields of a line but for those that a cancellation lacks, or a deleted record."""
-    return [field for field in read_fields(kind, line) if line[WIDTH - 1] != "C" or field.name not in BODIES.get(kind, ())]
+    return [
+        field
+        for field in read_fields(kind, line)
+        if line[WIDTH - 1] != "C" or field.name not in BODIES.get(kind, ())
+    ]
 
 
 def with_columns(line, field, columns):
-    return line[: field.first - 1] + columns.ljust(field.last - field.first + 1) + line[field.last :]
+    return (
+        line[: field.first - 1] + columns.ljust(field.last - field.first + 1) + line[field.last :]
+    )
 
 
 def with_one_moved(rng, line):
     """The line with another text in one field, before which spaces stand; often the only one. AA, which has a key, stays."""
     fields = [field for field in meaningful_fields(line[:2], line) if field.read in MOVES]
-    places = [(field, skipped) for field in fields for skipped in range(1, field.last - field.first + 1)]
+    places = [
+        (field, skipped) for field in fields for skipped in range(1, field.last - field.first + 1)
+    ]
     if not places or line.startswith("AA"):
         return line
     for field in fields if rng.random() < 0.5 else ():

@@ -5,10 +5,32 @@ from datetime import date
 from reference.dates import DAY, ddmmyy, yymmdd
 from reference.layouts import plain
 
-from .fields import COMMON, PRINTABLE, Body, changed, full_body, lines_behind, of_width, some_body, text
+from .fields import (
+    COMMON,
+    PRINTABLE,
+    Body,
+    changed,
+    full_body,
+    lines_behind,
+    of_width,
+    some_body,
+    text,
+)
 from .windows import bounded, some_mask, some_span, some_window
 
-UIDS = ("C00123", " 00123", "C00124", "C0012 ", "c00123", "  A  B", "~~~~~~", "ZZZZZZ", "      ", "C00456", "!#[]{}")
+UIDS = (
+    "C00123",
+    " 00123",
+    "C00124",
+    "C0012 ",
+    "c00123",
+    "  A  B",
+    "~~~~~~",
+    "ZZZZZZ",
+    "      ",
+    "C00456",
+    "!#[]{}",
+)
 LOCATIONS = ("DUNDEE ", "ABRDEEN", "EDINBUR", "A      ", "A B    ")
 SUFFIXES = (" ", " ", "2", "T", "~")
 
@@ -46,7 +68,13 @@ class Timetable:
     schedules: list = field(default_factory=list)
 
     def copy(self):
-        return Timetable(self.header, self.window, list(self.tiplocs), list(self.associations), list(self.schedules))
+        return Timetable(
+            self.header,
+            self.window,
+            list(self.tiplocs),
+            list(self.associations),
+            list(self.schedules),
+        )
 
     def lines(self):
         """The plain lines."""
@@ -66,7 +94,9 @@ def clash(record, other, window):
         return None
     start, end = max(record.first, other.first, window[0]), min(record.last, other.last, window[1])
     week = (start + number * DAY for number in range(7))
-    return next((day for day in week if day <= end and record.applies(day) and other.applies(day)), None)
+    return next(
+        (day for day in week if day <= end and record.applies(day) and other.applies(day)), None
+    )
 
 
 def beside(rng, record, before, window, clashes):
@@ -93,13 +123,18 @@ def as_it_may_stand(rng, record):
     if record.letter != "C" or record.kind == "AA" or rng.random() < 0.2:
         return record
     lines = tuple(line for line in record.body.lines if line[0] == "BX" and rng.random() < 0.5)
-    return replace(record, body=Body(tuple((name, " " * len(text)) for name, text in record.body.fields), lines))
+    return replace(
+        record,
+        body=Body(tuple((name, " " * len(text)) for name, text in record.body.fields), lines),
+    )
 
 
 def records_of_key(rng, kind, key, window, clashes):
     bodies = [some_body(rng, kind)]
     for _ in range(rng.choice([0, 1, 1, 1, 2, 3])):
-        bodies.append(changed(rng, kind, rng.choice(bodies)) if rng.random() < 0.8 else some_body(rng, kind))
+        bodies.append(
+            changed(rng, kind, rng.choice(bodies)) if rng.random() < 0.8 else some_body(rng, kind)
+        )
     records = []
     for _ in range(rng.choice([1, 2, 3, 3, 4, 4, 5, 6, 8, 12])):
         letter = rng.choices("PONC", [50, 22, 10, 18])[0]
@@ -145,10 +180,19 @@ def some_keys(rng, kind):
 
 
 def some_header(rng):
-    widths = {"mainframe": 20, "date_of_extract": 6, "time_of_extract": 4, "current_file": 7, "last_file": 7, "version": 1}
+    widths = {
+        "mainframe": 20,
+        "date_of_extract": 6,
+        "time_of_extract": 4,
+        "current_file": 7,
+        "last_file": 7,
+        "version": 1,
+    }
     signs = COMMON if rng.random() < 0.8 else PRINTABLE
     header = {name: of_width(rng, width, signs) for name, width in widths.items()} | {"update": "F"}
-    return header if rng.random() < 0.8 else header | {"current_file": of_width(rng, 6, COMMON) + " "}
+    return (
+        header if rng.random() < 0.8 else header | {"current_file": of_width(rng, 6, COMMON) + " "}
+    )
 
 
 def some_tiplocs(rng):
@@ -184,13 +228,21 @@ def each_sort(rng):
     """A small extract with a line of each sort: of what runs, and of cancellations with all lines that may stand in them."""
     first, _ = some_window(rng)
     window = first, bounded(first + 6 * DAY)
-    timetable = Timetable(some_header(rng), window, [rng.choice(LOCATIONS) + of_width(rng, 63, COMMON)])
+    timetable = Timetable(
+        some_header(rng), window, [rng.choice(LOCATIONS) + of_width(rng, 63, COMMON)]
+    )
 
     def record(kind, key, letter):
         return Record(kind, key, *window, "1111111", letter, full_body(rng, kind))
 
     key = association_key(rng, [])
     keys = dict.fromkeys([key, association_key(rng, [key])])
-    timetable.associations = [*(record("AA", key, "P") for key in keys), record("AA", association_key(rng, []), "C")]
-    timetable.schedules = [record("BS", (("uid", "C00123"),), "P"), record("BS", (("uid", "C00124"),), "C")]
+    timetable.associations = [
+        *(record("AA", key, "P") for key in keys),
+        record("AA", association_key(rng, []), "C"),
+    ]
+    timetable.schedules = [
+        record("BS", (("uid", "C00123"),), "P"),
+        record("BS", (("uid", "C00124"),), "C"),
+    ]
     return timetable

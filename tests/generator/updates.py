@@ -38,7 +38,11 @@ def with_another_key(rng, record):
     if part == "key":
         names = dict(record.key)
         name = rng.choice(list(names))
-        others = {6: (some_uid(rng), names[name].strip(" ").rjust(6)), 7: LOCATIONS, 1: (" ", "2", "T")}
+        others = {
+            6: (some_uid(rng), names[name].strip(" ").rjust(6)),
+            7: LOCATIONS,
+            1: (" ", "2", "T"),
+        }
         names[name] = rng.choice(others[len(names[name])])
         return replace(record, key=tuple(names.items()))
     if record.letter != "C":
@@ -49,10 +53,17 @@ def with_another_key(rng, record):
 def some_record(rng, timetable, kind):
     key = (("uid", some_uid(rng)),)
     if kind == "AA":
-        key = tuple(zip(("base", "associated", "location"), (some_uid(rng), some_uid(rng), rng.choice(LOCATIONS))))
+        key = tuple(
+            zip(
+                ("base", "associated", "location"),
+                (some_uid(rng), some_uid(rng), rng.choice(LOCATIONS)),
+            )
+        )
         key += (("base_suffix", " "), ("associated_suffix", rng.choice(" 2")))
     body = some_body(rng, kind)
-    return Record(kind, key, *some_span(rng, timetable.window), some_mask(rng, []), rng.choice("PPONC"), body)
+    return Record(
+        kind, key, *some_span(rng, timetable.window), some_mask(rng, []), rng.choice("PPONC"), body
+    )
 
 
 def one_to_change(rng, timetable, kind, records, gone, there):
@@ -62,7 +73,11 @@ def one_to_change(rng, timetable, kind, records, gone, there):
     if gone and rng.random() < 0.5:
         record = rng.choice(gone)
     else:
-        record = rng.choice(records) if records and rng.random() < 0.8 else some_record(rng, timetable, kind)
+        record = (
+            rng.choice(records)
+            if records and rng.random() < 0.8
+            else some_record(rng, timetable, kind)
+        )
     for _ in range(4):
         if place_of(record) in map(place_of, records):
             record = with_another_key(rng, record)
@@ -74,7 +89,9 @@ def lines_of_deletion(rng, record):
     first, *behind = record.lines()
     first = with_field(first, "transaction", "D")
     first = respelled(rng, first, RUBBISH) if rng.random() < 0.6 else first
-    extra, journey = ([line for line in behind if (line[:2] == "BX") == is_extra] for is_extra in (True, False))
+    extra, journey = (
+        [line for line in behind if (line[:2] == "BX") == is_extra] for is_extra in (True, False)
+    )
     return [first, *rng.choice([[], [], [], extra, journey, behind])]
 
 
@@ -90,9 +107,15 @@ def update_of_records(rng, timetable, kind, records, astray):
         record = one_to_change(rng, timetable, kind, records, gone, there)
         first, *behind = record.lines()
         put = transaction != "D"
-        lines += [with_field(first, "transaction", transaction), *behind] if put else lines_of_deletion(rng, record)
+        lines += (
+            [with_field(first, "transaction", transaction), *behind]
+            if put
+            else lines_of_deletion(rng, record)
+        )
         gone += [other for other in records if place_of(other) == place_of(record)]
-        records = [other for other in records if place_of(other) != place_of(record)] + [record] * put
+        records = [other for other in records if place_of(other) != place_of(record)] + [
+            record
+        ] * put
     return lines, records
 
 
@@ -111,7 +134,11 @@ def update_of_tiplocs(rng, tiplocs, astray):
     for _ in range(rng.choice(STEPS)):
         kind = rng.choice(["TI", "TA", "TA", "TD"] if tiplocs else ["TI"])
         name = some_tiploc(rng, tiplocs, (kind != "TI") != (rng.random() < astray))
-        new = some_tiploc(rng, tiplocs, rng.random() < 2 * astray) if rng.random() < 0.6 else rng.choice([" " * 7, name])
+        new = (
+            some_tiploc(rng, tiplocs, rng.random() < 2 * astray)
+            if rng.random() < 0.6
+            else rng.choice([" " * 7, name])
+        )
         value = name + of_width(rng, 63, COMMON + " ")
         fields = {"identity": kind, "tiploc": name if kind == "TD" else value, "new_tiploc": new}
         lines.append(plain(kind, fields))
@@ -127,14 +154,22 @@ def last_reference(rng, header, astray):
     if rng.random() >= astray:
         return current if rng.random() < 0.85 else " " * 7
     at = rng.randrange(7)
-    others = [current[:at] + rng.choice(COMMON + " ") + current[at + 1 :], current.swapcase(), current.strip(" ").rjust(7)]
+    others = [
+        current[:at] + rng.choice(COMMON + " ") + current[at + 1 :],
+        current.swapcase(),
+        current.strip(" ").rjust(7),
+    ]
     return rng.choice([header["last_file"], of_width(rng, 7, COMMON), *others])
 
 
 def header_of_update(rng, before, astray):
     """The header of an update to a timetable that has that one before."""
     header = some_header(rng) | {"update": "U", "last_file": last_reference(rng, before, astray)}
-    return header if rng.random() < 0.9 else header | {"current_file": rng.choice([" " * 7, before["current_file"]])}
+    return (
+        header
+        if rng.random() < 0.9
+        else header | {"current_file": rng.choice([" " * 7, before["current_file"]])}
+    )
 
 
 def header_line(header, window):
@@ -145,9 +180,13 @@ def header_line(header, window):
 def some_update(rng, timetable, odds, astray):
     """The lines of an update, and the timetable after it."""
     after = timetable.copy()
-    after.window = rng.choice([after.window, after.window, with_one_end_moved(rng, after.window), some_window(rng)])
+    after.window = rng.choice(
+        [after.window, after.window, with_one_end_moved(rng, after.window), some_window(rng)]
+    )
     tiplocs, after.tiplocs = update_of_tiplocs(rng, timetable.tiplocs, astray)
-    associations, after.associations = update_of_records(rng, after, "AA", timetable.associations, astray)
+    associations, after.associations = update_of_records(
+        rng, after, "AA", timetable.associations, astray
+    )
     schedules, after.schedules = update_of_records(rng, after, "BS", timetable.schedules, astray)
     after.header = header_of_update(rng, timetable.header, rng.choice([0, 0.1, astray]))
     wrong = {"update": "F"} if rng.random() < odds["wrong header"] else {}

@@ -5,7 +5,18 @@ from reference.dates import DAY, FIRST_OF_ALL, LAST_OF_ALL, WEEK, monday_of
 
 from .fields import of_width
 
-MASKS = ("1111111", "1111111", "1111100", "1111100", "0000011", "1111110", "0000001", "1000000", "1010100", "0011111")
+MASKS = (
+    "1111111",
+    "1111111",
+    "1111100",
+    "1111100",
+    "0000011",
+    "1111110",
+    "0000001",
+    "1000000",
+    "1010100",
+    "0011111",
+)
 LENGTHS = {(1, 1): 6, (2, 7): 17, (8, 21): 33, (22, 61): 26, (62, 200): 14, (201, 1200): 4}
 
 
@@ -47,7 +58,11 @@ def with_one_end_moved(rng, window):
     """The window with one of its ends a few days earlier or later."""
     first, last = window
     days = rng.choice([-7, -2, -1, 1, 2, 7]) * DAY
-    return (min(bounded(first + days), last), last) if rng.random() < 0.5 else (first, max(bounded(last + days), first))
+    return (
+        (min(bounded(first + days), last), last)
+        if rng.random() < 0.5
+        else (first, max(bounded(last + days), first))
+    )
 
 
 def some_day(rng, window):

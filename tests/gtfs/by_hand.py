@@ -19,7 +19,9 @@ longitude,tiploc,name,more,latitude
 0.5,OMEGA,,,+53
 2,NOWHERE,Nowhere,,1.
 """
-OPERATORS = "url,operator_code,name\n,SR,\"Southern, Rails\"\nhttps://ships.example/,XX,Ships\n,YY,Another\n"
+OPERATORS = (
+    'url,operator_code,name\n,SR,"Southern, Rails"\nhttps://ships.example/,XX,Ships\n,YY,Another\n'
+)
 INTERCHANGE = "minutes,crs\n5,ALP\n0,BET\n7,ZZZ\n"
 LINKS = "from,to,minutes\nBET,GAM,12\nALP,ZZZ,1\nUNU,ALP,2\n"
 
@@ -59,29 +61,51 @@ def check_dates(counts, want, feed):
     for name in want:
         if found := re.fullmatch(r"(trips|links) on (\d\d)(\d\d)(\d\d)", name):
             on_date = feed.on(date(2000 + int(found[2]), int(found[3]), int(found[4])))
-            got = map(trip_text, on_date.trips.elements()) if found[1] == "trips" else map(link_text, on_date.links)
+            got = (
+                map(trip_text, on_date.trips.elements())
+                if found[1] == "trips"
+                else map(link_text, on_date.links)
+            )
             counts.same(f"special.cif by hand, {name}", want[name], sorted(got))
 
 
 def uids_of(files):
     """The UIDs of special.cif, by what ids have of them."""
-    names = {row["trip_id"].rpartition("-")[0] for row in csv.DictReader(io.StringIO(files["trips"], newline=""))}
+    names = {
+        row["trip_id"].rpartition("-")[0]
+        for row in csv.DictReader(io.StringIO(files["trips"], newline=""))
+    }
     return {name: name.replace("_", " ") for name in names}
 
 
 def check_named(counts, want, maker, special):
-    for name, text in ("places", PLACES), ("operators", OPERATORS), ("interchange", INTERCHANGE), ("links", LINKS):
+    for name, text in (
+        ("places", PLACES),
+        ("operators", OPERATORS),
+        ("interchange", INTERCHANGE),
+        ("links", LINKS),
+    ):
         (maker.folder / f"{name}.csv").write_text("\ufeff" + text, encoding="utf-8")
-    options = [word for name in ("places", "operators", "interchange", "links") for word in (f"--{name}", f"{name}.csv")]
+    options = [
+        word
+        for name in ("places", "operators", "interchange", "links")
+        for word in (f"--{name}", f"{name}.csv")
+    ]
     done, files = maker.feed(*options, "--extended-types", special)
     counts.same("special.cif with names, status", 1, done.returncode)
     wanted = (maker.folder / "places-wanted.csv").read_text()
     for name in "agency", "stops", "routes", "transfers", "wanted":
         lines = (wanted if name == "wanted" else files[name]).splitlines()
         missing = [line for line in want[f"{name} with names"] if line not in lines]
-        counts.test(f"special.cif with names, {name}", not missing, f"lacks {missing}, has {lines[:12]}")
+        counts.test(
+            f"special.cif with names, {name}", not missing, f"lacks {missing}, has {lines[:12]}"
+        )
     for name, text in ("transfers", ",2,"), ("wanted", ",,"):
-        got = [line for line in (wanted if name == "wanted" else files[name]).splitlines() if text in line]
+        got = [
+            line
+            for line in (wanted if name == "wanted" else files[name]).splitlines()
+            if text in line
+        ]
         counts.same(f"special.cif with names, all {name}", want[f"{name} with names"], got)
 
 
@@ -93,10 +117,16 @@ def check(counts, maker, special):
     wanted = (maker.folder / "places-wanted.csv").read_text().splitlines()
     counts.same("special.cif by hand, places-wanted.csv", want["places-wanted"], wanted)
     for name in "agency", "stops", "routes", "feed_info":
-        counts.same(f"special.cif by hand, {name}", sorted(want[name]), sorted(files[name].splitlines()))
+        counts.same(
+            f"special.cif by hand, {name}", sorted(want[name]), sorted(files[name].splitlines())
+        )
     check_dates(counts, want, Feed(files, uids_of(files)))
     errors = [notice for notice in notices(files) if notice.severity == ERROR]
     stops = {notice.place for notice in errors}
-    counts.same("special.cif by hand, errors", {"stop_without_location"}, {notice.rule for notice in errors})
-    counts.same("special.cif by hand, stops without coordinates", len(want["stops"]) - 1, len(stops))
+    counts.same(
+        "special.cif by hand, errors", {"stop_without_location"}, {notice.rule for notice in errors}
+    )
+    counts.same(
+        "special.cif by hand, stops without coordinates", len(want["stops"]) - 1, len(stops)
+    )
     check_named(counts, want, maker, special)

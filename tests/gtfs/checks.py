@@ -14,7 +14,17 @@ from .validator import ERROR, notices
 
 TOP = Path(__file__).resolve().parents[2]
 COMPANIONS = TOP / "companions"
-FILES = ("stop_times", "trips", "calendar_dates", "calendar", "agency", "stops", "routes", "transfers", "feed_info")
+FILES = (
+    "stop_times",
+    "trips",
+    "calendar_dates",
+    "calendar",
+    "agency",
+    "stops",
+    "routes",
+    "transfers",
+    "feed_info",
+)
 # The warnings that are known: nobody is named who answers for a feed.
 KNOWN_WARNINGS = {"missing_feed_contact_email_and_url"}
 
@@ -41,7 +51,9 @@ class Source:
         self.cif, self.path = cif, path
 
     def lines(self, *words):
-        done = subprocess.run([self.cif, *words, self.path], capture_output=True, check=True, text=True)
+        done = subprocess.run(
+            [self.cif, *words, self.path], capture_output=True, check=True, text=True
+        )
         return done.stdout.splitlines()
 
 
@@ -52,7 +64,11 @@ class Maker:
         self.cif, self.folder = cif, folder
 
     def run(self, *words, program="cif-gtfs"):
-        words = [COMPANIONS / program, *(("--cif", self.cif) if program == "cif-gtfs" else ()), *words]
+        words = [
+            COMPANIONS / program,
+            *(("--cif", self.cif) if program == "cif-gtfs" else ()),
+            *words,
+        ]
         return subprocess.run(words, cwd=self.folder, capture_output=True, text=True, check=False)
 
     def feed(self, *words):
@@ -63,13 +79,21 @@ class Maker:
         if not made.exists():
             raise RuntimeError(f"cif-gtfs {words} ends with {done.returncode}: {done.stderr}")
         with zipfile.ZipFile(made) as archive:
-            return done, {name.removesuffix(".txt"): archive.read(name).decode() for name in archive.namelist()}
+            return done, {
+                name.removesuffix(".txt"): archive.read(name).decode()
+                for name in archive.namelist()
+            }
 
 
 def made_places(names):
     """A row of places.csv for each place, with a name and coordinates of its own, near to the others."""
     return [
-        {"tiploc": name, "name": f"The place {number}", "latitude": f"{51 + number / 100000:.5f}", "longitude": "-0.5"}
+        {
+            "tiploc": name,
+            "name": f"The place {number}",
+            "latitude": f"{51 + number / 100000:.5f}",
+            "longitude": "-0.5",
+        }
         for number, name in enumerate(sorted(names))
     ]
 
@@ -88,22 +112,35 @@ def first_difference(want, got):
 
 def left_out_of(text, what):
     """How many dates of associations, or of trains, are reported to be left out."""
-    return sum(int(line.rpartition(": ")[2]) for line in text.splitlines() if f"{what} left out" in line)
+    return sum(
+        int(line.rpartition(": ")[2]) for line in text.splitlines() if f"{what} left out" in line
+    )
 
 
 def check_feed(counts, maker, source):
     """A feed is valid; on each date it has the trips and the links that the definition has; and it has no trip twice."""
     name, days = source.path.name, days_of(source)
-    locations = {stop["location"] for day in days.values() for train in day.trains.values() for stop in train.stops}
+    locations = {
+        stop["location"]
+        for day in days.values()
+        for train in day.trains.values()
+        for stop in train.stops
+    }
     places, tiplocs = made_places(locations), table_rows(source.lines("table", "tiplocs"))
     write_csv(maker.folder / "places.csv", places)
     names = Names(tiplocs, places)
     for options, types in ((), TYPES), (("--extended-types",), EXTENDED_TYPES):
-        done, files = maker.feed("--places", "places.csv", "--trips", "trips.csv", *options, source.path)
+        done, files = maker.feed(
+            "--places", "places.csv", "--trips", "trips.csv", *options, source.path
+        )
         counts.same(f"{name}, status", 0, done.returncode)
         counts.same(f"{name}, the files", FILES, tuple(files))
         found = notices(files)
-        counts.test(f"{name}, errors", not [notice for notice in found if notice.severity == ERROR], found[:3])
+        counts.test(
+            f"{name}, errors",
+            not [notice for notice in found if notice.severity == ERROR],
+            found[:3],
+        )
         others = [notice for notice in found if notice.rule not in KNOWN_WARNINGS]
         counts.test(f"{name}, warnings", not others, others[:3])
         uids = {coded(uid): uid for day in days.values() for uid in day.trains}
@@ -111,7 +148,11 @@ def check_feed(counts, maker, source):
         feed = Feed(files, uids)
         compare(counts, name, days, feed, names, want)
         check_records(counts, name, days, feed, rows_of((maker.folder / "trips.csv").read_text()))
-        counts.same(f"{name}, associations left out", want.left_out, left_out_of(done.stderr, "associations"))
+        counts.same(
+            f"{name}, associations left out",
+            want.left_out,
+            left_out_of(done.stderr, "associations"),
+        )
         not_for_riders = sum(day.not_for_riders for day in days.values())
         counts.same(f"{name}, trains left out", not_for_riders, left_out_of(done.stderr, "trains"))
 
@@ -136,7 +177,11 @@ def compare(counts, name, days, feed, names, want):
     dates = Counter()
     for service in feed.of_service:
         dates[frozenset(day for day in days if service in active_services(feed.rows, day))] += 1
-    counts.test(f"{name}, services", frozenset() not in dates and set(dates.values()) <= {1}, dates.most_common(1))
+    counts.test(
+        f"{name}, services",
+        frozenset() not in dates and set(dates.values()) <= {1},
+        dates.most_common(1),
+    )
 
 
 def check_records(counts, name, days, feed, rows):
@@ -147,7 +192,11 @@ def check_records(counts, name, days, feed, rows):
     for day in days:
         wrong = []
         for trip in feed.running(day):
-            found = [row for row in of_trip[trip] if applies(row, day + timedelta(days=int(row["days_later"])))]
+            found = [
+                row
+                for row in of_trip[trip]
+                if applies(row, day + timedelta(days=int(row["days_later"])))
+            ]
             idle -= {tuple(row.values()) for row in found}
             if len(found) != 1 or not is_of_train(found[0], days, day):
                 wrong.append((trip, found))
@@ -159,11 +208,16 @@ def is_of_train(row, days, day):
     """Whether a row has what the schedule of its train has."""
     train = days[day + timedelta(days=int(row["days_later"]))].public[row["uid"]].row
     names = ("first_date", "last_date", "days_run")
-    return [train[field] for field in (*names, "reserved_a")] == [row[field] for field in (*names, "retail_service_id")]
+    return [train[field] for field in (*names, "reserved_a")] == [
+        row[field] for field in (*names, "retail_service_id")
+    ]
 
 
 def applies(row, day):
-    return row["first_date"] <= day.isoformat() <= row["last_date"] and row["days_run"][day.weekday()] == "1"
+    return (
+        row["first_date"] <= day.isoformat() <= row["last_date"]
+        and row["days_run"][day.weekday()] == "1"
+    )
 
 
 # ---- earliest arrivals
@@ -176,14 +230,22 @@ def check_journeys(counts, maker, source, queries):
     days = days_of(source)
     places = made_places(network.STATIONS)
     write_csv(maker.folder / "places.csv", places)
-    write_csv(maker.folder / "interchange.csv", [{"crs": crs, "minutes": CHANGE} for crs in network.CRS.values()])
+    write_csv(
+        maker.folder / "interchange.csv",
+        [{"crs": crs, "minutes": CHANGE} for crs in network.CRS.values()],
+    )
     walk = {"from": network.CRS["MAIN0"], "to": network.CRS["WEST2"], "minutes": WALK}
     write_csv(maker.folder / "links.csv", [walk])
     names = Names(table_rows(source.lines("table", "tiplocs")), places)
     options = ("--places", "places.csv", "--interchange", "interchange.csv", "--links", "links.csv")
     uids = {coded(uid): uid for day in days.values() for uid in day.trains}
-    cut, whole = (Feed(maker.feed(*options, *more, source.path)[1], uids) for more in ((), ("--whole-trains",)))
-    counts.same("whole trains, links and blocks", ([], {""}), (whole.links, set(whole.block.values())))
+    cut, whole = (
+        Feed(maker.feed(*options, *more, source.path)[1], uids)
+        for more in ((), ("--whole-trains",))
+    )
+    counts.same(
+        "whole trains, links and blocks", ([], {""}), (whole.links, set(whole.block.values()))
+    )
     change = {names.station(place): CHANGE * 60 for place in network.STATIONS}
     walks = {names.station("MAIN0"): {names.station("WEST2"): WALK * 60}}
     counts.same("times of change and links", (change, walks), transfers_of(cut))
@@ -198,7 +260,11 @@ def check_journeys(counts, maker, source, queries):
         for name, truth, planner, pairs in planners:
             want = truth.earliest(names.station(query[0]), query[1], change, walks, pairs)
             got = planner.earliest(names.station(query[0]), query[1], change, walks)
-            unequal = {place: (want.get(place), got.get(place)) for place in {*want, *got} if want.get(place) != got.get(place)}
+            unequal = {
+                place: (want.get(place), got.get(place))
+                for place in {*want, *got}
+                if want.get(place) != got.get(place)
+            }
             counts.test(f"arrivals from {query} by {name}", want and not unequal, unequal)
         without = alone.earliest(names.station(query[0]), query[1], change, walks)
         later += sum(without.get(place) != arrival for place, arrival in want.items())

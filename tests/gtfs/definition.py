@@ -61,9 +61,19 @@ class Train:
 
     def __init__(self, row):
         self.row, self.stops = row, []
+        # its public calls, and by their numbers these and its stops where it has associations on any date
+        self.calls, self.way = [], {}
 
     def add(self, row):
-        names = ("location", "suffix", "arrival", "departure", "pass", "public_arrival", "public_departure")
+        names = (
+            "location",
+            "suffix",
+            "arrival",
+            "departure",
+            "pass",
+            "public_arrival",
+            "public_departure",
+        )
         names += ("platform", "activities")
         cells = {name: row[f"call_{name}"] for name in names}
         self.stops.append(cells | {"record": row["call"], "number": len(self.stops) + 1})
@@ -71,7 +81,15 @@ class Train:
     def public(self):
         rows = public_calls([ReferenceCall(str(stop["number"]), stop) for stop in self.stops])
         return [
-            Call(int(number), location, platform, seconds_of(arrival), seconds_of(departure), set_down, pick_up)
+            Call(
+                int(number),
+                location,
+                platform,
+                seconds_of(arrival),
+                seconds_of(departure),
+                set_down,
+                pick_up,
+            )
             for number, location, platform, arrival, departure, set_down, pick_up in rows
         ]
 
@@ -80,12 +98,15 @@ class Train:
         public = {call.number for call in self.calls}
         for stop in self.stops:
             stops_there = stop["arrival"] or stop["departure"] or stop["number"] in public
-            if stops_there and (stop["location"], stop["suffix"]) == (location, suffix) and record in (None, stop["record"]):
+            if (
+                stops_there
+                and (stop["location"], stop["suffix"]) == (location, suffix)
+                and record in (None, stop["record"])
+            ):
                 return stop
         return None
 
     def set_way(self, spots):
-        """All its calls: the public ones, and its stops at all places where it has associations on any date."""
         stops = [stop for stop in (self.stop(*spot) for spot in spots) if stop]
         self.way = {call.number: call for call in with_stops(self.calls, stops)}
 
@@ -112,7 +133,12 @@ class Day:
 def applying(rows, day):
     """The row that applies on a date."""
     weekday = day.weekday()
-    [row] = [row for row in rows if row["first_date"] <= day.isoformat() <= row["last_date"] and row["days_run"][weekday] == "1"]
+    [row] = [
+        row
+        for row in rows
+        if row["first_date"] <= day.isoformat() <= row["last_date"]
+        and row["days_run"][weekday] == "1"
+    ]
     return row
 
 
@@ -140,7 +166,10 @@ def days_of(source):
 # ---- associations
 
 # An association that holds: its fields, and its trains with their dates.
-Held = namedtuple("Held", "category indicator base associated location base_suffix associated_suffix base_day associated_day")
+Held = namedtuple(
+    "Held",
+    "category indicator base associated location base_suffix associated_suffix base_day associated_day",
+)
 
 
 def held_on(days, day):
@@ -150,8 +179,16 @@ def held_on(days, day):
             days_later = DAYS_LATER.get(row["date_indicator"])
             known = row["association_category"] in SHOWN_BY and days_later is not None
             other = day + timedelta(days=days_later) if known else None
-            names = ("association_category", "date_indicator", "base_uid", "associated_uid", "association_location")
-            yield Held(*(row[name] for name in (*names, "base_suffix", "associated_suffix")), day, other)
+            names = (
+                "association_category",
+                "date_indicator",
+                "base_uid",
+                "associated_uid",
+                "association_location",
+            )
+            yield Held(
+                *(row[name] for name in (*names, "base_suffix", "associated_suffix")), day, other
+            )
 
 
 def spot_of(held, role):
@@ -213,7 +250,9 @@ def shown_and_moved(days):
 
     shown = [held for held in possible if not too_long(held)]
     overnight = [held for held in shown if held.base_day != held.associated_day]
-    moved = {end for held in overnight for end in groups[ends_of(held)[0]] if end[1] == max(dates(end))}
+    moved = {
+        end for held in overnight for end in groups[ends_of(held)[0]] if end[1] == max(dates(end))
+    }
     return shown, len(every) - len(shown), moved
 
 
@@ -232,7 +271,9 @@ def moments(seconds):
 
 def call_that_isnt_public(stop, before, after):
     """The call at a stop that isn't public: nobody gets on or off."""
-    arrives, leaves = of_day(stop["arrival"] or stop["departure"]), of_day(stop["departure"] or stop["arrival"])
+    arrives, leaves = of_day(stop["arrival"] or stop["departure"]), of_day(
+        stop["departure"] or stop["arrival"]
+    )
     if before:
         arrival = min(moment for moment in moments(arrives) if moment >= before.departure - HOUR)
         departure = min(moment for moment in moments(leaves) if moment >= arrival - HOUR)
@@ -250,12 +291,24 @@ def with_stops(calls, stops):
     """The public calls with those at these stops, first those behind the first public call in order, then those before it."""
     calls = list(calls)
     first = calls[0].number
-    behind = sorted((stop for stop in stops if stop["number"] > first), key=lambda stop: stop["number"])
-    front = sorted((stop for stop in stops if stop["number"] < first), key=lambda stop: -stop["number"])
+    behind = sorted(
+        (stop for stop in stops if stop["number"] > first), key=lambda stop: stop["number"]
+    )
+    front = sorted(
+        (stop for stop in stops if stop["number"] < first), key=lambda stop: -stop["number"]
+    )
     for stop in behind + front:
         if all(call.number != stop["number"] for call in calls):
-            before = max((call for call in calls if call.number < stop["number"]), key=lambda call: call.number, default=None)
-            after = min((call for call in calls if call.number > stop["number"]), key=lambda call: call.number, default=None)
+            before = max(
+                (call for call in calls if call.number < stop["number"]),
+                key=lambda call: call.number,
+                default=None,
+            )
+            after = min(
+                (call for call in calls if call.number > stop["number"]),
+                key=lambda call: call.number,
+                default=None,
+            )
             calls.append(call_that_isnt_public(stop, before, after))
             calls.sort(key=lambda call: call.number)
     return calls
@@ -267,11 +320,15 @@ Part = namedtuple("Part", "content first last marks")
 
 def parts_of(uid, train, held, days_later, types):
     """The parts of a train with these associations, each with its role."""
-    stops = {(association, role): train.stop(*spot_of(association, role)) for association, role in held}
+    stops = {
+        (association, role): train.stop(*spot_of(association, role)) for association, role in held
+    }
     numbers = {call.number for call in train.calls} | {stop["number"] for stop in stops.values()}
     calls = [train.way[number] for number in sorted(numbers)]
     numbers = [call.number for call in calls]
-    cuts = {stops[each]["number"] for each in held if each[1] == "base" and each[0].category != "NP"}
+    cuts = {
+        stops[each]["number"] for each in held if each[1] == "base" and each[0].category != "NP"
+    }
     cuts = sorted(cuts - {numbers[0], numbers[-1]})
     parts = []
     for first, last in zip([numbers[0], *cuts], [*cuts, numbers[-1]]):
@@ -281,12 +338,17 @@ def parts_of(uid, train, held, days_later, types):
         if last in cuts:
             part[-1] = part[-1]._replace(departure=part[-1].arrival, pick_up="1")
         later = days_later * DAY
-        shown = tuple(call._replace(arrival=call.arrival + later, departure=call.departure + later)[1:] for call in part)
+        shown = tuple(
+            call._replace(arrival=call.arrival + later, departure=call.departure + later)[1:]
+            for call in part
+        )
         about = (train.row["identity"], train.row["operator_code"], types[kind_of(train.row)])
         content = Content(uid, *about, train.calls[0].location, train.calls[-1].location, shown)
         parts.append(Part(content, first, last, []))
     for association, role in held:
-        number, ends = stops[association, role]["number"], (association.category == "JJ") != (role == "base")
+        number, ends = stops[association, role]["number"], (association.category == "JJ") != (
+            role == "base"
+        )
         part = next(part for part in parts if (part.last if ends else part.first) == number)
         part.marks.append((role, association[:7]))
     return parts
@@ -308,7 +370,11 @@ def expected(days, types):
     for day in days:
         for uid, train in days[day].public.items():
             parts[uid, day] = parts_of(uid, train, held[uid, day], int((uid, day) in moved), types)
-    trips, links, blocks = {day: Counter() for day in days}, {day: set() for day in days}, {day: Counter() for day in days}
+    trips, links, blocks = (
+        {day: Counter() for day in days},
+        {day: set() for day in days},
+        {day: Counter() for day in days},
+    )
     distinct = set()
     groups = groups_of(shown)
     for (uid, day), of_train in parts.items():
@@ -319,12 +385,16 @@ def expected(days, types):
         if len(of_train) > 1:
             blocks[counts_to][tuple(part.content for part in of_train)] += 1
         group = group_text(groups[uid, day], parts, held) if (uid, day) in groups else None
-        distinct |= {(part.content, group, number, day != counts_to) for number, part in enumerate(of_train)}
+        distinct |= {
+            (part.content, group, number, day != counts_to) for number, part in enumerate(of_train)
+        }
     for association in shown:
         base, associated = ends_of(association)
         one, other = (associated, base) if association.category == "JJ" else (base, associated)
         ending = part_at(parts[one], association, "associated" if one is associated else "base")
-        beginning = part_at(parts[other], association, "associated" if other is associated else "base")
+        beginning = part_at(
+            parts[other], association, "associated" if other is associated else "base"
+        )
         links[base[1] - timedelta(days=base in moved)].add((ending.content, beginning.content))
     return Expected(trips, links, blocks, left_out, len(distinct))
 
@@ -332,9 +402,13 @@ def expected(days, types):
 def group_text(group, parts, held):
     """What trains that are linked have alike on all dates on which they are linked so: all their calls, and what links them."""
     first = min(day for _, day in group)
-    trains = frozenset((uid, day - first, tuple(part.content for part in parts[uid, day])) for uid, day in group)
+    trains = frozenset(
+        (uid, day - first, tuple(part.content for part in parts[uid, day])) for uid, day in group
+    )
     return trains, frozenset(
-        (association[:7], association.base_day - first) for end in group for association, _ in held[end]
+        (association[:7], association.base_day - first)
+        for end in group
+        for association, _ in held[end]
     )
 
 

@@ -61,7 +61,10 @@ BAD_FILES = {
             "line 3: SN is double: line 2 has it too",
             *(
                 f"line {line}: url `{url}` isn't an address of the web such as https://www.example.com/"
-                for line, url in enumerate(("https://?query", "https://-a.example/", "http://host:x/", "http://localhost"), 4)
+                for line, url in enumerate(
+                    ("https://?query", "https://-a.example/", "http://host:x/", "http://localhost"),
+                    4,
+                )
             ),
         ),
     ),
@@ -81,15 +84,27 @@ BAD_FILES = {
 BAD_HEADINGS = {
     "places": ("tiploc,name,latitude\n", ("line 1: the field longitude is missing",)),
     "links": ("from,to,minutes,to\n", ("line 1: the field to is double",)),
-    "operators": ("", tuple(f"line 1: the field {name} is missing" for name in ("operator_code", "name", "url"))),
-    "interchange": ('crs,minutes\nALP,5\nBET,"5\n\n', ("line 3: this is no CSV: unexpected end of data",)),
+    "operators": (
+        "",
+        tuple(f"line 1: the field {name} is missing" for name in ("operator_code", "name", "url")),
+    ),
+    "interchange": (
+        'crs,minutes\nALP,5\nBET,"5\n\n',
+        ("line 3: this is no CSV: unexpected end of data",),
+    ),
 }
 HEADING = b"tiploc,name,latitude,longitude\n"
 # What isn't a file of places at all.
 OTHER_FILES = {
-    "not UTF-8": (HEADING + b"ALPHA,Alph\xe4,,\n", "line 2: this is no CSV in UTF-8: invalid continuation byte"),
+    "not UTF-8": (
+        HEADING + b"ALPHA,Alph\xe4,,\n",
+        "line 2: this is no CSV in UTF-8: invalid continuation byte",
+    ),
     "a byte 0": (HEADING + b"ALPHA,,,\nBETA,B\0,,\n", "line 3: this is no text: it has a byte 0"),
-    "a long line": (HEADING + b"A" * 70000, "line 2: the line or the file is too long: this is another file"),
+    "a long line": (
+        HEADING + b"A" * 70000,
+        "line 2: the line or the file is too long: this is another file",
+    ),
     "many mistakes": (HEADING + b"ALPHA,A,x,\n" * 30, None),
 }
 
@@ -130,10 +145,21 @@ def check_user_files(counts, maker, special):
         for kind, (text, told) in files.items():
             (maker.folder / "bad.csv").write_text(text)
             lines = [f"cif-gtfs: bad.csv: {line}" for line in told]
-            refused(counts, maker, f"a bad file of {kind}", 3, lines, f"--{kind}", "bad.csv", special)
+            refused(
+                counts, maker, f"a bad file of {kind}", 3, lines, f"--{kind}", "bad.csv", special
+            )
             # one that isn't there
             missing = ["cif-gtfs: missing.csv: No such file or directory"]
-            refused(counts, maker, f"a missing file of {kind}", 4, missing, f"--{kind}", "missing.csv", special)
+            refused(
+                counts,
+                maker,
+                f"a missing file of {kind}",
+                4,
+                missing,
+                f"--{kind}",
+                "missing.csv",
+                special,
+            )
 
 
 def check_other_files(counts, maker, special):
@@ -143,8 +169,14 @@ def check_other_files(counts, maker, special):
         refused(counts, maker, f"a file with {name}", 3, lines, "--places", "bad.csv", special)
     done = maker.run("--places", "bad.csv", special)
     lines = done.stderr.splitlines()
-    counts.test("many mistakes", len(lines) == 21 and lines[-1] == "cif-gtfs: bad.csv: and 39 more", lines[-3:])
-    endless = ["cif-gtfs: /dev/zero: line 1: the line or the file is too long: this is another file"]
+    counts.test(
+        "many mistakes",
+        len(lines) == 21 and lines[-1] == "cif-gtfs: bad.csv: and 39 more",
+        lines[-3:],
+    )
+    endless = [
+        "cif-gtfs: /dev/zero: line 1: the line or the file is too long: this is another file"
+    ]
     refused(counts, maker, "an endless file", 3, endless, "--places", "/dev/zero", special)
 
 
@@ -161,8 +193,14 @@ def check_outputs(counts, maker, special):
     for output in others:
         refused(counts, maker, f"the output {output!r}", 2, None, "-o", output, special)
         refused(counts, maker, f"the trips {output!r}", 2, None, "--trips", output, special)
-    counts.same("what wasn't a file stays", kinds, {path.name: path.stat().st_mode for path in folder.iterdir()})
-    refused(counts, maker, "two outputs in one place", 2, None, "-o", "one", "--trips", "./one", special)
+    counts.same(
+        "what wasn't a file stays",
+        kinds,
+        {path.name: path.stat().st_mode for path in folder.iterdir()},
+    )
+    refused(
+        counts, maker, "two outputs in one place", 2, None, "-o", "one", "--trips", "./one", special
+    )
     for output in others:
         if output in ("fifo", "device"):
             (folder / output).unlink()
@@ -172,7 +210,11 @@ def check_outputs(counts, maker, special):
     maker.run("-o", "folder/link.zip", special)
     counts.test("a link stays", (folder / "folder" / "link.zip").is_symlink())
     counts.test("the file behind a link is replaced", zipfile.is_zipfile(folder / "target.zip"))
-    counts.same("the mode of a file that is replaced", 0o640, stat.S_IMODE((folder / "target.zip").stat().st_mode))
+    counts.same(
+        "the mode of a file that is replaced",
+        0o640,
+        stat.S_IMODE((folder / "target.zip").stat().st_mode),
+    )
 
 
 def check_wanted(counts, maker, special):
@@ -182,10 +224,14 @@ def check_wanted(counts, maker, special):
     counts.test("places are wanted beside the name that is given", wanted.exists())
     places = maker.folder / "all.csv"
     names = [line.partition(",")[0] for line in wanted.read_text().splitlines()[1:]]
-    places.write_text("tiploc,name,latitude,longitude\n" + "".join(f"{name},,51,-.5\n" for name in names))
+    places.write_text(
+        "tiploc,name,latitude,longitude\n" + "".join(f"{name},,51,-.5\n" for name in names)
+    )
     filled = wanted.read_text().replace(",,\n", ",51,0\n")
     unfilled, _ = wanted.read_text(), wanted.write_text(filled)
-    told = ["cif-gtfs: folder/places-wanted.csv has been filled in: rename it, and give it by --places"]
+    told = [
+        "cif-gtfs: folder/places-wanted.csv has been filled in: rename it, and give it by --places"
+    ]
     refused(counts, maker, "a list that is filled in", 2, told, "-o", "folder/feed.zip", special)
     counts.same("a list that is filled in stays", filled, wanted.read_text())
     wanted.write_text(unfilled)
@@ -203,10 +249,15 @@ def check_pipes(counts, maker, special):
     for name in "-", "/dev/stdin":
         feed.unlink()
         words = [COMPANIONS / "cif-gtfs", "--cif", maker.cif, "-o", feed, name]
-        done = subprocess.run(words, input=special.read_bytes(), capture_output=True, cwd=maker.folder, check=False)
+        done = subprocess.run(
+            words, input=special.read_bytes(), capture_output=True, cwd=maker.folder, check=False
+        )
         counts.same(f"an extract from {name}, status", 1, done.returncode)
         with zipfile.ZipFile(feed) as archive:
-            got = {entry.removesuffix(".txt"): archive.read(entry).decode() for entry in archive.namelist()}
+            got = {
+                entry.removesuffix(".txt"): archive.read(entry).decode()
+                for entry in archive.namelist()
+            }
         counts.test(f"an extract from {name}", want == got)
     feed.unlink()
     (maker.folder / "places-wanted.csv").unlink()
@@ -216,9 +267,17 @@ def check_hints(counts, maker, special):
     """What cif says of an input that isn't an extract helps."""
     packed, update = maker.folder / "packed.gz", EXAMPLES / "update.cif"
     packed.write_bytes(gzip.compress(special.read_bytes()))
-    for path, hint in (packed, "decompress it"), (EXAMPLES / "published.cif", "cif prepare"), (update, "cif update"):
+    for path, hint in (
+        (packed, "decompress it"),
+        (EXAMPLES / "published.cif", "cif prepare"),
+        (update, "cif update"),
+    ):
         done = maker.run(path)
-        counts.test(f"{path.name} is refused with a hint", done.returncode == 3 and hint in done.stderr, done.stderr)
+        counts.test(
+            f"{path.name} is refused with a hint",
+            done.returncode == 3 and hint in done.stderr,
+            done.stderr,
+        )
 
 
 def check_space(counts, maker, special):
@@ -226,24 +285,54 @@ def check_space(counts, maker, special):
     temporary = maker.folder / "temporary"
     temporary.mkdir()
     limited = 'ulimit -f 2; TMPDIR=$1; export TMPDIR; shift; exec "$@"'
-    words = ["sh", "-c", limited, "sh", temporary, COMPANIONS / "cif-gtfs", "--cif", maker.cif, special]
+    words = [
+        "sh",
+        "-c",
+        limited,
+        "sh",
+        temporary,
+        COMPANIONS / "cif-gtfs",
+        "--cif",
+        maker.cif,
+        special,
+    ]
     done = subprocess.run(words, capture_output=True, text=True, cwd=maker.folder, check=False)
-    counts.same("no space", (4, f"cif-gtfs: {temporary}: File too large\n"), (done.returncode, done.stderr))
+    counts.same(
+        "no space", (4, f"cif-gtfs: {temporary}: File too large\n"), (done.returncode, done.stderr)
+    )
     counts.same("no space, what is left", [], sorted(temporary.iterdir()))
     temporary.rmdir()
 
 
 def check_publisher(counts, maker, special):
-    words = ("--publisher", "Acme, Feeds", "--url", "https://acme.example/x?y", "--email", "feeds@acme.example")
+    words = (
+        "--publisher",
+        "Acme, Feeds",
+        "--url",
+        "https://acme.example/x?y",
+        "--email",
+        "feeds@acme.example",
+    )
     [about] = maker.feed(*words, special)[1]["feed_info"].splitlines()[1:]
     counts.test("the publisher", about.startswith('"Acme, Feeds",https://acme.example/x?y,'), about)
     counts.test("the publisher's mail", about.endswith(",feeds@acme.example"), about)
-    for option, bad in ("--publisher", "a\nb"), ("--url", "acme.example"), ("--email", "acme"), ("--email", "a b@c.example"):
+    for option, bad in (
+        ("--publisher", "a\nb"),
+        ("--url", "acme.example"),
+        ("--email", "acme"),
+        ("--email", "a b@c.example"),
+    ):
         refused(counts, maker, f"{option} {bad!r}", 2, None, option, bad, special)
 
 
 def check_words(counts, maker, special):
-    for words in (), (special, special), ("--form", "1", special), ("--fro", "260105", special), (".",):
+    for words in (
+        (),
+        (special, special),
+        ("--form", "1", special),
+        ("--fro", "260105", special),
+        (".",),
+    ):
         refused(counts, maker, f"the words {words}", 2, None, *words)
     wanted = maker.folder / "places-wanted.csv"
     wanted.write_text("tiploc,name,latitude,longitude\n")
@@ -263,11 +352,35 @@ def check_failures(counts, maker, special):
     bad.write_text("".join(lines[:-1]))
     kept = ("HD", "TI", "ZZ")
     goods = [at for at, line in enumerate(lines) if line.startswith("BSNL00001")][0]
-    freight.write_text("".join([line for line in lines if line.startswith(kept)][:-1] + lines[goods : goods + 4] + lines[-1:]))
-    truncated = [f"cif: line {len(lines)}: Truncated", f"  in {bad}", "  the input ends before its trailer, ZZ"]
+    freight.write_text(
+        "".join(
+            [line for line in lines if line.startswith(kept)][:-1]
+            + lines[goods : goods + 4]
+            + lines[-1:]
+        )
+    )
+    truncated = [
+        f"cif: line {len(lines)}: Truncated",
+        f"  in {bad}",
+        "  the input ends before its trailer, ZZ",
+    ]
     refused(counts, maker, "a refused extract", 3, truncated, bad)
-    refused(counts, maker, "a missing extract", 4, ["cif-gtfs: missing.cif: No such file or directory"], "missing.cif")
-    refused(counts, maker, "no public train", 3, [f"cif-gtfs: {freight} has no public train in its window"], freight)
+    refused(
+        counts,
+        maker,
+        "a missing extract",
+        4,
+        ["cif-gtfs: missing.cif: No such file or directory"],
+        "missing.cif",
+    )
+    refused(
+        counts,
+        maker,
+        "no public train",
+        3,
+        [f"cif-gtfs: {freight} has no public train in its window"],
+        freight,
+    )
     refused(counts, maker, "no folder for the zip", 4, None, "-o", "missing/gtfs.zip", special)
     refused(counts, maker, "no program cif", 4, None, "--cif", "./missing", special)
     refused(counts, maker, "another program", 4, None, "--cif", "echo", special)
@@ -312,15 +425,24 @@ def check_signals(counts, maker, special):
     failing = failing_cif(maker, "public", "exec sleep 60")
     before = left(maker)
     for number in signal.SIGTERM, signal.SIGINT:
-        process = subprocess.Popen([COMPANIONS / "cif-gtfs", "--cif", failing.cif, special], cwd=maker.folder, stderr=subprocess.PIPE)
+        process = subprocess.Popen(
+            [COMPANIONS / "cif-gtfs", "--cif", failing.cif, special],
+            cwd=maker.folder,
+            stderr=subprocess.PIPE,
+        )
         for _ in range(1200):
             if left(maker) != before:
                 break
             time.sleep(0.05)
         process.send_signal(number)
         _, told = process.communicate(timeout=30)
-        counts.same(f"stopped by {number.name}", (4, f"cif-gtfs: interrupted by {number.name}\n".encode()), (process.returncode, told))
-        counts.same(f"stopped by {number.name}, what is left", before, left(maker))
+        name = signal.Signals(number).name
+        counts.same(
+            f"stopped by {name}",
+            (4, f"cif-gtfs: interrupted by {name}\n".encode()),
+            (process.returncode, told),
+        )
+        counts.same(f"stopped by {name}, what is left", before, left(maker))
 
 
 def check_terminal(counts, maker, special):
@@ -333,7 +455,8 @@ def check_terminal(counts, maker, special):
     while block := read_terminal(ours):
         told += block
     process.wait()
-    counts.test("on a terminal", b"reading calls: " in told and b"writing the other files\r" in told and b"\r\x1b[Kcif-gtfs: " in told, told)
+    parts = (b"reading calls: ", b"writing the other files\r", b"\r\x1b[Kcif-gtfs: ")
+    counts.test("on a terminal", all(part in told for part in parts), told)
 
 
 def read_terminal(device):
@@ -364,15 +487,34 @@ def check_windows(counts, maker, special):
     whole, in_whole = ids_by_shown(maker.feed(special)[1])
     part, in_part = ids_by_shown(maker.feed("--from", "260107", "--to", "260119", special)[1])
     both = in_part.keys() & in_whole.keys()
-    counts.test("ids in another window", len(both) > 9 and all(in_part[trip] == in_whole[trip] for trip in both), in_part)
-    counts.test("linked trips in another window", len(part.links) > 5 and set(part.links) <= set(whole.links), part.links)
-    ids = [{row["service_id"]: dates_of(feed, row["service_id"]) for row in feed.rows["trips"]} for feed in (whole, part)]
+    counts.test(
+        "ids in another window",
+        len(both) > 9 and all(in_part[trip] == in_whole[trip] for trip in both),
+        in_part,
+    )
+    counts.test(
+        "linked trips in another window",
+        len(part.links) > 5 and set(part.links) <= set(whole.links),
+        part.links,
+    )
+    ids = [
+        {row["service_id"]: dates_of(feed, row["service_id"]) for row in feed.rows["trips"]}
+        for feed in (whole, part)
+    ]
     both = ids[0].keys() & ids[1].keys()
-    counts.test("services in another window", len(both) > 5 and all(ids[0][name] == ids[1][name] for name in both), both)
+    counts.test(
+        "services in another window",
+        len(both) > 5 and all(ids[0][name] == ids[1][name] for name in both),
+        both,
+    )
     same = [name for name, dates in ids[1].items() if dates in ids[0].values()]
     counts.test("services with the same dates in another window", both == set(same), both)
     [about] = part.rows["feed_info"]
-    counts.same("the dates of a part", ("20260107", "20260119"), (about["feed_start_date"], about["feed_end_date"]))
+    counts.same(
+        "the dates of a part",
+        ("20260107", "20260119"),
+        (about["feed_start_date"], about["feed_end_date"]),
+    )
 
 
 def check_again(counts, maker, special):
@@ -390,7 +532,10 @@ def check_collision(counts):
     length, trips.ID_BYTES = trips.ID_BYTES, 1
     try:
         for number in range(300):
-            rows = [b"ALPHA\t%d\t09:00:00\t09:00:00\t1\t0\n" % number, b"BETA\t1\t10:00:00\t10:00:00\t0\t1\n"]
+            rows = [
+                b"ALPHA\t%d\t09:00:00\t09:00:00\t1\t0\n" % number,
+                b"BETA\t1\t10:00:00\t10:00:00\t0\t1\n",
+            ]
             found.add(about, rows)
         counts.test("two trips with one id", False, "they are taken")
     except Refused as refused_trip:
@@ -408,14 +553,25 @@ def check_blocks(counts):
         for schedule in range(1, 130)
         for call in range(1 + schedule % 7)
     ]
-    for wanted in ([1, 2, 5, 8, 9, 10, 11, 99, 100, 101, 128, 129], [129], [1], [6], list(range(1, 130)), []):
-        texts = {b"%d" % number: {b"A", b"none"} if number % 3 else {b"A", b"B"} for number in wanted}
+    for wanted in (
+        [1, 2, 5, 8, 9, 10, 11, 99, 100, 101, 128, 129],
+        [129],
+        [1],
+        [6],
+        list(range(1, 130)),
+        [],
+    ):
+        texts = {
+            b"%d" % number: {b"A", b"none"} if number % 3 else {b"A", b"B"} for number in wanted
+        }
         cells = ((row, row.split(b"\t")) for row in rows)
         want = [row for row, cell in cells if cell[3] in texts.get(cell[0], ())]
         for size in (1, 7, 16, 40, 100, 1000, 10**6):
             table = io.BytesIO(b"".join(row + b"\n" for row in rows))
             got = list(rows_with(table, 3, texts, size))
-            counts.test(f"rows of {len(wanted)} schedules in blocks of {size}", want == got, got[:5])
+            counts.test(
+                f"rows of {len(wanted)} schedules in blocks of {size}", want == got, got[:5]
+            )
 
 
 def check(counts, maker, special):

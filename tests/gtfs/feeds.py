@@ -19,7 +19,10 @@ def rows_of(text):
 
 def coded(text):
     """How an id has a text: letters and digits, _ for a space, and % with two digits for all else."""
-    return "".join(sign if sign.isalnum() and sign.isascii() else "_" if sign == " " else f"%{ord(sign):02X}" for sign in text)
+    return "".join(
+        sign if sign.isalnum() and sign.isascii() else "_" if sign == " " else f"%{ord(sign):02X}"
+        for sign in text
+    )
 
 
 # ---- from the definition
@@ -37,11 +40,17 @@ class Names:
         return f"station:{coded(self.crs[tiploc])}" if self.crs.get(tiploc) else coded(tiploc)
 
     def stop(self, tiploc, platform):
-        return f"{coded(tiploc)}/{coded(platform)}" if platform and self.crs.get(tiploc) else coded(tiploc)
+        return (
+            f"{coded(tiploc)}/{coded(platform)}"
+            if platform and self.crs.get(tiploc)
+            else coded(tiploc)
+        )
 
     def name(self, tiploc):
         """The name of a station is that of its first TIPLOC to which the user gives one."""
-        same = [other for other, crs in self.crs.items() if crs and crs == self.crs.get(tiploc)] or [tiploc]
+        same = [
+            other for other, crs in self.crs.items() if crs and crs == self.crs.get(tiploc)
+        ] or [tiploc]
         return next(self.given[other] for other in same if self.given.get(other))
 
 
@@ -49,7 +58,8 @@ def shown(content, names):
     """What the trip of a content shows."""
     ends = [names.station(content.first), names.station(content.last)]
     calls = tuple(
-        (names.stop(location, platform), *times_and_types) for location, platform, *times_and_types in content.calls
+        (names.stop(location, platform), *times_and_types)
+        for location, platform, *times_and_types in content.calls
     )
     return Shown(
         content.uid,
@@ -92,21 +102,37 @@ class Feed:
         calls = defaultdict(list)
         for row in self.rows["stop_times"]:
             times = (seconds_of(row[field]) for field in ("arrival_time", "departure_time"))
-            call = (int(row["stop_sequence"]), row["stop_id"], *times, row["drop_off_type"], row["pickup_type"])
+            call = (
+                int(row["stop_sequence"]),
+                row["stop_id"],
+                *times,
+                row["drop_off_type"],
+                row["pickup_type"],
+            )
             calls[row["trip_id"]].append(call)
         routes = {row["route_id"]: row for row in self.rows["routes"]}
         self.trips, self.of_service, self.block = {}, defaultdict(list), {}
         for row in self.rows["trips"]:
             route = routes[row["route_id"]]
             ends = tuple(row["route_id"].split("-")[-2:])
-            about = (route["agency_id"], route["route_type"], ends, row["direction_id"], row["trip_headsign"])
+            about = (
+                route["agency_id"],
+                route["route_type"],
+                ends,
+                row["direction_id"],
+                row["trip_headsign"],
+            )
             of_trip = tuple(call[1:] for call in sorted(calls[row["trip_id"]]))
             name = row["trip_id"]
             self.block[name] = row["block_id"]
-            self.trips[name] = Shown(uids[name.rpartition("-")[0]], row["trip_short_name"], *about, of_trip)
+            self.trips[name] = Shown(
+                uids[name.rpartition("-")[0]], row["trip_short_name"], *about, of_trip
+            )
             self.of_service[row["service_id"]].append(name)
         self.links = [
-            (row["from_trip_id"], row["to_trip_id"]) for row in self.rows["transfers"] if row["transfer_type"] == "4"
+            (row["from_trip_id"], row["to_trip_id"])
+            for row in self.rows["transfers"]
+            if row["transfer_type"] == "4"
         ]
 
     def idle_links(self, days):
@@ -116,7 +142,9 @@ class Feed:
 
     def running(self, day):
         """The ids of the trips of a date."""
-        return {name for service in active_services(self.rows, day) for name in self.of_service[service]}
+        return {
+            name for service in active_services(self.rows, day) for name in self.of_service[service]
+        }
 
     def span(self, name):
         """When a trip leaves its first stop and arrives at its last."""
@@ -126,9 +154,15 @@ class Feed:
     def on(self, day):
         """What is there on a date: the trips, the links whose trips both run on it, and the trips of each block in order."""
         names = self.running(day)
-        links = {(self.trips[one], self.trips[other]) for one, other in self.links if {one, other} <= names}
+        links = {
+            (self.trips[one], self.trips[other])
+            for one, other in self.links
+            if {one, other} <= names
+        }
         blocks = defaultdict(list)
         for name in sorted(names, key=self.span):
             if self.block[name]:
                 blocks[self.block[name]].append(self.trips[name])
-        return OnDate(Counter(self.trips[name] for name in names), links, Counter(map(tuple, blocks.values())))
+        return OnDate(
+            Counter(self.trips[name] for name in names), links, Counter(map(tuple, blocks.values()))
+        )

@@ -9,11 +9,40 @@ from reference.dates import from_yymmdd
 from reference.layouts import TRAIN_BODY
 
 WINDOW = from_yymmdd("260318"), from_yymmdd("260419")
-PLACES = [name.ljust(7) for name in ("ALPHA", "BETA", "GAMMA", "DELTA", "EPSILON", "ZETA", "ETA", "THETA", "IOTA", '"PI",1')]
+PLACES = [
+    name.ljust(7)
+    for name in (
+        "ALPHA",
+        "BETA",
+        "GAMMA",
+        "DELTA",
+        "EPSILON",
+        "ZETA",
+        "ETA",
+        "THETA",
+        "IOTA",
+        '"PI",1',
+    )
+]
 CATEGORIES = ("XX", "OO", "OL", "BR", "BS", "SS", "EE", "H2", "  ")
 OPERATORS = ("SN", "SR", "GX", "ZZ", "  ")
 ENDS = {"LO": "TB", "LT": "TF"}
-STOPPING = ("T ", "T ", "T ", "T -D", "D ", "U ", "R ", "R D ", "T RM", "N ", "-U", "S ", "  ", "T OPKCRM-U")
+STOPPING = (
+    "T ",
+    "T ",
+    "T ",
+    "T -D",
+    "D ",
+    "U ",
+    "R ",
+    "R D ",
+    "T RM",
+    "N ",
+    "-U",
+    "S ",
+    "  ",
+    "T OPKCRM-U",
+)
 
 
 def working_time(now):
@@ -37,7 +66,10 @@ def likely_call(rng, kind, arrives, leaves, advertised):
     codes, passes = ENDS.get(kind) or rng.choice(STOPPING), kind == "LI" and rng.random() < 0.3
     blank, none = " " * 5, "0000"
     fields = {"location": rng.choice(PLACES), "activities": ("" if passes else codes).ljust(12)}
-    fields |= {"arrival": blank if passes else working_time(arrives), "departure": blank if passes else working_time(leaves)}
+    fields |= {
+        "arrival": blank if passes else working_time(arrives),
+        "departure": blank if passes else working_time(leaves),
+    }
     fields |= {"pass": working_time(arrives) if passes else blank}
     fields |= {"public_arrival": none if passes else near(rng, arrives, advertised)}
     fields |= {"public_departure": none if passes else near(rng, leaves, advertised)}
@@ -50,13 +82,18 @@ def likely_journey(rng, advertised):
     lines = []
     for kind in ["LO", *["LI"] * rng.choice([0, 1, 2, 2, 4, 8, 25]), "LT"]:
         arrives = now + rng.choice([1, 2, 7, 20, 60, 240, rng.choice([5, 1500])])
-        now = arrives + (rng.choice([1, 2, 2, 3, 10, rng.choice([20, 2000])]) if kind == "LI" else 0)
+        now = arrives + (
+            rng.choice([1, 2, 2, 3, 10, rng.choice([20, 2000])]) if kind == "LI" else 0
+        )
         lines.append(likely_call(rng, kind, arrives, now, advertised))
     return tuple(lines)
 
 
 def likely_body(rng, advertised):
-    train = dict(made(rng, "BS", TRAIN_BODY)) | {"category": rng.choice(CATEGORIES), "status": rng.choice("PPPP12BS45F")}
+    train = dict(made(rng, "BS", TRAIN_BODY)) | {
+        "category": rng.choice(CATEGORIES),
+        "status": rng.choice("PPPP12BS45F"),
+    }
     extra = dict(made(rng, "BX")) | {"operator_code": rng.choice(OPERATORS)}
     before = () if rng.random() < 0.1 else (("BX", tuple(extra.items())),)
     return Body(tuple(train.items()), before + likely_journey(rng, advertised))
@@ -76,12 +113,16 @@ def schedules_of(rng, uid):
     """A few records of a train, which don't clash."""
     likely = rng.random() < 0.5
     count = rng.choice([1, 2, 2, 3])
-    bodies = [likely_body(rng, rng.random() < 0.75) if likely else any_body(rng) for _ in range(count)]
+    bodies = [
+        likely_body(rng, rng.random() < 0.75) if likely else any_body(rng) for _ in range(count)
+    ]
     records = []
     for _ in range(rng.choice([1, 1, 2, 3, 4])):
         letter = rng.choices("PONC", [60, 20, 5, 15])[0]
         days = some_mask(rng, [record.days for record in records])
-        record = Record("BS", (("uid", uid),), *some_span(rng, WINDOW), days, letter, rng.choice(bodies))
+        record = Record(
+            "BS", (("uid", uid),), *some_span(rng, WINDOW), days, letter, rng.choice(bodies)
+        )
         records += beside(rng, record, records, WINDOW, 0)
     return [as_it_may_stand(rng, record) for record in records]
 
@@ -115,7 +156,9 @@ def linked_train(rng, uid, body):
     records = []
     for _ in range(rng.choice([1, 1, 2])):
         letter = rng.choices("PNO", [80, 5, 15])[0]
-        days = rng.choice(["1111111", "1111111", some_mask(rng, [record.days for record in records])])
+        days = rng.choice(
+            ["1111111", "1111111", some_mask(rng, [record.days for record in records])]
+        )
         record = Record("BS", (("uid", uid),), *long_span(rng), days, letter, body)
         records += beside(rng, record, records, WINDOW, 0)
     return records
@@ -125,20 +168,29 @@ def associated_body(rng, category, place):
     """The body of a train that begins or ends at a place, but now and then doesn't."""
     body = likely_body(rng, rng.random() < 0.9)
     kind = rng.choice(("LO", "LI", "LT")) if rng.random() < 0.1 else OF_ASSOCIATED[category]
-    return replace(body, lines=tuple(at_place(line, place) if line[0] == kind else line for line in body.lines))
+    return replace(
+        body, lines=tuple(at_place(line, place) if line[0] == kind else line for line in body.lines)
+    )
 
 
 def association(rng, base, associated, place, category):
     """The records of an association, of which some cancel it on some dates."""
     key = {"base": base, "associated": associated, "location": place["location"]}
     key |= {"base_suffix": place["suffix"], "associated_suffix": place["suffix"]}
-    body = {"category": category, "date_indicator": rng.choice(INDICATORS), "diagram": "T", "type": rng.choice("PPPPPP O")}
+    body = {
+        "category": category,
+        "date_indicator": rng.choice(INDICATORS),
+        "diagram": "T",
+        "type": rng.choice("PPPPPP O"),
+    }
     records = []
     for letter in ["P", *rng.choice([(), (), ("C",), ("O",)])]:
         if letter == "O":
             body |= {"date_indicator": rng.choice(INDICATORS)}
         days = rng.choice(["1111111", some_mask(rng, [record.days for record in records])])
-        record = Record("AA", tuple(key.items()), *long_span(rng), days, letter, Body(tuple(body.items())))
+        record = Record(
+            "AA", tuple(key.items()), *long_span(rng), days, letter, Body(tuple(body.items()))
+        )
         records += beside(rng, record, records, WINDOW, 0)
     return records
 
@@ -152,7 +204,11 @@ def add_associations(rng, timetable, trains, count):
             timetable.schedules += linked[-1]
         record = rng.choice(rng.choice(linked[-20:]) if rng.random() < 0.9 else trains)
         category = rng.choice(("VV", "VV", "JJ", "JJ", "NP", "NP", "XX"))
-        place, base, associated = place_of(rng, record, category), dict(record.key)["uid"], f"A{number:05}"
+        place, base, associated = (
+            place_of(rng, record, category),
+            dict(record.key)["uid"],
+            f"A{number:05}",
+        )
         if rng.random() < 0.1:
             associated = dict(rng.choice(trains).key)["uid"]
         elif category in OF_ASSOCIATED:
@@ -171,11 +227,16 @@ def extract(rng, count):
     """The bytes of an extract with that many schedules, or a few more."""
     timetable = Timetable(some_header(rng), WINDOW)
     codes = iter(("XYZ", "XYZ", "ABC", "   ", "DEF", "G,H"))
-    timetable.tiplocs = [f"{place}00890500A{place.title():26}032010000{next(codes, 'JKL')}{'':16}" for place in PLACES]
+    timetable.tiplocs = [
+        f"{place}00890500A{place.title():26}032010000{next(codes, 'JKL')}{'':16}"
+        for place in PLACES
+    ]
     numbers = iter(range(count))
     while len(timetable.schedules) < count * 3 // 4:
         timetable.schedules += schedules_of(rng, f"{rng.choice('CWGL ')}{next(numbers):05}")
-    trains = [record for record in timetable.schedules if record.letter != "C" and record.body.lines]
+    trains = [
+        record for record in timetable.schedules if record.letter != "C" and record.body.lines
+    ]
     add_associations(rng, timetable, trains, count // 5)
     while len(timetable.schedules) < count:
         timetable.schedules += schedules_of(rng, f"{rng.choice('CWGL ')}{next(numbers):05}")

@@ -24,13 +24,19 @@ class Journeys:
     def add_run(self, run, calls):
         """Adds a run by its calls: number, station, arrival, departure, set down, pick up."""
         for one, other in zip(calls, calls[1:]):
-            self.rides.append(Ride(one[3], other[2], run, one[0], one[1], other[1], one[5] == "0", other[4] == "0"))
+            self.rides.append(
+                Ride(
+                    one[3], other[2], run, one[0], one[1], other[1], one[5] == "0", other[4] == "0"
+                )
+            )
         self.seats[run, "next"] = {one[0]: other[0] for one, other in zip(calls, calls[1:])}
 
     def earliest(self, origin, start, change, walks, pairs=False):
         """The earliest arrival at each station. With `pairs` nobody stays seated in a train that leaves another one after the
         own train has joined that."""
-        rides = sorted(self.rides, key=lambda ride: (ride.leaves, ride.arrives, str(ride.run), ride.number))
+        rides = sorted(
+            self.rides, key=lambda ride: (ride.leaves, ride.arrives, str(ride.run), ride.number)
+        )
         rides = [ride for ride in rides if start <= ride.leaves < start + 30 * 3600]
         ready, found, aboard = {origin: start}, {}, set()
         known = None
@@ -42,7 +48,9 @@ class Journeys:
                 for joined in False, True:
                     if (ride.run, ride.number, joined) in aboard:
                         self.move(ride, joined, aboard, pairs)
-                        if ride.off and ride.arrives < found.get(ride.destination, ride.arrives + 1):
+                        if ride.off and ride.arrives < found.get(
+                            ride.destination, ride.arrives + 1
+                        ):
                             arrive(ride, ready, found, change, walks)
         return found
 
@@ -58,7 +66,9 @@ class Journeys:
 def arrive(ride, ready, found, change, walks):
     found[ride.destination] = ride.arrives
     station = ride.destination
-    ready[station] = min(ready.get(station, ride.arrives + DAY), ride.arrives + change.get(station, 0))
+    ready[station] = min(
+        ready.get(station, ride.arrives + DAY), ride.arrives + change.get(station, 0)
+    )
     for other, seconds in walks.get(station, {}).items():
         ready[other] = min(ready.get(other, ride.arrives + DAY), ride.arrives + seconds)
 
@@ -99,14 +109,18 @@ def by_definition(days, names, linked=True):
 def by_feed(feed, days, links=True, blocks=False):
     """What a planner finds that knows linked trips, or blocks, or none of both."""
     journeys, first = Journeys(), min(days)
-    stations = {row["stop_id"]: row["parent_station"] or row["stop_id"] for row in feed.rows["stops"]}
+    stations = {
+        row["stop_id"]: row["parent_station"] or row["stop_id"] for row in feed.rows["stops"]
+    }
     for day in [first - timedelta(days=1), *days]:
         start, running = (day - first).days * DAY, feed.running(day)
         numbers = {}
         for name in running:
             calls = [
                 (number, stations[stop], start + arrival, start + departure, set_down, pick_up)
-                for number, (stop, arrival, departure, set_down, pick_up) in enumerate(feed.trips[name].calls)
+                for number, (stop, arrival, departure, set_down, pick_up) in enumerate(
+                    feed.trips[name].calls
+                )
             ]
             journeys.add_run((name, day), calls)
             numbers[name] = len(calls) - 1

@@ -4,7 +4,10 @@ pair, leave out the place where they meet, or cancel it."""
 WINDOW = "260302", "260322"
 HEADER = "HDTPS.UTEST01.PD2603010103262000DFTEST1       FA020326220326"
 MAIN = [f"MAIN{number}" for number in range(8)]
-BRANCHES = {"MAIN3": [f"WEST{number}" for number in range(3)], "MAIN5": [f"EAST{number}" for number in range(3)]}
+BRANCHES = {
+    "MAIN3": [f"WEST{number}" for number in range(3)],
+    "MAIN5": [f"EAST{number}" for number in range(3)],
+}
 STATIONS = [*MAIN, *(place for branch in BRANCHES.values() for place in branch)]
 CRS = {place: f"{place[0]}{place[2]}{place[-1]}" for place in STATIONS}
 DAILY, WEEKDAYS, WEEKENDS = "1111111", "1111100", "0000011"
@@ -21,7 +24,12 @@ class Run:
         self.calls = calls
 
     def later(self, minutes):
-        return Run([(place, arrival + minutes, departure + minutes, public) for place, arrival, departure, public in self.calls])
+        return Run(
+            [
+                (place, arrival + minutes, departure + minutes, public)
+                for place, arrival, departure, public in self.calls
+            ]
+        )
 
     def without(self, place):
         """The same without a call on the way."""
@@ -63,7 +71,9 @@ class Network:
         return f"N{self.count:05}"
 
     def schedule(self, uid, run, dates=WINDOW, days=DAILY, letter="P"):
-        self.lines.append(f"BSN{uid}{''.join(dates)}{days} POO1N01    122104000 DMU    075      S            {letter}")
+        self.lines.append(
+            f"BSN{uid}{''.join(dates)}{days} POO1N01    122104000 DMU    075      S            {letter}"
+        )
         self.lines += ["BX         SRY", *run.lines()]
 
     def train(self, run, meets, days):
@@ -71,7 +81,9 @@ class Network:
         uid, rng = self.uid(), self.rng
         self.schedule(uid, run, days=days)
         for first, last in (("260305", "260308"), ("260310", "260312"), ("260316", "260318")):
-            change = rng.choice(["none", "none", "none", "later", "earlier", "without", "cancelled"])
+            change = rng.choice(
+                ["none", "none", "none", "later", "earlier", "without", "cancelled"]
+            )
             if change == "later":
                 self.schedule(uid, run.later(rng.choice([3, 12, 40])), (first, last), days, "O")
             elif change == "earlier":
@@ -127,7 +139,11 @@ class Network:
     def add_next(self, base, run, days):
         """A train as which another one goes on."""
         place, arrival, _, _ = run.calls[-1]
-        back = journey(self.rng, MAIN if place == MAIN[0] else MAIN[::-1], arrival + self.rng.choice([0, 4, 30, 400]))
+        back = journey(
+            self.rng,
+            MAIN if place == MAIN[0] else MAIN[::-1],
+            arrival + self.rng.choice([0, 4, 30, 400]),
+        )
         indicator = "SNX"[back.calls[0][2] // 1440]
         self.associate(base, self.train(back, MAIN[4], days), "NP", indicator, place, DAILY)
 

@@ -1,7 +1,10 @@
 """The files that cif-gtfs-csv makes of made-up public ones, whose layouts are those of companions/cif_gtfs_csv."""
 import csv
 import io
+from math import degrees
 from pathlib import Path
+
+from cif_gtfs_csv.grid import latitude_and_longitude, on_airy
 
 NAPTAN = """\
 ATCOCode,NaptanCode,CommonName,Street,GridType,Easting,Northing,Longitude,Latitude,StopType
@@ -41,7 +44,10 @@ MSN = [
     "Z    ",
 ]
 # The points are 527.3 km east and 175.5 km north of the grid's origin, and 528.9 and 179.0 km.
-OF_MSN = {"CLPHMJC": ("Clapham Junction", 51.4642, -0.1689), "VICTRIC": ("London Victoria", 51.4953, -0.1446)}
+OF_MSN = {
+    "CLPHMJC": ("Clapham Junction", 51.4642, -0.1689),
+    "VICTRIC": ("London Victoria", 51.4953, -0.1446),
+}
 OF_MSN |= {"VICTRIE": OF_MSN["VICTRIC"], "STFDAVN": ("Stratford-upon-Avon", None, None)}
 INTERCHANGE = "crs,minutes\nCLJ,10\nSAV,5\nVIC,15\n"
 ALF = """\
@@ -55,7 +61,10 @@ M=TUBE,O=WAT,D=EUS,T=25,S=0600,E=2359,P=5,R=1111100
 LINKS = "from,to,minutes\nEUS,KGX,12\nEUS,WAT,25\nKGX,EUS,10\nWAT,EUS,25\n"
 
 # A point whose coordinates the Ordnance Survey's guide to its grid has, from memory: on the grid, and on the grid's datum.
-POINT, ON_AIRY = (651409.903, 313177.270), (52 + 39 / 60 + 27.2531 / 3600, 1 + 43 / 60 + 4.5177 / 3600)
+POINT, ON_AIRY = (651409.903, 313177.270), (
+    52 + 39 / 60 + 27.2531 / 3600,
+    1 + 43 / 60 + 4.5177 / 3600,
+)
 # The same point in WGS 84, and how near that is reached, in degrees.
 IN_WGS_84, NEAR = (52 + 39 / 60 + 28.8282 / 3600, 1 + 42 / 60 + 57.8663 / 3600), 0.00007
 
@@ -68,20 +77,41 @@ def with_record(*fields):
 BAD = {
     "naptan-places": (
         ("ATCOCode,CommonName,Longitude\n", "line 1: the field Latitude is missing or double"),
-        (NAPTAN + "9100HOVE,,Hove,,,,,-0.2,ninety,RLY\n", "line 10: Latitude `ninety` isn't a number of degrees from -90 to 90"),
-        (NAPTAN + "9100HOVE,,Hove,,,,,-0.2,,RLY\n", "line 10: one of Longitude and Latitude is missing"),
+        (
+            NAPTAN + "9100HOVE,,Hove,,,,,-0.2,ninety,RLY\n",
+            "line 10: Latitude `ninety` isn't a number of degrees from -90 to 90",
+        ),
+        (
+            NAPTAN + "9100HOVE,,Hove,,,,,-0.2,,RLY\n",
+            "line 10: one of Longitude and Latitude is missing",
+        ),
         (NAPTAN + "9100HOVE,,Hove\n", "line 10: 3 fields, and the first line has 10"),
-        (NAPTAN + "9100HOVE,,Hove,,,1,east,,,RLY\n", "line 10: Northing `east` isn't a number of metres"),
+        (
+            NAPTAN + "9100HOVE,,Hove,,,1,east,,,RLY\n",
+            "line 10: Northing `east` isn't a number of metres",
+        ),
     ),
     "msn-places": (
         (with_record("", "HOV", "15288", "61055", 5), "line 8: the TIPLOC is missing"),
-        (with_record("HOVE", "HOV", "25288", "61055", 5), "line 8: easting `25288` isn't 1 and four digits"),
-        (with_record("HOVE", "HOV", "15288", "6105", 5), "line 8: northing `6105` isn't 6 and four digits"),
+        (
+            with_record("HOVE", "HOV", "25288", "61055", 5),
+            "line 8: easting `25288` isn't 1 and four digits",
+        ),
+        (
+            with_record("HOVE", "HOV", "15288", "6105", 5),
+            "line 8: northing `6105` isn't 6 and four digits",
+        ),
         (NAPTAN, "line 2: no record of MSN begins so"),
     ),
     "msn-interchange": (
-        (with_record("HOVE", "H", "15288", "61055", 5), "line 8: CRS code `H` isn't three letters or digits"),
-        (with_record("HOVE", "HOV", "15288", "61055", ""), "line 8: minimum time of change `` isn't one or two digits"),
+        (
+            with_record("HOVE", "H", "15288", "61055", 5),
+            "line 8: CRS code `H` isn't three letters or digits",
+        ),
+        (
+            with_record("HOVE", "HOV", "15288", "61055", ""),
+            "line 8: minimum time of change `` isn't one or two digits",
+        ),
     ),
     "alf-links": (
         (ALF + "M=WALK,O=EUS,T=10\n", "line 7: D= isn't a CRS code"),
@@ -94,26 +124,30 @@ def check_places_of_master(counts, text):
     rows = list(csv.DictReader(io.StringIO(text, newline="")))
     counts.same("msn-places, TIPLOCs", sorted(OF_MSN), [row["tiploc"] for row in rows])
     for row in rows:
-        name, *degrees = OF_MSN[row["tiploc"]]
+        name, *place = OF_MSN[row["tiploc"]]
         got = [float(row[field]) if row[field] else None for field in ("latitude", "longitude")]
-        near = all(abs(one - other) < 0.001 if one else one == other for one, other in zip(degrees, got))
+        near = all(
+            abs(one - other) < 0.001 if one else one == other for one, other in zip(place, got)
+        )
         counts.test(f"msn-places, {row['tiploc']}", row["name"] == name and near, row)
 
 
 def check_grid(counts):
-    from math import degrees
-
-    from cif_gtfs_csv.grid import latitude_and_longitude, on_airy
-
     for name, want, got, near in (
         ("on the grid's datum", ON_AIRY, tuple(map(degrees, on_airy(*POINT))), 0.00000001),
         ("in WGS 84", IN_WGS_84, latitude_and_longitude(*POINT), NEAR),
     ):
-        counts.test(f"a point {name}", all(abs(one - other) < near for one, other in zip(want, got)), got)
+        counts.test(
+            f"a point {name}", all(abs(one - other) < near for one, other in zip(want, got)), got
+        )
 
 
 def check(counts, maker):
-    inputs = {"naptan-places": NAPTAN, "msn-places": "\r\n".join(MSN) + "\r\n", "msn-interchange": "\n".join(MSN)}
+    inputs = {
+        "naptan-places": NAPTAN,
+        "msn-places": "\r\n".join(MSN) + "\r\n",
+        "msn-interchange": "\n".join(MSN),
+    }
     inputs["alf-links"] = ALF
     outputs = {}
     for kind, text in inputs.items():
@@ -124,14 +158,30 @@ def check(counts, maker):
         for bad, told in BAD[kind]:
             (maker.folder / "bad").write_text(bad)
             done = maker.run(kind, "bad", program="cif-gtfs-csv")
-            counts.same(f"{kind}, {told}", (3, "", f"cif-gtfs-csv: bad: {told}\n"), (done.returncode, done.stdout, done.stderr))
-    for kind, want in ("naptan-places", OF_NAPTAN), ("msn-interchange", INTERCHANGE), ("alf-links", LINKS):
+            counts.same(
+                f"{kind}, {told}",
+                (3, "", f"cif-gtfs-csv: bad: {told}\n"),
+                (done.returncode, done.stdout, done.stderr),
+            )
+    for kind, want in (
+        ("naptan-places", OF_NAPTAN),
+        ("msn-interchange", INTERCHANGE),
+        ("alf-links", LINKS),
+    ):
         counts.same(kind, want, outputs[kind])
     check_places_of_master(counts, outputs["msn-places"])
     check_grid(counts)
-    for words, status in (("alf-links", "missing"), 4), (("alf-links",), 2), (("alf", "alf-links"), 2):
+    for words, status in (
+        (("alf-links", "missing"), 4),
+        (("alf-links",), 2),
+        (("alf", "alf-links"), 2),
+    ):
         done = maker.run(*words, program="cif-gtfs-csv")
-        counts.test(f"cif-gtfs-csv {' '.join(words)}", done.returncode == status and done.stderr and not done.stdout, done)
+        counts.test(
+            f"cif-gtfs-csv {' '.join(words)}",
+            done.returncode == status and done.stderr and not done.stdout,
+            done,
+        )
     check_taken(counts, maker, outputs)
 
 
@@ -144,4 +194,6 @@ def check_taken(counts, maker, outputs):
     example = Path(__file__).resolve().parents[2] / "examples" / "timetable.cif"
     for name, path in options:
         done = maker.run(f"--{name}", path, example)
-        counts.test(f"cif-gtfs with {path}", done.returncode == 1 and "line" not in done.stderr, done.stderr)
+        counts.test(
+            f"cif-gtfs with {path}", done.returncode == 1 and "line" not in done.stderr, done.stderr
+        )

@@ -20,12 +20,22 @@ TYPES = "0|1|2|3|4|5|6|7|11|12|1\\d\\d|714"
 
 # Of each file the fields that have to have a value, and those that may, with their forms; and its key.
 REQUIRED = {
-    "agency": {"agency_id": ANY, "agency_name": ANY, "agency_url": WEB, "agency_timezone": r"[A-Z]\w+/[A-Z]\w+"},
+    "agency": {
+        "agency_id": ANY,
+        "agency_name": ANY,
+        "agency_url": WEB,
+        "agency_timezone": r"[A-Z]\w+/[A-Z]\w+",
+    },
     "stops": {"stop_id": ANY, "stop_name": ANY},
     "routes": {"route_id": ANY, "agency_id": ANY, "route_type": TYPES},
     "trips": {"route_id": ANY, "service_id": ANY, "trip_id": ANY},
     "stop_times": {"trip_id": ANY, "stop_id": ANY, "stop_sequence": WHOLE},
-    "calendar": {"service_id": ANY, **dict.fromkeys(WEEKDAYS, "0|1"), "start_date": DATE, "end_date": DATE},
+    "calendar": {
+        "service_id": ANY,
+        **dict.fromkeys(WEEKDAYS, "0|1"),
+        "start_date": DATE,
+        "end_date": DATE,
+    },
     "calendar_dates": {"service_id": ANY, "date": DATE, "exception_type": "1|2"},
     "transfers": {"transfer_type": "[0-5]"},
     "feed_info": {"feed_publisher_name": ANY, "feed_publisher_url": WEB, "feed_lang": "[a-z]{2}"},
@@ -38,7 +48,12 @@ OPTIONAL = {
     },
     "routes": {"route_short_name": ANY, "route_long_name": ANY},
     "trips": {"trip_headsign": ANY, "trip_short_name": ANY, "direction_id": "0|1", "block_id": ANY},
-    "stop_times": {"arrival_time": TIME, "departure_time": TIME, "pickup_type": "[0-3]", "drop_off_type": "[0-3]"},
+    "stop_times": {
+        "arrival_time": TIME,
+        "departure_time": TIME,
+        "pickup_type": "[0-3]",
+        "drop_off_type": "[0-3]",
+    },
     "calendar": {},
     "calendar_dates": {},
     "transfers": {
@@ -46,13 +61,27 @@ OPTIONAL = {
         "min_transfer_time": WHOLE,
     },
     "feed_info": {
-        **{"feed_start_date": DATE, "feed_end_date": DATE, "feed_version": ANY, "default_lang": "[a-z]{2}"},
+        **{
+            "feed_start_date": DATE,
+            "feed_end_date": DATE,
+            "feed_version": ANY,
+            "default_lang": "[a-z]{2}",
+        },
         **{"feed_contact_email": ANY, "feed_contact_url": WEB},
     },
 }
 KEYS = {
-    **{"agency": ("agency_id",), "stops": ("stop_id",), "routes": ("route_id",), "trips": ("trip_id",)},
-    **{"stop_times": ("trip_id", "stop_sequence"), "calendar": ("service_id",), "calendar_dates": ("service_id", "date")},
+    **{
+        "agency": ("agency_id",),
+        "stops": ("stop_id",),
+        "routes": ("route_id",),
+        "trips": ("trip_id",),
+    },
+    **{
+        "stop_times": ("trip_id", "stop_sequence"),
+        "calendar": ("service_id",),
+        "calendar_dates": ("service_id", "date"),
+    },
     **{"transfers": ("from_stop_id", "to_stop_id", "from_trip_id", "to_trip_id"), "feed_info": ()},
 }
 REFERENCES = (
@@ -66,7 +95,12 @@ REFERENCES = (
     ("transfers", "from_trip_id", "trips", "trip_id"),
     ("transfers", "to_trip_id", "trips", "trip_id"),
 )
-MIXED_CASE = {"agency": "agency_name", "stops": "stop_name", "routes": "route_long_name", "trips": "trip_headsign"}
+MIXED_CASE = {
+    "agency": "agency_name",
+    "stops": "stop_name",
+    "routes": "route_long_name",
+    "trips": "trip_headsign",
+}
 OUTSIDE_RANGE = {"stop_lat": 90, "stop_lon": 180}
 STOP, STATION = ("", "0"), "1"
 IN_SEAT = ("4", "5")
@@ -120,8 +154,16 @@ def check_fields(feed):
         heading = next(csv.reader(io.StringIO(feed.texts[name], newline="")))
         missing = [f"{name}, {field}" for field in REQUIRED.get(name, {}) if field not in heading]
         feed.note(ERROR, "missing_required_column", *missing)
-        feed.note(WARNING, "unknown_column", *(f"{name}, {field}" for field in heading if field not in forms))
-        feed.note(ERROR, "duplicated_column", *(field for field, count in Counter(heading).items() if count > 1))
+        feed.note(
+            WARNING,
+            "unknown_column",
+            *(f"{name}, {field}" for field in heading if field not in forms),
+        )
+        feed.note(
+            ERROR,
+            "duplicated_column",
+            *(field for field, count in Counter(heading).items() if count > 1),
+        )
         for row in rows:
             if None in row or None in row.values():
                 feed.note(ERROR, "invalid_row_length", f"{name}: {row}")
@@ -144,14 +186,22 @@ def check_value(feed, name, row, field, form):
         feed.note(WARNING, "leading_or_trailing_whitespaces", f"{name}, {field}: {value!r}")
     if field.endswith("_id") and not re.fullmatch("[!-~]+", value):
         feed.note(WARNING, "non_ascii_or_non_printable_char", f"{name}, {field}: {value!r}")
-    if field == MIXED_CASE.get(name) and re.search("[A-Z]{2}", value) and not re.search("[a-z]", value):
+    if (
+        field == MIXED_CASE.get(name)
+        and re.search("[A-Z]{2}", value)
+        and not re.search("[a-z]", value)
+    ):
         feed.note(WARNING, "mixed_case_recommended_field", f"{name}, {field}: {value}")
 
 
 def check_keys(feed):
     for name, key in KEYS.items():
         counts = Counter(tuple(row.get(field, "") for field in key) for row in feed.all(name))
-        feed.note(ERROR, "duplicate_key", *(f"{name}: {values}" for values, count in counts.items() if count > 1))
+        feed.note(
+            ERROR,
+            "duplicate_key",
+            *(f"{name}: {values}" for values, count in counts.items() if count > 1),
+        )
 
 
 def values(feed, name, field):
@@ -161,7 +211,9 @@ def values(feed, name, field):
 def check_references(feed):
     for name, field, other, key in REFERENCES:
         unknown = values(feed, name, field) - values(feed, other, key) - {""}
-        feed.note(ERROR, "foreign_key_violation", *(f"{name}, {field}: {value}" for value in unknown))
+        feed.note(
+            ERROR, "foreign_key_violation", *(f"{name}, {field}: {value}" for value in unknown)
+        )
     services = values(feed, "calendar", "service_id") | values(feed, "calendar_dates", "service_id")
     unknown = values(feed, "trips", "service_id") - services
     feed.note(ERROR, "foreign_key_violation", *(f"trips, service_id: {value}" for value in unknown))
@@ -171,7 +223,9 @@ def check_references(feed):
         ("routes", "route_id", "trips"),
         ("trips", "trip_id", "stop_times"),
     ):
-        feed.note(WARNING, f"unused_{name}", *(values(feed, name, field) - values(feed, other, field)))
+        feed.note(
+            WARNING, f"unused_{name}", *(values(feed, name, field) - values(feed, other, field))
+        )
     feed.note(WARNING, "unused_service", *(services - values(feed, "trips", "service_id")))
 
 
@@ -205,7 +259,9 @@ def check_routes(feed):
         names[short, long, row["route_type"], row["agency_id"]] += 1
         if not short and not long:
             feed.note(ERROR, "route_both_short_and_long_name_missing", row["route_id"])
-    feed.note(WARNING, "duplicate_route_name", *(name for name, count in names.items() if count > 1))
+    feed.note(
+        WARNING, "duplicate_route_name", *(name for name, count in names.items() if count > 1)
+    )
     if len(values(feed, "agency", "agency_timezone")) > 1:
         feed.note(ERROR, "inconsistent_agency_timezone", "")
     if len(languages) > 1:
@@ -216,8 +272,13 @@ def kilometres(one, other):
     """The distance of two stops, or 0 where one has no coordinates."""
     if not all(stop["stop_lat"] and stop["stop_lon"] for stop in (one, other)):
         return 0
-    here, there = ([radians(float(stop[field])) for field in ("stop_lat", "stop_lon")] for stop in (one, other))
-    half = sin((there[0] - here[0]) / 2) ** 2 + cos(here[0]) * cos(there[0]) * sin((there[1] - here[1]) / 2) ** 2
+    here, there = (
+        [radians(float(stop[field])) for field in ("stop_lat", "stop_lon")] for stop in (one, other)
+    )
+    half = (
+        sin((there[0] - here[0]) / 2) ** 2
+        + cos(here[0]) * cos(there[0]) * sin((there[1] - here[1]) / 2) ** 2
+    )
     return 2 * 6371 * asin(sqrt(half))
 
 
@@ -230,23 +291,44 @@ def check_trips(feed):
         if any(not row["arrival_time"] or not row["departure_time"] for row in calls):
             feed.note(ERROR, "missing_trip_edge", trip["trip_id"])
             continue
-        times = [seconds_of(row[field]) for row in calls for field in ("arrival_time", "departure_time")]
+        times = [
+            seconds_of(row[field]) for row in calls for field in ("arrival_time", "departure_time")
+        ]
         if times != sorted(times):
-            feed.note(ERROR, "stop_time_with_arrival_before_previous_departure_time", trip["trip_id"])
+            feed.note(
+                ERROR, "stop_time_with_arrival_before_previous_departure_time", trip["trip_id"]
+            )
         fastest = FASTEST.get(types.get(trip["route_id"]), 500)
         for before, after in zip(calls, calls[1:]):
             ends = [feed.stops.get(row["stop_id"]) for row in (before, after)]
-            hours = max(seconds_of(after["arrival_time"]) - seconds_of(before["departure_time"]), 60) / 3600
+            hours = (
+                max(seconds_of(after["arrival_time"]) - seconds_of(before["departure_time"]), 60)
+                / 3600
+            )
             if None not in ends and kilometres(*ends) / hours > fastest:
-                feed.note(WARNING, "fast_travel_between_consecutive_stops", f"{trip['trip_id']}: {after['stop_sequence']}")
+                feed.note(
+                    WARNING,
+                    "fast_travel_between_consecutive_stops",
+                    f"{trip['trip_id']}: {after['stop_sequence']}",
+                )
 
 
 def check_services(feed):
-    for name, first, last in ("calendar", "start_date", "end_date"), ("feed_info", "feed_start_date", "feed_end_date"):
+    for name, first, last in ("calendar", "start_date", "end_date"), (
+        "feed_info",
+        "feed_start_date",
+        "feed_end_date",
+    ):
         wrong = [row for row in feed.all(name) if row[first] > row[last]]
         feed.note(ERROR, "start_and_end_range_out_of_order", *wrong)
-    added = {row["service_id"] for row in feed.all("calendar_dates") if row["exception_type"] == "1"}
-    regular = {row["service_id"] for row in feed.all("calendar") if any(row[day] == "1" for day in WEEKDAYS)}
+    added = {
+        row["service_id"] for row in feed.all("calendar_dates") if row["exception_type"] == "1"
+    }
+    regular = {
+        row["service_id"]
+        for row in feed.all("calendar")
+        if any(row[day] == "1" for day in WEEKDAYS)
+    }
     every = values(feed, "calendar", "service_id") | values(feed, "calendar_dates", "service_id")
     feed.note(WARNING, "service_never_active", *(every - added - regular))
 

@@ -1,7 +1,6 @@
 """The help of cif-gtfs and cif-gtfs-csv against their manual page and the completions for bash, zsh and fish."""
 import re
 import subprocess
-from pathlib import Path
 
 from .checks import COMPANIONS, TOP
 
@@ -31,7 +30,9 @@ printf '%s\\n' "${COMPREPLY[@]}"
 
 
 def help_of(name):
-    return subprocess.run([COMPANIONS / name, "--help"], capture_output=True, check=True, text=True).stdout
+    return subprocess.run(
+        [COMPANIONS / name, "--help"], capture_output=True, check=True, text=True
+    ).stdout
 
 
 def options_in(text):
@@ -46,7 +47,11 @@ def options_of_help(text):
 
 def options_of_page(text):
     tags = re.findall(r"^\.It (Fl .*)$", text, re.MULTILINE)
-    return options_in(re.sub(r"Fl (?:Fl )?", lambda flag: "--" if flag[0].count("Fl") > 1 else "-", "\n".join(tags)))
+    return options_in(
+        re.sub(
+            r"Fl (?:Fl )?", lambda flag: "--" if flag[0].count("Fl") > 1 else "-", "\n".join(tags)
+        )
+    )
 
 
 def options_of_fish(text):
@@ -60,8 +65,13 @@ def options_of_zsh(text):
 
 def offered(line):
     *words, last = line.split(" ")
-    completion = TOP / "completions" / f"{words[0]}.bash"
-    done = subprocess.run(["bash", "-c", BASH, "bash", completion, *words, last], capture_output=True, text=True, check=False)
+    path = TOP / "completions" / f"{words[0]}.bash"
+    done = subprocess.run(
+        ["bash", "-c", BASH, "bash", path, *words, last],
+        capture_output=True,
+        text=True,
+        check=False,
+    )
     return done.stdout.split() + done.stderr.splitlines()
 
 
@@ -73,19 +83,31 @@ def check(counts):
     page = (TOP / "man" / "cif-gtfs.1").read_text()
     for name in PROGRAMS:
         text = help_of(name)
-        counts.test(f"{name} --help, width", all(len(line) <= WIDTH for line in text.splitlines()), text)
+        counts.test(
+            f"{name} --help, width", all(len(line) <= WIDTH for line in text.splitlines()), text
+        )
         options = options_of_help(text)
         counts.test(f"{name} --help, options", {"-h", "--help"} <= options, options)
         counts.same(f"{name}, options for zsh", options, options_of_zsh(completion(f"_{name}")))
-        counts.same(f"{name}, options for fish", options, options_of_fish(completion(f"{name}.fish")))
+        counts.same(
+            f"{name}, options for fish", options, options_of_fish(completion(f"{name}.fish"))
+        )
         counts.same(f"{name}, options for bash", sorted(options), sorted(offered(f"{name} -")))
-    counts.same("cif-gtfs, options in cif-gtfs.1", options_of_help(help_of("cif-gtfs")), options_of_page(page))
+    counts.same(
+        "cif-gtfs, options in cif-gtfs.1",
+        options_of_help(help_of("cif-gtfs")),
+        options_of_page(page),
+    )
     synopsis = page.partition(".Sh SYNOPSIS")[2].partition(".Sh DESCRIPTION")[0]
     words = re.findall(r"^\.Op Fl (?:Fl )?([\w-]+)", synopsis, re.MULTILINE)
     usage = re.findall(r"\[--?([\w-]+)", help_of("cif-gtfs").partition("\n\n")[0])
     counts.same("cif-gtfs, SYNOPSIS", [word for word in usage if word not in ("h", "V")], words)
     kinds = re.findall(r"^  ([a-z]+-[a-z]+) ", help_of("cif-gtfs-csv"), re.MULTILINE)
-    counts.same("cif-gtfs-csv, kinds in cif-gtfs.1", kinds, re.findall(r"^\.It Cm ([\w-]+)", page, re.MULTILINE))
+    counts.same(
+        "cif-gtfs-csv, kinds in cif-gtfs.1",
+        kinds,
+        re.findall(r"^\.It Cm ([\w-]+)", page, re.MULTILINE),
+    )
     for name in "_cif-gtfs-csv", "cif-gtfs-csv.fish", "cif-gtfs-csv.bash":
         counts.test(f"cif-gtfs-csv, kinds in {name}", " ".join(kinds) in completion(name), kinds)
     statuses = re.findall(r"^  (\d)  ", help_of("cif-gtfs"), re.MULTILINE)

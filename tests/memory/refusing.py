@@ -36,7 +36,9 @@ class Answer(NamedTuple):
 
 def library(work):
     """Builds the library that refuses, with the compiler of the kit that proves the program."""
-    kit = Path(subprocess.run(["rt", "doc"], stdout=subprocess.PIPE, text=True, check=True).stdout.strip()).parent
+    kit = Path(
+        subprocess.run(["rt", "doc"], stdout=subprocess.PIPE, text=True, check=True).stdout.strip()
+    ).parent
     tools = kit / "toolchain" / "bin"
     built = work / "refuse_nth.so"
     flags = ["-shared", "-fPIC", "-O1", "-nostdlib", f"--ld-path={tools / 'ld.lld'}"]
@@ -51,7 +53,9 @@ class Refusing:
         os.dup2(os.open(work / "told", os.O_CREAT | os.O_RDWR), TOLD)
         self.program = Path(program).resolve()
         self.work = work
-        self.outputs = [os.open(work / name, os.O_CREAT | os.O_RDWR) for name in ("stdout", "stderr")] + [TOLD]
+        self.outputs = [
+            os.open(work / name, os.O_CREAT | os.O_RDWR) for name in ("stdout", "stderr")
+        ] + [TOLD]
         self.environment = {**os.environ, "LD_PRELOAD": str(library(work))}
         self.rows = read_rows(files)
         self.passed = self.failed = 0
@@ -78,7 +82,9 @@ class Refusing:
                 stderr=self.outputs[1],
                 pass_fds=[TOLD],
             )
-        stdout, stderr, told = (os.pread(output, os.fstat(output).st_size, 0) for output in self.outputs)
+        stdout, stderr, told = (
+            os.pread(output, os.fstat(output).st_size, 0) for output in self.outputs
+        )
         sizes = [int.from_bytes(told[at : at + 8], "little") for at in range(0, len(told), 8)]
         return Answer(status, stdout, stderr, sizes)
 

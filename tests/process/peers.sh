@@ -1,3 +1,4 @@
+# shellcheck shell=sh
 # The trials of tests/process/run with standard streams, devices, fifos and limits. They also need cat, cp, dd, env,
 # mkfifo, timeout and wc.
 

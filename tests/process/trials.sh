@@ -1,3 +1,4 @@
+# shellcheck shell=sh
 # The trials of tests/process/run with the preloaded library. They also need cp, dd, env, tr and wc.
 
 READ_FAULT="cif: ReadFault"
@@ -87,6 +88,7 @@ owes() {
 
 # tells PATTERN: whether the library says so
 tells() {
+    # shellcheck disable=SC2254 # it is a pattern
     case $told in
     $1) ;;
     *) return 1 ;;

@@ -19,7 +19,9 @@ def sign_on(entries, day, window):
 
 def calendar(extract, uid):
     """The lines of each week that has a date of the window."""
-    entries, window = [entry for entry in extract.schedules if entry.key == (uid,)], window_of(extract)
+    entries, window = [entry for entry in extract.schedules if entry.key == (uid,)], window_of(
+        extract
+    )
     lines, monday = [HEADING], monday_of(window[0])
     while monday <= window[1]:
         name = " " * 6 if monday < FIRST_OF_ALL else yymmdd(monday)

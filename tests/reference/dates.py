@@ -19,12 +19,16 @@ def named(year, month, day):
 
 def from_yymmdd(text):
     """The date of six digits yymmdd, or None."""
-    return named(int(text[:2]), int(text[2:4]), int(text[4:])) if SIX_DIGITS.fullmatch(text) else None
+    return (
+        named(int(text[:2]), int(text[2:4]), int(text[4:])) if SIX_DIGITS.fullmatch(text) else None
+    )
 
 
 def from_ddmmyy(text):
     """The date of six digits ddmmyy, or None."""
-    return named(int(text[4:]), int(text[2:4]), int(text[:2])) if SIX_DIGITS.fullmatch(text) else None
+    return (
+        named(int(text[4:]), int(text[2:4]), int(text[:2])) if SIX_DIGITS.fullmatch(text) else None
+    )
 
 
 def yymmdd(day):

@@ -10,7 +10,12 @@ def marked(entries, day):
     """The records of one key that apply on the date, each with its mark."""
     winning = winners(entries, day)
     mark = WINS if len({entry.body for entry in winning}) == 1 else CLASH
-    applying = [entry for letter in "CNOP" for entry in entries if entry.letter == letter and applies(entry, day)]
+    applying = [
+        entry
+        for letter in "CNOP"
+        for entry in entries
+        if entry.letter == letter and applies(entry, day)
+    ]
     return [(mark if entry in winning else HIDDEN, entry) for entry in applying]
 
 
@@ -29,7 +34,9 @@ def explained(extract, uid, day):
 def line_of(mark, kind, entry):
     fields_of = association_fields if kind == "AA" else train_fields
     said = " ".join(entry.key) if entry.letter == "C" else fields_of(entry.key, entry.body)
-    return " ".join([mark, kind, entry.letter, yymmdd(entry.first), yymmdd(entry.last), entry.days, said])
+    return " ".join(
+        [mark, kind, entry.letter, yymmdd(entry.first), yymmdd(entry.last), entry.days, said]
+    )
 
 
 def explanation(extract, uid, day):

@@ -155,7 +155,9 @@ BODIES = {"AA": ASSOCIATION_BODY, "BS": TRAIN_BODY}
 
 # The fields that are read of a deleted record.
 OF_DELETED = {
-    kind: [field for field in LAYOUTS[kind] if field.name in ("transaction", "first", "letter", *names)]
+    kind: [
+        field for field in LAYOUTS[kind] if field.name in ("transaction", "first", "letter", *names)
+    ]
     for kind, names in KEYS.items()
 }
 
@@ -188,7 +190,10 @@ def read(kind, line, instead):
 
 def is_reversed(kind, fields):
     """Whether the first date of a record is after its last date, if it has one."""
-    return fields["last"] != values.OPEN_END and window_of(kind, fields)[0] > window_of(kind, fields)[1]
+    return (
+        fields["last"] != values.OPEN_END
+        and window_of(kind, fields)[0] > window_of(kind, fields)[1]
+    )
 
 
 def window_of(kind, fields):

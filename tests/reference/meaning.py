@@ -34,7 +34,10 @@ def name_of(key):
 
 def by_key(entries):
     """The keys, rising, each with its records in their order."""
-    return [(key, [entry for entry in entries if entry.key == key]) for key in sorted({entry.key for entry in entries})]
+    return [
+        (key, [entry for entry in entries if entry.key == key])
+        for key in sorted({entry.key for entry in entries})
+    ]
 
 
 def running(entries, days):
@@ -58,7 +61,11 @@ def clash_dates(extract):
     found = {}
     for entries in extract.associations, extract.schedules:
         for key, of_key in by_key(entries):
-            days = [day for day in dates_of(window_of(extract)) if len({entry.body for entry in winners(of_key, day)}) > 1]
+            days = [
+                day
+                for day in dates_of(window_of(extract))
+                if len({entry.body for entry in winners(of_key, day)}) > 1
+            ]
             if days:
                 found[key] = days
     return found
@@ -66,7 +73,9 @@ def clash_dates(extract):
 
 def all_clashes(extract):
     """The same, with the name of its first clash."""
-    return {key: f"{name_of(key)} on {yymmdd(days[0])}" for key, days in clash_dates(extract).items()}
+    return {
+        key: f"{name_of(key)} on {yymmdd(days[0])}" for key, days in clash_dates(extract).items()
+    }
 
 
 class Meaning:

@@ -2,7 +2,12 @@
 from collections import namedtuple
 
 HALF_DAY, DAY, HOUR = 43200, 86400, 3600
-NOT_SHOWN, SETS_DOWN, PICKS_UP, ON_REQUEST = {"N ", "S "}, {"T ", "D ", "TF"}, {"T ", "U ", "TB"}, "R "
+NOT_SHOWN, SETS_DOWN, PICKS_UP, ON_REQUEST = (
+    {"N ", "S "},
+    {"T ", "D ", "TF"},
+    {"T ", "U ", "TB"},
+    "R ",
+)
 
 # A call as its cells in the table `calls` have it: its number, and the fields by their names.
 Call = namedtuple("Call", "number cells")
@@ -30,7 +35,9 @@ def reached_and_left(calls):
     """For each timed call the moments at which it is reached and left, by its working times; None for the others."""
     found, before = [], None
     for call in calls:
-        arrival, departure, passing = (seconds_of(call.cells[name]) for name in ("arrival", "departure", "pass"))
+        arrival, departure, passing = (
+            seconds_of(call.cells[name]) for name in ("arrival", "departure", "pass")
+        )
         reached, left = first_of(arrival, passing, departure), first_of(departure, passing, arrival)
         if reached is None:
             found.append(None)
@@ -45,7 +52,10 @@ def set_down_and_pick_up(codes, arrives, departs):
     """Both cells: 0 yes, 1 no, 3 on request."""
     sets_down, picks_up = bool(codes & SETS_DOWN), bool(codes & PICKS_UP)
     yes = "3" if ON_REQUEST in codes else "0"
-    return yes if sets_down or not picks_up and arrives else "1", yes if picks_up or not sets_down and departs else "1"
+    return (
+        yes if sets_down or not picks_up and arrives else "1",
+        yes if picks_up or not sets_down and departs else "1",
+    )
 
 
 def written(moment):
@@ -56,7 +66,9 @@ def public_calls(calls):
     """The cells of each public call from its number on."""
     rows, floor = [], 0
     for call, moments in zip(calls, reached_and_left(calls)):
-        arrives, departs = (public_seconds(call.cells[name]) for name in ("public_arrival", "public_departure"))
+        arrives, departs = (
+            public_seconds(call.cells[name]) for name in ("public_arrival", "public_departure")
+        )
         activities = call.cells["activities"].ljust(12)
         codes = {activities[at : at + 2] for at in range(0, 12, 2)}
         if moments is None or arrives is None and departs is None or codes & NOT_SHOWN:

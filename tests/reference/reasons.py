@@ -4,7 +4,16 @@ from .extracts import KINDS, contents_of, kind_of, line_of
 from .faults import FAILED, Fault, Refusal
 
 # The reasons that a line can have by itself, in the order of their numbers.
-REASONS = ("BadLength", "BadByte", "UnknownRecord", "NotFull", "BadDate", "OpenEnd", "DatesReversed", "BadDays")
+REASONS = (
+    "BadLength",
+    "BadByte",
+    "UnknownRecord",
+    "NotFull",
+    "BadDate",
+    "OpenEnd",
+    "DatesReversed",
+    "BadDays",
+)
 REASONS += ("BankHoliday", "BadStp", "BadTime")
 
 # A line with so many bytes before its LF is the last one.
@@ -41,4 +50,7 @@ def all_reasons(data):
 
 def listed(reasons):
     """A line for each reason."""
-    return [f"{name}: {len(at)} line{'s' * (len(at) > 1)}, first at line {at[0]}" for name, at in reasons.items()]
+    return [
+        f"{name}: {len(at)} line{'s' * (len(at) > 1)}, first at line {at[0]}"
+        for name, at in reasons.items()
+    ]

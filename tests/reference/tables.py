@@ -25,10 +25,29 @@ TIPLOC = layout(
 )
 
 # The fields of tables by their names in the layouts, where a table gives some of them other names.
-HEADER = ("mainframe", "date_of_extract", "time_of_extract", "current_file", "last_file", "update", "version", "first", "last")
+HEADER = (
+    "mainframe",
+    "date_of_extract",
+    "time_of_extract",
+    "current_file",
+    "last_file",
+    "update",
+    "version",
+    "first",
+    "last",
+)
 RECORD = ("first", "last", "days")
 OF_KEY = ("location", "base_suffix", "associated_suffix")
-ASSOCIATION = ("base", "associated", *RECORD, "category", "date_indicator", *OF_KEY, "diagram", "type")
+ASSOCIATION = (
+    "base",
+    "associated",
+    *RECORD,
+    "category",
+    "date_indicator",
+    *OF_KEY,
+    "diagram",
+    "type",
+)
 ASSOCIATION_BODY = ("category", "date_indicator", "diagram", "type")
 TRAIN = ("status", *(name for name, _ in TRAIN_TEXTS))
 EXTRA = ("traction", "uic", "operator_code", "timetable_code", "reserved_a", "reserved_b")
@@ -90,7 +109,9 @@ def schedules_of(lines):
 
 def extra_of(lines):
     """The cells that a schedule has of its BX: `BX` and its fields, all of them empty where it has none."""
-    return next((["BX", *cells(line, EXTRA)] for line in lines if line[:2] == "BX"), [""] * (1 + len(EXTRA)))
+    return next(
+        (["BX", *cells(line, EXTRA)] for line in lines if line[:2] == "BX"), [""] * (1 + len(EXTRA))
+    )
 
 
 def numbered(lines):
@@ -150,7 +171,11 @@ def public_rows(lines):
     rows = []
     for number, schedule in enumerate(schedules_of(lines), 1):
         names = ("location", *CALL)
-        calls = [Call(call, dict(zip(names, cells(line, names)))) for call, line in numbered(schedule) if line[:2] in CALLS]
+        calls = [
+            Call(call, dict(zip(names, cells(line, names))))
+            for call, line in numbered(schedule)
+            if line[:2] in CALLS
+        ]
         rows += [[str(number), *row] for row in public_calls(calls)]
     return rows
 
@@ -176,7 +201,13 @@ def table(name, lines):
 
 OF_JOURNEY = ["identity", "origin", "origin_suffix", "departure", "origin_platform"]
 OF_JOURNEY += ["terminus", "terminus_suffix", "arrival", "terminus_platform"]
-OF_ASSOCIATION = ["base_uid", "associated_uid", "association_category", "date_indicator", "association_location"]
+OF_ASSOCIATION = [
+    "base_uid",
+    "associated_uid",
+    "association_category",
+    "date_indicator",
+    "association_location",
+]
 OF_ASSOCIATION += ["base_suffix", "associated_suffix", "diagram_type", "association_type"]
 LISTED_OF_CALL = ("location", "suffix", *TIMES, "platform", "path", "line", "activities")
 OF_CALL = ["call", *(f"call_{name}" for name in LISTED_OF_CALL)]
@@ -187,7 +218,9 @@ def nothing(names):
 
 
 def journey_cells(body):
-    origin, terminus = (next(line for line in body.lines if line.startswith(kind)) for kind in ("LO", "LT"))
+    origin, terminus = (
+        next(line for line in body.lines if line.startswith(kind)) for kind in ("LO", "LT")
+    )
     ends = cells(origin, ("location", "suffix", "departure", "platform"))
     ends += cells(terminus, ("location", "suffix", "arrival", "platform"))
     return [dict(body.fields)["identity"].rstrip(" "), *ends]
@@ -204,7 +237,9 @@ def rows_of_train(row, body, stops):
     """The row of a train; with stops one row for each of its calls, which begins with it."""
     if not stops:
         return [row]
-    return [[*row, line[:2], *cells(line, LISTED_OF_CALL)] for line in body.lines if line[:2] in CALLS]
+    return [
+        [*row, line[:2], *cells(line, LISTED_OF_CALL)] for line in body.lines if line[:2] in CALLS
+    ]
 
 
 def day_table(meaning, day, stops):
@@ -212,11 +247,23 @@ def day_table(meaning, day, stops):
     calls, rows = OF_CALL if stops else [], []
     for key, bodies in meaning.associations.items():
         if day in bodies:
-            row = [day.isoformat(), "AA", "", *nothing(OF_JOURNEY), *association_cells(key, bodies[day])]
+            row = [
+                day.isoformat(),
+                "AA",
+                "",
+                *nothing(OF_JOURNEY),
+                *association_cells(key, bodies[day]),
+            ]
             rows.append(row + nothing(calls))
     for (uid,), bodies in meaning.trains.items():
         if day in bodies:
-            row = [day.isoformat(), "BS", uid, *journey_cells(bodies[day]), *nothing(OF_ASSOCIATION)]
+            row = [
+                day.isoformat(),
+                "BS",
+                uid,
+                *journey_cells(bodies[day]),
+                *nothing(OF_ASSOCIATION),
+            ]
             rows += rows_of_train(row, bodies[day], stops)
     return lines_of(["date", "kind", "uid", *OF_JOURNEY, *OF_ASSOCIATION, *calls], rows)
 
@@ -239,21 +286,42 @@ def explanation_table(extract, uid, day):
         if kind == "AA":
             row += ["", *nothing(OF_JOURNEY), *association_cells(entry.key, entry.body)]
         else:
-            row += [uid, *(journey_cells(entry.body) if entry.body else nothing(OF_JOURNEY)), *nothing(OF_ASSOCIATION)]
+            row += [
+                uid,
+                *(journey_cells(entry.body) if entry.body else nothing(OF_JOURNEY)),
+                *nothing(OF_ASSOCIATION),
+            ]
         rows.append(row)
-    heading = ["date", "mark", "kind", "stp_indicator", *named(*RECORD), "uid", *OF_JOURNEY, *OF_ASSOCIATION]
+    heading = [
+        "date",
+        "mark",
+        "kind",
+        "stp_indicator",
+        *named(*RECORD),
+        "uid",
+        *OF_JOURNEY,
+        *OF_ASSOCIATION,
+    ]
     return lines_of(heading, rows)
 
 
 # ---- of differences
 
 OF_PAIR = ["call", "record", "place", "field", "left", "right"]
-OF_DIFFERENCE = ["change", "kind", "tiploc", *named("uid", "associated", *OF_KEY, *RECORD), *OF_PAIR]
+OF_DIFFERENCE = [
+    "change",
+    "kind",
+    "tiploc",
+    *named("uid", "associated", *OF_KEY, *RECORD),
+    *OF_PAIR,
+]
 
 
 def unequal(where, names, ours, theirs):
     """For each field whose cells differ: where it is, its name and both cells."""
-    return [[*where, name, our, their] for name, our, their in zip(names, ours, theirs) if our != their]
+    return [
+        [*where, name, our, their] for name, our, their in zip(names, ours, theirs) if our != their
+    ]
 
 
 def unequal_associations(ours, theirs):
@@ -264,13 +332,26 @@ def unequal_associations(ours, theirs):
 def unequal_journeys(ours, theirs):
     """Call by call, where both journeys have the same calls and changes at the same places; else how many calls they have."""
     both = [numbered(lines) for lines in (ours, theirs)]
-    ways = [[(line[:2], *cells(line, ("location", "suffix"))) for _, line in journey] for journey in both]
+    ways = [
+        [(line[:2], *cells(line, ("location", "suffix"))) for _, line in journey]
+        for journey in both
+    ]
     if ways[0] != ways[1]:
-        return [["", "", "", "journey", *(str(sum(line[:2] in CALLS for _, line in journey)) for journey in both)]]
+        return [
+            [
+                "",
+                "",
+                "",
+                "journey",
+                *(str(sum(line[:2] in CALLS for _, line in journey)) for journey in both),
+            ]
+        ]
     rows = []
     for (call, our), (_, their) in zip(*both):
         kind, names = our[:2], CHANGE if our[:2] == "CR" else CALL
-        rows += unequal([call, kind, *cells(our, ("location",))], names, cells(our, names), cells(their, names))
+        rows += unequal(
+            [call, kind, *cells(our, ("location",))], names, cells(our, names), cells(their, names)
+        )
     return rows
 
 
@@ -293,7 +374,10 @@ def place_cells(kind, line):
 
 def rows_of_kind(kind, names, left, right, window):
     """A row for each record that only one side has at its dates, and for a pair one for each field that differs."""
-    records = [(mark, record_lines(kind, names, key, record)) for key, mark, record in of_one_side(left, right, window)]
+    records = [
+        (mark, record_lines(kind, names, key, record))
+        for key, mark, record in of_one_side(left, right, window)
+    ]
     sides = {(mark, *place_cells(kind, lines[0])): lines for mark, lines in records}
     rows = []
     for mark, lines in records:
@@ -311,7 +395,9 @@ def difference_table(left, right):
     rows = []
     for tiploc in sorted(set(left.tiplocs) ^ set(right.tiplocs)):
         name = tiploc_cells(plain("TI", {"tiploc": tiploc}))[0]
-        rows.append(["<" if tiploc in left.tiplocs else ">", "TI", name, *nothing(OF_DIFFERENCE[3:])])
+        rows.append(
+            ["<" if tiploc in left.tiplocs else ">", "TI", name, *nothing(OF_DIFFERENCE[3:])]
+        )
     rows += rows_of_kind("AA", ASSOCIATION_KEY, left.associations, right.associations, left.window)
     rows += rows_of_kind("BS", TRAIN_KEY, left.trains, right.trains, left.window)
     return lines_of(OF_DIFFERENCE, rows)

@@ -44,8 +44,14 @@ def of_one_side(left, right, window):
     sides = ("<", alone_said(left, right)), (">", alone_said(right, left))
     found = []
     for key in sorted(left.keys() | right.keys()):
-        records = [(record.first, mark, record) for mark, said in sides for record in joined(said.get(key, {}), window, "2")]
-        found += [(key, mark, record) for _, mark, record in sorted(records, key=lambda place: place[:2])]
+        records = [
+            (record.first, mark, record)
+            for mark, said in sides
+            for record in joined(said.get(key, {}), window, "2")
+        ]
+        found += [
+            (key, mark, record) for _, mark, record in sorted(records, key=lambda place: place[:2])
+        ]
     return found
 
 
@@ -61,7 +67,10 @@ def differing(kind, names, left, right, window):
 def differences(left, right):
     """Everything in which two meanings with one window differ."""
     of_one = sorted(set(left.tiplocs) ^ set(right.tiplocs))
-    lines = [("< " if tiploc in left.tiplocs else "> ") + plain("TI", {"tiploc": tiploc}) for tiploc in of_one]
+    lines = [
+        ("< " if tiploc in left.tiplocs else "> ") + plain("TI", {"tiploc": tiploc})
+        for tiploc in of_one
+    ]
     lines += differing("AA", ASSOCIATION_KEY, left.associations, right.associations, left.window)
     return lines + differing("BS", TRAIN_KEY, left.trains, right.trains, left.window)
 
@@ -72,8 +81,12 @@ def counted(numbers):
 
 def journey(body):
     """The train identity, where and when the journey begins and ends, and the platforms."""
-    origin, terminus = (next(line for line in body.lines if line.startswith(kind)) for kind in ("LO", "LT"))
-    ends = [columns for line in (origin, terminus) for columns in (line[2:10], line[10:15], line[19:22])]
+    origin, terminus = (
+        next(line for line in body.lines if line.startswith(kind)) for kind in ("LO", "LT")
+    )
+    ends = [
+        columns for line in (origin, terminus) for columns in (line[2:10], line[10:15], line[19:22])
+    ]
     return " ".join([dict(body.fields)["identity"], *ends])
 
 
@@ -92,25 +105,53 @@ def call_line(line):
     """The line of a call by its fields, each with its columns in LO, LI and LT; one that a record lacks is spaces."""
     kinds = {
         "LO": ((3, 9), (10, 10), 5, (11, 15), 5, 4, (16, 19), (20, 22), 3, (23, 25), (30, 41)),
-        "LI": ((3, 9), (10, 10), (11, 15), (16, 20), (21, 25), (26, 29), (30, 33), (34, 36), (40, 42), (37, 39), (43, 54)),
+        "LI": (
+            (3, 9),
+            (10, 10),
+            (11, 15),
+            (16, 20),
+            (21, 25),
+            (26, 29),
+            (30, 33),
+            (34, 36),
+            (40, 42),
+            (37, 39),
+            (43, 54),
+        ),
         "LT": ((3, 9), (10, 10), (11, 15), 5, 5, (16, 19), 4, (20, 22), (23, 25), 3, (26, 37)),
     }
     places = kinds[line[:2]]
-    return " ".join([line[:2], *(" " * place if isinstance(place, int) else line[place[0] - 1 : place[1]] for place in places)])
+    return " ".join(
+        [
+            line[:2],
+            *(
+                " " * place if isinstance(place, int) else line[place[0] - 1 : place[1]]
+                for place in places
+            ),
+        ]
+    )
 
 
 def call_lines(body, stops):
     """The lines of a train's calls, if they are asked for."""
-    return [call_line(line) for line in body.lines if line[:2] in ("LO", "LI", "LT")] if stops else []
+    return (
+        [call_line(line) for line in body.lines if line[:2] in ("LO", "LI", "LT")] if stops else []
+    )
 
 
 def day_view(meaning, day, stops):
     """A line for each association that holds on the date, and for each train that runs, with its calls if they are asked for."""
     associations = [
-        f"AA {association_fields(key, bodies[day])}" for key, bodies in meaning.associations.items() if day in bodies
+        f"AA {association_fields(key, bodies[day])}"
+        for key, bodies in meaning.associations.items()
+        if day in bodies
     ]
     trains = [(key, bodies[day]) for key, bodies in meaning.trains.items() if day in bodies]
-    return associations + [line for key, body in trains for line in (f"BS {train_fields(key, body)}", *call_lines(body, stops))]
+    return associations + [
+        line
+        for key, body in trains
+        for line in (f"BS {train_fields(key, body)}", *call_lines(body, stops))
+    ]
 
 
 def train_view(meaning, uid, form, stops):
@@ -118,6 +159,8 @@ def train_view(meaning, uid, form, stops):
     records = joined(meaning.trains.get((uid,), {}), meaning.window, form)
     lines = []
     for record in records:
-        lines.append(f"{yymmdd(record.first)} {yymmdd(record.last)} {record.days} {journey(record.body)}")
+        lines.append(
+            f"{yymmdd(record.first)} {yymmdd(record.last)} {record.days} {journey(record.body)}"
+        )
         lines += call_lines(record.body, stops)
     return lines

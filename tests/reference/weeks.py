@@ -46,5 +46,9 @@ def joined(bodies, window, form):
         days = {day for day in bodies if bodies[day] == body}
         for row in rows_of(days, window, form):
             mask = {day.weekday() for day in row}
-            found.append(Joined(row[0], row[-1], "".join("01"[weekday in mask] for weekday in range(7)), body))
+            found.append(
+                Joined(
+                    row[0], row[-1], "".join("01"[weekday in mask] for weekday in range(7)), body
+                )
+            )
     return sorted(found, key=lambda record: record.first)

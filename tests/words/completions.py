@@ -15,7 +15,10 @@ ASK_BASH = Path(__file__).with_name("offered.bash")
 def offered(completion, words):
     """What bash offers for the last of the words: words, or `files`."""
     done = subprocess.run(
-        ["bash", "--noprofile", "--norc", ASK_BASH, completion, *words], capture_output=True, text=True, check=False
+        ["bash", "--noprofile", "--norc", ASK_BASH, completion, *words],
+        capture_output=True,
+        text=True,
+        check=False,
     )
     if done.returncode != 0 or done.stderr:
         raise NotUnderstood(f"bash says for {' '.join(words)}: {done.stderr}")
@@ -29,7 +32,10 @@ def bash_option_facts(completion, command, option):
     if any(offer.startswith("-") for offer in offered(completion, [command, option, "-"])):
         return found
     behind = [["x"] * count + [""] for count in range(PLACES)]
-    if all(offered(completion, [command, option, "x", *rest]) == offered(completion, [command, *rest]) for rest in behind):
+    if all(
+        offered(completion, [command, option, "x", *rest]) == offered(completion, [command, *rest])
+        for rest in behind
+    ):
         found.add((TAKES_VALUE, option))
         values = offered(completion, [command, option, ""])
         if values == ["files"]:
@@ -42,7 +48,10 @@ def bash_option_facts(completion, command, option):
 def bash_facts(completion):
     """The facts of each command that bash offers."""
     names = offered(completion, [""])
-    facts = {"": {(COMMAND, name) for name in names} | {(OPTION, name) for name in offered(completion, ["-"])}}
+    facts = {
+        "": {(COMMAND, name) for name in names}
+        | {(OPTION, name) for name in offered(completion, ["-"])}
+    }
     for name in names:
         facts[name] = set()
         for option in offered(completion, [name, "-"]):
@@ -50,7 +59,13 @@ def bash_facts(completion):
         for number in range(1, PLACES + 1):
             offers = offered(completion, [name] + ["x"] * (number - 1) + [""])
             if offers:
-                what = "files" if offers == ["files"] else "commands" if offers == names else " ".join(offers)
+                what = (
+                    "files"
+                    if offers == ["files"]
+                    else "commands"
+                    if offers == names
+                    else " ".join(offers)
+                )
                 facts[name].add(offer_fact(number, what))
     return facts
 
@@ -68,7 +83,10 @@ ZSH_ACTIONS = {"_files": "files", "_cif_commands": "commands", "": None}
 
 def zsh_specs(text):
     """The specifications of a call of _arguments, one per line."""
-    lines = [line.strip().removesuffix("&& ret=0").removesuffix("\\").strip() for line in text.splitlines()]
+    lines = [
+        line.strip().removesuffix("&& ret=0").removesuffix("\\").strip()
+        for line in text.splitlines()
+    ]
     return [line for line in lines if line and not line.startswith("_arguments")]
 
 
@@ -102,9 +120,15 @@ def zsh_facts(text):
     if not listed or not top:
         raise NotUnderstood("_cif has no list of commands, or no call of _arguments -C")
     specs = zsh_specs(top[1])
-    if [spec for spec in specs if not ZSH_FLAG.match(spec)] != ["':COMMAND:_cif_commands'", "'*:: :->places'"]:
+    if [spec for spec in specs if not ZSH_FLAG.match(spec)] != [
+        "':COMMAND:_cif_commands'",
+        "'*:: :->places'",
+    ]:
         raise NotUnderstood("_cif has another first place than the command")
-    facts = {"": {(COMMAND, name) for name in listed} | zsh_facts_of(spec for spec in specs if ZSH_FLAG.match(spec))}
+    facts = {
+        "": {(COMMAND, name) for name in listed}
+        | zsh_facts_of(spec for spec in specs if ZSH_FLAG.match(spec))
+    }
     count = len(listed) + len(specs)
     for names, body in ZSH_ARM.findall(text):
         specs = zsh_specs(body)
@@ -149,9 +173,17 @@ def fish_facts(text):
         raise NotUnderstood("cif.fish offers files everywhere")
     calls.remove({"-c": "cif", "-f": ""})
     swallowing = re.search(r"contains -- \$word (--.*)$", text, re.MULTILINE)
-    if not swallowing or set(swallowing[1].split()) != {f"--{flags['-l']}" for flags in calls if "-x" in flags or "-r" in flags}:
-        raise NotUnderstood("cif.fish counts the words behind other options than those with a value")
-    listed = [flags["-a"] for flags in calls if flags.get("-n", "").split() == FISH_WITHOUT and "-a" in flags]
+    if not swallowing or set(swallowing[1].split()) != {
+        f"--{flags['-l']}" for flags in calls if "-x" in flags or "-r" in flags
+    }:
+        raise NotUnderstood(
+            "cif.fish counts the words behind other options than those with a value"
+        )
+    listed = [
+        flags["-a"]
+        for flags in calls
+        if flags.get("-n", "").split() == FISH_WITHOUT and "-a" in flags
+    ]
     facts = {"": {(COMMAND, name) for name in listed}}
     for flags in calls:
         condition, *words = flags.get("-n", "").split() or [""]
@@ -165,5 +197,7 @@ def fish_facts(text):
                 found = offer_facts(int(words[0]) + 1, offers, condition == "__cif_from")
                 facts.setdefault(name, set()).update(found)
         elif [condition] != FISH_WITHOUT or "-a" not in flags:
-            raise NotUnderstood(f"cif.fish has a call of complete for {condition or 'no condition'}")
+            raise NotUnderstood(
+                f"cif.fish has a call of complete for {condition or 'no condition'}"
+            )
     return facts

@@ -4,7 +4,13 @@ A fact is a kind and a text. Not every text has all kinds: completions of bash h
 """
 from dataclasses import dataclass, field
 
-COMMAND, OPTION, TAKES_VALUE, VALUE_NAME, VALUE = "command", "option", "option with a value", "name of a value", "value"
+COMMAND, OPTION, TAKES_VALUE, VALUE_NAME, VALUE = (
+    "command",
+    "option",
+    "option with a value",
+    "name of a value",
+    "value",
+)
 PLACE, PLACE_VALUE, OFFER = "place", "value of a place", "offer"
 
 # What a shell offers at a place, by the name that the help gives to the place.

@@ -23,7 +23,9 @@ def macros(text):
 
 def section(text, heading):
     """The lines below the heading."""
-    match = re.search(rf"^\.Sh {re.escape(heading)}\n(.*?)(?=^\.Sh |\Z)", text, re.MULTILINE | re.DOTALL)
+    match = re.search(
+        rf"^\.Sh {re.escape(heading)}\n(.*?)(?=^\.Sh |\Z)", text, re.MULTILINE | re.DOTALL
+    )
     if not match:
         raise NotUnderstood(f"there is no section {heading}")
     return match.group(1)
@@ -89,7 +91,9 @@ def as_in_synopsis(program):
     found = {}
     for name, command in program.items():
         shown = [option for option in command.options if not name or "--help" not in option.names]
-        found[name] = Command([Option(option.names[-1:], option.value_name) for option in shown], command.places)
+        found[name] = Command(
+            [Option(option.names[-1:], option.value_name) for option in shown], command.places
+        )
     return found
 
 
@@ -121,7 +125,10 @@ def commands(text):
             raise NotUnderstood(f"COMMANDS has: {' '.join(words)}")
         program[words[1]] = command
         while rest:
-            size = next((i for i in range(1, len(rest)) if rest[i] in ("Ar", "Op") and rest[i - 1] != "Op"), len(rest))
+            size = next(
+                (i for i in range(1, len(rest)) if rest[i] in ("Ar", "Op") and rest[i - 1] != "Op"),
+                len(rest),
+            )
             kind, part = usage_part(rest[:size], "COMMANDS")
             if kind != "place":
                 raise NotUnderstood(f"COMMANDS has: {' '.join(words)}")
@@ -161,7 +168,9 @@ def known(program):
         found |= {("Ar", bare(place)) for place in command.places}
         found |= {("Cm", value) for values in command.values.values() for value in values}
         for option in command.options:
-            found |= {("Fl", name) for name in option.names} | {("Cm", value) for value in option.values}
+            found |= {("Fl", name) for name in option.names} | {
+                ("Cm", value) for value in option.values
+            }
             found |= {("Ar", option.value_name)} if option.value_name else set()
     return found
 

@@ -4,7 +4,9 @@ import subprocess
 
 from facts import Command, NotUnderstood, Option
 
-OPTION_LINE = re.compile(r"^ {2,6}(?P<names>-\w(?:, --[\w-]+)?|--[\w-]+)(?: <(?P<value>[^<>]+)>)?(?:  |$)")
+OPTION_LINE = re.compile(
+    r"^ {2,6}(?P<names>-\w(?:, --[\w-]+)?|--[\w-]+)(?: <(?P<value>[^<>]+)>)?(?:  |$)"
+)
 PLACE_LINE = re.compile(r"^  [<[](\w+)[]>](?:\.\.\.)? +(.*)$")
 LISTED = re.compile(r"^(\w+(?:, \w+)+) or (\w+)$")
 CONTINUED = re.compile(r"^ {10}")
@@ -14,9 +16,13 @@ HEADING = re.compile(r"^([A-Z]\w*):$")
 
 def asked(cif, words):
     """What the program prints for arguments that ask for help or for the version."""
-    done = subprocess.run([cif, *words], stdin=subprocess.DEVNULL, capture_output=True, text=True, check=False)
+    done = subprocess.run(
+        [cif, *words], stdin=subprocess.DEVNULL, capture_output=True, text=True, check=False
+    )
     if done.returncode != 0 or done.stderr or not done.stdout.endswith("\n"):
-        raise NotUnderstood(f"{' '.join(['cif', *words])} has status {done.returncode} and says: {done.stderr}")
+        raise NotUnderstood(
+            f"{' '.join(['cif', *words])} has status {done.returncode} and says: {done.stderr}"
+        )
     return done.stdout
 
 
@@ -52,7 +58,11 @@ def options_of(lines):
         if not match:
             raise NotUnderstood(f"the help has the option: {item}")
         possible = POSSIBLE.search(item)
-        values = possible.group(1).split(", ") if possible else re.findall(r"^ +- ([^\s:]+)", item, re.MULTILINE)
+        values = (
+            possible.group(1).split(", ")
+            if possible
+            else re.findall(r"^ +- ([^\s:]+)", item, re.MULTILINE)
+        )
         found.append(Option(match["names"].split(", "), match["value"] or "", values))
     return found
 
@@ -95,7 +105,9 @@ def program_of(cif):
         text = asked(cif, ["help", name] if name == "help" else [name, "--help"])
         parts = sections(text)
         places = places_of(text, f"cif {name}")
-        program[name] = Command(options_of(parts.get("Options", [])), places, values_of(parts.get("Arguments", [])))
+        program[name] = Command(
+            options_of(parts.get("Options", [])), places, values_of(parts.get("Arguments", []))
+        )
     return program
 
 
