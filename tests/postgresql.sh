@@ -4,7 +4,7 @@
 # as_user COMMAND..: runs the command as this user, or as one that isn't root, since PostgreSQL refuses root
 as_user() {
     if [ "$(id -u)" -eq 0 ]; then
-        runuser -u "$postgresql_user" -- "$@"
+        PATH=$PATH:/usr/sbin:/sbin runuser -u "$postgresql_user" -- "$@"
     else
         "$@"
     fi
