@@ -425,11 +425,9 @@ def check_signals(counts, maker, special):
     failing = failing_cif(maker, "public", "exec sleep 60")
     before = left(maker)
     for number in signal.SIGTERM, signal.SIGINT:
-        process = subprocess.Popen(
-            [COMPANIONS / "cif-gtfs", "--cif", failing.cif, special],
-            cwd=maker.folder,
-            stderr=subprocess.PIPE,
-        )
+        # what runs in the background may have interrupts ignored
+        words = ["env", "--default-signal", COMPANIONS / "cif-gtfs", "--cif", failing.cif, special]
+        process = subprocess.Popen(words, cwd=maker.folder, stderr=subprocess.PIPE)
         for _ in range(1200):
             if left(maker) != before:
                 break
