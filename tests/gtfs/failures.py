@@ -526,7 +526,7 @@ def check_again(counts, maker, special):
 
 def check_collision(counts):
     """Two trips of a train with one id are refused, which needs shorter ids than there are."""
-    about, found = about_of("1A01", "SN", 2), trips.TripsOfUid(" 00001")
+    about, found = about_of(b"1A01", b"SN", 2), trips.TripsOfUid(" 00001")
     length, trips.ID_BYTES = trips.ID_BYTES, 1
     try:
         for number in range(300):
