@@ -304,6 +304,14 @@ def check_space(counts, maker, special):
     temporary.rmdir()
 
 
+def check_version(counts, maker):
+    version = subprocess.run([maker.cif, "--version"], capture_output=True, text=True, check=False)
+    number = version.stdout.partition(" ")[2]
+    for program in "cif-gtfs", "cif-gtfs-csv":
+        done = maker.run("--version", program=program)
+        counts.same(f"{program} --version", f"{program} {number}", done.stdout)
+
+
 def check_publisher(counts, maker, special):
     words = (
         "--publisher",
@@ -586,6 +594,7 @@ def check(counts, maker, special):
     check_hints(counts, maker, special)
     check_space(counts, maker, special)
     check_publisher(counts, maker, special)
+    check_version(counts, maker)
     check_changed(counts, maker, special)
     check_signals(counts, maker, special)
     check_terminal(counts, maker, special)
