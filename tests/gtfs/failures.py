@@ -555,7 +555,8 @@ def check_collision(counts):
 def check_blocks(counts):
     """The rows of some schedules are the same in blocks of any size."""
     rows = [
-        b"%d\t%d\tLO\t%s\t%s" % (schedule, call, b"AB"[call % 2 :][:1], b"AB"[schedule % 2 :][:1])
+        b"%d\t%d\tLO\t%s\t%s\tend"
+        % (schedule, call, b"AB"[call % 2 :][:1], b"AB"[schedule % 2 :][:1])
         for schedule in range(1, 130)
         for call in range(1 + schedule % 7)
     ]
