@@ -2,7 +2,7 @@
 from __future__ import annotations
 
 from hashlib import blake2b
-from typing import Dict, FrozenSet, Iterable, List, Mapping, NamedTuple, Optional, Sequence, Set
+from typing import Dict, FrozenSet, Iterable, List, Mapping, NamedTuple, Optional, Sequence
 from typing import Tuple
 
 from cif_shared.dates import Dates, moved
