@@ -271,7 +271,11 @@ def length(one, number):
     contents = contents_of(one.data)
     line = contents[number - 1]
     width = "thousands of" if len(line) >= LOOKED_AT else len(line)
-    is_cut = number == len(contents) and not one.data.endswith(b"\n") and len(line) < layouts.WIDTH
+    is_last = number == len(contents) and not one.data.endswith(b"\n")
+    if is_last and not one.again and layouts.WIDTH + 2 <= len(line) < LOOKED_AT:
+        # it is refused before more is read of standard input
+        return ["the line has more than 80 columns"]
+    is_cut = is_last and len(line) < layouts.WIDTH
     return [f"the line has {width} columns, not 80", *[ENDS_IN_IT] * is_cut]
 
 
