@@ -2,11 +2,11 @@
 
 _cif_sql() {
     local written=${COMP_WORDS[COMP_CWORD]} before=${COMP_WORDS[COMP_CWORD - 1]}
-    local options='--from --to --places --operators --force -o --output --cif -h --help -V --version'
+    local options='--from --to --places --operators --postgres --schema --force -o --output --cif -h --help -V --version'
     COMPREPLY=()
     case $before in
     --places | --operators | -o | --output | --cif) compopt -o default ;;
-    --from | --to) ;;
+    --from | --to | --schema) ;;
     *)
         if [[ $written == -* ]]; then
             mapfile -t COMPREPLY < <(compgen -W "$options" -- "$written")

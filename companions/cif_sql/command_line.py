@@ -6,9 +6,11 @@ import gc
 import hashlib
 import os
 import stat
+import sys
+from contextlib import ExitStack
 from datetime import datetime, timezone
 from pathlib import Path
-from typing import Optional, Sequence
+from typing import ContextManager, Optional, Sequence
 
 from cif_shared.arguments import add_cif, add_help, add_names, add_window, new_parser
 from cif_shared.cif import Cif, find_cif
@@ -22,13 +24,15 @@ from cif_shared.running import run
 from cif_shared.tables import Extract, open_extract
 
 from .loading import Source, UserFiles, load
+from .postgres import PostgresScript, check_schema
 from .sqlite_file import check_age, check_place, new_database
 
 PROGRAM = "cif-sql"
 
 ABOUT = """\
-Loads a CIF timetable extract into an SQLite database. The extract has to be one
-that `cif normalise` accepts.
+Loads a CIF timetable extract into an SQLite database, or writes a script for
+psql that loads it into PostgreSQL. The extract has to be one that
+`cif normalise` accepts.
 """
 STATUSES = """\
 statuses:
@@ -45,6 +49,12 @@ def arguments_of(words: Optional[Sequence[str]]) -> argparse.Namespace:
     add = parser.add_argument
     add_window(parser)
     add_names(parser)
+    add(
+        "--postgres",
+        action="store_true",
+        help="write a script for psql to standard output instead",
+    )
+    add("--schema", metavar="NAME", help="the schema in PostgreSQL, cif by default")
     add("--force", action="store_true", help="replace a database of a later extract")
     add(
         "-o",
@@ -88,15 +98,26 @@ def digest_of(path: Path) -> str:
 
 def source_of(extract: Extract, name: str) -> Source:
     now = datetime.now(timezone.utc).isoformat(timespec="seconds")
-    return Source(name, digest_of(extract.path), version_of(extract.cif), now)
+    shown = os.fsencode(name).decode(errors="replace")
+    return Source(shown, digest_of(extract.path), version_of(extract.cif), now)
 
 
-def make_database(asked: argparse.Namespace, progress: Progress) -> int:
-    """The status, after the database is written."""
+def given_files(asked: argparse.Namespace) -> UserFiles:
+    return UserFiles(read_file(PLACES, asked.places), read_operators(asked.operators))
+
+
+def open_asked(asked: argparse.Namespace) -> ContextManager[Extract]:
+    return open_extract(find_cif(asked.cif), asked.extract, asked.first, asked.last)
+
+
+def make_file(asked: argparse.Namespace, progress: Progress) -> int:
+    """The status, after the SQLite file is written."""
+    if asked.schema is not None:
+        raise Misused("--schema is for --postgres")
     place = place_of(asked)
     check_place(place)
-    given = UserFiles(read_file(PLACES, asked.places), read_operators(asked.operators))
-    with open_extract(find_cif(asked.cif), asked.extract, asked.first, asked.last) as extract:
+    given = given_files(asked)
+    with open_asked(asked) as extract:
         if not asked.force:
             check_age(place, extract.header())
         source = source_of(extract, asked.extract)
@@ -111,8 +132,24 @@ def make_database(asked: argparse.Namespace, progress: Progress) -> int:
     return SUCCESS
 
 
+def write_script(asked: argparse.Namespace, progress: Progress) -> int:
+    """The status, after the script for psql is written."""
+    if asked.output is not None:
+        raise Misused("-o is for an SQLite database: --postgres writes to standard output")
+    schema = asked.schema if asked.schema is not None else "cif"
+    check_schema(schema)
+    given = given_files(asked)
+    with open_asked(asked) as extract, ExitStack() as stack:
+        script = PostgresScript(stack)
+        load(extract, source_of(extract, asked.extract), given, script, progress)
+        progress.show("writing the script")
+        script.write(sys.stdout.buffer, schema, extract.header(), asked.force)
+    return SUCCESS
+
+
 def main(words: Optional[Sequence[str]] = None) -> int:
     asked = arguments_of(words)
     # nothing that is kept has cycles, and looking for them takes a tenth of the time
     gc.disable()
-    return run(PROGRAM, lambda progress: make_database(asked, progress))
+    make = write_script if asked.postgres else make_file
+    return run(PROGRAM, lambda progress: make(asked, progress))

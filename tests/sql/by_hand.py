@@ -1,4 +1,6 @@
 """Rows by hand: of an extract whose trains show a rule each, and of examples/timetable.cif."""
+from functools import partial
+
 from gtfs.checks import TOP
 
 from .checks import sqlite_rows
@@ -7,7 +9,8 @@ EXAMPLE = TOP / "examples" / "timetable.cif"
 
 # From Monday 5 to Sunday 11 January 2026. M00001 runs over midnight on Mondays to Fridays, but on the Wednesday with another platform
 # at Beta; the rest of its calls is the same. Q00001 has quotes and backslashes, and divides: Q00002 leaves it on the Saturday. E00001 is
-# empty stock with public times, and F00001 a freight train that changes en route. Z00001 is of no operator.
+# empty stock with public times, and F00001 a freight train that changes en route. Z00001 and Z00002 are of no
+# operator, and have the same calls.
 LINES = r"""
 HDTPS.UTEST01.PD2601040401262130DFTEST1       FA050126110126
 TIALPHA  00890500AALPHA JUNCTION            032010000ALPALPHA
@@ -45,6 +48,9 @@ BX         SRY
 LOBETAE   1040 1040%'        TB
 LTGAMMA   1130 1130"     TF
 BSNZ000012601112601110000001 POO2Z01    122104000 EMU    090      B            P
+LOGAMMA   0900 0900          TB
+LTALPHA   1000 1000      TF
+BSNZ000022601112601110000001 POO2Z02    122104000 EMU    090      B            P
 LOGAMMA   0900 0900          TB
 LTALPHA   1000 1000      TF
 ZZ
@@ -99,7 +105,11 @@ QUERIES = {
     ),
     "the trains of a date": (
         "SELECT uid, passenger, operator, operator_name FROM runs WHERE date = '2026-01-11' ORDER BY uid",
-        [("E00001", "0", "SR", "ScotRail"), ("Z00001", "1", None, None)],
+        [
+            ("E00001", "0", "SR", "ScotRail"),
+            ("Z00001", "1", None, None),
+            ("Z00002", "1", None, None),
+        ],
     ),
     "trains a day": (
         "SELECT date, operator, passenger, trains FROM trains_per_day"
@@ -135,8 +145,12 @@ EXAMPLE_QUERIES = {
 }
 
 
+def check_queries(counts, queries, rows, name):
+    """Each of the queries. `rows` gives the rows of one."""
+    for about, (query, want) in queries.items():
+        counts.same(f"{about}, in {name}", want, rows(query))
+
+
 def check(counts, maker, special):
     for path, queries in (special, QUERIES), (EXAMPLE, EXAMPLE_QUERIES):
-        made = maker.database(path)
-        for name, (query, want) in queries.items():
-            counts.same(f"{name}, in {path.name}", want, sqlite_rows(made, query))
+        check_queries(counts, queries, partial(sqlite_rows, maker.database(path)), path.name)

@@ -7,7 +7,7 @@ from contextlib import closing
 from gtfs.checks import COMPANIONS, first_difference
 from gtfs.definition import seconds_of
 
-from .definition import RENAMED, Expected
+from .definition import RENAMED
 
 BOARD = "crs, date, time, train_date, uid, identity, operator, platform, {end}, pick_up, set_down, location"
 
@@ -136,9 +136,9 @@ def check_boards(counts, name, expected, rows):
         counts.test(f"{name}, {view} after midnight", later > 0)
 
 
-def check_database(counts, source, rows):
+def check_database(counts, expected, rows, kind="SQLite"):
     """All of a database. `rows` gives those of a query."""
-    name, expected = source.path.name, Expected(source)
+    name = f"{expected.source.path.name} in {kind}"
     check_fields(counts, name, expected, rows)
     check_places(counts, name, expected, rows)
     check_dates(counts, name, expected, rows)

@@ -1,6 +1,7 @@
 """What a database has to have, worked out of what `cif day` and `cif table` say, date by date."""
 from collections import Counter, defaultdict
 from datetime import date, timedelta
+from functools import lru_cache
 
 from gtfs.definition import is_for_riders, seconds_of, table_rows
 
@@ -77,6 +78,7 @@ class Expected:
             found[row["uid"], *parts] = self.of_schedule["calls"][number]
         return found
 
+    @lru_cache(maxsize=None)
     def days(self):
         """The trains and the associations of each date, as `cif day` lists them."""
         trains, associations = Counter(), Counter()

@@ -193,8 +193,8 @@ def check_readers(counts, maker, special):
     time.sleep(0.2)
     done.set()
     reader.join()
-    # E00001 runs on seven dates, F00001 on four, M00001 on five, and three trains on one
-    want = {("DFTESTA", "19"), ("DFTESTB", "19")}
+    # E00001 runs on seven dates, F00001 on four, M00001 on five, and four trains on one
+    want = {("DFTESTA", "20"), ("DFTESTB", "20")}
     counts.same("what a reader sees", want, seen)
 
 
