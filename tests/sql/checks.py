@@ -45,7 +45,7 @@ def sqlite_rows(path, query):
 
 def same_rows(counts, name, want, got):
     got = Counter(got)
-    counts.test(name, want == got, first_difference(want, got))
+    counts.test(name, want == got, "" if want == got else first_difference(want, got))
 
 
 def columns_of(names, table):
@@ -104,7 +104,7 @@ def check_places(counts, name, expected, rows):
 
 
 def check_dates(counts, name, expected, rows):
-    trains, associations = expected.days()
+    trains, associations = expected.days
     counts.test(f"{name} has trains and associations", trains and associations)
     query = "SELECT date, uid, identity, origin, departure, destination, arrival FROM runs"
     same_rows(counts, f"{name}, runs", trains, rows(query))
@@ -116,19 +116,14 @@ def check_dates(counts, name, expected, rows):
     counts.same(f"{name}, days", days, rows("SELECT date, weekday FROM days ORDER BY date"))
     got = rows("SELECT date, operator, passenger, trains FROM trains_per_day")
     same_rows(counts, f"{name}, trains_per_day", expected.trains_per_day(), got)
-    calls = Counter()
-    for number, row in expected.schedules.items():
-        for day in expected.dates_of(row):
-            for call in expected.of_schedule["calls"][number]:
-                calls[day.isoformat(), row["uid"], call["call"], call["location"]] += 1
     got = rows("SELECT date, uid, number, location FROM calls_on")
-    same_rows(counts, f"{name}, calls_on", calls, got)
+    same_rows(counts, f"{name}, calls_on", expected.calls_on, got)
 
 
 def check_boards(counts, name, expected, rows):
     for view, want, end in (
-        ("departures", expected.board("departure", "pick_up", -1), "destination"),
-        ("arrivals", expected.board("arrival", "set_down", 0), "origin"),
+        ("departures", expected.departures, "destination"),
+        ("arrivals", expected.arrivals, "origin"),
     ):
         got = rows(f"SELECT {BOARD.format(end=end)} FROM {view}")
         same_rows(counts, f"{name}, {view}", want, got)

@@ -1,7 +1,7 @@
 """What a database has to have, worked out of what `cif day` and `cif table` say, date by date."""
 from collections import Counter, defaultdict
 from datetime import date, timedelta
-from functools import lru_cache
+from functools import cached_property
 
 from gtfs.definition import is_for_riders, seconds_of, table_rows
 
@@ -78,7 +78,17 @@ class Expected:
             found[row["uid"], *parts] = self.of_schedule["calls"][number]
         return found
 
-    @lru_cache(maxsize=None)
+    @cached_property
+    def calls_on(self):
+        """All calls of each date."""
+        found = Counter()
+        for number, row in self.schedules.items():
+            for day in self.dates_of(row):
+                for call in self.of_schedule["calls"][number]:
+                    found[day.isoformat(), row["uid"], call["call"], call["location"]] += 1
+        return found
+
+    @cached_property
     def days(self):
         """The trains and the associations of each date, as `cif day` lists them."""
         trains, associations = Counter(), Counter()
@@ -112,6 +122,14 @@ class Expected:
                 passenger = str(int(self.is_passenger(number)))
                 found[day.isoformat(), or_none(row["operator_code"]), passenger] += 1
         return Counter((*key, str(count)) for key, count in found.items())
+
+    @cached_property
+    def departures(self):
+        return self.board("departure", "pick_up", -1)
+
+    @cached_property
+    def arrivals(self):
+        return self.board("arrival", "set_down", 0)
 
     def board(self, time, forbidden, end):
         """All departures, or arrivals, by the clock."""

@@ -133,8 +133,8 @@ def check_readers(counts, maker, special):
 def check_transactions(counts, maker, special):
     """A transaction that reads one table after another isn't in a deadlock with a replacement."""
     reads = "BEGIN; SELECT 1 FROM cif.calls; SELECT pg_sleep(1.5);"
-    for table in "extract", "runs", "departures", "schedules", "public_calls":
-        reads += f" SELECT count(*) FROM cif.{table};"
+    tables = ("extract", "runs", "departures", "schedules", "public_calls")
+    reads += " ".join(f"SELECT count(*) FROM cif.{table};" for table in tables)
     script, found = script_of(maker, special), []
     reader = threading.Thread(target=lambda: found.append(psql("-c", reads + " COMMIT")))
     reader.start()

@@ -17,7 +17,7 @@ from sql import by_hand, failures, postgres, words
 from sql.checks import Maker, check_database, sqlite_rows
 from sql.definition import Expected
 
-SCHEDULES = 2000
+SCHEDULES = 1000
 SEED = 1
 
 
