@@ -144,17 +144,18 @@ def check_failures(counts, maker, special):
 def check_signals(counts, maker, special):
     """Interrupted, it leaves nothing; killed, it leaves the old database."""
     old = (maker.folder / "kept.db").read_bytes()
-    failing = failing_cif(maker, "calls", "exec sleep 60")
-    before = left(maker)
+    failing = failing_cif(maker, "calls", "touch reached; exec sleep 60")
+    before, reached = left(maker), maker.folder / "reached"
     words = [COMPANIONS / "cif-sql", "--cif", failing.cif, "--force", "-o", "kept.db", special]
     for number in signal.SIGTERM, signal.SIGINT, signal.SIGKILL:
         process = subprocess.Popen(
             words, cwd=maker.folder, stderr=subprocess.PIPE, start_new_session=True
         )
         for _ in range(600):
-            if left(maker) != before:
+            if reached.exists():
                 break
             time.sleep(0.05)
+        reached.unlink()
         process.send_signal(number)
         process.wait(timeout=30)
         process.stderr.close()
