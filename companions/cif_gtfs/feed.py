@@ -129,17 +129,14 @@ class TripFiles:
 
     def stop_time_rows(self, trip: Trip) -> bytes:
         stops = self.stops.ids
-        name = trip.id
         while len(SEQUENCE) < len(trip.rows):
             SEQUENCE.append(b",%d," % (len(SEQUENCE) + 1))
+        pieces: List[bytes] = []
+        for sequence, row in zip(SEQUENCE, trip.rows):
+            location, platform, times = row.split(b"\t", 2)
+            pieces += (trip.id, sequence, stops[location, platform], b",", times)
         # times, set down and pick up stand in the order of the heading
-        rows = [
-            name + sequence + stops[location, platform] + b"," + times
-            for sequence, (location, platform, times) in zip(
-                SEQUENCE, [row.split(b"\t", 2) for row in trip.rows]
-            )
-        ]
-        return b"".join(rows).replace(b"\t", b",")
+        return b"".join(pieces).replace(b"\t", b",")
 
 
 class TransferRow(NamedTuple):

@@ -54,6 +54,7 @@ class Routes:
     def __init__(self, stops: Stops) -> None:
         self.stops = stops
         self.known: Dict[RouteKey, Shown] = {}
+        self.ends: Dict[bytes, Tuple[str, str]] = {}
         self.rows: Dict[str, RouteRow] = {}
         self.operators: Set[str] = set()
 
@@ -66,15 +67,23 @@ class Routes:
 
     def new(self, operator: str, route_type: int, ends: Ends) -> Shown:
         """Direction 0 is from the end whose id comes first."""
-        locations = [end.decode() for end in ends]
-        names = {self.stops.end_of(end): self.stops.places.station_name(end) for end in locations}
-        way = [self.stops.end_of(end) for end in locations]
+        (first, first_name), (last, last_name) = (self.end(location) for location in ends)
         agency = coded(operator) or NO_OPERATOR
-        route = "-".join([agency, str(route_type), *sorted(way)])
+        low, high = sorted((first, last))
+        route = f"{agency}-{route_type}-{low}-{high}"
         self.operators.add(operator)
-        name = " - ".join(names[end] for end in sorted(way))
-        self.rows[route] = RouteRow(route, agency, name, route_type)
-        return Shown(route, int(way != sorted(way)), names[way[1]])
+        if route not in self.rows:
+            names = {first: first_name, last: last_name}
+            name = f"{names[low]} - {names[high]}"
+            self.rows[route] = RouteRow(route, agency, name, route_type)
+        return Shown(route, int(first != low), last_name)
+
+    def end(self, location: bytes) -> Tuple[str, str]:
+        """The id and the name of the station or stop where a train ends."""
+        if location not in self.ends:
+            name = location.decode()
+            self.ends[location] = (self.stops.end_of(name), self.stops.places.station_name(name))
+        return self.ends[location]
 
     def agencies(
         self, given: Mapping[Key, OperatorRow], web: str, timezone: str, language: str

@@ -39,9 +39,7 @@ class Sort(NamedTuple):
 
     status: str
     category: str
-    identity: str
     sleepers: str
-    operator: str
 
 
 class About(NamedTuple):
@@ -53,9 +51,9 @@ class About(NamedTuple):
     text: bytes
 
 
-def about_of(identity: str, operator: str, route_type: int) -> About:
-    text = f"{identity}\t{operator}\t{route_type}\n".encode()
-    return About(identity, operator, route_type, text)
+def about_of(identity: bytes, operator: bytes, route_type: int) -> About:
+    text = b"%s\t%s\t%d\n" % (identity, operator, route_type)
+    return About(identity.decode(), operator.decode(), route_type, text)
 
 
 def kind_of(sort: Sort) -> Kind:
@@ -86,35 +84,36 @@ class Schedule(NamedTuple):
     record: Tuple[bytes, bytes, bytes, bytes]
 
 
-FIELDS = "schedule uid first_date last_date days_run reserved_a".split()
-SORT_FIELDS = "status category identity sleepers operator_code".split()
+FIELDS = (
+    "schedule uid first_date last_date days_run reserved_a identity operator_code"
+    " status category sleepers".split()
+)
 
 
 class ScheduleReader:
-    """Reads rows of `schedules`. What many rows have alike is worked out once."""
+    """Reads rows of `schedules`."""
 
     def __init__(self, names: List[str], window: Window, types: Mapping[Kind, int]) -> None:
         self.cells_at = itemgetter(*(names.index(name) for name in FIELDS))
-        self.sort_at = itemgetter(*(names.index(name) for name in SORT_FIELDS))
         self.window = window
         self.types = types
-        self.known: Dict[Tuple[bytes, ...], Optional[About]] = {}
+        # the route type of each sort, or None if it isn't for riders
+        self.known: Dict[Tuple[bytes, ...], Optional[int]] = {}
 
-    def about(self, cells: Tuple[bytes, ...]) -> Optional[About]:
-        sort = Sort(*(cell.decode() for cell in cells))
-        if not is_for_riders(sort.status, sort.category):
-            return None
-        return about_of(sort.identity, sort.operator, self.types[kind_of(sort)])
+    def route_type(self, status: bytes, category: bytes, sleepers: bytes) -> Optional[int]:
+        sort = Sort(status.decode(), category.decode(), sleepers.decode())
+        return self.types[kind_of(sort)] if is_for_riders(sort.status, sort.category) else None
 
     def read(self, line: bytes) -> Schedule:
-        cells = line.rstrip(b"\n").split(b"\t")
-        number, uid, first, last, days_run, retail = self.cells_at(cells)
-        sort = self.sort_at(cells)
+        cells = self.cells_at(line.rstrip(b"\n").split(b"\t"))
+        number, uid, first, last, days_run, retail, identity, operator, *fields = cells
+        sort = tuple(fields)
         if sort not in self.known:
-            self.known[sort] = self.about(sort)
+            self.known[sort] = self.route_type(*sort)
+        route_type = self.known[sort]
+        about = None if route_type is None else about_of(identity, operator, route_type)
         dates = self.window.dates(first, last, days_run)
-        record = (first, last, days_run, retail)
-        return Schedule(number, uid.decode(), dates, self.known[sort], record)
+        return Schedule(number, uid.decode(), dates, about, (first, last, days_run, retail))
 
 
 class PublicTrain(NamedTuple):
@@ -132,6 +131,8 @@ def public_trains(
     lines = iter(schedules)
     for calls in calls_by_schedule(table):
         start = calls.schedule + b"\t"
-        line = next((line for line in lines if line.startswith(start)), b"")
+        line = next(lines, b"")
+        while line and not line.startswith(start):
+            line = next(lines, b"")
         if calls.text.count(b"\n") > 1:
             yield PublicTrain(reader.read(line), calls)

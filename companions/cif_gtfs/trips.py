@@ -2,7 +2,7 @@
 from __future__ import annotations
 
 from hashlib import blake2b
-from typing import Dict, FrozenSet, Iterable, List, Mapping, NamedTuple, Optional, Sequence, Set
+from typing import Dict, FrozenSet, Iterable, List, Mapping, NamedTuple, Optional, Sequence
 from typing import Tuple
 
 from cif_shared.dates import Dates, moved
@@ -23,13 +23,14 @@ class Trip:
     """A trip of GTFS: what it shows, the dates of its service, and the schedules that it is made
     of. Its rows are those of `public` from the location on."""
 
-    __slots__ = ("id", "about", "rows", "ends", "dates", "block", "days_later", "records")
+    __slots__ = tuple("id about rows mark ends dates block days_later records".split())
 
-    def __init__(self, trip_id: bytes, about: About, rows: Sequence[bytes], ends: Ends) -> None:
+    def __init__(self, trip_id: bytes, about: About, rows: Sequence[bytes], mark: bytes) -> None:
         self.id = trip_id
         self.about = about
         self.rows = rows
-        self.ends = ends
+        self.mark = mark
+        self.ends = Ends(b"", b"")
         self.dates: Dates = 0
         # the id of the first part of its train, if that is cut, and how many days later than the
         # service the train runs
@@ -43,43 +44,38 @@ def ends_of(rows: Sequence[bytes]) -> Ends:
     return Ends(rows[0].split(b"\t", 1)[0], rows[-1].split(b"\t", 1)[0])
 
 
-def digest_of(content: bytes) -> str:
-    return blake2b(content, digest_size=ID_BYTES).hexdigest()
-
-
 class TripsOfUid:
-    """The trips of one UID by their contents, so that those with equal contents are one."""
+    """The trips of one UID by their ids, so that those with equal contents are one."""
 
     def __init__(self, uid: str) -> None:
         self.uid = uid
         self.name = coded(uid)
         self.trips: Dict[bytes, Trip] = {}
-        self.ids: Set[bytes] = set()
 
     def add(
         self, about: About, rows: Sequence[bytes], ends: Optional[Ends] = None, mark: bytes = b""
     ) -> Trip:
         """The trip of a train that has these rows, and other ends if it is a part of a train. A mark
         tells those of compositions from others."""
-        content = about.text + b"".join(rows) + mark
-        trip = self.trips.get(content)
+        trip_id = self.id_of(about.text + b"".join(rows) + mark)
+        trip = self.trips.get(trip_id)
         if trip is None:
-            trip = Trip(self.new_id(content), about, rows, ends or ends_of(rows))
-            self.trips[content] = trip
+            trip = Trip(trip_id, about, rows, mark)
+            trip.ends = ends or ends_of(rows)
+            self.trips[trip_id] = trip
+        elif (trip.about, trip.mark) != (about, mark) or trip.rows != rows:
+            raise Refused(f"two trips of the train {self.uid} have the id {trip_id.decode()}")
         return trip
 
     def in_order(self) -> TripsOfUid:
         """The same with the trips rising by their ids, in whatever order they were added."""
-        self.trips = dict(sorted(self.trips.items(), key=lambda item: item[1].id))
+        self.trips = dict(sorted(self.trips.items()))
         return self
 
-    def new_id(self, content: bytes) -> bytes:
+    def id_of(self, content: bytes) -> bytes:
         """The UID and a short hash, the same in each window."""
-        found = f"{self.name}-{digest_of(content)}".encode()
-        if found in self.ids:
-            raise Refused(f"two trips of the train {self.uid} have the id {found.decode()}")
-        self.ids.add(found)
-        return found
+        digest = blake2b(content, digest_size=ID_BYTES).hexdigest()
+        return f"{self.name}-{digest}".encode()
 
 
 def add_records(trip: Trip, records: Sequence[RunsAs], dates: Dates) -> None:

@@ -92,26 +92,34 @@ class NewFiles:
         self.unwanted.append(place)
 
     def finish(self) -> None:
-        """Puts all into their places, which no interrupt stops halfway."""
+        """Puts all into their places."""
         for file in self.opened:
             file.close()
         for path, _ in self.written:
             synchronise(path)
-        signal.pthread_sigmask(signal.SIG_BLOCK, INTERRUPTS)
-        try:
+        with interrupts_waiting():
             for path, place in self.written:
                 os.replace(path, place)
             for place in self.unwanted:
                 if place.exists():
                     place.unlink()
-        finally:
-            signal.pthread_sigmask(signal.SIG_UNBLOCK, INTERRUPTS)
 
     def discard(self) -> None:
         """Leaves nothing of what isn't in its place."""
-        for path, _ in self.written:
-            if path.exists():
-                path.unlink()
+        with interrupts_waiting():
+            for path, _ in self.written:
+                if path.exists():
+                    path.unlink()
+
+
+@contextmanager
+def interrupts_waiting() -> Iterator[None]:
+    """Lets interrupts wait for what mustn't be left halfway."""
+    signal.pthread_sigmask(signal.SIG_BLOCK, INTERRUPTS)
+    try:
+        yield
+    finally:
+        signal.pthread_sigmask(signal.SIG_UNBLOCK, INTERRUPTS)
 
 
 def synchronise(path: Path) -> None:

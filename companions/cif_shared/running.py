@@ -15,9 +15,7 @@ INTERRUPTS = (signal.SIGINT, signal.SIGTERM, signal.SIGHUP)
 
 
 def interrupt(number: int, _frame: Optional[FrameType]) -> None:
-    """Ends the run once. Further interrupts don't disturb what tidies up then."""
-    for each in INTERRUPTS:
-        signal.signal(each, signal.SIG_IGN)
+    """Ends the run."""
     raise Failed(f"interrupted by {signal.Signals(number).name}")
 
 

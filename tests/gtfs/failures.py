@@ -304,6 +304,14 @@ def check_space(counts, maker, special):
     temporary.rmdir()
 
 
+def check_version(counts, maker):
+    version = subprocess.run([maker.cif, "--version"], capture_output=True, text=True, check=False)
+    number = version.stdout.partition(" ")[2]
+    for program in "cif-gtfs", "cif-gtfs-csv":
+        done = maker.run("--version", program=program)
+        counts.same(f"{program} --version", f"{program} {number}", done.stdout)
+
+
 def check_publisher(counts, maker, special):
     words = (
         "--publisher",
@@ -425,11 +433,9 @@ def check_signals(counts, maker, special):
     failing = failing_cif(maker, "public", "exec sleep 60")
     before = left(maker)
     for number in signal.SIGTERM, signal.SIGINT:
-        process = subprocess.Popen(
-            [COMPANIONS / "cif-gtfs", "--cif", failing.cif, special],
-            cwd=maker.folder,
-            stderr=subprocess.PIPE,
-        )
+        # what runs in the background may have interrupts ignored
+        words = ["env", "--default-signal", COMPANIONS / "cif-gtfs", "--cif", failing.cif, special]
+        process = subprocess.Popen(words, cwd=maker.folder, stderr=subprocess.PIPE)
         for _ in range(1200):
             if left(maker) != before:
                 break
@@ -528,7 +534,7 @@ def check_again(counts, maker, special):
 
 def check_collision(counts):
     """Two trips of a train with one id are refused, which needs shorter ids than there are."""
-    about, found = about_of("1A01", "SN", 2), trips.TripsOfUid(" 00001")
+    about, found = about_of(b"1A01", b"SN", 2), trips.TripsOfUid(" 00001")
     length, trips.ID_BYTES = trips.ID_BYTES, 1
     try:
         for number in range(300):
@@ -549,7 +555,8 @@ def check_collision(counts):
 def check_blocks(counts):
     """The rows of some schedules are the same in blocks of any size."""
     rows = [
-        b"%d\t%d\tLO\t%s\t%s" % (schedule, call, b"AB"[call % 2 :][:1], b"AB"[schedule % 2 :][:1])
+        b"%d\t%d\tLO\t%s\t%s\tend"
+        % (schedule, call, b"AB"[call % 2 :][:1], b"AB"[schedule % 2 :][:1])
         for schedule in range(1, 130)
         for call in range(1 + schedule % 7)
     ]
@@ -588,6 +595,7 @@ def check(counts, maker, special):
     check_hints(counts, maker, special)
     check_space(counts, maker, special)
     check_publisher(counts, maker, special)
+    check_version(counts, maker)
     check_changed(counts, maker, special)
     check_signals(counts, maker, special)
     check_terminal(counts, maker, special)

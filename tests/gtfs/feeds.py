@@ -124,7 +124,7 @@ class Feed:
             )
             of_trip = tuple(call[1:] for call in sorted(calls[row["trip_id"]]))
             name = row["trip_id"]
-            self.block[name] = row["block_id"]
+            self.block[name] = row.get("block_id", "")
             self.trips[name] = Shown(
                 uids[name.rpartition("-")[0]], row["trip_short_name"], *about, of_trip
             )

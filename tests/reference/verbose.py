@@ -248,7 +248,7 @@ def of_line(job, one, fault):
     if is_feed and fault.name == "BadLength" and line[:3] == b"/!!":
         said.append(LONG_COMMENT)
     elif fault.name == "BadLength":
-        said += length(one, line)
+        said += length(one, fault.line)
     elif refusal.first and fault.name == "BankHoliday" and is_feed:
         said += of_code(job, refusal, line)
     elif refusal.first:
@@ -266,12 +266,17 @@ def of_code(job, refusal, line):
     ]
 
 
-def length(one, line):
-    said = f"the line has {'thousands of' if len(line) >= LOOKED_AT else len(line)} columns, not 80"
-    is_cut = (
-        len(line) < layouts.WIDTH and line == contents_of(one.data)[-1] and one.data.endswith(line)
-    )
-    return [said, ENDS_IN_IT] if is_cut else [said]
+def length(one, number):
+    """How long the line of this number is, and whether the input ends in the midst of it."""
+    contents = contents_of(one.data)
+    line = contents[number - 1]
+    width = "thousands of" if len(line) >= LOOKED_AT else len(line)
+    is_last = number == len(contents) and not one.data.endswith(b"\n")
+    if is_last and not one.again and layouts.WIDTH + 2 <= len(line) < LOOKED_AT:
+        # it is refused before more is read of standard input
+        return ["the line has more than 80 columns"]
+    is_cut = is_last and len(line) < layouts.WIDTH
+    return [f"the line has {width} columns, not 80", *[ENDS_IN_IT] * is_cut]
 
 
 def columns(first, last, must):

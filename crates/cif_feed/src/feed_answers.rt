@@ -60,8 +60,7 @@ impl KeptUpdate {
 fn have_marks(done: &[DoneUpdate]) -> bool
     ensures { result ≡ list_any (λ (u : DoneUpdate). have_marks u.outcome.counts) done.now }
 {
-    done.iter()
-        .any(|update| update.outcome.counts.have_marks())
+    done.iter().any(|update| update.outcome.counts.have_marks())
 }
 
 /// What is said of a feed that was read.

@@ -1,6 +1,7 @@
 -- What a command owes its sink, by the calls that it makes.
 use Rattle.cif_tool.proofs.Names.{Answers, AreAnswered, Err, Fault, FaultWrites, Finishes, HasFailed, HasWritten, IfAnswered, IfErr, IfOk}
-use Rattle.cif_tool.proofs.Names.{IfOk-weaker, IfWritten, IsAnswered, IsErrAnd, IsHandedOn, IsResultOf, IsResultOfBoth, List, MAX_LINES}
+use Rattle.cif_tool.proofs.Names.{IfOk-weaker, IfWritten, IsAnswered, IsErrAnd, IsHandedOn, IsOfCheck, IsOfNormalise, IsOfReadNarrowed, IsOfReading}
+use Rattle.cif_tool.proofs.Names.{IsResultOf, IsResultOfBoth, List, MAX_LINES}
 use Rattle.cif_tool.proofs.Names.{Makes, MatchResult, OfBoth, OfInput, Ok, Option, ReadCall, Refuses, Result, Sink, Source, Unread, Writes}
 use Rattle.cif_tool.proofs.Names.{[], answering, ap, append-nil, at-fault, err_from_is_err_and, failed_second, false, goes-on, hands-on}
 use Rattle.cif_tool.proofs.Names.{is_read, reading_extract, refl, subst, sym, written_both, ℕ, ◌∙◌, ◌≡◌, ◌≢◌}
@@ -153,6 +154,23 @@ module _ {W : Type 0} (contents : W → Option (List ℕ)) (errors : W → Optio
 
 -- ---- what a command comes to, by the call that reads for it
 
+-- the faults of reading, and of reading for a window, are among those of `normalise`
+pub may-read : (f : Fault) → IsOfReading MAX_LINES f → IsOfNormalise MAX_LINES f
+may-read fault.Write h = tt
+may-read (fault.Ambiguous clash) h = tt
+may-read fault.OutsideWindow h = tt
+may-read fault.WindowReversed h = tt
+may-read _ h = h
+
+pub may-narrow : (f : Fault) → IsOfReadNarrowed MAX_LINES f → IsOfNormalise MAX_LINES f
+may-narrow fault.Write h = tt
+may-narrow (fault.Ambiguous clash) h = tt
+may-narrow _ h = h
+
+pub may-check : (f : Fault) → IsOfCheck MAX_LINES f → IsOfNormalise MAX_LINES f
+may-check fault.Write h = tt
+may-check _ h = h
+
 not-read : (f : Fault) → f ≢ fault.Read → is_read f ≡ false
 not-read fault.Read other = absurd (other refl)
 not-read _ other = refl
@@ -164,10 +182,10 @@ module _ {A : Type 0} (one : ReadCall A Fault) (IsFault : List ℕ → Unread �
 
   -- a fault of reading
   pub unread : (f : Fault) → ((bytes : List ℕ) (after : Unread) → one.IsFault bytes after f → IsFault bytes after f) →
-      one.is_read f ≡ is_read f → IsResultOf remaining errors one old new (Err f) → (result : Result ℕ Fault) →
+      (one.MayFail f → IsOfNormalise MAX_LINES f) → one.is_read f ≡ is_read f → IsResultOf remaining errors one old new (Err f) → (result : Result ℕ Fault) →
       IsErrAnd result (λ e. e ≡ f) → Comes result
-  unread f so same =
-      hands-on one (answering IsFault) remaining errors old new f (record { fault = so; answers = λ h. tt; same = same })
+  unread f so may same =
+      hands-on one (answering IsFault) remaining errors old new f (record { fault = so; answers = may; same = same })
 
   module _ {W : Type 0} (contents : W → Option (List ℕ)) (write_errors : W → Option ℕ) (holds_nothing : W → Type 0)
       (IsAnswer : List ℕ → List ℕ → ℕ → Type 0) (sink : Sink W) where
@@ -176,17 +194,18 @@ module _ {A : Type 0} (one : ReadCall A Fault) (IsFault : List ℕ → Unread �
 
     -- so there is no answer
     pub not-answered : (f : Fault) → ((bytes : List ℕ) (after : Unread) → one.IsFault bytes after f → IsFault bytes after f) →
-        one.is_read f ≡ is_read f → ¬ one.MayFail fault.Write → IsResultOf remaining errors one old new (Err f) →
+        (one.MayFail f → IsOfNormalise MAX_LINES f) → one.is_read f ≡ is_read f → ¬ one.MayFail fault.Write → IsResultOf remaining errors one old new (Err f) →
         (result : Result ℕ Fault) → IsErrAnd result (λ e. e ≡ f) → Is sink result
-    not-answered f so same never call result handed =
+    not-answered f so may same never call result handed =
         nothing-of-input contents write_errors holds_nothing sink result f handed
         (λ write. never (subst one.MayFail write call.answers)) remaining errors IsAnswer (answering IsFault) old new
-        (unread f so same call result handed)
+        (unread f so may same call result handed)
 
   module _ (x : A) (whole : one.IsWhole x) (call : IsResultOf remaining errors one old new (Ok x)) (result : Result ℕ Fault) where
     -- one of what was read
     pub record Blames (f : Fault) : Type 0 where
       pub other : f ≢ fault.Read
+      pub may : IsOfNormalise MAX_LINES f
       pub fault : (bytes : List ℕ) (after : Unread) → one.IsAnswer bytes x → IsFault bytes after f
 
     pub ends : IfErr result Blames → Comes result
@@ -194,12 +213,12 @@ module _ {A : Type 0} (one : ReadCall A Fault) (IsFault : List ℕ → Unread �
       where
         at : (r : Result ℕ Fault) → IfErr r Blames → MatchResult r (Makes one (answering IsFault) x) (Refuses one (answering IsFault) x)
         at (Ok status) h = record { answer = λ bytes is. tt; whole = λ asked. whole }
-        at (Err f) h = record { fault = h.fault; answers = tt; other = not-read f h.other }
+        at (Err f) h = record { fault = h.fault; answers = h.may; other = not-read f h.other }
 
     -- which is Write alone
     pub ends-written : ((bytes : List ℕ) (after : Unread) → one.IsAnswer bytes x → IsFault bytes after fault.Write) →
         IfErr result (λ f. f ≡ fault.Write) → Comes result
-    ends-written so is = ends (only-write Blames result is (record { fault = so; other = λ e. cc }))
+    ends-written so is = ends (only-write Blames result is (record { fault = so; other = λ e. cc; may = tt }))
 
     module _ {W : Type 0} (contents : W → Option (List ℕ)) (write_errors : W → Option ℕ) (holds_nothing : W → Type 0)
         (IsAnswer : List ℕ → List ℕ → ℕ → Type 0) (sink mid sink_new : Sink W) (text : List ℕ) (written : Result (Unit {0}) Fault)

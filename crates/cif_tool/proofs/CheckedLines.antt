@@ -1,4 +1,5 @@
 -- What `check --all` answers, by what its calls answer: of bytes that are known.
+use Rattle.cif_tool.proofs.Names.{IsOfNormalise}
 use Rattle.cif_tool.proofs.Names.{Asked, CanonParts, CanonicalJob, Err, ExtractParts, Fault, Form, HasCanon, HaveReasons, IfErr, IfOk}
 use Rattle.cif_tool.proofs.Names.{IfSome, IsCheckAllAnswer, IsCheckAllFault, IsJudgedFault, IsNormaliseFault, List, MAX_LINES, Makes}
 use Rattle.cif_tool.proofs.Names.{MatchResult, Ok, Option, Refuses, Result, Unread, answering_all, canon-blamed, counts_line, extract_parts}
@@ -78,7 +79,7 @@ module _ (asked : Asked) (after : Unread) where
           (λ f. IsNormaliseFault MAX_LINES asked bytes rest f → IsCheckAllFault asked bytes rest f) (λ clash blamed. (h.none, blamed))
           (λ blamed. (h.none, blamed)) (λ blamed. (h.none, blamed)) (λ blamed. tt) f has
           (canon-blamed MAX_LINES asked form bytes rest (extract_parts x) h.spell f has);
-      answers = tt;
+      answers = of-canon MAX_LINES asked form (extract_parts x) (λ f. IsOfNormalise MAX_LINES f) (λ clash. tt) tt tt tt f has;
       other = of-canon MAX_LINES asked form (extract_parts x) (λ f. is_read f ≡ false) (λ clash. refl) refl refl refl f has;
     }
 

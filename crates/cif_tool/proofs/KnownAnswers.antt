@@ -4,7 +4,8 @@ use Rattle.cif_tool.proofs.Names.{CalendarJob, CanonParts, CanonicalJob, Clash, 
 use Rattle.cif_tool.proofs.Names.{ExtractLines, ExtractParts, Fault, Format, IfErr, IfSome, IsCalendarAnswer, IsCanonOfInput}
 use Rattle.cif_tool.proofs.Names.{IsCanonicalAnswer, IsClashesAnswer, IsClashlessRefusal, IsCompareAnswer, IsCompareFault, IsDayAnswer}
 use Rattle.cif_tool.proofs.Names.{IsDiffAnswer, IsErrAnd, IsExplainAnswer, IsExplanation, IsListedStatus, IsNormaliseFault}
-use Rattle.cif_tool.proofs.Names.{IsReadNarrowedFault, IsResultOfBoth, IsTrainAnswer, IsTrainFault, IsTrue, IsWeekCalendar}
+use Rattle.cif_views.specs.Explanation.{IsExplanationFault}
+use Rattle.cif_tool.proofs.Names.{IsDayFault, IsOfNormalise, IsReadNarrowedFault, IsResultOfBoth, IsTrainAnswer, IsTrainFault, IsTrue, IsWeekCalendar}
 use Rattle.cif_tool.proofs.Names.{IsWeekCalendarFault, List, MAX_LINES, Ok, Option, Result, Source, SpellsNarrowed, TrainJob, Unread, []}
 use Rattle.cif_tool.proofs.Names.{ap, canon-fault, canonical_text, clashes_text, comparison_line, differences_in, extract_parts, false, inl}
 use Rattle.cif_tool.proofs.Names.{inr, is-normalised, known_so, lines_of, listed_status, outcome_of, reader_of, reading_extract, refl, sym}
@@ -183,3 +184,29 @@ module _ (asked : Asked) (bytes : List ℕ) (after : Unread) where
   calendar-fault x spelled fault.Memory is = tt
   calendar-fault x spelled fault.Write is = (x, spelled)
   calendar-fault x spelled _ is = absurd is
+
+-- ---- the faults of a view are among those of `normalise`
+
+pub day-may : (x : ExtractParts) (d : ℕ) (f : Fault) → IsDayFault x d f → IsOfNormalise MAX_LINES f
+day-may x d fault.OutsideWindow h = tt
+day-may x d fault.Write h = tt
+day-may x d (fault.Ambiguous clash) h = tt
+day-may x d fault.Memory h = tt
+day-may x d _ h = absurd h.1
+
+pub train-may : (x : ExtractParts) (f : Fault) → IsTrainFault x f → IsOfNormalise MAX_LINES f
+train-may x fault.Write h = tt
+train-may x (fault.Ambiguous clash) h = tt
+train-may x fault.Memory h = tt
+train-may x _ h = absurd h
+
+pub explain-may : (x : ExtractParts) (d : ℕ) (f : Fault) → IsExplanationFault x d f → IsOfNormalise MAX_LINES f
+explain-may x d fault.OutsideWindow h = tt
+explain-may x d fault.Memory h = tt
+explain-may x d fault.Write h = tt
+explain-may x d _ h = absurd h
+
+pub calendar-may : (f : Fault) → IsWeekCalendarFault f → IsOfNormalise MAX_LINES f
+calendar-may fault.Memory h = tt
+calendar-may fault.Write h = tt
+calendar-may _ h = absurd h

@@ -22,6 +22,7 @@ pub use Rattle.cif_feed.specs.declared.feed.FeedFault.TheVariants.{AlreadyThere,
 pub use Rattle.cif_feed.specs.declared.published_extract.PublishedExtract.{PublishedExtract}
 pub use Rattle.cif_canon.proofs.Names.{AreDifferences, AreNone, CanonParts, DifferencesParts, Fault, FaultWrites, Form, HasCanon, IfWritten}
 pub use Rattle.cif_canon.proofs.Names.{IsCanonOfInput, IsCompareFault, IsNormaliseFault, IsOfReadNarrowed, IsOfReading, IsReadNarrowedFault}
+pub use Rattle.cif_canon.specs.Fault.{IsOfCheck, IsOfNormalise}
 pub use Rattle.cif_canon.proofs.Names.{IsResultOfBoth, SpellsNarrowed, Write, at-fault, err_from_is_err_and, hands, hands-either, is_read}
 pub use Rattle.cif_canon.proofs.Names.{lines_of, reading_canon, reading_extract, reading_narrowed}
 pub use Rattle.cif_canon.proofs.Normalising.{canon-blamed, canon-fault, is-normalised, narrowed-fault, of-canon}

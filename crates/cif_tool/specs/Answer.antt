@@ -27,7 +27,7 @@ use Rattle.cif_canon.specs.Comparison.{AreCompared, IsCompareFault, comparison_l
 use Rattle.cif_canon.specs.Counts.{counts_line}
 use Rattle.cif_canon.specs.Differences.{AreDifferences, AreNone, DifferencesParts, differences_text}
 use Rattle.cif_views.specs.Explanation.{IsExplanation, IsExplanationFault}
-use Rattle.cif_canon.specs.Fault.{IsNormaliseFault, IsReadNarrowedFault}
+use Rattle.cif_canon.specs.Fault.{IsNormaliseFault, IsOfNormalise, IsReadNarrowedFault}
 use Rattle.cif_canon.specs.Lines.{lines_of}
 use Rattle.cif_canon.specs.Normalised.{FaultWrites, IsNormalised}
 use Rattle.cif_canon.specs.Pair.{AreNarrowed, IsNarrowedPair, SpellPair}
@@ -205,9 +205,9 @@ abbrev pub IsClashlessRefusal : Asked → List ℕ → Unread → Fault → Type
 IsClashlessRefusal asked bytes after Write = (extract : ExtractParts) × SpellsNarrowed MAX_LINES asked extract bytes
 IsClashlessRefusal asked bytes after fault = IsReadNarrowedFault MAX_LINES asked bytes after fault
 
--- what a command with one input may come to: any status, or one of these faults
+-- what a command with one input may come to: any status, or one of these faults; for any source no fault but those of `normalise`
 abbrev pub answering : (List ℕ → Unread → Fault → Type 0) → ReadCall ℕ Fault
-answering IsFault = reading is_read (λ bytes status. ⊤) IsFault (λ fault. ⊤)
+answering IsFault = reading is_read (λ bytes status. ⊤) IsFault (IsOfNormalise MAX_LINES)
 
 -- where `check --all` lists reasons, it reads no more than the first lines of an input that has one without an end
 abbrev pub answering_all : Asked → ReadCall ℕ Fault

@@ -110,11 +110,14 @@ fn prepare(rt: HostRuntime, call: &Call, drop_clashes: bool, errors: &mut Sink<S
                 let reader = Reader::Feeds {
                     has_holidays: holidays.is_some(),
                 };
-                let input = match holidays.as_ref().map(Source::reader) {
-                    Some(input) if !source.reader().is_touched() => input,
-                    _ => source.reader(),
-                };
-                input.add_feed_fault(fault, reader, &written, &mut message);
+                match holidays.as_ref().map(Source::reader) {
+                    Some(input) if !source.reader().is_touched() => {
+                        input.add_feed_fault(fault, reader, &written, &mut message);
+                    }
+                    _ => source
+                        .reader()
+                        .add_feed_fault(fault, reader, &written, &mut message),
+                }
             }
         }
         message.tell(errors);

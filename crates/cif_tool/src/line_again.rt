@@ -76,8 +76,9 @@ impl LastRead {
     /// too many.
     pub(crate) fn add(&mut self, read: &[u8]) {
         self.is_end = read.is_empty();
-        if self.bytes.len() >= MOST_KEPT {
-            self.forget(self.bytes.len().saturating_sub(LEAST_KEPT));
+        let length = self.bytes.len();
+        if length >= MOST_KEPT {
+            self.forget(length.saturating_sub(LEAST_KEPT));
         }
         if self.bytes.extend_from_slice(read).is_err() {
             self.lines_before = None;

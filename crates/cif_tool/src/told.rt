@@ -37,7 +37,7 @@ pub fn end_update<W: WriteDevice>(
 {
     match answer {
         Ok(()) => {
-            append(prepared_line(kept.looks_prepared()), errors);
+            append(prepared_line(kept.looks_prepared()).as_str(), errors);
             write_each(&WaivedLines, kept.done.as_slice(), errors);
             DONE
         }
@@ -108,14 +108,14 @@ fn dropped_line(key: &DroppedKey) -> ArrayString<LONGEST_DROPPED>
 
 /// The line that says that FULL looks prepared, if it does.
 #[tactic(auto, unfolding(crate::specs::Told::prepared_line))]
-fn prepared_line(looks_prepared: bool) -> &'static str
+fn prepared_line(looks_prepared: bool) -> ArrayString<LONGEST_LINE>
     ensures { result.bytes ≡ prepared_line looks_prepared }
 {
+    let mut line = ArrayString::new();
     if looks_prepared {
-        "cif: FULL has no open end and no holiday code, as if it were prepared\n"
-    } else {
-        ""
+        line.push_str("cif: FULL has no open end and no holiday code, as if it were prepared\n");
     }
+    line
 }
 
 /// The lines of such keys.

@@ -1,8 +1,8 @@
 -- What is written is an answer (`calendar-answer`); its faults are of known bytes (`calendar-fault`). `view`: of the extract that
 -- was narrowed, which is kept.
 use Rattle.cif_tool.proofs.Names.{IsClashlessRefusal, IsWeekCalendarFault, MAX_LINES, extract_parts, reading_narrowed, refl, subst}
-use Rattle.cif_tool.proofs.Answered.{not-answered, view-shown}
-use Rattle.cif_tool.proofs.KnownAnswers.{calendar-answer, calendar-fault, clashless-fault}
+use Rattle.cif_tool.proofs.Answered.{may-narrow, not-answered, view-shown}
+use Rattle.cif_tool.proofs.KnownAnswers.{calendar-answer, calendar-fault, calendar-may, clashless-fault}
 use Rattle.cif_tool.proofs.answers.answer_calendar.Goals as goal
 
 pub returns-in_err-extract : goal.returns-in_err-extract
@@ -10,7 +10,7 @@ returns-in_err-extract g c =
     let asked = c.args.job.now.asked in
     let f = c.in_err-extract.field-0.0 in
     not-answered (reading_narrowed MAX_LINES asked) (IsClashlessRefusal asked) _ _ _ _ _ _ _ _ c.args.sink.now f
-    (λ bytes after. clashless-fault asked bytes after f) refl (λ h. h) c.in_err-extract.ensures c.from_residual.result
+    (λ bytes after. clashless-fault asked bytes after f) (may-narrow f) refl (λ h. h) c.in_err-extract.ensures c.from_residual.result
     c.from_residual.ensures.1
 
 pub returns : goal.returns
@@ -27,4 +27,5 @@ returns g c =
     (λ f is. record {
       fault = λ bytes after spelled. calendar-fault job.asked bytes after x spelled f is;
       other = λ read. subst IsWeekCalendarFault read is;
+      may = calendar-may f is;
     }) c.finish.ensures.finishes

@@ -1,6 +1,6 @@
 -- What is written is an answer (`canonical-answer`); a fault is that of reading the canonical form, or Write.
 use Rattle.cif_tool.proofs.Names.{IsNormaliseFault, MAX_LINES, canonical_text, reading_canon, refl}
-use Rattle.cif_tool.proofs.Answered.{not-answered, text-shown}
+use Rattle.cif_tool.proofs.Answered.{may-check, not-answered, text-shown}
 use Rattle.cif_tool.proofs.KnownAnswers.{canonical-answer}
 use Rattle.cif_tool.proofs.answers.answer_canonical.Goals as goal
 
@@ -8,7 +8,7 @@ pub returns-in_err-canon : goal.returns-in_err-canon
 returns-in_err-canon g c =
     let job = c.args.job.now in
     not-answered (reading_canon job.form job.asked MAX_LINES) (IsNormaliseFault MAX_LINES job.asked) _ _ _ _ _ _ _ _ c.args.sink.now
-    c.in_err-canon.field-0.0 (λ bytes after h. h) refl (λ h. h) c.in_err-canon.ensures c.from_residual.result c.from_residual.ensures.1
+    c.in_err-canon.field-0.0 (λ bytes after h. h) (may-check c.in_err-canon.field-0.0) refl (λ h. h) c.in_err-canon.ensures c.from_residual.result c.from_residual.ensures.1
 
 pub returns : goal.returns
 returns g c =

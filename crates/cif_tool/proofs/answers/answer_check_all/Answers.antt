@@ -2,7 +2,7 @@
 use Rattle.cif_tool.proofs.Names.{IsOfReading, MAX_LINES, counts_line, extract_parts, goes-on, hands-either, hands-on, refl, subst}
 use Rattle.cif_tool.proofs.Names.{told_text, unread_of}
 use Rattle.cif_feed.specs.declared.judged.Judged.TheVariants.{Extract, Reasons}
-use Rattle.cif_tool.proofs.Answered.{handed-text, nothing-of-input, only-fails, status-is, told-as}
+use Rattle.cif_tool.proofs.Answered.{handed-text, may-read, nothing-of-input, only-fails, status-is, told-as}
 use Rattle.cif_tool.proofs.CheckedLines.{counts-not, counts-silent, counts-written, counts_answer, judged_fault, reasons-written}
 use Rattle.cif_tool.proofs.CheckedLines.{reasons_answer}
 use Rattle.cif_tool.proofs.answers.answer_check_all.Goals as goal
@@ -14,7 +14,7 @@ returns-in_err-reasons g c =
     nothing-of-input _ _ _ c.args.sink.now call.result f call.ensures.1
     (λ write. subst (IsOfReading MAX_LINES) write c.in_err-reasons.ensures.answers) _ _ _ _ _ _
     (hands-on _ _ _ _ _ _ f
-    (record { fault = λ bytes after h. judged_fault c.args.job.now.asked bytes after f h; answers = λ h. tt; same = refl })
+    (record { fault = λ bytes after h. judged_fault c.args.job.now.asked bytes after f h; answers = may-read f; same = refl })
     c.in_err-reasons.ensures _ call.ensures.1)
 
 pub returns-in-Reasons : goal.returns-in-Reasons

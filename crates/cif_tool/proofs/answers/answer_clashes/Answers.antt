@@ -1,7 +1,7 @@
 -- What is written is an answer (`clashes-answer`); each call's faults are of known bytes.
 use Rattle.cif_tool.proofs.Names.{IsClashlessRefusal, MAX_LINES, Write, clashes_text, extract_parts, hands, listed_status, reading_narrowed}
 use Rattle.cif_tool.proofs.Names.{refl, subst, sym, ◌≢◌}
-use Rattle.cif_tool.proofs.Answered.{ends, not-answered, nothing-of-input, text-shown}
+use Rattle.cif_tool.proofs.Answered.{ends, may-narrow, not-answered, nothing-of-input, text-shown}
 use Rattle.cif_tool.proofs.KnownAnswers.{clashes-answer, clashless-fault}
 use Rattle.cif_tool.proofs.answers.answer_clashes.Goals as goal
 
@@ -10,7 +10,7 @@ returns-in_err-extract g c =
     let asked = c.args.asked.now in
     let f = c.in_err-extract.field-0.0 in
     not-answered (reading_narrowed MAX_LINES asked) (IsClashlessRefusal asked) _ _ _ _ _ _ _ _ c.args.sink.now f
-    (λ bytes after. clashless-fault asked bytes after f) refl (λ h. h) c.in_err-extract.ensures c.from_residual.result
+    (λ bytes after. clashless-fault asked bytes after f) (may-narrow f) refl (λ h. h) c.in_err-extract.ensures c.from_residual.result
     c.from_residual.ensures.1
 
 pub returns-in_err-found : goal.returns-in_err-found
@@ -22,7 +22,7 @@ returns-in_err-found g c =
     (subst (λ f. f ≢ Write) (sym c.in_err-found.ensures.fault) (λ is. cc)) _ _ _ _ _ _
     (ends (reading_narrowed MAX_LINES asked) (IsClashlessRefusal asked) _ _ _ _ c.in_ok-extract.extract tt c.in_ok-extract.ensures
     call.result (hands call.result f call.ensures.1 _
-    (rw c.in_err-found.ensures.fault (record { fault = λ bytes after spelled. tt; other = λ is. cc }))))
+    (rw c.in_err-found.ensures.fault (record { fault = λ bytes after spelled. tt; other = λ is. cc; may = tt }))))
 
 pub returns : goal.returns
 returns g c =

@@ -1,13 +1,13 @@
 -- What the listing writes is an answer (`day-answer`). `view`: of the extract that was read, which is kept.
 use Rattle.cif_tool.proofs.Names.{IsDayFault, IsDayRefusal, MAX_LINES, extract_parts, inl, inr, reading_extract, refl, subst}
-use Rattle.cif_tool.proofs.Answered.{not-answered, view-shown}
-use Rattle.cif_tool.proofs.KnownAnswers.{day-answer}
+use Rattle.cif_tool.proofs.Answered.{may-read, not-answered, view-shown}
+use Rattle.cif_tool.proofs.KnownAnswers.{day-answer, day-may}
 use Rattle.cif_tool.proofs.answers.answer_day.Goals as goal
 
 pub returns-in_err-extract : goal.returns-in_err-extract
 returns-in_err-extract g c =
     not-answered (reading_extract MAX_LINES) (IsDayRefusal c.args.job.now.day) _ _ _ _ _ _ _ _ c.args.sink.now
-    c.in_err-extract.field-0.0 (λ bytes after. inl) refl (λ h. h) c.in_err-extract.ensures c.from_residual.result
+    c.in_err-extract.field-0.0 (λ bytes after. inl) (may-read c.in_err-extract.field-0.0) refl (λ h. h) c.in_err-extract.ensures c.from_residual.result
     c.from_residual.ensures.1
 
 pub returns : goal.returns
@@ -25,4 +25,5 @@ returns g c =
     (λ f is. record {
       fault = λ bytes after spelled. inr (x, spelled, is);
       other = λ read. (subst (IsDayFault x job.day) read is).1;
+      may = day-may x job.day f is;
     }) c.finish.ensures.finishes

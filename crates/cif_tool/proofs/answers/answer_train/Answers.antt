@@ -1,8 +1,8 @@
 -- What the listing writes is an answer (`train-answer`); its faults are of known bytes (`train-fault`). `view`: of the extract
 -- that was narrowed, which is kept.
 use Rattle.cif_tool.proofs.Names.{IsNormaliseFault, IsTrainFault, MAX_LINES, extract_parts, narrowed-fault, reading_narrowed, refl, subst}
-use Rattle.cif_tool.proofs.Answered.{not-answered, view-shown}
-use Rattle.cif_tool.proofs.KnownAnswers.{train-answer, train-fault}
+use Rattle.cif_tool.proofs.Answered.{may-narrow, not-answered, view-shown}
+use Rattle.cif_tool.proofs.KnownAnswers.{train-answer, train-fault, train-may}
 use Rattle.cif_tool.proofs.answers.answer_train.Goals as goal
 
 pub returns-in_err-extract : goal.returns-in_err-extract
@@ -10,7 +10,7 @@ returns-in_err-extract g c =
     let asked = c.args.job.now.asked in
     let f = c.in_err-extract.field-0.0 in
     not-answered (reading_narrowed MAX_LINES asked) (IsNormaliseFault MAX_LINES asked) _ _ _ _ _ _ _ _ c.args.sink.now f
-    (λ bytes after. narrowed-fault MAX_LINES asked bytes after f) refl (λ h. h) c.in_err-extract.ensures c.from_residual.result
+    (λ bytes after. narrowed-fault MAX_LINES asked bytes after f) (may-narrow f) refl (λ h. h) c.in_err-extract.ensures c.from_residual.result
     c.from_residual.ensures.1
 
 pub returns : goal.returns
@@ -28,4 +28,5 @@ returns g c =
     (λ f is. record {
       fault = λ bytes after spelled. train-fault job.asked bytes after x spelled f is;
       other = λ read. subst (IsTrainFault x) read is;
+      may = train-may x f is;
     }) c.finish.ensures.finishes
