@@ -118,7 +118,7 @@ Description: work out what runs on each date of a CIF timetable extract
  each date of the extract's window, and writes that down as an extract that
  needs no further rules. It also lists how two extracts differ, what runs on
  a day, and why a train runs or doesn't. cif-gtfs makes a GTFS feed of an
- extract.
+ extract, and cif-sql a database.
 END
 deb=cif_${version}_amd64.deb
 SOURCE_DATE_EPOCH=$time dpkg-deb --root-owner-group -Zxz --build "$root" "$work/$deb" > /dev/null

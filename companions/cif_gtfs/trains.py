@@ -1,13 +1,13 @@
 """The public trains of an extract: schedules with two public calls or more that are for riders."""
 from __future__ import annotations
 
-import re
 from enum import Enum
 from operator import itemgetter
 from typing import Dict, Iterable, Iterator, List, Mapping, NamedTuple, Optional, Tuple
 
 from cif_shared.dates import Dates, Window
-from cif_shared.files import BLOCK
+from cif_shared.riders import is_for_riders
+from cif_shared.schedules import Calls, calls_by_schedule
 from cif_shared.tables import Table
 
 
@@ -33,13 +33,6 @@ TYPES: Dict[Kind, int] = {
 }
 EXTENDED_TYPES: Dict[Kind, int] = {**TYPES, Kind.SLEEPER: 105, Kind.REPLACEMENT: 714}
 
-# What has public times now and then, though it isn't for riders, from memory: empty stock, staff
-# trains, post and parcels, departmental trains, light locomotives; and by their status freight and
-# trips of freight. A category of freight has a digit.
-NOT_FOR_RIDERS = set("EE EL ES OS JJ PM PP PV DD DH DI DQ DT DY ZB ZZ".split())
-FREIGHT = set("FT23")
-DIGITS = set("0123456789")
-
 
 class Sort(NamedTuple):
     """The fields of a schedule that say what its train is."""
@@ -61,11 +54,6 @@ class About(NamedTuple):
 def about_of(identity: bytes, operator: bytes, route_type: int) -> About:
     text = b"%s\t%s\t%d\n" % (identity, operator, route_type)
     return About(identity.decode(), operator.decode(), route_type, text)
-
-
-def is_for_riders(sort: Sort) -> bool:
-    is_freight = sort.status in FREIGHT or bool(DIGITS & set(sort.category))
-    return not is_freight and sort.category not in NOT_FOR_RIDERS
 
 
 def kind_of(sort: Sort) -> Kind:
@@ -114,7 +102,7 @@ class ScheduleReader:
 
     def route_type(self, status: bytes, category: bytes, sleepers: bytes) -> Optional[int]:
         sort = Sort(status.decode(), category.decode(), sleepers.decode())
-        return self.types[kind_of(sort)] if is_for_riders(sort) else None
+        return self.types[kind_of(sort)] if is_for_riders(sort.status, sort.category) else None
 
     def read(self, line: bytes) -> Schedule:
         cells = self.cells_at(line.rstrip(b"\n").split(b"\t"))
@@ -126,40 +114,6 @@ class ScheduleReader:
         about = None if route_type is None else about_of(identity, operator, route_type)
         dates = self.window.dates(first, last, days_run)
         return Schedule(number, uid.decode(), dates, about, (first, last, days_run, retail))
-
-
-# The rows of a schedule in `public`, and what each has after the number of the schedule.
-ROWS_OF_SCHEDULE = re.compile(rb"^([0-9]+)\t.*\n(?:\1\t.*\n)*", re.MULTILINE)
-ROW = re.compile(rb"^[0-9]+\t[0-9]+\t(.*\n)", re.MULTILINE)
-NUMBER = re.compile(rb"^[0-9]+\t([0-9]+)", re.MULTILINE)
-
-
-class Calls(NamedTuple):
-    """The public calls of a schedule: its number, and its rows as they stand."""
-
-    schedule: bytes
-    text: bytes
-
-    def rows(self) -> List[bytes]:
-        """The rows from the location on."""
-        return ROW.findall(self.text)
-
-    def numbers(self) -> List[int]:
-        return [int(number) for number in NUMBER.findall(self.text)]
-
-
-def calls_by_schedule(table: Table) -> Iterator[Calls]:
-    """The rows of `public`, schedule by schedule, cut from blocks. The last ones of a block may go
-    on in the next."""
-    rest = b""
-    for block in iter(lambda: table.lines.read(BLOCK), b""):
-        text = rest + block
-        groups = list(ROWS_OF_SCHEDULE.finditer(text))
-        for found in groups[:-1]:
-            yield Calls(found[1], found[0])
-        rest = text[groups[-1].start() :] if groups else text
-    for found in ROWS_OF_SCHEDULE.finditer(rest):
-        yield Calls(found[1], found[0])
 
 
 class PublicTrain(NamedTuple):

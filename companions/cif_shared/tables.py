@@ -26,6 +26,9 @@ class Header(NamedTuple):
     extract_date: str
     extract_time: str
     current_reference: str
+    last_reference: str
+    update_indicator: str
+    version: str
     first_date: str
     last_date: str
 
@@ -34,7 +37,9 @@ class TiplocRow(NamedTuple):
     """A place of an extract."""
 
     tiploc: str
+    nalco: str
     tps_description: str
+    stanox: str
     crs_code: str
     description: str
 
@@ -67,6 +72,7 @@ class AssociationRow(NamedTuple):
     location: str
     base_suffix: str
     associated_suffix: str
+    diagram_type: str
     association_type: str
 
 

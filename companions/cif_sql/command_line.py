@@ -1,0 +1,155 @@
+"""The arguments of cif-sql, and its status."""
+from __future__ import annotations
+
+import argparse
+import gc
+import hashlib
+import os
+import stat
+import sys
+from contextlib import ExitStack
+from datetime import datetime, timezone
+from pathlib import Path
+from typing import ContextManager, Optional, Sequence
+
+from cif_shared.arguments import add_cif, add_help, add_names, add_window, new_parser
+from cif_shared.cif import Cif, find_cif
+from cif_shared.csv_files import read_file
+from cif_shared.endings import SUCCESS, Misused
+from cif_shared.files import BLOCK, new_files, output_path
+from cif_shared.operators import read_operators
+from cif_shared.places import PLACES
+from cif_shared.progress import Progress
+from cif_shared.running import run
+from cif_shared.tables import Extract, open_extract
+
+from .loading import Source, UserFiles, load
+from .postgres import PostgresScript, check_schema
+from .sqlite_file import check_age, check_place, new_database
+
+PROGRAM = "cif-sql"
+
+ABOUT = """\
+Loads a CIF timetable extract into an SQLite database, or writes a script for
+psql that loads it into PostgreSQL. The extract has to be one that
+`cif normalise` accepts.
+"""
+STATUSES = """\
+statuses:
+  0  success
+  2  a usage error
+  3  a file is refused, or the database is of a later extract, or isn't one of
+     cif-sql
+  4  a file can't be read or written, or memory ran out
+"""
+
+
+def arguments_of(words: Optional[Sequence[str]]) -> argparse.Namespace:
+    parser = new_parser(PROGRAM, ABOUT, STATUSES)
+    add = parser.add_argument
+    add_window(parser)
+    add_names(parser)
+    add(
+        "--postgres",
+        action="store_true",
+        help="write a script for psql to standard output instead",
+    )
+    add("--schema", metavar="NAME", help="the schema in PostgreSQL, cif by default")
+    add("--force", action="store_true", help="replace a database of a later extract")
+    add(
+        "-o",
+        "--output",
+        metavar="DATABASE",
+        help="the database to write, by default EXTRACT's name with .db",
+    )
+    add_cif(parser)
+    add_help(parser)
+    add("extract", metavar="EXTRACT", help="the extract, or - for standard input")
+    return parser.parse_args(words)
+
+
+def place_of(asked: argparse.Namespace) -> Path:
+    """The place of the database. One in the place of an input is refused."""
+    name = asked.output
+    if name is None:
+        if asked.extract == "-" or stat.S_ISFIFO(os.stat(asked.extract).st_mode):
+            raise Misused("the extract has no name: -o says which database to write")
+        name = os.path.splitext(asked.extract)[0] + ".db"
+    place = output_path(name)
+    for each in (asked.extract, asked.places, asked.operators):
+        if each and place.exists() and os.path.exists(each) and place.samefile(each):
+            raise Misused(f"{place} would take the place of an input: -o says where to write")
+    return place
+
+
+def version_of(cif: Cif) -> str:
+    """The version of `cif`."""
+    with cif.output(["--version"]) as lines:
+        return lines.read().decode().strip().rpartition(" ")[2]
+
+
+def digest_of(path: Path) -> str:
+    digest = hashlib.sha256()
+    with open(path, "rb") as file:
+        for block in iter(lambda: file.read(BLOCK), b""):
+            digest.update(block)
+    return digest.hexdigest()
+
+
+def source_of(extract: Extract, name: str) -> Source:
+    now = datetime.now(timezone.utc).isoformat(timespec="seconds")
+    shown = os.fsencode(name).decode(errors="replace")
+    return Source(shown, digest_of(extract.path), version_of(extract.cif), now)
+
+
+def given_files(asked: argparse.Namespace) -> UserFiles:
+    return UserFiles(read_file(PLACES, asked.places), read_operators(asked.operators))
+
+
+def open_asked(asked: argparse.Namespace) -> ContextManager[Extract]:
+    return open_extract(find_cif(asked.cif), asked.extract, asked.first, asked.last)
+
+
+def make_file(asked: argparse.Namespace, progress: Progress) -> int:
+    """The status, after the SQLite file is written."""
+    if asked.schema is not None:
+        raise Misused("--schema is for --postgres")
+    place = place_of(asked)
+    check_place(place)
+    given = given_files(asked)
+    with open_asked(asked) as extract:
+        if not asked.force:
+            check_age(place, extract.header())
+        source = source_of(extract, asked.extract)
+        with new_files() as files:
+            with new_database(files, place) as database:
+                load(extract, source, given, database, progress)
+                progress.show("building indexes")
+            # it may have become another one meanwhile
+            check_place(place)
+            if not asked.force:
+                check_age(place, extract.header())
+    return SUCCESS
+
+
+def write_script(asked: argparse.Namespace, progress: Progress) -> int:
+    """The status, after the script for psql is written."""
+    if asked.output is not None:
+        raise Misused("-o is for an SQLite database: --postgres writes to standard output")
+    schema = asked.schema if asked.schema is not None else "cif"
+    check_schema(schema)
+    given = given_files(asked)
+    with open_asked(asked) as extract, ExitStack() as stack:
+        script = PostgresScript(stack)
+        load(extract, source_of(extract, asked.extract), given, script, progress)
+        progress.show("writing the script")
+        script.write(sys.stdout.buffer, schema, extract.header(), asked.force)
+    return SUCCESS
+
+
+def main(words: Optional[Sequence[str]] = None) -> int:
+    asked = arguments_of(words)
+    # nothing that is kept has cycles, and looking for them takes a tenth of the time
+    gc.disable()
+    make = write_script if asked.postgres else make_file
+    return run(PROGRAM, lambda progress: make(asked, progress))

@@ -1,0 +1,11 @@
+CREATE UNIQUE INDEX locations_tiploc ON locations (tiploc);
+CREATE INDEX locations_crs ON locations (crs);
+CREATE INDEX journeys_uid ON journeys (uid);
+CREATE INDEX calls_location ON calls (location);
+CREATE INDEX public_calls_location ON public_calls (location);
+CREATE INDEX changes_journey ON changes (journey, number);
+CREATE UNIQUE INDEX schedules_uid ON schedules (uid, first_date);
+CREATE INDEX schedules_journey ON schedules (journey);
+CREATE INDEX associations_base ON associations (base_uid);
+CREATE INDEX associations_associated ON associations (associated_uid);
+CREATE INDEX trains_per_day_date ON trains_per_day (date);

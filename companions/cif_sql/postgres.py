@@ -1,0 +1,72 @@
+"""The script that loads a database of PostgreSQL, for psql."""
+from __future__ import annotations
+
+import re
+import shutil
+from contextlib import ExitStack
+from typing import IO, Dict, Iterable, NamedTuple, Sequence
+
+from cif_shared.endings import Misused
+from cif_shared.files import BLOCK, scratch_file
+from cif_shared.tables import Header
+
+from .loading import extracted_at
+from .schema import Database, Row, Value, sql
+
+# Names that are the same in double quotes and without, and with `_new` have at most 63 letters.
+SCHEMA = re.compile("[a-z_][a-z0-9_]{0,58}")
+ESCAPED = str.maketrans({"\\": "\\\\", "\t": "\\t", "\n": "\\n", "\r": "\\r"})
+
+
+def check_schema(name: str) -> None:
+    if not SCHEMA.fullmatch(name):
+        raise Misused(f"the schema `{name}` has to be of small letters, digits and `_`")
+
+
+def cell_of(value: Value) -> str:
+    """A value as COPY reads it."""
+    return "\\N" if value is None else str(value).translate(ESCAPED)
+
+
+class Copied(NamedTuple):
+    """The columns of a table that are filled, and its rows in a temporary file."""
+
+    names: Sequence[str]
+    file: IO[bytes]
+
+
+class PostgresScript(Database):
+    """Keeps the rows of all tables until the script is written, so that a run that fails writes
+    nothing."""
+
+    def __init__(self, stack: ExitStack) -> None:
+        self.stack = stack
+        self.tables: Dict[str, Copied] = {}
+
+    def fill(self, table: str, names: Sequence[str], rows: Iterable[Row]) -> None:
+        if table not in self.tables:
+            self.tables[table] = Copied(names, self.stack.enter_context(scratch_file()))
+        lines = ("\t".join(map(cell_of, row)) + "\n" for row in rows)
+        self.tables[table].file.write("".join(lines).encode())
+
+    def write(self, output: IO[bytes], schema: str, header: Header, force: bool) -> None:
+        """Writes the script."""
+        words = {"SCHEMA": schema, "FORCE": str(force).lower()}
+        words["MOMENT"] = extracted_at(header) or ""
+        words["FIRST"], words["LAST"] = header.first_date, header.last_date
+
+        def add(text: str) -> None:
+            output.write(re.sub("@([A-Z]+)@", lambda found: words[found[1]], text).encode())
+
+        add(sql("begin") + sql("check") + sql("create"))
+        # only SQLite has tables of this sort
+        add(sql("tables").replace(" WITHOUT ROWID", ""))
+        for table, copied in self.tables.items():
+            add(f"COPY {table} ({', '.join(copied.names)}) FROM STDIN;\n")
+            copied.file.seek(0)
+            shutil.copyfileobj(copied.file, output, BLOCK)
+            add("\\.\n")
+        add(sql("indexes") + sql("views"))
+        add("".join(f"ANALYZE {table};\n" for table in self.tables))
+        add("BEGIN;\n" + sql("check") + sql("finish"))
+        output.flush()

@@ -1,0 +1,101 @@
+"""The SQLite file: whether it may be replaced, and the new one."""
+from __future__ import annotations
+
+import sqlite3
+from contextlib import closing, contextmanager
+from pathlib import Path
+from typing import Iterable, Iterator, Optional, Sequence, Tuple
+from urllib.parse import quote
+
+from cif_shared.endings import Failed, Refused
+from cif_shared.files import NewFiles
+from cif_shared.tables import Header
+
+from .loading import extracted_at
+from .schema import Database, Row, sql
+
+# SQLite's number for the program that a file is of: "cif1", the 1 for the layout of its tables.
+APPLICATION = 0x63696631
+# Where the number stands, behind the name of the format.
+MAGIC = b"SQLite format 3\0"
+PLACE = slice(68, 72)
+
+# The moment of an extract, then its window. One without a moment is older than all others.
+Age = Tuple[str, str, str]
+
+
+def age_of(moment: Optional[str], first: str, last: str) -> Age:
+    return (moment or "", first, last)
+
+
+def is_ours(path: Path) -> bool:
+    with open(path, "rb") as file:
+        start = file.read(100)
+    return start.startswith(MAGIC) and start[PLACE] == APPLICATION.to_bytes(4, "big")
+
+
+def age_in(path: Path) -> Age:
+    """The age of the extract in a database of cif-sql."""
+    address = f"file:{quote(str(path))}?mode=ro"
+    with closing(sqlite3.connect(address, uri=True)) as connection:
+        query = "SELECT extracted_at, first_date, last_date FROM extract"
+        [row] = connection.execute(query).fetchall()
+    return age_of(*row)
+
+
+def check_place(path: Path) -> None:
+    """Refuses to replace what isn't a database of cif-sql, or one into which somebody writes."""
+    if not path.exists():
+        return
+    if not is_ours(path):
+        raise Refused(f"{path} isn't a database of cif-sql, so it isn't replaced")
+    for suffix in "-wal", "-journal":
+        beside = path.with_name(path.name + suffix)
+        if beside.exists() and beside.stat().st_size:
+            raise Failed(f"{path} is written by another program: {beside} is there")
+
+
+def check_age(path: Path, header: Header) -> None:
+    """Refuses to replace a database of a later extract."""
+    if not path.exists():
+        return
+    try:
+        there = age_in(path)
+    except (sqlite3.Error, ValueError):
+        raise Refused(f"{path} is damaged; --force replaces it") from None
+    if there > age_of(extracted_at(header), header.first_date, header.last_date):
+        moment, first, last = there
+        has = f"{path} has a later extract, of {moment or 'no time'}, from {first} to {last}"
+        raise Refused(f"{has}; --force replaces it")
+
+
+class SqliteFile(Database):
+    """A new SQLite file."""
+
+    def __init__(self, connection: sqlite3.Connection) -> None:
+        self.connection = connection
+
+    def fill(self, table: str, names: Sequence[str], rows: Iterable[Row]) -> None:
+        marks = ", ".join("?" * len(names))
+        insert = f"INSERT INTO {table} ({', '.join(names)}) VALUES ({marks})"
+        self.connection.executemany(insert, rows)
+
+
+@contextmanager
+def new_database(files: NewFiles, place: Path) -> Iterator[SqliteFile]:
+    """A database that is written beside its place. Its indexes and views are made at the end."""
+    path = files.reserve(place)
+    try:
+        with closing(sqlite3.connect(str(path), isolation_level=None)) as connection:
+            # nobody reads this file before it is complete, and if the run fails it is removed
+            connection.execute("PRAGMA journal_mode = OFF")
+            connection.execute("PRAGMA synchronous = OFF")
+            connection.execute(f"PRAGMA application_id = {APPLICATION}")
+            connection.executescript(sql("tables"))
+            connection.execute("BEGIN")
+            yield SqliteFile(connection)
+            connection.execute("COMMIT")
+            connection.executescript(sql("indexes") + sql("views"))
+            connection.execute("ANALYZE")
+    except sqlite3.OperationalError as problem:
+        raise Failed(f"{place}: {problem}") from None

@@ -1,0 +1,20 @@
+# Completion of cif-sql for bash. tests/sql compares its words with the help that the program prints.
+
+_cif_sql() {
+    local written=${COMP_WORDS[COMP_CWORD]} before=${COMP_WORDS[COMP_CWORD - 1]}
+    local options='--from --to --places --operators --postgres --schema --force -o --output --cif -h --help -V --version'
+    COMPREPLY=()
+    case $before in
+    --places | --operators | -o | --output | --cif) compopt -o default ;;
+    --from | --to | --schema) ;;
+    *)
+        if [[ $written == -* ]]; then
+            mapfile -t COMPREPLY < <(compgen -W "$options" -- "$written")
+        else
+            compopt -o default
+        fi
+        ;;
+    esac
+}
+
+complete -F _cif_sql cif-sql

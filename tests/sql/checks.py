@@ -1,0 +1,140 @@
+"""A database against what `cif` says, field by field and date by date."""
+import sqlite3
+import subprocess
+from collections import Counter
+from contextlib import closing
+
+from gtfs.checks import COMPANIONS, first_difference
+from gtfs.definition import seconds_of
+
+from .definition import RENAMED
+
+BOARD = "crs, date, time, train_date, uid, identity, operator, platform, {end}, pick_up, set_down, location"
+
+
+class Maker:
+    """Runs cif-sql in a folder."""
+
+    def __init__(self, cif, folder):
+        self.cif, self.folder = cif, folder
+
+    def run(self, *words, **options):
+        words = [COMPANIONS / "cif-sql", "--cif", self.cif, *words]
+        options = {"text": True, **options}
+        return subprocess.run(words, cwd=self.folder, capture_output=True, check=False, **options)
+
+    def database(self, *words):
+        """The path of a database that is made."""
+        path = self.folder / "made.db"
+        path.unlink(missing_ok=True)
+        done = self.run("-o", path.name, *words)
+        if done.returncode:
+            raise RuntimeError(f"cif-sql {words} ends with {done.returncode}: {done.stderr}")
+        return path
+
+
+def text_of(value):
+    return None if value is None else str(value)
+
+
+def sqlite_rows(path, query):
+    """The rows of a query, each value as a text or None."""
+    with closing(sqlite3.connect(path)) as connection:
+        return [tuple(map(text_of, row)) for row in connection.execute(query)]
+
+
+def same_rows(counts, name, want, got):
+    got = Counter(got)
+    counts.test(name, want == got, "" if want == got else first_difference(want, got))
+
+
+def columns_of(names, table):
+    return ", ".join(f"{table}.{RENAMED.get(name, name)}" for name in names)
+
+
+def check_fields(counts, name, expected, rows):
+    """Every field of schedules, calls, changes and public calls comes back."""
+    for table, place in (
+        ("calls", "calls"),
+        ("changes", "changes"),
+        ("public", "public_calls"),
+    ):
+        columns = columns_of(expected.names[table][1:], place)
+        query = f"SELECT schedules.uid, schedules.first_date, {columns} FROM schedules "
+        query += f"JOIN {place} ON {place}.journey = schedules.journey"
+        same_rows(counts, f"{name}, {place}", expected.fields(table), rows(query))
+    names = expected.names["schedules"][1:]
+    columns = columns_of(names, "schedules")
+    query = f"SELECT uid, first_date, {columns} FROM schedules"
+    same_rows(counts, f"{name}, schedules", expected.fields("schedules"), rows(query))
+    count = len(expected.journeys())
+    counts.same(
+        f"{name}, journeys",
+        [(str(count), str(count))],
+        rows("SELECT count(*), max(id) FROM journeys"),
+    )
+    wrong = rows(
+        "SELECT schedules.uid FROM schedules JOIN journeys ON journeys.id = schedules.journey "
+        "WHERE journeys.uid <> schedules.uid"
+    )
+    counts.same(f"{name}, journeys of another train", [], wrong)
+    query = "SELECT arrival_seconds, departure_seconds, pass_seconds FROM calls"
+    same_rows(counts, f"{name}, working times", expected.working_seconds(), rows(query))
+    times = rows("SELECT arrival, departure, arrival_seconds, departure_seconds FROM public_calls")
+    wrong = [row for row in times if tuple(str(seconds_of(time)) for time in row[:2]) != row[2:]]
+    counts.same(f"{name}, public times", [], wrong)
+
+
+def check_places(counts, name, expected, rows):
+    places = Counter(
+        (
+            row["tiploc"],
+            row["crs_code"] or None,
+            row["tps_description"] or None,
+            row["nalco"],
+            row["stanox"],
+        )
+        for row in expected.tables["tiplocs"]
+    )
+    got = rows("SELECT tiploc, crs, description, nlc, stanox FROM locations")
+    same_rows(counts, f"{name}, locations", places, got)
+    codes = Counter({row["crs_code"]: 1 for row in expected.tables["tiplocs"] if row["crs_code"]})
+    got = [crs for crs, in rows("SELECT crs FROM stations")]
+    same_rows(counts, f"{name}, stations", codes, got)
+
+
+def check_dates(counts, name, expected, rows):
+    trains, associations = expected.days
+    counts.test(f"{name} has trains and associations", trains and associations)
+    query = "SELECT date, uid, identity, origin, departure, destination, arrival FROM runs"
+    same_rows(counts, f"{name}, runs", trains, rows(query))
+    columns = "date, base_uid, associated_uid, category, date_indicator, location, base_suffix, "
+    columns += "associated_suffix, association_type"
+    got = rows(f"SELECT {columns} FROM associations_on")
+    same_rows(counts, f"{name}, associations_on", associations, got)
+    days = [(day.isoformat(), str(day.isoweekday())) for day in expected.dates]
+    counts.same(f"{name}, days", days, rows("SELECT date, weekday FROM days ORDER BY date"))
+    got = rows("SELECT date, operator, passenger, trains FROM trains_per_day")
+    same_rows(counts, f"{name}, trains_per_day", expected.trains_per_day(), got)
+    got = rows("SELECT date, uid, number, location FROM calls_on")
+    same_rows(counts, f"{name}, calls_on", expected.calls_on, got)
+
+
+def check_boards(counts, name, expected, rows):
+    for view, want, end in (
+        ("departures", expected.departures, "destination"),
+        ("arrivals", expected.arrivals, "origin"),
+    ):
+        got = rows(f"SELECT {BOARD.format(end=end)} FROM {view}")
+        same_rows(counts, f"{name}, {view}", want, got)
+        later = sum(row[1] > row[3] for row in want)
+        counts.test(f"{name}, {view} after midnight", later > 0)
+
+
+def check_database(counts, expected, rows, kind="SQLite"):
+    """All of a database. `rows` gives those of a query."""
+    name = f"{expected.source.path.name} in {kind}"
+    check_fields(counts, name, expected, rows)
+    check_places(counts, name, expected, rows)
+    check_dates(counts, name, expected, rows)
+    check_boards(counts, name, expected, rows)

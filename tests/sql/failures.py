@@ -1,0 +1,212 @@
+"""What is refused, that the old database stays whole then, and that readers have the old one or the new one."""
+import hashlib
+import resource
+import signal
+import sqlite3
+import subprocess
+import threading
+import time
+from contextlib import closing
+
+from gtfs.checks import COMPANIONS
+from gtfs.failures import FAILING
+
+from .checks import Maker, sqlite_rows
+
+# Headers of the same extract: an hour earlier, with a later window, and without a moment.
+EARLIER = ("0401262130", "0401262030")
+LATER_WINDOW = ("FA050126110126", "FA060126110126")
+NO_MOMENT = ("0401262130", "9999999999")
+
+
+def left(maker):
+    return sorted(path.name for path in maker.folder.iterdir())
+
+
+def changed(maker, special, name, change):
+    path = maker.folder / name
+    path.write_text(special.read_text().replace(*change))
+    return path
+
+
+def refused(counts, maker, name, status, reported, *words, **options):
+    """Whether a run ends with the status, reports this, and leaves the folder as it was."""
+    before = {path: path.read_bytes() for path in maker.folder.iterdir() if path.is_file()}
+    done = maker.run(*map(str, words), **options)
+    counts.same(f"{name}, status", status, done.returncode)
+    counts.test(f"{name}, reported", reported in done.stderr, done.stderr)
+    after = {path: path.read_bytes() for path in maker.folder.iterdir() if path.is_file()}
+    counts.same(f"{name}, the folder", sorted(before), sorted(after))
+    counts.test(f"{name}, the files stay", before == after)
+
+
+def check_names(counts, maker, special):
+    done = maker.run(special)
+    counts.same(
+        "the name by default", (0, True), (done.returncode, special.with_suffix(".db").exists())
+    )
+    special.with_suffix(".db").unlink()
+    done = maker.run("-o", "piped.db", "-", text=False, input=special.read_bytes())
+    counts.same(
+        "an extract from standard input", (0, b"", b""), (done.returncode, done.stdout, done.stderr)
+    )
+    [row] = sqlite_rows(maker.folder / "piped.db", "SELECT file_name, sha256 FROM extract")
+    counts.same("its name and digest", ("-", hashlib.sha256(special.read_bytes()).hexdigest()), row)
+    refused(counts, maker, "standard input without -o", 2, "-o", "-", input="")
+    copy = maker.folder / "copy.db"
+    copy.write_bytes(special.read_bytes())
+    refused(counts, maker, "the extract in its place", 2, "place of an input", copy)
+    copy.unlink()
+    part = ("--from", "260107", "--to", "260108", "-o", "piped.db")
+    counts.same("a part of the window, status", 0, maker.run(*part, special).returncode)
+    rows = sqlite_rows(maker.folder / "piped.db", "SELECT date FROM days ORDER BY date")
+    counts.same("a part of the window", [("2026-01-07",), ("2026-01-08",)], rows)
+    (maker.folder / "piped.db").unlink()
+
+
+def check_user_files(counts, maker, special):
+    places, operators = maker.folder / "places.csv", maker.folder / "operators.csv"
+    places.write_text("tiploc,name,latitude,longitude\nBETAE,Beta's End,51.5,-0.25\n")
+    operators.write_text("operator_code,name,url\nSR,Our Trains,\n")
+    path = maker.database("--places", places, "--operators", operators, special)
+    query = "SELECT crs, name, latitude, longitude FROM stations ORDER BY crs"
+    want = [("ALP", "Alpha Junction", None, None), ("BET", "Beta's End", "51.5", "-0.25")]
+    counts.same("names and coordinates", want, sqlite_rows(path, query))
+    query = "SELECT DISTINCT operator_name FROM schedules WHERE operator = 'SR'"
+    counts.same("the name of an operator", [("Our Trains",)], sqlite_rows(path, query))
+    places.write_text("tiploc,name,latitude,longitude\nBETAE,,91,0\n")
+    refused(
+        counts, maker, "a bad file of places", 3, "line 2: latitude", "--places", places, special
+    )
+    for used in places, operators, path:
+        used.unlink()
+
+
+def check_replacement(counts, maker, special):
+    """Which databases are replaced."""
+    maker.run("-o", "kept.db", special)
+    kept = ("-o", "kept.db")
+    counts.same("the same extract again", 0, maker.run(*kept, special).returncode)
+    later_window = changed(maker, special, "later-window.cif", LATER_WINDOW)
+    counts.same("a later window", 0, maker.run(*kept, later_window).returncode)
+    refused(counts, maker, "an earlier window", 3, "later extract", *kept, special)
+    earlier = changed(maker, special, "earlier.cif", EARLIER)
+    refused(counts, maker, "an older extract", 3, "later extract", *kept, earlier)
+    no_moment = changed(maker, special, "no-moment.cif", NO_MOMENT)
+    refused(counts, maker, "an extract without a moment", 3, "later extract", *kept, no_moment)
+    counts.same("an older extract by force", 0, maker.run("--force", *kept, earlier).returncode)
+    rows = sqlite_rows(maker.folder / "kept.db", "SELECT extracted_at FROM extract")
+    counts.same("its moment", [("2026-01-04T20:30",)], rows)
+    with closing(sqlite3.connect(maker.folder / "other.db")) as connection:
+        connection.execute("CREATE TABLE extract (first_date text)")
+    (maker.folder / "other.txt").write_text("other")
+    (maker.folder / "empty").write_text("")
+    for other in "other.db", "other.txt", "empty":
+        words = ("--force", "-o", other)
+        refused(
+            counts, maker, f"the file {other} in its place", 3, "isn't a database", *words, special
+        )
+    refused(counts, maker, "a folder in its place", 2, "folder", "-o", ".", special)
+    log = maker.folder / "kept.db-wal"
+    log.write_text("written by somebody")
+    refused(
+        counts, maker, "another program that writes", 4, "kept.db-wal", "--force", *kept, special
+    )
+    log.unlink()
+
+
+def failing_cif(maker, table, then):
+    program = maker.folder / "failing-cif"
+    program.write_text(FAILING.format(cif=maker.cif, table=table, then=then))
+    program.chmod(0o755)
+    return Maker(program, maker.folder)
+
+
+def check_failures(counts, maker, special):
+    """A run that fails leaves the old database, and nothing beside it."""
+    kept = ("-o", "kept.db")
+    bad = maker.folder / "bad.cif"
+    bad.write_text("".join(special.read_text().splitlines(keepends=True)[:-1]))
+    refused(counts, maker, "a refused extract", 3, "Truncated", *kept, bad)
+    refused(counts, maker, "a missing extract", 4, "No such file", *kept, "missing.cif")
+    refused(counts, maker, "a bad date", 2, "bad date", *kept, "--from", "26010", special)
+    for table in "header", "calls", "public":
+        failing = failing_cif(maker, table, "echo 'cif: Memory' >&2; exit 4")
+        refused(counts, failing, f"cif fails at {table}", 4, "cif: Memory", *kept, special)
+    (maker.folder / "failing-cif").unlink()
+
+    def little_space():
+        resource.setrlimit(resource.RLIMIT_FSIZE, (60000, 60000))
+
+    refused(counts, maker, "no space", 4, "kept.db: ", *kept, special, preexec_fn=little_space)
+
+
+def check_signals(counts, maker, special):
+    """Interrupted, it leaves nothing; killed, it leaves the old database."""
+    old = (maker.folder / "kept.db").read_bytes()
+    failing = failing_cif(maker, "calls", "touch reached; exec sleep 60")
+    before, reached = left(maker), maker.folder / "reached"
+    words = [COMPANIONS / "cif-sql", "--cif", failing.cif, "--force", "-o", "kept.db", special]
+    for number in signal.SIGTERM, signal.SIGINT, signal.SIGKILL:
+        process = subprocess.Popen(
+            words, cwd=maker.folder, stderr=subprocess.PIPE, start_new_session=True
+        )
+        for _ in range(600):
+            if reached.exists():
+                break
+            time.sleep(0.05)
+        reached.unlink()
+        process.send_signal(number)
+        process.wait(timeout=30)
+        process.stderr.close()
+        name = signal.Signals(number).name
+        status = -number if number == signal.SIGKILL else 4
+        counts.same(f"stopped by {name}", status, process.returncode)
+        counts.test(
+            f"stopped by {name}, the database", (maker.folder / "kept.db").read_bytes() == old
+        )
+        if number != signal.SIGKILL:
+            counts.same(f"stopped by {name}, what is left", before, left(maker))
+    for path in maker.folder.glob(".kept.db.*"):
+        path.unlink()
+    (maker.folder / "failing-cif").unlink()
+
+
+def check_readers(counts, maker, special):
+    """A reader that polls while a database is replaced sees the old one or the new one, and never an error."""
+    first = changed(maker, special, "first.cif", ("DFTEST1", "DFTESTA"))
+    second = changed(maker, special, "second.cif", ("DFTEST1", "DFTESTB"))
+    path, done, seen = maker.folder / "kept.db", threading.Event(), set()
+    maker.run("--force", "-o", "kept.db", first)
+
+    def poll():
+        while not done.is_set():
+            try:
+                query = "SELECT current_reference, count(*) FROM extract, runs GROUP BY 1"
+                seen.update(sqlite_rows(path, query))
+            except sqlite3.Error as problem:
+                seen.add(str(problem))
+
+    reader = threading.Thread(target=poll)
+    reader.start()
+    for extract in second, first, second:
+        maker.run("--force", "-o", "kept.db", extract)
+    time.sleep(0.2)
+    done.set()
+    reader.join()
+    # E00001 runs on seven dates, F00001 on four, M00001 on five, and four trains on one
+    want = {("DFTESTA", "20"), ("DFTESTB", "20")}
+    counts.same("what a reader sees", want, seen)
+
+
+def check(counts, maker, special):
+    folder = maker.folder / "failures"
+    folder.mkdir()
+    maker = Maker(maker.cif, folder)
+    special = special.rename(folder / special.name)
+    check_names(counts, maker, special)
+    check_user_files(counts, maker, special)
+    check_replacement(counts, maker, special)
+    check_failures(counts, maker, special)
+    check_signals(counts, maker, special)
+    check_readers(counts, maker, special)

@@ -1,0 +1,160 @@
+"""The script for psql, against the PostgreSQL server that the environment names."""
+import os
+import subprocess
+import threading
+import time
+
+from gtfs.checks import COMPANIONS
+
+from . import by_hand, checks
+from .failures import EARLIER, changed, failing_cif
+
+BETWEEN, NULL = "\x1f", "\x02"
+PSQL = ("psql", "-X", "-q", "-v", "ON_ERROR_STOP=1")
+
+
+def psql(*words, schema="cif", **options):
+    settings = {**os.environ, "PGOPTIONS": f"-c search_path={schema}"}
+    return subprocess.run(
+        [*PSQL, *words], env=settings, capture_output=True, text=True, check=False, **options
+    )
+
+
+def rows_of(query):
+    """The rows of a query, each value as a text or None."""
+    done = psql("-A", "-t", "-F", BETWEEN, "-P", f"null={NULL}", "-c", query)
+    if done.returncode:
+        raise RuntimeError(f"psql: {query}: {done.stderr}")
+    lines = done.stdout.splitlines()
+    return [
+        tuple(None if value == NULL else value for value in line.split(BETWEEN)) for line in lines
+    ]
+
+
+def script_of(maker, *words):
+    done = maker.run("--postgres", *words)
+    if done.returncode or done.stderr:
+        raise RuntimeError(f"cif-sql {words} ends with {done.returncode}: {done.stderr}")
+    return done.stdout
+
+
+def load(maker, *words):
+    """How psql ends after a script."""
+    return psql(input=script_of(maker, *words))
+
+
+def check_database(counts, maker, expected):
+    path = expected.source.path
+    counts.same(f"{path.name}, psql", (0, "", ""), ended(load(maker, "--force", path)))
+    checks.check_database(counts, expected, rows_of, "PostgreSQL")
+
+
+def ended(done):
+    return done.returncode, done.stdout, done.stderr
+
+
+def refused(counts, name, reported, done):
+    """Whether psql ends a script early, and what the schema has stays."""
+    counts.same(f"{name}, status", 3, done.returncode)
+    counts.test(f"{name}, reported", reported in done.stderr, done.stderr)
+    rows = rows_of("SELECT current_reference, (SELECT count(*) FROM runs) FROM extract")
+    counts.same(f"{name}, what is there", [("DFTEST1", "20")], rows)
+
+
+def check_replacement(counts, maker, special):
+    counts.same("the same extract again, in PostgreSQL", 0, load(maker, special).returncode)
+    earlier = changed(maker, special, "earlier.cif", EARLIER)
+    refused(counts, "an older extract, in PostgreSQL", "later extract", load(maker, earlier))
+    script = script_of(maker, special)
+    for part in 0.2, 0.5, 0.9:
+        cut = script[: int(len(script) * part)].rpartition("\n")[0] + "\n"
+        psql(input=cut)
+        rows = rows_of("SELECT count(*) FROM runs")
+        counts.same(f"{part} of a script leaves the old schema", [("20",)], rows)
+    counts.same("a script after a cut one", 0, psql(input=script).returncode)
+    by_force = load(maker, "--force", earlier)
+    counts.same("an older extract by force, in PostgreSQL", 0, by_force.returncode)
+    psql("-c", "CREATE SCHEMA mine; CREATE TABLE mine.kept (x integer); CREATE SCHEMA other_new")
+    for schema in "mine", "other":
+        done = load(maker, "--force", "--schema", schema, special)
+        counts.same(f"the schema {schema} of somebody else, status", 3, done.returncode)
+    rows = rows_of("SELECT nspname FROM pg_namespace WHERE nspname ~ '^(mine|other)' ORDER BY 1")
+    counts.same("schemas of somebody else stay", [("mine",), ("other_new",)], rows)
+    counts.same("its tables", [("0",)], rows_of("SELECT count(*) FROM mine.kept"))
+    counts.same("another schema", 0, load(maker, "--schema", "second", special).returncode)
+    rows = rows_of("SELECT count(*) FROM second.runs")
+    counts.same("the trains in another schema", [("20",)], rows)
+
+
+def check_misuse(counts, maker, special):
+    for name, words in (
+        ("a bad schema", ("--postgres", "--schema", 'a"b')),
+        ("an output", ("--postgres", "-o", "made.db")),
+        ("a schema for SQLite", ("--schema", "cif")),
+    ):
+        done = maker.run(*words, special)
+        counts.same(f"{name} is refused", (2, ""), (done.returncode, done.stdout))
+    failing = failing_cif(maker, "calls", "echo 'cif: Memory' >&2; exit 4")
+    done = failing.run("--postgres", special)
+    counts.same("cif fails, nothing is written", (4, "", "cif: Memory\n"), ended(done))
+    (maker.folder / "failing-cif").unlink()
+    words = [COMPANIONS / "cif-sql", "--cif", maker.cif, "--postgres", special]
+    with open("/dev/full", "wb") as full:
+        done = subprocess.run(words, stdout=full, stderr=subprocess.PIPE, check=False)
+    counts.same("a full device", 4, done.returncode)
+
+
+def check_readers(counts, maker, special):
+    """A reader that polls while the schema is replaced sees the old one or the new one, and never an error."""
+    seen, done = set(), threading.Event()
+
+    def poll():
+        while not done.is_set():
+            found = psql(
+                "-A",
+                "-t",
+                "-c",
+                "SELECT current_reference, count(*) FROM cif.extract, cif.runs GROUP BY 1",
+            )
+            seen.add(found.stdout + found.stderr)
+
+    reader = threading.Thread(target=poll)
+    first = changed(maker, special, "first.cif", ("DFTEST1", "DFTESTA"))
+    scripts = [script_of(maker, "--force", path) for path in (first, special)]
+    psql(input=scripts[1])
+    reader.start()
+    for number in range(6):
+        psql(input=scripts[number % 2])
+    done.set()
+    reader.join()
+    counts.same("what a reader of PostgreSQL sees", set(), seen - {"DFTESTA|20\n", "DFTEST1|20\n"})
+
+
+def check_transactions(counts, maker, special):
+    """A transaction that reads one table after another isn't in a deadlock with a replacement."""
+    reads = "BEGIN; SELECT 1 FROM cif.calls; SELECT pg_sleep(1.5);"
+    tables = ("extract", "runs", "departures", "schedules", "public_calls")
+    reads += " ".join(f"SELECT count(*) FROM cif.{table};" for table in tables)
+    script, found = script_of(maker, special), []
+    reader = threading.Thread(target=lambda: found.append(psql("-c", reads + " COMMIT")))
+    reader.start()
+    time.sleep(0.3)
+    done = psql(input=script)
+    reader.join()
+    counts.same("a replacement beside a transaction", (0, "", ""), ended(done))
+    counts.same(
+        "a transaction beside a replacement", (0, ""), (found[0].returncode, found[0].stderr)
+    )
+
+
+def check(counts, maker, special):
+    counts.same("special.cif for psql", 0, load(maker, "--force", special).returncode)
+    queries = {name: query for name, query in by_hand.QUERIES.items() if "typeof" not in query[0]}
+    by_hand.check_queries(counts, queries, rows_of, "PostgreSQL")
+    check_replacement(counts, maker, special)
+    check_misuse(counts, maker, special)
+    check_readers(counts, maker, special)
+    check_transactions(counts, maker, special)
+    for path in maker.folder.glob("*.cif"):
+        if path.name in ("earlier.cif", "first.cif"):
+            path.unlink()
