@@ -6,9 +6,8 @@ from . import layouts, values
 from .dates import from_yymmdd, yymmdd
 from .explanation import clashing
 from .holidays import WIDTH
-from .extracts import COMMENT, NOTES, contents_of, line_of
-from .faults import Refusal
-from .published import count_clashing, count_cut, count_open_ends, of_kind, transaction_of
+from .extracts import COMMENT, NOTES, contents_of
+from .published import count_clashing, count_cut, count_open_ends, transaction_of
 
 # An input: its name as it is shown, its bytes, or None where it can't be read, and whether it is a file, which can be read again.
 Input = namedtuple("Input", "name data again")
@@ -141,8 +140,8 @@ def inputs_of(job, names, data):
     )
     found = []
     for side, name, content in zip(sides, names, data):
-        shown = "standard input" if name == "-" else escaped(name)
-        found.append(Input(f"{side} ({shown})" if side else shown, content, name != "-"))
+        name_shown = "standard input" if name == "-" else escaped(name)
+        found.append(Input(f"{side} ({name_shown})" if side else name_shown, content, name != "-"))
     return found
 
 
