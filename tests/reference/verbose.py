@@ -18,8 +18,9 @@ SIDES = {"compare": ("LEFT", "RIGHT"), "diff": ("LEFT", "RIGHT"), "prepare": (""
 HIDDEN = re.compile("[\x00-\x1f\x7f-\x9f]|([\u2028-\u202e\u2066-\u2069])")
 LETTERS = {"\t": r"\t", "\n": r"\n", "\r": r"\r"}
 
-# How many bytes of a line are looked at, and behind how many comments of a file a header is looked for.
-LOOKED_AT, COMMENTS = 4096, 100
+# How many bytes are known of a line of standard input, how many are looked at of one of a file, and behind how many comments of a
+# file a header is looked for.
+KEPT, LOOKED_AT, COMMENTS = 82, 4096, 100
 
 WANTED = {
     "bad date": "must be a valid date as six digits, YYMMDD",
@@ -146,8 +147,8 @@ def inputs_of(job, names, data):
 
 
 def line_again(one, number):
-    """The content of the line of this number."""
-    return contents_of(one.data)[number - 1]
+    """The content of the line of this number, or its first bytes."""
+    return contents_of(one.data)[number - 1][: None if one.again else KEPT]
 
 
 def shown(line):
@@ -270,10 +271,9 @@ def length(one, number):
     contents = contents_of(one.data)
     line = contents[number - 1]
     width = "thousands of" if len(line) >= LOOKED_AT else len(line)
-    is_last = number == len(contents) and not one.data.endswith(b"\n")
-    if is_last and not one.again and layouts.WIDTH + 2 <= len(line) < LOOKED_AT:
-        # it is refused before more is read of standard input
+    if not one.again and len(line) >= KEPT:
         return ["the line has more than 80 columns"]
+    is_last = number == len(contents) and not one.data.endswith(b"\n")
     is_cut = is_last and len(line) < layouts.WIDTH
     return [f"the line has {width} columns, not 80", *[ENDS_IN_IT] * is_cut]
 
@@ -291,7 +291,10 @@ def of_holidays(one, line):
     if len(line) > WIDTH:
         return [shown(line), HOLIDAY_LINE]
     more = [SEPARATORS] * (b"," in line or b"\t" in line)
-    for number, word in enumerate(re.finditer(rb"[^ ]+", line.split(b"#", 1)[0])):
+    words = [*re.finditer(rb"[^ ]+", line.split(b"#", 1)[0])]
+    if not one.again and len(line) == KEPT and words and words[-1].end() == KEPT:
+        words.pop()
+    for number, word in enumerate(words):
         text = word[0].decode("latin-1")
         if text not in values.HOLIDAY_CODES if number == 0 else from_yymmdd(text) is None:
             said = columns(

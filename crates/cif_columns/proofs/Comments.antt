@@ -1,7 +1,7 @@
 -- Which bytes begin as a comment does.
 use Rattle.cif_columns.proofs.Names.{All-cons, All-nil, All-take, AreUndecided, HaveNoFeed, InFeed, List, and_parts, ap, arith}
 use Rattle.cif_columns.proofs.Names.{begins_comment, bytes_eq-Decides, cases_lt, codes, cond, cond_both, false, false_from_ne_true}
-use Rattle.cif_columns.proofs.Names.{is_comment, length, length-append, length-take, most_by, nat_eq, nat_le, nat_tests, subst, sym, take}
+use Rattle.cif_columns.proofs.Names.{is_comment, length, length-take, most_by, nat_eq, nat_le, nat_tests, subst, sym, take}
 use Rattle.cif_columns.proofs.Names.{take-append-le, take-take, take_all, true, ℕ, ⊎_elim, [], ◌++◌, ◌+◌, ◌<◌, ◌∙◌, ◌≡◌}
 use Rattle.cif_columns.proofs.Names.{pointwise, ◌≢◌, ◌≤◌}
 

@@ -83,7 +83,8 @@ module _ {R : Type 0} (remaining : R → Option (List ℕ)) (errors : R → Opti
     holds = holds;
     limit_now = limit_now;
     most_now = most_now;
-    decided = λ other not. given_decide {m = most} (λ gave. none_decided (most_by most gave) (limit old) (given old) gave) (cut.decided not);
+    decided = λ other not. given_decide {m = most} (λ gave. none_decided (most_by most gave) (limit old) (given old) gave)
+        (cut.decided not);
     device = cut.device;
     ended = λ e. let same : next ≡ End = cc in cut.ended (ap Ok same);
     fresh = cut.fresh;

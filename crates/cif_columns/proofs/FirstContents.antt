@@ -1,7 +1,8 @@
 -- The content that stands first in bytes, and bytes that decide none.
 use Rattle.cif_columns.proofs.Names.{All, All-append, All-cons, All-contains, All-nil, AnswersNext, AreUndecided, BeginOverlong, Bool}
 use Rattle.cif_columns.proofs.Names.{ComesFirst, Contains-append_right, Content, EndsAtFeed, HaveNoFeed, IfSome, IsAtEnd, IsFirstContent}
-use Rattle.cif_columns.proofs.Names.{InFeed, IsFirstFeed, IsLast, Keeps, List, Most, NextContent, None, Of, Option, Overlong, PassesFirst, Some, [], ap}
+use Rattle.cif_columns.proofs.Names.{InFeed, IsFirstFeed, IsLast, Keeps, List, Most, NextContent, None, Of, Option, Overlong, PassesFirst}
+use Rattle.cif_columns.proofs.Names.{Some, [], ap}
 use Rattle.cif_columns.proofs.Names.{append-nil, append_assoc, arith, cond, cond_both, contents_of, drop, drop-cons, drop_of_length-le}
 use Rattle.cif_columns.proofs.Names.{eqb-true, false, get_or, get_or_append_left, inl, inr, is_line_feed, length, length-append}
 use Rattle.cif_columns.proofs.Names.{length-take, lines, lines_of_parts, map, most_by, nat_eq, nat_tests, prepend_known, refl, slice_index}

@@ -4,7 +4,8 @@ use Rattle.cif_columns.proofs.Names.{AreContentsToRefusal, AreWholeContentsAndRe
 use Rattle.cif_columns.proofs.Names.{GivenDecideContent, HasLineReason, IfSome, IsContentDecidedWithin}
 use Rattle.cif_columns.proofs.Names.{IsFirstContent, IsLine, IsNextBy, IsSomeAnd, LineFault, LineReader, List, Most, None, Ok, Option, Read}
 use Rattle.cif_columns.proofs.Names.{Reading, Refusal, Refused, Some, Source, [], ap, append-nil, append_assoc, arith, contents_of, false}
-use Rattle.cif_columns.proofs.Names.{length, length-append, lines, most_by, past, prepend_known, refl, source_ended, subst, sym, unread_of, ℕ, ◌++◌}
+use Rattle.cif_columns.proofs.Names.{length, length-append, lines, most_by, past, prepend_known, refl, source_ended, subst, sym, unread_of}
+use Rattle.cif_columns.proofs.Names.{ℕ, ◌++◌}
 use Rattle.cif_columns.proofs.Names.{◌+◌, ◌∙◌, ◌∷◌, ◌≡◌, ◌≤◌}
 use mathlib.Core.Logic.{inl, inr, ◌⊎◌}
 use Rattle.cif_columns.proofs.WholeLines.{ends_after, ends_before, lines_piece, lines_whole, piece_of}

@@ -257,7 +257,8 @@ module _ {R : Type 0} (remaining : R → Option (List ℕ)) (errors : R → Opti
     )
       where
         at : (s r : Option (List ℕ)) → IfSome s (λ bytes. IsSomeAnd r (AreJudgedAndRest bytes cs))
-            → IfSome r (λ bytes. AnswersContent (Of (most_of reader)) bytes (Ok Overlong) (content reader') (left remaining reader' source'))
+            → IfSome r (λ bytes.
+            AnswersContent (Of (most_of reader)) bytes (Ok Overlong) (content reader') (left remaining reader' source'))
             → (long : List ℕ) × (length long ≢ 80) × IfSome s (λ bytes. judged_contents bytes ≡ cs ++ long ∷ [])
         at None r known answer = ([], omega arith, tt)
         at (Some bytes) None known answer = absurd known

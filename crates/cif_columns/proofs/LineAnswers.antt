@@ -236,8 +236,8 @@ module _ {R : Type 0} {remaining : R → Option (List ℕ)} {errors : R → Opti
       next.device (λ not. next.decided (λ e. absurd (cc)) not)
 
 -- a content that was given is the first: if it is no comment, none stands there
-pub no_comment : {R : Type 0} {remaining : R → Option (List ℕ)} {errors : R → Option ℕ} {most : Most} (old : LineReader) {from to : Source R}
-    (between : ContentReader) → IsNextWithin remaining errors most old.contents from (Ok Content) between to
+pub no_comment : {R : Type 0} {remaining : R → Option (List ℕ)} {errors : R → Option ℕ} {most : Most} (old : LineReader)
+    {from to : Source R} (between : ContentReader) → IsNextWithin remaining errors most old.contents from (Ok Content) between to
     → is_comment (content between) ≡ false → IsNoComment remaining old from
 no_comment {remaining = remaining} old {from = from} between next none = λ _ _. known_so (left remaining old from) _ _
     (λ bytes answer first more is.

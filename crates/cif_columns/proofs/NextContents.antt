@@ -1,7 +1,10 @@
 -- What a call that passes the next content answers: by what was decided, by what came last, and where its source failed.
-use Rattle.cif_columns.proofs.Names.{AreUndecided, BeginOverlong, Content, CutsNext, Err, HasFailedToRead, HasReadOn, IsAtEnd, IsLast, Keeps, List}
-use Rattle.cif_columns.proofs.Names.{Most, NextContent, Ok, Option, Overlong, PassesFirst, ReadFault, Result, Source, ap, arith, content_bytes}
-use Rattle.cif_columns.proofs.Names.{false, held_bytes, known_left, length, most_by, reader_of, source_ended, source_failed, subst, sym, true, ℕ, ⊎_elim, ◌<◌}
+use Rattle.cif_columns.proofs.Names.{AreUndecided, BeginOverlong, Content, CutsNext, Err, HasFailedToRead, HasReadOn, IsAtEnd, IsLast}
+use Rattle.cif_columns.proofs.Names.{Keeps, List}
+use Rattle.cif_columns.proofs.Names.{Most, NextContent, Ok, Option, Overlong, PassesFirst, ReadFault, Result, Source, ap, arith}
+use Rattle.cif_columns.proofs.Names.{content_bytes}
+use Rattle.cif_columns.proofs.Names.{false, held_bytes, known_left, length, most_by, reader_of, source_ended, source_failed, subst, sym}
+use Rattle.cif_columns.proofs.Names.{true, ℕ, ⊎_elim, ◌<◌}
 use Rattle.cif_columns.proofs.Names.{◌∙◌, ◌≡◌, ◌⊎◌}
 use Rattle.cif_columns.proofs.FirstContents.{fed_decides, fed_some, kept_left, last_left, overlong_decides, passed_left}
 use Rattle.cif_columns.specs.declared.ahead.Ahead.{Ahead}
@@ -11,8 +14,8 @@ use Rattle.cif_columns.specs.declared.ahead.NextContent.TheVariants.{End}
 module _ {R : Type 0} (remaining : R → Option (List ℕ)) (errors : R → Option ℕ) (most : Most) (first old new : Ahead) (from to : Source R)
     (keeps : Keeps (known_left remaining first from) (known_left remaining old to)) where
   module _ (read_on : HasReadOn errors from to) where
-    pub decided_next : 0 < most_by most (held_bytes old) → (held_bytes old ≡ held_bytes first) ⊎ (source_failed from ≡ false) → (next : NextContent)
-        → PassesFirst (most_by most (held_bytes old)) (held_bytes old) next (content_bytes new) (held_bytes new)
+    pub decided_next : 0 < most_by most (held_bytes old) → (held_bytes old ≡ held_bytes first) ⊎ (source_failed from ≡ false)
+        → (next : NextContent) → PassesFirst (most_by most (held_bytes old)) (held_bytes old) next (content_bytes new) (held_bytes new)
         → CutsNext remaining errors most first from (Ok next) new to
     decided_next some begun Content passes = record {
       answer = passed_left most (known_left remaining first from) (remaining (reader_of to)) (held_bytes old) (content_bytes new) _

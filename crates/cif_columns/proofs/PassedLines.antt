@@ -1,7 +1,8 @@
 -- A line that is passed where it is ahead is the next line, as `read_line` gives it, from any source.
 use Rattle.cif_columns.proofs.Names.{AreAhead, ArePrintable, BeginWithLine, Content, EndsAtFeed, HasPassed, IsLine, IsNextBy, Keeps-refl}
 use Rattle.cif_columns.proofs.Names.{Line, LineReader, List, Most, Of, Ok, Option, Reading, Some, Source, ap, arith, drop, drop-cons}
-use Rattle.cif_columns.proofs.Names.{length, length-take, most_by, past, prepend_known, reader_of, sym, take-append-drop, ℕ, ◌++◌, ◌+◌, ◌<◌, ◌∙◌, ◌∷◌, ◌≡◌}
+use Rattle.cif_columns.proofs.Names.{length, length-take, most_by, past, prepend_known, reader_of, sym, take-append-drop, ℕ, ◌++◌, ◌+◌, ◌<◌}
+use Rattle.cif_columns.proofs.Names.{◌∙◌, ◌∷◌, ◌≡◌}
 use Rattle.cif_columns.proofs.ContentAnswers.{none_decided}
 use Rattle.cif_columns.proofs.FirstContents.{content_first, fed_decides, passed_left}
 use Rattle.cif_columns.proofs.GivenLinesLaws.{known_so}

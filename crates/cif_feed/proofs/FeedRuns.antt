@@ -4,7 +4,8 @@ use Rattle.cif_feed.proofs.Names.{AreContentsToRefusal, AreWholeContentsAndRest,
 use Rattle.cif_feed.proofs.Names.{begins_comment}
 use Rattle.cif_feed.proofs.Names.{Err, Extract, Feed, FeedExtract, FeedFault, FeedReading, Full, HasLineReason, HasPassedComment, HasReadOn}
 use Rattle.cif_feed.proofs.Names.{HaveRoom, Hd, HolidayCodes, IfErr, IfOk, IfSome, IsFeedContent, IsFeedCut, IsFeedFault, IsFeedTaken}
-use Rattle.cif_feed.proofs.Names.{InFeed, IsFirstContent, IsFirstOfFeed, IsLine, IsLineNumber, IsNextBy, IsNextFault, IsNoComment, IsNoTrailer}
+use Rattle.cif_feed.proofs.Names.{InFeed, IsFirstContent, IsFirstOfFeed, IsLine, IsLineNumber, IsNextBy, IsNextFault, IsNoComment}
+use Rattle.cif_feed.proofs.Names.{IsNoTrailer}
 use Rattle.cif_feed.proofs.Names.{IsOfFeed, IsOwed, IsReadWhole, IsReadingContents, IsResultOf, IsSomeAnd, Kind, KnownContents, LineFault}
 use Rattle.cif_feed.proofs.Names.{LineReads, List, None, NoneOfFeedRefused, NotUpdate, Ok, Option, Refusal, Result, SayFeed, Some, Source}
 use Rattle.cif_feed.proofs.Names.{SpellFeed, TakeFault, Unread, Zz, [], answers, ap, append_assoc, append_cancel_left, arith, below_more}
@@ -239,7 +240,8 @@ module _ (feed : Feed) (allowed : HolidayCodes) (max : ℕ) {R : Type 0} (remain
   pub comes-untaken : (number : ℕ) (kind : Option Kind) (s : TakeFault) → 1 ≤ number → number ≤ max → HasReadOn errors old new
       → ((why : Refusal) → s ≡ untaken.Refused why → IfSome (remaining (reader_of old)) (λ bytes.
       IsFirstOfFeed feed allowed max (contents_of bytes) (fault_for feed number kind why)
-      × IsDecidedWithinOrLast IsFeedContent InFeed max bytes (unread_of remaining new) number)) → Comes (Err (untaken_fault feed number kind s))
+      × IsDecidedWithinOrLast IsFeedContent InFeed max bytes (unread_of remaining new) number))
+      → Comes (Err (untaken_fault feed number kind s))
   comes-untaken number kind (untaken.Refused why) first within read_on h =
       let here : IsLineNumber max number = (first, omega arith) in
       refuses remaining errors old new (reading_feed feed allowed max) (fault_for feed number kind why)

@@ -7,7 +7,8 @@ use Rattle.cif_feed.proofs.Names.{IsRecordTaken, IsStopTaken, IsTaken, IsTakenAs
 use Rattle.cif_feed.proofs.Names.{Progress, Record, Refusal, Refused, Result, Some, SpellsAssociationBy, SpellsBasicBy, SpellsInFeed}
 use Rattle.cif_feed.proofs.Names.{SpellsRecord, Ta, TakeFault, Td, Ti, Transaction, UnlessMemory, [], and_parts, ap, append-nil, arith}
 use Rattle.cif_feed.proofs.Names.{association_mark, association_refusal_by, basic_back, basic_refusal_by, bytes_eq-Decides, code_of, codes}
-use Rattle.cif_feed.proofs.Names.{columns, cond, counts_of, ends_open, enumerate_from, false, feed_layouts, feed_refusal_as, filter, has_holiday_code}
+use Rattle.cif_feed.proofs.Names.{columns, cond, counts_of, ends_open, enumerate_from, false, feed_layouts, feed_refusal_as, filter}
+use Rattle.cif_feed.proofs.Names.{has_holiday_code}
 use Rattle.cif_feed.proofs.Names.{filter-append, find, fine_so, first_of, header_behind, header_from, is_association, is_basic, is_comment}
 use Rattle.cif_feed.proofs.Names.{is_deleted, is_header, is_identity, is_new, is_note, is_of_tiploc, is_open, is_record_line, is_revised}
 use Rattle.cif_feed.proofs.Names.{is_trailer, kind_in, kind_of, kind_read_as, kinds, length, length-append, lines_of, list_any}

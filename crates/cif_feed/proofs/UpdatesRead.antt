@@ -1,7 +1,7 @@
 -- What comes of the sources of `update`, where the bytes that their readers give are known.
 use Rattle.cif_feed.proofs.Names.{AlreadyThere, BadTransaction, Bool, BytesSpellPublished, Err, FeedFault, HasFailed, HasWritten, IfErr}
-use Rattle.cif_feed.proofs.Names.{IfOk, IfSome, IsDeviceOrMemory, IsPublishedOf, IsResultOf, List, Makes, MatchResult, NotThere, NotUpdate}
-use Rattle.cif_feed.proofs.Names.{Ok, Option, PublishedExtract, PublishedParts, Refuses, Result, Sink, Some, Source, Unread, Writes, []}
+use Rattle.cif_feed.proofs.Names.{IfOk, IfSome, IsDeviceOrMemory, IsPublishedOf, IsResultOf, List, MatchResult, NotThere, NotUpdate}
+use Rattle.cif_feed.proofs.Names.{Ok, Option, PublishedExtract, PublishedParts, Result, Sink, Some, Source, Unread, Writes, []}
 use Rattle.cif_feed.proofs.Names.{all_codes, ap, append-nil, append_assoc, failed_second, goes-on, inl, inr, list_any, not}
 use Rattle.cif_feed.proofs.Names.{published_parts, published_text, reader_of, reading_published, refl, subst, sym, unread_of, updating}
 use Rattle.cif_feed.proofs.Names.{written_both, ℕ, ⊎_elim, ◌&&◌, ◌++◌, ◌||◌, ◌∙◌, ◌∷◌, ◌≡◌, ◌⊎◌}

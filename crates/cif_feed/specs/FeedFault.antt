@@ -29,7 +29,8 @@ IsFeedFault feed allowed max bytes after (Extract _) = ⊥
 IsFeedFault feed allowed max bytes after (NotUpdate line) =
     IsFirstOfFeed feed allowed max (contents_of bytes) (NotUpdate line) × IsDecidedWithinOrLast IsFeedContent InFeed max bytes after line
 IsFeedFault feed allowed max bytes after (BadTransaction line) =
-    IsFirstOfFeed feed allowed max (contents_of bytes) (BadTransaction line) × IsDecidedWithinOrLast IsFeedContent InFeed max bytes after line
+    IsFirstOfFeed feed allowed max (contents_of bytes) (BadTransaction line)
+    × IsDecidedWithinOrLast IsFeedContent InFeed max bytes after line
 IsFeedFault feed allowed max bytes after _ = ⊥
 
 -- the faults of reading at most max contents, for any source

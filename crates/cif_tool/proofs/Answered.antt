@@ -1,6 +1,7 @@
 -- What a command owes its sink, by the calls that it makes.
 use Rattle.cif_tool.proofs.Names.{Answers, AreAnswered, Err, Fault, FaultWrites, Finishes, HasFailed, HasWritten, IfAnswered, IfErr, IfOk}
-use Rattle.cif_tool.proofs.Names.{IfOk-weaker, IfWritten, IsAnswered, IsErrAnd, IsHandedOn, IsOfCheck, IsOfNormalise, IsOfReadNarrowed, IsOfReading}
+use Rattle.cif_tool.proofs.Names.{IfOk-weaker, IfWritten, IsAnswered, IsErrAnd, IsHandedOn, IsOfCheck, IsOfNormalise, IsOfReadNarrowed}
+use Rattle.cif_tool.proofs.Names.{IsOfReading}
 use Rattle.cif_tool.proofs.Names.{IsResultOf, IsResultOfBoth, List, MAX_LINES}
 use Rattle.cif_tool.proofs.Names.{Makes, MatchResult, OfBoth, OfInput, Ok, Option, ReadCall, Refuses, Result, Sink, Source, Unread, Writes}
 use Rattle.cif_tool.proofs.Names.{[], answering, ap, append-nil, at-fault, err_from_is_err_and, failed_second, false, goes-on, hands-on}
@@ -182,7 +183,8 @@ module _ {A : Type 0} (one : ReadCall A Fault) (IsFault : List ℕ → Unread �
 
   -- a fault of reading
   pub unread : (f : Fault) → ((bytes : List ℕ) (after : Unread) → one.IsFault bytes after f → IsFault bytes after f) →
-      (one.MayFail f → IsOfNormalise MAX_LINES f) → one.is_read f ≡ is_read f → IsResultOf remaining errors one old new (Err f) → (result : Result ℕ Fault) →
+      (one.MayFail f → IsOfNormalise MAX_LINES f) → one.is_read f ≡ is_read f →
+      IsResultOf remaining errors one old new (Err f) → (result : Result ℕ Fault) →
       IsErrAnd result (λ e. e ≡ f) → Comes result
   unread f so may same =
       hands-on one (answering IsFault) remaining errors old new f (record { fault = so; answers = may; same = same })
@@ -194,7 +196,8 @@ module _ {A : Type 0} (one : ReadCall A Fault) (IsFault : List ℕ → Unread �
 
     -- so there is no answer
     pub not-answered : (f : Fault) → ((bytes : List ℕ) (after : Unread) → one.IsFault bytes after f → IsFault bytes after f) →
-        (one.MayFail f → IsOfNormalise MAX_LINES f) → one.is_read f ≡ is_read f → ¬ one.MayFail fault.Write → IsResultOf remaining errors one old new (Err f) →
+        (one.MayFail f → IsOfNormalise MAX_LINES f) → one.is_read f ≡ is_read f → ¬ one.MayFail fault.Write →
+        IsResultOf remaining errors one old new (Err f) →
         (result : Result ℕ Fault) → IsErrAnd result (λ e. e ≡ f) → Is sink result
     not-answered f so may same never call result handed =
         nothing-of-input contents write_errors holds_nothing sink result f handed

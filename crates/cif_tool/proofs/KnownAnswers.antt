@@ -5,7 +5,8 @@ use Rattle.cif_tool.proofs.Names.{ExtractLines, ExtractParts, Fault, Format, IfE
 use Rattle.cif_tool.proofs.Names.{IsCanonicalAnswer, IsClashesAnswer, IsClashlessRefusal, IsCompareAnswer, IsCompareFault, IsDayAnswer}
 use Rattle.cif_tool.proofs.Names.{IsDiffAnswer, IsErrAnd, IsExplainAnswer, IsExplanation, IsListedStatus, IsNormaliseFault}
 use Rattle.cif_views.specs.Explanation.{IsExplanationFault}
-use Rattle.cif_tool.proofs.Names.{IsDayFault, IsOfNormalise, IsReadNarrowedFault, IsResultOfBoth, IsTrainAnswer, IsTrainFault, IsTrue, IsWeekCalendar}
+use Rattle.cif_tool.proofs.Names.{IsDayFault, IsOfNormalise, IsReadNarrowedFault, IsResultOfBoth, IsTrainAnswer, IsTrainFault, IsTrue}
+use Rattle.cif_tool.proofs.Names.{IsWeekCalendar}
 use Rattle.cif_tool.proofs.Names.{IsWeekCalendarFault, List, MAX_LINES, Ok, Option, Result, Source, SpellsNarrowed, TrainJob, Unread, []}
 use Rattle.cif_tool.proofs.Names.{ap, canon-fault, canonical_text, clashes_text, comparison_line, differences_in, extract_parts, false, inl}
 use Rattle.cif_tool.proofs.Names.{inr, is-normalised, known_so, lines_of, listed_status, outcome_of, reader_of, reading_extract, refl, sym}

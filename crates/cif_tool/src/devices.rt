@@ -1,7 +1,7 @@
 //! What the program reads and writes: its inputs, and the output.
 ghost use Rattle.std.specs.Io.{ReadsAtMost};
 
-use crate::line_again::{LastRead, LineAgain, MOST_LOOKED_AT};
+use crate::line_again::{LastRead, LineAgain, MOST_LOOKED_AT, START};
 use crate::message::{Detail, Escaped};
 use crate::words::is_standard;
 use arrayvec::ArrayVec;
@@ -14,9 +14,6 @@ use std::fs::{File, OpenFile};
 use std::io::{BufRead, BufReader, BufWriter, Read, Seek, SeekFrom, StdinLock, Stdout, Write};
 use std::mem::ManuallyDrop;
 use std::{fmt, fs, io};
-
-/// How many bytes are kept of what was read first: a line and its ending.
-const START: usize = LINE_WIDTH + 2;
 
 /// The standard input, or a file. Neither is touched before it is read first, and a file that can't
 /// be opened is one that can't be read.
@@ -50,6 +47,8 @@ enum Device {
 impl<'a> ExtractInput<'a> {
     /// The file of this name, or the standard input where there is none or it is `-`. With help that may show one
     /// of its lines, what is read last of the standard input is kept.
+    // Inlined, it would keep copies of an input on the stack of its caller, and each is some kilobytes large.
+    #[inline(never)]
     pub(crate) fn of(
         rt: HostRuntime,
         side: &'static str,

@@ -1,7 +1,10 @@
 //! A line of an input that is shown again, and what is kept for it of an input that can't be read again.
-use cif_columns::{Content, Line, LineReader, Source};
+use cif_columns::{Content, LINE_WIDTH, Line, LineReader, Source};
 use std::alloc::Global;
 use std::io::{BufRead, Read};
+
+/// The bytes of a line with its ending.
+pub(crate) const START: usize = LINE_WIDTH + 2;
 
 /// The bytes of a line that are looked at before it counts as endless.
 pub(crate) const MOST_LOOKED_AT: usize = 4096;
@@ -58,8 +61,6 @@ pub(crate) struct LastRead {
     bytes: Vec<u8>,
     /// How many lines stood before them; not known once memory ran out.
     lines_before: Option<u64>,
-    /// Whether nothing follows them.
-    is_end: bool,
 }
 
 impl LastRead {
@@ -68,14 +69,11 @@ impl LastRead {
         LastRead {
             bytes: Vec::new(alloc),
             lines_before: Some(0),
-            is_end: false,
         }
     }
 
-    /// Keeps the bytes that were read now, where there were some before the end, and forgets the first lines if it has
-    /// too many.
+    /// Keeps the bytes that were read now, and forgets the first lines if it has too many.
     pub(crate) fn add(&mut self, read: &[u8]) {
-        self.is_end = read.is_empty();
         let length = self.bytes.len();
         if length >= MOST_KEPT {
             self.forget(length.saturating_sub(LEAST_KEPT));
@@ -113,8 +111,9 @@ impl LastRead {
         for _ in 0..before {
             rest.skip_until(b'\n').ok()?;
         }
-        let mut line = LineAgain::read(alloc, &mut rest, MOST_LOOKED_AT)?;
-        line.is_whole &= line.is_ended || self.is_end;
+        // More is known of a line that is too long, but how much depends on the reads.
+        let mut line = LineAgain::read(alloc, &mut rest, START)?;
+        line.bytes.truncate(START);
         Some(line)
     }
 }

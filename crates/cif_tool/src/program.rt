@@ -10,6 +10,7 @@ use crate::status::{USAGE_ERROR, end};
 use crate::words::task_of;
 use cif_columns::{Sink, Source};
 use cif_extract::Fault;
+use std::alloc::AllocError;
 use std::io::{ErrorKind, Stderr};
 use std::mem::ManuallyDrop;
 use std::{env, io};
@@ -68,6 +69,19 @@ fn words_of(rt: HostRuntime) -> io::Result<Vec<String>> {
     Ok(env::args(&rt)?.collect(rt.alloc())?)
 }
 
+/// The input of this name, on the heap, since a small stack has no room for two; `side` says which it is.
+// Inlined, it would keep a copy on the stack of its caller.
+#[inline(never)]
+fn boxed_source<'a>(
+    rt: HostRuntime,
+    side: &'static str,
+    file: Option<&'a str>,
+    detail: Detail,
+) -> Result<Box<Source<ExtractInput<'a>>>, AllocError> {
+    let input = ExtractInput::of(rt, side, file, detail);
+    Ok(Box::new(rt.alloc(), Source::new(input))?)
+}
+
 /// Answers the job on the standard output, and returns the status to exit with.
 // Inlined, it would keep its inputs on the stack while a feed is read.
 #[inline(never)]
@@ -81,8 +95,12 @@ fn done(rt: HostRuntime, job: &Job, call: &Call, errors: &mut Sink<Stderr>) -> u
     let alloc = rt.alloc();
     let detail = Detail::of(rt, call.verbose);
     let left_file = Some(call.inputs.first.as_str());
-    let mut left = Source::new(ExtractInput::of(rt, side, left_file, detail));
-    let mut right = Source::new(ExtractInput::of(rt, right_side, right_file, detail));
+    let Ok(mut left) = boxed_source(rt, side, left_file, detail) else {
+        return end(&Err(Fault::Memory), errors);
+    };
+    let Ok(mut right) = boxed_source(rt, right_side, right_file, detail) else {
+        return end(&Err(Fault::Memory), errors);
+    };
     let mut written = Written::new();
     let output = Output {
         writer: rt.stdout(),
@@ -95,7 +113,7 @@ fn done(rt: HostRuntime, job: &Job, call: &Call, errors: &mut Sink<Stderr>) -> u
         reasons: None,
     });
     let answered = match buffered(alloc, output) {
-        Ok(mut output) => answer(alloc, job, &mut left, &mut right, &mut output, &mut kept),
+        Ok(mut output) => answer(alloc, job, &mut *left, &mut *right, &mut output, &mut kept),
         Err(fault) => Err(fault),
     };
     let status = end(&answered, errors);

@@ -27,7 +27,8 @@ pub returns-in_err-do_updates-clause-reads : goal.returns-in_err-do_updates-clau
 returns-in_err-do_updates-clause-reads g c =
     let call = c.from_residual-in_err-do_updates in
     let f = c.in_err-do_updates.field-0.0 in
-    undone-reads _ _ g.W.Write.contents g.W.WriteDevice.write_errors (λ u. told_of c.args.kept.now) _ _ _ c.all.ensures _ _ c.in_ok-extract.extract
+    undone-reads _ _ g.W.Write.contents g.W.WriteDevice.write_errors (λ u. told_of c.args.kept.now) _ _ _ c.all.ensures _ _
+    c.in_ok-extract.extract
     c.in_ok-extract.ensures c.insert-extract.result.now c.insert-extract.ensures.value
     (published_parts c.do_updates.new.extract) _ _ c.in_err-do_updates.ensures.0 f c.in_err-do_updates.ensures.1 call.result
     (at-fault call.result f call.ensures.1)
@@ -38,7 +39,8 @@ returns-clause-answer g c =
     let done = rw c.new.ensures.items at turn.2 in
     ended-answer _ _ _ _ _ (λ u. []) _ _ c.all.ensures _ _ c.in_ok-extract.extract c.in_ok-extract.ensures c.insert-extract.result.now
     c.insert-extract.ensures.value
-    (published_parts c.do_updates.new.extract) _ _ turn.0 turn.1 (λ a. rw (c.of.ensures.counts, done) refl) c.args.sink.now c.finish.new.sink
+    (published_parts c.do_updates.new.extract) _ _ turn.0 turn.1 (λ a. rw (c.of.ensures.counts, done) refl) c.args.sink.now
+    c.finish.new.sink
     c.finish.result
     (finished _ _ _ _ _ _ c.write.result c.finish.result c.write.ensures c.finish.ensures.finishes)
 
@@ -53,7 +55,8 @@ returns-clause-fault g c =
 pub returns-clause-reads : goal.returns-clause-reads
 returns-clause-reads g c =
     let turn = c.in_ok-do_updates.ensures in
-    ended-reads _ _ g.W.Write.contents g.W.WriteDevice.write_errors (λ u. told_of c.args.kept.now) _ _ _ c.all.ensures _ _ c.in_ok-extract.extract
+    ended-reads _ _ g.W.Write.contents g.W.WriteDevice.write_errors (λ u. told_of c.args.kept.now) _ _ _ c.all.ensures _ _
+    c.in_ok-extract.extract
     c.in_ok-extract.ensures c.insert-extract.result.now c.insert-extract.ensures.value
     (published_parts c.do_updates.new.extract) _ _ turn.0 turn.1 (λ a. rw c.new.ensures.items at turn.2) c.args.sink.now c.finish.new.sink
     c.finish.result

@@ -8,7 +8,8 @@ pub returns-in_err-canon : goal.returns-in_err-canon
 returns-in_err-canon g c =
     let job = c.args.job.now in
     not-answered (reading_canon job.form job.asked MAX_LINES) (IsNormaliseFault MAX_LINES job.asked) _ _ _ _ _ _ _ _ c.args.sink.now
-    c.in_err-canon.field-0.0 (λ bytes after h. h) (may-check c.in_err-canon.field-0.0) refl (λ h. h) c.in_err-canon.ensures c.from_residual.result c.from_residual.ensures.1
+    c.in_err-canon.field-0.0 (λ bytes after h. h) (may-check c.in_err-canon.field-0.0) refl (λ h. h) c.in_err-canon.ensures
+    c.from_residual.result c.from_residual.ensures.1
 
 pub returns : goal.returns
 returns g c =

@@ -8,8 +8,8 @@ use Rattle.cif_tool.proofs.answers.answer_explain.Goals as goal
 pub returns-in_err-extract : goal.returns-in_err-extract
 returns-in_err-extract g c =
     not-answered (reading_extract MAX_LINES) (IsExplainRefusal c.args.job.now.day) _ _ _ _ _ _ _ _ c.args.sink.now
-    c.in_err-extract.field-0.0 (λ bytes after. inl) (may-read c.in_err-extract.field-0.0) refl (λ h. h) c.in_err-extract.ensures c.from_residual.result
-    c.from_residual.ensures.1
+    c.in_err-extract.field-0.0 (λ bytes after. inl) (may-read c.in_err-extract.field-0.0) refl (λ h. h) c.in_err-extract.ensures
+    c.from_residual.result c.from_residual.ensures.1
 
 pub returns : goal.returns
 returns g c =

@@ -10,8 +10,8 @@ returns-in_err-extract g c =
     let asked = c.args.job.now.asked in
     let f = c.in_err-extract.field-0.0 in
     not-answered (reading_narrowed MAX_LINES asked) (IsNormaliseFault MAX_LINES asked) _ _ _ _ _ _ _ _ c.args.sink.now f
-    (λ bytes after. narrowed-fault MAX_LINES asked bytes after f) (may-narrow f) refl (λ h. h) c.in_err-extract.ensures c.from_residual.result
-    c.from_residual.ensures.1
+    (λ bytes after. narrowed-fault MAX_LINES asked bytes after f) (may-narrow f) refl (λ h. h) c.in_err-extract.ensures
+    c.from_residual.result c.from_residual.ensures.1
 
 pub returns : goal.returns
 returns g c =

@@ -1,6 +1,7 @@
 -- What the held bytes decide is so of all that is left; the loop ends, as undecided bytes are fewer than can be held.
 use Rattle.cif_columns.proofs.Names.{List, Most, ℕ, ◌≡◌}
-use Rattle.cif_columns.proofs.Names.{AreUndecided, Keeps-refl, Keeps-trans, Ok, PassesFirst, content_bytes, held_bytes, most_by, ap, arith, inl, inr, length, refl, subst, sym, ◌∙◌}
+use Rattle.cif_columns.proofs.Names.{AreUndecided, Keeps-refl, Keeps-trans, Ok, held_bytes, most_by, ap, arith}
+use Rattle.cif_columns.proofs.Names.{inl, inr, length, refl, subst, sym, ◌∙◌}
 use Rattle.cif_columns.proofs.NextContents.{decided_next, failed_next, last_next}
 use Rattle.cif_columns.proofs.ReadSources.{failed_after, read_nothing, read_on_both}
 use Rattle.cif_columns.proofs.ahead.Ahead.next_content.Goals as goal

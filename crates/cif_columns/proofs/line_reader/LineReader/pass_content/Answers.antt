@@ -10,7 +10,8 @@ returns-in-Ok-Overlong g c =
     rw c.stop.ensures.fault
     (passes_overlong c.in-Reading.is c.requires.some
     (subst (λ (r : ContentReader). IsNextWithin g.R.Read.remaining g.R.ReadDevice.read_errors c.args.most c.args.self.now.contents
-    c.args.source.now (Ok Overlong) r c.next_within.new.source) same next) _ (ap (λ (r : ContentReader). r.given + 1) same) c.stop.ensures.past)
+    c.args.source.now (Ok Overlong) r c.next_within.new.source) same next) _ (ap (λ (r : ContentReader). r.given + 1) same)
+    c.stop.ensures.past)
 
 pub returns-in-Err : goal.returns-in-Err
 returns-in-Err g c =
