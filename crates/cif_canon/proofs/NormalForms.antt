@@ -137,7 +137,7 @@ normal-unique form x bytes p = record {
 
 -- ---- what is canonical is accepted again
 
-canonical-extract-clear : (form : Form) (x : ExtractParts) → IsCanonicalExtract form x → IsClearExtract x
+pub canonical-extract-clear : (form : Form) (x : ExtractParts) → IsCanonicalExtract form x → IsClearExtract x
 canonical-extract-clear form x c = record {
   associations = subst (λ es. AreClear es x.header.first x.header.last) (sym c.associations.are)
       (canonical-clear key_cmp form (header_window x.header) c.associations.records c.associations.canonical x.header.first x.header.last);

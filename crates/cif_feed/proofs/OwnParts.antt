@@ -76,12 +76,12 @@ schedules_in_order : (xs : List Schedule) → AreInOrder (schedule_entries xs)
 schedules_in_order [] = tt
 schedules_in_order (x ∷ xs) = (x.in_order, schedules_in_order xs)
 
-associations_as : (xs : List Association)
+pub associations_as : (xs : List Association)
     → published_associations (map association_as_published xs) ≡ map as_they_are (association_entries xs)
 associations_as [] = refl
 associations_as (x ∷ xs) = ap (λ l. as_they_are (association_entry x) ∷ l) (associations_as xs)
 
-schedules_as : (xs : List Schedule) → published_schedules (map schedule_as_published xs) ≡ map as_they_are (schedule_entries xs)
+pub schedules_as : (xs : List Schedule) → published_schedules (map schedule_as_published xs) ≡ map as_they_are (schedule_entries xs)
 schedules_as [] = refl
 schedules_as (x ∷ xs) = ap (λ l. as_they_are (schedule_entry x) ∷ l) (schedules_as xs)
 

@@ -1,0 +1,11 @@
+pub mod FeedMeaning
+pub mod NarrowedHeaders
+pub mod PreparedInputs
+pub mod CanonicalFeeds
+pub mod ComparedFeeds
+pub mod PairsOfFeeds
+pub mod OtherKeys
+pub mod SameViews
+pub mod SameComparisons
+pub mod NarrowedCanon
+pub mod ClearFeeds

@@ -1,0 +1,111 @@
+-- What an update leaves of a key that it doesn't name.
+use Rattle.std.proofs.Common.{All, Bool, Contains, List, Option, ap, false, filter, inl, inr, map, refl, subst, sym, true}
+use Rattle.std.proofs.Common.{ℕ, ⊎_elim, ◌↔◌, ◌≡◌}
+use Rattle.std.proofs.Common.{◌∙◌, ◌≢◌}
+use Rattle.cif_calendar.proofs.Sets.{IsClash-same, Runs-same}
+use Rattle.cif_calendar.specs.Terms.{SameRecords}
+use Rattle.cif_canon.proofs.ChosenRecords.{chosen, chosen-from}
+use Rattle.cif_feed.proofs.ChangeLaws.{have_last_word}
+use Rattle.cif_feed.proofs.ListSteps.{Contains-from_map, Contains-map}
+use Rattle.cif_feed.specs.Changes.{AreAfter, AreOfKey, key_of}
+use Rattle.cif_feed.specs.Published.{CountOn, PublishedTerms}
+use Rattle.cif_feed.specs.declared.changes.Change.{Change}
+use Rattle.cif_feed.specs.declared.holidays.Holidays.{Holidays}
+use Rattle.cif_laws.specs.PublishedFeed.{FeedRuns}
+
+-- ---- what is there
+
+module _ {K R : Type 0} (key : R → K) (old : List R) (changes : List (Change K R)) (new : List R) (are : AreAfter key old changes new)
+    (k : K) (none : All (λ c. key_of key c.action ≢ k) changes) where
+  test : R → Bool
+  test r = are.same (key r) k
+
+  kept : AreOfKey key new k (filter test old)
+  unfolding test
+  kept = (have_last_word key old changes new are k).kept none (filter test old)
+      (record { test = test; tells = λ r. are.tells (key r) k; are = refl })
+
+  -- the records of the key
+  pub there-after : (r : R) → key r ≡ k → Contains old r → Contains new r
+  unfolding test
+  there-after r is has = (chosen-from kept.test new r
+      (subst (λ l. Contains l r) kept.are (chosen test old r has ((are.tells (key r) k).1 is)))).0
+
+  pub there-before : (r : R) → key r ≡ k → Contains new r → Contains old r
+  unfolding test
+  there-before r is has = (chosen-from test old r
+      (subst (λ l. Contains l r) (sym kept.are) (chosen kept.test new r has ((kept.tells r).1 is)))).0
+
+-- ---- what a feed says, where the same records count
+
+module _ {K B : Type 0} (h : Holidays) (xs ys : List (K × PublishedTerms B)) (k : K) (d : ℕ)
+    (to : (t : PublishedTerms B) → Contains xs (k, t) → Contains ys (k, t))
+    (back : (t : PublishedTerms B) → Contains ys (k, t) → Contains xs (k, t)) where
+  same-count : SameRecords (CountOn h xs k d) (CountOn h ys k d)
+  same-count = record {
+    same = λ r. (
+      λ c. record {
+        open_end = c.open_end;
+        code = c.code;
+        listed = to (record { terms = r; open_end = c.open_end; code = c.code }) c.listed;
+        no_holiday = c.no_holiday;
+      },
+      λ c. record {
+        open_end = c.open_end;
+        code = c.code;
+        listed = back (record { terms = r; open_end = c.open_end; code = c.code }) c.listed;
+        no_holiday = c.no_holiday;
+      },
+    );
+  }
+
+  same-back : SameRecords (CountOn h ys k d) (CountOn h xs k d)
+  same-back = record { same = λ r. ((same-count.same r).1, (same-count.same r).0) }
+
+  pub same-feed : (drops : Bool) (o : Option B) → FeedRuns drops h xs k d o ↔ FeedRuns drops h ys k d o
+  same-feed false o = (
+    Runs-same (CountOn h xs k d) (CountOn h ys k d) same-count d o,
+    Runs-same (CountOn h ys k d) (CountOn h xs k d) same-back d o,
+  )
+  same-feed true o = (
+    ⊎_elim
+        (λ none. inl (IsClash-same (CountOn h xs k d) (CountOn h ys k d) same-count d none.0, none.1))
+        (λ runs. inr (
+          λ clash. runs.0 (IsClash-same (CountOn h ys k d) (CountOn h xs k d) same-back d clash),
+          Runs-same (CountOn h xs k d) (CountOn h ys k d) same-count d o runs.1,
+        )),
+    ⊎_elim
+        (λ none. inl (IsClash-same (CountOn h ys k d) (CountOn h xs k d) same-back d none.0, none.1))
+        (λ runs. inr (
+          λ clash. runs.0 (IsClash-same (CountOn h xs k d) (CountOn h ys k d) same-count d clash),
+          Runs-same (CountOn h ys k d) (CountOn h xs k d) same-back d o runs.1,
+        )),
+  )
+
+-- ---- an update
+
+module _ {K J R B : Type 0} (key : R → K) (part : K → J) (terms : R → PublishedTerms B) (old : List R) (changes : List (Change K R))
+    (new : List R) (are : AreAfter key old changes new) (j : J) (none : All (λ c. part (key_of key c.action) ≢ j) changes) where
+  abbrev entry : R → J × PublishedTerms B
+  entry r = (part (key r), terms r)
+
+  others : (r : R) → part (key r) ≡ j → All (λ c. key_of key c.action ≢ key r) changes
+  others r own = λ i c below e. none i c below (ap part e ∙ own)
+
+  entry-after : (t : PublishedTerms B) → Contains (map entry old) (j, t) → Contains (map entry new) (j, t)
+  entry-after t has =
+      let (r, there, is) = Contains-from_map entry old (j, t) has in
+      let own = others r (ap (λ (v : J × PublishedTerms B). v.0) is) in
+      subst (λ z. Contains (map entry new) z) is
+      (Contains-map entry new r (there-after key old changes new are (key r) own r refl there))
+
+  entry-before : (t : PublishedTerms B) → Contains (map entry new) (j, t) → Contains (map entry old) (j, t)
+  entry-before t has =
+      let (r, there, is) = Contains-from_map entry new (j, t) has in
+      let own = others r (ap (λ (v : J × PublishedTerms B). v.0) is) in
+      subst (λ z. Contains (map entry old) z) is
+      (Contains-map entry old r (there-before key old changes new are (key r) own r refl there))
+
+  pub key-alone : (h : Holidays) (drops : Bool) (d : ℕ) (o : Option B)
+      → FeedRuns drops h (map entry old) j d o ↔ FeedRuns drops h (map entry new) j d o
+  key-alone h drops d o = same-feed h (map entry old) (map entry new) j d entry-after entry-before drops o

@@ -1,0 +1,3 @@
+pub mod PublishedFeed
+pub mod Feeds
+pub mod FeedDifferences

@@ -1,0 +1,101 @@
+//! Laws of published feeds: what becomes of one that `prepare` writes, and `normalise`, `compare` and `diff` read.
+ghost use Rattle.std.specs.Prelude.{◌≡◌, ◌≢◌, ◌↔◌, ◌≤◌, ℕ, All, Bool, List, Option};
+ghost use Rattle.cif_canon.specs.Accepted.{IsAcceptedWithin};
+ghost use Rattle.cif_canon.specs.Asked.{header_window, window_asked};
+ghost use Rattle.cif_canon.specs.Comparison.{AreCompared};
+ghost use Rattle.cif_canon.specs.Differences.{AreDifferences, DifferencesParts};
+ghost use Rattle.cif_canon.specs.NormalForm.{IsNormalFormOf, after_first_line};
+ghost use Rattle.cif_canon.specs.Pair.{SpellPair};
+ghost use Rattle.cif_canon.specs.declared.asked.Asked.{Asked};
+ghost use Rattle.cif_canon.specs.declared.comparison.Comparison.{Comparison};
+ghost use Rattle.cif_extract.specs.Body.{BodyLines};
+ghost use Rattle.cif_extract.specs.ExtractParts.{ExtractParts};
+ghost use Rattle.cif_feed.specs.Changes.{key_of};
+ghost use Rattle.cif_feed.specs.PublishedParts.{PublishedParts, published_associations, published_schedules};
+ghost use Rattle.cif_feed.specs.UpdateParts.{UpdateParts};
+ghost use Rattle.cif_feed.specs.Updated.{IsUpdated, published_association_key, published_schedule_key};
+ghost use Rattle.cif_feed.specs.WrittenPrepared.{IsPreparedText};
+ghost use Rattle.cif_feed.specs.declared.dropped.Dropped.{Dropped};
+ghost use Rattle.cif_feed.specs.declared.holidays.Holidays.{Holidays};
+ghost use Rattle.cif_laws.specs.FeedDifferences.{AreFeedDifferences, IsFeedComparison};
+ghost use Rattle.cif_laws.specs.Feeds.{FeedsAgree, FeedsSayTheSame, IsFeedAccepted, SaysWhatFeedSays, columns_asked};
+ghost use Rattle.cif_laws.specs.PublishedFeed.{FeedRuns, feed_of};
+ghost use Rattle.cif_records.specs.declared.association.AssocBody.{AssocBody};
+ghost use Rattle.cif_records.specs.declared.association.AssocKey.{AssocKey};
+ghost use Rattle.cif_weeks.specs.declared.form.Form.{Form};
+
+/// What is prepared of a feed is accepted for the dates that are asked for exactly if it isn't too long, the
+/// dates lie in its window, and, unless clashes are dropped, none is in the window that is asked for.
+pub fn prepared_feeds_are_accepted()
+    ensures { (h : Holidays) (drops : Bool) (max limit : ℕ) (bytes text : List ℕ) (dropped : Dropped)
+        (asked : Asked) (a : IsPreparedText h drops limit bytes text dropped)
+        → ((x : ExtractParts) × IsAcceptedWithin max asked x text) ↔ IsFeedAccepted max asked text (feed_of a) }
+{}
+
+/// The canonical extract of what is prepared of a feed has the header of the feed, with the window that is asked
+/// for, and says on each date of that window what the feed says.
+pub fn canonical_extracts_say_what_feeds_say()
+    ensures header { (h : Holidays) (drops : Bool) (limit : ℕ) (bytes text canonical : List ℕ) (dropped : Dropped)
+        (form : Form) (asked : Asked) (a : IsPreparedText h drops limit bytes text dropped)
+        (n : IsNormalFormOf form asked text canonical)
+        → n.canonical.made.header.columns ≡ columns_asked asked a.published.header }
+    ensures says { (h : Holidays) (drops : Bool) (limit : ℕ) (bytes text canonical : List ℕ) (dropped : Dropped)
+        (form : Form) (asked : Asked) (a : IsPreparedText h drops limit bytes text dropped)
+        (n : IsNormalFormOf form asked text canonical)
+        → SaysWhatFeedSays (window_asked asked a.published.header) n.canonical.made (feed_of a) }
+{}
+
+/// The theorem for feeds: the canonical extracts of what is prepared of two feeds, in one form, are equal exactly
+/// if the feeds say the same, each of the window that is asked for.
+pub fn equal_bytes_are_equal_feeds()
+    ensures whole { (h i : Holidays) (drops other_drops : Bool) (limit other_limit : ℕ)
+        (bytes text canonical other_bytes other_text other_canonical : List ℕ) (dropped other_dropped : Dropped)
+        (form : Form) (asked other_asked : Asked)
+        (a : IsPreparedText h drops limit bytes text dropped)
+        (b : IsPreparedText i other_drops other_limit other_bytes other_text other_dropped)
+        → IsNormalFormOf form asked text canonical → IsNormalFormOf form other_asked other_text other_canonical
+        → (canonical ≡ other_canonical) ↔ FeedsSayTheSame asked (feed_of a) other_asked (feed_of b) }
+    // Where only the windows are equal, they are equal after their first lines exactly if the feeds agree.
+    ensures after_header { (h i : Holidays) (drops other_drops : Bool) (limit other_limit : ℕ)
+        (bytes text canonical other_bytes other_text other_canonical : List ℕ) (dropped other_dropped : Dropped)
+        (form : Form) (asked other_asked : Asked)
+        (a : IsPreparedText h drops limit bytes text dropped)
+        (b : IsPreparedText i other_drops other_limit other_bytes other_text other_dropped)
+        → IsNormalFormOf form asked text canonical → IsNormalFormOf form other_asked other_text other_canonical
+        → window_asked asked a.published.header ≡ window_asked other_asked b.published.header
+        → (after_first_line canonical ≡ after_first_line other_canonical)
+        ↔ FeedsAgree (window_asked asked a.published.header) (feed_of a) (feed_of b) }
+{}
+
+/// What is prepared of two feeds compares as the feeds do, and differs in what they differ in, in the window that is
+/// asked for of both.
+pub fn comparisons_are_of_feeds()
+    ensures compared { (h i : Holidays) (drops other_drops : Bool) (limit other_limit : ℕ)
+        (bytes text other_bytes other_text : List ℕ) (dropped other_dropped : Dropped)
+        (asked : Asked) (common : Bool) (x y : ExtractParts) (comparison : Comparison)
+        (a : IsPreparedText h drops limit bytes text dropped)
+        (b : IsPreparedText i other_drops other_limit other_bytes other_text other_dropped)
+        → SpellPair asked common text other_text x y → AreCompared x y comparison
+        → IsFeedComparison (header_window x.header) (feed_of a) (feed_of b) comparison }
+    ensures differences { (h i : Holidays) (drops other_drops : Bool) (limit other_limit : ℕ)
+        (bytes text other_bytes other_text : List ℕ) (dropped other_dropped : Dropped)
+        (asked : Asked) (common : Bool) (x y : ExtractParts) (d : DifferencesParts)
+        (a : IsPreparedText h drops limit bytes text dropped)
+        (b : IsPreparedText i other_drops other_limit other_bytes other_text other_dropped)
+        → SpellPair asked common text other_text x y → AreDifferences x y d
+        → AreFeedDifferences (header_window x.header) (feed_of a) (feed_of b) d }
+{}
+
+/// Of a key that no line of an update names, the extract that it leaves says what the extract before it says.
+pub fn updates_leave_other_keys_alone()
+    ensures associations { (u : UpdateParts) (old new : PublishedParts) (h : Holidays) (drops : Bool)
+        (k : AssocKey) (d : ℕ) (o : Option AssocBody) → IsUpdated u old new
+        → All (λ c. (key_of published_association_key c.action).0 ≢ k) u.associations
+        → FeedRuns drops h (published_associations old.associations) k d o
+        ↔ FeedRuns drops h (published_associations new.associations) k d o }
+    ensures trains { (u : UpdateParts) (old new : PublishedParts) (h : Holidays) (drops : Bool)
+        (uid : List ℕ) (d : ℕ) (o : Option BodyLines) → IsUpdated u old new
+        → All (λ c. (key_of published_schedule_key c.action).0 ≢ uid) u.schedules
+        → FeedRuns drops h (published_schedules old.schedules) uid d o
+        ↔ FeedRuns drops h (published_schedules new.schedules) uid d o }
+{}
