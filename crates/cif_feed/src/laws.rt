@@ -108,11 +108,11 @@ pub fn parts_apply_as_published<E: Entry>()
 {}
 
 /// What is written as the prepared extract says on each date of its window what the bytes that were read say, with
-/// the holidays of theirs: the same wins, or, if clashes are dropped, nothing on a clash date, and each key that
-/// has one is told, with the first and their number.
+/// these holidays: the same wins, or, if clashes are dropped, nothing on a clash date, and each key that has one is
+/// returned, with the first and their number.
 pub fn prepared_texts_say_what_was_published()
-    ensures { (holiday_bytes bytes text : List ℕ) (h : Holidays) (drops : Bool) (max : ℕ) (dropped : Dropped)
-        (p : PublishedParts) (x : ExtractParts) → SpellHolidays holiday_bytes h
+    ensures { (bytes text : List ℕ) (h : Holidays) (drops : Bool) (max : ℕ) (dropped : Dropped)
+        (p : PublishedParts) (x : ExtractParts)
         → IsPreparedText h drops max bytes text dropped → BytesSpellPublished (codes_named h) max bytes p
         → BytesSpell text x → SayAsPublished h drops p x × AreDroppedIf drops h p dropped }
 {}

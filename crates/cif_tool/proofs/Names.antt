@@ -40,6 +40,6 @@ pub use Rattle.cif_tool.specs.Answer.{IsDiffAnswer, IsExplainAnswer, IsExplainRe
 pub use Rattle.cif_tool.specs.Answer.{OfInput, TrainJob, answering, answering_all, canonical_text, differences_in}
 unfoldable pub use Rattle.cif_tool.specs.CommandLine.{chosen, cif, faults_of}
 pub use Rattle.cif_tool.specs.CommandLine.{IsCommand, Parts, argument, given, program, subcommands, taken, taking, with_subcommands}
-pub use Rattle.cif_tool.specs.JobFault.{Explains, IsFaultAt, NamesNoDay, status_of}
+pub use Rattle.cif_tool.specs.JobFault.{Explains, IsFaultAt, NamesNoDay, status_of, text_of}
 pub use Rattle.cif_tool.specs.Status.{TellsFault, listed_status, outcome_of}
 pub use Rattle.cif_tool.specs.declared.command_line.Argument.TheVariants.{Verbose}

@@ -146,8 +146,8 @@ IsChosen (Calendar job) met = (met.0 ≡ codes "calendar")
 
 -- the same of a job on published extracts
 abbrev pub IsFeedChosen : FeedJob → Text × List Row → Type 0
-IsFeedChosen (Prepare drop_clashes) met = (met.0 ≡ codes "prepare") × (drop_clashes ≡ has_flag (codes "drop-clashes") met.1)
-IsFeedChosen (Update lenient) met = (met.0 ≡ codes "update") × (lenient ≡ has_flag (codes "lenient") met.1)
+IsFeedChosen (Prepare job) met = (met.0 ≡ codes "prepare") × (job.drop_clashes ≡ has_flag (codes "drop-clashes") met.1)
+IsFeedChosen (Update job) met = (met.0 ≡ codes "update") × (job.lenient ≡ has_flag (codes "lenient") met.1)
 
 -- the same of a task
 abbrev pub IsTaskChosen : Task → Text × List Row → Type 0

@@ -1,8 +1,8 @@
 -- Why the words of a call ask for nothing.
-use Rattle.std.specs.Prelude.{◌≡◌, ◌≢◌, ◌⊎◌, ◌<◌, ℕ, List, [], ◌∷◌, Option, Some, None, ⊤, IfErr, IfOk, IfSome, IsSomeAnd}
-use Rattle.std.specs.Prelude.{Result, Ok, Err, codes, if◌then◌else◌}
+use Rattle.std.specs.Prelude.{◌≡◌, ◌≢◌, ◌⊎◌, ◌<◌, ℕ, List, [], ◌∷◌, Option, Some, None, ⊤, IfErr, IfOk, IsSomeAnd}
+use Rattle.std.specs.Prelude.{Result, Ok, Err, codes, string_bytes, if◌then◌else◌}
 use Rattle.std.specs.Str.{bytes_eq}
-use Rattle.clap.specs.Words.{IsAmong, Row, Text, first_of, kind_of}
+use Rattle.clap.specs.Words.{IsAmong, Row, Text, first_of}
 use Rattle.clap.specs.declared.error.ErrorKind.{ErrorKind}
 use Rattle.clap.specs.declared.error.ErrorKind.TheVariants.{DisplayHelp, DisplayVersion}
 use Rattle.cif_columns.specs.Day.{StandsInYymmdd}
@@ -11,9 +11,11 @@ use Rattle.cif_columns.specs.Uid.{IsUid}
 use Rattle.cif_columns.specs.declared.sink.Sink.{Sink}
 use Rattle.cif_columns.specs.declared.sink.WriteFault.{WriteFault}
 use Rattle.cif_extract.specs.declared.fault.Fault.{Fault}
-use Rattle.cif_extract.specs.declared.fault.Fault.TheVariants.{Write, Memory as OutOfMemory}
+use Rattle.cif_extract.specs.declared.fault.Fault.TheVariants.{Write}
+use Rattle.cif_feed.specs.FeedAnswer.{IsHandedOn}
 use Rattle.cif_tool.specs.CommandLine.{AreChoices, chosen, faults_of, subcommands}
 use Rattle.cif_tool.specs.Job.{IsTaskChosen, inputs_of, standard_inputs, required_word}
+use Rattle.cif_tool.specs.Status.{TellsFault, end_status}
 use Rattle.cif_tool.specs.declared.command_line.Argument.{Argument}
 use Rattle.cif_tool.specs.declared.command_line.Choices.{Choices}
 use Rattle.cif_tool.specs.declared.job.JobFault.{JobFault}
@@ -73,7 +75,7 @@ IsWordFault BadDate met = ¬ HasBadUid met
     × (HasBadDay met ⊎ HasBadWindow met.1)
 IsWordFault (StandardInputTwice inputs) met = IsStandardTwice inputs met
 IsWordFault Memory met = ⊤
-IsWordFault (Usage error) met = ⊥
+IsWordFault (Usage kind text) met = ⊥
 
 -- the matches of a subcommand ask for what `IsOf` says, or for nothing, as the fault says
 pub record IsAskedFor {J : Type 0} (IsOf : J → Text × List Row → Type 0) (met : Text × List Row) (result : Result J JobFault) : Type 0 where
@@ -85,9 +87,9 @@ abbrev pub IsEnteredFault : Option (Text × List Row) → JobFault → Type 0
 IsEnteredFault (Some met) fault = IsWordFault fault met
 IsEnteredFault None fault = fault ≡ NoCommand
 
--- `clap` refuses the words, by the error's kind, or it takes them and they ask for nothing
+-- `clap` refuses the words, by the kind of its error, or it takes them and they ask for nothing
 abbrev pub IsFaultAt : Choices → List Text → JobFault → Type 0
-IsFaultAt choices words (Usage error) = IsAmong (kind_of error) (faults_of choices words)
+IsFaultAt choices words (Usage kind text) = IsAmong kind (faults_of choices words)
 IsFaultAt choices words Memory = ⊤
 IsFaultAt choices words fault = (faults_of choices words ≡ []) × IsEnteredFault (chosen choices words) fault
 
@@ -105,51 +107,57 @@ kind_status _ = 2
 
 -- the status that the program exits with
 abbrev pub status_of : JobFault → ℕ
-status_of (Usage error) = kind_status (kind_of error)
+status_of (Usage kind text) = kind_status kind
 status_of NoCommand = 2
 status_of BadDate = 2
 status_of BadUid = 2
 status_of (StandardInputTwice inputs) = 2
 status_of Memory = 4
 
--- the line that names the fault; none where `clap` has the text
-abbrev pub text_of : JobFault → Option Text
-text_of (Usage error) = None
-text_of NoCommand = Some (codes "cif: no command\n")
-text_of BadDate = Some (codes "cif: bad date\n")
-text_of BadUid = Some (codes "cif: bad UID\n")
-text_of (StandardInputTwice LeftAndRight) = Some (codes "cif: LEFT and RIGHT are both standard input\n")
-text_of (StandardInputTwice HolidaysAndFile) = Some (codes "cif: --holidays and FILE are both standard input\n")
-text_of (StandardInputTwice Extracts) = Some (codes "cif: two inputs are standard input\n")
-text_of Memory = Some (codes "cif: Memory\n")
+-- what is said of it: the line that names the fault, or the text of `clap`
+abbrev pub text_of : JobFault → Text
+text_of (Usage kind text) = string_bytes text
+text_of NoCommand = codes "cif: no command\n"
+text_of BadDate = codes "cif: bad date\n"
+text_of BadUid = codes "cif: bad UID\n"
+text_of (StandardInputTwice LeftAndRight) = codes "cif: LEFT and RIGHT are both standard input\n"
+text_of (StandardInputTwice HolidaysAndFile) = codes "cif: --holidays and FILE are both standard input\n"
+text_of (StandardInputTwice Extracts) = codes "cif: two inputs are standard input\n"
+text_of Memory = codes "cif: Memory\n"
 
--- A text was shown on the output: it was written whole, and nothing went to the errors.
-pub record IsShown {O E : Type 0} (contents : O → Option (List ℕ)) (write_errors : O → Option ℕ) (output output_new : Sink O)
+-- The text went to the output, whole, and nothing to the errors.
+pub record IsShown {O E : Type 0} (contents : O → Option (List ℕ)) (write_errors : O → Option ℕ) (text : Text) (output output_new : Sink O)
     (errors errors_new : Sink E) : Type 0 where
-  pub text : List ℕ
   pub written : HasWritten contents write_errors text output output_new
   pub silent : errors_new ≡ errors
 
--- A text went to the errors, as far as it could be written, and nothing to the output: the line that names the fault, or else
--- `clap`'s text.
-pub record IsReported {O E : Type 0} (contents : E → Option (List ℕ)) (write_errors : E → Option ℕ) (line : Option Text)
+-- The text went to the errors, as far as it could be written, and nothing to the output.
+pub record IsReported {O E : Type 0} (contents : E → Option (List ℕ)) (write_errors : E → Option ℕ) (text : Text)
     (output output_new : Sink O) (errors errors_new : Sink E) : Type 0 where
-  pub text : List ℕ
-  pub names : IfSome line (λ words. text ≡ words)
   pub told : Result (Unit {0}) WriteFault
   pub writes : Writes contents write_errors text errors errors_new told
   pub silent : output_new ≡ output
 
 -- What an explanation of a fault owes the two sinks: help and the version go to the output, and all else to the errors. At Write the
--- output has failed to take the whole text of help or the version; at Memory nothing was written.
+-- output has failed to take the whole text of help or the version.
 abbrev pub Explains : {O E : Type 0} → (O → Option (List ℕ)) → (O → Option ℕ) → (E → Option (List ℕ)) → (E → Option ℕ) → JobFault →
     Sink O → Sink O → Sink E → Sink E → Result ℕ Fault → Type 0
 Explains contents write_errors error_contents error_errors fault output output_new errors errors_new (Ok status) =
     (status ≡ status_of fault)
-    × (status_of fault ≡ 0 → IsShown contents write_errors output output_new errors errors_new)
+    × (status_of fault ≡ 0 → IsShown contents write_errors (text_of fault) output output_new errors errors_new)
     × (status_of fault ≢ 0 → IsReported error_contents error_errors (text_of fault) output output_new errors errors_new)
 Explains contents write_errors error_contents error_errors fault output output_new errors errors_new (Err Write) =
-    (status_of fault ≡ 0) × (errors_new ≡ errors) × ((text : List ℕ) × HasFailed contents write_errors text output output_new)
-Explains contents write_errors error_contents error_errors fault output output_new errors errors_new (Err OutOfMemory) =
-    (output_new ≡ output) × (errors_new ≡ errors)
+    (status_of fault ≡ 0) × (errors_new ≡ errors) × HasFailed contents write_errors (text_of fault) output output_new
 Explains contents write_errors error_contents error_errors fault output output_new errors errors_new (Err _) = ⊥
+
+-- What comes of arguments that ask for nothing: they are explained, and once that is handed on, the status is theirs. If help or the
+-- version can't be written, the line of that fault goes to the errors.
+pub record IsExplained {O E : Type 0} (contents : O → Option (List ℕ)) (write_errors : O → Option ℕ) (holds_nothing : O → Type 0)
+    (error_contents : E → Option (List ℕ)) (error_errors : E → Option ℕ) (fault : JobFault) (output output_new : Sink O)
+    (errors errors_new : Sink E) (status : ℕ) : Type 0 where
+  pub explained : Result ℕ Fault
+  pub between : Sink E
+  pub explains : Explains contents write_errors error_contents error_errors fault output output_new errors between explained
+  pub handed_on : status_of fault ≡ 0 → IsHandedOn holds_nothing output_new explained
+  pub line : TellsFault error_contents error_errors explained between errors_new
+  pub status_is : status ≡ end_status explained

@@ -676,7 +676,7 @@ pub(crate) fn advise_on_word(
                 add_word(word, fault, &mut message);
             }
         }
-        JobFault::Usage(_) => match words.get(1).map(String::as_str) {
+        JobFault::Usage { kind: _, text: _ } => match words.get(1).map(String::as_str) {
             Some("-v" | "--verbose") => {
                 message.line("options stand behind the command: cif check --verbose FILE");
             }

@@ -2,14 +2,14 @@
 //! What is read, done, written and told is said by the clauses of the functions that are called.
 use crate::advice::Reader;
 use crate::devices::{ExtractInput, Output, Written, buffered};
-use crate::job::{Call, FeedJob, InputNames};
+use crate::job::{Call, FeedJob, InputNames, PrepareJob, UpdateJob};
 use crate::message::{Detail, Message};
-use crate::told::{end_prepare, end_update};
+use crate::run::{run_prepare, run_update};
+use crate::status::{DONE, end};
 use cif_columns::{Sink, Source};
 use cif_extract::Fault;
 use cif_feed::{
-    DoneUpdate, FeedFault, KeptPrepare, KeptUpdate, ReadFeed, answer_prepare, answer_update,
-    current_reference, last_reference,
+    DoneUpdate, FeedFault, KeptPrepare, KeptUpdate, ReadFeed, current_reference, last_reference,
 };
 use std::alloc::AllocError;
 use std::io::Stderr;
@@ -25,8 +25,8 @@ pub(crate) fn feed_task(
     errors: &mut Sink<Stderr>,
 ) -> u8 {
     match job {
-        FeedJob::Prepare { drop_clashes } => prepare(rt, call, *drop_clashes, errors),
-        FeedJob::Update { lenient } => update(rt, call, *lenient, errors),
+        FeedJob::Prepare(job) => prepare(rt, job, call, errors),
+        FeedJob::Update(job) => update(rt, job, call, errors),
     }
 }
 
@@ -68,43 +68,38 @@ fn boxed_source<'a>(
 /// Writes the prepared extract of the last input, with the holidays of the one before it, if there is one.
 // Inlined, it would keep its inputs on the stack beside those of `update`.
 #[inline(never)]
-fn prepare(rt: HostRuntime, call: &Call, drop_clashes: bool, errors: &mut Sink<Stderr>) -> u8 {
+fn prepare(rt: HostRuntime, job: &PrepareJob, call: &Call, errors: &mut Sink<Stderr>) -> u8 {
     let alloc = rt.alloc();
     let detail = Detail::of(rt, call.verbose);
     let mut holidays = source_of_holidays(rt, &call.inputs, detail);
     let file = call.inputs.rest.first().unwrap_or(&call.inputs.first);
     let Ok(mut source) = boxed_source(rt, file, detail) else {
-        return end_prepare(&Err(FeedFault::Extract(Fault::Memory)), errors);
+        return end(&Err(Fault::Memory), errors);
     };
     let mut written = Written::new();
     let output = Output {
         writer: rt.stdout(),
         written: &mut written,
     };
-    // The process ends after this: the system takes back the memory of all bodies at once.
-    let mut kept = ManuallyDrop::new(KeptPrepare {
-        extract: None,
-        holidays: None,
-    });
-    let answer = match buffered(alloc, output) {
-        Ok(mut output) => answer_prepare(
+    let ended = match buffered(alloc, output) {
+        // The process ends after this: the system takes back the memory of all bodies at once.
+        Ok(mut output) => ManuallyDrop::new(run_prepare(
             alloc,
+            job,
             &mut holidays,
             &mut *source,
             &mut output,
-            drop_clashes,
-            &mut kept,
-        ),
-        Err(fault) => Err(FeedFault::Extract(fault)),
+            errors,
+        )),
+        Err(fault) => return end(&Err(fault), errors),
     };
-    let status = end_prepare(&answer, errors);
     if detail.helps() {
         let mut message = Message::new(alloc);
-        match &answer {
+        match &ended.answer {
             Ok(_) if detail == Detail::Help => {}
             Ok(dropped) => {
-                let clashing = drop_clashes.then_some(dropped.records);
-                add_prepared(source.reader(), &kept, clashing, &mut message);
+                let clashing = job.drop_clashes.then_some(dropped.records);
+                add_prepared(source.reader(), &ended.kept, clashing, &mut message);
             }
             Err(fault) => {
                 let reader = Reader::Feeds {
@@ -122,7 +117,7 @@ fn prepare(rt: HostRuntime, call: &Call, drop_clashes: bool, errors: &mut Sink<S
         }
         message.tell(errors);
     }
-    status
+    ended.status
 }
 
 /// Adds what was read of the extract that was prepared, and how many of its records were cut: by holidays, and by
@@ -173,41 +168,35 @@ fn sources_of<'a>(
 
 /// Writes what the updates make of the full extract, the first input.
 #[inline(never)]
-fn update(rt: HostRuntime, call: &Call, lenient: bool, errors: &mut Sink<Stderr>) -> u8 {
+fn update(rt: HostRuntime, job: &UpdateJob, call: &Call, errors: &mut Sink<Stderr>) -> u8 {
     let alloc = rt.alloc();
-    // The process ends after this: the system takes back the memory of all bodies at once.
-    let mut kept = ManuallyDrop::new(KeptUpdate {
-        extract: None,
-        full: None,
-        done: Vec::new(alloc),
-    });
     let detail = Detail::of(rt, call.verbose);
     let Ok(mut sources) = sources_of(rt, &call.inputs, detail) else {
-        return end_update(&Err(FeedFault::Extract(Fault::Memory)), &kept, errors);
+        return end(&Err(Fault::Memory), errors);
+    };
+    let Some((full, updates)) = sources.split_first_mut() else {
+        return DONE;
     };
     let mut written = Written::new();
     let output = Output {
         writer: rt.stdout(),
         written: &mut written,
     };
-    let answer = match buffered(alloc, output) {
-        Ok(mut output) => match sources.split_first_mut() {
-            Some((full, updates)) => {
-                answer_update(alloc, full, updates, &mut output, lenient, &mut kept)
-            }
-            None => Ok(()),
-        },
-        Err(fault) => Err(FeedFault::Extract(fault)),
+    let ended = match buffered(alloc, output) {
+        // The process ends after this: the system takes back the memory of all bodies at once.
+        Ok(mut output) => {
+            ManuallyDrop::new(run_update(alloc, job, full, updates, &mut output, errors))
+        }
+        Err(fault) => return end(&Err(fault), errors),
     };
-    let status = end_update(&answer, &kept, errors);
     if detail.helps() {
         let mut message = Message::new(alloc);
-        match &answer {
+        match &ended.answer {
             Ok(()) if detail == Detail::Help => {}
-            Ok(()) => add_updated(sources.as_slice(), &kept, &mut message),
+            Ok(()) => add_updated(sources.as_slice(), &ended.kept, &mut message),
             Err(fault) => {
                 if let Some(input) = last_touched(sources.as_slice()) {
-                    add_undone(input, fault, &kept, &written, &mut message);
+                    add_undone(input, fault, &ended.kept, &written, &mut message);
                     if sources.len() > 2 && matches!(fault, FeedFault::OutOfSequence { line: _ }) {
                         message.line(IN_THEIR_ORDER);
                     }
@@ -216,7 +205,7 @@ fn update(rt: HostRuntime, call: &Call, lenient: bool, errors: &mut Sink<Stderr>
         }
         message.tell(errors);
     }
-    status
+    ended.status
 }
 
 /// Adds why an update of this input isn't done, or why this input isn't read.

@@ -1,7 +1,6 @@
 //! What a call of `cif` asks for, or why it asks for nothing.
-ghost use Rattle.std.specs.Prelude.{◌≡◌, option_map};
+ghost use Rattle.std.specs.Prelude.{◌≡◌};
 
-use crate::message::Escaped;
 use crate::status::{DONE, FAILED, USAGE_ERROR};
 use cif_canon::{Asked, Format};
 use cif_columns::{Day, Sink, Uid, WriteDevice};
@@ -9,7 +8,7 @@ use cif_extract::Fault;
 use cif_views::{Listing, Table};
 use cif_weeks::Form;
 use clap::error::ErrorKind;
-use std::alloc::{AllocError, Global};
+use std::alloc::AllocError;
 
 /// What a call of `cif` asks for.
 #[derive(Drop)]
@@ -126,19 +125,32 @@ pub struct CalendarJob {
 /// What a command that reads published extracts is asked for.
 #[derive(Drop)]
 pub enum FeedJob {
-    /// To write the prepared extract of a published one, the last input. With `drop_clashes`, what clashes in
-    /// it is left out. An input before it has the holidays; without one there are none.
-    Prepare { drop_clashes: bool },
-    /// To write what updates, one after the other, make of a full published extract, the first input. With
-    /// `lenient`, a line whose key is there already, or isn't there, is waived.
-    Update { lenient: bool },
+    /// To write the prepared extract of a published one, the last input. An input before it has the holidays;
+    /// without one there are none.
+    Prepare(PrepareJob),
+    /// To write what updates, one after the other, make of a full published extract, the first input.
+    Update(UpdateJob),
+}
+
+/// What `prepare` is asked for.
+#[derive(Drop)]
+pub struct PrepareJob {
+    /// Whether what clashes is left out.
+    pub drop_clashes: bool,
+}
+
+/// What `update` is asked for.
+#[derive(Drop)]
+pub struct UpdateJob {
+    /// Whether a line whose key is there already, or isn't there, is waived.
+    pub lenient: bool,
 }
 
 /// Why a call of `cif` asks for nothing.
 #[derive(Drop)]
 pub enum JobFault {
-    /// A usage error, or a request for help or for the version. `clap` has its text.
-    Usage(clap::Error),
+    /// A usage error, or a request for help or for the version, with the text of `clap`.
+    Usage { kind: ErrorKind, text: String },
     /// `clap` takes the words, but enters no subcommand of the program's own.
     NoCommand,
     /// A word that stands for a date isn't six digits YYMMDD that name one.
@@ -178,10 +190,9 @@ impl JobFault {
 
     /// Says why the arguments ask for nothing, and answers the status. Help and the version go to
     /// `output`; all else goes to `errors`, and that it can't be written there changes no status.
-    /// Write comes where `output` fails, and Memory where there is none for `clap`'s text.
+    /// Write comes where `output` fails.
     pub fn explain<O: WriteDevice, E: WriteDevice>(
         &self,
-        alloc: Global,
         output: &mut Sink<O>,
         errors: &mut Sink<E>,
     ) -> Result<u8, Fault>
@@ -190,24 +201,13 @@ impl JobFault {
         ensures handed_on { status_of self.now ≡ 0 → IsHandedOn O.holds_nothing output.new result }
     {
         let status = self.status();
-        match self {
-            JobFault::Usage(error) => {
-                let Ok(text) = text_of_error(alloc, error) else {
-                    return Err(Fault::Memory);
-                };
-                if status == DONE {
-                    output.write_all(text.as_bytes())?;
-                    output.flush()?;
-                    Ok(status)
-                } else {
-                    let _ = errors.write_all(text.as_bytes());
-                    Ok(status)
-                }
-            }
-            _ => {
-                let _ = errors.write_all(self.text().unwrap_or("").as_bytes());
-                Ok(status)
-            }
+        if status == DONE {
+            output.write_all(self.text().as_bytes())?;
+            output.flush()?;
+            Ok(status)
+        } else {
+            let _ = errors.write_all(self.text().as_bytes());
+            Ok(status)
         }
     }
 
@@ -216,7 +216,7 @@ impl JobFault {
         ensures { result ≡ status_of self.now }
     {
         match self {
-            JobFault::Usage(error) => match error.kind() {
+            JobFault::Usage { kind, text: _ } => match kind {
                 ErrorKind::DisplayHelp | ErrorKind::DisplayVersion => DONE,
                 _ => USAGE_ERROR,
             },
@@ -228,35 +228,25 @@ impl JobFault {
         }
     }
 
-    /// The line that names the fault; none where `clap` has the text.
-    pub fn text(&self) -> Option<&str>
-        ensures { option_map (λ line. line.now) result ≡ text_of self.now }
+    /// What is said of it: the line that names the fault, or the text of `clap`.
+    pub fn text(&self) -> &str
+        ensures { result.now ≡ text_of self.now }
     {
         match self {
-            JobFault::Usage(_) => None,
-            JobFault::NoCommand => Some("cif: no command\n"),
-            JobFault::BadDate => Some("cif: bad date\n"),
-            JobFault::BadUid => Some("cif: bad UID\n"),
+            JobFault::Usage { kind: _, text } => text.as_str(),
+            JobFault::NoCommand => "cif: no command\n",
+            JobFault::BadDate => "cif: bad date\n",
+            JobFault::BadUid => "cif: bad UID\n",
             JobFault::StandardInputTwice(Inputs::LeftAndRight) => {
-                Some("cif: LEFT and RIGHT are both standard input\n")
+                "cif: LEFT and RIGHT are both standard input\n"
             }
             JobFault::StandardInputTwice(Inputs::HolidaysAndFile) => {
-                Some("cif: --holidays and FILE are both standard input\n")
+                "cif: --holidays and FILE are both standard input\n"
             }
             JobFault::StandardInputTwice(Inputs::Extracts) => {
-                Some("cif: two inputs are standard input\n")
+                "cif: two inputs are standard input\n"
             }
-            JobFault::Memory => Some("cif: Memory\n"),
+            JobFault::Memory => "cif: Memory\n",
         }
     }
-}
-
-/// The text of `clap`, which may have words of the call, with what hides or turns text escaped.
-fn text_of_error(alloc: Global, error: &clap::Error) -> Result<String, AllocError> {
-    let text = error.to_string(alloc)?;
-    let escaped = Escaped {
-        text: text.as_str(),
-        has_lines: true,
-    };
-    escaped.to_string(alloc)
 }

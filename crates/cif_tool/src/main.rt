@@ -12,6 +12,7 @@ mod line_again;
 mod message;
 mod program;
 mod refused_columns;
+mod run;
 mod status;
 mod told;
 mod words;

@@ -1,11 +1,11 @@
 //! From the words of the process to its status. No clause says what is done here: the rows of `tests/`
 //! show it on the built program.
 use crate::advice::{DoneJob, advise_on_word};
-use crate::answers::{Kept, answer};
 use crate::devices::{ExtractInput, Output, Written, buffered};
 use crate::feeds::feed_task;
 use crate::job::{Call, Job, JobFault, Task};
 use crate::message::Detail;
+use crate::run::{run_fault, run_job};
 use crate::status::{USAGE_ERROR, end};
 use crate::words::task_of;
 use cif_columns::{Sink, Source};
@@ -52,11 +52,10 @@ fn run_words(rt: HostRuntime, words: Vec<String>, errors: &mut Sink<Stderr>) -> 
 #[inline(never)]
 fn refused(rt: HostRuntime, fault: JobFault, errors: &mut Sink<Stderr>) -> u8 {
     let alloc = rt.alloc();
-    let explained = match buffered(alloc, rt.stdout()) {
-        Ok(mut output) => fault.explain(alloc, &mut output, errors),
-        Err(fault) => Err(fault),
+    let status = match buffered(alloc, rt.stdout()) {
+        Ok(mut output) => run_fault(&fault, &mut output, errors),
+        Err(fault) => end(&Err(fault), errors),
     };
-    let status = end(&explained, errors);
     if let Ok(words) = words_of(rt) {
         let detail = Detail::of(rt, false);
         advise_on_word(alloc, words.as_slice(), &fault, detail, errors);
@@ -106,17 +105,18 @@ fn done(rt: HostRuntime, job: &Job, call: &Call, errors: &mut Sink<Stderr>) -> u
         writer: rt.stdout(),
         written: &mut written,
     };
-    // The process ends after this: the system takes back the memory of all bodies at once.
-    let mut kept = ManuallyDrop::new(Kept {
-        left: None,
-        right: None,
-        reasons: None,
-    });
-    let answered = match buffered(alloc, output) {
-        Ok(mut output) => answer(alloc, job, &mut *left, &mut *right, &mut output, &mut kept),
-        Err(fault) => Err(fault),
+    let mut ended = match buffered(alloc, output) {
+        // The process ends after this: the system takes back the memory of all bodies at once.
+        Ok(mut output) => ManuallyDrop::new(run_job(
+            alloc,
+            job,
+            &mut *left,
+            &mut *right,
+            &mut output,
+            errors,
+        )),
+        Err(fault) => return end(&Err(fault), errors),
     };
-    let status = end(&answered, errors);
     if detail.helps() {
         let done_job = DoneJob {
             detail,
@@ -125,7 +125,8 @@ fn done(rt: HostRuntime, job: &Job, call: &Call, errors: &mut Sink<Stderr>) -> u
             left: left.reader(),
             right: right.reader(),
         };
-        done_job.advise(alloc, &answered, &mut kept, errors);
+        let ended = &mut *ended;
+        done_job.advise(alloc, &ended.answer, &mut ended.kept, errors);
     }
-    status
+    ended.status
 }

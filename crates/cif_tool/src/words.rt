@@ -1,6 +1,6 @@
 //! What the words of a call ask for.
 ghost use Rattle.std.specs.Prelude.{◌≡◌, ◌≢◌, ◌⊎◌, ◌<◌, ◌≤◌, ◌∷◌, IfErr, IfOk, IsSomeAnd};
-ghost use Rattle.std.specs.Prelude.{MatchOption, codes, false, map, option_map, string_bytes, true};
+ghost use Rattle.std.specs.Prelude.{MatchOption, String, codes, false, map, option_map, string_bytes, true};
 ghost use Rattle.clap.specs.Words.{all_of, first_of, found_of, kind_of, rows_of, subcommand_rows_of};
 ghost use Rattle.cif_columns.specs.Day.{StandsInYymmdd};
 ghost use Rattle.cif_tool.specs.CommandLine.{feed_subcommands};
@@ -13,9 +13,9 @@ ghost use Rattle.cif_tool.specs.JobFault.{IsFaultOf, IsNoUid, IsNoneOf, NamesNoD
 use crate::command_line::{all_choices, matches_of};
 use crate::job::{
     CalendarJob, Call, CanonicalJob, CompareJob, DayJob, DiffJob, ExplainJob, FeedJob, InputNames,
-    Inputs, Job, JobFault, TableJob, Task, TrainJob,
+    Inputs, Job, JobFault, PrepareJob, TableJob, Task, TrainJob, UpdateJob,
 };
-use crate::message::Detail;
+use crate::message::{Detail, Escaped};
 use cif_canon::{Asked, Format};
 use cif_columns::{Day, Uid, are_printable};
 use cif_views::{Listing, Table};
@@ -38,7 +38,7 @@ pub fn task_of(alloc: Global, words: Vec<String>) -> Result<Call, JobFault>
 {
     match matches_of(alloc, &all_choices(), words.as_slice()) {
         Ok(matches) => chosen_call(alloc, &matches),
-        Err(error) => Err(fault_of_error(error)),
+        Err(error) => Err(fault_of_error(alloc, &error)),
     }
 }
 
@@ -75,14 +75,28 @@ fn bad_date<'a>(matches: &ArgMatches<'a>) -> Option<&'a str> {
 }
 
 /// Why `clap` gives no matches.
-fn fault_of_error(error: clap::Error) -> JobFault
-    ensures { ((kind_of error ≡ ErrorKind.OutOfMemory) × (result ≡ JobFault.Memory))
-        ⊎ ((kind_of error ≢ ErrorKind.OutOfMemory) × (result ≡ JobFault.Usage error)) }
+fn fault_of_error(alloc: Global, error: &clap::Error) -> JobFault
+    ensures { (result ≡ JobFault.Memory)
+        ⊎ ((kind_of error.now ≢ ErrorKind.OutOfMemory)
+        × ((text : String Global) × (result ≡ JobFault.Usage (kind_of error.now) text))) }
 {
     match error.kind() {
         ErrorKind::OutOfMemory => JobFault::Memory,
-        _ => JobFault::Usage(error),
+        kind => match text_of_error(alloc, error) {
+            Ok(text) => JobFault::Usage { kind, text },
+            Err(AllocError) => JobFault::Memory,
+        },
     }
+}
+
+/// The text of `clap`, which may have words of the call, with what hides or turns text escaped.
+fn text_of_error(alloc: Global, error: &clap::Error) -> Result<String, AllocError> {
+    let text = error.to_string(alloc)?;
+    let escaped = Escaped {
+        text: text.as_str(),
+        has_lines: true,
+    };
+    escaped.to_string(alloc)
 }
 
 // ---- the jobs
@@ -119,12 +133,12 @@ fn named_task(name: &str, matches: &ArgMatches<'_>) -> Result<Task, JobFault>
     ensures { IsAskedFor IsTaskChosen (name.now, rows_of (found_of matches.now)) result }
 {
     match name {
-        "prepare" => Ok(Task::Feed(FeedJob::Prepare {
+        "prepare" => Ok(Task::Feed(FeedJob::Prepare(PrepareJob {
             drop_clashes: has_flag(matches, "drop-clashes"),
-        })),
-        "update" => Ok(Task::Feed(FeedJob::Update {
+        }))),
+        "update" => Ok(Task::Feed(FeedJob::Update(UpdateJob {
             lenient: has_flag(matches, "lenient"),
-        })),
+        }))),
         _ => Ok(Task::Extract(named_job(name, matches)?)),
     }
 }

@@ -5,7 +5,7 @@ use Rattle.cif_feed.proofs.SpelledFeeds.{one_published}
 use Rattle.cif_feed.proofs.laws.prepared_texts_say_what_was_published.Goals as goal
 
 pub returns : goal.returns
-returns c = λ holiday_bytes bytes text h drops max dropped p x holidays is read written.
+returns c = λ bytes text h drops max dropped p x is read written.
     let same_p = one_published (codes_named h) (contents_of bytes) is.published p is.spelled.spell read.spell in
     let same_x = one_spelled text is.prepared x is.spells written in (
       subst (λ q. SayAsPublished h drops q x) same_p

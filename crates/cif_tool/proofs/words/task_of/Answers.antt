@@ -7,8 +7,8 @@ returns-clause-refused c =
     let choices = c.all_choices.result in
     let given = map string_bytes c.as_slice.result.now in
     let fault : IsFaultAt choices given c.fault_of_error.result = elim c.fault_of_error.ensures [
-      | inl memory ↦ subst (IsFaultAt choices given) (sym memory.1) tt
-      | inr usage ↦ subst (IsFaultAt choices given) (sym usage.1)
+      | inl memory ↦ subst (IsFaultAt choices given) (sym memory) tt
+      | inr usage ↦ subst (IsFaultAt choices given) (sym usage.1.1)
           (elim c.in-Err.ensures.kinds [ inl none ↦ absurd (usage.0 none) | inr among ↦ among ])
     ] in
     record {
