@@ -57,7 +57,8 @@ fn push_parts(
 }
 
 impl Body {
-    ghost use Rattle.cif_extract.specs.Body.{BodyLines};
+    ghost use Rattle.cif_extract.specs.Body.{BodyLines, KeepBody};
+    ghost use Rattle.cif_extract.specs.BodyParts.{BodyParts};
 
     /// The body of these parts.
     pub fn of(
@@ -90,10 +91,12 @@ impl Body {
         Ok(Body { lines })
     }
 
-    /// Laws for proofs: bodies are equal where their lines are, and bodies with equal lines have equal parts.
+    /// Laws for proofs: bodies are equal where their lines are, and bodies with equal lines have equal parts. The
+    /// parts that stand in lines are those that the lines keep.
     pub fn equality_of_bodies()
         ensures lines { (a b : BodyLines) → IsTrue (⟦<Body as PartialEq>⟧.eq a b) ↔ (a ≡ b) }
         ensures parts { (a b : BodyLines) → IsBody a → IsBody b → (a ≡ b) ↔ (parts_in a ≡ parts_in b) }
+        ensures kept { (a : BodyLines) (p : BodyParts) → KeepBody a p → parts_in a ≡ p }
     {}
 
     /// A law for proofs: its lines are a body.

@@ -9,3 +9,6 @@ pub mod SameViews
 pub mod SameComparisons
 pub mod NarrowedCanon
 pub mod ClearFeeds
+pub mod MarkedLines
+pub mod SideExtracts
+pub mod ToldByText

@@ -4,13 +4,14 @@ ghost use Rattle.cif_canon.specs.Accepted.{IsAccepted, IsClearExtract};
 ghost use Rattle.cif_canon.specs.Asked.{AskedDatesAreWithin, header_window, window_asked};
 ghost use Rattle.cif_canon.specs.Canon.{CanonParts, IsCanonOf};
 ghost use Rattle.cif_canon.specs.Comparison.{AreCompared};
-ghost use Rattle.cif_canon.specs.Differences.{AreDifferences, DifferencesParts};
+ghost use Rattle.cif_canon.specs.Differences.{AreDifferences, DifferencesParts, TurnLeftIntoRight, differences_text};
 ghost use Rattle.cif_canon.specs.Meaning.{SameMeaning};
 ghost use Rattle.cif_canon.specs.NormalForm.{IsNormalFormOf};
 ghost use Rattle.cif_canon.specs.Views.{DayTexts, IsDayListed, IsTrainListed, TrainTexts};
 ghost use Rattle.cif_canon.specs.declared.asked.Asked.{Asked};
 ghost use Rattle.cif_canon.specs.declared.comparison.Comparison.{Comparison};
 ghost use Rattle.cif_extract.specs.ExtractParts.{ExtractParts};
+ghost use Rattle.cif_extract.specs.Texts.{FitsColumns};
 ghost use Rattle.cif_feed.specs.OfProfile.{as_published};
 ghost use Rattle.cif_feed.specs.PreparedParts.{IsPrepared};
 ghost use Rattle.cif_feed.specs.declared.holidays.Holidays.{Holidays};
@@ -58,4 +59,12 @@ pub fn what_says_the_same_has_the_same_views()
 pub fn clear_extracts_prepare_to_themselves()
     ensures { (h : Holidays) (x y : ExtractParts) → IsClearExtract x
         → IsPrepared h true (as_published x) y ↔ (y ≡ x) }
+{}
+
+/// The text of differences tells what the right extract says, by what the left one says: `turn` of `differences` holds of
+/// all that are found.
+pub fn differences_tell_the_right_extract()
+    ensures { (x y z : ExtractParts) (d e : DifferencesParts) → FitsColumns x → FitsColumns y → FitsColumns z
+        → AreDifferences x y d → TurnLeftIntoRight x y d → AreDifferences x z e → TurnLeftIntoRight x z e
+        → differences_text d ≡ differences_text e → y.header.columns ≡ z.header.columns → SameMeaning y z }
 {}

@@ -86,11 +86,11 @@ pub use Rattle.cif_views.specs.Explanation.{said_of_train, terms_fields}
 pub use Rattle.cif_views.specs.Listing.{association_fields_of, association_names, call_names_if, date_field, day_names, if_table}
 pub use Rattle.cif_views.specs.Listing.{journey_names, lines_of_row, no_call, schedule_text, train_names, train_text, uid_field, with_calls}
 pub use Rattle.cif_views.specs.Moments.{IsBy, IsInDayFrom, IsOnTheWay, in_day_from, midnight, time_text, two_digits_or_more}
-pub use Rattle.cif_views.specs.PublicCalls.{AreMoments, ArePublicCalls, AreShown, IsBehind, PublicCall, TimedCall, advertised, at_first}
-pub use Rattle.cif_views.specs.PublicCalls.{behind_shown, behind_stay, is_public, is_timed, left_at, pick_up, platform_in, public_call}
-pub use Rattle.cif_views.specs.PublicCalls.{public_calls, public_fields, public_from, public_moment, raised, reached_at, reached_moment}
-pub use Rattle.cif_views.specs.PublicCalls.{riders_in, riders_of, said_by, set_down, stay, stay_at, step, step_at, times_in, times_of}
-pub use Rattle.cif_views.specs.PublicCalls.{working}
+pub use Rattle.cif_views.specs.PublicCalls.{AreMoments, ArePublicCalls, AreShown, IsBehind, PublicCall, TimedCall, advertised, is_public}
+pub use Rattle.cif_views.specs.PublicCalls.{is_timed, left_at, pick_up, platform_in, public_fields, reached_at, riders_in, riders_of}
+pub use Rattle.cif_views.specs.PublicCalls.{said_by, set_down, times_in, times_of, working}
+pub use Rattle.cif_views.specs.Steps.PublicCalls.{at_first, behind_shown, behind_stay, public_call, public_calls, public_from}
+pub use Rattle.cif_views.specs.Steps.PublicCalls.{public_moment, raised, reached_moment, stay, stay_at, step, step_at}
 pub use Rattle.cif_views.specs.RowsOfDifferences.{AreRowsOfFields, HasRow, HaveRows, IsRowOfField}
 pub use Rattle.cif_views.specs.Steps.Columns.{Column, are_within, association_columns, basic_columns, call_columns, change_columns, column}
 pub use Rattle.cif_views.specs.Steps.Columns.{extra_columns, field_in, fields_in, is_short, is_span, is_within, name_fields, named, over}

@@ -12,7 +12,7 @@ use Rattle.cif_columns.specs.Clock.{clock_seconds, seconds_to}
 use Rattle.cif_columns.specs.Digits.{number_at}
 use Rattle.cif_columns.specs.PublicTime.{public_seconds, public_time_in, unless_midnight}
 use Rattle.cif_columns.specs.WorkTime.{work_seconds, work_time_in}
-use Rattle.cif_views.specs.PublicCalls.{shown_at}
+use Rattle.cif_views.specs.Steps.PublicCalls.{shown_at}
 use Rattle.cif_views.specs.declared.columns.JourneyKind.TheVariants.{Origin, Terminus}
 use Rattle.cif_views.specs.declared.public_calls.Stay.{Stay}
 

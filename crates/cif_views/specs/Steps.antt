@@ -1,8 +1,10 @@
--- What the contracts of the code's own steps speak of. No clause of a public function cites it, so nothing here has to be believed.
+-- What the contracts of the code's own steps speak of. Of public functions `write_table` cites PublicCalls, and a law says what these
+-- are. So nothing here has to be believed.
 pub mod Clashes
 pub mod Explanation
 pub mod Columns
 pub mod DifferenceRows
+pub mod PublicCalls
 pub mod PublicRows
 pub mod Rows
 pub mod TableRows

@@ -17,7 +17,8 @@ ghost use Rattle.cif_views.specs.AllFields.{CallsHaveAll, DayRowsHaveAll, Differ
 ghost use Rattle.cif_views.specs.AllFields.{ExplainedRowsHaveAll, TablesHaveAll, TablesHaveColumns, TrainRowsHaveAll};
 ghost use Rattle.cif_views.specs.DifferenceTable.{difference_names, difference_table};
 ghost use Rattle.cif_views.specs.Explanation.{AreExplained, Explained, HasWinningMark, SomeApplies};
-ghost use Rattle.cif_views.specs.PublicCalls.{ArePublicCalls, public_calls};
+ghost use Rattle.cif_views.specs.PublicCalls.{ArePublicCalls};
+ghost use Rattle.cif_views.specs.Steps.PublicCalls.{public_calls};
 ghost use Rattle.cif_views.specs.RowsOfDifferences.{AreRowsOfFields, HaveRows};
 ghost use Rattle.cif_views.specs.SameTables.{HaveSameTables};
 ghost use Rattle.cif_views.specs.Tables.{TableFields, names_line};

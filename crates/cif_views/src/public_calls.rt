@@ -7,9 +7,9 @@ ghost use Rattle.cif_canon.specs.Appended.{IsAppended};
 ghost use Rattle.cif_canon.specs.Fields.{after};
 ghost use Rattle.cif_canon.specs.declared.rows.Format.TheVariants.{Tsv};
 ghost use Rattle.cif_views.specs.Moments.{IsBy, IsOnTheWay};
-ghost use Rattle.cif_views.specs.PublicCalls.{advertised, answer_of, at_first, pick_up, platform_in, public_fields};
-ghost use Rattle.cif_views.specs.PublicCalls.{public_from, reached_moment, riders_in, riders_of, said_by, set_down, shown_at};
-ghost use Rattle.cif_views.specs.PublicCalls.{stay, step, step_at, times_in, times_of, working};
+ghost use Rattle.cif_views.specs.PublicCalls.{advertised, answer_of, pick_up, platform_in, public_fields, riders_in, riders_of};
+ghost use Rattle.cif_views.specs.PublicCalls.{said_by, set_down, times_in, times_of, working};
+ghost use Rattle.cif_views.specs.Steps.PublicCalls.{at_first, public_from, reached_moment, shown_at, stay, step, step_at};
 ghost use Rattle.cif_views.specs.Steps.PublicRows.{IsJourneyBy, IsStayBy, IsToShow, behind_schedule, joined, row_of_step, shown_in};
 ghost use Rattle.cif_views.specs.Tables.{kind_of_line, numbered_from, row_line};
 

@@ -1,6 +1,6 @@
 -- Lists of lists of numbers are equal where their elements are, and bodies where their parts are (`equal_parts`).
 use Rattle.cif_extract.proofs.Names.{bytes_decides, pointwise_decides}
-use Rattle.cif_extract.proofs.Bodies.{equal_parts}
+use Rattle.cif_extract.proofs.Bodies.{equal_parts, parts_in-keeps}
 use Rattle.cif_extract.proofs.body.Body.equality_of_bodies.Goals as goal
 
 pub returns-clause-lines : goal.returns-clause-lines
@@ -8,3 +8,6 @@ returns-clause-lines c = pointwise_decides bytes_decides
 
 pub returns-clause-parts : goal.returns-clause-parts
 returns-clause-parts c a b one other = equal_parts a b one.keep other.keep
+
+pub returns-clause-kept : goal.returns-clause-kept
+returns-clause-kept c = parts_in-keeps
