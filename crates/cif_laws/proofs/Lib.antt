@@ -12,3 +12,5 @@ pub mod ClearFeeds
 pub mod MarkedLines
 pub mod SideExtracts
 pub mod ToldByText
+pub mod ExampleParts
+pub mod ExampleMeaning

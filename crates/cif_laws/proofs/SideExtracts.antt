@@ -86,34 +86,34 @@ schedule-there xs uid d b runs =
       ap (λ (e : List ℕ × Terms BodyLines). e.1.body) is ∙ runs.body,
     )
 
-associations-fit : (xs : List Association) (es : List (AssocKey × Permanent AssocBody)) (dated : All IsDated es) → All HasTerms es
-    → All (HasAssociation xs) es → All AssociationFits xs → All AssociationFits (associations_of es dated)
-associations-fit xs [] dated terms there fits = All-nil AssociationFits
-associations-fit xs ((k, r) ∷ es) dated terms there fits =
+associations-fit : (xs : List Association) (es : List (AssocKey × Permanent AssocBody)) (h : All IsDated es) → All HasTerms es
+    → All (HasAssociation xs) es → All AssociationFits xs → All AssociationFits (associations_of es h)
+associations-fit xs [] h terms there fits = All-nil AssociationFits
+associations-fit xs ((k, r) ∷ es) h terms there fits =
     let (a, has, key, body) = All-head (HasAssociation xs) (k, r) es there in
     let own = subst (λ j. AllFit (association_rows j a.first a.last a.days a.letter (Some r.body))) key
     (subst (λ o. AllFit (association_rows a.key a.first a.last a.days a.letter o)) body (All-contains AssociationFits xs a fits has)) in
-    All-cons AssociationFits (association_of (k, r) (All-head IsDated (k, r) es dated))
-    (associations_of es (All-tail IsDated (k, r) es dated))
+    All-cons AssociationFits (association_of (k, r) (All-head IsDated (k, r) es h))
+    (associations_of es (All-tail IsDated (k, r) es h))
     (permanent-association k a.first a.last a.days a.letter r.body r.first r.last r.days own (All-head HasTerms (k, r) es terms))
-    (associations-fit xs es (All-tail IsDated (k, r) es dated) (All-tail HasTerms (k, r) es terms)
+    (associations-fit xs es (All-tail IsDated (k, r) es h) (All-tail HasTerms (k, r) es terms)
     (All-tail (HasAssociation xs) (k, r) es there) fits)
 
-schedules-fit : (xs : List Schedule) (es : List (List ℕ × Permanent BodyLines)) (dated : All IsDated es) → All HasTerms es
-    → All (HasSchedule xs) es → All ScheduleFits xs → All ScheduleFits (schedules_of es dated)
-schedules-fit xs [] dated terms there fits = All-nil ScheduleFits
-schedules-fit xs ((uid, r) ∷ es) dated terms there fits =
+schedules-fit : (xs : List Schedule) (es : List (List ℕ × Permanent BodyLines)) (h : All IsDated es) → All HasTerms es
+    → All (HasSchedule xs) es → All ScheduleFits xs → All ScheduleFits (schedules_of es h)
+schedules-fit xs [] h terms there fits = All-nil ScheduleFits
+schedules-fit xs ((uid, r) ∷ es) h terms there fits =
     let (s, has, train, body) = All-head (HasSchedule xs) (uid, r) es there in
     let fit = All-contains ScheduleFits xs s fits has in
     let own = subst (λ u. AllFit (basic_rows u s.first s.last s.days s.letter (Some (detail_of r.body)))) train
     (subst (λ o. AllFit (basic_rows s.uid s.first s.last s.days s.letter (option_map detail_of o))) body fit.basic) in
-    All-cons ScheduleFits (schedule_of (uid, r) (All-head IsDated (uid, r) es dated)) (schedules_of es (All-tail IsDated (uid, r) es dated))
+    All-cons ScheduleFits (schedule_of (uid, r) (All-head IsDated (uid, r) es h)) (schedules_of es (All-tail IsDated (uid, r) es h))
     (record {
       basic = permanent-basic uid s.first s.last s.days s.letter (detail_of r.body) r.first r.last r.days own
           (All-head HasTerms (uid, r) es terms);
       body = subst (λ o. IfSome o IsBody) body fit.body;
     })
-    (schedules-fit xs es (All-tail IsDated (uid, r) es dated) (All-tail HasTerms (uid, r) es terms)
+    (schedules-fit xs es (All-tail IsDated (uid, r) es h) (All-tail HasTerms (uid, r) es terms)
     (All-tail (HasSchedule xs) (uid, r) es there) fits)
 
 -- ---- the extract of one side: its header, and of the differences what it alone says

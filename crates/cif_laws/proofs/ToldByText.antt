@@ -12,7 +12,8 @@ use Rattle.cif_calendar.specs.Terms.{Terms}
 use Rattle.cif_canon.proofs.MadeExtract.{associations_of, entries-of_associations, entries-of_schedules, schedules_of}
 use Rattle.cif_canon.specs.Asked.{header_window}
 use Rattle.cif_canon.specs.Differences.{AreDifferences, AreOnlyRecords, DifferencesParts, RunsApplied}
-use Rattle.cif_canon.specs.Differences.{SaysNothing, SaysSomething, TurnInto, TurnLeftIntoRight, at_side, differences_text, marked_association, marked_schedule, of_side}
+use Rattle.cif_canon.specs.Differences.{SaysNothing, SaysSomething, TurnInto, TurnLeftIntoRight, at_side, differences_text}
+use Rattle.cif_canon.specs.Differences.{marked_association, marked_schedule, of_side}
 use Rattle.cif_canon.specs.Meaning.{SameMeaning}
 use Rattle.cif_canon.specs.declared.listed_differences.Side.{Side}
 use Rattle.cif_canon.specs.declared.listed_differences.Side.TheVariants.{Left, Right}
@@ -179,8 +180,8 @@ record SameSide (side : Side) (d e : DifferencesParts) : Type 0 where
   associations : of_side side d.associations ≡ of_side side e.associations
   schedules : of_side side d.schedules ≡ of_side side e.schedules
 
-one-side : (x : ExtractParts) (side : Side) (d e : DifferencesParts) → SideExtract x side d → SideExtract x side e → all_lines d ≡ all_lines e
-    → SameSide side d e
+one-side : (x : ExtractParts) (side : Side) (d e : DifferencesParts) → SideExtract x side d → SideExtract x side e
+    → all_lines d ≡ all_lines e → SameSide side d e
 one-side x side d e s t same =
     let lines : side_lines side d ≡ side_lines side e = sym (unmarked-all side d) ∙ ap (unmarked side) same ∙ unmarked-all side e in
     let all : extract_lines s.it ≡ extract_lines t.it =

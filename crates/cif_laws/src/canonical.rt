@@ -1,7 +1,7 @@
 //! Laws of canonical extracts: what the canonical bytes of an input tell of it.
 ghost use Rattle.std.specs.Prelude.{◌≡◌, ◌↔◌, ℕ, List, true};
 ghost use Rattle.cif_canon.specs.Accepted.{IsAccepted, IsClearExtract};
-ghost use Rattle.cif_canon.specs.Asked.{AskedDatesAreWithin, header_window, window_asked};
+ghost use Rattle.cif_canon.specs.Asked.{AskedDatesAreWithin, header_window, nothing_asked, window_asked};
 ghost use Rattle.cif_canon.specs.Canon.{CanonParts, IsCanonOf};
 ghost use Rattle.cif_canon.specs.Comparison.{AreCompared};
 ghost use Rattle.cif_canon.specs.Differences.{AreDifferences, DifferencesParts, TurnLeftIntoRight, differences_text};
@@ -15,7 +15,9 @@ ghost use Rattle.cif_extract.specs.Texts.{FitsColumns};
 ghost use Rattle.cif_feed.specs.OfProfile.{as_published};
 ghost use Rattle.cif_feed.specs.PreparedParts.{IsPrepared};
 ghost use Rattle.cif_feed.specs.declared.holidays.Holidays.{Holidays};
+ghost use Rattle.cif_laws.specs.Examples.{example_canonical, example_input};
 ghost use Rattle.cif_weeks.specs.declared.form.Form.{Form};
+ghost use Rattle.cif_weeks.specs.declared.form.Form.TheVariants.{Two};
 
 /// Canonical bytes of an input, narrowed to a part of their window, are what the input is, narrowed to that part: of
 /// either form, from either form.
@@ -67,4 +69,9 @@ pub fn differences_tell_the_right_extract()
     ensures { (x y z : ExtractParts) (d e : DifferencesParts) → FitsColumns x → FitsColumns y → FitsColumns z
         → AreDifferences x y d → TurnLeftIntoRight x y d → AreDifferences x z e → TurnLeftIntoRight x z e
         → differences_text d ≡ differences_text e → y.header.columns ≡ z.header.columns → SameMeaning y z }
+{}
+
+/// An input with its canonical bytes: what the definitions ask for is met by real bytes.
+pub fn an_input_has_its_canonical_bytes()
+    ensures { IsNormalFormOf Two nothing_asked example_input example_canonical }
 {}
