@@ -8,6 +8,8 @@ use Rattle.cif_columns.proofs.Names.{nat_tests}
 use Rattle.cif_columns.proofs.PrintableBytes.{printable_fact}
 use Rattle.cif_columns.specs.Day.{ddmmyy_in}
 use Rattle.cif_columns.specs.DayDigits.{date_of, ddmmyy_of, yymmdd_of}
+use Rattle.cif_columns.specs.FirstLine.{is_printable}
+use Rattle.std.specs.List.{list_all}
 use Rattle.cif_columns.specs.Field.{AllFit}
 use Rattle.cif_columns.specs.Text.{IsText, IsTrimmed}
 use Rattle.cif_columns.specs.declared.stp.Stp.{Stp}
@@ -31,6 +33,13 @@ is-trimmed : (t : List ℕ) (a b : ℕ) → slice_get t 0 ≡ Some a → slice_g
 is-trimmed t a b first last a_no b_no = record {
   start = λ e. let same : a ≡ 32 = (let some : ◌≡◌ {A = Option ℕ} (Some a) (Some 32) = sym first ∙ e in cc) in grind (arith, nat_tests);
   stop = λ e. let same : b ≡ 32 = (let some : ◌≡◌ {A = Option ℕ} (Some b) (Some 32) = sym last ∙ e in cc) in grind (arith, nat_tests);
+}
+
+some-text : (t : List ℕ) (a b : ℕ) → slice_get t 0 ≡ Some a → slice_get t (length t - 1) ≡ Some b → nat_eq a 32 ≡ false
+    → nat_eq b 32 ≡ false → list_all is_printable t ≡ true → IsText t
+some-text t a b first last a_no b_no printable = record {
+  trimmed = is-trimmed t a b first last a_no b_no;
+  printable = printable_fact t printable;
 }
 
 nothing-text : IsText []
@@ -126,19 +135,19 @@ fit-by days letter week = (
             (
               (refl, week),
               (
-                (omega arith, record { trimmed = is-trimmed (codes "NP") 78 80 refl refl refl refl; printable = printable_fact (codes "NP") refl }),
+                (omega arith, some-text (codes "NP") 78 80 refl refl refl refl refl),
                 (
-                  (omega arith, record { trimmed = is-trimmed (codes "S") 83 83 refl refl refl refl; printable = printable_fact (codes "S") refl }),
+                  (omega arith, some-text (codes "S") 83 83 refl refl refl refl refl),
                   (
-                    (omega arith, record { trimmed = is-trimmed (codes "CREWE") 67 69 refl refl refl refl; printable = printable_fact (codes "CREWE") refl }),
+                    (omega arith, some-text (codes "CREWE") 67 69 refl refl refl refl refl),
                     (
                       (omega arith, nothing-text),
                       (
                         (omega arith, nothing-text),
                         (
-                          (omega arith, record { trimmed = is-trimmed (codes "T") 84 84 refl refl refl refl; printable = printable_fact (codes "T") refl }),
+                          (omega arith, some-text (codes "T") 84 84 refl refl refl refl refl),
                           (
-                            (omega arith, record { trimmed = is-trimmed (codes "P") 80 80 refl refl refl refl; printable = printable_fact (codes "P") refl }),
+                            (omega arith, some-text (codes "P") 80 80 refl refl refl refl refl),
                             (
                               tt,
                               (
@@ -165,7 +174,8 @@ extract-fits : (a : Association) → AllFit (association_table a) → FitsColumn
 extract-fits a fits = record {
   header = headers.fits example-head;
   tiplocs = All-nil (λ (t : Tiploc). AllFit (tiploc_table t));
-  associations = All-cons (λ (b : Association). AllFit (association_table b)) a [] fits (All-nil (λ (b : Association). AllFit (association_table b)));
+  associations = All-cons (λ (b : Association). AllFit (association_table b)) a [] fits
+      (All-nil (λ (b : Association). AllFit (association_table b)));
   schedules = All-nil ScheduleFits;
 }
 
