@@ -14,7 +14,7 @@ from typing import ContextManager, Optional, Sequence
 
 from cif_shared.arguments import add_cif, add_help, add_names, add_window, new_parser
 from cif_shared.cif import Cif, find_cif
-from cif_shared.csv_files import read_file
+from cif_shared.csv_files import CONTROL, read_file
 from cif_shared.endings import SUCCESS, Misused
 from cif_shared.files import BLOCK, new_files, output_path
 from cif_shared.operators import read_operators
@@ -98,7 +98,7 @@ def digest_of(path: Path) -> str:
 
 def source_of(extract: Extract, name: str) -> Source:
     now = datetime.now(timezone.utc).isoformat(timespec="seconds")
-    shown = os.fsencode(name).decode(errors="replace")
+    shown = CONTROL.sub("?", os.fsencode(name).decode(errors="replace"))
     return Source(shown, digest_of(extract.path), version_of(extract.cif), now)
 
 

@@ -3,8 +3,9 @@ from __future__ import annotations
 
 import sqlite3
 from contextlib import closing, contextmanager
+from operator import methodcaller
 from pathlib import Path
-from typing import Iterable, Iterator, Optional, Sequence, Tuple
+from typing import Iterator, Optional, Sequence, Tuple
 from urllib.parse import quote
 
 from cif_shared.endings import Failed, Refused
@@ -12,13 +13,15 @@ from cif_shared.files import NewFiles
 from cif_shared.tables import Header
 
 from .loading import extracted_at
-from .schema import Database, Row, sql
+from .schema import Database, sql
 
 # SQLite's number for the program that a file is of: "cif1", the 1 for the layout of its tables.
 APPLICATION = 0x63696631
 # Where the number stands, behind the name of the format.
 MAGIC = b"SQLite format 3\0"
 PLACE = slice(68, 72)
+
+CELLS = methodcaller("split", "\t")
 
 # The moment of an extract, then its window. One without a moment is older than all others.
 Age = Tuple[str, str, str]
@@ -75,10 +78,12 @@ class SqliteFile(Database):
     def __init__(self, connection: sqlite3.Connection) -> None:
         self.connection = connection
 
-    def fill(self, table: str, names: Sequence[str], rows: Iterable[Row]) -> None:
-        marks = ", ".join("?" * len(names))
+    def fill(self, table: str, names: Sequence[str], rows: bytes) -> None:
+        marks = ", ".join(["nullif(?, '')"] * len(names))
         insert = f"INSERT INTO {table} ({', '.join(names)}) VALUES ({marks})"
-        self.connection.executemany(insert, rows)
+        lines = rows.decode().split("\n")
+        lines.pop()
+        self.connection.executemany(insert, map(CELLS, lines))
 
 
 @contextmanager
