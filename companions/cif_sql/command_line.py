@@ -23,6 +23,7 @@ from cif_shared.progress import Progress
 from cif_shared.running import run
 from cif_shared.tables import Extract, open_extract
 
+from .background import in_background
 from .loading import Source, UserFiles, load
 from .postgres import PostgresScript, check_schema
 from .sqlite_file import check_age, check_place, new_database
@@ -122,7 +123,8 @@ def make_file(asked: argparse.Namespace, progress: Progress) -> int:
             check_age(place, extract.header())
         source = source_of(extract, asked.extract)
         with new_files() as files:
-            with new_database(files, place) as database:
+            path = files.reserve(place)
+            with in_background(lambda: new_database(path, place)) as database:
                 load(extract, source, given, database, progress)
                 progress.show("building indexes")
             # it may have become another one meanwhile

@@ -3,13 +3,11 @@ from __future__ import annotations
 
 import sqlite3
 from contextlib import closing, contextmanager
-from operator import methodcaller
 from pathlib import Path
 from typing import Iterator, Optional, Sequence, Tuple
 from urllib.parse import quote
 
 from cif_shared.endings import Failed, Refused
-from cif_shared.files import NewFiles
 from cif_shared.tables import Header
 
 from .loading import extracted_at
@@ -21,7 +19,11 @@ APPLICATION = 0x63696631
 MAGIC = b"SQLite format 3\0"
 PLACE = slice(68, 72)
 
-CELLS = methodcaller("split", "\t")
+# A value of a row. This is much faster than to look for empty ones in Python.
+CELL = "nullif(?, '')"
+# Several rows are added by one statement, since each statement costs as much as some rows. Older releases of SQLite take 999 values.
+MOST_ROWS = 8
+MOST_CELLS = 999
 
 # The moment of an extract, then its window. One without a moment is older than all others.
 Age = Tuple[str, str, str]
@@ -79,17 +81,22 @@ class SqliteFile(Database):
         self.connection = connection
 
     def fill(self, table: str, names: Sequence[str], rows: bytes) -> None:
-        marks = ", ".join(["nullif(?, '')"] * len(names))
-        insert = f"INSERT INTO {table} ({', '.join(names)}) VALUES ({marks})"
-        lines = rows.decode().split("\n")
-        lines.pop()
-        self.connection.executemany(insert, map(CELLS, lines))
+        cells = rows.decode().replace("\n", "\t").split("\t")
+        cells.pop()
+        width = len(names)
+        row = f"({', '.join([CELL] * width)})"
+        start = f"INSERT INTO {table} ({', '.join(names)}) VALUES "
+        most = min(MOST_ROWS, MOST_CELLS // width)
+        rest = len(cells) - len(cells) % (width * most)
+        for first, last, count in (0, rest, most), (rest, len(cells), 1):
+            size = width * count
+            groups = (cells[at : at + size] for at in range(first, last, size))
+            self.connection.executemany(start + ", ".join([row] * count), groups)
 
 
 @contextmanager
-def new_database(files: NewFiles, place: Path) -> Iterator[SqliteFile]:
-    """A database that is written beside its place. Its indexes and views are made at the end."""
-    path = files.reserve(place)
+def new_database(path: Path, place: Path) -> Iterator[SqliteFile]:
+    """A database in an empty file, which is for a place. Its indexes and views are made at the end."""
     try:
         with closing(sqlite3.connect(str(path), isolation_level=None)) as connection:
             # nobody reads this file before it is complete, and if the run fails it is removed
