@@ -27,6 +27,7 @@ from cif_shared.files import BLOCK, NewFiles, new_files, scratch_file
 from cif_shared.operators import OperatorRow
 from cif_shared.places import PlaceRow, Places
 from cif_shared.progress import Progress
+from cif_shared.schedules import without_numbers
 from cif_shared.tables import AssociationRow, Extract, Header, Table, TiplocRow, rows_with
 
 from . import feed
@@ -38,7 +39,7 @@ from .routes import Routes
 from .services import Services
 from .stops import Stops
 from .trains import Kind, PublicTrain, ScheduleReader, public_trains
-from .trips import Assembly, Link, TripsOfUid, add_records
+from .trips import Assembly, Link, Trip, TripsOfUid, add_records
 from .user_files import InterchangeRow, LinkRow
 
 
@@ -226,9 +227,16 @@ class Conversion:
     def write_plain(self, uid: str, trains: Iterable[PublicTrain]) -> None:
         """Writes the trips of a train without associations."""
         trips = TripsOfUid(uid)
+        # most schedules of a train have the calls of another one
+        known: Dict[bytes, Trip] = {}
         for schedule, calls in trains:
             if schedule.about is not None:
-                trip = trips.add(schedule.about, calls.rows())
+                numbered = calls.numbered()
+                content = schedule.about.text + numbered
+                trip = known.get(content)
+                if trip is None:
+                    rows = (without_numbers(numbered),)
+                    trip = known[content] = trips.add(schedule.about, rows)
                 trip.dates |= schedule.dates
                 if self.records is not None:
                     trip.records.append(schedule.record)

@@ -145,15 +145,9 @@ class Follower:
         """The rows of a schedule without its number, or nothing."""
         if self.next is None or self.next.schedule != schedule:
             return b""
-        text = self.next.text
+        text = self.next.numbered()
         self.next = next(self.groups, None)
-        return without_number(schedule, text)
-
-
-def without_number(schedule: bytes, text: bytes) -> bytes:
-    """Rows without the number of their schedule."""
-    start = schedule + b"\t"
-    return text[len(start) :].replace(b"\n" + start, b"\n")
+        return text
 
 
 def with_number(number: int, text: bytes) -> bytes:
@@ -295,9 +289,8 @@ def load_trains(
                 assert row.startswith(number + b"\t"), "each schedule has calls"
                 line = row.decode().rstrip("\n")
                 cells = line.split("\t")
-                rows = without_number(number, group.text)
                 taken = riders.take(number), en_route.take(number)
-                schedules.add(line, cells, journeys.journey(cells[1], rows, *taken))
+                schedules.add(line, cells, journeys.journey(cells[1], group.numbered(), *taken))
                 progress.show_share("loading trains", int(number), count)
     journeys.flush()
     schedules.schedules.flush()
