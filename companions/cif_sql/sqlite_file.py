@@ -4,6 +4,7 @@ from __future__ import annotations
 import sqlite3
 from contextlib import closing, contextmanager
 from pathlib import Path
+from tempfile import NamedTemporaryFile
 from typing import Iterator, Optional, Sequence, Tuple
 from urllib.parse import quote
 
@@ -95,18 +96,30 @@ class SqliteFile(Database):
 
 
 @contextmanager
+def opened(path: Path) -> Iterator[sqlite3.Connection]:
+    """A connection to a new file. Nobody reads it before it is complete, and if the run fails it is
+    removed, so it needs no journal."""
+    with closing(sqlite3.connect(str(path), isolation_level=None)) as connection:
+        connection.execute("PRAGMA journal_mode = OFF")
+        connection.execute("PRAGMA synchronous = OFF")
+        yield connection
+
+
+@contextmanager
 def new_database(path: Path, place: Path) -> Iterator[SqliteFile]:
-    """A database in an empty file, which is for a place. Its indexes and views are made at the end."""
+    """A database in an empty file, which is for a place. First its tables are filled in another
+    file. From there they are copied with all pages full, and then its indexes and views are made.
+    """
     try:
-        with closing(sqlite3.connect(str(path), isolation_level=None)) as connection:
-            # nobody reads this file before it is complete, and if the run fails it is removed
-            connection.execute("PRAGMA journal_mode = OFF")
-            connection.execute("PRAGMA synchronous = OFF")
-            connection.execute(f"PRAGMA application_id = {APPLICATION}")
-            connection.executescript(sql("tables"))
-            connection.execute("BEGIN")
-            yield SqliteFile(connection)
-            connection.execute("COMMIT")
+        with NamedTemporaryFile(dir=path.parent, prefix=f"{path.name}.") as tables:
+            with opened(Path(tables.name)) as connection:
+                connection.execute(f"PRAGMA application_id = {APPLICATION}")
+                connection.executescript(sql("tables"))
+                connection.execute("BEGIN")
+                yield SqliteFile(connection)
+                connection.execute("COMMIT")
+                connection.execute("VACUUM INTO ?", (str(path),))
+        with opened(path) as connection:
             connection.executescript(sql("indexes") + sql("views"))
             connection.execute("ANALYZE")
     except sqlite3.OperationalError as problem:
