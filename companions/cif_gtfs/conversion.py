@@ -4,6 +4,7 @@ from __future__ import annotations
 from contextlib import contextmanager
 from dataclasses import dataclass
 from itertools import groupby
+from operator import attrgetter
 from pathlib import Path
 from typing import (
     IO,
@@ -198,10 +199,6 @@ class LeftOutCounts(NamedTuple):
         return lines
 
 
-def uid_of(train: PublicTrain) -> str:
-    return train.schedule.uid
-
-
 class Conversion:
     """Writes the trips of a timetable."""
 
@@ -249,7 +246,7 @@ class Conversion:
         count = self.timetable.schedules.count
         with extract.table("public") as table:
             found = self.timetable.trains(table, self.wishes.types)
-            for uid, group in groupby(found, key=uid_of):
+            for uid, group in groupby(found, key=attrgetter("schedule.uid")):
                 trains = list(group)
                 for schedule, _ in trains:
                     if schedule.about is None:
