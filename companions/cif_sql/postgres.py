@@ -59,7 +59,7 @@ class PostgresScript(Database):
             copied.file.seek(0)
             shutil.copyfileobj(copied.file, output, BLOCK)
             add("\\.\n")
-        add(sql("indexes") + sql("views"))
+        add(sql("indexes") + sql("cluster") + sql("views"))
         add("".join(f"ANALYZE {table};\n" for table in self.tables))
         add("BEGIN;\n" + sql("check") + sql("finish"))
         output.flush()
