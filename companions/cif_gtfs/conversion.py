@@ -328,9 +328,9 @@ def convert(
                 conversion = Conversion(timetable, wishes, trip_files, records)
                 variants = conversion.read_trains(extract, progress)
                 links, left_out = conversion.write_linked(variants)
+                trip_files.flush()
             if not routes.rows:
                 raise Refused(f"{extract.path} has no public train in its window")
-            trip_files.flush()
             progress.show("writing the other files")
             feed.copy_file(archive, "trips", trips)
             feed.write_services(archive, services)

@@ -7,7 +7,7 @@ import shutil
 import zipfile
 from contextlib import contextmanager
 from functools import lru_cache
-from itertools import islice, repeat
+from itertools import islice
 from typing import IO, Dict, Iterable, Iterator, List, Mapping, NamedTuple, Sequence, Tuple, Union
 
 from cif_shared.csv_files import Key
@@ -101,13 +101,12 @@ def cell_of(text: str) -> str:
     return csv_of([(text, "")])[:-2].decode()
 
 
-# The cells of a call, and the numbers of calls in their trip.
+# The cells of a call.
 WIDTH = 6
-NUMBERS = [b"%d" % number for number in range(1, 1000)]
 
 
 class TripFiles:
-    """Writes the rows of trips and of their stop times as they come."""
+    """Writes the rows of trips and of their stop times as they come, many at once."""
 
     def __init__(
         self, stops: Stops, routes: Routes, services: Services, files: Tuple[IO[bytes], IO[bytes]]
@@ -117,17 +116,25 @@ class TripFiles:
         self.services = services
         self.trips, self.stop_times = files
         self.rows: List[str] = []
+        # the calls of all trips that are collected, and for each the id of its trip and its number
+        self.calls: List[bytes] = []
+        self.trip_ids: List[bytes] = []
+        self.sequence: List[bytes] = []
+        self.numbers: List[bytes] = []
 
     def write(self, trips: Iterable[Trip]) -> None:
         for trip in trips:
-            self.stop_times.write(self.stop_time_rows(trip))
             self.rows.append(self.trip_row(trip))
-        if len(self.rows) >= ROWS:
+            self.collect(trip)
+        if len(self.trip_ids) >= ROWS:
             self.flush()
 
     def flush(self) -> None:
         self.trips.write("".join(self.rows).encode())
+        self.stop_times.write(self.stop_time_rows())
         self.rows.clear()
+        for collected in self.calls, self.trip_ids, self.sequence:
+            collected.clear()
 
     def trip_row(self, trip: Trip) -> str:
         shown = self.routes.shown(trip.about.operator, trip.about.route_type, trip.ends)
@@ -135,16 +142,23 @@ class TripFiles:
         about = f"{cell_of(shown.headsign)},{cell_of(trip.about.identity)},{shown.direction}"
         return f"{ids},{about},{trip.block.decode()}\n"
 
-    def stop_time_rows(self, trip: Trip) -> bytes:
-        """All cells of the calls are cut at once: a row at a time takes twice as long."""
-        cells = b"".join(trip.rows).replace(b"\n", b"\t").split(b"\t")
+    def collect(self, trip: Trip) -> None:
+        count = sum(rows.count(b"\n") for rows in trip.rows)
+        while len(self.numbers) < count:
+            self.numbers.append(b"%d" % (len(self.numbers) + 1))
+        self.calls += trip.rows
+        self.trip_ids += [trip.id] * count
+        self.sequence += self.numbers[:count]
+
+    def stop_time_rows(self) -> bytes:
+        """The cells of all calls are cut at once: a row at a time takes twice as long."""
+        cells = b"".join(self.calls).replace(b"\n", b"\t").split(b"\t")
+        cells.pop()
         locations, platforms, *rest = (cells[at::WIDTH] for at in range(WIDTH))
-        while len(NUMBERS) < len(platforms):
-            NUMBERS.append(b"%d" % (len(NUMBERS) + 1))
         stops = map(self.stops.ids.__getitem__, zip(locations, platforms))
         # times, set down and pick up stand in the order of the heading
-        rows = zip(repeat(trip.id), NUMBERS, stops, *rest)
-        return b"\n".join(map(b",".join, rows)) + b"\n"
+        rows = map(b",".join, zip(self.trip_ids, self.sequence, stops, *rest))
+        return b"".join(row + b"\n" for row in rows)
 
 
 class TransferRow(NamedTuple):
