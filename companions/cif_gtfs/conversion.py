@@ -4,7 +4,6 @@ from __future__ import annotations
 from contextlib import contextmanager
 from dataclasses import dataclass
 from itertools import groupby
-from operator import attrgetter
 from pathlib import Path
 from typing import (
     IO,
@@ -28,7 +27,6 @@ from cif_shared.files import BLOCK, NewFiles, new_files, scratch_file
 from cif_shared.operators import OperatorRow
 from cif_shared.places import PlaceRow, Places
 from cif_shared.progress import Progress
-from cif_shared.schedules import without_numbers
 from cif_shared.tables import AssociationRow, Extract, Header, Table, TiplocRow, rows_with
 
 from . import feed
@@ -40,7 +38,7 @@ from .routes import Routes
 from .services import Services
 from .stops import Stops
 from .trains import Kind, PublicTrain, ScheduleReader, public_trains
-from .trips import Assembly, Link, Trip, TripsOfUid, add_records
+from .trips import Assembly, Link, TripsOfUid, add_records
 from .user_files import InterchangeRow, LinkRow
 
 
@@ -199,6 +197,10 @@ class LeftOutCounts(NamedTuple):
         return lines
 
 
+def uid_of(train: PublicTrain) -> str:
+    return train.schedule.uid
+
+
 class Conversion:
     """Writes the trips of a timetable."""
 
@@ -224,16 +226,9 @@ class Conversion:
     def write_plain(self, uid: str, trains: Iterable[PublicTrain]) -> None:
         """Writes the trips of a train without associations."""
         trips = TripsOfUid(uid)
-        # most schedules of a train have the calls of another one
-        known: Dict[bytes, Trip] = {}
         for schedule, calls in trains:
             if schedule.about is not None:
-                numbered = calls.numbered()
-                content = schedule.about.text + numbered
-                trip = known.get(content)
-                if trip is None:
-                    rows = (without_numbers(numbered),)
-                    trip = known[content] = trips.add(schedule.about, rows)
+                trip = trips.add(schedule.about, calls.rows())
                 trip.dates |= schedule.dates
                 if self.records is not None:
                     trip.records.append(schedule.record)
@@ -246,7 +241,7 @@ class Conversion:
         count = self.timetable.schedules.count
         with extract.table("public") as table:
             found = self.timetable.trains(table, self.wishes.types)
-            for uid, group in groupby(found, key=attrgetter("schedule.uid")):
+            for uid, group in groupby(found, key=uid_of):
                 trains = list(group)
                 for schedule, _ in trains:
                     if schedule.about is None:
@@ -328,9 +323,9 @@ def convert(
                 conversion = Conversion(timetable, wishes, trip_files, records)
                 variants = conversion.read_trains(extract, progress)
                 links, left_out = conversion.write_linked(variants)
-                trip_files.flush()
             if not routes.rows:
                 raise Refused(f"{extract.path} has no public train in its window")
+            trip_files.flush()
             progress.show("writing the other files")
             feed.copy_file(archive, "trips", trips)
             feed.write_services(archive, services)

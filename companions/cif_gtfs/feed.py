@@ -6,7 +6,6 @@ import io
 import shutil
 import zipfile
 from contextlib import contextmanager
-from functools import lru_cache
 from itertools import islice
 from typing import IO, Dict, Iterable, Iterator, List, Mapping, NamedTuple, Sequence, Tuple, Union
 
@@ -95,18 +94,12 @@ def write_services(archive: zipfile.ZipFile, services: Services) -> None:
         copy_file(archive, "calendar", calendar)
 
 
-@lru_cache(maxsize=10_000)
-def cell_of(text: str) -> str:
-    """A cell as it stands in CSV."""
-    return csv_of([(text, "")])[:-2].decode()
-
-
-# The cells of a call.
-WIDTH = 6
+# What stands before the stop in the rows of a trip.
+SEQUENCE = [b",%d," % number for number in range(1, 1000)]
 
 
 class TripFiles:
-    """Writes the rows of trips and of their stop times as they come, many at once."""
+    """Writes the rows of trips and of their stop times as they come."""
 
     def __init__(
         self, stops: Stops, routes: Routes, services: Services, files: Tuple[IO[bytes], IO[bytes]]
@@ -115,50 +108,35 @@ class TripFiles:
         self.routes = routes
         self.services = services
         self.trips, self.stop_times = files
-        self.rows: List[str] = []
-        # the calls of all trips that are collected, and for each the id of its trip and its number
-        self.calls: List[bytes] = []
-        self.trip_ids: List[bytes] = []
-        self.sequence: List[bytes] = []
-        self.numbers: List[bytes] = []
+        self.rows: List[Row] = []
 
     def write(self, trips: Iterable[Trip]) -> None:
         for trip in trips:
+            self.stop_times.write(self.stop_time_rows(trip))
             self.rows.append(self.trip_row(trip))
-            self.collect(trip)
-        if len(self.trip_ids) >= ROWS:
+        if len(self.rows) >= ROWS:
             self.flush()
 
     def flush(self) -> None:
-        self.trips.write("".join(self.rows).encode())
-        self.stop_times.write(self.stop_time_rows())
+        self.trips.write(csv_of(self.rows))
         self.rows.clear()
-        for collected in self.calls, self.trip_ids, self.sequence:
-            collected.clear()
 
-    def trip_row(self, trip: Trip) -> str:
+    def trip_row(self, trip: Trip) -> Row:
         shown = self.routes.shown(trip.about.operator, trip.about.route_type, trip.ends)
-        ids = f"{shown.route},{self.services.id_of(trip.dates)},{trip.id.decode()}"
-        about = f"{cell_of(shown.headsign)},{cell_of(trip.about.identity)},{shown.direction}"
-        return f"{ids},{about},{trip.block.decode()}\n"
+        service = self.services.id_of(trip.dates)
+        about = (shown.headsign, trip.about.identity, shown.direction)
+        return (shown.route, service, trip.id.decode(), *about, trip.block.decode())
 
-    def collect(self, trip: Trip) -> None:
-        count = sum(rows.count(b"\n") for rows in trip.rows)
-        while len(self.numbers) < count:
-            self.numbers.append(b"%d" % (len(self.numbers) + 1))
-        self.calls += trip.rows
-        self.trip_ids += [trip.id] * count
-        self.sequence += self.numbers[:count]
-
-    def stop_time_rows(self) -> bytes:
-        """The cells of all calls are cut at once: a row at a time takes twice as long."""
-        cells = b"".join(self.calls).replace(b"\n", b"\t").split(b"\t")
-        cells.pop()
-        locations, platforms, *rest = (cells[at::WIDTH] for at in range(WIDTH))
-        stops = map(self.stops.ids.__getitem__, zip(locations, platforms))
+    def stop_time_rows(self, trip: Trip) -> bytes:
+        stops = self.stops.ids
+        while len(SEQUENCE) < len(trip.rows):
+            SEQUENCE.append(b",%d," % (len(SEQUENCE) + 1))
+        pieces: List[bytes] = []
+        for sequence, row in zip(SEQUENCE, trip.rows):
+            location, platform, times = row.split(b"\t", 2)
+            pieces += (trip.id, sequence, stops[location, platform], b",", times)
         # times, set down and pick up stand in the order of the heading
-        rows = map(b",".join, zip(self.trip_ids, self.sequence, stops, *rest))
-        return b"".join(row + b"\n" for row in rows)
+        return b"".join(pieces).replace(b"\t", b",")
 
 
 class TransferRow(NamedTuple):

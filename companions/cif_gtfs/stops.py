@@ -18,8 +18,6 @@ STATION = 1
 
 def coded(text: str) -> str:
     """The text as a part of an id: letters, digits, `_` for a space, and `%XX` for all else."""
-    if text.isascii() and text.isalnum():
-        return text
     plain = re.sub(r"[^A-Za-z0-9 ]", lambda other: f"%{ord(other[0]):02X}", text)
     return plain.replace(" ", "_")
 

@@ -2,7 +2,6 @@
 from __future__ import annotations
 
 from enum import Enum
-from functools import lru_cache
 from operator import itemgetter
 from typing import Dict, Iterable, Iterator, List, Mapping, NamedTuple, Optional, Tuple
 
@@ -52,7 +51,6 @@ class About(NamedTuple):
     text: bytes
 
 
-@lru_cache(maxsize=1000)
 def about_of(identity: bytes, operator: bytes, route_type: int) -> About:
     text = b"%s\t%s\t%d\n" % (identity, operator, route_type)
     return About(identity.decode(), operator.decode(), route_type, text)
@@ -107,14 +105,15 @@ class ScheduleReader:
         return self.types[kind_of(sort)] if is_for_riders(sort.status, sort.category) else None
 
     def read(self, line: bytes) -> Schedule:
-        cells = self.cells_at(line[:-1].split(b"\t"))
-        sort = cells[8:]
+        cells = self.cells_at(line.rstrip(b"\n").split(b"\t"))
+        number, uid, first, last, days_run, retail, identity, operator, *fields = cells
+        sort = tuple(fields)
         if sort not in self.known:
             self.known[sort] = self.route_type(*sort)
         route_type = self.known[sort]
-        about = None if route_type is None else about_of(cells[6], cells[7], route_type)
-        dates = self.window.dates(*cells[2:5])
-        return Schedule(cells[0], cells[1].decode(), dates, about, cells[2:6])
+        about = None if route_type is None else about_of(identity, operator, route_type)
+        dates = self.window.dates(first, last, days_run)
+        return Schedule(number, uid.decode(), dates, about, (first, last, days_run, retail))
 
 
 class PublicTrain(NamedTuple):

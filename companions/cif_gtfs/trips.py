@@ -21,7 +21,7 @@ ID_BYTES = 5
 
 class Trip:
     """A trip of GTFS: what it shows, the dates of its service, and the schedules that it is made
-    of. Its rows are those of `public` from the location on, one or several in each text."""
+    of. Its rows are those of `public` from the location on."""
 
     __slots__ = tuple("id about rows mark ends dates block days_later records".split())
 
@@ -41,8 +41,7 @@ class Trip:
 
 def ends_of(rows: Sequence[bytes]) -> Ends:
     """The locations of the first and of the last call."""
-    last_row = rows[-1].rfind(b"\n", 0, -1) + 1
-    return Ends(rows[0].split(b"\t", 1)[0], rows[-1][last_row:].split(b"\t", 1)[0])
+    return Ends(rows[0].split(b"\t", 1)[0], rows[-1].split(b"\t", 1)[0])
 
 
 class TripsOfUid:

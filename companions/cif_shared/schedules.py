@@ -10,7 +10,6 @@ from .tables import Table
 # The rows of a schedule, and what each has after its number and that of the call.
 ROWS_OF_SCHEDULE = re.compile(rb"^([0-9]+)\t.*\n(?:\1\t.*\n)*", re.MULTILINE)
 ROW = re.compile(rb"^[0-9]+\t[0-9]+\t(.*\n)", re.MULTILINE)
-NUMBER_OF_CALL = re.compile(rb"^[0-9]+\t", re.MULTILINE)
 NUMBER = re.compile(rb"^[0-9]+\t([0-9]+)", re.MULTILINE)
 
 
@@ -31,11 +30,6 @@ class Calls(NamedTuple):
 
     def numbers(self) -> List[int]:
         return [int(number) for number in NUMBER.findall(self.text)]
-
-
-def without_numbers(numbered: bytes) -> bytes:
-    """The rows of a schedule from the location on, of those from the number of the call on."""
-    return NUMBER_OF_CALL.sub(b"", numbered)
 
 
 def calls_by_schedule(table: Table) -> Iterator[Calls]:
