@@ -6,6 +6,7 @@ location, platform, arrival, departure, set down, pick up.
 from __future__ import annotations
 
 from bisect import bisect
+from functools import lru_cache
 from typing import Dict, Iterable, List, NamedTuple, Optional, Sequence, Set
 
 from cif_shared.dates import Dates
@@ -46,6 +47,7 @@ class Times(NamedTuple):
     departure: int
 
 
+@lru_cache(maxsize=None)
 def seconds_of(text: bytes) -> int:
     hours, minutes, seconds = text.split(b":")
     return int(hours) * HOUR + int(minutes) * 60 + int(seconds)

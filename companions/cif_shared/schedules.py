@@ -19,6 +19,11 @@ class Calls(NamedTuple):
     schedule: bytes
     text: bytes
 
+    def numbered(self) -> bytes:
+        """The rows from the number of the call on."""
+        start = self.schedule + b"\t"
+        return self.text[len(start) :].replace(b"\n" + start, b"\n")
+
     def rows(self) -> List[bytes]:
         """The rows from the location on."""
         return ROW.findall(self.text)

@@ -14,7 +14,7 @@ from typing import ContextManager, Optional, Sequence
 
 from cif_shared.arguments import add_cif, add_help, add_names, add_window, new_parser
 from cif_shared.cif import Cif, find_cif
-from cif_shared.csv_files import read_file
+from cif_shared.csv_files import CONTROL, read_file
 from cif_shared.endings import SUCCESS, Misused
 from cif_shared.files import BLOCK, new_files, output_path
 from cif_shared.operators import read_operators
@@ -23,6 +23,7 @@ from cif_shared.progress import Progress
 from cif_shared.running import run
 from cif_shared.tables import Extract, open_extract
 
+from .background import in_background
 from .loading import Source, UserFiles, load
 from .postgres import PostgresScript, check_schema
 from .sqlite_file import check_age, check_place, new_database
@@ -98,7 +99,7 @@ def digest_of(path: Path) -> str:
 
 def source_of(extract: Extract, name: str) -> Source:
     now = datetime.now(timezone.utc).isoformat(timespec="seconds")
-    shown = os.fsencode(name).decode(errors="replace")
+    shown = CONTROL.sub("?", os.fsencode(name).decode(errors="replace"))
     return Source(shown, digest_of(extract.path), version_of(extract.cif), now)
 
 
@@ -122,7 +123,8 @@ def make_file(asked: argparse.Namespace, progress: Progress) -> int:
             check_age(place, extract.header())
         source = source_of(extract, asked.extract)
         with new_files() as files:
-            with new_database(files, place) as database:
+            path = files.reserve(place)
+            with in_background(lambda: new_database(path, place)) as database:
                 load(extract, source, given, database, progress)
                 progress.show("building indexes")
             # it may have become another one meanwhile

@@ -1,6 +1,5 @@
 CREATE UNIQUE INDEX locations_tiploc ON locations (tiploc);
 CREATE INDEX locations_crs ON locations (crs);
-CREATE INDEX journeys_uid ON journeys (uid);
 CREATE INDEX calls_location ON calls (location);
 CREATE INDEX public_calls_location ON public_calls (location);
 CREATE INDEX changes_journey ON changes (journey, number);

@@ -4,9 +4,9 @@ from __future__ import annotations
 import re
 from contextlib import ExitStack
 from datetime import datetime, timedelta
-from functools import lru_cache
 from itertools import accumulate
-from typing import IO, Dict, Iterator, List, Mapping, NamedTuple, Optional, Sequence, Tuple
+from operator import itemgetter
+from typing import IO, Dict, Iterator, List, Mapping, NamedTuple, Optional, Tuple
 
 from cif_shared.csv_files import Key
 from cif_shared.dates import Window
@@ -18,7 +18,7 @@ from cif_shared.riders import is_for_riders
 from cif_shared.schedules import calls_by_schedule
 from cif_shared.tables import AssociationRow, Extract, Header, Table, TiplocRow
 
-from .schema import Database, Filler, Row, Value, value_of
+from .schema import Database, Filler, Row, rows_of
 
 DAY = 86400
 
@@ -52,24 +52,6 @@ def extracted_at(header: Header) -> Optional[str]:
     return moment.isoformat(timespec="minutes")
 
 
-# ---- values
-
-
-@lru_cache(maxsize=None)
-def seconds_by_clock(time: str) -> Optional[int]:
-    """A working time, HHMM or HHMMH, as seconds of the day."""
-    if not time:
-        return None
-    return int(time[:2]) * 3600 + int(time[2:4]) * 60 + (30 if time.endswith("H") else 0)
-
-
-@lru_cache(maxsize=None)
-def seconds_on(time: str) -> int:
-    """A time HH:MM:SS, which may go on past 24, as seconds."""
-    hours, minutes, seconds = time.split(":")
-    return int(hours) * 3600 + int(minutes) * 60 + int(seconds)
-
-
 # ---- places, associations, dates
 
 
@@ -79,28 +61,27 @@ def load_places(database: Database, rows: List[TiplocRow], places: Places) -> No
     for row in rows:
         name = row.tiploc.strip()
         tiploc, station = places.tiploc(name), places.station_name(name)
-        described = value_of(row.tps_description or row.description)
-        about = (value_of(tiploc.crs), station, described)
-        codes = (value_of(row.nalco), value_of(row.stanox))
+        about = (tiploc.crs, station, row.tps_description or row.description)
         at = places.coordinates(name)
-        locations.setdefault(row.tiploc, (value_of(row.tiploc), *about, *codes, *at))
+        locations.setdefault(row.tiploc, (row.tiploc, *about, row.nalco, row.stanox, *at))
         if tiploc.crs:
             stations.setdefault(tiploc.crs, (tiploc.crs, station, *at))
     names = "tiploc crs name description nlc stanox latitude longitude".split()
-    database.fill("locations", names, locations.values())
-    database.fill("stations", "crs name latitude longitude".split(), stations.values())
+    database.fill("locations", names, rows_of(locations.values()))
+    database.fill("stations", "crs name latitude longitude".split(), rows_of(stations.values()))
 
 
 def load_dates(database: Database, window: Window, midnights: int) -> None:
     """Fills the tables of dates. A train has calls after at most so many midnights."""
     days = [(day.isoformat(), day.isoweekday()) for day in window.days]
-    database.fill("days", ("date", "weekday"), days)
+    database.fill("days", ("date", "weekday"), rows_of(days))
     by_clock = [
         ((day + timedelta(days=later)).isoformat(), later, day.isoformat(), day.isoweekday())
         for day in window.days
         for later in range(midnights + 1)
     ]
-    database.fill("clock_days", "date midnights train_date weekday".split(), by_clock)
+    names = "date midnights train_date weekday".split()
+    database.fill("clock_days", names, rows_of(by_clock))
 
 
 class TrainsPerDay:
@@ -108,17 +89,18 @@ class TrainsPerDay:
 
     def __init__(self, window: Window) -> None:
         self.window = window
+        self.numbers = {day.isoformat(): number for number, day in enumerate(window.days)}
         # for each weekday and date, how many more trains run than a day before
-        self.changes: Dict[Tuple[Value, int], List[List[int]]] = {}
+        self.changes: Dict[Tuple[str, int], List[List[int]]] = {}
 
-    def add(self, key: Tuple[Value, int], first: str, last: str, days_run: str) -> None:
+    def add(self, key: Tuple[str, int], first: str, last: str, days_run: str) -> None:
         if key not in self.changes:
             self.changes[key] = [[0] * (len(self.window.days) + 1) for _ in range(7)]
-        start, end = (self.window.numbers[day.encode()] for day in (first, last))
+        start, end = self.numbers[first], self.numbers[last] + 1
         for changes, runs in zip(self.changes[key], days_run):
             if runs == "1":
                 changes[start] += 1
-                changes[end + 1] -= 1
+                changes[end] -= 1
 
     def rows(self) -> Iterator[Row]:
         for (operator, passenger), changes in self.changes.items():
@@ -163,48 +145,61 @@ class Follower:
         """The rows of a schedule without its number, or nothing."""
         if self.next is None or self.next.schedule != schedule:
             return b""
-        text = self.next.text
+        text = self.next.numbered()
         self.next = next(self.groups, None)
-        return without_number(schedule, text)
+        return text
 
 
-def without_number(schedule: bytes, text: bytes) -> bytes:
-    """Rows without the number of their schedule."""
-    start = schedule + b"\t"
-    return text[len(start) :].replace(b"\n" + start, b"\n")
+def with_number(number: int, text: bytes) -> bytes:
+    """Rows with the number of their journey."""
+    start = b"%d\t" % number
+    return start + text[:-1].replace(b"\n", b"\n" + start) + b"\n" if text else b""
 
 
-def cells_of(text: bytes) -> List[List[str]]:
-    return [line.split("\t") for line in text.decode().splitlines()]
+MOMENT = re.compile(rb"(?<=\t)([0-9]{2,}):([0-9]{2}):([0-9]{2})(?=\t)")
+
+
+class Moments(Dict[bytes, bytes]):
+    """The seconds of each moment HH:MM:SS that is met. Hours may go on past 24."""
+
+    def __missing__(self, moment: bytes) -> bytes:
+        hours, minutes, seconds = (int(part) for part in moment.split(b":"))
+        self[moment] = b"%d" % (hours * 3600 + minutes * 60 + seconds)
+        return self[moment]
+
+    def in_seconds(self, text: bytes) -> bytes:
+        """A text with all its moments in seconds."""
+        return MOMENT.sub(lambda found: self[found[0]], text)
+
+    def midnights(self) -> int:
+        """How many midnights are before the last moment."""
+        return max((int(seconds) // DAY for seconds in self.values()), default=0)
 
 
 class Journey(NamedTuple):
-    """What schedules with one journey share."""
+    """What schedules with one journey share: its number, how many public calls it has, and then its
+    origin, its departure, its destination and its arrival as they stand."""
 
     number: int
-    ends: Tuple[Value, Value, Value, Value]
     public_calls: int
+    ends: str
 
 
 class Journeys:
     """Fills the tables of journeys, each journey of a UID once."""
 
-    TABLES = ("journeys", "calls", "public_calls", "changes")
-
     def __init__(self, database: Database, calls: List[str], public: List[str], changes: List[str]):
-        self.fillers = {name: Filler(database, name) for name in self.TABLES}
-        self.fillers["journeys"].names = ("id", "uid")
-        seconds = ["arrival_seconds", "departure_seconds"]
-        self.fillers["calls"].names = in_database(calls) + seconds + ["pass_seconds"]
-        self.fillers["public_calls"].names = in_database(public) + seconds
-        self.fillers["changes"].names = in_database(changes)
-        self.times = [calls.index(name) - 1 for name in ("arrival", "departure", "pass")]
-        self.location = calls.index("location") - 1
-        self.public_times = [public.index(name) - 1 for name in ("arrival", "departure")]
+        self.journeys = Filler(database, "journeys", ("id", "uid"))
+        self.calls = Filler(database, "calls", in_database(calls))
+        self.changes = Filler(database, "changes", in_database(changes))
+        names = [IN_SECONDS.get(name, name) for name in in_database(public)]
+        self.public_calls = Filler(database, "public_calls", names)
+        self.moments = Moments()
+        self.origin = itemgetter(*(calls.index(name) - 1 for name in ("location", "departure")))
+        self.destination = itemgetter(*(calls.index(name) - 1 for name in ("location", "arrival")))
         self.uid = ""
         self.of_uid: Dict[Tuple[bytes, bytes], Journey] = {}
         self.count = 0
-        self.midnights = 0
 
     def journey(self, uid: str, calls: bytes, public: bytes, changes: bytes) -> Journey:
         """The journey with these rows, which is added if it is new. Schedules come UID by UID."""
@@ -218,36 +213,26 @@ class Journeys:
 
     def add(self, calls: bytes, public: bytes, changes: bytes) -> Journey:
         self.count += 1
-        self.fillers["journeys"].add((self.count, self.uid))
-        rows = cells_of(calls)
-        for cells in rows:
-            seconds = [seconds_by_clock(cells[at]) for at in self.times]
-            self.add_row("calls", cells, seconds)
-        public_rows = cells_of(public)
-        for cells in public_rows:
-            moments = [seconds_on(cells[at]) for at in self.public_times]
-            self.midnights = max(self.midnights, moments[-1] // DAY)
-            self.add_row("public_calls", cells, moments)
-        for cells in cells_of(changes):
-            self.add_row("changes", cells, [])
-        return Journey(self.count, self.ends_of(rows), len(public_rows))
+        self.journeys.add(f"{self.count}\t{self.uid}\n".encode())
+        self.calls.add(with_number(self.count, calls))
+        self.public_calls.add(with_number(self.count, self.moments.in_seconds(public)))
+        self.changes.add(with_number(self.count, changes))
+        return Journey(self.count, public.count(b"\n"), self.ends_of(calls))
 
-    def add_row(self, table: str, cells: List[str], seconds: Sequence[Optional[int]]) -> None:
-        self.fillers[table].add((self.count, *(cell or None for cell in cells), *seconds))
-
-    def ends_of(self, rows: List[List[str]]) -> Tuple[Value, Value, Value, Value]:
-        """The origin, its departure, the destination, and its arrival."""
-        first, last = rows[0], rows[-1]
-        arrival, departure, _ = self.times
-        origin, destination = value_of(first[self.location]), value_of(last[self.location])
-        return origin, value_of(first[departure]), destination, value_of(last[arrival])
+    def ends_of(self, calls: bytes) -> str:
+        first = calls[: calls.index(b"\n")].decode().split("\t")
+        last = calls[calls.rfind(b"\n", 0, -1) + 1 : -1].decode().split("\t")
+        return "\t".join((*self.origin(first), *self.destination(last)))
 
     def flush(self) -> None:
-        for filler in self.fillers.values():
+        for filler in self.journeys, self.calls, self.public_calls, self.changes:
             filler.flush()
 
 
 NAMES = {"operator_code": "operator", "schedule": "journey", "call": "number"}
+IN_SECONDS = {"arrival": "arrival_seconds", "departure": "departure_seconds"}
+# What `schedules` has besides the fields of the table.
+FURTHER = "operator_name passenger journey origin departure destination arrival".split()
 
 
 def in_database(names: List[str]) -> List[str]:
@@ -258,51 +243,60 @@ def in_database(names: List[str]) -> List[str]:
 # ---- schedules
 
 
-class Loading:
-    """Loads the schedules of an extract and their journeys."""
+class Schedules:
+    """Fills the table of schedules, and counts trains."""
 
-    def __init__(self, database: Database, window: Window, given: UserFiles) -> None:
-        self.database = database
+    KEY = ("operator_code", "status", "category", "first_date", "last_date", "days_run")
+
+    def __init__(
+        self, database: Database, window: Window, given: UserFiles, names: List[str]
+    ) -> None:
         self.given = given
         self.per_day = TrainsPerDay(window)
-        self.schedules = Filler(database, "schedules")
-        self.midnights = 0
+        self.names_of: Dict[str, str] = {"": ""}
+        self.schedules = Filler(database, "schedules", ["id", *in_database(names[1:]), *FURTHER])
+        self.key = itemgetter(*(names.index(name) for name in self.KEY))
 
-    def load(self, extract: Extract, progress: Progress) -> None:
-        with ExitStack() as stack:
-            schedules = spooled(extract, "schedules", stack)
-            changes = spooled(extract, "changes", stack)
-            public = spooled(extract, "public", stack)
-            count = sum(1 for _ in schedules.table().lines)
-            further = "operator_name passenger journey origin departure destination arrival".split()
-            self.schedules.names = ["id", *in_database(schedules.names[1:]), *further]
-            with extract.table("calls") as calls:
-                journeys = Journeys(self.database, calls.names, public.names, changes.names)
-                riders, en_route = Follower(public.table()), Follower(changes.table())
-                for line, group in zip(schedules.table().lines, calls_by_schedule(calls)):
-                    number = group.schedule
-                    cells = line.decode().rstrip("\n").split("\t")
-                    assert cells[0].encode() == number, "each schedule has calls"
-                    rows = without_number(number, group.text)
-                    taken = riders.take(number), en_route.take(number)
-                    journey = journeys.journey(cells[1], rows, *taken)
-                    self.add(dict(zip(schedules.names, cells)), cells, journey)
-                    progress.show_share("loading trains", int(number), count)
-            journeys.flush()
-            self.schedules.flush()
-            self.midnights = journeys.midnights
-        names = "date operator passenger trains".split()
-        self.database.fill("trains_per_day", names, self.per_day.rows())
+    def operator_name(self, code: str) -> str:
+        if code not in self.names_of:
+            self.names_of[code] = operator_name(code, self.given.operators)
+        return self.names_of[code]
 
-    def add(self, fields: Mapping[str, str], cells: List[str], journey: Journey) -> None:
-        code = fields["operator_code"]
-        riders = is_for_riders(fields["status"], fields["category"])
-        passenger = int(riders and journey.public_calls >= 2)
-        name = operator_name(code, self.given.operators) if code else None
-        further = (name, passenger, journey.number, *journey.ends)
-        self.schedules.add((int(cells[0]), *(cell or None for cell in cells[1:]), *further))
-        dates = (fields["first_date"], fields["last_date"], fields["days_run"])
-        self.per_day.add((value_of(code), passenger), *dates)
+    def add(self, line: str, cells: List[str], journey: Journey) -> None:
+        operator, status, category, *dates = self.key(cells)
+        passenger = int(journey.public_calls >= 2 and is_for_riders(status, category))
+        further = f"{self.operator_name(operator)}\t{passenger}\t{journey.number}\t{journey.ends}"
+        self.schedules.add(f"{line}\t{further}\n".encode())
+        self.per_day.add((operator, passenger), *dates)
+
+
+def load_trains(
+    database: Database, window: Window, extract: Extract, given: UserFiles, progress: Progress
+) -> int:
+    """Loads the schedules of an extract and their journeys. Returns how many midnights there are
+    within a train at most."""
+    with ExitStack() as stack:
+        spooled_schedules = spooled(extract, "schedules", stack)
+        changes = spooled(extract, "changes", stack)
+        public = spooled(extract, "public", stack)
+        count = sum(1 for _ in spooled_schedules.table().lines)
+        schedules = Schedules(database, window, given, spooled_schedules.names)
+        with extract.table("calls") as calls:
+            journeys = Journeys(database, calls.names, public.names, changes.names)
+            riders, en_route = Follower(public.table()), Follower(changes.table())
+            for row, group in zip(spooled_schedules.table().lines, calls_by_schedule(calls)):
+                number = group.schedule
+                assert row.startswith(number + b"\t"), "each schedule has calls"
+                line = row.decode().rstrip("\n")
+                cells = line.split("\t")
+                taken = riders.take(number), en_route.take(number)
+                schedules.add(line, cells, journeys.journey(cells[1], group.numbered(), *taken))
+                progress.show_share("loading trains", int(number), count)
+    journeys.flush()
+    schedules.schedules.flush()
+    names = "date operator passenger trains".split()
+    database.fill("trains_per_day", names, rows_of(schedules.per_day.rows()))
+    return journeys.moments.midnights()
 
 
 def load(
@@ -312,14 +306,11 @@ def load(
     progress.show("reading trains and associations")
     header = extract.header()
     window = Window(header.first_date, header.last_date)
-    about = [*map(value_of, header), extracted_at(header), *source]
+    about = [*header, extracted_at(header), *source]
     names = (*Header._fields, "extracted_at", *Source._fields)
-    database.fill("extract", names, [about])
+    database.fill("extract", names, rows_of([about]))
     tiplocs = extract.rows("tiplocs", TiplocRow)
     load_places(database, tiplocs, Places(tiplocs, given.places))
     associations = extract.rows("associations", AssociationRow)
-    rows = (tuple(map(value_of, row)) for row in associations)
-    database.fill("associations", AssociationRow._fields, rows)
-    loading = Loading(database, window, given)
-    loading.load(extract, progress)
-    load_dates(database, window, loading.midnights)
+    database.fill("associations", AssociationRow._fields, rows_of(associations))
+    load_dates(database, window, load_trains(database, window, extract, given, progress))

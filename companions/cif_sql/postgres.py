@@ -4,28 +4,22 @@ from __future__ import annotations
 import re
 import shutil
 from contextlib import ExitStack
-from typing import IO, Dict, Iterable, NamedTuple, Sequence
+from typing import IO, Dict, NamedTuple, Sequence
 
 from cif_shared.endings import Misused
 from cif_shared.files import BLOCK, scratch_file
 from cif_shared.tables import Header
 
 from .loading import extracted_at
-from .schema import Database, Row, Value, sql
+from .schema import Database, sql
 
 # Names that are the same in double quotes and without, and with `_new` have at most 63 letters.
 SCHEMA = re.compile("[a-z_][a-z0-9_]{0,58}")
-ESCAPED = str.maketrans({"\\": "\\\\", "\t": "\\t", "\n": "\\n", "\r": "\\r"})
 
 
 def check_schema(name: str) -> None:
     if not SCHEMA.fullmatch(name):
         raise Misused(f"the schema `{name}` has to be of small letters, digits and `_`")
-
-
-def cell_of(value: Value) -> str:
-    """A value as COPY reads it."""
-    return "\\N" if value is None else str(value).translate(ESCAPED)
 
 
 class Copied(NamedTuple):
@@ -43,11 +37,10 @@ class PostgresScript(Database):
         self.stack = stack
         self.tables: Dict[str, Copied] = {}
 
-    def fill(self, table: str, names: Sequence[str], rows: Iterable[Row]) -> None:
+    def fill(self, table: str, names: Sequence[str], rows: bytes) -> None:
         if table not in self.tables:
             self.tables[table] = Copied(names, self.stack.enter_context(scratch_file()))
-        lines = ("\t".join(map(cell_of, row)) + "\n" for row in rows)
-        self.tables[table].file.write("".join(lines).encode())
+        self.tables[table].file.write(rows.replace(b"\\", b"\\\\"))
 
     def write(self, output: IO[bytes], schema: str, header: Header, force: bool) -> None:
         """Writes the script."""
@@ -59,14 +52,14 @@ class PostgresScript(Database):
             output.write(re.sub("@([A-Z]+)@", lambda found: words[found[1]], text).encode())
 
         add(sql("begin") + sql("check") + sql("create"))
-        # only SQLite has tables of this sort
-        add(sql("tables").replace(" WITHOUT ROWID", ""))
+        # only SQLite has tables without numbers of rows, and makes columns of others as they are read
+        add(sql("tables").replace(" WITHOUT ROWID", "").replace(" VIRTUAL", " STORED"))
         for table, copied in self.tables.items():
-            add(f"COPY {table} ({', '.join(copied.names)}) FROM STDIN;\n")
+            add(f"COPY {table} ({', '.join(copied.names)}) FROM STDIN (NULL '');\n")
             copied.file.seek(0)
             shutil.copyfileobj(copied.file, output, BLOCK)
             add("\\.\n")
-        add(sql("indexes") + sql("views"))
+        add(sql("indexes") + sql("cluster") + sql("views"))
         add("".join(f"ANALYZE {table};\n" for table in self.tables))
         add("BEGIN;\n" + sql("check") + sql("finish"))
         output.flush()

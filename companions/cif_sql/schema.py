@@ -2,7 +2,7 @@
 from __future__ import annotations
 
 from pathlib import Path
-from typing import Iterable, List, Optional, Sequence, Union
+from typing import Iterable, List, Sequence, Union
 
 HERE = Path(__file__).resolve().parent
 
@@ -16,9 +16,10 @@ def sql(name: str) -> str:
 
 
 class Database:
-    """A database that is filled."""
+    """A database that is filled. Rows are a text, one a line, whose cells are between tabs, as `cif`
+    writes them. An empty cell has no value."""
 
-    def fill(self, table: str, names: Sequence[str], rows: Iterable[Row]) -> None:
+    def fill(self, table: str, names: Sequence[str], rows: bytes) -> None:
         """Adds rows to a table, with values for the columns of these names."""
         raise NotImplementedError
 
@@ -26,24 +27,29 @@ class Database:
 class Filler:
     """Collects rows of a table, and adds many at once."""
 
-    MOST = 20000
+    MOST_BYTES = 1 << 20
 
-    def __init__(self, database: Database, table: str) -> None:
+    def __init__(self, database: Database, table: str, names: Sequence[str]) -> None:
         self.database = database
         self.table = table
-        self.names: Sequence[str] = ()
-        self.rows: List[Row] = []
+        self.names = names
+        self.texts: List[bytes] = []
+        self.size = 0
 
-    def add(self, row: Row) -> None:
-        self.rows.append(row)
-        if len(self.rows) == self.MOST:
+    def add(self, rows: bytes) -> None:
+        self.texts.append(rows)
+        self.size += len(rows)
+        if self.size >= self.MOST_BYTES:
             self.flush()
 
     def flush(self) -> None:
-        self.database.fill(self.table, self.names, self.rows)
-        self.rows.clear()
+        if self.size:
+            self.database.fill(self.table, self.names, b"".join(self.texts))
+        self.texts.clear()
+        self.size = 0
 
 
-def value_of(text: Optional[str]) -> Value:
-    """The value of a field: NULL if it is empty."""
-    return text or None
+def rows_of(values: Iterable[Row]) -> bytes:
+    """The text of rows with these values, none of which has a tab or a line break."""
+    lines = ("\t".join("" if value is None else str(value) for value in row) for row in values)
+    return "".join(line + "\n" for line in lines).encode()

@@ -4,21 +4,27 @@ from __future__ import annotations
 import sqlite3
 from contextlib import closing, contextmanager
 from pathlib import Path
-from typing import Iterable, Iterator, Optional, Sequence, Tuple
+from tempfile import NamedTemporaryFile
+from typing import Iterator, Optional, Sequence, Tuple
 from urllib.parse import quote
 
 from cif_shared.endings import Failed, Refused
-from cif_shared.files import NewFiles
 from cif_shared.tables import Header
 
 from .loading import extracted_at
-from .schema import Database, Row, sql
+from .schema import Database, sql
 
 # SQLite's number for the program that a file is of: "cif1", the 1 for the layout of its tables.
 APPLICATION = 0x63696631
 # Where the number stands, behind the name of the format.
 MAGIC = b"SQLite format 3\0"
 PLACE = slice(68, 72)
+
+# A value of a row. This is much faster than to look for empty ones in Python.
+CELL = "nullif(?, '')"
+# Several rows are added by one statement, since each statement costs as much as some rows. Older releases of SQLite take 999 values.
+MOST_ROWS = 8
+MOST_CELLS = 999
 
 # The moment of an extract, then its window. One without a moment is older than all others.
 Age = Tuple[str, str, str]
@@ -75,26 +81,45 @@ class SqliteFile(Database):
     def __init__(self, connection: sqlite3.Connection) -> None:
         self.connection = connection
 
-    def fill(self, table: str, names: Sequence[str], rows: Iterable[Row]) -> None:
-        marks = ", ".join("?" * len(names))
-        insert = f"INSERT INTO {table} ({', '.join(names)}) VALUES ({marks})"
-        self.connection.executemany(insert, rows)
+    def fill(self, table: str, names: Sequence[str], rows: bytes) -> None:
+        cells = rows.decode().replace("\n", "\t").split("\t")
+        cells.pop()
+        width = len(names)
+        row = f"({', '.join([CELL] * width)})"
+        start = f"INSERT INTO {table} ({', '.join(names)}) VALUES "
+        most = min(MOST_ROWS, MOST_CELLS // width)
+        rest = len(cells) - len(cells) % (width * most)
+        for first, last, count in (0, rest, most), (rest, len(cells), 1):
+            size = width * count
+            groups = (cells[at : at + size] for at in range(first, last, size))
+            self.connection.executemany(start + ", ".join([row] * count), groups)
 
 
 @contextmanager
-def new_database(files: NewFiles, place: Path) -> Iterator[SqliteFile]:
-    """A database that is written beside its place. Its indexes and views are made at the end."""
-    path = files.reserve(place)
+def opened(path: Path) -> Iterator[sqlite3.Connection]:
+    """A connection to a new file. Nobody reads it before it is complete, and if the run fails it is
+    removed, so it needs no journal."""
+    with closing(sqlite3.connect(str(path), isolation_level=None)) as connection:
+        connection.execute("PRAGMA journal_mode = OFF")
+        connection.execute("PRAGMA synchronous = OFF")
+        yield connection
+
+
+@contextmanager
+def new_database(path: Path, place: Path) -> Iterator[SqliteFile]:
+    """A database in an empty file, which is for a place. First its tables are filled in another
+    file. From there they are copied with all pages full, and then its indexes and views are made.
+    """
     try:
-        with closing(sqlite3.connect(str(path), isolation_level=None)) as connection:
-            # nobody reads this file before it is complete, and if the run fails it is removed
-            connection.execute("PRAGMA journal_mode = OFF")
-            connection.execute("PRAGMA synchronous = OFF")
-            connection.execute(f"PRAGMA application_id = {APPLICATION}")
-            connection.executescript(sql("tables"))
-            connection.execute("BEGIN")
-            yield SqliteFile(connection)
-            connection.execute("COMMIT")
+        with NamedTemporaryFile(dir=path.parent, prefix=f"{path.name}.") as tables:
+            with opened(Path(tables.name)) as connection:
+                connection.execute(f"PRAGMA application_id = {APPLICATION}")
+                connection.executescript(sql("tables"))
+                connection.execute("BEGIN")
+                yield SqliteFile(connection)
+                connection.execute("COMMIT")
+                connection.execute("VACUUM INTO ?", (str(path),))
+        with opened(path) as connection:
             connection.executescript(sql("indexes") + sql("views"))
             connection.execute("ANALYZE")
     except sqlite3.OperationalError as problem:

@@ -1,5 +1,6 @@
 """What is refused, that the old database stays whole then, and that readers have the old one or the new one."""
 import hashlib
+import os
 import resource
 import signal
 import sqlite3
@@ -17,6 +18,9 @@ from .checks import Maker, sqlite_rows
 EARLIER = ("0401262130", "0401262030")
 LATER_WINDOW = ("FA050126110126", "FA060126110126")
 NO_MOMENT = ("0401262130", "9999999999")
+# The extract of a database, and how many trains run on all dates.
+TRAINS = "SELECT current_reference, count(*) FROM extract, runs GROUP BY 1"
+KILLS = 12
 
 
 def left(maker):
@@ -135,10 +139,14 @@ def check_failures(counts, maker, special):
         refused(counts, failing, f"cif fails at {table}", 4, "cif: Memory", *kept, special)
     (maker.folder / "failing-cif").unlink()
 
-    def little_space():
-        resource.setrlimit(resource.RLIMIT_FSIZE, (60000, 60000))
+    size = (maker.folder / "kept.db").stat().st_size
+    for most in 4096, size // 2, size - 1:
 
-    refused(counts, maker, "no space", 4, "kept.db: ", *kept, special, preexec_fn=little_space)
+        def little_space(most=most):
+            resource.setrlimit(resource.RLIMIT_FSIZE, (most, most))
+
+        name = f"space for {most} bytes of {size}"
+        refused(counts, maker, name, 4, "kept.db: ", *kept, special, preexec_fn=little_space)
 
 
 def check_signals(counts, maker, special):
@@ -172,6 +180,38 @@ def check_signals(counts, maker, special):
     (maker.folder / "failing-cif").unlink()
 
 
+def check_kills(counts, maker, special):
+    """Killed at any moment, with the process that writes, it leaves the old database or the new one, whole."""
+    first = changed(maker, special, "first.cif", ("DFTEST1", "DFTESTA"))
+    extracts = {"DFTESTA": first, "DFTEST1": special}
+    words = [COMPANIONS / "cif-sql", "--cif", maker.cif, "--force", "-o", "kept.db"]
+    start = time.monotonic()
+    maker.run(*words[3:], special)
+    whole = time.monotonic() - start
+    there, seen = "DFTEST1", set()
+    for number in range(KILLS):
+        other = next(name for name in extracts if name != there)
+        with subprocess.Popen(
+            [*words, extracts[other]],
+            cwd=maker.folder,
+            stderr=subprocess.DEVNULL,
+            start_new_session=True,
+        ) as process:
+            time.sleep(whole * (number + 1) / KILLS)
+            os.killpg(process.pid, signal.SIGKILL)
+        [(reference, trains)] = sqlite_rows(maker.folder / "kept.db", TRAINS)
+        [(state,)] = sqlite_rows(maker.folder / "kept.db", "PRAGMA integrity_check")
+        counts.same(f"kill {number}, trains", ("20", "ok"), (trains, state))
+        counts.test(f"kill {number}, the extract", reference in extracts, reference)
+        seen.add(reference == there)
+        there = reference
+    # the first kill comes long before the end
+    counts.test("kills come before the end", True in seen, seen)
+    for path in maker.folder.glob(".kept.db.*"):
+        path.unlink()
+    maker.run(*words[3:], special)
+
+
 def check_readers(counts, maker, special):
     """A reader that polls while a database is replaced sees the old one or the new one, and never an error."""
     first = changed(maker, special, "first.cif", ("DFTEST1", "DFTESTA"))
@@ -182,8 +222,7 @@ def check_readers(counts, maker, special):
     def poll():
         while not done.is_set():
             try:
-                query = "SELECT current_reference, count(*) FROM extract, runs GROUP BY 1"
-                seen.update(sqlite_rows(path, query))
+                seen.update(sqlite_rows(path, TRAINS))
             except sqlite3.Error as problem:
                 seen.add(str(problem))
 
@@ -209,4 +248,5 @@ def check(counts, maker, special):
     check_replacement(counts, maker, special)
     check_failures(counts, maker, special)
     check_signals(counts, maker, special)
+    check_kills(counts, maker, special)
     check_readers(counts, maker, special)

@@ -147,10 +147,24 @@ def check_transactions(counts, maker, special):
     )
 
 
+def check_words(counts):
+    """No table or column has a word of PostgreSQL's for its name."""
+    query = (
+        "SELECT DISTINCT word FROM pg_get_keywords() JOIN information_schema.columns ON word IN (table_name, column_name)"
+        " WHERE table_schema = 'cif' AND catcode = 'R'"
+    )
+    counts.same("names that are words of PostgreSQL", [], rows_of(query))
+    [(count,)] = rows_of(
+        "SELECT count(*) > 100 FROM information_schema.columns WHERE table_schema = 'cif'"
+    )
+    counts.same("there are columns", "t", count)
+
+
 def check(counts, maker, special):
     counts.same("special.cif for psql", 0, load(maker, "--force", special).returncode)
     queries = {name: query for name, query in by_hand.QUERIES.items() if "typeof" not in query[0]}
     by_hand.check_queries(counts, queries, rows_of, "PostgreSQL")
+    check_words(counts)
     check_replacement(counts, maker, special)
     check_misuse(counts, maker, special)
     check_readers(counts, maker, special)

@@ -13,7 +13,7 @@ sys.path[:1] = [str(HERE.parent), str(TOP / "companions")]
 
 from gtfs import generated
 from gtfs.checks import Counts, Source
-from sql import by_hand, failures, postgres, words
+from sql import by_hand, documents, failures, postgres, words
 from sql.checks import Maker, check_database, sqlite_rows
 from sql.definition import Expected
 
@@ -37,6 +37,8 @@ def main():
         by_hand.check(counts, maker, special)
         if "PGHOST" in os.environ:
             postgres.check(counts, maker, special)
+            documents.check_questions(counts, maker)
+        documents.check_job(counts, cif, folder / "nights")
         failures.check(counts, maker, special)
         words.check(counts)
     skipped = "" if "PGHOST" in os.environ else ", 1 skipped"
