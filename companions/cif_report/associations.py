@@ -62,9 +62,7 @@ def changes_of(key: Key, sides: Sides) -> Iterator[AssociationChange]:
         dates[terms] = dates.get(terms, 0) | part.dates
     base, associated = (uid.decode("ascii", "replace") for uid in key[:2])
     for (category, kind, text), of_change in dates.items():
-        yield AssociationChange(
-            base, associated, text_of(key[2]), category, kind, text, of_change
-        )
+        yield AssociationChange(base, associated, text_of(key[2]), category, kind, text, of_change)
 
 
 def terms_of(part: Part) -> Tuple[str, str, str]:

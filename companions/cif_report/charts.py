@@ -77,7 +77,8 @@ def place_of(number: float, count: int) -> float:
     return round(100 * number / count, 2)
 
 
-def label(text: str, left: float, where: str) -> Markup:
+def label(text: str, left: float, above: bool) -> Markup:
+    where = "up" if above else "down"
     side = "start" if left < NEAR_EDGE else "end" if left > 100 - NEAR_EDGE else "middle"
     return Markup(f'<span class="label {where} {side}" style="left:{left:g}%">{text}</span>')
 
@@ -115,12 +116,13 @@ def tick_days(days: Sequence[date]) -> List[Tuple[int, str]]:
         if day.day == 1
     ]
     years = [
-        (number, str(day.year))
-        for number, day in enumerate(days)
-        if (day.month, day.day) == (1, 1)
+        (number, str(day.year)) for number, day in enumerate(days) if (day.month, day.day) == (1, 1)
     ]
     if len(days) < 7:
-        return [(number, f"{day.day} {MONTH_NAMES[day.month - 1][:3]}") for number, day in enumerate(days)]
+        return [
+            (number, f"{day.day} {MONTH_NAMES[day.month - 1][:3]}")
+            for number, day in enumerate(days)
+        ]
     for ticks in mondays, months, years:
         if 0 < len(ticks) <= MOST_TICKS:
             return ticks
@@ -142,7 +144,7 @@ def axis(days: Sequence[date]) -> Markup:
 def extremes(series: Series, calendar: Calendar) -> List[Tuple[int, str]]:
     """The first date with the most trains more, and the first with the most fewer, each with its
     label."""
-    found = []
+    found: List[Tuple[int, str]] = []
     for most in max(series.differences), min(series.differences):
         if most and most not in [series.differences[number] for number, _ in found]:
             number = series.differences.index(most)
@@ -167,7 +169,7 @@ def chart(code: str, name: str, series: Series, calendar: Calendar, small: bool)
     scale = HEIGHT / max(up + down, 1)
     zero = round(up * scale) if up + down else HEIGHT // 2
     labels = [
-        label(text, place_of(number + 0.5, count), "up" if series.differences[number] > 0 else "down")
+        label(text, place_of(number + 0.5, count), series.differences[number] > 0)
         for number, text in extremes(series, calendar)
     ]
     return fill(

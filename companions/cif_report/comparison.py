@@ -122,8 +122,8 @@ class Reading:
     def __init__(self, names: Names) -> None:
         self.names = names
         self.drafts: Dict[bytes, Draft] = {}
-        # equal sets of dates, phrases and faces are kept once
-        self.once: Dict[object, object] = {}
+        # equal faces are kept once
+        self.faces: Dict[Face, Face] = {}
 
     def add(self, uid: bytes, sides: Sides) -> None:
         parts = sides.parts()
@@ -136,7 +136,7 @@ class Reading:
 
         shown = [said for part in parts for said in part.new] or list(parts[0].old)
         face = face_of(read(shown[0]))
-        draft = self.drafts[uid] = Draft(self.once.setdefault(face, face))  # type: ignore
+        draft = self.drafts[uid] = Draft(self.faces.setdefault(face, face))
         for part in parts:
             if part.old and part.new:
                 [old], [new] = part.old, part.new
@@ -170,7 +170,9 @@ class Reading:
         own = f": UID {other.decode().strip()} for {uid.decode().strip()}"
         old, new = (body_of(copy.text(each.place)) for each in (lost, got))
         more = phrases_of(old, new, self.names) if old != new else ()
-        return Change((Phrase(NUMBERS, "renumbered", own), *more), lost.dates, lost.place, got.place)
+        return Change(
+            (Phrase(NUMBERS, "renumbered", own), *more), lost.dates, lost.place, got.place
+        )
 
     def trains(self, old: Schedules, new: Schedules) -> List[Train]:
         return [

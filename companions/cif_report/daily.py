@@ -15,6 +15,7 @@ MOST_BYTES = 1_000_000
 MOST_DATES = 4000
 MOST_MONTHS = 36
 LEVELS = 4
+NO_CELL = Markup("<td></td>")
 
 
 # ---- trains a day
@@ -24,9 +25,7 @@ def series_of(report: Report) -> Dict[str, Series]:
     """Those of each operator that has trains."""
     none = [0] * len(report.comparison.window.days)
     old, new = report.comparison.old.trains_per_day, report.comparison.new.trains_per_day
-    return {
-        code: Series(old.get(code, none), new.get(code, none)) for code in sorted({*old, *new})
-    }
+    return {code: Series(old.get(code, none), new.get(code, none)) for code in sorted({*old, *new})}
 
 
 def total_of(report: Report) -> Series:
@@ -117,7 +116,7 @@ def months_of(days: Sequence[date]) -> Iterator[Tuple[int, int]]:
 def cell_of(report: Report, day: date) -> Markup:
     number = report.comparison.window.numbers.get(day.isoformat().encode())
     if number is None:
-        return Markup("<td></td>")
+        return NO_CELL
     count = report.numbers.of_date[number]
     level = level_of(count, max(report.numbers.of_date))
     if not count:
@@ -137,12 +136,11 @@ def month_of(report: Report, year: int, month: int) -> Markup:
     day = first - timedelta(days=first.weekday())
     weeks = []
     while (day.year, day.month) <= (year, month):
-        cells = []
-        for _ in range(7):
-            inside = (day.year, day.month) == (year, month)
-            cells.append(cell_of(report, day) if inside else Markup("<td></td>"))
-            day += timedelta(days=1)
-        weeks.append(Markup(f"<tr>{joined(cells)}</tr>"))
+        week = [day + timedelta(days=number) for number in range(7)]
+        cells = [cell_of(report, each) if each.month == month else NO_CELL for each in week]
+        if any(cell != NO_CELL for cell in cells):
+            weeks.append(Markup(f"<tr>{joined(cells)}</tr>"))
+        day += timedelta(days=7)
     return fill("month", name=f"{MONTH_NAMES[month - 1]} {year}", weeks=lines(weeks))
 
 

@@ -2,7 +2,7 @@
 from __future__ import annotations
 
 from datetime import date, timedelta
-from typing import Iterator, List, NamedTuple, Sequence
+from typing import Iterator, List, NamedTuple, Optional, Sequence
 
 from cif_shared.dates import Dates, Window, between, count_of, numbers_of
 
@@ -52,7 +52,7 @@ class Calendar:
         year = f" {day.year}" if with_year else self.year(day)
         return f"{short_weekday(day)} {day.day} {MONTH_NAMES[day.month - 1]}{year}"
 
-    def date(self, day: date, with_year: bool = False) -> str:
+    def day_month(self, day: date, with_year: bool = False) -> str:
         """Such as `6 June`."""
         year = f" {day.year}" if with_year else self.year(day)
         return f"{day.day} {MONTH_NAMES[day.month - 1]}{year}"
@@ -60,16 +60,17 @@ class Calendar:
     def period(self, first: date, last: date) -> str:
         """Such as `1 to 12 June`."""
         if (first.year, first.month) == (last.year, last.month):
-            return f"{first.day} to {self.date(last)}"
-        return f"{self.date(first)} to {self.date(last)}"
+            return f"{first.day} to {self.day_month(last)}"
+        return f"{self.day_month(first)} to {self.day_month(last)}"
 
-    def list(self, days: Sequence[date], weekdays: bool) -> str:
+    def listed_days(self, days: Sequence[date], weekdays: bool) -> str:
         """Such as `Sat 6, Sun 7 and Sat 13 June`: the month stands behind its last date."""
         words = []
-        for day, following in zip(days, [*days[1:], None]):
+        following_days: List[Optional[date]] = [*days[1:], None]
+        for day, following in zip(days, following_days):
             month = following is None or (day.year, day.month) != (following.year, following.month)
             word = f"{short_weekday(day)} " if weekdays else ""
-            words.append(word + (self.date(day) if month else str(day.day)))
+            words.append(word + (self.day_month(day) if month else str(day.day)))
         return listed(words)
 
     def words(self, dates: Dates) -> str:
@@ -80,7 +81,7 @@ class Calendar:
         if count > 2 and (last - first).days == count - 1 and count < 7:
             return f"from {short_weekday(first)} {first.day}{self.month_unlike(first, last)} to {self.day(last)}"
         if count <= MOST_LISTED:
-            return f"on {self.list(days, True)}"
+            return f"on {self.listed_days(days, True)}"
         weekdays = sum(1 << day for day in {day.weekday() for day in days})
         possible = self.of_weekdays(weekdays)
         start, end = (self.window.numbers[day.isoformat().encode()] for day in (first, last))
@@ -91,7 +92,7 @@ class Calendar:
         text = weekday_words(weekdays) + self.bounds(possible, dates, first, last)
         if exceptions:
             left_out = [self.window.days[number] for number in numbers_of(lacking)]
-            text += f", but not on {self.list(left_out, False)}"
+            text += f", but not on {self.listed_days(left_out, False)}"
         return text
 
     def month_unlike(self, first: date, last: date) -> str:
@@ -109,9 +110,9 @@ class Calendar:
         if begins and ends:
             return ""
         if ends:
-            return f" from {self.date(first)} on"
+            return f" from {self.day_month(first)} on"
         if begins:
-            return f" until {self.date(last)}"
+            return f" until {self.day_month(last)}"
         return f" from {self.period(first, last)}"
 
     def spans(self, dates: Dates) -> List[Span]:

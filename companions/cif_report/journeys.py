@@ -73,9 +73,18 @@ def half_minutes(time: bytes) -> Optional[int]:
 
 
 def origin_of(line: bytes) -> Call:
-    place, suffix, leaves, public, platform, track, engineering, pathing, codes, performance = (
-        ORIGIN.unpack(line)
-    )
+    (
+        place,
+        suffix,
+        leaves,
+        public,
+        platform,
+        track,
+        engineering,
+        pathing,
+        codes,
+        performance,
+    ) = ORIGIN.unpack(line)
     times = (b"", leaves, b"", b"", public)
     return Call(
         place, suffix, *times, platform, track, b"", codes, engineering, pathing, performance

@@ -93,8 +93,8 @@ def open_pair(cif: Cif, asked: Asked) -> Iterator[Pair]:
         old, new = (stack.enter_context(open_extract(cif, name)) for name in (asked.old, asked.new))
         headers = old.header(), new.header()
         window = common_window(cif, old, new, asked)
-        sides = [
+        before, after = (
             Side(extract, name, header, extract.rows("tiplocs", TiplocRow))
             for extract, name, header in zip((old, new), (asked.old, asked.new), headers)
-        ]
-        yield Pair(*sides, asked, window)
+        )
+        yield Pair(before, after, asked, window)

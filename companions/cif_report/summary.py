@@ -19,13 +19,13 @@ def period(report: Report, first: date, last: date) -> str:
     """Such as `17 May to 13 June 2026`."""
     calendar = report.calendar
     if first == last:
-        return calendar.date(first, with_year=True)
+        return calendar.day_month(first, with_year=True)
     if first.year != last.year:
-        return f"{calendar.date(first, True)} to {calendar.date(last, True)}"
+        return f"{calendar.day_month(first, True)} to {calendar.day_month(last, True)}"
     start = str(first.day)
     if first.month != last.month:
         start = f"{first.day} {MONTH_NAMES[first.month - 1]}"
-    return f"{start} to {calendar.date(last, with_year=True)}"
+    return f"{start} to {calendar.day_month(last, with_year=True)}"
 
 
 def compared(report: Report) -> str:
@@ -55,7 +55,15 @@ def lead(report: Report) -> str:
     verb = "is" if len(found.trains) == 1 else "are"
     trains = number_word(len(found.trains), "train")
     on = f"on {differing:,} of {dates}" if count > 1 else f"on {dates}"
-    return f"{trains} {verb} different, {on}. Before there were {found.old.trains:,}, now {found.new.trains:,}."
+    return f"{trains} {verb} different, {on}. {in_all(found.old.trains, found.new.trains)}"
+
+
+def in_all(before: int, after: int) -> str:
+    """How many trains there are."""
+    if before == after:
+        return f"There are {number_word(after, 'train')} in all, as many as before."
+    more = f"{abs(after - before):,} {'more' if after > before else 'fewer'} than before"
+    return f"There are {number_word(after, 'train')} in all, {more}."
 
 
 def warning(report: Report) -> Markup:
@@ -122,7 +130,11 @@ def figures(report: Report) -> Markup:
     ]
     rows = [(kind, numbers.of_kind[kind], label) for kind, label in of_trains]
     others: List[Tuple[str, int, str]] = [
-        ("associations", len(report.comparison.associations), "changes where trains divide or join"),
+        (
+            "associations",
+            len(report.comparison.associations),
+            "changes where trains divide or join",
+        ),
         ("places", len(report.comparison.locations), "changes of places"),
     ]
     return fill("figures", trains=joined(map(figure, rows)), others=joined(map(figure, others)))

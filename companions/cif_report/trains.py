@@ -8,9 +8,10 @@ from typing import Dict, Iterator, List, NamedTuple, Optional, Sequence, Tuple
 
 from cif_shared.dates import Dates, numbers_of
 
-from .comparison import TERMS, Change, Train
+from .comparison import Change, Train
+from .differences import Place
 from .groups import Group, groups_of
-from .journeys import MARK, Body, Call, body_of, rows_of, text_of
+from .journeys import Body, Call, body_of, rows_of, text_of
 from .report import Report, number_word
 from .templates import Markup, fill, joined, lines
 from .words import CANCELLED, DATA, KINDS, NUMBERS, PLACES, PLATFORMS, RUNS, TIMES, public_times
@@ -61,8 +62,12 @@ def weeks_of(report: Report, changes: Sequence[Change]) -> List[Week]:
 
 def repeated(weeks: Sequence[Week]) -> Iterator[List[Week]]:
     """Weeks that follow one another and are alike."""
-    at = lambda item: (item[1].days, item[1].monday - timedelta(days=7 * item[0]))
-    for _, group in groupby(enumerate(weeks), key=at):
+
+    def likeness(item: Tuple[int, Week]) -> Tuple[str, date]:
+        number, week = item
+        return week.days, week.monday - timedelta(days=7 * number)
+
+    for _, group in groupby(enumerate(weeks), key=likeness):
         yield [week for _, week in group]
 
 
@@ -70,7 +75,7 @@ def week_rows(report: Report, changes: Sequence[Change]) -> Markup:
     rows = []
     groups = list(repeated(weeks_of(report, changes)))
     for weeks in groups[:MOST_WEEKS]:
-        label = report.calendar.date(weeks[0].monday)
+        label = report.calendar.day_month(weeks[0].monday)
         if len(weeks) > 1:
             label = f"{label} and {number_word(len(weeks) - 1, 'week')} more"
         cells = [Markup(f'<td class="{mark_class(symbol)}">{symbol}') for symbol in weeks[0].days]
@@ -101,7 +106,6 @@ def changes_for_script(train: Train) -> str:
 
 
 def change_words(report: Report, change: Change) -> Markup:
-    what = joined((Markup(f"<span>{joined([phrase.text])}</span>") for phrase in change.phrases), "; ")
     texts = "; ".join(phrase.text for phrase in change.phrases)
     return fill(
         "change", what=texts[:1].upper() + texts[1:], when=report.calendar.words(change.dates)
@@ -138,7 +142,7 @@ def call_cells(cells: Sequence[str], others: Sequence[str]) -> Iterator[Markup]:
 
 
 def call_row(report: Report, old: Optional[Call], new: Optional[Call]) -> Markup:
-    name = report.names.at(new or old)  # type: ignore
+    name = next(report.names.at(call) for call in (new, old) if call)
     with_public = bool(old and new and public_times(old) != public_times(new))
     was, now = cells_of(old, with_public), cells_of(new, with_public)
     cells = joined((*call_cells(was, now), *call_cells(now, was)))
@@ -168,7 +172,7 @@ def calls_of(report: Report, train: Train, change: Change) -> Markup:
     return fill("calls", dates=dates, heads=heads, columns=columns, rows=lines(rows))
 
 
-def body_at(report: Report, place) -> Body:  # type: ignore
+def body_at(report: Report, place: Place) -> Body:
     return body_of(report.copy.text(place))
 
 
@@ -211,7 +215,9 @@ class TrainsPart:
         operators = list(dict.fromkeys(body.operator or NO_OPERATOR for body in bodies))
         self.operators.update(dict.fromkeys(operators))
         calls = [calls_of(self.report, train, change) for change in train.changes[:MOST_CALLS]]
-        own = [phrase.whole() for change in train.changes for phrase in change.phrases if phrase.own]
+        own = [
+            phrase.whole() for change in train.changes for phrase in change.phrases if phrase.own
+        ]
         face = train.face
         return fill(
             "train",
@@ -268,7 +274,9 @@ class TrainsPart:
         operators = joined(fill("option", value=code, name=names[code]) for code in by_name)
         found = self.report.numbers.of_kind
         kinds = [kind for kind in KINDS if found[kind] or kind == DATA]
-        return operators, joined(fill("option", value=kind, name=KIND_NAMES[kind]) for kind in kinds)
+        return operators, joined(
+            fill("option", value=kind, name=KIND_NAMES[kind]) for kind in kinds
+        )
 
     def data(self) -> Markup:
         """What the script reads, as JSON in which no tag can end."""
@@ -299,7 +307,11 @@ def trains_section(report: Report, most: int, most_bytes: int) -> Tuple[Markup, 
     rest = f"All {count:,} changed trains are on this page." if count > 1 else ""
     if left_out:
         rest = f"{number_word(left_out, 'changed train')} of {count:,} {'is' if left_out == 1 else 'are'}n’t on this page"
-    rest += f" {report.csv_name} has every change in rows." if not left_out else f"; {report.csv_name} has all."
+    rest += (
+        f" {report.csv_name} has every change in rows."
+        if not left_out
+        else f"; {report.csv_name} has all."
+    )
     days = report.comparison.window.days
     made = fill(
         "trains",
