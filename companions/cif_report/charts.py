@@ -14,8 +14,9 @@ from .templates import Markup, fill, joined
 HEIGHT = 1000
 # So many dates have bars with space between them.
 MOST_WITH_GAPS = 62
-# Where labels keep off the edges, in per cent.
-NEAR_EDGE = 12
+# Where labels keep off the edges, in per cent of a large or a small chart.
+NEAR_EDGE = 10
+NEAR_EDGE_OF_SMALL = 35
 # So many ticks an axis has at most, and so many where the screen is narrow.
 MOST_TICKS = 14
 FEW_TICKS = 5
@@ -77,9 +78,9 @@ def place_of(number: float, count: int) -> float:
     return round(100 * number / count, 2)
 
 
-def label(text: str, left: float, above: bool) -> Markup:
+def label(text: str, left: float, above: bool, near_edge: int) -> Markup:
     where = "up" if above else "down"
-    side = "start" if left < NEAR_EDGE else "end" if left > 100 - NEAR_EDGE else "middle"
+    side = "start" if left < near_edge else "end" if left > 100 - near_edge else "middle"
     return Markup(f'<span class="label {where} {side}" style="left:{left:g}%">{text}</span>')
 
 
@@ -93,13 +94,14 @@ def nice_step(most: int) -> int:
         step *= 10
 
 
-def grid(most: int) -> Markup:
-    """Lines at round numbers, each with its number."""
+def grid(most: int, small: bool) -> Markup:
+    """Lines at round numbers, each with its number; a small chart has one."""
     step = nice_step(most)
+    values = range(step, most + 1, step)
     found = []
-    for value in range(step, most + 1, step):
+    for value in values[-1:] if small else values:
         top = round(height(value, most) / HEIGHT * 100, 2)
-        found.append(f'<span class="grid" style="top:{top:g}%">{value:,}</span>')
+        found.append(f'<span class="grid" style="top:{top:g}%"><i>{value:,}</i></span>')
     return Markup("".join(found))
 
 
@@ -129,14 +131,14 @@ def tick_days(days: Sequence[date]) -> List[Tuple[int, str]]:
     return years[:: len(years) // MOST_TICKS + 1]
 
 
-def axis(days: Sequence[date]) -> Markup:
+def axis(days: Sequence[date], near_edge: float) -> Markup:
     ticks = tick_days(days)
     every = -(-len(ticks) // FEW_TICKS)
     parts = []
     for at, (number, text) in enumerate(ticks):
         minor = " minor" if at % every else ""
         left = place_of(number, len(days))
-        side = " end" if left > 100 - NEAR_EDGE / 2 else ""
+        side = " end" if left > 100 - near_edge / 3 else ""
         parts.append(f'<span class="tick{minor}{side}" style="left:{left:g}%">{text}</span>')
     return Markup("".join(parts))
 
@@ -144,12 +146,13 @@ def axis(days: Sequence[date]) -> Markup:
 def extremes(series: Series, calendar: Calendar) -> List[Tuple[int, str]]:
     """The first date with the most trains more, and the first with the most fewer, each with its
     label."""
+    most, least = max(series.differences), min(series.differences)
     found: List[Tuple[int, str]] = []
-    for most in max(series.differences), min(series.differences):
-        if most and most not in [series.differences[number] for number, _ in found]:
-            number = series.differences.index(most)
+    for difference in (most if most > 0 else 0, least if least < 0 else 0):
+        if difference:
+            number = series.differences.index(difference)
             day = calendar.day(calendar.window.days[number])
-            found.append((number, f"{signed(most)} on {day}"))
+            found.append((number, f"{signed(difference)} on {day}"))
     return found
 
 
@@ -158,7 +161,7 @@ def summary(series: Series, calendar: Calendar) -> str:
     dates = sum(1 for difference in series.differences if difference)
     if not dates:
         return "as many trains on every date"
-    return f"another number on {number_word(dates, 'date')}"
+    return f"different on {number_word(dates, 'date')}"
 
 
 def chart(code: str, name: str, series: Series, calendar: Calendar, small: bool) -> Markup:
@@ -168,8 +171,9 @@ def chart(code: str, name: str, series: Series, calendar: Calendar, small: bool)
     up, down = max(0, *series.differences), max(0, *(-value for value in series.differences))
     scale = HEIGHT / max(up + down, 1)
     zero = round(up * scale) if up + down else HEIGHT // 2
+    near_edge = NEAR_EDGE_OF_SMALL if small else NEAR_EDGE
     labels = [
-        label(text, place_of(number + 0.5, count), series.differences[number] > 0)
+        label(text, place_of(number + 0.5, count), series.differences[number] > 0, near_edge)
         for number, text in extremes(series, calendar)
     ]
     return fill(
@@ -178,7 +182,7 @@ def chart(code: str, name: str, series: Series, calendar: Calendar, small: bool)
         operator=code,
         name=name,
         summary=summary(series, calendar),
-        lines=grid(most),
+        lines=grid(most, small),
         width=count,
         before=area(series.before, most),
         after=step_line(series.after, most),
@@ -186,5 +190,5 @@ def chart(code: str, name: str, series: Series, calendar: Calendar, small: bool)
         more=bars(series.differences, 1, zero, scale),
         less=bars(series.differences, -1, zero, scale),
         labels=joined(labels),
-        ticks=axis(calendar.window.days),
+        ticks=axis(calendar.window.days, near_edge),
     )

@@ -16,7 +16,7 @@ from .journeys import Body, body_of, text_of
 from .locations import LocationChange, location_changes
 from .pair import Pair
 from .schedules import Schedules, read_schedules
-from .words import CANCELLED, DATA, KINDS, NUMBERS, RUNS, Names, Phrase, phrases_of
+from .words import CANCELLED, DATA, GONE_FOR_GOOD, KINDS, NUMBERS, RUNS, Names, Phrase, phrases_of
 
 LOCATION = b"TI"
 ASSOCIATION = b"AA"
@@ -167,7 +167,7 @@ class Reading:
                     draft.alter(self.renumbered(uid, other, lost, got, copy))
 
     def renumbered(self, uid: bytes, other: bytes, lost: Alone, got: Alone, copy: Copy) -> Change:
-        own = f": UID {other.decode().strip()} for {uid.decode().strip()}"
+        own = f"UID {other.decode().strip()} for {uid.decode().strip()}"
         old, new = (body_of(copy.text(each.place)) for each in (lost, got))
         more = phrases_of(old, new, self.names) if old != new else ()
         return Change(
@@ -185,7 +185,7 @@ class Reading:
 def changes_of(uid: bytes, draft: Draft, old: Schedules, new: Schedules) -> Iterator[Change]:
     """The changes of a train: first the dates on which it no longer runs, or runs also."""
     if draft.lost:
-        text = "cancelled" if uid in new.found else "no longer runs"
+        text = "cancelled" if uid in new.found else GONE_FOR_GOOD
         place = draft.lost[0].place
         yield Change((Phrase(CANCELLED, text),), all_dates(draft.lost), place, None)
     if draft.added:

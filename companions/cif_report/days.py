@@ -139,9 +139,9 @@ class Calendar:
 
 
 def weekday_words(weekdays: int) -> str:
-    """Weekdays, such as `on Mondays to Fridays`, or `daily`."""
+    """Weekdays, such as `on Mondays to Fridays`, or `every day`."""
     if weekdays == ALL_DAYS:
-        return "daily"
+        return "every day"
     days = [day for day in range(7) if weekdays >> day & 1]
     names = [f"{DAY_NAMES[day]}s" for day in days]
     if len(days) > 2 and days[-1] - days[0] == len(days) - 1:

@@ -176,5 +176,7 @@ def rows_of(old: Sequence[Call], new: Sequence[Call]) -> List[Row]:
 
 
 def unlike_pairs(rows: Sequence[Row]) -> List[Pair]:
-    """Those calls of both journeys that aren't the same."""
-    return [(old, new) for old, new in rows if old and new and old != new]
+    """Where both call, or both pass, and it isn't the same."""
+    return [
+        (old, new) for old, new in rows if old and new and old != new and old.passes == new.passes
+    ]

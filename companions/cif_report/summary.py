@@ -46,7 +46,7 @@ def lead(report: Report) -> str:
     """What has changed, in a sentence."""
     found = report.comparison
     count = len(found.window.days)
-    dates = f"the {count:,} dates compared" if count > 1 else "the date compared"
+    dates = f"the {count:,} dates compared" if count > 1 else "the one date compared"
     if is_same(report):
         return f"The timetables are the same: nothing differs on {dates}."
     if not found.trains:
@@ -54,7 +54,9 @@ def lead(report: Report) -> str:
     differing = sum(1 for trains in report.numbers.of_date if trains)
     verb = "is" if len(found.trains) == 1 else "are"
     trains = number_word(len(found.trains), "train")
-    on = f"on {differing:,} of {dates}" if count > 1 else f"on {dates}"
+    on = f"on {differing:,} of {dates}"
+    if differing == count:
+        on = f"on all {count:,} dates compared" if count > 1 else f"on {dates}"
     return f"{trains} {verb} different, {on}. {in_all(found.old.trains, found.new.trains)}"
 
 

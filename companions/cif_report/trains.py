@@ -14,7 +14,18 @@ from .groups import Group, groups_of
 from .journeys import Body, Call, body_of, rows_of, text_of
 from .report import Report, number_word
 from .templates import Markup, fill, joined, lines
-from .words import CANCELLED, DATA, KINDS, NUMBERS, PLACES, PLATFORMS, RUNS, TIMES, public_times
+from .words import (
+    CANCELLED,
+    DATA,
+    GONE_FOR_GOOD,
+    KINDS,
+    NUMBERS,
+    PLACES,
+    PLATFORMS,
+    RUNS,
+    TIMES,
+    public_times,
+)
 
 # So many weeks of a change are shown, and the calls of so many changes of a train.
 MOST_WEEKS = 8
@@ -77,7 +88,7 @@ def week_rows(report: Report, changes: Sequence[Change]) -> Markup:
     for weeks in groups[:MOST_WEEKS]:
         label = report.calendar.day_month(weeks[0].monday)
         if len(weeks) > 1:
-            label = f"{label} and {number_word(len(weeks) - 1, 'week')} more"
+            label = f"{label}, {len(weeks)} weeks"
         cells = [Markup(f'<td class="{mark_class(symbol)}">{symbol}') for symbol in weeks[0].days]
         rows.append(Markup(f'<tr><th scope="row">{label}{joined(cells)}'))
     left_out = sum(len(weeks) for weeks in groups[MOST_WEEKS:])
@@ -107,9 +118,10 @@ def changes_for_script(train: Train) -> str:
 
 def change_words(report: Report, change: Change) -> Markup:
     texts = "; ".join(phrase.text for phrase in change.phrases)
-    return fill(
-        "change", what=texts[:1].upper() + texts[1:], when=report.calendar.words(change.dates)
-    )
+    when = report.calendar.words(change.dates)
+    if change.phrases[0].text == GONE_FOR_GOOD:
+        when = f"(it ran {when})"
+    return fill("change", what=texts[:1].upper() + texts[1:], when=when)
 
 
 # ---- calls
@@ -215,9 +227,7 @@ class TrainsPart:
         operators = list(dict.fromkeys(body.operator or NO_OPERATOR for body in bodies))
         self.operators.update(dict.fromkeys(operators))
         calls = [calls_of(self.report, train, change) for change in train.changes[:MOST_CALLS]]
-        own = [
-            phrase.whole() for change in train.changes for phrase in change.phrases if phrase.own
-        ]
+        own = [phrase.own for change in train.changes for phrase in change.phrases if phrase.own]
         face = train.face
         return fill(
             "train",
@@ -229,7 +239,7 @@ class TrainsPart:
             destination=names.place(face.destination),
             identity=face.identity,
             operator_name=names.operator(face.operator),
-            own=Markup("".join(f'<span class="own">{joined([text])}</span>' for text in own)),
+            own=joined(fill("own", text=text) for text in own),
             calls=joined(calls),
         )
 

@@ -16,6 +16,8 @@ NUMBERS = "numbers"
 DATA = "data"
 # The kinds of changes of trains, and those of associations and places.
 KINDS = (RUNS, CANCELLED, PLACES, TIMES, PLATFORMS, NUMBERS, DATA)
+# What a train does that has lost all its dates.
+GONE_FOR_GOOD = "no longer runs"
 NEW_ONE = "new"
 GONE = "gone"
 CHANGED = "changed"
@@ -53,7 +55,7 @@ class Phrase(NamedTuple):
     own: str = ""
 
     def whole(self) -> str:
-        return self.text + self.own
+        return f"{self.text}: {self.own}" if self.own else self.text
 
 
 class Names(NamedTuple):
@@ -108,12 +110,12 @@ class Step(NamedTuple):
 
 
 def steps_of(rows: Sequence[Row]) -> List[Step]:
-    """The steps of all calls that both journeys have. The first call of both is on the date of the
-    train; at the others a midnight may lie between."""
+    """The steps of all places where both call, or both pass. The first call of both is on the date
+    of the train; at the others a midnight may lie between."""
     steps: List[Step] = []
     shift = 0
     for number, (old, new) in enumerate(rows):
-        if old is None or new is None:
+        if old is None or new is None or old.passes != new.passes:
             continue
         if old == new:
             shift = near(0, shift)
@@ -173,11 +175,7 @@ def times(rows: Sequence[Row], pairs: Sequence[Pair], names: Names) -> Iterator[
     if text:
         yield Phrase(TIMES, text)
         return
-    unlike = [
-        names.at(new)
-        for old, new in pairs
-        if old.passes == new.passes and public_times(old) != public_times(new)
-    ]
+    unlike = [names.at(new) for old, new in pairs if public_times(old) != public_times(new)]
     if unlike:
         yield Phrase(TIMES, f"other public times at {some(unlike, 'places')}")
 
@@ -238,11 +236,11 @@ def same_places(old: Body, new: Body) -> bool:
 # ---- platforms, and other data
 
 
-def new_for_old(name: str, new: str, old: str) -> str:
-    """Such as `platform 4 for 5`."""
+def new_for_old(name: str, new: str, old: str, where: str = "") -> str:
+    """Such as `platform 4 for 5 at Brighton`."""
     if not old:
-        return f"{name} {new}, none before"
-    return f"{name} {new} for {old}" if new else f"no {name}, {old} before"
+        return f"{name} {new}{where}, none before"
+    return f"{name} {new} for {old}{where}" if new else f"no {name}{where}, {old} before"
 
 
 def platforms(pairs: Sequence[Pair], names: Names) -> Iterator[Phrase]:
@@ -255,7 +253,7 @@ def platforms(pairs: Sequence[Pair], names: Names) -> Iterator[Phrase]:
         yield Phrase(PLATFORMS, f"other platforms at {some([row[0] for row in unlike], 'places')}")
         return
     for place, new_platform, old_platform in unlike:
-        text = f"{new_for_old('platform', new_platform, old_platform)} at {place}"
+        text = new_for_old("platform", new_platform, old_platform, f" at {place}")
         yield Phrase(PLATFORMS, text)
 
 
@@ -265,7 +263,8 @@ def field_name(field: str) -> str:
 
 def data(old: Body, new: Body, pairs: Sequence[Pair], names: Names) -> Iterator[Phrase]:
     if old.identity != new.identity:
-        yield Phrase(NUMBERS, "renumbered", f": {new.identity or '?'} for {old.identity or '?'}")
+        was, now = (body.identity or "no identity" for body in (old, new))
+        yield Phrase(NUMBERS, "renumbered", f"{now} for {was}")
     if old.operator != new.operator:
         was, now = (body.operator and names.operator(body.operator) for body in (old, new))
         yield Phrase(DATA, new_for_old("operator", now, was))
