@@ -224,9 +224,9 @@ def compare(cif: Cif, pair: Pair, names: Names, copy: Copy, progress: Progress) 
     reading.match(copy)
     progress.show("counting trains")
     associations = association_changes(before[ASSOCIATION], terms)
-    old, new = (
-        read_schedules(side.extract, pair.window, reading.drafts) for side in (pair.old, pair.new)
-    )
+    linked = (uid for each in associations for uid in (each.base, each.associated))
+    wanted = {*reading.drafts, *(uid.encode() for uid in linked)}
+    old, new = (read_schedules(side.extract, pair.window, wanted) for side in (pair.old, pair.new))
     trains = reading.trains(old, new)
     return Comparison(
         pair.window, old, new, trains, associations, location_changes(before[LOCATION])

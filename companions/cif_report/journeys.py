@@ -19,14 +19,15 @@ BASIC_COLUMNS = Struct("31x s 2s 4s 4s s 8s s 3s 4s 3s 6s s s s s 4s 4s 2x".repl
 EXTRA_FIELDS = "traction uic operator timetable_code reserved_a reserved_b".split()
 EXTRA_COLUMNS = Struct("4x 4s 5s 2s s 8s s 57x".replace(" ", ""))
 
-ORIGIN = Struct("4x 7s s 5s 4s 3s 3s 2s 2s 12s 2s 37x".replace(" ", ""))
-WAY = Struct("4x 7s s 5s 5s 5s 4s 4s 3s 3s 3s 12s 2s 2s 2s 20x".replace(" ", ""))
-TERMINUS = Struct("4x 7s s 5s 4s 3s 3s 12s 43x".replace(" ", ""))
+ORIGIN = Struct("2x 2s 7s s 5s 4s 3s 3s 2s 2s 12s 2s 37x".replace(" ", ""))
+WAY = Struct("2x 2s 7s s 5s 5s 5s 4s 4s 3s 3s 3s 12s 2s 2s 2s 20x".replace(" ", ""))
+TERMINUS = Struct("2x 2s 7s s 5s 4s 3s 3s 12s 43x".replace(" ", ""))
 
 
 class Call(NamedTuple):
     """A call, or a pass, with its columns as they stand. Those that its line hasn't are empty."""
 
+    kind: bytes
     location: bytes
     suffix: bytes
     arrival: bytes
@@ -47,21 +48,9 @@ class Call(NamedTuple):
         return bool(self.passing.strip())
 
     @property
-    def reached(self) -> Optional[int]:
-        """The first time that it has of arrival, pass and departure, in half minutes."""
-        return first_of(self.arrival, self.passing, self.departure)
-
-    @property
-    def left(self) -> Optional[int]:
-        return first_of(self.departure, self.passing, self.arrival)
-
-
-def first_of(*times: bytes) -> Optional[int]:
-    for time in times:
-        halves = half_minutes(time)
-        if halves is not None:
-            return halves
-    return None
+    def times(self) -> Tuple[Optional[int], ...]:
+        """The arrival, the pass and the departure in half minutes, as far as it has them."""
+        return tuple(map(half_minutes, (self.arrival, self.passing, self.departure)))
 
 
 @lru_cache(maxsize=None)
@@ -73,28 +62,18 @@ def half_minutes(time: bytes) -> Optional[int]:
 
 
 def origin_of(line: bytes) -> Call:
-    (
-        place,
-        suffix,
-        leaves,
-        public,
-        platform,
-        track,
-        engineering,
-        pathing,
-        codes,
-        performance,
-    ) = ORIGIN.unpack(line)
-    times = (b"", leaves, b"", b"", public)
-    return Call(
-        place, suffix, *times, platform, track, b"", codes, engineering, pathing, performance
+    kind, place, suffix, leaves, public, platform, track, *allowances, codes, performance = (
+        ORIGIN.unpack(line)
     )
+    times = (b"", leaves, b"", b"", public)
+    after = (platform, track, b"", codes, *allowances, performance)
+    return Call(kind, place, suffix, *times, *after)
 
 
 def terminus_of(line: bytes) -> Call:
-    place, suffix, arrives, public, platform, path, codes = TERMINUS.unpack(line)
+    kind, place, suffix, arrives, public, platform, path, codes = TERMINUS.unpack(line)
     times = (arrives, b"", b"", public, b"")
-    return Call(place, suffix, *times, platform, b"", path, codes, b"", b"", b"")
+    return Call(kind, place, suffix, *times, platform, b"", path, codes, b"", b"", b"")
 
 
 class Body(NamedTuple):

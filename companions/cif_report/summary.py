@@ -137,7 +137,7 @@ def figures(report: Report) -> Markup:
             len(report.comparison.associations),
             "changes where trains divide or join",
         ),
-        ("places", len(report.comparison.locations), "changes of places"),
+        ("tiplocs", len(report.comparison.locations), "changes of places"),
     ]
     return fill("figures", trains=joined(map(figure, rows)), others=joined(map(figure, others)))
 

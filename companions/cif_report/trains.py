@@ -294,7 +294,9 @@ class TrainsPart:
         places = [[names.place(tiploc), codes(tiploc), tiploc] for tiploc in self.places.numbers]
         first = self.report.comparison.window.days[0].isoformat()
         text = json.dumps({"firstDate": first, "places": places}, separators=(",", ":"))
-        return fill("data", text=Markup(text.replace("<", "\\u003c")))
+        for sign in "<>&":
+            text = text.replace(sign, f"\\u{ord(sign):04x}")
+        return fill("data", text=Markup(text))
 
 
 def note_of(report: Report) -> str:

@@ -121,7 +121,7 @@ def steps_of(rows: Sequence[Row]) -> List[Step]:
             shift = near(0, shift)
             steps.append(Step(new, shift))
             continue
-        for before, after in (old.reached, new.reached), (old.left, new.left):
+        for before, after in zip(old.times, new.times):
             if before is not None and after is not None:
                 shift = after - before if number == 0 else near(after - before, shift)
                 steps.append(Step(new, shift))
@@ -166,8 +166,8 @@ def where(steps: Sequence[Step], first: int, last: int, names: Names) -> str:
 
 def public_times(call: Call) -> Tuple[bytes, ...]:
     """The public times, of which noughts and blanks are none."""
-    times_there = call.public_arrival, call.public_departure
-    return tuple(time if time.strip(b" 0") else b"" for time in times_there)
+    there = call.public_arrival, call.public_departure
+    return tuple(time if time.strip(b" 0") else b"" for time in there)
 
 
 def times(rows: Sequence[Row], pairs: Sequence[Pair], names: Names) -> Iterator[Phrase]:
@@ -175,7 +175,11 @@ def times(rows: Sequence[Row], pairs: Sequence[Pair], names: Names) -> Iterator[
     if text:
         yield Phrase(TIMES, text)
         return
-    unlike = [names.at(new) for old, new in pairs if public_times(old) != public_times(new)]
+    unlike = [
+        names.at(new)
+        for old, new in pairs
+        if old.kind == new.kind and public_times(old) != public_times(new)
+    ]
     if unlike:
         yield Phrase(TIMES, f"other public times at {some(unlike, 'places')}")
 
@@ -278,10 +282,11 @@ def data(old: Body, new: Body, pairs: Sequence[Pair], names: Names) -> Iterator[
             yield Phrase(DATA, new_for_old(field, after, before))
     else:
         yield Phrase(DATA, f"other data: {listed([field for field, _, _ in unlike])}")
+    alike = [(was, now) for was, now in pairs if was.kind == now.kind]
     of_calls = [
         field_name(field)
         for field in CALL_DATA
-        if any(getattr(was, field) != getattr(now, field) for was, now in pairs)
+        if any(getattr(was, field) != getattr(now, field) for was, now in alike)
     ]
     if old.changes != new.changes:
         of_calls.append("changes en route")
