@@ -11,7 +11,7 @@ from typing import Optional, Sequence
 from cif_shared.arguments import add_cif, add_help, add_names, add_window, new_parser
 from cif_shared.cif import find_cif
 from cif_shared.csv_files import read_file
-from cif_shared.endings import SUCCESS, Misused
+from cif_shared.endings import SUCCESS, Misused, Refused
 from cif_shared.files import new_files, output_path, scratch_file
 from cif_shared.operators import operator_name, read_operators
 from cif_shared.places import PLACES, Places
@@ -24,7 +24,7 @@ from .differences import Copy
 from .page import page_of
 from .pair import Asked, Pair, open_pair
 from .report import Report
-from .rows import rows_of, write_rows
+from .rows import Row, rows_of, write_rows
 from .words import Names
 
 PROGRAM = "cif-report"
@@ -78,6 +78,15 @@ def arguments_of(words: Optional[Sequence[str]]) -> argparse.Namespace:
     return parser.parse_args(words)
 
 
+def check_rows(place: Path) -> None:
+    """Refuses to replace what nobody has named, unless it is a CSV file of this program."""
+    if place.exists():
+        with open(place, encoding="utf-8", errors="replace") as file:
+            heading = file.readline().rstrip("\n")
+        if heading != ",".join(Row._fields):
+            raise Refused(f"{place} isn't a CSV file of {PROGRAM}, so it isn't replaced")
+
+
 class Outputs:
     """The places of the page and of the CSV file. Neither may be that of an input."""
 
@@ -91,6 +100,7 @@ class Outputs:
             for each in inputs:
                 if each and place.exists() and os.path.exists(each) and place.samefile(each):
                     raise Misused(f"{place} would take the place of an input")
+        check_rows(self.rows)
 
 
 def names_of(asked: argparse.Namespace, pair: Pair) -> Names:

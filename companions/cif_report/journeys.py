@@ -62,9 +62,18 @@ def half_minutes(time: bytes) -> Optional[int]:
 
 
 def origin_of(line: bytes) -> Call:
-    kind, place, suffix, leaves, public, platform, track, *allowances, codes, performance = (
-        ORIGIN.unpack(line)
-    )
+    (
+        kind,
+        place,
+        suffix,
+        leaves,
+        public,
+        platform,
+        track,
+        *allowances,
+        codes,
+        performance,
+    ) = ORIGIN.unpack(line)
     times = (b"", leaves, b"", b"", public)
     after = (platform, track, b"", codes, *allowances, performance)
     return Call(kind, place, suffix, *times, *after)

@@ -138,7 +138,11 @@ CASES = {
         {"times": 1},
     ),
     "two changes on different dates": (
-        [TRAIN, cancelled(TRAIN, june(1)), overlay(TRAIN, june(2), june(2), calls=moved(USUAL, -3))],
+        [
+            TRAIN,
+            cancelled(TRAIN, june(1)),
+            overlay(TRAIN, june(2), june(2), calls=moved(USUAL, -3)),
+        ],
         ["Cancelled on Mon 1 June", "3 min earlier on Tue 2 June"],
         {"cancelled": 1, "times": 1},
     ),
@@ -158,7 +162,11 @@ CASES = {
         {"times": 1},
     ),
     "later between two places": (
-        [replace(TRAIN, calls=with_call(with_call(USUAL, 1, leaves=624), 2, arrives=633, leaves=633))],
+        [
+            replace(
+                TRAIN, calls=with_call(with_call(USUAL, 1, leaves=624), 2, arrives=633, leaves=633)
+            )
+        ],
         ["3 min later from Beta to North Junction on Mondays to Fridays"],
         {"times": 1},
     ),
@@ -263,7 +271,10 @@ def check_words(counts, maker):
         counts.same(f"{name}, in words", words, page.words())
         got = {kind: number for kind, number in page.figures.items() if number}
         counts.same(f"{name}, numbers", numbers, got)
-    trains = [replace(TRAIN, first=june(29), last=june(30)), replace(TRAIN, uid="B00001", identity="9Z99")]
+    trains = [
+        replace(TRAIN, first=june(29), last=june(30)),
+        replace(TRAIN, uid="B00001", identity="9Z99"),
+    ]
     page = maker.page(old, write(maker, "after.cif", extract(trains)))
     [train] = page.trains()
     counts.same("another UID, the train", "A00001", train.uid)
@@ -274,7 +285,11 @@ def check_words(counts, maker):
 def check_night(counts, maker):
     """Of a train that is moved from its date to the next one, the old date is gone, and the new one is there."""
     first, second = june(10), june(11)
-    moved_on = [LATE, cancelled(LATE, first), overlay(LATE, second, second, calls=moved(NIGHT, 25 - 1440))]
+    moved_on = [
+        LATE,
+        cancelled(LATE, first),
+        overlay(LATE, second, second, calls=moved(NIGHT, 25 - 1440)),
+    ]
     page = maker.page(maker.folder / "before.cif", write(maker, "after.cif", extract(moved_on)))
     words = ["Cancelled on Wed 10 June", "23 h 35 min earlier on Thu 11 June"]
     counts.same("moved to the next date, in words", words, page.words())
@@ -309,22 +324,40 @@ def check_others(counts, maker):
     renamed = extract(places={"BETA": ("BTX", "BETA TOWN")})
     page = maker.page(old, write(maker, "after.cif", renamed))
     [(tiploc, row)] = page.places
-    want = ["BETA", "BTX", "BETA TOWN", "changed: name BETA TOWN for BETA; CRS code BTX for BET; short name BETA TOWN for BETA"]
-    counts.same("a station with another name", ("BETA", want), (tiploc, re.findall(r"<td>(.*?)</td>", row)))
-    counts.same("a station with another name, numbers", {"tiplocs": 1}, {kind: count for kind, count in page.figures.items() if count})
+    want = [
+        "BETA",
+        "BTX",
+        "BETA TOWN",
+        "changed: name BETA TOWN for BETA; CRS code BTX for BET; short name BETA TOWN for BETA",
+    ]
+    counts.same(
+        "a station with another name", ("BETA", want), (tiploc, re.findall(r"<td>(.*?)</td>", row))
+    )
+    counts.same(
+        "a station with another name, numbers",
+        {"tiplocs": 1},
+        {kind: count for kind, count in page.figures.items() if count},
+    )
 
 
 def check_names(counts, maker):
     """What looks like HTML is text."""
     odd = {"BETA": ("BET", "<SCRIPT>ALERT(1)</SCRIPT>"), "GAMMA": ("G<M", "]]>&AMP;\"'")}
-    operators = write(maker, "operators.csv", 'operator_code,name,url\nSN,"<img src=x onerror=""alert(1)"">",\n')
+    operators = write(
+        maker, "operators.csv", 'operator_code,name,url\nSN,"<img src=x onerror=""alert(1)"">",\n'
+    )
     new = extract([replace(TRAIN, calls=moved(USUAL, 5, since=1), identity="<B>&")], odd)
     words = ["--operators", operators, "--title", "</title><b>&x", "--most", "1"]
     page = maker.page(*words, maker.folder / "before.cif", write(maker, "after.cif", new))
     counts.same("scripts of the page", 2, page.markup.lower().count("<script"))
     for text in "<img", "</title><b>", "<B>&", "]]>", "&x", "<script>alert":
         counts.test(f"{text} isn't in the page as it stands", text not in page.markup, text)
-    for text in "</title><b>&x", '<img src=x onerror="alert(1)">', "<script>alert(1)</Script>", "<B>&":
+    for text in (
+        "</title><b>&x",
+        '<img src=x onerror="alert(1)">',
+        "<script>alert(1)</Script>",
+        "<B>&",
+    ):
         counts.test(f"{text} is in its text", text in page.text, page.text[:300])
     names = [place[0] for place in page.data["places"]]
     counts.test("names for the filter", "<script>alert(1)</Script>" in names, names)
@@ -352,7 +385,9 @@ def check_windows(counts, maker):
     page = maker.page("--to", "260625", old, maker.folder / "after.cif")
     counts.test("a date after --to", "The timetables are the same" in page.text, page.text[:300])
     page = maker.page("--from", "260626", "--to", "260626", old, maker.folder / "after.cif")
-    counts.test("one date", "1 train is different, on the one date compared" in page.text, page.text[:300])
+    counts.test(
+        "one date", "1 train is different, on the one date compared" in page.text, page.text[:300]
+    )
     page = maker.page(maker.folder / "after.cif", old)
     counts.same("the other way round", ["Runs also on Fri 26 June"], page.words())
 
@@ -361,15 +396,24 @@ def check_years(counts, maker):
     """Where the window has several years, dates have theirs."""
     window = date(2026, 12, 28), date(2027, 1, 10)
     train = replace(TRAIN, first=window[0], last=window[1])
-    texts = [extract([train, *more], associations=(), window=window) for more in ([], [cancelled(train, date(2027, 1, 4))])]
-    old, new = (write(maker, name, text) for name, text in zip(("before-year.cif", "after-year.cif"), texts))
-    counts.same("a date with its year", ["Cancelled on Mon 4 January 2027"], maker.page(old, new).words())
+    texts = [
+        extract([train, *more], associations=(), window=window)
+        for more in ([], [cancelled(train, date(2027, 1, 4))])
+    ]
+    old, new = (
+        write(maker, name, text) for name, text in zip(("before-year.cif", "after-year.cif"), texts)
+    )
+    counts.same(
+        "a date with its year", ["Cancelled on Mon 4 January 2027"], maker.page(old, new).words()
+    )
 
 
 def check_order(counts, maker):
     """The page says so if the later extract comes first."""
     warning = "extracted before the first"
-    older = write(maker, "after.cif", extract([replace(TRAIN, power="BMU")], extracted="2805262130"))
+    older = write(
+        maker, "after.cif", extract([replace(TRAIN, power="BMU")], extracted="2805262130")
+    )
     old = maker.folder / "before.cif"
     counts.test("the later extract first", warning in maker.page(old, older).text)
     counts.test("the earlier extract first", warning not in maker.page(older, old).text)
@@ -378,8 +422,15 @@ def check_order(counts, maker):
 def check_most(counts, maker):
     """How many trains the page has."""
     old = maker.folder / "before.cif"
-    new = write(maker, "after.cif", extract([train for each in TRAINS for train in (each, cancelled(each, june(8)))]))
-    for most, rest in ("2", "1 changed train of 3 isn’t on this page"), ("0", "3 changed trains of 3 aren’t on this page"):
+    new = write(
+        maker,
+        "after.cif",
+        extract([train for each in TRAINS for train in (each, cancelled(each, june(8)))]),
+    )
+    for most, rest in ("2", "1 changed train of 3 isn’t on this page"), (
+        "0",
+        "3 changed trains of 3 aren’t on this page",
+    ):
         page = maker.page("--most", most, old, new)
         counts.same(f"--most {most}", int(most), len(page.trains()))
         counts.test(f"--most {most}, in words", rest in page.text, page.text[-400:])
@@ -390,7 +441,10 @@ def check_example(counts, maker):
     """What README shows."""
     folder = TOP / "examples"
     page = maker.page(folder / "timetable.cif", folder / "changed.cif")
-    want = ["Cancelled on Sat 6 June", "30 to 36 min later; other data of calls: engineering on Sun 7 June"]
+    want = [
+        "Cancelled on Sat 6 June",
+        "30 to 36 min later; other data of calls: engineering on Sun 7 June",
+    ]
     counts.same("the examples, in words", want, page.words())
 
 

@@ -38,7 +38,8 @@ def check_expected(counts, name, expected):
         wrong = [
             day
             for day in expected.dates
-            if extract.listed(day) != sorted(uid for uid, bodies in extract.bodies.items() if day in bodies)
+            if extract.listed(day)
+            != sorted(uid for uid, bodies in extract.bodies.items() if day in bodies)
         ]
         counts.same(f"{name}, dates on which cif day lists other trains", [], wrong)
     differing = {}
@@ -51,17 +52,37 @@ def check_expected(counts, name, expected):
 
 
 def check_summary(counts, name, expected, page):
-    figures = {**expected.figures(), "associations": len(expected.associations()), "tiplocs": len(expected.places())}
+    figures = {
+        **expected.figures(),
+        "associations": len(expected.associations()),
+        "tiplocs": len(expected.places()),
+    }
     want = {kind: figures.get(kind, 0) for kind in page.figures}
     counts.same(f"{name}, numbers of trains by kind", want, page.figures)
-    new = {uid for uid, kind in expected.changes if kind == "runs" and uid not in expected.old.bodies}
-    gone = {uid for uid, kind in expected.changes if kind == "cancelled" and uid not in expected.new.bodies}
-    for kind, text, count in ("runs", "of them new", len(new)), ("cancelled", "of them for good", len(gone)):
+    new = {
+        uid for uid, kind in expected.changes if kind == "runs" and uid not in expected.old.bodies
+    }
+    gone = {
+        uid
+        for uid, kind in expected.changes
+        if kind == "cancelled" and uid not in expected.new.bodies
+    }
+    for kind, text, count in ("runs", "of them new", len(new)), (
+        "cancelled",
+        "of them for good",
+        len(gone),
+    ):
         label = f", {count:,} {text}" if count else "\0"
-        counts.test(f"{name}, {text}", (label in page.labels[kind]) == bool(count), (count, page.labels))
+        counts.test(
+            f"{name}, {text}", (label in page.labels[kind]) == bool(count), (count, page.labels)
+        )
     trains = {"Before": f"{len(expected.old.bodies):,}", "After": f"{len(expected.new.bodies):,}"}
     counts.same(f"{name}, trains of the files", trains, page.trains_of_files)
-    differing = f"{len(expected.trains):,} trains are different" if len(expected.trains) > 1 else "1 train is different"
+    differing = (
+        f"{len(expected.trains):,} trains are different"
+        if len(expected.trains) > 1
+        else "1 train is different"
+    )
     counts.test(f"{name}, trains in the first sentence", differing in page.text, differing)
     dates = [day for day in expected.dates if expected.on(day)]
     count = f"on {len(dates):,} of the" if len(dates) < len(expected.dates) else "on all"
@@ -88,12 +109,18 @@ def check_days(counts, name, expected, page):
         for body in bodies.values()
     }
     for code in sorted(codes):
-        series = [[extract.trains_on(day, code) for day in expected.dates] for extract in (expected.old, expected.new)]
+        series = [
+            [extract.trains_on(day, code) for day in expected.dates]
+            for extract in (expected.old, expected.new)
+        ]
         shown = code in page.charts
         counts.same(f"{name}, a chart of {code}", series[0] != series[1], shown)
         if shown:
             check_chart(counts, f"{name}, {code}", page.charts[code], *series)
-    series = [[extract.trains_on(day) for day in expected.dates] for extract in (expected.old, expected.new)]
+    series = [
+        [extract.trains_on(day) for day in expected.dates]
+        for extract in (expected.old, expected.new)
+    ]
     check_chart(counts, f"{name}, all trains", page.charts[""], *series)
 
 
@@ -105,7 +132,11 @@ def check_chart(counts, name, chart, before, after):
     differences = [new - old for old, new in zip(before, after)]
     scale = 1000 / max(max(0, *differences) + max(0, *(-each for each in differences)), 1)
     for part, sign in ("more", 1), ("less", -1):
-        want = {number: round(each * scale) for number, each in enumerate(differences) if each * sign > 0}
+        want = {
+            number: round(each * scale)
+            for number, each in enumerate(differences)
+            if each * sign > 0
+        }
         counts.same(f"{name}, bars of {part}", want, bars(chart, part))
 
 
@@ -146,14 +177,18 @@ def check_operators_and_places(counts, name, expected, page):
         ]
         bodies = [body for body in found if body]
         operators = {body.schedule["operator_code"] or "-" for body in bodies}
-        counts.test(f"{name}, operators of {train.uid}", set(train.operators) <= operators, train.operators)
+        counts.test(
+            f"{name}, operators of {train.uid}", set(train.operators) <= operators, train.operators
+        )
         both = {
             body.schedule["operator_code"] or "-"
             for extract in (expected.old, expected.new)
             for day in days
             if (body := extract.bodies.get(train.uid, {}).get(day))
         }
-        counts.test(f"{name}, all operators of {train.uid}", both <= set(train.operators), train.operators)
+        counts.test(
+            f"{name}, all operators of {train.uid}", both <= set(train.operators), train.operators
+        )
         places = {call["location"] for body in bodies for call in body.calls}
         got = {tiplocs[number] for number in train.places}
         counts.test(f"{name}, places of {train.uid}", got <= places, got)
@@ -169,7 +204,9 @@ def check_others(counts, name, expected, page):
         if row["subject"] == "association"
     }
     counts.same(f"{name}, associations in the CSV file", set(expected.associations()), found)
-    counts.same(f"{name}, places", sorted(expected.places()), sorted(tiploc for tiploc, _ in page.places))
+    counts.same(
+        f"{name}, places", sorted(expected.places()), sorted(tiploc for tiploc, _ in page.places)
+    )
     found = {row["location"]: row["kind"] for row in page.rows if row["subject"] == "place"}
     counts.same(f"{name}, places in the CSV file", expected.places(), found)
 

@@ -19,9 +19,7 @@ def day_of(text):
 def dates_of(row, dates):
     """Those of the dates on which a record with first date, last date and days run applies."""
     first, last = day_of(row["first_date"]), day_of(row["last_date"])
-    return [
-        day for day in dates if first <= day <= last and row["days_run"][day.weekday()] == "1"
-    ]
+    return [day for day in dates if first <= day <= last and row["days_run"][day.weekday()] == "1"]
 
 
 class Body:
@@ -221,7 +219,10 @@ class Expected:
             found = defaultdict(dict)
             for row in extract.associations:
                 names = "base_uid associated_uid location base_suffix associated_suffix".split()
-                body = tuple(row[name] for name in ("category", "date_indicator", "diagram_type", "association_type"))
+                body = tuple(
+                    row[name]
+                    for name in ("category", "date_indicator", "diagram_type", "association_type")
+                )
                 for day in dates_of(row, self.dates):
                     found[tuple(row[name] for name in names)][day] = body
             sides.append(found)

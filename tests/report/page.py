@@ -8,7 +8,9 @@ from html import unescape
 
 from .definition import dates_of
 
-MONTHS = "January February March April May June July August September October November December".split()
+MONTHS = (
+    "January February March April May June July August September October November December".split()
+)
 
 
 def text_of(markup):
@@ -93,13 +95,21 @@ class Page:
         self.labels = {kind: unescape(label) for kind, label, _ in found}
         rows = re.findall(r'<tr data-date="([\d-]+)">(.*?)</tr>', self.markup)
         self.numbers = {
-            date.fromisoformat(day): [number_of(cell) for cell in re.findall(r"<td[^>]*>(.*?)</td>", cells)]
+            date.fromisoformat(day): [
+                number_of(cell) for cell in re.findall(r"<td[^>]*>(.*?)</td>", cells)
+            ]
             for day, cells in rows
         }
-        cells = re.findall(r'class="level-(\d)"><a [^>]*data-date="([\d-]+)"[^>]*>.*?<b>([\d,]+)</b>', self.markup)
+        cells = re.findall(
+            r'class="level-(\d)"><a [^>]*data-date="([\d-]+)"[^>]*>.*?<b>([\d,]+)</b>', self.markup
+        )
         self.calendar = {date.fromisoformat(day): number_of(count) for _, day, count in cells}
         self.levels = {date.fromisoformat(day): int(level) for level, day, _ in cells}
-        self.charts = dict(re.findall(r'(?s)<figure class="chart \w+" data-operator="(.*?)">(.*?)</figure>', self.markup))
+        self.charts = dict(
+            re.findall(
+                r'(?s)<figure class="chart \w+" data-operator="(.*?)">(.*?)</figure>', self.markup
+            )
+        )
         self.trains_of_files = dict(re.findall(r'data-trains="(\w+)">([\d,]+)<', self.markup))
         data = re.findall(r'<script type="application/json" id="data">(.*?)</script>', self.markup)
         self.data = json.loads(data[0]) if data else None
@@ -108,7 +118,9 @@ class Page:
             Group(each, first)
             for each in re.findall(r'(?s)<article class="group".*?</article>', self.markup)
         ]
-        self.associations = re.findall(r'<tr data-base="(.*?)" data-associated="(.*?)">(.*?)</tr>', self.markup)
+        self.associations = re.findall(
+            r'<tr data-base="(.*?)" data-associated="(.*?)">(.*?)</tr>', self.markup
+        )
         self.places = re.findall(r'<tr data-tiploc="(.*?)">(.*?)</tr>', self.markup)
         with path.with_suffix(".csv").open(encoding="utf-8", newline="") as file:
             self.rows = list(csv.DictReader(file))

@@ -11,32 +11,45 @@ TOP = HERE.parents[1]
 sys.path[:1] = [str(HERE.parent), str(TOP / "companions")]
 
 from gtfs.checks import Counts
-from report import by_hand, timetables
+from report import browser, by_hand, failures, timetables, words
 from report.checks import Maker, check_page
 from report.definition import Expected
 
 SCHEDULES = 2000
 CHANGES = 20
 SEED = 1
-PART = date(2026, 6, 1), date(2026, 7, 19)
+PART = date(2026, 6, 8), date(2026, 7, 19)
+# So many trains has the page that the browser shows.
+SHOWN = 60
+
+
+def check_generated(counts, cif, maker):
+    """A pair of extracts with changes of each kind. Returns the path of a page of it with fewer trains."""
+    old, new = maker.folder / "old.cif", maker.folder / "new.cif"
+    for path, text in zip((old, new), timetables.pair(random.Random(SEED), SCHEDULES, CHANGES)):
+        path.write_text(text)
+    window = [f"--from={PART[0]:%y%m%d}", f"--to={PART[1]:%y%m%d}"]
+    page = maker.page(*window, "--most", "1000", old, new)
+    check_page(counts, "the generated pair", Expected(cif, old, new, PART), page)
+    maker.run(*window, "--most", str(SHOWN), "-o", "shown.html", old, new)
+    return maker.folder / "shown.html"
 
 
 def main():
     counts, cif = Counts(), Path(sys.argv[1]).resolve()
     with tempfile.TemporaryDirectory(prefix="cif-report-") as work:
-        folder = Path(work)
-        maker = Maker(cif, folder)
+        maker = Maker(cif, Path(work))
         examples = TOP / "examples" / "timetable.cif", TOP / "examples" / "changed.cif"
-        page = maker.page(*examples)
-        check_page(counts, "the examples", Expected(cif, *examples), page)
-        old, new = folder / "old.cif", folder / "new.cif"
-        for path, text in zip((old, new), timetables.pair(random.Random(SEED), SCHEDULES, CHANGES)):
-            path.write_text(text)
-        window = [f"--from={PART[0]:%y%m%d}", f"--to={PART[1]:%y%m%d}"]
-        page = maker.page(*window, "--most", "1000", old, new)
-        check_page(counts, "the generated pair", Expected(cif, old, new, PART), page)
+        check_page(counts, "the examples", Expected(cif, *examples), maker.page(*examples))
+        shown = check_generated(counts, cif, maker)
         by_hand.check(counts, maker)
-    print(f"{counts.passed} passed, {counts.failed} failed")
+        failures.check(counts, maker)
+        words.check(counts)
+        has_browser = browser.check(counts, shown)
+    if not has_browser:
+        print("Chromium isn't there: how the page looks is skipped")
+    skipped = "" if has_browser else ", 1 skipped"
+    print(f"{counts.passed} passed, {counts.failed} failed{skipped}")
     return 0 if counts.failed == 0 and counts.passed > 0 else 1
 
 

@@ -169,7 +169,9 @@ def association_line(base, associated, location, span, category="VV"):
     first, last = (f"{day:%y%m%d}" for day in span)
     fields = {"transaction": "N", "base": base, "associated": associated, "first": first}
     fields |= {"last": last, "days": "1111111", "category": category, "date_indicator": "S"}
-    return line_of("AA", fields | {"location": location, "diagram": "T", "type": "P", "letter": "P"})
+    return line_of(
+        "AA", fields | {"location": location, "diagram": "T", "type": "P", "letter": "P"}
+    )
 
 
 # ---- the timetable before
@@ -255,7 +257,11 @@ def before(rng, count):
 def moved(calls, minutes, start=0):
     """The calls so many minutes later, from one of them on."""
     return tuple(
-        replace(call, arrives=call.arrives + (minutes if at > start or not start else 0), leaves=call.leaves + minutes)
+        replace(
+            call,
+            arrives=call.arrives + (minutes if at > start or not start else 0),
+            leaves=call.leaves + minutes,
+        )
         if at >= start
         else call
         for at, call in enumerate(calls)
@@ -278,19 +284,31 @@ def summer(rng):
 
 
 def with_platform(calls, at, platform):
-    return tuple(replace(call, platform=platform) if number == at else call for number, call in enumerate(calls))
+    return tuple(
+        replace(call, platform=platform) if number == at else call
+        for number, call in enumerate(calls)
+    )
 
 
 def without_call(calls, at):
-    return tuple(replace(call, leaves=call.arrives, passes=True, platform="") if number == at else call for number, call in enumerate(calls))
+    return tuple(
+        replace(call, leaves=call.arrives, passes=True, platform="") if number == at else call
+        for number, call in enumerate(calls)
+    )
 
 
 def later(rng, train):
-    return [train, overlay(train, *summer(rng), calls=moved(train.calls, rng.choice([12, 12, 5, 30, -4])))]
+    return [
+        train,
+        overlay(train, *summer(rng), calls=moved(train.calls, rng.choice([12, 12, 5, 30, -4]))),
+    ]
 
 
 def later_on_the_way(rng, train):
-    return [train, overlay(train, *summer(rng), calls=moved(train.calls, 7, start=rng.choice([2, 3])))]
+    return [
+        train,
+        overlay(train, *summer(rng), calls=moved(train.calls, 7, start=rng.choice([2, 3]))),
+    ]
 
 
 def other_platform(rng, train):
@@ -342,8 +360,20 @@ def also_on_sundays(rng, train):
 
 
 WAYS = (
-    later, later_on_the_way, other_platform, starts_later, ends_earlier, fewer_calls, another_uid, another_identity,
-    another_power, another_operator, out_for_weeks, gone, ends_in_july, also_on_sundays,
+    later,
+    later_on_the_way,
+    other_platform,
+    starts_later,
+    ends_earlier,
+    fewer_calls,
+    another_uid,
+    another_identity,
+    another_power,
+    another_operator,
+    out_for_weeks,
+    gone,
+    ends_in_july,
+    also_on_sundays,
 )
 
 
@@ -353,7 +383,10 @@ def engineering(schedules, operator, day):
     return [
         cancelled(train, day, day)
         for train in schedules
-        if train.letter == "P" and train.operator == operator and train.days[weekday] == "1" and train.first <= day <= train.last
+        if train.letter == "P"
+        and train.operator == operator
+        and train.days[weekday] == "1"
+        and train.first <= day <= train.last
     ]
 
 
@@ -371,7 +404,9 @@ def after(rng, old, each):
             schedules.append(train)
     untouched = [train for number, train in enumerate(permanent) if number not in ways]
     schedules += engineering(untouched, "SN", date(2026, 6, 13))
-    schedules += [replace(regular(rng, 50000 + number), first=date(2026, 7, 13)) for number in range(each)]
+    schedules += [
+        replace(regular(rng, 50000 + number), first=date(2026, 7, 13)) for number in range(each)
+    ]
     places = dict(old.places) | {"STPXBOX": ("STP", "LONDON ST PANCRAS INTL")}
     places |= {"BRENTX": ("BCZ", "BRENT CROSS WEST")}
     del places["ACTONW"]
@@ -380,7 +415,9 @@ def after(rng, old, each):
     if old.associations:
         train = permanent[-1]
         span = date(2026, 7, 1), date(2026, 7, 10)
-        extract.associations.append(association_line(train.uid, permanent[-2].uid, train.calls[1].place, span, "JJ"))
+        extract.associations.append(
+            association_line(train.uid, permanent[-2].uid, train.calls[1].place, span, "JJ")
+        )
     return extract
 
 
