@@ -141,7 +141,12 @@ def month_of(report: Report, year: int, month: int) -> Markup:
         if any(cell != NO_CELL for cell in cells):
             weeks.append(Markup(f"<tr>{joined(cells)}</tr>"))
         day += timedelta(days=7)
-    return fill("month", name=f"{MONTH_NAMES[month - 1]} {year}", weeks=lines(weeks))
+    return fill(
+        "month",
+        weekdays=fill("weekdays"),
+        name=f"{MONTH_NAMES[month - 1]} {year}",
+        weeks=lines(weeks),
+    )
 
 
 def calendar_section(report: Report) -> Markup:

@@ -257,6 +257,7 @@ class TrainsPart:
         self.shown += len(shown)
         made = fill(
             "group",
+            weekdays=fill("weekdays"),
             changes=changes_for_script(first),
             words=lines(change_words(self.report, change) for change in first.changes),
             weeks=week_rows(self.report, first.changes),

@@ -93,7 +93,7 @@ class Page:
         )
         self.figures = {kind: number_of(number) for kind, _, number in found}
         self.labels = {kind: unescape(label) for kind, label, _ in found}
-        rows = re.findall(r'<tr data-date="([\d-]+)">(.*?)</tr>', self.markup)
+        rows = re.findall(r'(?s)<tr data-date="([\d-]+)">(.*?)</tr>', self.markup)
         self.numbers = {
             date.fromisoformat(day): [
                 number_of(cell) for cell in re.findall(r"<td[^>]*>(.*?)</td>", cells)
