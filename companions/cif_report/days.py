@@ -78,8 +78,9 @@ class Calendar:
         days = [self.window.days[number] for number in numbers_of(dates)]
         count = len(days)
         first, last = days[0], days[-1]
-        if count > 2 and (last - first).days == count - 1 and count < 7:
-            return f"from {short_weekday(first)} {first.day}{self.month_unlike(first, last)} to {self.day(last)}"
+        if 2 < count < 7 and (last - first).days == count - 1:
+            since = f"{short_weekday(first)} {first.day}{self.month_unlike(first, last)}"
+            return f"from {since} to {self.day(last)}"
         if count <= MOST_LISTED:
             return f"on {self.listed_days(days, True)}"
         weekdays = sum(1 << day for day in {day.weekday() for day in days})

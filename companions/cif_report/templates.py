@@ -28,10 +28,10 @@ def escaped(value: object) -> str:
     return value if isinstance(value, Markup) else escape(str(value))
 
 
-def fill(name: str, /, **values: object) -> Markup:
+def fill(part: str, **values: object) -> Markup:
     """A template with its values."""
     texts = {key: escaped(value) for key, value in values.items()}
-    return Markup(template(name).substitute(texts))
+    return Markup(template(part).substitute(texts))
 
 
 def joined(parts: Iterable[str], between: str = "") -> Markup:

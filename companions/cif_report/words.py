@@ -240,11 +240,11 @@ def same_places(old: Body, new: Body) -> bool:
 # ---- platforms, and other data
 
 
-def new_for_old(name: str, new: str, old: str, where: str = "") -> str:
+def new_for_old(name: str, new: str, old: str, at: str = "") -> str:
     """Such as `platform 4 for 5 at Brighton`."""
     if not old:
-        return f"{name} {new}{where}, none before"
-    return f"{name} {new} for {old}{where}" if new else f"no {name}{where}, {old} before"
+        return f"{name} {new}{at}, none before"
+    return f"{name} {new} for {old}{at}" if new else f"no {name}{at}, {old} before"
 
 
 def platforms(pairs: Sequence[Pair], names: Names) -> Iterator[Phrase]:

@@ -104,10 +104,9 @@ class Browser:
 
         words = [path, "--headless=new", "--no-sandbox", "--disable-gpu", "--remote-debugging-pipe"]
         words += ["--disable-background-networking", f"--user-data-dir={folder}", "about:blank"]
-        quiet = {"stdout": subprocess.DEVNULL, "stderr": subprocess.DEVNULL}
-        self.process = subprocess.Popen(
-            words, preexec_fn=as_three_and_four, close_fds=False, **quiet
-        )
+        options = {"stdout": subprocess.DEVNULL, "stderr": subprocess.DEVNULL}
+        options |= {"preexec_fn": as_three_and_four, "close_fds": False}
+        self.process = subprocess.Popen(words, **options)
         os.close(reads[0])
         os.close(writes[1])
         self.output = os.fdopen(reads[1], "wb", buffering=0)

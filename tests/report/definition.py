@@ -212,20 +212,20 @@ class Expected:
         """How many trains differ on a date."""
         return sum(day in days for days in self.trains.values())
 
+    def associations_of(self, extract):
+        """By key and date, what holds."""
+        found = defaultdict(dict)
+        for row in extract.associations:
+            names = "base_uid associated_uid location base_suffix associated_suffix".split()
+            body = "category date_indicator diagram_type association_type".split()
+            for day in dates_of(row, self.dates):
+                key = tuple(row[name] for name in names)
+                found[key][day] = tuple(row[name] for name in body)
+        return found
+
     def associations(self):
         """By key, the dates on which an association is new, gone or another one."""
-        sides = []
-        for extract in self.old, self.new:
-            found = defaultdict(dict)
-            for row in extract.associations:
-                names = "base_uid associated_uid location base_suffix associated_suffix".split()
-                body = tuple(
-                    row[name]
-                    for name in ("category", "date_indicator", "diagram_type", "association_type")
-                )
-                for day in dates_of(row, self.dates):
-                    found[tuple(row[name] for name in names)][day] = body
-            sides.append(found)
+        sides = [self.associations_of(extract) for extract in (self.old, self.new)]
         old, new = sides
         changes = defaultdict(set)
         for key in {*old, *new}:

@@ -228,13 +228,13 @@ def regular(rng, number):
 
 def without_holidays(schedules, operators):
     """These operators run nothing on bank holidays."""
-    cancelled = []
+    found = []
     for schedule in schedules:
         for day in sorted(HOLIDAYS):
             if schedule.operator in operators and schedule.days[day.weekday()] == "1":
                 days = "".join("1" if number == day.weekday() else "0" for number in range(7))
-                cancelled.append(replace(schedule, first=day, last=day, days=days, letter="C"))
-    return cancelled
+                found.append(replace(schedule, first=day, last=day, days=days, letter="C"))
+    return found
 
 
 def before(rng, count):
