@@ -24,6 +24,7 @@ from .words import (
     PLATFORMS,
     RUNS,
     TIMES,
+    Names,
     public_times,
 )
 
@@ -198,11 +199,29 @@ def places_of(bodies: Sequence[Body]) -> List[str]:
 class Places:
     """The places of the trains on the page, each with its number, for the filter."""
 
-    def __init__(self) -> None:
+    def __init__(self, names: Names) -> None:
+        self.names = names
         self.numbers: Dict[str, int] = {}
+        self.rows: List[str] = []
 
-    def number(self, location: str) -> str:
-        return str(self.numbers.setdefault(location, len(self.numbers)))
+    def number(self, tiploc: str) -> str:
+        number = self.numbers.setdefault(tiploc, len(self.numbers))
+        if number == len(self.rows):
+            row = [self.names.place(tiploc), self.names.crs(tiploc), tiploc]
+            self.rows.append(for_script(row))
+        return str(number)
+
+
+def for_script(value: object) -> str:
+    """A value as JSON in which no tag can begin or end."""
+    text = json.dumps(value, separators=(",", ":"))
+    for sign in "<>&":
+        text = text.replace(sign, f"\\u{ord(sign):04x}")
+    return text
+
+
+def size_of(parts: Sequence[str]) -> int:
+    return sum(len(part.encode()) for part in parts)
 
 
 class TrainsPart:
@@ -212,7 +231,7 @@ class TrainsPart:
         self.report = report
         self.most = most
         self.left = most_bytes
-        self.places = Places()
+        self.places = Places(report.names)
         self.shown = 0
         self.operators: Dict[str, None] = {}
 
@@ -247,8 +266,9 @@ class TrainsPart:
         first = group.trains[0]
         shown: List[Markup] = []
         for train in group.trains:
+            places = len(self.places.rows)
             made = self.train(train)
-            self.left -= len(made.encode())
+            self.left -= size_of([made, *self.places.rows[places:]])
             if self.left < 0 and shown:
                 break
             shown.append(made)
@@ -264,7 +284,7 @@ class TrainsPart:
             trains=lines(shown),
             more=fill("more", text=text) if text else "",
         )
-        self.left -= len(made.encode()) - sum(len(each.encode()) for each in shown)
+        self.left -= size_of([made]) - size_of(shown)
         return made
 
     def groups(self) -> Markup:
@@ -290,14 +310,9 @@ class TrainsPart:
         )
 
     def data(self) -> Markup:
-        """What the script reads, as JSON in which no tag can end."""
-        names, codes = self.report.names, self.report.names.crs
-        places = [[names.place(tiploc), codes(tiploc), tiploc] for tiploc in self.places.numbers]
-        first = self.report.comparison.window.days[0].isoformat()
-        text = json.dumps({"firstDate": first, "places": places}, separators=(",", ":"))
-        for sign in "<>&":
-            text = text.replace(sign, f"\\u{ord(sign):04x}")
-        return fill("data", text=Markup(text))
+        """What the script reads."""
+        first = for_script(self.report.comparison.window.days[0].isoformat())
+        return fill("data", first=Markup(first), places=Markup(",\n".join(self.places.rows)))
 
 
 def note_of(report: Report) -> str:

@@ -1,5 +1,6 @@
 """A page against what `cif` says, number by number and date by date."""
 import subprocess
+import sys
 
 from gtfs.checks import COMPANIONS
 
@@ -16,6 +17,14 @@ class Maker:
         words = [COMPANIONS / "cif-report", "--cif", self.cif, *words]
         options = {"text": True, **options}
         return subprocess.run(words, cwd=self.folder, capture_output=True, check=False, **options)
+
+    def small_page(self, most_bytes, *words):
+        """What a page says that may have so many bytes only."""
+        program = f"import sys; sys.path.insert(0, {str(COMPANIONS)!r}); from cif_report import page, command_line;"
+        program += f" page.MOST_BYTES = {most_bytes}; sys.exit(command_line.main())"
+        words = [sys.executable, "-B", "-c", program, "--cif", self.cif, "-o", "small.html", *words]
+        subprocess.run(words, cwd=self.folder, capture_output=True, check=True)
+        return Page(self.folder / "small.html")
 
     def page(self, *words):
         """What a page that is made says."""
@@ -209,6 +218,20 @@ def check_others(counts, name, expected, page):
     )
     found = {row["location"]: row["kind"] for row in page.rows if row["subject"] == "place"}
     counts.same(f"{name}, places in the CSV file", expected.places(), found)
+
+
+def check_size(counts, maker, expected, *words):
+    """A page that would have too many bytes has fewer trains, and says so; the CSV file has all."""
+    most = 400_000
+    page = maker.small_page(most, *words)
+    size = len(page.markup.encode())
+    counts.test("a small page, its size", most * 0.8 < size <= most, size)
+    left_out = len(expected.trains) - len(page.trains())
+    counts.test("a small page, trains", 0 < left_out < len(expected.trains), left_out)
+    rest = f"{left_out} changed trains of {len(expected.trains)} aren’t on this page"
+    counts.test("a small page, in words", rest in page.text, page.text[-400:])
+    changes = expected.changes
+    same_values(counts, "a small page, the CSV file", changes, page.by_kind(expected.dates))
 
 
 def check_page(counts, name, expected, page):

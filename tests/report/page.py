@@ -111,7 +111,9 @@ class Page:
             )
         )
         self.trains_of_files = dict(re.findall(r'data-trains="(\w+)">([\d,]+)<', self.markup))
-        data = re.findall(r'<script type="application/json" id="data">(.*?)</script>', self.markup)
+        data = re.findall(
+            r'(?s)<script type="application/json" id="data">(.*?)</script>', self.markup
+        )
         self.data = json.loads(data[0]) if data else None
         first = date.fromisoformat(self.data["firstDate"]) if data else None
         self.groups = [

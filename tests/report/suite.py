@@ -12,7 +12,7 @@ sys.path[:1] = [str(HERE.parent), str(TOP / "companions")]
 
 from gtfs.checks import Counts
 from report import browser, by_hand, failures, timetables, words
-from report.checks import Maker, check_page
+from report.checks import Maker, check_page, check_size
 from report.definition import Expected
 
 SCHEDULES = 2000
@@ -29,8 +29,10 @@ def check_generated(counts, cif, maker):
     for path, text in zip((old, new), timetables.pair(random.Random(SEED), SCHEDULES, CHANGES)):
         path.write_text(text)
     window = [f"--from={PART[0]:%y%m%d}", f"--to={PART[1]:%y%m%d}"]
+    expected = Expected(cif, old, new, PART)
     page = maker.page(*window, "--most", "1000", old, new)
-    check_page(counts, "the generated pair", Expected(cif, old, new, PART), page)
+    check_page(counts, "the generated pair", expected, page)
+    check_size(counts, maker, expected, *window, "--most", "1000", old, new)
     maker.run(*window, "--most", str(SHOWN), "-o", "shown.html", old, new)
     return maker.folder / "shown.html"
 
