@@ -2,7 +2,7 @@
 from __future__ import annotations
 
 from itertools import chain
-from typing import Dict, Iterator, List, NamedTuple, Optional, Sequence, Tuple
+from typing import Dict, Iterator, List, NamedTuple, Sequence, Tuple
 
 from cif_shared.cif import Cif
 from cif_shared.dates import Dates, Window, count_of
@@ -35,12 +35,13 @@ class Face(NamedTuple):
 
 
 class Change(NamedTuple):
-    """What is different on some dates, and where both bodies stand, if there are both."""
+    """What is different on some dates, and where the bodies of either extract stand that run on
+    them."""
 
     phrases: Tuple[Phrase, ...]
     dates: Dates
-    old: Optional[Place]
-    new: Optional[Place]
+    old: Tuple[Place, ...]
+    new: Tuple[Place, ...]
 
 
 class Train(NamedTuple):
@@ -103,7 +104,8 @@ class Draft:
         """Adds a change. Dates with the same difference are one."""
         known = self.altered.get(change.phrases)
         if known:
-            change = known._replace(dates=known.dates | change.dates)
+            dates = known.dates | change.dates
+            change = Change(change.phrases, dates, known.old + change.old, known.new + change.new)
         self.altered[change.phrases] = change
 
 
@@ -141,7 +143,7 @@ class Reading:
             if part.old and part.new:
                 [old], [new] = part.old, part.new
                 phrases = phrases_of(read(old), read(new), self.names)
-                draft.alter(Change(phrases, part.dates, old.place, new.place))
+                draft.alter(Change(phrases, part.dates, (old.place,), (new.place,)))
             else:
                 self.add_alone(draft, part)
 
@@ -170,9 +172,8 @@ class Reading:
         own = f"UID {other.decode().strip()} for {uid.decode().strip()}"
         old, new = (body_of(copy.text(each.place)) for each in (lost, got))
         more = phrases_of(old, new, self.names) if old != new else ()
-        return Change(
-            (Phrase(NUMBERS, "renumbered", own), *more), lost.dates, lost.place, got.place
-        )
+        phrases = (Phrase(NUMBERS, "renumbered", own), *more)
+        return Change(phrases, lost.dates, (lost.place,), (got.place,))
 
     def trains(self, old: Schedules, new: Schedules) -> List[Train]:
         return [
@@ -186,12 +187,12 @@ def changes_of(uid: bytes, draft: Draft, old: Schedules, new: Schedules) -> Iter
     """The changes of a train: first the dates on which it no longer runs, or runs also."""
     if draft.lost:
         text = "cancelled" if uid in new.found else GONE_FOR_GOOD
-        place = draft.lost[0].place
-        yield Change((Phrase(CANCELLED, text),), all_dates(draft.lost), place, None)
+        places = tuple(alone.place for alone in draft.lost)
+        yield Change((Phrase(CANCELLED, text),), all_dates(draft.lost), places, ())
     if draft.added:
         text = "runs also" if uid in old.found else "new train"
-        place = draft.added[0].place
-        yield Change((Phrase(RUNS, text),), all_dates(draft.added), None, place)
+        places = tuple(alone.place for alone in draft.added)
+        yield Change((Phrase(RUNS, text),), all_dates(draft.added), (), places)
     yield from sorted(draft.altered.values(), key=lambda change: -count_of(change.dates))
 
 
@@ -237,11 +238,10 @@ def compare(cif: Cif, pair: Pair, names: Names, copy: Copy, progress: Progress) 
 
 
 class Numbers(NamedTuple):
-    """How many trains have changes: of each kind, by operator, and on each date; and of the trains
-    that run where they didn't, or no longer, how many are new or gone."""
+    """How many trains have changes: of each kind, and on each date; and of the trains that run on
+    dates when they didn't, or no longer, how many are new or gone."""
 
     of_kind: Dict[str, int]
-    of_operator: Dict[str, int]
     of_date: List[int]
     new: int
     gone: int
@@ -255,17 +255,14 @@ def counted_kinds(train: Train) -> List[str]:
 
 def numbers_of(comparison: Comparison) -> Numbers:
     of_kind = dict.fromkeys(KINDS, 0)
-    of_operator: Dict[str, int] = {}
     dates = DateCounts()
     new = gone = 0
     for train in comparison.trains:
         dates.add(train.dates)
         for kind in counted_kinds(train):
             of_kind[kind] += 1
-        operator = train.face.operator
-        of_operator[operator] = of_operator.get(operator, 0) + 1
         uid = train.uid.encode()
         kinds = train.kinds()
         new += RUNS in kinds and uid not in comparison.old.found
         gone += CANCELLED in kinds and uid not in comparison.new.found
-    return Numbers(of_kind, of_operator, dates.counts(len(comparison.window.days)), new, gone)
+    return Numbers(of_kind, dates.counts(len(comparison.window.days)), new, gone)

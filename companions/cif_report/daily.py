@@ -95,7 +95,7 @@ def days_section(report: Report) -> Markup:
     return fill(
         "days",
         note=note,
-        whole=chart("", "All trains", total, report.calendar, small=False),
+        whole=chart("all", "All trains", total, report.calendar, small=False),
         operators=operator_charts(report),
         rows=lines(rows),
     )

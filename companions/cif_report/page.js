@@ -50,7 +50,7 @@
       let any = false;
       for (const train of group.querySelectorAll(".train")) {
         const operators = train.dataset.operator.split(" ");
-        const shown = changes && (operator === "*" || operators.includes(operator)) && (!wanted || calls(train, wanted));
+        const shown = changes && (operator === "all" || operators.includes(operator)) && (!wanted || calls(train, wanted));
         train.hidden = !shown;
         any = any || shown;
       }

@@ -43,8 +43,8 @@ KIND_NAMES = {
 }
 SYMBOLS = {RUNS: "+", CANCELLED: "×"}
 DIFFERENT = "•"
-# What stands for the code of an operator where a train has none.
-NO_OPERATOR = "-"
+# What stands for the code of an operator, of two letters, where a train has none.
+NO_OPERATOR = "none"
 
 # ---- the dates of a group
 
@@ -172,7 +172,7 @@ COLUMN_NAMES = '<th scope="col">Arr.</th><th scope="col">Dep.</th><th scope="col
 
 def calls_of(report: Report, train: Train, change: Change) -> Markup:
     """The calls of a change, both side by side, or those of the body that there is."""
-    bodies = [body_at(report, place) for place in (change.old, change.new) if place]
+    bodies = [body_at(report, place) for place in (*change.old[:1], *change.new[:1])]
     both = len(bodies) == 2
     if both:
         rows = [call_row(report, *row) for row in rows_of(bodies[0].calls, bodies[1].calls)]
@@ -240,8 +240,7 @@ class TrainsPart:
         bodies = [
             body_at(self.report, place)
             for change in train.changes
-            for place in (change.old, change.new)
-            if place
+            for place in dict.fromkeys((*change.old, *change.new))
         ]
         operators = list(dict.fromkeys(body.operator or NO_OPERATOR for body in bodies))
         self.operators.update(dict.fromkeys(operators))

@@ -273,7 +273,7 @@ def data(old: Body, new: Body, pairs: Sequence[Pair], names: Names) -> Iterator[
         was, now = (body.operator and names.operator(body.operator) for body in (old, new))
         yield Phrase(DATA, new_for_old("operator", now, was))
     unlike = [
-        (field_name(field), text_of(after), text_of(before))
+        (field_name(field), after, before)
         for field, before, after in fields_of(old, new)
         if before != after and field not in ("identity", "operator")
     ]
@@ -292,13 +292,14 @@ def data(old: Body, new: Body, pairs: Sequence[Pair], names: Names) -> Iterator[
         of_calls.append("changes en route")
     if of_calls:
         yield Phrase(DATA, f"other data of calls: {listed(of_calls)}")
+    if (old.extra is None) != (new.extra is None) and not any((old.operator, new.operator, unlike)):
+        yield Phrase(DATA, "other data")
 
 
-def fields_of(old: Body, new: Body) -> Iterator[Tuple[str, bytes, bytes]]:
-    yield from zip(BASIC_FIELDS, old.basic, new.basic)
+def fields_of(old: Body, new: Body) -> Iterator[Tuple[str, str, str]]:
     none = (b"",) * len(EXTRA_FIELDS)
-    if old.extra != new.extra:
-        yield from zip(EXTRA_FIELDS, old.extra or none, new.extra or none)
+    before, after = ((*body.basic, *(body.extra or none)) for body in (old, new))
+    yield from zip((*BASIC_FIELDS, *EXTRA_FIELDS), map(text_of, before), map(text_of, after))
 
 
 def phrases_of(old: Body, new: Body, names: Names) -> Tuple[Phrase, ...]:
@@ -307,6 +308,7 @@ def phrases_of(old: Body, new: Body, names: Names) -> Tuple[Phrase, ...]:
     found: List[Phrase] = []
     if not same_places(old, new):
         found += places(old, new, rows, names)
+        found = found or [Phrase(PLACES, "other calls")]
     pairs = unlike_pairs(rows)
     found += times(rows, pairs, names)
     found += platforms(pairs, names)

@@ -130,7 +130,7 @@ def check_days(counts, name, expected, page):
         [extract.trains_on(day) for day in expected.dates]
         for extract in (expected.old, expected.new)
     ]
-    check_chart(counts, f"{name}, all trains", page.charts[""], *series)
+    check_chart(counts, f"{name}, all trains", page.charts["all"], *series)
 
 
 def check_chart(counts, name, chart, before, after):
@@ -185,12 +185,12 @@ def check_operators_and_places(counts, name, expected, page):
             for day in days
         ]
         bodies = [body for body in found if body]
-        operators = {body.schedule["operator_code"] or "-" for body in bodies}
+        operators = {body.schedule["operator_code"] or "none" for body in bodies}
         counts.test(
             f"{name}, operators of {train.uid}", set(train.operators) <= operators, train.operators
         )
         both = {
-            body.schedule["operator_code"] or "-"
+            body.schedule["operator_code"] or "none"
             for extract in (expected.old, expected.new)
             for day in days
             if (body := extract.bodies.get(train.uid, {}).get(day))
@@ -234,11 +234,16 @@ def check_size(counts, maker, expected, *words):
     same_values(counts, "a small page, the CSV file", changes, page.by_kind(expected.dates))
 
 
-def check_page(counts, name, expected, page):
-    """All of a page."""
+def check_trains_and_days(counts, name, expected, page):
+    """All of a page but associations and places."""
     check_expected(counts, name, expected)
-    check_summary(counts, name, expected, page)
     check_days(counts, name, expected, page)
     check_trains(counts, name, expected, page)
     check_operators_and_places(counts, name, expected, page)
+
+
+def check_page(counts, name, expected, page):
+    """All of a page."""
+    check_trains_and_days(counts, name, expected, page)
+    check_summary(counts, name, expected, page)
     check_others(counts, name, expected, page)

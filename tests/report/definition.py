@@ -101,9 +101,14 @@ def public(row):
 
 def pairs_of(old, new):
     """The calls at places where both call, or both pass."""
-    places = dict(numbered(old.calls))
-    found = ((places.get(key), row) for key, row in numbered(new.calls))
-    return [(was, now) for was, now in found if was and bool(was["pass"]) == bool(now["pass"])]
+    keys = [key for key, _ in numbered(old.calls)]
+    found, done = [], 0
+    for key, row in numbered(new.calls):
+        # those whose order is another one stand alone
+        if key in keys[done:]:
+            done = keys.index(key) + 1
+            found.append((old.calls[done - 1], row))
+    return [(was, now) for was, now in found if bool(was["pass"]) == bool(now["pass"])]
 
 
 def kinds_of(old, new):

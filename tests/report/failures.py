@@ -10,6 +10,8 @@ from gtfs.failures import FAILING
 from .by_hand import extract, june
 from .checks import Maker
 
+STOPS = signal.SIGTERM, signal.SIGINT, signal.SIGHUP
+
 
 def files_in(folder):
     return {path.name: path.read_bytes() for path in folder.iterdir() if path.is_file()}
@@ -156,10 +158,16 @@ def check_signals(counts, maker, old, new):
     failing = failing_cif(maker, "schedules", "touch reached; exec sleep 60")
     before, reached = files_in(maker.folder), maker.folder / "reached"
     words = [COMPANIONS / "cif-report", "--cif", failing.cif, old, new]
-    for number in signal.SIGTERM, signal.SIGINT, signal.SIGHUP:
-        process = subprocess.Popen(
-            words, cwd=maker.folder, stderr=subprocess.PIPE, start_new_session=True
-        )
+
+    def not_ignored():
+        # a background job of a shell is started with some of them ignored
+        for each in STOPS:
+            signal.signal(each, signal.SIG_DFL)
+
+    options = {"cwd": maker.folder, "stderr": subprocess.PIPE, "start_new_session": True}
+    options["preexec_fn"] = not_ignored
+    for number in STOPS:
+        process = subprocess.Popen(words, **options)
         for _ in range(600):
             if reached.exists():
                 break

@@ -77,7 +77,7 @@ class Train:
     def __init__(self, markup):
         self.markup = markup
         get = dict(re.findall(r'data-(\w+)="([^"]*)"', markup))
-        self.uid, self.operators = unescape(get["uid"]), get["operator"].split(" ")
+        self.uid, self.operators = unescape(get["uid"]), unescape(get["operator"]).split(" ")
         self.places = list(map(int, get["places"].split(" ")))
         self.text = text_of(markup)
 
@@ -105,11 +105,8 @@ class Page:
         )
         self.calendar = {date.fromisoformat(day): number_of(count) for _, day, count in cells}
         self.levels = {date.fromisoformat(day): int(level) for level, day, _ in cells}
-        self.charts = dict(
-            re.findall(
-                r'(?s)<figure class="chart \w+" data-operator="(.*?)">(.*?)</figure>', self.markup
-            )
-        )
+        charts = r'(?s)<figure class="chart \w+" data-operator="(.*?)">(.*?)</figure>'
+        self.charts = {unescape(code): chart for code, chart in re.findall(charts, self.markup)}
         self.trains_of_files = dict(re.findall(r'data-trains="(\w+)">([\d,]+)<', self.markup))
         data = re.findall(
             r'(?s)<script type="application/json" id="data">(.*?)</script>', self.markup

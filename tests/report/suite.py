@@ -10,9 +10,10 @@ HERE = Path(__file__).resolve().parent
 TOP = HERE.parents[1]
 sys.path[:1] = [str(HERE.parent), str(TOP / "companions")]
 
+from gtfs import generated
 from gtfs.checks import Counts
 from report import browser, by_hand, failures, timetables, words
-from report.checks import Maker, check_page, check_size
+from report.checks import Maker, check_page, check_size, check_trains_and_days
 from report.definition import Expected
 
 SCHEDULES = 2000
@@ -37,6 +38,15 @@ def check_generated(counts, cif, maker):
     return maker.folder / "shown.html"
 
 
+def check_by_chance(counts, cif, maker):
+    """A pair of extracts whose records are made by chance: odd journeys, changes en route, no operators."""
+    old, new = maker.folder / "odd-old.cif", maker.folder / "odd-new.cif"
+    for number, path in enumerate((old, new)):
+        path.write_bytes(generated.extract(random.Random(SEED + number), 200))
+    page = maker.page("--most", "1000", old, new)
+    check_trains_and_days(counts, "a pair by chance", Expected(cif, old, new), page)
+
+
 def main():
     counts, cif = Counts(), Path(sys.argv[1]).resolve()
     with tempfile.TemporaryDirectory(prefix="cif-report-") as work:
@@ -44,6 +54,7 @@ def main():
         examples = TOP / "examples" / "timetable.cif", TOP / "examples" / "changed.cif"
         check_page(counts, "the examples", Expected(cif, *examples), maker.page(*examples))
         shown = check_generated(counts, cif, maker)
+        check_by_chance(counts, cif, maker)
         by_hand.check(counts, maker)
         failures.check(counts, maker)
         words.check(counts)
