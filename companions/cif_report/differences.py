@@ -1,6 +1,7 @@
 """What `cif diff` says, record by record, and what that means for a train on each date."""
 from __future__ import annotations
 
+import os
 import re
 from hashlib import blake2b
 from typing import IO, Dict, Iterator, List, NamedTuple, Tuple
@@ -66,8 +67,8 @@ class Copy:
         self.file = file
 
     def text(self, place: Place) -> bytes:
-        self.file.seek(place.at)
-        return self.file.read(place.length)
+        self.file.flush()
+        return os.pread(self.file.fileno(), place.length, place.at)
 
 
 class Terms:

@@ -171,10 +171,11 @@ def public_times(call: Call) -> Tuple[bytes, ...]:
 
 
 def times(rows: Sequence[Row], pairs: Sequence[Pair], names: Names) -> Iterator[Phrase]:
-    text = time_words(steps_of(rows), names)
-    if text:
-        yield Phrase(TIMES, text)
-        return
+    if any(old.times != new.times for old, new in pairs):
+        text = time_words(steps_of(rows), names)
+        if text:
+            yield Phrase(TIMES, text)
+            return
     unlike = [
         names.at(new)
         for old, new in pairs
@@ -272,9 +273,10 @@ def data(old: Body, new: Body, pairs: Sequence[Pair], names: Names) -> Iterator[
     if old.operator != new.operator:
         was, now = (body.operator and names.operator(body.operator) for body in (old, new))
         yield Phrase(DATA, new_for_old("operator", now, was))
+    same = old.basic == new.basic and old.extra == new.extra
     unlike = [
         (field_name(field), after, before)
-        for field, before, after in fields_of(old, new)
+        for field, before, after in ([] if same else fields_of(old, new))
         if before != after and field not in ("identity", "operator")
     ]
     if len(unlike) <= MOST_NAMES:
