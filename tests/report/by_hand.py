@@ -1,5 +1,6 @@
 """Pairs of extracts that differ in one thing each, with what the page says of it in words."""
 import re
+from collections import Counter
 from dataclasses import replace
 from datetime import date, timedelta
 
@@ -264,13 +265,51 @@ def write(maker, name, text):
     return path
 
 
+# These are pairs of their own, as a train that another case lacks or adds could be the same one under another UID.
+OF_THEIR_OWN = "gone", "new", "another UID"
+
+
+def renamed(trains, number):
+    """The trains of a case, with UIDs of their own."""
+    return [replace(train, uid=f"{train.uid[0]}{number:02}{train.uid[3:]}") for train in trains]
+
+
+def check_case(counts, page, name, of_case):
+    """The words and the numbers of a case, whose trains are told by their UIDs."""
+    _, words, numbers = CASES[name]
+    groups = [group for group in page.groups if any(map(of_case, group.trains))]
+    counts.same(
+        f"{name}, in words", words, [" ".join(each) for group in groups for each in group.words]
+    )
+    got = Counter()
+    for group in groups:
+        kinds = [kind for kind in group.kinds if kind != "data" or len(group.kinds) == 1]
+        got.update({kind: sum(map(of_case, group.trains)) for kind in kinds})
+    counts.same(f"{name}, numbers", numbers, dict(got))
+
+
 def check_words(counts, maker):
+    """The cases, all but some in one pair."""
     old = write(maker, "before.cif", extract())
-    for name, (trains, words, numbers) in CASES.items():
-        page = maker.page(old, write(maker, "after.cif", extract(trains)))
-        counts.same(f"{name}, in words", words, page.words())
+    together = [name for name in CASES if name not in OF_THEIR_OWN]
+    before = [train for number in range(len(together)) for train in renamed(TRAINS, number)]
+    after = []
+    for number, name in enumerate(together):
+        changed = renamed(CASES[name][0], number)
+        uids = {train.uid for train in changed}
+        after += changed + [train for train in renamed(TRAINS, number) if train.uid not in uids]
+    texts = extract(before, associations=()), extract(after, associations=())
+    paths = [write(maker, f"together-{number}.cif", text) for number, text in enumerate(texts)]
+    page = maker.page("--most", "1000", *paths)
+    for number, name in enumerate(together):
+        check_case(
+            counts, page, name, lambda train, number=number: train.uid[1:3] == f"{number:02}"
+        )
+    for name in OF_THEIR_OWN:
+        page = maker.page(old, write(maker, "after.cif", extract(CASES[name][0])))
+        check_case(counts, page, name, lambda train: True)
         got = {kind: number for kind, number in page.figures.items() if number}
-        counts.same(f"{name}, numbers", numbers, got)
+        counts.same(f"{name}, numbers of the page", CASES[name][2], got)
     trains = [
         replace(TRAIN, first=june(29), last=june(30)),
         replace(TRAIN, uid="B00001", identity="9Z99"),
