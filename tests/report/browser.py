@@ -351,18 +351,17 @@ def check(counts, page):
     path = program()
     if path is None:
         return False
-    made = Page(page)
-    with tempfile.TemporaryDirectory(
-        prefix="cif-report-browser-", ignore_cleanup_errors=True
-    ) as folder:
-        browser = Browser(path, folder)
-        try:
-            browser.attach()
-            check_looks(counts, browser, page)
-            check_filter(counts, browser, page, made)
-            check_keyboard(counts, browser, page)
-            check_without_script(counts, browser, page, made)
-            check_print(counts, browser, page, made)
-        finally:
-            browser.close()
+    made, folder = Page(page), tempfile.mkdtemp(prefix="cif-report-browser-")
+    browser = Browser(path, folder)
+    try:
+        browser.attach()
+        check_looks(counts, browser, page)
+        check_filter(counts, browser, page, made)
+        check_keyboard(counts, browser, page)
+        check_without_script(counts, browser, page, made)
+        check_print(counts, browser, page, made)
+    finally:
+        browser.close()
+        # what the browser still writes there doesn't matter
+        shutil.rmtree(folder, ignore_errors=True)
     return True
