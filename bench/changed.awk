@@ -1,4 +1,4 @@
-# Changes a tenth of the trains of an extract: their first date goes, all times are 12 minutes later, there are other platforms, or they have
+# Changes a tenth of the trains of an extract: one date less, all times 12 minutes later, other platforms, another UID, or another identity.
 # another UID, or another identity.
 
 # later TEXT: a time 12 minutes later

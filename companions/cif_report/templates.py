@@ -1,13 +1,15 @@
 """The templates of the page, which are files of HTML beside this one, and what fills them."""
 from __future__ import annotations
 
+import re
 from functools import lru_cache
 from html import escape
 from pathlib import Path
 from string import Template
-from typing import Iterable
+from typing import Dict, Iterable
 
 HERE = Path(__file__).resolve().parent
+PART = re.compile("^<!-- part ([a-z_]+) -->$", re.MULTILINE)
 
 
 class Markup(str):
@@ -20,8 +22,14 @@ def file_text(name: str) -> str:
 
 
 @lru_cache(maxsize=None)
-def template(name: str) -> Template:
-    return Template(file_text(f"{name}.html").rstrip("\n"))
+def templates() -> Dict[str, Template]:
+    """The parts of all files of HTML by their names. A comment such as `<!-- part page -->` begins one."""
+    found: Dict[str, Template] = {}
+    for path in HERE.glob("*.html"):
+        _, *parts = PART.split(file_text(path.name))
+        for name, text in zip(parts[::2], parts[1::2]):
+            found[name] = Template(text.strip("\n"))
+    return found
 
 
 def escaped(value: object) -> str:
@@ -31,7 +39,7 @@ def escaped(value: object) -> str:
 def fill(part: str, **values: object) -> Markup:
     """A template with its values."""
     texts = {key: escaped(value) for key, value in values.items()}
-    return Markup(template(part).substitute(texts))
+    return Markup(templates()[part].substitute(texts))
 
 
 def joined(parts: Iterable[str], between: str = "") -> Markup:
