@@ -6,6 +6,9 @@ from gtfs.checks import COMPANIONS
 
 from .page import Page, bars, heights
 
+# The numbers of the page that aren't of trains.
+OTHERS = "associations", "tiplocs"
+
 
 class Maker:
     """Runs cif-report in a folder."""
@@ -61,13 +64,10 @@ def check_expected(counts, name, expected):
 
 
 def check_summary(counts, name, expected, page):
-    figures = {
-        **expected.figures(),
-        "associations": len(expected.associations()),
-        "tiplocs": len(expected.places()),
-    }
-    want = {kind: figures.get(kind, 0) for kind in page.figures}
-    counts.same(f"{name}, numbers of trains by kind", want, page.figures)
+    figures = expected.figures()
+    want = {kind: figures.get(kind, 0) for kind in page.figures if kind not in OTHERS}
+    got = {kind: number for kind, number in page.figures.items() if kind not in OTHERS}
+    counts.same(f"{name}, numbers of trains by kind", want, got)
     new = {
         uid for uid, kind in expected.changes if kind == "runs" and uid not in expected.old.bodies
     }
@@ -204,6 +204,9 @@ def check_operators_and_places(counts, name, expected, page):
 
 
 def check_others(counts, name, expected, page):
+    want = {"associations": len(expected.associations()), "tiplocs": len(expected.places())}
+    got = {kind: page.figures[kind] for kind in OTHERS}
+    counts.same(f"{name}, numbers of other changes", want, got)
     want = sorted((base, associated) for base, associated, _, _ in expected.associations())
     got = sorted((base, associated) for base, associated, _ in page.associations)
     counts.same(f"{name}, associations", want, got)
@@ -237,6 +240,7 @@ def check_size(counts, maker, expected, *words):
 def check_trains_and_days(counts, name, expected, page):
     """All of a page but associations and places."""
     check_expected(counts, name, expected)
+    check_summary(counts, name, expected, page)
     check_days(counts, name, expected, page)
     check_trains(counts, name, expected, page)
     check_operators_and_places(counts, name, expected, page)
@@ -245,5 +249,4 @@ def check_trains_and_days(counts, name, expected, page):
 def check_page(counts, name, expected, page):
     """All of a page."""
     check_trains_and_days(counts, name, expected, page)
-    check_summary(counts, name, expected, page)
     check_others(counts, name, expected, page)
