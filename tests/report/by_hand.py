@@ -269,7 +269,7 @@ def write(maker, name, text):
 OF_THEIR_OWN = "gone", "new", "another UID"
 
 
-def renamed(trains, number):
+def with_own_uids(trains, number):
     """The trains of a case, with UIDs of their own."""
     return [replace(train, uid=f"{train.uid[0]}{number:02}{train.uid[3:]}") for train in trains]
 
@@ -292,12 +292,14 @@ def check_words(counts, maker):
     """The cases, all but some in one pair."""
     old = write(maker, "before.cif", extract())
     together = [name for name in CASES if name not in OF_THEIR_OWN]
-    before = [train for number in range(len(together)) for train in renamed(TRAINS, number)]
+    before = [train for number in range(len(together)) for train in with_own_uids(TRAINS, number)]
     after = []
     for number, name in enumerate(together):
-        changed = renamed(CASES[name][0], number)
+        changed = with_own_uids(CASES[name][0], number)
         uids = {train.uid for train in changed}
-        after += changed + [train for train in renamed(TRAINS, number) if train.uid not in uids]
+        after += changed + [
+            train for train in with_own_uids(TRAINS, number) if train.uid not in uids
+        ]
     texts = extract(before, associations=()), extract(after, associations=())
     paths = [write(maker, f"together-{number}.cif", text) for number, text in enumerate(texts)]
     page = maker.page("--most", "1000", *paths)
