@@ -260,11 +260,12 @@ def check_filter(counts, browser, page, made):
     for kind in sorted({kind for group in made.groups for kind in group.kinds}):
         of_kind = trains_with(made, lambda group, train, kind=kind: kind in group.kinds)
         check_one_filter(counts, browser, made, f"kind {kind}", {"kind": kind}, of_kind)
-    day = min(min(days) for group in made.groups for days in group.kinds.values())
-    on_date = trains_with(
-        made, lambda group, train: any(day in days for days in group.kinds.values())
-    )
-    check_one_filter(counts, browser, made, "date", {"date": day.isoformat()}, on_date)
+    all_dates = [days for group in made.groups for days in group.kinds.values()]
+    for day in max(map(max, all_dates)), min(map(min, all_dates)):
+        on_date = trains_with(
+            made, lambda group, _, day=day: any(day in days for days in group.kinds.values())
+        )
+        check_one_filter(counts, browser, made, f"date {day}", {"date": day.isoformat()}, on_date)
     both = trains_with(made, lambda group, train: day in group.kinds.get("cancelled", ()))
     fields = {"date": day.isoformat(), "kind": "cancelled"}
     check_one_filter(counts, browser, made, "date and kind", fields, both)
