@@ -2,12 +2,12 @@
 (function () {
   "use strict";
   const form = document.getElementById("filter");
-  if (!form) {
+  const trains = Array.from(document.querySelectorAll(".train"));
+  if (!trains.length) {
     return;
   }
   const { places, firstDate } = JSON.parse(document.getElementById("data").textContent);
   const groups = Array.from(document.querySelectorAll(".group"));
-  const trains = Array.from(document.querySelectorAll(".train"));
   const field = form.elements;
 
   // Which places a text may mean: a CRS code or a TIPLOC, or else a part of a name.

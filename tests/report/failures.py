@@ -145,6 +145,10 @@ def check_failures(counts, maker, old, new):
     for table in "header", "tiplocs", "schedules":
         failing = failing_cif(maker, table, "echo 'cif: Memory' >&2; exit 4")
         refused(counts, failing, f"cif fails at {table}", 4, "cif: Memory", old, new)
+    changing = failing_cif(maker, "schedules", f"touch -d 2001-01-01 {old}; exit 0")
+    refused(
+        counts, changing, "an extract that changes", 4, "has changed while it was read", old, new
+    )
     (maker.folder / "failing-cif").unlink()
 
     def little_space():
