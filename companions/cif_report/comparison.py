@@ -124,8 +124,9 @@ class Reading:
     def __init__(self, names: Names) -> None:
         self.names = names
         self.drafts: Dict[bytes, Draft] = {}
-        # equal faces are kept once
+        # equal faces and equal phrases are kept once
         self.faces: Dict[Face, Face] = {}
+        self.phrases: Dict[Tuple[Phrase, ...], Tuple[Phrase, ...]] = {}
 
     def add(self, uid: bytes, sides: Sides) -> None:
         parts = sides.parts()
@@ -142,7 +143,8 @@ class Reading:
         for part in parts:
             if part.old and part.new:
                 [old], [new] = part.old, part.new
-                phrases = phrases_of(read(old), read(new), self.names)
+                found = phrases_of(read(old), read(new), self.names)
+                phrases = self.phrases.setdefault(found, found)
                 draft.alter(Change(phrases, part.dates, (old.place,), (new.place,)))
             else:
                 self.add_alone(draft, part)

@@ -42,6 +42,9 @@ FIELD_NAMES = {
     "timetable_code": "timetable code",
     "reserved_a": "RSID",
     "reserved_b": "reserved column",
+    "engineering": "engineering allowance",
+    "pathing": "pathing allowance",
+    "performance": "performance allowance",
 }
 # The columns of calls that are no places, times or platforms.
 CALL_DATA = "suffix line path activities engineering pathing performance".split()

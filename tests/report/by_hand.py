@@ -484,7 +484,7 @@ def check_example(counts, maker):
     page = maker.page(folder / "timetable.cif", folder / "changed.cif")
     want = [
         "Cancelled on Sat 6 June",
-        "30 to 36 min later; other data of calls: engineering on Sun 7 June",
+        "30 to 36 min later; other data of calls: engineering allowance on Sun 7 June",
     ]
     counts.same("the examples, in words", want, page.words())
 
