@@ -88,7 +88,7 @@ dependencies() {
 # put_documents PLACE: copies the documents and the examples, so that each link of a document leads to a file
 put_documents() {
     put 644 "$1" "$top/README.md" "$top/CHANGELOG.md" "$top/CONTRIBUTING.md" "$top/LICENSE"
-    put 644 "$1/docs" "$top"/docs/*.md
+    put 644 "$1/docs" "$top"/docs/*.md "$top"/docs/*.png
     put 644 "$1/bench" "$top/bench/README.md"
     put 644 "$1/examples" "$top"/examples/*
 }
@@ -118,7 +118,7 @@ Description: work out what runs on each date of a CIF timetable extract
  each date of the extract's window, and writes that down as an extract that
  needs no further rules. It also lists how two extracts differ, what runs on
  a day, and why a train runs or doesn't. cif-gtfs makes a GTFS feed of an
- extract, and cif-sql a database.
+ extract, cif-sql a database, and cif-report a page of what changed between two.
 END
 deb=cif_${version}_amd64.deb
 SOURCE_DATE_EPOCH=$time dpkg-deb --root-owner-group -Zxz --build "$root" "$work/$deb" > /dev/null

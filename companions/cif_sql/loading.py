@@ -3,7 +3,7 @@ from __future__ import annotations
 
 import re
 from contextlib import ExitStack
-from datetime import datetime, timedelta
+from datetime import timedelta
 from itertools import accumulate
 from operator import itemgetter
 from typing import IO, Dict, Iterator, List, Mapping, NamedTuple, Optional, Tuple
@@ -11,6 +11,7 @@ from typing import IO, Dict, Iterator, List, Mapping, NamedTuple, Optional, Tupl
 from cif_shared.csv_files import Key
 from cif_shared.dates import Window
 from cif_shared.files import BLOCK, scratch_file
+from cif_shared.headers import extracted_at
 from cif_shared.operators import OperatorRow, operator_name
 from cif_shared.places import PlaceRow, Places
 from cif_shared.progress import Progress
@@ -37,19 +38,6 @@ class UserFiles(NamedTuple):
 
     places: Mapping[Key, PlaceRow]
     operators: Mapping[Key, OperatorRow]
-
-
-def extracted_at(header: Header) -> Optional[str]:
-    """When the extract was made, or None if its header has no such date and time."""
-    text = header.extract_date + header.extract_time
-    if not re.fullmatch(r"\d{10}", text):
-        return None
-    day, month, year, hour, minute = (int(text[at : at + 2]) for at in range(0, 10, 2))
-    try:
-        moment = datetime(year + (1900 if year >= 60 else 2000), month, day, hour, minute)
-    except ValueError:
-        return None
-    return moment.isoformat(timespec="minutes")
 
 
 # ---- places, associations, dates

@@ -8,9 +8,9 @@ from typing import IO, Dict, NamedTuple, Sequence
 
 from cif_shared.endings import Misused
 from cif_shared.files import BLOCK, scratch_file
+from cif_shared.headers import extracted_at
 from cif_shared.tables import Header
 
-from .loading import extracted_at
 from .schema import Database, sql
 
 # Names that are the same in double quotes and without, and with `_new` have at most 63 letters.

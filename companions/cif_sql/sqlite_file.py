@@ -9,9 +9,9 @@ from typing import Iterator, Optional, Sequence, Tuple
 from urllib.parse import quote
 
 from cif_shared.endings import Failed, Refused
+from cif_shared.headers import extracted_at
 from cif_shared.tables import Header
 
-from .loading import extracted_at
 from .schema import Database, sql
 
 # SQLite's number for the program that a file is of: "cif1", the 1 for the layout of its tables.

@@ -1,0 +1,172 @@
+"""Dates as people write them, and as weeks."""
+from __future__ import annotations
+
+from datetime import date, timedelta
+from typing import Iterator, List, NamedTuple, Optional, Sequence
+
+from cif_shared.dates import Dates, Window, between, count_of, numbers_of
+
+MONTHS = "January February March April May June July August September October November December"
+MONTH_NAMES = MONTHS.split()
+DAY_NAMES = "Monday Tuesday Wednesday Thursday Friday Saturday Sunday".split()
+ALL_DAYS = (1 << 7) - 1
+# So many dates are listed.
+MOST_LISTED = 4
+# So many exceptions are, if there are that many dates for each.
+MOST_EXCEPTIONS = 3
+DATES_FOR_EXCEPTION = 4
+
+
+def listed(words: Sequence[str], last: str = "and") -> str:
+    """Words with commas, and `and` before the last."""
+    if len(words) < 2:
+        return "".join(words)
+    return f"{', '.join(words[:-1])} {last} {words[-1]}"
+
+
+def short_weekday(day: date) -> str:
+    return DAY_NAMES[day.weekday()][:3]
+
+
+class Span(NamedTuple):
+    """Weeks that follow one another with the same days: the first and the last date, and of each
+    week the days, Monday first."""
+
+    first: date
+    last: date
+    days: str
+
+
+class Calendar:
+    """The window, in words. Years are written where it has several."""
+
+    def __init__(self, window: Window) -> None:
+        self.window = window
+        self.several_years = window.days[0].year != window.days[-1].year
+
+    def year(self, day: date) -> str:
+        return f" {day.year}" if self.several_years else ""
+
+    def day(self, day: date, with_year: bool = False) -> str:
+        """Such as `Sat 6 June`."""
+        year = f" {day.year}" if with_year else self.year(day)
+        return f"{short_weekday(day)} {day.day} {MONTH_NAMES[day.month - 1]}{year}"
+
+    def day_month(self, day: date, with_year: bool = False) -> str:
+        """Such as `6 June`."""
+        year = f" {day.year}" if with_year else self.year(day)
+        return f"{day.day} {MONTH_NAMES[day.month - 1]}{year}"
+
+    def period(self, first: date, last: date) -> str:
+        """Such as `1 to 12 June`."""
+        if (first.year, first.month) == (last.year, last.month):
+            return f"{first.day} to {self.day_month(last)}"
+        return f"{self.day_month(first)} to {self.day_month(last)}"
+
+    def listed_days(self, days: Sequence[date], weekdays: bool) -> str:
+        """Such as `Sat 6, Sun 7 and Sat 13 June`: the month stands behind its last date."""
+        words = []
+        following_days: List[Optional[date]] = [*days[1:], None]
+        for day, following in zip(days, following_days):
+            month = following is None or (day.year, day.month) != (following.year, following.month)
+            word = f"{short_weekday(day)} " if weekdays else ""
+            words.append(word + (self.day_month(day) if month else str(day.day)))
+        return listed(words)
+
+    def words(self, dates: Dates) -> str:
+        """A set of dates, such as `on Mondays to Fridays from 1 to 12 June`."""
+        days = [self.window.days[number] for number in numbers_of(dates)]
+        count = len(days)
+        first, last = days[0], days[-1]
+        if 2 < count < 7 and (last - first).days == count - 1:
+            since = f"{short_weekday(first)} {first.day}{self.month_unlike(first, last)}"
+            return f"from {since} to {self.day(last)}"
+        if count <= MOST_LISTED:
+            return f"on {self.listed_days(days, True)}"
+        weekdays = sum(1 << day for day in {day.weekday() for day in days})
+        possible = self.of_weekdays(weekdays)
+        start, end = (self.window.numbers[day.isoformat().encode()] for day in (first, last))
+        lacking = possible & between(start, end) & ~dates
+        exceptions = count_of(lacking)
+        if exceptions > MOST_EXCEPTIONS or count < exceptions * DATES_FOR_EXCEPTION:
+            return f"on {count} dates from {self.period(first, last)}"
+        text = weekday_words(weekdays) + self.bounds(possible, dates, first, last)
+        if exceptions:
+            left_out = [self.window.days[number] for number in numbers_of(lacking)]
+            text += f", but not on {self.listed_days(left_out, False)}"
+        return text
+
+    def month_unlike(self, first: date, last: date) -> str:
+        """The month of the first date, where the last has another."""
+        same = (first.year, first.month) == (last.year, last.month)
+        return "" if same else f" {MONTH_NAMES[first.month - 1]}"
+
+    def of_weekdays(self, weekdays: int) -> Dates:
+        return sum(self.window.weekdays[day] for day in range(7) if weekdays >> day & 1)
+
+    def bounds(self, possible: Dates, dates: Dates, first: date, last: date) -> str:
+        """From when to when, as far as it isn't from the first to the last of the window."""
+        begins = possible & -possible == dates & -dates
+        ends = possible.bit_length() == dates.bit_length()
+        if begins and ends:
+            return ""
+        if ends:
+            return f" from {self.day_month(first)} on"
+        if begins:
+            return f" until {self.day_month(last)}"
+        return f" from {self.period(first, last)}"
+
+    def spans(self, dates: Dates) -> List[Span]:
+        """The dates as weeks that follow one another with the same days."""
+        return list(self.joined(dates))
+
+    def joined(self, dates: Dates) -> Iterator[Span]:
+        offset = self.window.days[0].weekday()
+        weeks = dates << offset
+        monday = self.window.days[0] - timedelta(days=offset)
+        number = 0
+        while weeks:
+            empty = ((weeks & -weeks).bit_length() - 1) // 7
+            weeks >>= 7 * empty
+            number += empty
+            mask = weeks & ALL_DAYS
+            start = number
+            while weeks & ALL_DAYS == mask:
+                weeks >>= 7
+                number += 1
+            first = monday + timedelta(days=7 * start + (mask & -mask).bit_length() - 1)
+            last = monday + timedelta(days=7 * (number - 1) + mask.bit_length() - 1)
+            yield Span(first, last, "".join(str(mask >> day & 1) for day in range(7)))
+
+
+def weekday_words(weekdays: int) -> str:
+    """Weekdays, such as `on Mondays to Fridays`, or `every day`."""
+    if weekdays == ALL_DAYS:
+        return "every day"
+    days = [day for day in range(7) if weekdays >> day & 1]
+    names = [f"{DAY_NAMES[day]}s" for day in days]
+    if len(days) > 2 and days[-1] - days[0] == len(days) - 1:
+        return f"on {names[0]} to {names[-1]}"
+    return f"on {listed(names)}"
+
+
+class DateCounts:
+    """How many sets have each date: the numbers in binary, a set of dates for each digit."""
+
+    def __init__(self) -> None:
+        self.digits: List[Dates] = []
+
+    def add(self, dates: Dates) -> None:
+        for at, digit in enumerate(self.digits):
+            if not dates:
+                return
+            self.digits[at] = digit ^ dates
+            dates &= digit
+        if dates:
+            self.digits.append(dates)
+
+    def counts(self, length: int) -> List[int]:
+        return [
+            sum((digit >> number & 1) << at for at, digit in enumerate(self.digits))
+            for number in range(length)
+        ]

@@ -1,0 +1,252 @@
+"""A page against what `cif` says, number by number and date by date."""
+import subprocess
+import sys
+
+from gtfs.checks import COMPANIONS
+
+from .page import Page, bars, heights
+
+# The numbers of the page that aren't of trains.
+OTHERS = "associations", "tiplocs"
+
+
+class Maker:
+    """Runs cif-report in a folder."""
+
+    def __init__(self, cif, folder):
+        self.cif, self.folder = cif, folder
+
+    def run(self, *words, **options):
+        words = [COMPANIONS / "cif-report", "--cif", self.cif, *words]
+        options = {"text": True, **options}
+        return subprocess.run(words, cwd=self.folder, capture_output=True, check=False, **options)
+
+    def small_page(self, most_bytes, *words):
+        """What a page says that may have so many bytes only."""
+        program = f"import sys; sys.path.insert(0, {str(COMPANIONS)!r}); from cif_report import page, command_line;"
+        program += f" page.MOST_BYTES = {most_bytes}; sys.exit(command_line.main())"
+        words = [sys.executable, "-B", "-c", program, "--cif", self.cif, "-o", "small.html", *words]
+        subprocess.run(words, cwd=self.folder, capture_output=True, check=True)
+        return Page(self.folder / "small.html")
+
+    def page(self, *words):
+        """What a page that is made says."""
+        done = self.run("-o", "made.html", *words)
+        if done.returncode:
+            raise RuntimeError(f"cif-report {words} ends with {done.returncode}: {done.stderr}")
+        return Page(self.folder / "made.html")
+
+
+def same_values(counts, name, want, got):
+    """Whether two dictionaries are equal. What is printed is the first key for which they aren't."""
+    unlike = [key for key in {**want, **got} if want.get(key) != got.get(key)]
+    first = unlike[0] if unlike else None
+    counts.test(name, not unlike, f"{first}: wanted {want.get(first)}, got {got.get(first)}")
+
+
+def check_expected(counts, name, expected):
+    """What the tables say is what `cif day` and `cif diff` say, and something differs."""
+    for extract in expected.old, expected.new:
+        wrong = [
+            day
+            for day in expected.dates
+            if extract.listed(day)
+            != sorted(uid for uid, bodies in extract.bodies.items() if day in bodies)
+        ]
+        counts.same(f"{name}, dates on which cif day lists other trains", [], wrong)
+    differing = {}
+    for uid in {*expected.old.bodies, *expected.new.bodies}:
+        old, new = (extract.bodies.get(uid, {}) for extract in (expected.old, expected.new))
+        days = {day for day in {*old, *new} if old.get(day) != new.get(day)}
+        if days:
+            differing[uid] = days
+    same_values(counts, f"{name}, trains and dates of cif diff", differing, expected.by_diff())
+
+
+def check_summary(counts, name, expected, page):
+    figures = expected.figures()
+    want = {kind: figures.get(kind, 0) for kind in page.figures if kind not in OTHERS}
+    got = {kind: number for kind, number in page.figures.items() if kind not in OTHERS}
+    counts.same(f"{name}, numbers of trains by kind", want, got)
+    new = {
+        uid for uid, kind in expected.changes if kind == "runs" and uid not in expected.old.bodies
+    }
+    gone = {
+        uid
+        for uid, kind in expected.changes
+        if kind == "cancelled" and uid not in expected.new.bodies
+    }
+    for kind, text, count in ("runs", "of them new", len(new)), (
+        "cancelled",
+        "of them for good",
+        len(gone),
+    ):
+        label = f", {count:,} {text}" if count else "\0"
+        counts.test(
+            f"{name}, {text}", (label in page.labels[kind]) == bool(count), (count, page.labels)
+        )
+    trains = {"Before": f"{len(expected.old.bodies):,}", "After": f"{len(expected.new.bodies):,}"}
+    counts.same(f"{name}, trains of the files", trains, page.trains_of_files)
+    differing = (
+        f"{len(expected.trains):,} trains are different"
+        if len(expected.trains) > 1
+        else "1 train is different"
+    )
+    counts.test(f"{name}, trains in the first sentence", differing in page.text, differing)
+    dates = [day for day in expected.dates if expected.on(day)]
+    count = f"on {len(dates):,} of the" if len(dates) < len(expected.dates) else "on all"
+    counts.test(f"{name}, dates in the first sentence", count in page.text, count)
+
+
+def check_days(counts, name, expected, page):
+    """The table behind the charts, the calendar, and the charts themselves."""
+    want, calendar = {}, {}
+    for day in expected.dates:
+        before, after = expected.old.trains_on(day), expected.new.trains_on(day)
+        want[day] = [before, after, after - before, expected.on(day)]
+        if expected.on(day):
+            calendar[day] = expected.on(day)
+    same_values(counts, f"{name}, trains a day", want, page.numbers)
+    same_values(counts, f"{name}, the calendar", calendar, page.calendar)
+    most = max(calendar.values())
+    levels = {day: -(-4 * count // most) for day, count in calendar.items()}
+    same_values(counts, f"{name}, colours of the calendar", levels, page.levels)
+    codes = {
+        body.schedule["operator_code"]
+        for extract in (expected.old, expected.new)
+        for bodies in extract.bodies.values()
+        for body in bodies.values()
+    }
+    for code in sorted(codes):
+        series = [
+            [extract.trains_on(day, code) for day in expected.dates]
+            for extract in (expected.old, expected.new)
+        ]
+        shown = code in page.charts
+        counts.same(f"{name}, a chart of {code}", series[0] != series[1], shown)
+        if shown:
+            check_chart(counts, f"{name}, {code}", page.charts[code], *series)
+    series = [
+        [extract.trains_on(day) for day in expected.dates]
+        for extract in (expected.old, expected.new)
+    ]
+    check_chart(counts, f"{name}, all trains", page.charts["all"], *series)
+
+
+def check_chart(counts, name, chart, before, after):
+    most = max(*before, *after, 1)
+    for part, numbers in ("before", before), ("after", after):
+        want = [1000 - round(1000 * number / most) for number in numbers]
+        counts.same(f"{name}, chart {part}", want, heights(chart, part, len(numbers)))
+    differences = [new - old for old, new in zip(before, after)]
+    scale = 1000 / max(max(0, *differences) + max(0, *(-each for each in differences)), 1)
+    for part, sign in ("more", 1), ("less", -1):
+        want = {
+            number: round(each * scale)
+            for number, each in enumerate(differences)
+            if each * sign > 0
+        }
+        counts.same(f"{name}, bars of {part}", want, bars(chart, part))
+
+
+def check_trains(counts, name, expected, page):
+    """Every change in the CSV file, and the trains on the page with their dates."""
+    changes = expected.changes
+    same_values(counts, f"{name}, changes in the CSV file", changes, page.by_kind(expected.dates))
+    shown = page.trains()
+    uids = [train.uid for train in shown]
+    counts.same(f"{name}, trains that stand twice", sorted(set(uids)), sorted(uids))
+    first, last = expected.dates[0], expected.dates[-1]
+    for group in page.groups:
+        for train in group.trains:
+            want = {kind: days for (uid, kind), days in changes.items() if uid == train.uid}
+            same_values(counts, f"{name}, dates of {train.uid}", want, group.kinds)
+        if group.all_weeks:
+            want = set().union(*group.kinds.values())
+            got = group.dates_of_weeks(first, last)
+            counts.same(f"{name}, weeks of {group.trains[0].uid}", want, got)
+    dates = [len(set().union(*group.kinds.values())) for group in page.groups]
+    counts.same(f"{name}, most dates first", sorted(dates, reverse=True), dates)
+    left_out = len(expected.trains) - len(uids)
+    rest = f"{left_out:,} changed train" if left_out else "changed trains are on this page"
+    counts.test(f"{name}, trains that aren't on the page", rest in page.text, rest)
+
+
+def check_operators_and_places(counts, name, expected, page):
+    """What the filter goes by."""
+    tiplocs = [place[2] for place in page.data["places"]]
+    for train in page.trains():
+        days = expected.trains[train.uid]
+        other = {new for old, new, *_ in expected.renumbered if old == train.uid}
+        found = [
+            extract.bodies.get(uid, {}).get(day)
+            for extract in (expected.old, expected.new)
+            for uid in {train.uid, *other}
+            for day in days
+        ]
+        bodies = [body for body in found if body]
+        operators = {body.schedule["operator_code"] or "none" for body in bodies}
+        counts.test(
+            f"{name}, operators of {train.uid}", set(train.operators) <= operators, train.operators
+        )
+        both = {
+            body.schedule["operator_code"] or "none"
+            for extract in (expected.old, expected.new)
+            for day in days
+            if (body := extract.bodies.get(train.uid, {}).get(day))
+        }
+        counts.test(
+            f"{name}, all operators of {train.uid}", both <= set(train.operators), train.operators
+        )
+        places = {call["location"] for body in bodies for call in body.calls}
+        got = {tiplocs[number] for number in train.places}
+        counts.test(f"{name}, places of {train.uid}", got <= places, got)
+
+
+def check_others(counts, name, expected, page):
+    want = {"associations": len(expected.associations()), "tiplocs": len(expected.places())}
+    got = {kind: page.figures[kind] for kind in OTHERS}
+    counts.same(f"{name}, numbers of other changes", want, got)
+    want = sorted((base, associated) for base, associated, _, _ in expected.associations())
+    got = sorted((base, associated) for base, associated, _ in page.associations)
+    counts.same(f"{name}, associations", want, got)
+    found = {
+        (row["uid"], row["associated_uid"], row["location"], row["kind"])
+        for row in page.rows
+        if row["subject"] == "association"
+    }
+    counts.same(f"{name}, associations in the CSV file", set(expected.associations()), found)
+    counts.same(
+        f"{name}, places", sorted(expected.places()), sorted(tiploc for tiploc, _ in page.places)
+    )
+    found = {row["location"]: row["kind"] for row in page.rows if row["subject"] == "place"}
+    counts.same(f"{name}, places in the CSV file", expected.places(), found)
+
+
+def check_size(counts, maker, expected, *words):
+    """A page that would have too many bytes has fewer trains, and says so; the CSV file has all."""
+    most = 400_000
+    page = maker.small_page(most, *words)
+    size = len(page.markup.encode())
+    counts.test("a small page, its size", most * 0.8 < size <= most, size)
+    left_out = len(expected.trains) - len(page.trains())
+    counts.test("a small page, trains", 0 < left_out < len(expected.trains), left_out)
+    rest = f"{left_out} changed trains of {len(expected.trains)} aren’t on this page"
+    counts.test("a small page, in words", rest in page.text, page.text[-400:])
+    changes = expected.changes
+    same_values(counts, "a small page, the CSV file", changes, page.by_kind(expected.dates))
+
+
+def check_trains_and_days(counts, name, expected, page):
+    """All of a page but associations and places."""
+    check_expected(counts, name, expected)
+    check_summary(counts, name, expected, page)
+    check_days(counts, name, expected, page)
+    check_trains(counts, name, expected, page)
+    check_operators_and_places(counts, name, expected, page)
+
+
+def check_page(counts, name, expected, page):
+    """All of a page."""
+    check_trains_and_days(counts, name, expected, page)
+    check_others(counts, name, expected, page)

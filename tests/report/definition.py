@@ -1,0 +1,270 @@
+"""What a page has to say, worked out of what `cif table`, `cif day` and `cif diff` say of each date."""
+import subprocess
+from collections import Counter, defaultdict
+from datetime import date, timedelta
+from functools import cached_property
+
+from gtfs.checks import Source
+from gtfs.definition import table_rows
+
+TRAIN_FIELDS = "status category headcode course service_code sector power timing_load speed characteristics class sleepers".split()
+TRAIN_FIELDS += "reservations connection catering branding extra traction uic operator_code timetable_code reserved_a reserved_b".split()
+CALL_DATA = "suffix line path activities engineering pathing performance".split()
+
+
+def day_of(text):
+    return date.fromisoformat(text)
+
+
+def dates_of(row, dates):
+    """Those of the dates on which a record with first date, last date and days run applies."""
+    first, last = day_of(row["first_date"]), day_of(row["last_date"])
+    return [day for day in dates if first <= day <= last and row["days_run"][day.weekday()] == "1"]
+
+
+class Body:
+    """What runs: the row of `schedules`, and the rows of `calls` and `changes`."""
+
+    def __init__(self, schedule, calls, changes):
+        self.schedule = schedule
+        self.calls, self.changes = calls, changes
+        fields = [schedule[name] for name in ("identity", *TRAIN_FIELDS)]
+        self.journey = tuple(
+            tuple(list(row.values())[1:]) for rows in (calls, changes) for row in rows
+        )
+        self.whole = (tuple(fields), self.journey)
+
+    def __eq__(self, other):
+        return isinstance(other, Body) and self.whole == other.whole
+
+    def __hash__(self):
+        return hash(self.whole)
+
+
+class Extract:
+    """The bodies of an extract by train and date, for some dates."""
+
+    def __init__(self, cif, path, dates):
+        self.source, self.dates = Source(cif, path), dates
+        rows = {
+            name: table_rows(self.source.lines("table", name))
+            for name in ("schedules", "calls", "changes", "associations", "tiplocs", "header")
+        }
+        [self.header] = rows["header"]
+        self.tiplocs = rows["tiplocs"]
+        self.associations = rows["associations"]
+        parts = {name: defaultdict(list) for name in ("calls", "changes")}
+        for name, found in parts.items():
+            for row in rows[name]:
+                found[row["schedule"]].append(row)
+        self.bodies = defaultdict(dict)
+        for row in rows["schedules"]:
+            number = row["schedule"]
+            body = Body(row, parts["calls"][number], parts["changes"][number])
+            for day in dates_of(row, dates):
+                self.bodies[row["uid"]][day] = body
+
+    def listed(self, day):
+        """The UIDs that `cif day` lists."""
+        rows = table_rows(self.source.lines("day", "--format", "tsv", f"{day:%y%m%d}"))
+        return sorted(row["uid"] for row in rows if row["kind"] == "BS")
+
+    def trains_on(self, day, operator=None):
+        """How many trains run on a date, all or those of an operator."""
+        found = (bodies.get(day) for bodies in self.bodies.values())
+        return sum(
+            body is not None and operator in (None, body.schedule["operator_code"])
+            for body in found
+        )
+
+
+# ---- what differs between two bodies
+
+
+def numbered(calls):
+    seen = Counter()
+    for row in calls:
+        yield (row["location"], seen[row["location"]]), row
+        seen[row["location"]] += 1
+
+
+def with_other_times(old, new):
+    """Whether a working time that both have differs, or a public time of calls of one sort."""
+    names = "arrival", "pass", "departure"
+    working = any(old[name] and new[name] and old[name] != new[name] for name in names)
+    return working or (old["record"] == new["record"] and public(old) != public(new))
+
+
+def public(row):
+    return tuple(row[name].replace("0000", "") for name in ("public_arrival", "public_departure"))
+
+
+def pairs_of(old, new):
+    """The calls at places where both call, or both pass."""
+    keys = [key for key, _ in numbered(old.calls)]
+    found, done = [], 0
+    for key, row in numbered(new.calls):
+        # those whose order is another one stand alone
+        if key in keys[done:]:
+            done = keys.index(key) + 1
+            found.append((old.calls[done - 1], row))
+    return [(was, now) for was, now in found if bool(was["pass"]) == bool(now["pass"])]
+
+
+def kinds_of(old, new):
+    """The kinds of the difference between two bodies."""
+    pairs, kinds = pairs_of(old, new), set()
+    places = [[(row["location"], bool(row["pass"])) for row in body.calls] for body in (old, new)]
+    if places[0] != places[1]:
+        kinds.add("places")
+    if any(with_other_times(was, now) for was, now in pairs):
+        kinds.add("times")
+    if any(was["platform"] != now["platform"] for was, now in pairs):
+        kinds.add("platforms")
+    if old.schedule["identity"] != new.schedule["identity"]:
+        kinds.add("numbers")
+    fields = any(old.schedule[name] != new.schedule[name] for name in TRAIN_FIELDS)
+    alike = [(was, now) for was, now in pairs if was["record"] == now["record"]]
+    data = any(was[name] != now[name] for was, now in alike for name in CALL_DATA)
+    changes = [[tuple(row.values())[1:] for row in body.changes] for body in (old, new)]
+    if fields or data or changes[0] != changes[1] or not kinds:
+        kinds.add("data")
+    return kinds
+
+
+# ---- what differs between two extracts
+
+
+class Expected:
+    """All changes on the dates that both extracts have, or on those from one to another."""
+
+    def __init__(self, cif, old, new, window=None):
+        self.cif, self.paths = cif, (old, new)
+        headers = [table_rows(Source(cif, path).lines("table", "header"))[0] for path in (old, new)]
+        first = max(row["first_date"] for row in headers)
+        last = min(row["last_date"] for row in headers)
+        first, last = window or (day_of(first), day_of(last))
+        self.dates = [first + timedelta(days=number) for number in range((last - first).days + 1)]
+        self.old, self.new = (Extract(cif, path, self.dates) for path in (old, new))
+
+    def alone(self, extract, other):
+        """By train and body, the dates on which the other extract has no body."""
+        found = defaultdict(set)
+        for uid, bodies in extract.bodies.items():
+            for day, body in bodies.items():
+                if day not in other.bodies.get(uid, {}):
+                    found[uid, body].add(day)
+        return found
+
+    @cached_property
+    def renumbered(self):
+        """The trains that have another UID: old UID, new UID, and the dates."""
+        lost, got = self.alone(self.old, self.new), self.alone(self.new, self.old)
+        free = defaultdict(list)
+        for uid, body in sorted(got, key=lambda key: key[0]):
+            free[body.journey, frozenset(got[uid, body])].append((uid, body))
+        found = []
+        for uid, body in sorted(lost, key=lambda key: key[0]):
+            others = free[body.journey, frozenset(lost[uid, body])]
+            if others:
+                other, new_body = others.pop(0)
+                found.append((uid, other, lost[uid, body], body, new_body))
+        return found
+
+    @cached_property
+    def changes(self):
+        """By train and kind, the dates."""
+        found = defaultdict(set)
+        gone, come = defaultdict(set), defaultdict(set)
+        for uid, other, days, body, new_body in self.renumbered:
+            gone[uid] |= days
+            come[other] |= days
+            found[uid, "numbers"] |= days
+            if body != new_body:
+                for kind in kinds_of(body, new_body):
+                    found[uid, kind] |= days
+        for uid in sorted({*self.old.bodies, *self.new.bodies}):
+            old, new = (extract.bodies.get(uid, {}) for extract in (self.old, self.new))
+            for day in {*old, *new}:
+                was, now = old.get(day), new.get(day)
+                if was and now and was != now:
+                    for kind in kinds_of(was, now):
+                        found[uid, kind].add(day)
+                elif was and not now and day not in gone[uid]:
+                    found[uid, "cancelled"].add(day)
+                elif now and not was and day not in come[uid]:
+                    found[uid, "runs"].add(day)
+        return dict(found)
+
+    @cached_property
+    def trains(self):
+        """By train, the dates on which anything differs."""
+        found = defaultdict(set)
+        for (uid, _), days in self.changes.items():
+            found[uid] |= days
+        return dict(found)
+
+    def figures(self):
+        """The numbers of trains with each kind, those with other data alone."""
+        kinds = defaultdict(set)
+        for uid, kind in self.changes:
+            kinds[uid].add(kind)
+        found = Counter(kind for each in kinds.values() for kind in each if kind != "data")
+        found["data"] = sum(each == {"data"} for each in kinds.values())
+        return found
+
+    def on(self, day):
+        """How many trains differ on a date."""
+        return sum(day in days for days in self.trains.values())
+
+    def associations_of(self, extract):
+        """By key and date, what holds."""
+        found = defaultdict(dict)
+        for row in extract.associations:
+            names = "base_uid associated_uid location base_suffix associated_suffix".split()
+            body = "category date_indicator diagram_type association_type".split()
+            for day in dates_of(row, self.dates):
+                key = tuple(row[name] for name in names)
+                found[key][day] = tuple(row[name] for name in body)
+        return found
+
+    def associations(self):
+        """By key, the dates on which an association is new, gone or another one."""
+        sides = [self.associations_of(extract) for extract in (self.old, self.new)]
+        old, new = sides
+        changes = defaultdict(set)
+        for key in {*old, *new}:
+            for day in {*old.get(key, {}), *new.get(key, {})}:
+                was, now = (side.get(key, {}).get(day) for side in sides)
+                if was != now:
+                    kind = "new" if not was else "gone" if not now else "changed"
+                    changes[(*key[:3], kind)].add(day)
+        return dict(changes)
+
+    def places(self):
+        """The TIPLOCs whose records differ, and how."""
+        old, new = ({row["tiploc"]: row for row in each.tiplocs} for each in (self.old, self.new))
+        found = {}
+        for tiploc in {*old, *new}:
+            if old.get(tiploc) != new.get(tiploc):
+                kind = "new" if tiploc not in old else "gone" if tiploc not in new else "changed"
+                found[tiploc] = kind
+        return found
+
+    def by_diff(self):
+        """The trains with the dates on which `cif diff --format tsv` says that something differs."""
+        window = f"--from={self.dates[0]:%y%m%d}", f"--to={self.dates[-1]:%y%m%d}"
+        words = ["diff", "--common", "--format", "tsv", *window]
+        found = defaultdict(set)
+        for row in table_rows(difference_lines(self.cif, words, self.paths)):
+            if row["kind"] == "BS":
+                found[row["uid"]].update(dates_of(row, self.dates))
+        return dict(found)
+
+
+def difference_lines(cif, words, paths):
+    """What `cif diff` prints, whose status is 1 where there is something."""
+    done = subprocess.run([cif, *words, *paths], capture_output=True, check=False, text=True)
+    if done.returncode > 1:
+        raise RuntimeError(done.stderr)
+    return done.stdout.splitlines()

@@ -1,0 +1,159 @@
+"""What a page and the CSV file beside it say, as values."""
+import csv
+import json
+import re
+from collections import defaultdict
+from datetime import date, timedelta
+from html import unescape
+
+from .definition import dates_of
+
+MONTHS = (
+    "January February March April May June July August September October November December".split()
+)
+
+
+def text_of(markup):
+    """The text of a part of the page, on one line."""
+    return " ".join(unescape(re.sub(r"<[^>]*>", " ", markup)).split())
+
+
+def number_of(text):
+    return int(text.replace(",", "").replace("−", "-").replace("+", ""))
+
+
+def month_day(text, days):
+    """A date such as `6 June`, among these."""
+    words = text.split()
+    return next(
+        day
+        for day in days
+        if (day.day, MONTHS[day.month - 1]) == (int(words[0]), words[1])
+        and (len(words) < 3 or day.year == int(words[2]))
+    )
+
+
+class Group:
+    """Trains with the same changes: these in words, their kinds with dates, and the trains' parts of the page."""
+
+    def __init__(self, markup, first):
+        [changes] = re.findall(r'data-changes="([^"]*)"', markup)
+        self.kinds = {}
+        for change in changes.split(";"):
+            kind, *ranges = change.split(" ")
+            self.kinds[kind] = {first + number * timedelta(1) for number in numbers_in(ranges)}
+        words = re.findall(r'<p><strong>(.*?)</strong> <span class="when">(.*?)</span></p>', markup)
+        self.words = [tuple(map(unescape, each)) for each in words]
+        [weeks] = re.findall(r'(?s)<table class="weeks">(.*?)</table>', markup)
+        self.weeks = re.findall(r'<tr><th scope="row">(.*?)((?:<td[^>]*>[^<\n]*)+)', weeks)
+        self.all_weeks = "colspan" not in weeks
+        self.trains = [Train(each) for each in re.split(r'(?=<li class="train")', markup)[1:]]
+        others = re.findall(r'class="more-trains">and ([\d,]+) other', markup)
+        self.others = number_of(others[0]) if others else 0
+
+    def dates_of_weeks(self, first, last):
+        """The dates that its calendar marks."""
+        found = set()
+        mondays = [first + number * timedelta(1) for number in range(-6, (last - first).days + 1)]
+        for label, cells in self.weeks:
+            name, _, count = unescape(label).partition(", ")
+            monday = month_day(name, [day for day in mondays if day.weekday() == 0])
+            marks = re.findall(r"<td[^>]*>([^<\n]*)", cells)
+            for week in range(int(count.split()[0]) if count else 1):
+                days = (monday + (7 * week + number) * timedelta(1) for number in range(7))
+                found |= {day for day, mark in zip(days, marks) if mark.strip()}
+        return found
+
+
+def numbers_in(ranges):
+    for each in ranges:
+        first, _, last = each.partition("-")
+        yield from range(int(first), int(last or first) + 1)
+
+
+class Train:
+    """A train on the page."""
+
+    def __init__(self, markup):
+        self.markup = markup
+        get = dict(re.findall(r'data-(\w+)="([^"]*)"', markup))
+        self.uid, self.operators = unescape(get["uid"]), unescape(get["operator"]).split(" ")
+        self.places = list(map(int, get["places"].split(" ")))
+        self.text = text_of(markup)
+
+
+class Page:
+    """The page and the CSV file."""
+
+    def __init__(self, path):
+        self.markup = path.read_text(encoding="utf-8")
+        self.text = text_of(re.sub(r"(?s)<(style|script).*?</\1>", "", self.markup))
+        found = re.findall(
+            r'data-figure="(\w+)" class="\w+"><dt>(.*?)</dt><dd>(.*?)</dd>', self.markup
+        )
+        self.figures = {kind: number_of(number) for kind, _, number in found}
+        self.labels = {kind: unescape(label) for kind, label, _ in found}
+        rows = re.findall(r'(?s)<tr data-date="([\d-]+)">(.*?)</tr>', self.markup)
+        self.numbers = {
+            date.fromisoformat(day): [
+                number_of(cell) for cell in re.findall(r"<td[^>]*>(.*?)</td>", cells)
+            ]
+            for day, cells in rows
+        }
+        cells = re.findall(
+            r'class="level-(\d)"><a [^>]*data-date="([\d-]+)"[^>]*>.*?<b>([\d,]+)</b>', self.markup
+        )
+        self.calendar = {date.fromisoformat(day): number_of(count) for _, day, count in cells}
+        self.levels = {date.fromisoformat(day): int(level) for level, day, _ in cells}
+        charts = r'(?s)<figure class="chart \w+" data-operator="(.*?)">(.*?)</figure>'
+        self.charts = {unescape(code): chart for code, chart in re.findall(charts, self.markup)}
+        self.trains_of_files = dict(re.findall(r'data-trains="(\w+)">([\d,]+)<', self.markup))
+        data = re.findall(
+            r'(?s)<script type="application/json" id="data">(.*?)</script>', self.markup
+        )
+        self.data = json.loads(data[0]) if data else None
+        first = date.fromisoformat(self.data["firstDate"]) if data else None
+        self.groups = [
+            Group(each, first)
+            for each in re.findall(r'(?s)<article class="group".*?</article>', self.markup)
+        ]
+        self.associations = re.findall(
+            r'<tr data-base="(.*?)" data-associated="(.*?)">(.*?)</tr>', self.markup
+        )
+        self.places = re.findall(r'<tr data-tiploc="(.*?)">(.*?)</tr>', self.markup)
+        with path.with_suffix(".csv").open(encoding="utf-8", newline="") as file:
+            self.rows = list(csv.DictReader(file))
+
+    def trains(self):
+        return [train for group in self.groups for train in group.trains]
+
+    def by_kind(self, dates):
+        """Of the CSV file: by train and kind, the dates."""
+        found = defaultdict(set)
+        for row in self.rows:
+            if row["subject"] == "train":
+                found[row["uid"], row["kind"]].update(dates_of(row, dates))
+        return dict(found)
+
+    def words(self):
+        """The changes of the trains, in words with their dates, as the page has them."""
+        return [" ".join(each) for group in self.groups for each in group.words]
+
+
+def heights(chart, name, count):
+    """The heights of a path of steps, date by date."""
+    [path] = re.findall(rf'<path class="{name}" d="(.*?)"', chart)
+    found = []
+    for height, end in re.findall(r"V(\d+)H(\d+)", path.split("Z")[0]):
+        if int(end) > len(found):
+            found += [int(height)] * (int(end) - len(found))
+    return found[:count]
+
+
+def bars(chart, name):
+    """The bars of a path: by the number of the date, how high they are."""
+    [path] = re.findall(rf'<path class="{name}" d="(.*?)"', chart)
+    found = {}
+    for left, zero, top in re.findall(r"M([\d.]+),(\d+)V(-?\d+)h", path):
+        found[int(float(left))] = int(zero) - int(top)
+    return found

@@ -1,0 +1,45 @@
+"""The help of cif-report against its manual page and the completions for bash, zsh and fish."""
+import re
+
+from gtfs.checks import TOP
+from gtfs.words import (
+    WIDTH,
+    completion,
+    help_of,
+    offered,
+    options_of_fish,
+    options_of_help,
+    options_of_page,
+    options_of_zsh,
+)
+
+# What bash offers behind these words: words, or `files`.
+LINES = {
+    "cif-report --ti": ["--title"],
+    "cif-report -o ": ["files"],
+    "cif-report --most ": [],
+    "cif-report --title Changes ": ["files"],
+}
+
+
+def check(counts):
+    page, text = (TOP / "man" / "cif-report.1").read_text(), help_of("cif-report")
+    counts.test(
+        "cif-report --help, width", all(len(line) <= WIDTH for line in text.splitlines()), text
+    )
+    options = options_of_help(text)
+    counts.test("cif-report --help, options", {"-h", "--help"} <= options, options)
+    counts.same("cif-report, options for zsh", options, options_of_zsh(completion("_cif-report")))
+    counts.same(
+        "cif-report, options for fish", options, options_of_fish(completion("cif-report.fish"))
+    )
+    counts.same("cif-report, options for bash", sorted(options), sorted(offered("cif-report -")))
+    counts.same("cif-report, options in cif-report.1", options, options_of_page(page))
+    synopsis = page.partition(".Sh SYNOPSIS")[2].partition(".Sh DESCRIPTION")[0]
+    words = re.findall(r"^\.Op Fl (?:Fl )?([\w-]+)", synopsis, re.MULTILINE)
+    usage = re.findall(r"\[--?([\w-]+)", text.partition("\n\n")[0])
+    counts.same("cif-report, SYNOPSIS", [word for word in usage if word not in ("h", "V")], words)
+    statuses = re.findall(r"^  (\d)  ", text, re.MULTILINE)
+    counts.same("cif-report, statuses", statuses, re.findall(r"^\.It (\d)$", page, re.MULTILINE))
+    for line, offers in LINES.items():
+        counts.same(f"bash offers behind {line!r}", sorted(offers), sorted(offered(line)))
