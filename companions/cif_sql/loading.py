@@ -6,7 +6,7 @@ from contextlib import ExitStack
 from datetime import timedelta
 from itertools import accumulate
 from operator import itemgetter
-from typing import IO, Dict, Iterator, List, Mapping, NamedTuple, Optional, Tuple
+from typing import IO, Dict, Iterator, List, Mapping, NamedTuple, Tuple
 
 from cif_shared.csv_files import Key
 from cif_shared.dates import Window
