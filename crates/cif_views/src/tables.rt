@@ -140,7 +140,9 @@ impl CanonListing for Table {
             Table::Calls => write_journey(true, number, schedule.further(), sink),
             Table::Changes => write_journey(false, number, schedule.further(), sink),
             Table::Public => write_public_calls(number, schedule.further(), sink),
-            Table::Header | Table::Tiplocs | Table::Associations => {}
+            Table::Header => {}
+            Table::Tiplocs => {}
+            Table::Associations => {}
         }
     }
 }
