@@ -19,7 +19,8 @@ const PREPARE_WITH_HOLIDAYS: &str =
 
 const UPDATE: &str = "cif update applies an update to a full extract";
 
-pub(crate) const FULL_FIRST: &str = "the full extract comes first, and its updates in their order behind it";
+pub(crate) const FULL_FIRST: &str =
+    "the full extract comes first, and its updates in their order behind it";
 
 const EMPTY: &str = "the input is empty: > FILE empties FILE before it is read";
 
@@ -171,7 +172,13 @@ impl ExtractInput<'_> {
     }
 
     /// Adds what is wrong with the line of this number.
-    pub(crate) fn add_refusal(&self, number: u64, why: Refusal, reader: Reader, message: &mut Message) {
+    pub(crate) fn add_refusal(
+        &self,
+        number: u64,
+        why: Refusal,
+        reader: Reader,
+        message: &mut Message,
+    ) {
         self.add_name(message);
         let format = match number {
             1 => other_format(self.start.as_slice()),
