@@ -2,13 +2,14 @@
 use Rattle.std.proofs.Common.{nat_le}
 use Rattle.cif_feed.proofs.Names.{begins_comment}
 use Rattle.cif_feed.proofs.Names.{Aa, AllStandIn, Association, BasicTerms, Bool, Bs, Err, Feed, FeedReading, Full, GoesOnPlainly, HasTaken}
-use Rattle.cif_feed.proofs.Names.{HasTakenFeed, Hd, HolidayCode, HolidayCodes, IsClosedAt, IsFeedTaken, IsJudged, IsKeepable, IsNoteTaken, IsOwn}
+use Rattle.cif_feed.proofs.Names.{HasTakenFeed, Hd, HolidayCode, HolidayCodes, IsClosedAt, IsFeedTaken, IsJudged, IsKeepable}
+use Rattle.cif_feed.proofs.Names.{IsNoteTaken, IsOwn}
 use Rattle.cif_feed.proofs.Names.{IsRecordTaken, IsStopTaken, IsTaken, IsTakenAs, Kind, Li, List, MarkParts, None, Ok, Option, OutOfOrder}
 use Rattle.cif_feed.proofs.Names.{Progress, Record, Refusal, Refused, Result, Some, SpellsAssociationBy, SpellsBasicBy, SpellsInFeed}
 use Rattle.cif_feed.proofs.Names.{SpellsRecord, Ta, TakeFault, Td, Ti, Transaction, UnlessMemory, [], and_parts, ap, append-nil, arith}
 use Rattle.cif_feed.proofs.Names.{association_mark, association_refusal_by, basic_back, basic_refusal_by, bytes_eq-Decides, code_of, codes}
-use Rattle.cif_feed.proofs.Names.{columns, cond, slice_index, counts_of, ends_open, enumerate_from, false, feed_layouts, feed_refusal_as, filter}
-use Rattle.cif_feed.proofs.Names.{has_holiday_code}
+use Rattle.cif_feed.proofs.Names.{columns, cond, counts_of, ends_open, enumerate_from, false, feed_layouts, feed_refusal_as, filter}
+use Rattle.cif_feed.proofs.Names.{has_holiday_code, slice_index}
 use Rattle.cif_feed.proofs.Names.{filter-append, find, fine_so, first_of, header_behind, header_from, is_association, is_basic, is_comment}
 use Rattle.cif_feed.proofs.Names.{is_deleted, is_header, is_identity, is_new, is_note, is_of_tiploc, is_open, is_record_line, is_revised}
 use Rattle.cif_feed.proofs.Names.{is_trailer, kind_in, kind_of, kind_read_as, kinds, length, length-append, lines_of, list_any}
@@ -56,7 +57,8 @@ read_transaction Full line t is = at (are (columns 3 3 line) (codes "N")) refl i
     at true e s = ap (λ (l : List ℕ). transaction_in (slice_index l 0)) ((bytes_eq-Decides (columns 3 3 line) (codes "N")).0 (sym e)) ∙ s
     at false e s = absurd (cc)
 
-module _ (feed : Feed) (allowed : HolidayCodes) (number : ℕ) (line : List ℕ) (t : Transaction) (is : transaction_at feed line ≡ Some t) where
+module _ (feed : Feed) (allowed : HolidayCodes) (number : ℕ) (line : List ℕ) (t : Transaction)
+    (is : transaction_at feed line ≡ Some t) where
   mark_read : (open_end : Bool) (code : Option HolidayCode) → record_mark (Some t) open_end code (number, line)
       ≡ record_mark (transaction_in (column 3 line)) open_end code (number, line)
   mark_read open_end code = ap (λ o. record_mark o open_end code (number, line)) (sym (read_transaction feed line t is))

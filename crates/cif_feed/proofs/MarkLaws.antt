@@ -3,7 +3,7 @@ use Rattle.cif_feed.proofs.Names.{Aa, Association, Basic, Bool, Bs, Feed, Full, 
 use Rattle.cif_feed.proofs.Names.{Option, Progress, Record, Some, SpellsAssociationBy, SpellsBasicBy, SpellsInFeed, StandsIn, Ta, Td, Ti}
 use Rattle.cif_feed.proofs.Names.{Transaction, [], and-false, ap, append-nil, code_of, code_value, columns}
 use Rattle.cif_feed.proofs.Names.{IsOwn, Ok, IsRecordTaken, feed_refusal_as, is_basic, is_deleted, is_new, is_open, is_revised, is_some}
-use Rattle.cif_feed.proofs.Names.{Err, Result, TakeFault, UnlessMemory, tiploc_mark}
+use Rattle.cif_feed.proofs.Names.{Err, Result, TakeFault, tiploc_mark}
 use Rattle.cif_feed.proofs.Names.{false, is_trailer}
 use Rattle.cif_feed.proofs.Names.{kind_in, kind_of, kind_read_as, not, plus_if, refl, slice_index, subst, sym, transaction_at, with_line}
 use Rattle.cif_feed.proofs.Names.{ℕ, ◌&&◌, ◌++◌, ◌==◌, ◌∙◌, ◌∷◌, ◌≡◌}
@@ -11,7 +11,6 @@ use Rattle.std.proofs.Math.Bool.{and-true}
 use Rattle.std.specs.Result.{IsErrAnd}
 use Rattle.cif_records.specs.declared.record.Kind.TheVariants.{Zz}
 use Rattle.cif_records.specs.declared.record.Record.TheVariants as of
-use Rattle.cif_extract.specs.declared.reading.TakeFault.TheVariants.{Memory, Refused}
 use Rattle.cif_feed.proofs.FeedLines.{fine, kind_there}
 use Rattle.cif_feed.proofs.FeedSteps.{read_back, read_transaction}
 use Rattle.cif_feed.specs.FeedLine.{column}
@@ -144,10 +143,6 @@ pub passed_on : {T : Type 0} (P : Result T TakeFault → Type 0) (fault : TakeFa
 passed_on P fault (Ok x) h p = absurd h
 passed_on P fault (Err e) h p = subst (λ f. P (Err f)) (sym h) p
 
-pub memory_err : (P Q : Type 0) (fault : TakeFault) → UnlessMemory P (Err fault) → UnlessMemory Q (Err fault)
-memory_err P Q (Refused why) h = h
-memory_err P Q Memory h = tt
-
 -- ---- what a mark tells of its kind
 
 -- a line that is read as a location has the mark of one
@@ -170,15 +165,16 @@ trailer_there allowed (Some Zz) l = refl
 trailer_there allowed _ l = refl
 
 -- a line that is as in an extract of this profile
-pub own_marked : (feed : Feed) (allowed : HolidayCodes) (number : ℕ) (c : List ℕ) (before after : Progress) (kind : Kind) → kind_in c ≡ Some kind
-    → IsOwn (Some kind) feed → IsRecordTaken feed allowed c before (Ok tt) after
+pub own_marked : (feed : Feed) (allowed : HolidayCodes) (number : ℕ) (c : List ℕ) (before after : Progress) (kind : Kind)
+    → kind_in c ≡ Some kind → IsOwn (Some kind) feed → IsRecordTaken feed allowed c before (Ok tt) after
     → own_mark kind ≡ mark_of allowed (kind_in c) (number, c)
 own_marked feed allowed number c before after kind is own taken =
     let (r, spells, keepable, is_step) = taken.1 in
     let none = ap (λ k. feed_refusal_as feed allowed k c) (sym is) ∙ fine feed allowed c r spells in
     at feed kind own none ∙ ap (λ k. mark_of allowed k (number, c)) (sym is)
   where
-    at : (f : Feed) (k : Kind) → IsOwn (Some k) f → feed_refusal_as f allowed (Some k) c ≡ None → own_mark k ≡ mark_of allowed (Some k) (number, c)
+    at : (f : Feed) (k : Kind) → IsOwn (Some k) f → feed_refusal_as f allowed (Some k) c ≡ None
+        → own_mark k ≡ mark_of allowed (Some k) (number, c)
     at Full Ta own none = absurd (cc)
     at Full Td own none = absurd (cc)
     at Full Hd own none = absurd own

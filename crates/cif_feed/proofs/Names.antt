@@ -151,7 +151,8 @@ pub use Rattle.cif_feed.specs.Steps.Changes.{AreLast, IsDone, SaysAlone, SaysThe
 pub use Rattle.cif_feed.specs.Steps.Counting.{AreClashDatesOn, AreMerged, CountsAmong, HasCodeAt, code_list}
 pub use Rattle.cif_feed.specs.Steps.Dropping.{AreAllFound, AreFound, IsCutAt, IsKeyTold, IsStopAmong, IsTold, ReadsAssociations, ReadsDates}
 pub use Rattle.cif_feed.specs.Steps.Dropping.{ReadsTrains, days_in, days_with, published_by}
-pub use Rattle.cif_feed.specs.Steps.FeedReading.{HasTakenFeed, IsFeedTaken, IsNoteTaken, IsOwn, IsMarkedTaken, IsRecordTaken, IsStopTaken, read_as}
+pub use Rattle.cif_feed.specs.Steps.FeedReading.{HasTakenFeed, IsFeedTaken, IsMarkedTaken, IsNoteTaken, IsOwn, IsRecordTaken}
+pub use Rattle.cif_feed.specs.Steps.FeedReading.{IsStopTaken, read_as}
 pub use Rattle.cif_feed.specs.Steps.FeedReading.{with_passed}
 pub use Rattle.cif_feed.specs.Steps.HolidayReading.{HasLineMore, IsDateFault, IsLineFault}
 pub use Rattle.cif_feed.specs.Steps.Judging.{HasJudged, IsFinished, IsInOrder, SomeHasReason}

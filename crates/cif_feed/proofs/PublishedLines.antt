@@ -132,7 +132,8 @@ module _ (allowed : HolidayCodes) (c : List ℕ) where
   new_there new = ap (λ (l : List ℕ). cond (are l (codes "N")) (Some New) None) new
 
   -- so its end and its code are read
-  read_as_new : {A : Type 0} → columns 3 3 c ≡ codes "N" → (none value : A) → unless_deleted (transaction_in (column 3 c)) none value ≡ value
+  read_as_new : {A : Type 0} → columns 3 3 c ≡ codes "N" → (none value : A)
+      → unless_deleted (transaction_in (column 3 c)) none value ≡ value
   read_as_new new none value = ap (λ (l : List ℕ). unless_deleted (transaction_in (slice_index l 0)) none value) new
 
   pub association_spelled : (a : Association) (open_end : Bool) → AllStandIn c (put_association_rows New open_end a)

@@ -2,7 +2,8 @@
 use Rattle.cif_feed.proofs.Names.{All, All-filter, All-head, All-tail, AllFit, AllStandIn, AreExtract, ArePairs, AreSchedule, AreSchedules}
 use Rattle.cif_feed.proofs.Names.{AreTriples, Association, AssociationKey, Basic, BodyLines, Bool, Change, Detail, Each, Err, Extra}
 use Rattle.cif_feed.proofs.Names.{ExtractParts, Feed, FeedExtract, FeedFault, FeedParts, FitsColumns, Full, HasMarks, HaveBody, Header}
-use Rattle.cif_feed.proofs.Names.{HolidayCodes, IfOk, Inside, IsAssociationChange, IsClosed, IsFeedContent, IsLine, IsScheduleChange, IsTrue, Kind}
+use Rattle.cif_feed.proofs.Names.{HolidayCodes, IfOk, Inside, IsAssociationChange, IsClosed, IsFeedContent, IsLine, IsScheduleChange, Kind}
+use Rattle.cif_feed.proofs.Names.{IsTrue}
 use Rattle.cif_feed.proofs.Names.{List, MarkParts, None, Ok, Option, PublishedAssociation, PublishedSchedule, Record, Result, SayFeed}
 use Rattle.cif_feed.proofs.Names.{SayTiplocs, SaysAssociation, SaysSchedule, Schedule, ScheduleKey, Some, SpellAllBy, SpellExtractBy}
 use Rattle.cif_feed.proofs.Names.{SpellFeed, SpellUpdate, SpellsAssociationBy, SpellsBasicBy, SpellsInFeed, Ta, Td, Ti, Tiploc, TiplocMark}

@@ -27,4 +27,5 @@ returns-in_err-extract-clause-reads g c =
     let h = c.args.holidays.now in
     let read = reads-named h c.args.max_lines g.R.Read.remaining g.R.ReadDevice.read_errors c.args.source.now c.read.new.source
     c.codes.result (Err c.in_err-extract.field-0.0) c.codes.ensures c.in_err-extract.ensures in
-    hands-on _ _ _ _ _ _ c.in_err-extract.field-0.0 (reads-preparing h c.args.max_lines c.args.kept.now c.in_err-extract.field-0.0) read _ c.from_residual.ensures.1
+    let fault = c.in_err-extract.field-0.0 in
+    hands-on _ _ _ _ _ _ fault (reads-preparing h c.args.max_lines c.args.kept.now fault) read _ c.from_residual.ensures.1

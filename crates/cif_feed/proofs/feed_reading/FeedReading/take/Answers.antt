@@ -1,5 +1,6 @@
 -- A note is counted (`note_taken`); of a line that is taken its mark is kept (`line_taken`).
-use Rattle.cif_feed.proofs.Names.{IsFeedTaken, ap, is_schedule_mark, is_trailer_mark, List, ℕ, kind_in, mark_parts, sym, with_mark, ◌||◌, ◌∙◌}
+use Rattle.cif_feed.proofs.Names.{IsFeedTaken, List, ap, is_schedule_mark, is_trailer_mark, kind_in, mark_parts, sym, with_mark, ℕ, ◌||◌}
+use Rattle.cif_feed.proofs.Names.{◌∙◌}
 use Rattle.cif_feed.proofs.FeedSteps.{line_taken, line_untaken, note_taken}
 use Rattle.cif_feed.proofs.MarkLaws.{marked, passed_on, schedule_there, trailer_there}
 use Rattle.cif_feed.proofs.feed_reading.FeedReading.take.Goals as goal
@@ -38,6 +39,7 @@ pub returns-in_err-mark-clause-taken : goal.returns-in_err-mark-clause-taken
 returns-in_err-mark-clause-taken c = λ cs so_far at.
     let a = c.args in
     let new = record a.self.now { reading = c.take_record.new.reading } in
-    passed_on (λ r. IsFeedTaken a.feed a.allowed cs a.line.now r new) c.in_err-mark.field-0.0 c.from_residual.result c.from_residual.ensures.1
-    (line_untaken a.feed a.allowed cs a.line.now (sym c.is_note.ensures.note ∙ c.if-is_note.false) c.in_err-mark.field-0.0 a.self.now
-    new new so_far c.in_err-mark.ensures)
+    let fault = c.in_err-mark.field-0.0 in
+    passed_on (λ r. IsFeedTaken a.feed a.allowed cs a.line.now r new) fault c.from_residual.result c.from_residual.ensures.1
+    (line_untaken a.feed a.allowed cs a.line.now (sym c.is_note.ensures.note ∙ c.if-is_note.false) fault a.self.now new new
+    so_far c.in_err-mark.ensures)
