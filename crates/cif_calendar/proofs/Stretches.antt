@@ -1,5 +1,5 @@
 -- Stretches one after another, and those of two sets of members together.
-use Rattle.cif_calendar.proofs.Names.{All, Applies, AreBehind, AreBelow, AreStretches, Bool, ChangesOn, IsChosen, IsJoint, IsPart}
+use Rattle.cif_calendar.proofs.Names.{Applies, AreBehind, AreBelow, AreStretches, Bool, ChangesOn, IsChosen, IsJoint, IsPart}
 use Rattle.cif_calendar.proofs.Names.{IsStretch, IsUnbroken, Leader, List, LooksAt, Nobody, Records, Some, Standing, Stands, Stretch, Terms}
 use Rattle.cif_calendar.proofs.Names.{[], ap, arith, false, get_or, inl, inr, is_le, length, nat_cmp, ord_min, refl, replicate, rules}
 use Rattle.cif_calendar.proofs.Names.{slice_get, slice_get-get_or, subst, sym, true, weekday_of, ℕ, ⊎_elim, ◌++◌, ◌+◌, ◌-◌, ◌<◌, ◌∙◌, ◌∷◌}
@@ -56,9 +56,6 @@ module _ (members : List ℕ) (k : ℕ) (part : List ℕ) (p : IsPart members k 
   -- what stands in it is a member
   pub part-at : (j d : ℕ) → j < length part → slice_get members (k + j) ≡ Some (get_or part j d)
   part-at j d below = slice_get-get_or members (k + j) d (omega (arith, p.within)) ∙ ap Some (p.same j d below)
-
-  pub part-all : (n : ℕ) → All (λ i. i < n) members → All (λ i. i < n) part
-  part-all n h j d below = subst (λ i. i < n) (p.same j d below) (h (k + j) d (omega (arith, p.within)))
 
 -- the same members
 module _ {B : Type 0} (xs : List (Terms B)) (members looked : List ℕ) (end : ℕ) where

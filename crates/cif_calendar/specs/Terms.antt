@@ -1,5 +1,5 @@
 -- What the rules read of a record, and sets of records.
-use Rattle.std.specs.Prelude.{◌≡◌, ℕ, Bool, List, Option, IsNone, ◌↔◌}
+use Rattle.std.specs.Prelude.{◌≡◌, ℕ, ◌^◌, ◌<◌, Bool, List, Option, IsNone, length, ◌↔◌}
 use Rattle.cif_columns.specs.declared.stp.Stp.{Stp}
 use Rattle.cif_columns.specs.declared.stp.Stp.TheVariants.{C}
 
@@ -22,3 +22,9 @@ pub record SameRecords {B : Type 0} (xs ys : Records B) : Type 0 where
 -- of these records the cancellations, and they alone, have no body
 pub record AreLawful {B : Type 0} (records : Records B) : Type 0 where
   pub cancelled : (r : Terms B) → records r → IsNone r.body ↔ (r.letter ≡ C)
+
+-- records that are judged together: those at some positions of a list, so many as memory has room for
+pub record Judged (B : Type 0) : Type 0 where
+  pub terms : List (Terms B)
+  pub positions : List ℕ
+  pub few : length positions < 2 ^ 60

@@ -45,9 +45,9 @@ fn dates_of<E: Entry>(
     stretches: &[Stretch],
     window: &Window,
 ) -> Result<Vec<Day>, AllocError>
-    requires stretches { AreStretchesOf (map E.terms members.now.entries.now) members.now.positions.now members.now.positions.now window.now
+    requires stretches { AreStretchesOf members.now.terms members.now.positions members.now.positions window.now
         stretches.now }
-    ensures { IfOk result (λ days. AreClashDates (IsChosen (map E.terms members.now.entries.now) members.now.positions.now)
+    ensures { IfOk result (λ days. AreClashDates (IsChosen members.now.terms members.now.positions)
         window.now.first (window.now.last + 1) days.items) }
 {
     let mut days = Vec::new(alloc);
@@ -66,11 +66,11 @@ fn add_dates<E: Entry>(
     stretch: &Stretch,
     days: &mut Vec<Day>,
 ) -> Result<(), AllocError>
-    requires stretch { (end : ℕ) × IsStretch (map E.terms _members.now.entries.now) _members.now.positions.now
-        _members.now.positions.now end first stretch.now }
+    requires stretch { (end : ℕ) × IsStretch _members.now.terms _members.now.positions
+        _members.now.positions end first stretch.now }
     ensures { IfOk result (λ _. (from : ℕ) → from ≤ first
-        → AreClashDates (IsChosen (map E.terms _members.now.entries.now) _members.now.positions.now) from first days.old.items
-        → AreClashDates (IsChosen (map E.terms _members.now.entries.now) _members.now.positions.now) from (stretch.now.last + 1)
+        → AreClashDates (IsChosen _members.now.terms _members.now.positions) from first days.old.items
+        → AreClashDates (IsChosen _members.now.terms _members.now.positions) from (stretch.now.last + 1)
         days.new.items) }
 {
     if !has_dispute(&stretch.standings) {

@@ -53,9 +53,9 @@ fn states_of<E: Entry>(
     stretches: &[Stretch],
     window: &Window,
 ) -> Result<Vec<DayState>, AllocError>
-    requires stretches { AreStretchesOf (map E.terms members.now.entries.now) members.now.positions.now members.now.positions.now window.now
+    requires stretches { AreStretchesOf members.now.terms members.now.positions members.now.positions window.now
         stretches.now }
-    ensures { IfOk result (λ states. AreDayStates (IsChosen (map E.terms members.now.entries.now) members.now.positions.now)
+    ensures { IfOk result (λ states. AreDayStates (IsChosen members.now.terms members.now.positions)
         window.now.first (window.now.last + 1) states.items) }
 {
     let mut states = Vec::new(alloc);
@@ -74,11 +74,11 @@ fn add_states<E: Entry>(
     stretch: &Stretch,
     states: &mut Vec<DayState>,
 ) -> Result<(), AllocError>
-    requires stretch { (end : ℕ) × IsStretch (map E.terms members.now.entries.now) members.now.positions.now members.now.positions.now end
+    requires stretch { (end : ℕ) × IsStretch members.now.terms members.now.positions members.now.positions end
         first stretch.now }
     ensures { IfOk result (λ _. (from : ℕ)
-        → AreDayStates (IsChosen (map E.terms members.now.entries.now) members.now.positions.now) from first states.old.items
-        → AreDayStates (IsChosen (map E.terms members.now.entries.now) members.now.positions.now) from (stretch.now.last + 1)
+        → AreDayStates (IsChosen members.now.terms members.now.positions) from first states.old.items
+        → AreDayStates (IsChosen members.now.terms members.now.positions) from (stretch.now.last + 1)
         states.new.items) }
 {
     let mut day = first;
@@ -94,10 +94,10 @@ fn add_states<E: Entry>(
 
 /// What stands on a date on which this standing is that of all members.
 fn state_by<E: Entry>(members: &Members<E>, standing: Standing) -> DayState
-    requires leader { IsBelow (length members.now.positions.now) standing }
-    ensures { (day : ℕ) → Stands (map E.terms members.now.entries.now) members.now.positions.now
-        (IsChosen (map E.terms members.now.entries.now) members.now.positions.now) day standing
-        → IsDayState (IsChosen (map E.terms members.now.entries.now) members.now.positions.now) day result }
+    requires leader { IsBelow (length members.now.positions) standing }
+    ensures { (day : ℕ) → Stands members.now.terms members.now.positions
+        (IsChosen members.now.terms members.now.positions) day standing
+        → IsDayState (IsChosen members.now.terms members.now.positions) day result }
 {
     match standing {
         Standing::Nobody => DayState::NoneApplies,

@@ -21,11 +21,11 @@ fn judge<E: Entry>(
     first: Day,
     stretch: &Stretch,
 ) -> Result<Piece, CalendarFault>
-    requires stretch { (end : ℕ) × IsStretch (map E.terms members.now.entries.now) members.now.positions.now members.now.positions.now end
+    requires stretch { (end : ℕ) × IsStretch members.now.terms members.now.positions members.now.positions end
         first stretch.now }
     ensures piece { IfOk result (λ p. (p.first ≡ first) × (p.last ≡ stretch.now.last)
-        × IsPiece (map E.terms members.now.entries.now) members.now.positions.now p) }
-    ensures fault { IfErr result (IsFault (IsChosen (map E.terms members.now.entries.now) members.now.positions.now) first
+        × IsPiece members.now.terms members.now.positions p) }
+    ensures fault { IfErr result (IsFault (IsChosen members.now.terms members.now.positions) first
         stretch.now.last) }
 {
     let mut winners = [None; 7];
@@ -52,9 +52,9 @@ fn calendar_of<E: Entry>(
     stretches: &[Stretch],
     window: Window,
 ) -> Result<Calendar, CalendarFault>
-    requires stretches { AreStretchesOf (map E.terms members.now.entries.now) members.now.positions.now members.now.positions.now window
+    requires stretches { AreStretchesOf members.now.terms members.now.positions members.now.positions window
         stretches.now }
-    ensures { IsAnswer (map E.terms members.now.entries.now) members.now.positions.now window.first window.last result }
+    ensures { IsAnswer members.now.terms members.now.positions window.first window.last result }
 {
     let mut pieces = Vec::new(alloc);
     let mut first = window.first;

@@ -4,10 +4,11 @@
 //! the number of an earlier one with its body, where that is known: links from number to number,
 //! which fall.
 
-ghost use Rattle.std.specs.Prelude.{◌≡◌, ◌<◌, ◌↔◌, ◌⊎◌, ℕ, All, Some, None, length, map, IsTrue, MatchResult, slice_index_or};
+ghost use Rattle.std.specs.Prelude.{◌≡◌, ◌<◌, ◌^◌, ◌↔◌, ◌⊎◌, ℕ, All, Some, None, length, IsTrue, MatchResult, slice_index_or};
 ghost use Rattle.cif_calendar.specs.Clash.{IsClash, IsClear};
 ghost use Rattle.cif_calendar.specs.Source.{IsChosen, IsSource};
 ghost use Rattle.cif_calendar.specs.Steps.Standing.{AreAlike, AreBelow, Combines, HaveOneBody, IsBelow, IsRank, LooksAt, Stands, StandsAt};
+ghost use Rattle.cif_calendar.specs.Terms.{AreLawful};
 ghost use Rattle.cif_calendar.specs.declared.key_calendar.CalendarFault.TheVariants.{Ambiguous};
 ghost use Rattle.cif_calendar.specs.declared.standing.Standing.TheVariants.{Nobody};
 
@@ -15,25 +16,44 @@ use crate::applies::precedence;
 use crate::entry::{Entry, same_body};
 use crate::key_calendar::CalendarFault;
 use cif_columns::{Day, DaysRun};
+use std::marker::Model;
 
 /// Some of a list's entries, which are read together. A member's number is its place among them, from 0 on.
 #[derive(Drop)]
-pub(crate) struct Members<'a, E> {
+pub(crate) struct Members<'a, E: Entry> {
     /// The entries.
     pub(crate) entries: &'a [E],
     /// The positions of the members among them.
     pub(crate) positions: &'a [usize],
     ghost within: { All (λ i. i < length entries.now) positions.now },
+    ghost few: { length positions.now < 2 ^ 60 },
+}
+
+impl<'a, E: Entry> Model for Members<'a, E> {
+    ghost use Rattle.std.specs.Prelude.{map};
+    ghost use Rattle.cif_calendar.specs.Terms.{Judged};
+
+    ghost Value = { Judged E.Body };
+
+    ghost view = { λ m. record { terms = map E.terms m.entries.now; positions = m.positions.now; few = m.few } };
 }
 
 impl<'a, E: Entry> Members<'a, E> {
     /// The member with this number.
     pub(crate) fn entry(&self, number: usize) -> &'a E
-        requires { number < length self.now.positions.now }
-        ensures { StandsAt (map E.terms self.now.entries.now) self.now.positions.now number
-            (E.terms result.now) }
+        requires { number < length self.now.positions }
+        ensures stands { StandsAt self.now.terms self.now.positions number (E.terms result.now) }
+        ensures lawful { AreLawful (IsChosen self.now.terms self.now.positions) }
     {
         &self.entries[self.positions[number]]
+    }
+
+    /// The position of the member with this number.
+    fn position(&self, number: usize) -> usize
+        requires { number < length self.now.positions }
+        ensures { result ≡ slice_index_or self.now.positions number 0 }
+    {
+        self.positions[number]
     }
 }
 
@@ -82,11 +102,11 @@ fn have_one_body<E: Entry>(
     one: usize,
     other: usize,
 ) -> bool
-    requires one { one < length members.now.positions.now }
-    requires other { other < length members.now.positions.now }
-    requires alike { AreAlike (map E.terms members.now.entries.now) members.now.positions.now alike.old }
-    ensures alike { AreAlike (map E.terms members.now.entries.now) members.now.positions.now alike.new }
-    ensures told { IsTrue result ↔ HaveOneBody (map E.terms members.now.entries.now) members.now.positions.now one other }
+    requires one { one < length members.now.positions }
+    requires other { other < length members.now.positions }
+    requires alike { AreAlike members.now.terms members.now.positions alike.old }
+    ensures alike { AreAlike members.now.terms members.now.positions alike.new }
+    ensures told { IsTrue result ↔ HaveOneBody members.now.terms members.now.positions one other }
 {
     // The greater number first, as links fall.
     let mut pair = (one.max(other), one.min(other));
@@ -111,8 +131,8 @@ fn have_one_body<E: Entry>(
 
 /// The precedence of who leads; a number after all others where nobody leads.
 fn rank<E: Entry>(members: &Members<E>, standing: Standing) -> u8
-    requires leader { IsBelow (length members.now.positions.now) standing }
-    ensures { IsRank (map E.terms members.now.entries.now) members.now.positions.now standing result }
+    requires leader { IsBelow (length members.now.positions) standing }
+    ensures { IsRank members.now.terms members.now.positions standing result }
 {
     match standing {
         Standing::Nobody => u8::MAX,
@@ -128,11 +148,11 @@ pub(crate) fn combine<E: Entry>(
     one: Standing,
     other: Standing,
 ) -> Standing
-    requires alike { AreAlike (map E.terms members.now.entries.now) members.now.positions.now alike.old }
-    requires one { IsBelow (length members.now.positions.now) one }
-    requires other { IsBelow (length members.now.positions.now) other }
-    ensures alike { AreAlike (map E.terms members.now.entries.now) members.now.positions.now alike.new }
-    ensures stands { Combines (map E.terms members.now.entries.now) members.now.positions.now one other result }
+    requires alike { AreAlike members.now.terms members.now.positions alike.old }
+    requires one { IsBelow (length members.now.positions) one }
+    requires other { IsBelow (length members.now.positions) other }
+    ensures alike { AreAlike members.now.terms members.now.positions alike.new }
+    ensures stands { Combines members.now.terms members.now.positions one other result }
 {
     let rank_of_one = rank(members, one);
     let rank_of_other = rank(members, other);
@@ -153,13 +173,13 @@ fn level<E: Entry>(
     one: Standing,
     other: Standing,
 ) -> Standing
-    requires alike { AreAlike (map E.terms members.now.entries.now) members.now.positions.now alike.old }
-    requires one { IsBelow (length members.now.positions.now) one }
-    requires other { IsBelow (length members.now.positions.now) other }
-    ensures alike { AreAlike (map E.terms members.now.entries.now) members.now.positions.now alike.new }
-    ensures stands { (n : ℕ) → IsRank (map E.terms members.now.entries.now) members.now.positions.now one n →
-        IsRank (map E.terms members.now.entries.now) members.now.positions.now other n →
-        Combines (map E.terms members.now.entries.now) members.now.positions.now one other result }
+    requires alike { AreAlike members.now.terms members.now.positions alike.old }
+    requires one { IsBelow (length members.now.positions) one }
+    requires other { IsBelow (length members.now.positions) other }
+    ensures alike { AreAlike members.now.terms members.now.positions alike.new }
+    ensures stands { (n : ℕ) → IsRank members.now.terms members.now.positions one n →
+        IsRank members.now.terms members.now.positions other n →
+        Combines members.now.terms members.now.positions one other result }
 {
     let Standing::Leader(leader) = one else {
         return one;
@@ -183,12 +203,12 @@ pub(crate) fn look_at<E: Entry>(
     days: DaysRun,
     others: &Standings,
 )
-    requires alike { AreAlike (map E.terms members.now.entries.now) members.now.positions.now alike.old }
-    requires below { AreBelow (length members.now.positions.now) standings.old }
-    requires others { AreBelow (length members.now.positions.now) others.now }
-    ensures alike { AreAlike (map E.terms members.now.entries.now) members.now.positions.now alike.new }
-    ensures below { AreBelow (length members.now.positions.now) standings.new }
-    ensures each { (w : ℕ) → w < 7 → LooksAt (map E.terms members.now.entries.now) members.now.positions.now days others.now
+    requires alike { AreAlike members.now.terms members.now.positions alike.old }
+    requires below { AreBelow (length members.now.positions) standings.old }
+    requires others { AreBelow (length members.now.positions) others.now }
+    ensures alike { AreAlike members.now.terms members.now.positions alike.new }
+    ensures below { AreBelow (length members.now.positions) standings.new }
+    ensures each { (w : ℕ) → w < 7 → LooksAt members.now.terms members.now.positions days others.now
         w (slice_index_or standings.old w Nobody) (slice_index_or standings.new w Nobody) }
 {
     for weekday in 0..7u8 {
@@ -210,20 +230,20 @@ pub(crate) fn winner_by<E: Entry>(
     standing: Standing,
     day: Day,
 ) -> Result<Option<usize>, CalendarFault>
-    requires leader { IsBelow (length members.now.positions.now) standing }
-    requires stands { Stands (map E.terms members.now.entries.now) members.now.positions.now
-        (IsChosen (map E.terms members.now.entries.now) members.now.positions.now) day standing }
+    requires leader { IsBelow (length members.now.positions) standing }
+    requires stands { Stands members.now.terms members.now.positions
+        (IsChosen members.now.terms members.now.positions) day standing }
     ensures { MatchResult result
-        (λ source. IsClear (IsChosen (map E.terms members.now.entries.now) members.now.positions.now) day
-        × IsSource (map E.terms members.now.entries.now) members.now.positions.now day source)
+        (λ source. IsClear (IsChosen members.now.terms members.now.positions) day
+        × IsSource members.now.terms members.now.positions day source)
         (λ fault. (fault ≡ Ambiguous day)
-        × IsClash (IsChosen (map E.terms members.now.entries.now) members.now.positions.now) day) }
+        × IsClash (IsChosen members.now.terms members.now.positions) day) }
 {
     match standing {
         Standing::Nobody => Ok(None),
         Standing::Leader(number) => match members.entry(number).body() {
             None => Ok(None),
-            Some(_) => Ok(Some(members.positions[number])),
+            Some(_) => Ok(Some(members.position(number))),
         },
         Standing::Disputed(_) => Err(CalendarFault::Ambiguous(day)),
     }

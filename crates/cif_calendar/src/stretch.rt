@@ -1,6 +1,6 @@
 //! The stretches of dates on which no member begins or ends, and who leads on them.
 
-ghost use Rattle.std.specs.Prelude.{◌≤◌, ◌+◌, map, IfOk};
+ghost use Rattle.std.specs.Prelude.{◌≤◌, ◌+◌, IfOk};
 ghost use Rattle.cif_calendar.specs.Steps.Standing.{AreAlike};
 ghost use Rattle.cif_calendar.specs.Steps.Stretches.{AreBehind, AreStretchesOf, IsPart, IsStretch};
 
@@ -34,16 +34,16 @@ fn stretch_from<E: Entry>(
     first: Day,
     last: Day,
 ) -> Stretch
-    requires alike { AreAlike (map E.terms members.now.entries.now) members.now.positions.now alike.old }
-    requires part { IsPart members.now.positions.now number part.now }
+    requires alike { AreAlike members.now.terms members.now.positions alike.old }
+    requires part { IsPart members.now.positions number part.now }
     requires in_order { first ≤ last }
-    ensures alike { AreAlike (map E.terms members.now.entries.now) members.now.positions.now alike.new }
-    ensures stretch { IsStretch (map E.terms members.now.entries.now) members.now.positions.now part.now (last + 1) first result }
+    ensures alike { AreAlike members.now.terms members.now.positions alike.new }
+    ensures stretch { IsStretch members.now.terms members.now.positions part.now (last + 1) first result }
 {
     let mut end = last;
     let mut standings = [Standing::Nobody; 7];
-    for (index, position) in part.iter().enumerate() {
-        let dates = Dates::of(&members.entries[*position]);
+    for index in 0..part.len() {
+        let dates = Dates::of(members.entry(number + index));
         if dates.first <= first {
             if first <= dates.last {
                 end = end.min(dates.last);
@@ -80,11 +80,11 @@ fn stretches_of_few<E: Entry>(
     part: &[usize],
     window: &Window,
 ) -> Result<Vec<Stretch>, AllocError>
-    requires alike { AreAlike (map E.terms members.now.entries.now) members.now.positions.now alike.old }
-    requires part { IsPart members.now.positions.now number part.now }
-    ensures alike { AreAlike (map E.terms members.now.entries.now) members.now.positions.now alike.new }
+    requires alike { AreAlike members.now.terms members.now.positions alike.old }
+    requires part { IsPart members.now.positions number part.now }
+    ensures alike { AreAlike members.now.terms members.now.positions alike.new }
     ensures stretches { IfOk result
-        (λ made. AreStretchesOf (map E.terms members.now.entries.now) members.now.positions.now part.now window.now made.items) }
+        (λ made. AreStretchesOf members.now.terms members.now.positions part.now window.now made.items) }
 {
     let mut stretches = Vec::new(alloc);
     let mut first = window.first;
@@ -109,11 +109,11 @@ pub(crate) fn stretches_of<E: Entry>(
     part: &[usize],
     window: &Window,
 ) -> Result<Vec<Stretch>, AllocError>
-    requires alike { AreAlike (map E.terms members.now.entries.now) members.now.positions.now alike.old }
-    requires part { IsPart members.now.positions.now number part.now }
-    ensures alike { AreAlike (map E.terms members.now.entries.now) members.now.positions.now alike.new }
+    requires alike { AreAlike members.now.terms members.now.positions alike.old }
+    requires part { IsPart members.now.positions number part.now }
+    ensures alike { AreAlike members.now.terms members.now.positions alike.new }
     ensures stretches { IfOk result
-        (λ made. AreStretchesOf (map E.terms members.now.entries.now) members.now.positions.now part.now window.now made.items) }
+        (λ made. AreStretchesOf members.now.terms members.now.positions part.now window.now made.items) }
 {
     if part.len() <= MOST_DIRECT {
         return stretches_of_few(alloc, members, alike, number, part, window);

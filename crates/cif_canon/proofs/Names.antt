@@ -71,7 +71,8 @@ pub use Rattle.cif_weeks.proofs.Names.{IsMembersRun, IsOneWay, IsPermutation-sym
 pub use Rattle.cif_weeks.proofs.Names.{Precedes, RunsOn, Stp, Terms, Tiles, Window, body_on, cases_lt, drop_more, get_or_from_slice_get}
 pub use Rattle.cif_weeks.proofs.Names.{length-map, less_one_way, nat_tests, not_less, of_key, ordering_then, permanent_entries, record_of}
 pub use Rattle.cif_weeks.proofs.Names.{same_Some, same_members, slice_get-get_or, slice_get_within, source_at, source_at-piece, take_more}
-pub use Rattle.cif_weeks.proofs.Names.{terms_at, terms_of, tiles-ends, weekday_of, window_from, window_of, winner_of, with_key}
+pub use Rattle.cif_weeks.proofs.Names.{terms_at, terms_of, tiles-ends, weekday_of, window_days, window_from, window_of, winner_of}
+pub use Rattle.cif_weeks.proofs.Names.{with_key}
 pub use Rattle.cif_weeks.proofs.PermanentEntries.{canonical-clear, canonical-dated, records-meaning, runs-applies}
 pub use Rattle.cif_weeks.specs.WhatRuns.{HasBody}
 pub use Rattle.cif_weeks.specs.declared.form.Form.{Form}

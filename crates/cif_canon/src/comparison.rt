@@ -8,7 +8,7 @@ ghost use Rattle.cif_canon.specs.Comparison.{AreCompared, IsCompareFault, IsComp
 ghost use Rattle.cif_canon.specs.Asked.{header_window};
 ghost use Rattle.cif_canon.specs.Steps.Differences.{AreClearIfSame};
 ghost use Rattle.cif_canon.specs.Steps.OnlySides.{AreSame};
-ghost use Rattle.cif_weeks.specs.Window.{window_from};
+ghost use Rattle.cif_weeks.specs.Window.{window_days};
 ghost use Rattle.cif_canon.specs.Differences.{at_side};
 
 use crate::differing::{
@@ -161,7 +161,7 @@ fn first_difference<'a, E: Entry>(
     window: &Window,
 ) -> Result<Option<(&'a E, Day)>, CalendarFault>
     ensures { IfOk result (IsFirstOrNone
-        (AreSame (window_from window.now.first window.now.last)
+        (AreSame (window_days window.now)
         (keyed E.key E.terms left.now) (keyed E.key E.terms right.now))
         (λ it. IsFirstDifference E.Key.cmp (keyed E.key E.terms left.now) (keyed E.key E.terms right.now)
         window.now.first window.now.last (E.key it.0.now) it.1)) }

@@ -9,7 +9,7 @@ ghost use Rattle.cif_canon.specs.Meaning.{Agree};
 ghost use Rattle.cif_canon.specs.Steps.Differences.{AreComparable};
 ghost use Rattle.cif_canon.specs.Steps.OnlySides.{AreAppendedRuns, AreDifferentRuns, AreKeyDifferences, AreOfOneKey, AreRisingRuns};
 ghost use Rattle.cif_canon.specs.Steps.OnlySides.{IsFirstSide};
-ghost use Rattle.cif_weeks.specs.Window.{window_from};
+ghost use Rattle.cif_weeks.specs.Window.{window_days};
 ghost use Rattle.cif_canon.specs.declared.differing.Extent.TheVariants.{FirstKey};
 
 use crate::Differences;
@@ -43,10 +43,7 @@ pub fn differences<'a>(
 {
     check_one_window(left, right)?;
     let window = Window::of(&left.header);
-    let Ok(tiplocs) = different_tiplocs(alloc, left.tiplocs.as_slice(), right.tiplocs.as_slice())
-    else {
-        return Err(Fault::Memory);
-    };
+    let tiplocs = different_tiplocs(alloc, left.tiplocs.as_slice(), right.tiplocs.as_slice())?;
     let Ok(associations) = different_records(
         alloc,
         left.associations.as_slice(),
@@ -195,7 +192,7 @@ pub(crate) fn different_records<E: Entry>(
     extent: Extent,
 ) -> Result<Vec<Sided<Run>>, CalendarFault>
     ensures { IfOk result (λ runs. AreDifferentRuns E.Key.cmp
-        (window_from window.now.first window.now.last)
+        (window_days window.now)
         (keyed E.key E.terms left.now) (keyed E.key E.terms right.now) extent runs.items) }
 {
     let left_positions = positions_by_key(alloc, left)?;

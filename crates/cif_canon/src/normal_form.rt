@@ -122,9 +122,7 @@ pub fn canon<'a>(alloc: Global, extract: &'a Extract, form: Form) -> Result<Cano
     ensures ok { IfOk result (IsCanonOf form (extract_parts extract.now)) }
     ensures fault { IfErr result (IsCanonFault (extract_parts extract.now)) }
 {
-    let Ok(tiplocs) = distinct_tiplocs(alloc, extract.tiplocs.as_slice()) else {
-        return Err(Fault::Memory);
-    };
+    let tiplocs = distinct_tiplocs(alloc, extract.tiplocs.as_slice())?;
     let runs = extract_runs(alloc, extract, form)?;
     extract.fits();
     Ok(Canon {

@@ -9,7 +9,7 @@ ghost use Rattle.cif_records.specs.AssocKey.{key_cmp};
 ghost use Rattle.cif_canon.specs.Asked.{header_window};
 ghost use Rattle.cif_canon.specs.Fault.{IsCanonFault};
 ghost use Rattle.cif_canon.specs.Steps.Records.{AreCanonicalRecords, IsRecordsFault, AreRunsOfKey, IsKeyFault, extract_fault};
-ghost use Rattle.cif_weeks.specs.Window.{window_from};
+ghost use Rattle.cif_weeks.specs.Window.{window_days};
 
 use cif_calendar::{
     CalendarFault, Entry, NamedEntry, Window, calendar, count_of_first_key, positions_by_key,
@@ -74,11 +74,11 @@ fn make_runs_of_key<E: NamedEntry>(
     requires some { 0 < length members.now }
     ensures runs { OnOk result ((k : E.Key) →
         ArePositionsOf (keyed E.key E.terms entries.now) k members.now →
-        AreRunsOfKey form (window_from window.now.first window.now.last)
+        AreRunsOfKey form (window_days window.now)
         (keyed E.key E.terms entries.now) k made.new.items) }
     ensures fault { IfErr result (λ fault. (k : E.Key) →
         ArePositionsOf (keyed E.key E.terms entries.now) k members.now →
-        IsKeyFault E.clash_of (window_from window.now.first window.now.last)
+        IsKeyFault E.clash_of (window_days window.now)
         (keyed E.key E.terms entries.now) k fault) }
 {
     if runs_of_few(made, entries, members, window, form)? {
@@ -122,10 +122,10 @@ pub(crate) fn canonical_runs<E: NamedEntry>(
     form: Form,
 ) -> Result<Vec<Run>, Fault>
     ensures records { IfOk result (λ runs.
-        AreCanonicalRecords E.Key.cmp form (window_from window.now.first window.now.last)
+        AreCanonicalRecords E.Key.cmp form (window_days window.now)
         (keyed E.key E.terms entries.now) runs.items) }
     ensures fault { IfErr result (IsRecordsFault E.Key.cmp E.clash_of (keyed E.key E.terms entries.now)
-        (window_from window.now.first window.now.last)) }
+        (window_days window.now)) }
 {
     let positions = positions_by_key(alloc, entries)?;
     let mut all = Vec::new(alloc);

@@ -2,13 +2,14 @@
 use Rattle.std.proofs.Common.{nat_le}
 use Rattle.cif_feed.proofs.Names.{begins_comment}
 use Rattle.cif_feed.proofs.Names.{Aa, AllStandIn, Association, BasicTerms, Bool, Bs, Err, Feed, FeedReading, Full, GoesOnPlainly, HasTaken}
-use Rattle.cif_feed.proofs.Names.{HasTakenFeed, Hd, HolidayCodes, IsClosedAt, IsFeedTaken, IsJudged, IsKeepable, IsNoteTaken, IsOwn}
+use Rattle.cif_feed.proofs.Names.{HasTakenFeed, Hd, HolidayCode, HolidayCodes, IsClosedAt, IsFeedTaken, IsJudged, IsKeepable}
+use Rattle.cif_feed.proofs.Names.{IsNoteTaken, IsOwn}
 use Rattle.cif_feed.proofs.Names.{IsRecordTaken, IsStopTaken, IsTaken, IsTakenAs, Kind, Li, List, MarkParts, None, Ok, Option, OutOfOrder}
 use Rattle.cif_feed.proofs.Names.{Progress, Record, Refusal, Refused, Result, Some, SpellsAssociationBy, SpellsBasicBy, SpellsInFeed}
 use Rattle.cif_feed.proofs.Names.{SpellsRecord, Ta, TakeFault, Td, Ti, Transaction, UnlessMemory, [], and_parts, ap, append-nil, arith}
 use Rattle.cif_feed.proofs.Names.{association_mark, association_refusal_by, basic_back, basic_refusal_by, bytes_eq-Decides, code_of, codes}
 use Rattle.cif_feed.proofs.Names.{columns, cond, counts_of, ends_open, enumerate_from, false, feed_layouts, feed_refusal_as, filter}
-use Rattle.cif_feed.proofs.Names.{has_holiday_code}
+use Rattle.cif_feed.proofs.Names.{has_holiday_code, slice_index}
 use Rattle.cif_feed.proofs.Names.{filter-append, find, fine_so, first_of, header_behind, header_from, is_association, is_basic, is_comment}
 use Rattle.cif_feed.proofs.Names.{is_deleted, is_header, is_identity, is_new, is_note, is_of_tiploc, is_open, is_record_line, is_revised}
 use Rattle.cif_feed.proofs.Names.{is_trailer, kind_in, kind_of, kind_read_as, kinds, length, length-append, lines_of, list_any}
@@ -26,11 +27,16 @@ use Rattle.cif_records.specs.declared.record.Record.TheVariants as of
 use Rattle.cif_extract.proofs.Places.{fine_here}
 use Rattle.cif_extract.specs.Steps.Reading as read
 use Rattle.cif_extract.specs.declared.reading.TakeFault.TheVariants.{Memory}
+use Rattle.cif_columns.specs.declared.refusal.Refusal.TheVariants.{UnknownRecord}
 use Rattle.cif_feed.proofs.FeedLines.{feed_are, kind_there as feed_kind}
 use Rattle.cif_feed.proofs.ListSteps.{enumerate_append}
+use Rattle.cif_feed.specs.FeedLine.{column}
+use Rattle.cif_feed.specs.Marks.{put_mark, record_mark}
 use Rattle.cif_feed.specs.Steps.FeedLine.{ReadsBasic}
+use Rattle.cif_feed.specs.Transaction.{transaction_in}
 use Rattle.cif_feed.specs.declared.feed_line.Feed.TheVariants.{Update}
 use Rattle.cif_feed.specs.declared.mark.Passed.{Passed}
+use Rattle.cif_feed.specs.declared.mark.RecordMark.{RecordMark}
 use Rattle.cif_feed.specs.declared.mark.Transaction.TheVariants.{New}
 
 -- ---- what the readers of AA and BS find, by the transaction
@@ -41,36 +47,66 @@ judged_by : {T : Type 0} (P Q : T → Type 0) (refusal : Option Refusal) (result
 judged_by P Q refusal (Ok value) so judged = (judged.0, so value judged.1)
 judged_by P Q refusal (Err why) so judged = judged
 
-module _ (feed : Feed) (allowed : HolidayCodes) (line : List ℕ) (t : Option Transaction) (is : transaction_at feed line ≡ t) where
-  pub association_read : (result : Result Association Refusal)
-      → IsJudged (association_refusal_by t line) (SpellsAssociationBy t line) result
-      → IsJudged (feed_refusal_as feed allowed (Some Aa) line) (λ a. SpellsInFeed feed allowed line (of.Association a)) result
-  association_read result = subst (λ o. IsJudged (association_refusal_by o line) (SpellsAssociationBy o line) result) (sym is)
+-- a transaction that may stand in the feed is the one in the column
+pub read_transaction : (feed : Feed) (line : List ℕ) (t : Transaction) → transaction_at feed line ≡ Some t
+    → transaction_in (column 3 line) ≡ Some t
+read_transaction Update line t is = is
+read_transaction Full line t is = at (are (columns 3 3 line) (codes "N")) refl is
+  where
+    at : (b : Bool) → b ≡ are (columns 3 3 line) (codes "N") → cond b (Some New) None ≡ Some t → transaction_in (column 3 line) ≡ Some t
+    at true e s = ap (λ (l : List ℕ). transaction_in (slice_index l 0)) ((bytes_eq-Decides (columns 3 3 line) (codes "N")).0 (sym e)) ∙ s
+    at false e s = absurd (cc)
+
+module _ (feed : Feed) (allowed : HolidayCodes) (number : ℕ) (line : List ℕ) (t : Transaction)
+    (is : transaction_at feed line ≡ Some t) where
+  mark_read : (open_end : Bool) (code : Option HolidayCode) → record_mark (Some t) open_end code (number, line)
+      ≡ record_mark (transaction_in (column 3 line)) open_end code (number, line)
+  mark_read open_end code = ap (λ o. record_mark o open_end code (number, line)) (sym (read_transaction feed line t is))
+
+  pub association_read : (result : Result (Association × RecordMark) Refusal)
+      → IsJudged (association_refusal_by (Some t) line) (λ read. SpellsAssociationBy (Some t) line read.0
+      × (read.1 ≡ record_mark (Some t) (is_open 22 line) None (number, line))) result
+      → IsJudged (feed_refusal_as feed allowed (Some Aa) line) (λ read. SpellsInFeed feed allowed line (of.Association read.0)
+      × (read.1 ≡ association_mark (number, line))) result
+  association_read result judged =
+      subst (λ o. IsJudged (association_refusal_by o line) (λ read. SpellsAssociationBy o line read.0
+      × (read.1 ≡ association_mark (number, line))) result) (sym is)
+      (judged_by _ _ (association_refusal_by (Some t) line) result (λ read p. (p.0, p.1 ∙ mark_read (is_open 22 line) None)) judged)
 
   -- of a BS the terms are read
-  pub basic_read : (result : Result BasicTerms Refusal)
-      → IsJudged (basic_refusal_by allowed t line) (λ terms. SpellsBasicBy allowed t line (basic_with terms line)) result
-      → IsJudged (feed_refusal_as feed allowed (Some Bs) line) (ReadsBasic feed allowed line) result
+  pub basic_read : (result : Result (BasicTerms × RecordMark) Refusal)
+      → IsJudged (basic_refusal_by allowed (Some t) line) (λ read. SpellsBasicBy allowed (Some t) line (basic_with read.0 line)
+      × (read.1 ≡ record_mark (Some t) (is_open 16 line) (code_of allowed line) (number, line))) result
+      → IsJudged (feed_refusal_as feed allowed (Some Bs) line) (λ read. ReadsBasic feed allowed line read.0
+      × (read.1 ≡ schedule_mark allowed (number, line))) result
   basic_read result judged =
-      subst (λ o. IsJudged (basic_refusal_by allowed o line) (ReadsBasic feed allowed line) result) (sym is)
-      (judged_by _ (ReadsBasic feed allowed line) (basic_refusal_by allowed t line) result (λ terms spells. record {
-        basic = basic_with terms line;
-        terms = refl;
-        spells = subst (λ o. SpellsBasicBy allowed o line (basic_with terms line)) (sym is) spells;
-        detail = detail_read line (basic_with terms line) (stands_by terms.letter line);
-      }) judged)
+      subst (λ o. IsJudged (basic_refusal_by allowed o line) (λ read. ReadsBasic feed allowed line read.0
+      × (read.1 ≡ schedule_mark allowed (number, line))) result) (sym is)
+      (judged_by _ _ (basic_refusal_by allowed (Some t) line) result (λ read p. (
+        record {
+          basic = basic_with read.0 line;
+          terms = refl;
+          spells = subst (λ o. SpellsBasicBy allowed o line (basic_with read.0 line)) (sym is) p.0;
+          detail = detail_read line (basic_with read.0 line) (stands_by read.0.letter line);
+        },
+        p.1 ∙ mark_read (is_open 16 line) (code_of allowed line),
+      )) judged)
 
 -- those of one that is put
-pub basic_put : (allowed : HolidayCodes) (line : List ℕ) (t : Transaction) (result : Result BasicTerms Refusal)
-    → IsJudged (basic_refusal_by allowed (Some New) line) (λ terms.
-    AllStandIn line (put_basic_front t (is_open 16 line) (code_of allowed line) terms) × AllStandIn line (basic_back terms.letter)
-    × IsClosedAt (is_open 16 line) terms.last) result
-    → IsJudged (basic_refusal_by allowed (Some New) line) (λ terms.
-    AllStandIn line (put_basic_rows t (is_open 16 line) (code_of allowed line) terms (basic_with terms line).detail)
-    × IsClosedAt (is_open 16 line) terms.last) result
-basic_put allowed line t result judged =
-    judged_by _ _ (basic_refusal_by allowed (Some New) line) result
-    (λ terms p. (stands_with line terms (put_basic_front t (is_open 16 line) (code_of allowed line) terms) p.0 p.1, p.2)) judged
+pub basic_put : (allowed : HolidayCodes) (number : ℕ) (line : List ℕ) (t : Transaction) (result : Result (BasicTerms × RecordMark) Refusal)
+    → IsJudged (basic_refusal_by allowed (Some New) line) (λ read.
+    (AllStandIn line (put_basic_front t (is_open 16 line) (code_of allowed line) read.0) × AllStandIn line (basic_back read.0.letter)
+    × IsClosedAt (is_open 16 line) read.0.last)
+    × (read.1 ≡ put_mark t (is_open 16 line) (code_of allowed line) (number, line))) result
+    → IsJudged (basic_refusal_by allowed (Some New) line) (λ read.
+    (AllStandIn line (put_basic_rows t (is_open 16 line) (code_of allowed line) read.0 (basic_with read.0 line).detail)
+    × IsClosedAt (is_open 16 line) read.0.last)
+    × (read.1 ≡ put_mark t (is_open 16 line) (code_of allowed line) (number, line))) result
+basic_put allowed number line t result judged =
+    judged_by _ _ (basic_refusal_by allowed (Some New) line) result (λ read p. (
+      (stands_with line read.0 (put_basic_front t (is_open 16 line) (code_of allowed line) read.0) p.0.0 p.0.1, p.0.2),
+      p.1,
+    )) judged
 
 -- ---- records that are taken
 
@@ -89,6 +125,16 @@ read_there Update Td = refl
 read_there Update _ = refl
 
 module _ (feed : Feed) (allowed : HolidayCodes) (line : List ℕ) (before : Progress) where
+  -- a line of no kind is refused for that
+  pub unnamed : kind_in line ≡ None → refusal_at (feed_layouts feed allowed) before.place line ≡ Some UnknownRecord
+  unnamed is =
+      ap (λ k. first_of (order_refusal before.place (kind_read_as feed k) ∷ feed_refusal_as feed allowed k line ∷ [])) is ∙ at feed
+    where
+      at : (f : Feed) → first_of (order_refusal before.place (kind_read_as f None) ∷ feed_refusal_as f allowed None line ∷ [])
+          ≡ Some UnknownRecord
+      at Full = refl
+      at Update = refl
+
   -- a line of this kind
   module _ (kind : Kind) (named : Some kind ≡ kind_in line) where
     by_place : refusal_at (feed_layouts feed allowed) before.place line

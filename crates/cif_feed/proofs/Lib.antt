@@ -26,6 +26,7 @@ pub mod PreparedFits
 pub mod PreparedRuns
 pub mod ClashingKeys
 pub mod FeedSteps
+pub mod MarkLaws
 pub mod WrittenPrepared
 pub mod Names
 pub mod UpdatesRead

@@ -151,12 +151,14 @@ pub use Rattle.cif_feed.specs.Steps.Changes.{AreLast, IsDone, SaysAlone, SaysThe
 pub use Rattle.cif_feed.specs.Steps.Counting.{AreClashDatesOn, AreMerged, CountsAmong, HasCodeAt, code_list}
 pub use Rattle.cif_feed.specs.Steps.Dropping.{AreAllFound, AreFound, IsCutAt, IsKeyTold, IsStopAmong, IsTold, ReadsAssociations, ReadsDates}
 pub use Rattle.cif_feed.specs.Steps.Dropping.{ReadsTrains, days_in, days_with, published_by}
-pub use Rattle.cif_feed.specs.Steps.FeedReading.{HasTakenFeed, IsFeedTaken, IsNoteTaken, IsOwn, IsRecordTaken, IsStopTaken, read_as}
+pub use Rattle.cif_feed.specs.Steps.FeedReading.{HasTakenFeed, IsFeedTaken, IsMarkedTaken, IsNoteTaken, IsOwn, IsRecordTaken}
+pub use Rattle.cif_feed.specs.Steps.FeedReading.{IsStopTaken, read_as}
 pub use Rattle.cif_feed.specs.Steps.FeedReading.{with_passed}
 pub use Rattle.cif_feed.specs.Steps.HolidayReading.{HasLineMore, IsDateFault, IsLineFault}
 pub use Rattle.cif_feed.specs.Steps.Judging.{HasJudged, IsFinished, IsInOrder, SomeHasReason}
 pub use Rattle.cif_feed.specs.Steps.Marks.{HasMarks, HaveRoom, IsClosed, header_behind, last_of_association, last_of_schedule, one_if}
-pub use Rattle.cif_feed.specs.Steps.Marks.{plus_if, with_counts, with_line}
+pub use Rattle.cif_feed.specs.Steps.Marks.{is_schedule_mark, is_trailer_mark, mark_of, own_mark, plus_if, with_counts, with_line, with_mark}
+pub use Rattle.cif_feed.specs.declared.mark.Mark.{Mark}
 pub use Rattle.cif_feed.specs.Steps.PartsSoFar.{AreAdded, ArePartsBefore, IsAdded, IsFromNext, IsLeftFrom, IsPushed, IsStopOn, MayBegin}
 pub use Rattle.cif_feed.specs.Steps.PartsSoFar.{added_before, before_cut, first_upto, records_on, sooner_of}
 pub use Rattle.cif_feed.specs.Steps.Written.{head_text, prepared_association_text, prepared_schedule_text, published_association_text}

@@ -23,7 +23,10 @@ use Rattle.cif_feed.proofs.FeedLines.{kind_there as feed_kind}
 use Rattle.cif_feed.proofs.FeedSteps.{named_line}
 use Rattle.cif_feed.proofs.ListSteps.{triples-of}
 use Rattle.cif_feed.proofs.SaidLines.{IsScheduleLine, IsTest, SpellsAssociation, associations_spelled, schedules_spelled}
+use Rattle.cif_feed.specs.FeedLine.{column}
 use Rattle.cif_feed.specs.HolidayCode.{letter}
+use Rattle.cif_feed.specs.Marks.{unless_deleted}
+use Rattle.cif_feed.specs.Transaction.{transaction_in}
 use Rattle.cif_feed.specs.declared.mark.Transaction.TheVariants.{New}
 
 -- ---- contents whose records are known
@@ -128,16 +131,21 @@ module _ (allowed : HolidayCodes) (c : List ℕ) where
   new_there : columns 3 3 c ≡ codes "N" → transaction_at Full c ≡ Some New
   new_there new = ap (λ (l : List ℕ). cond (are l (codes "N")) (Some New) None) new
 
+  -- so its end and its code are read
+  read_as_new : {A : Type 0} → columns 3 3 c ≡ codes "N" → (none value : A)
+      → unless_deleted (transaction_in (column 3 c)) none value ≡ value
+  read_as_new new none value = ap (λ (l : List ℕ). unless_deleted (transaction_in (slice_index l 0)) none value) new
+
   pub association_spelled : (a : Association) (open_end : Bool) → AllStandIn c (put_association_rows New open_end a)
       → IsClosedAt open_end a.last
-      → SpellsInFeed Full allowed c (of.Association a) × (is_open 22 c ≡ open_end)
+      → SpellsInFeed Full allowed c (of.Association a) × ((association_mark (0, c)).open_end ≡ open_end)
   association_spelled a open_end s closed =
       let is : is_open 22 c ≡ open_end = opened (columns 22 27 c) open_end a.last s.1.1.1.1.1.0 in (
         subst (λ t. SpellsAssociationBy t c a) (sym (new_there s.1.0)) (
           subst (λ b. AllStandIn c (put_association_rows New b a)) (sym is) s,
           subst (λ b. IsClosedAt b a.last) (sym is) closed,
         ),
-        is,
+        read_as_new s.1.0 false (is_open 22 c) ∙ is,
       )
 
   code_there : (code : Option HolidayCode) → ((k : HolidayCode) → code ≡ Some k → IsTrue (has_code allowed k)) → (l : List ℕ)
@@ -155,7 +163,8 @@ module _ (allowed : HolidayCodes) (c : List ℕ) where
   pub basic_spelled : (b : Basic) (open_end : Bool) (code : Option HolidayCode)
       → AllStandIn c (put_basic_rows New open_end code (terms_of b) b.detail) → IsClosedAt open_end b.last
       → ((k : HolidayCode) → code ≡ Some k → IsTrue (has_code allowed k))
-      → SpellsInFeed Full allowed c (of.Basic b) × (is_open 16 c ≡ open_end) × (code_of allowed c ≡ code)
+      → SpellsInFeed Full allowed c (of.Basic b) × ((schedule_mark allowed (0, c)).open_end ≡ open_end)
+      × ((schedule_mark allowed (0, c)).code ≡ code)
   basic_spelled b open_end code s closed may =
       let is : is_open 16 c ≡ open_end = opened (columns 16 21 c) open_end b.last s.1.1.1.1.0 in
       let told : code_of allowed c ≡ code = code_there code may (columns 29 29 c) s.1.1.1.1.1.1.0 in (
@@ -164,8 +173,8 @@ module _ (allowed : HolidayCodes) (c : List ℕ) where
               (subst (λ v. AllStandIn c (put_basic_rows New v code (terms_of b) b.detail)) (sym is) s),
           subst (λ v. IsClosedAt v b.last) (sym is) closed,
         ),
-        is,
-        told,
+        read_as_new s.1.0 false (is_open 16 c) ∙ is,
+        read_as_new s.1.0 None (code_of allowed c) ∙ told,
       )
 
 -- ---- what is written
@@ -191,7 +200,7 @@ module _ (allowed : HolidayCodes) where
 
     -- the line spells it, with its end
     abbrev pub IsAssociationWritten : List ℕ → Type 0
-    IsAssociationWritten c = IsReadAs allowed c (of.Association association) × (is_open 22 c ≡ a.open_end)
+    IsAssociationWritten c = IsReadAs allowed c (of.Association association) × ((association_mark (0, c)).open_end ≡ a.open_end)
 
     pub association_written : IsAssociationWritten (published_association_line a)
     association_written =
@@ -240,7 +249,8 @@ module _ (allowed : HolidayCodes) where
 
     -- the line spells its BS, with its end and its code
     abbrev pub IsBasicWritten : List ℕ → Type 0
-    IsBasicWritten c = IsReadAs allowed c (of.Basic basic) × (is_open 16 c ≡ s.open_end) × (code_of allowed c ≡ s.code)
+    IsBasicWritten c = IsReadAs allowed c (of.Basic basic) × ((schedule_mark allowed (0, c)).open_end ≡ s.open_end)
+        × ((schedule_mark allowed (0, c)).code ≡ s.code)
 
     pub basic_written : ((k : HolidayCode) → s.code ≡ Some k → IsTrue (has_code allowed k)) → IsBasicWritten (published_basic_line s)
     basic_written may =

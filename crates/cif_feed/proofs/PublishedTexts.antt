@@ -4,9 +4,9 @@ use Rattle.cif_feed.proofs.Names.{BytesSpellPublished, E, Each, Extra, FeedParts
 use Rattle.cif_feed.proofs.Names.{IsBody, IsPublishedAssociation, IsPublishedSchedule, IsTrue, Kind, List, None, Option}
 use Rattle.cif_feed.proofs.Names.{PublishedAssociation, PublishedParts, PublishedSchedule, Record, RecordFits, SayPublished, Schedule}
 use Rattle.cif_feed.proofs.Names.{ScheduleFits, Some, SpellPublished, Tiploc, X, [], all_codes, ap, append-nil, association_mark}
-use Rattle.cif_feed.proofs.Names.{call_record, code_of, contents_of, each_append, each_map, enumerate_from, extra_records, filter}
+use Rattle.cif_feed.proofs.Names.{call_record, contents_of, each_append, each_map, enumerate_from, extra_records, filter}
 use Rattle.cif_feed.proofs.Names.{filter-append, flat_map, further-fit, further-lines, further_lines, has_code, is_association, is_basic}
-use Rattle.cif_feed.proofs.Names.{is_open, kind_in, kind_of, laid_out, length, line_of_tiploc, lines_of, map, of_profile, one_if, parts_in}
+use Rattle.cif_feed.proofs.Names.{kind_in, kind_of, laid_out, length, line_of_tiploc, lines_of, map, of_profile, one_if, parts_in}
 use Rattle.cif_feed.proofs.Names.{plain_line, published_association_line, published_basic_line, published_lines, published_schedule_lines}
 use Rattle.cif_feed.proofs.Names.{published_text, record_table, refl, rows_on, same_extract_parts, schedule_mark, subst, sym, ℕ, ◌++◌, ◌+◌}
 use Rattle.cif_feed.proofs.Names.{◌∙◌, ◌∷◌, ◌≡◌, ◌≤◌}
@@ -74,10 +74,10 @@ lines-append is n cs ds =
 module _ (allowed : HolidayCodes) where
   -- what lines say beyond the records
   abbrev HasEnd : ℕ × List ℕ → PublishedAssociation → Type 0
-  HasEnd line a = is_open 22 line.1 ≡ a.open_end
+  HasEnd line a = (association_mark line).open_end ≡ a.open_end
 
   abbrev HasEndAndCode : ℕ × List ℕ → PublishedSchedule → Type 0
-  HasEndAndCode line s = (is_open 16 line.1 ≡ s.open_end) × (code_of allowed line.1 ≡ s.code)
+  HasEndAndCode line s = ((schedule_mark allowed line).open_end ≡ s.open_end) × ((schedule_mark allowed line).code ≡ s.code)
 
   -- Contents that spell these records, and of which the AA and the BS, with numbers from any on, are of these associations and schedules.
   record IsBlock (cs : List (List ℕ)) (rs : List Record) (al : List PublishedAssociation) (ss : List PublishedSchedule) : Type 0 where

@@ -3,6 +3,7 @@ use Rattle.cif_feed.proofs.Names.{All, All-filter, All-head, All-tail, AllFit, A
 use Rattle.cif_feed.proofs.Names.{AreTriples, Association, AssociationKey, Basic, BodyLines, Bool, Change, Detail, Each, Err, Extra}
 use Rattle.cif_feed.proofs.Names.{ExtractParts, Feed, FeedExtract, FeedFault, FeedParts, FitsColumns, Full, HasMarks, HaveBody, Header}
 use Rattle.cif_feed.proofs.Names.{HolidayCodes, IfOk, Inside, IsAssociationChange, IsClosed, IsFeedContent, IsLine, IsScheduleChange, Kind}
+use Rattle.cif_feed.proofs.Names.{IsTrue}
 use Rattle.cif_feed.proofs.Names.{List, MarkParts, None, Ok, Option, PublishedAssociation, PublishedSchedule, Record, Result, SayFeed}
 use Rattle.cif_feed.proofs.Names.{SayTiplocs, SaysAssociation, SaysSchedule, Schedule, ScheduleKey, Some, SpellAllBy, SpellExtractBy}
 use Rattle.cif_feed.proofs.Names.{SpellFeed, SpellUpdate, SpellsAssociationBy, SpellsBasicBy, SpellsInFeed, Ta, Td, Ti, Tiploc, TiplocMark}
@@ -14,13 +15,16 @@ use Rattle.cif_feed.proofs.Names.{is_open, is_record_line, kind_in, kind_of, kin
 use Rattle.cif_feed.proofs.Names.{length-map, letter_of, lines_of, map, not, one_if, option_map, plain_line, published_association_rows}
 use Rattle.cif_feed.proofs.Names.{published_basic_rows, put_association_rows, put_basic_rows, record_lines, records_before_trailer, refl}
 use Rattle.cif_feed.proofs.Names.{row, schedule_mark, spare, spelled-fits-by, stands-plain_line, subst, sym, terms_of, tiploc_changes}
-use Rattle.cif_feed.proofs.Names.{tiploc_changes_of, tiploc_mark, transaction_at, true, unwrap_or, ℕ, ⊎_elim, ◌&&◌, ◌++◌, ◌∙◌, ◌∷◌, ◌≡◌}
+use Rattle.cif_feed.proofs.Names.{tiploc_changes_of, tiploc_mark, transaction_at, true, ℕ, ⊎_elim, ◌&&◌, ◌++◌, ◌∙◌, ◌∷◌, ◌≡◌}
 use Rattle.cif_records.specs.declared.record.Record.TheVariants as of
 use Rattle.cif_extract.specs.Grammar.{HasTerms}
 use Rattle.cif_feed.proofs.ChangeLaws.{filter-filter}
 use Rattle.cif_feed.proofs.FeedLines.{association_closed, basic_closed, feed_are, kind_there}
 use Rattle.cif_feed.proofs.FeedSteps.{named_line}
 use Rattle.cif_feed.proofs.ListSteps.{enumerate_filter, pairs-append, pairs-length, pairs-mapped, triples-said}
+use Rattle.cif_feed.specs.FeedLine.{column}
+use Rattle.cif_feed.specs.Marks.{record_mark, unless_deleted}
+use Rattle.cif_feed.specs.Transaction.{transaction_in}
 use Rattle.cif_feed.specs.declared.feed_line.Feed.TheVariants.{Update}
 use Rattle.cif_feed.specs.declared.mark.Transaction.TheVariants.{Deleted, New, Revised}
 
@@ -315,7 +319,7 @@ module _ (line : ℕ × List ℕ) (b : Basic) (s : Schedule) (terms : HasTerms b
       (subst (λ v. AllStandIn line.1 (deleted_basic_rows b.uid v (letter_of line.1))) terms.first stands)
 
   schedule_said_by : (t : Option Transaction) → SpellsBasicBy all_codes t line.1 b
-      → IsScheduleChange s (record (schedule_mark all_codes line) { transaction = unwrap_or t New }) change
+      → IsScheduleChange s (record_mark t (is_open 16 line.1) (code_of all_codes line.1) line) change
       → SaysSchedule line change
   schedule_said_by None spells is = absurd spells
   schedule_said_by (Some New) spells is =
@@ -398,7 +402,7 @@ module _ (line : ℕ × List ℕ) (a : Association) (change : Change Association
       let all : put_association_rows t (is_open 22 line.1) a ≡ published_association_rows t p = cc in subst (AllStandIn line.1) all stands
 
   said_by : (t : Option Transaction) → SpellsAssociationBy t line.1 a
-      → IsAssociationChange a (record (association_mark line) { transaction = unwrap_or t New }) change → SaysAssociation line change
+      → IsAssociationChange a (record_mark t (is_open 22 line.1) None line) change → SaysAssociation line change
   said_by None s is = absurd s
   said_by (Some New) s is =
       subst (SaysAssociation line) (sym is.change)
@@ -422,6 +426,11 @@ associations_said cs u s =
 
 -- ---- the marks of the records
 
+-- an end that is read as open is
+read_open : (t : Option Transaction) (open_end : Bool) → IsTrue (unless_deleted t false open_end) → IsTrue open_end
+read_open (Some Deleted) open_end is = cc
+read_open _ open_end is = is
+
 module _ (feed : Feed) (allowed : HolidayCodes) (cs : List (List ℕ)) where
   pub have_marks : (x : FeedParts) → SayFeed feed allowed cs x → HasMarks x
   have_marks x s =
@@ -431,10 +440,12 @@ module _ (feed : Feed) (allowed : HolidayCodes) (cs : List (List ℕ)) where
       subst (λ (m : MarkParts). HasMarks (record { extract = e; marks = m })) (sym s.marks) (record {
         tiplocs = length-map (lines_of is_of_tiploc cs) _ ∙ pairs-length (SpellsTiploc Spells) (lines_of is_of_tiploc cs) e.tiplocs tiplocs;
         associations = pairs-mapped (SpellsAssociation Spells) association_mark (IsClosed last_of_association)
-            (λ line a spells. association_closed line.1 (transaction_at feed line.1) a spells) (lines_of is_association cs) e.associations
+            (λ line a spells ends. association_closed line.1 (transaction_at feed line.1) a spells
+            (read_open (transaction_in (column 3 line.1)) (is_open 22 line.1) ends)) (lines_of is_association cs) e.associations
             (associations_spelled Spells (feed_agrees feed allowed) cs e s.extract);
         schedules = pairs-mapped (IsScheduleLine Spells) (schedule_mark allowed) (IsClosed last_of_schedule)
-            (λ line s is ends. sym is.terms.last ∙ basic_closed line.1 allowed (transaction_at feed line.1) is.basic is.spells ends)
+            (λ line s is ends. sym is.terms.last ∙ basic_closed line.1 allowed (transaction_at feed line.1) is.basic is.spells
+            (read_open (transaction_in (column 3 line.1)) (is_open 16 line.1) ends))
             (lines_of is_basic cs) e.schedules (schedules_spelled Spells (feed_agrees feed allowed) cs e s.extract);
       })
 

@@ -1,10 +1,12 @@
 -- What the lines of a feed say beyond their records: their marks, and how many do what.
-use Rattle.std.specs.Prelude.{ℕ, ◌+◌, List, [], ◌∷◌, Option, None, filter, length, map, unwrap_or, if◌then◌else◌}
+use Rattle.std.specs.Prelude.{ℕ, ◌+◌, Bool, false, List, [], ◌∷◌, Option, None, Some, filter, length, map, unwrap_or}
+use Rattle.std.specs.Prelude.{if◌then◌else◌}
 use Rattle.cif_columns.specs.Comment.{is_comment}
 use Rattle.cif_columns.specs.Field.{columns}
 use Rattle.cif_records.specs.Kind.{kind_in}
 use Rattle.cif_records.specs.declared.record.Kind.{Kind}
-use Rattle.cif_feed.specs.Counts.{counts_of, transaction_as}
+use Rattle.cif_records.specs.declared.record.Kind.TheVariants.{Ta, Td}
+use Rattle.cif_feed.specs.Counts.{counts_of}
 use Rattle.cif_feed.specs.FeedLine.{code_of, column, is_open, letter_of}
 use Rattle.cif_feed.specs.RecordLines.{is_association, is_basic, is_header, is_note, is_of_tiploc, lines_of}
 use Rattle.cif_feed.specs.Transaction.{transaction_in}
@@ -14,35 +16,54 @@ use Rattle.cif_feed.specs.declared.mark.Marks.{Marks}
 use Rattle.cif_feed.specs.declared.mark.Passed.{Passed}
 use Rattle.cif_feed.specs.declared.mark.RecordMark.{RecordMark}
 use Rattle.cif_feed.specs.declared.mark.TiplocMark.{TiplocMark}
-use Rattle.cif_feed.specs.declared.mark.Transaction.TheVariants.{New}
+use Rattle.cif_feed.specs.declared.mark.Transaction.{Transaction}
+use Rattle.cif_feed.specs.declared.mark.Transaction.TheVariants.{New, Revised, Deleted}
 use Rattle.cif_feed.specs.declared.mark.UpdateCounts.{UpdateCounts}
 
 -- ---- of one line, by its number and its columns
 
 -- of a TI, a TA or a TD, whose transaction is by its kind
+abbrev pub tiploc_transaction : Option Kind → Transaction
+tiploc_transaction (Some Ta) = Revised
+tiploc_transaction (Some Td) = Deleted
+tiploc_transaction kind = New
+
 abbrev pub tiploc_mark : Option Kind → ℕ × List ℕ → TiplocMark
 tiploc_mark kind line = record {
   line = line.0;
-  transaction = unwrap_or (transaction_as kind line.1) New;
+  transaction = tiploc_transaction kind;
   tiploc = columns 3 9 line.1;
 }
 
--- Of an AA or a BS whose last date is in the columns from this one on. A line without a transaction is refused; of a deletion the
--- transaction and the letter say something alone.
-abbrev pub record_mark : ℕ → Option HolidayCode → ℕ × List ℕ → RecordMark
-record_mark last code line = record {
+-- of an AA or a BS that puts its record, by its transaction, whether its end is open, and its code
+abbrev pub put_mark : Transaction → Bool → Option HolidayCode → ℕ × List ℕ → RecordMark
+put_mark transaction open_end code line = record {
   line = line.0;
-  transaction = unwrap_or (transaction_in (column 3 line.1)) New;
+  transaction = transaction;
   letter = letter_of line.1;
-  open_end = is_open last line.1;
+  open_end = open_end;
   code = code;
 }
 
+-- of one that deletes, of which neither the end nor the code is read
+abbrev pub deleted_mark : ℕ × List ℕ → RecordMark
+deleted_mark line = put_mark Deleted false None line
+
+-- what is read unless it deletes
+abbrev pub unless_deleted : {A : Type 0} → Option Transaction → A → A → A
+unless_deleted (Some Deleted) none value = none
+unless_deleted transaction none value = value
+
+-- of any; a line without a transaction is refused
+abbrev pub record_mark : Option Transaction → Bool → Option HolidayCode → ℕ × List ℕ → RecordMark
+record_mark transaction open_end code =
+    put_mark (unwrap_or transaction New) (unless_deleted transaction false open_end) (unless_deleted transaction None code)
+
 abbrev pub association_mark : ℕ × List ℕ → RecordMark
-association_mark line = record_mark 22 None line
+association_mark line = record_mark (transaction_in (column 3 line.1)) (is_open 22 line.1) None line
 
 abbrev pub schedule_mark : HolidayCodes → ℕ × List ℕ → RecordMark
-schedule_mark allowed line = record_mark 16 (code_of allowed line.1) line
+schedule_mark allowed line = record_mark (transaction_in (column 3 line.1)) (is_open 16 line.1) (code_of allowed line.1) line
 
 -- ---- of all lines
 

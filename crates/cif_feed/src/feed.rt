@@ -4,9 +4,10 @@ ghost use Rattle.cif_feed.specs.FeedTexts.{line_text};
 
 use crate::HolidayFault;
 use arrayvec::ArrayString;
-use cif_columns::LineFault;
+use cif_columns::{LineFault, WriteFault};
 use cif_extract::Fault;
 use itoa::Buffer;
+use std::alloc::AllocError;
 
 /// Why a feed isn't read, or an update not done.
 #[derive(Drop)]
@@ -120,5 +121,27 @@ impl From<LineFault> for FeedFault {
 
     fn from(fault: LineFault) -> FeedFault {
         FeedFault::Extract(Fault::from(fault))
+    }
+}
+
+impl From<WriteFault> for FeedFault {
+    ghost use Rattle.cif_extract.specs.declared.fault.Fault.TheVariants.{Write};
+    ghost use Rattle.cif_feed.specs.declared.feed.FeedFault.TheVariants.{Extract};
+
+    ghost from_gives = { λ _ fault. fault ≡ Extract Write };
+
+    fn from(_fault: WriteFault) -> FeedFault {
+        FeedFault::Extract(Fault::Write)
+    }
+}
+
+impl From<AllocError> for FeedFault {
+    ghost use Rattle.cif_extract.specs.declared.fault.Fault.TheVariants.{Memory};
+    ghost use Rattle.cif_feed.specs.declared.feed.FeedFault.TheVariants.{Extract};
+
+    ghost from_gives = { λ _ fault. fault ≡ Extract Memory };
+
+    fn from(_error: AllocError) -> FeedFault {
+        FeedFault::Extract(Fault::Memory)
     }
 }

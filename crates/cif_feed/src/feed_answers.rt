@@ -178,10 +178,7 @@ fn read_holidays<R: ReadDevice>(
 {
     match holidays {
         None => Ok(Holidays::new(alloc)),
-        Some(source) => match Holidays::read(alloc, source) {
-            Ok(holidays) => Ok(holidays),
-            Err(fault) => Err(FeedFault::from(fault)),
-        },
+        Some(source) => Ok(Holidays::read(alloc, source)?),
     }
 }
 
@@ -234,11 +231,7 @@ fn finish<W: WriteDevice>(
     ensures finishes { FeedFinishes W.contents W.write_errors written sink.old sink.new result }
     ensures handed_on { IsHandedOn W.holds_nothing sink.new result }
 {
-    match written {
-        Ok(()) => match sink.flush() {
-            Ok(()) => Ok(()),
-            Err(WriteFault) => Err(FeedFault::Extract(Fault::Write)),
-        },
-        Err(WriteFault) => Err(FeedFault::Extract(Fault::Write)),
-    }
+    written?;
+    sink.flush()?;
+    Ok(())
 }

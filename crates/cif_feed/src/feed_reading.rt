@@ -1,5 +1,5 @@
 //! Reading a published extract, or an update, content by content.
-ghost use Rattle.std.specs.Prelude.{◌≡◌, ◌<◌, ◌≤◌, ◌+◌, ◌^◌, ◌++◌, ◌∷◌, [], ℕ, List, false, true, length, IfErr, IfOk, All};
+ghost use Rattle.std.specs.Prelude.{◌≡◌, ◌<◌, ◌≤◌, ◌+◌, ◌^◌, ◌++◌, ◌∷◌, [], ℕ, List, Some, false, true, length, IfErr, IfOk, All};
 ghost use Rattle.cif_columns.specs.Comment.{is_comment};
 ghost use Rattle.cif_columns.specs.Line.{IsLine};
 ghost use Rattle.cif_columns.specs.declared.line_reader.TheConstants.{MAX_LINES};
@@ -8,18 +8,18 @@ ghost use Rattle.cif_extract.specs.Steps.Reading.{GoesOnPlainly, HasRead, Unless
 ghost use Rattle.cif_extract.specs.Taken.{IsNoTrailer};
 ghost use Rattle.cif_feed.specs.FeedRefusal.{untaken_fault};
 ghost use Rattle.cif_feed.specs.FeedLayouts.{feed_layouts};
-ghost use Rattle.cif_feed.specs.RecordLines.{is_basic, is_note, is_trailer, record_lines};
+ghost use Rattle.cif_feed.specs.RecordLines.{is_note, record_lines};
 ghost use Rattle.cif_feed.specs.FeedFault.{reading_feed};
 ghost use Rattle.cif_feed.specs.SpellsFeed.{SayFeed, feed_parts};
-ghost use Rattle.cif_feed.specs.Steps.FeedReading.{HasTakenFeed, IsFeedTaken, IsNoteTaken, IsOwn, IsRecordTaken, IsStopTaken, read_as};
-ghost use Rattle.cif_feed.specs.Steps.Marks.{HasMarks, HaveRoom};
+ghost use Rattle.cif_feed.specs.Steps.FeedReading.{HasTakenFeed, IsFeedTaken, IsMarkedTaken, IsNoteTaken, IsOwn, IsStopTaken, read_as};
+ghost use Rattle.cif_feed.specs.Steps.Marks.{HasMarks, HaveRoom, own_mark};
 ghost use Rattle.cif_feed.specs.declared.feed_line.Feed.{Feed};
 ghost use Rattle.cif_feed.specs.declared.holidays.HolidayCodes.{HolidayCodes};
 ghost use Rattle.cif_records.specs.Kind.{kind_in};
 ghost use Rattle.cif_records.specs.declared.record.Record.{Record};
 
 use crate::feed_line::{read_association, read_basic, read_header, read_tiploc};
-use crate::mark::Marks;
+use crate::mark::{Mark, Marks};
 use crate::{Feed, FeedFault, HolidayCodes};
 use cif_columns::{Content, LINE_WIDTH, Line, LineReader, ReadDevice, Refusal, Source, columns_at};
 use cif_extract::{Extract, Fault, Reading, TakeFault};
@@ -141,17 +141,12 @@ impl FeedReading {
         if is_note(line) {
             return self.take_note();
         }
-        let kind = kind_of(line);
-        match take_record(alloc, &mut self.reading, feed, allowed, kind, line) {
-            Ok(()) => {
-                self.has_basic |= is_basic(kind);
-                self.has_trailer |= is_trailer(kind);
-                match self.marks.add(allowed, kind, number, line) {
-                    Ok(()) => Ok(()),
-                    Err(AllocError) => Err(TakeFault::Memory),
-                }
-            }
-            Err(fault) => Err(fault),
+        let mark = take_record(alloc, &mut self.reading, feed, allowed, number, line)?;
+        self.has_basic |= mark.is_of_schedule();
+        self.has_trailer |= mark.is_of_trailer();
+        match self.marks.add(mark) {
+            Ok(()) => Ok(()),
+            Err(AllocError) => Err(TakeFault::Memory),
         }
     }
 
@@ -195,56 +190,77 @@ impl FeedReading {
     }
 }
 
-/// Takes a line of this kind. Its place is judged before its fields, and memory is asked for after them.
+/// Takes the line of this number, and gives its mark. Its kind and its place are judged before its fields, and memory is
+/// asked for after them.
 fn take_record(
     alloc: Global,
     reading: &mut Reading,
     feed: Feed,
     allowed: HolidayCodes,
-    kind: Option<Kind>,
+    number: u64,
     line: &Line,
-) -> Result<(), TakeFault>
-    requires kind { kind ≡ kind_in line.now }
+) -> Result<Mark, TakeFault>
     requires read { (records : List Record) × HasRead records (progress_of reading.old) }
-    ensures { IsRecordTaken feed allowed line.now (progress_of reading.old) result (progress_of reading.new) }
+    ensures { IsMarkedTaken feed allowed (number, line.now) (progress_of reading.old) result
+        (progress_of reading.new) }
 {
-    let Some(kind) = kind else {
-        return take_own(alloc, reading, feed, line);
+    let Some(kind) = kind_of(line) else {
+        return Err(TakeFault::Refused(Refusal::UnknownRecord));
     };
     if !reading.allows(read_as(feed, kind)) {
         return Err(TakeFault::Refused(Refusal::OutOfOrder));
     }
     match (kind, feed) {
-        (Kind::Hd, _) => match read_header(feed, line) {
-            Ok(header) => {
-                reading.put_header(header);
-                Ok(())
-            }
-            Err(why) => Err(TakeFault::Refused(why)),
-        },
-        (Kind::Aa, _) => match read_association(feed, line) {
-            Ok(association) => reading.put_association(association),
-            Err(why) => Err(TakeFault::Refused(why)),
-        },
-        (Kind::Bs, _) => match read_basic(feed, allowed, line) {
-            Ok(terms) => reading.put_basic(terms, line),
-            Err(why) => Err(TakeFault::Refused(why)),
-        },
-        (Kind::Ti, _) | (Kind::Ta | Kind::Td, Feed::Update) => {
-            reading.put_tiploc(read_tiploc(feed, kind, line))
+        (Kind::Hd, _) => {
+            reading.put_header(read_header(feed, line)?);
+            Ok(Mark::Header(number))
         }
-        _ => take_own(alloc, reading, feed, line),
+        (Kind::Aa, _) => {
+            let (association, mark) = read_association(feed, number, line)?;
+            reading.put_association(association)?;
+            Ok(Mark::Association(mark))
+        }
+        (Kind::Bs, _) => {
+            let (terms, mark) = read_basic(feed, allowed, number, line)?;
+            reading.put_basic(terms, line)?;
+            Ok(Mark::Schedule(mark))
+        }
+        (Kind::Ti, _) | (Kind::Ta | Kind::Td, Feed::Update) => {
+            let (tiploc, mark) = read_tiploc(feed, kind, number, line);
+            reading.put_tiploc(tiploc)?;
+            Ok(Mark::Tiploc(mark))
+        }
+        _ => take_own(alloc, reading, feed, kind, line),
     }
 }
 
-/// Takes a line that is as in an extract of this profile.
-fn take_own(alloc: Global, reading: &mut Reading, feed: Feed, line: &Line) -> Result<(), TakeFault>
-    requires own { IsOwn (kind_in line.now) feed }
+/// Takes a line of this kind that is as in an extract of this profile.
+fn take_own(
+    alloc: Global,
+    reading: &mut Reading,
+    feed: Feed,
+    kind: Kind,
+    line: &Line,
+) -> Result<Mark, TakeFault>
+    requires kind { kind_in line.now ≡ Some kind }
+    requires own { IsOwn (Some kind) feed }
     requires read { (records : List Record) × HasRead records (progress_of reading.old) }
-    ensures { (allowed : HolidayCodes)
-        → IsRecordTaken feed allowed line.now (progress_of reading.old) result (progress_of reading.new) }
+    ensures { (allowed : HolidayCodes) (number : ℕ)
+        → IsMarkedTaken feed allowed (number, line.now) (progress_of reading.old) result
+        (progress_of reading.new) }
 {
-    reading.take(alloc, line)
+    reading.take(alloc, line)?;
+    Ok(own_mark(kind))
+}
+
+/// What a line of this kind says beyond its record, where it is as in an extract of this profile.
+fn own_mark(kind: Kind) -> Mark
+    ensures { result ≡ own_mark kind }
+{
+    match kind {
+        Kind::Zz => Mark::Trailer,
+        _ => Mark::Nothing,
+    }
 }
 
 /// The kind whose place a line of this kind has.
@@ -278,18 +294,4 @@ fn is_note(line: &Line) -> bool
     ensures line { IsLine line.now }
 {
     columns_at(line, 1) == *b"TN" || columns_at(line, 1) == *b"LN"
-}
-
-/// Whether the kind is that of a BS.
-fn is_basic(kind: Option<Kind>) -> bool
-    ensures { result ≡ is_basic kind }
-{
-    matches!(kind, Some(Kind::Bs))
-}
-
-/// Whether the kind is that of a trailer.
-fn is_trailer(kind: Option<Kind>) -> bool
-    ensures { result ≡ is_trailer kind }
-{
-    matches!(kind, Some(Kind::Zz))
 }

@@ -1,15 +1,13 @@
 //! What the lines of a feed say beyond their records.
-ghost use Rattle.std.specs.Prelude.{◌≡◌, ◌≤◌, [], IfOk};
-ghost use Rattle.cif_feed.specs.Counts.{ends_open, has_holiday_code, have_marks, is_deleted, transaction_as};
-ghost use Rattle.cif_feed.specs.FeedLine.{column};
-ghost use Rattle.cif_feed.specs.Marks.{mark_parts, marks_in, record_mark, tiploc_mark};
-ghost use Rattle.cif_feed.specs.Steps.Marks.{HaveRoom, header_behind, with_counts, with_line};
+ghost use Rattle.std.specs.Prelude.{◌≡◌, [], IfOk};
+ghost use Rattle.cif_feed.specs.Counts.{have_marks};
+ghost use Rattle.cif_feed.specs.Marks.{mark_parts, marks_in};
+ghost use Rattle.cif_feed.specs.Steps.Marks.{HaveRoom, is_schedule_mark, is_trailer_mark, with_mark, with_record, with_transaction};
 ghost use Rattle.cif_feed.specs.Transaction.{transaction_in};
+ghost use Rattle.cif_feed.specs.declared.holidays.HolidayCodes.{HolidayCodes};
 
-use crate::feed_line::{code_at, has_open_end};
-use crate::{HolidayCode, HolidayCodes};
-use cif_columns::{Line, Stp, columns_at, field_at};
-use cif_records::Kind;
+use crate::HolidayCode;
+use cif_columns::Stp;
 use std::alloc::{AllocError, Global};
 
 /// What a line of an update asks for, column 3 of AA and BS (the CIF End User Specification).
@@ -57,10 +55,44 @@ pub(crate) struct RecordMark {
     pub(crate) transaction: Transaction,
     /// Column 80: the letter. The record of a deletion has `C`, so that no journey has to follow.
     pub(crate) letter: Stp,
-    /// Whether the last date is `999999`. The record has the last day there is.
+    /// Whether the last date is `999999`. The record has the last day there is. Of a deletion neither this nor the code
+    /// is read.
     pub(crate) open_end: bool,
     /// Column 29 of a BS: the holiday code, where one may stand.
     pub(crate) code: Option<HolidayCode>,
+}
+
+/// What any line says beyond its record.
+#[derive(Clone, Copy)]
+pub(crate) enum Mark {
+    /// An HD, by the number of its line.
+    Header(u64),
+    /// A TI, a TA or a TD.
+    Tiploc(TiplocMark),
+    /// An AA.
+    Association(RecordMark),
+    /// A BS.
+    Schedule(RecordMark),
+    /// A ZZ.
+    Trailer,
+    /// Any other line.
+    Nothing,
+}
+
+impl Mark {
+    /// Whether it is that of a BS.
+    pub(crate) fn is_of_schedule(&self) -> bool
+        ensures { result ≡ is_schedule_mark self.now }
+    {
+        matches!(self, Mark::Schedule(_))
+    }
+
+    /// Whether it is that of a ZZ.
+    pub(crate) fn is_of_trailer(&self) -> bool
+        ensures { result ≡ is_trailer_mark self.now }
+    {
+        matches!(self, Mark::Trailer)
+    }
 }
 
 /// How many contents of a feed said nothing.
@@ -110,68 +142,32 @@ impl Marks {
         }
     }
 
-    /// Adds what the line of this number, which was read as a record of this kind, says beyond it.
-    pub(crate) fn add(
-        &mut self,
-        allowed: HolidayCodes,
-        kind: Option<Kind>,
-        number: u64,
-        line: &Line,
-    ) -> Result<(), AllocError>
+    /// Adds what a line says beyond its record.
+    pub(crate) fn add(&mut self, mark: Mark) -> Result<(), AllocError>
         requires { HaveRoom self.old.counts }
-        ensures { IfOk result (λ _.
-            mark_parts self.new ≡ with_line (mark_parts self.old) allowed kind (number, line.now)) }
+        ensures { IfOk result (λ _. mark_parts self.new ≡ with_mark (mark_parts self.old) mark) }
     {
-        self.header_line = header_behind(self.header_line, kind, number);
-        self.counts.add(kind, line);
-        match kind {
-            Some(Kind::Ti | Kind::Ta | Kind::Td) => {
-                self.tiplocs.push(tiploc_mark(kind, number, line))?;
+        match mark {
+            Mark::Header(line) => {
+                if self.header_line == 0 {
+                    self.header_line = line;
+                }
             }
-            Some(Kind::Aa) => self.associations.push(record_mark(22, None, number, line))?,
-            Some(Kind::Bs) => {
-                let code = code_at(allowed, line).unwrap_or(None);
-                self.schedules.push(record_mark(16, code, number, line))?;
+            Mark::Tiploc(mark) => {
+                self.counts.add(mark.transaction);
+                self.tiplocs.push(mark)?;
             }
-            _ => {}
+            Mark::Association(mark) => {
+                self.counts.add_record(&mark);
+                self.associations.push(mark)?;
+            }
+            Mark::Schedule(mark) => {
+                self.counts.add_record(&mark);
+                self.schedules.push(mark)?;
+            }
+            Mark::Trailer | Mark::Nothing => {}
         }
         Ok(())
-    }
-}
-
-/// The number of the first header, where it was `so_far`, and then a line of this kind has this number.
-fn header_behind(so_far: u64, kind: Option<Kind>, number: u64) -> u64
-    ensures { result ≡ header_behind so_far kind number }
-{
-    match kind {
-        Some(Kind::Hd) if so_far == 0 => number,
-        _ => so_far,
-    }
-}
-
-/// The mark of a TI, a TA or a TD.
-fn tiploc_mark(kind: Option<Kind>, number: u64, line: &Line) -> TiplocMark
-    ensures { result ≡ tiploc_mark kind (number, line.now) }
-{
-    TiplocMark {
-        line: number,
-        transaction: transaction_as(kind, line).unwrap_or(Transaction::New),
-        tiploc: columns_at(line, 3),
-    }
-}
-
-/// The mark of an AA or a BS whose last date is in the six columns from `last` on.
-fn record_mark(last: usize, code: Option<HolidayCode>, number: u64, line: &Line) -> RecordMark
-    requires from_one { 1 ≤ last }
-    requires within { last ≤ 75 }
-    ensures { result ≡ record_mark last code (number, line.now) }
-{
-    RecordMark {
-        line: number,
-        transaction: transaction_in(line).unwrap_or(Transaction::New),
-        letter: field_at(line, 80).unwrap_or(Stp::C),
-        open_end: has_open_end(line, last),
-        code,
     }
 }
 
@@ -191,21 +187,28 @@ pub struct UpdateCounts {
 }
 
 impl UpdateCounts {
-    /// Counts a line of this kind.
-    pub(crate) fn add(&mut self, kind: Option<Kind>, line: &Line)
+    /// Counts a line with this transaction.
+    fn add(&mut self, transaction: Transaction)
         requires { HaveRoom self.old }
-        ensures { self.new ≡ with_counts self.old kind line.now }
+        ensures { self.new ≡ with_transaction self.old transaction }
     {
-        match transaction_as(kind, line) {
-            Some(Transaction::New) => self.put += 1,
-            Some(Transaction::Revised) => self.revised += 1,
-            Some(Transaction::Deleted) => self.taken_out += 1,
-            None => {}
+        match transaction {
+            Transaction::New => self.put += 1,
+            Transaction::Revised => self.revised += 1,
+            Transaction::Deleted => self.taken_out += 1,
         }
-        if ends_open(kind, line) {
+    }
+
+    /// Counts an AA or a BS with this mark.
+    fn add_record(&mut self, mark: &RecordMark)
+        requires { HaveRoom self.old }
+        ensures { self.new ≡ with_record self.old mark.now }
+    {
+        self.add(mark.transaction);
+        if mark.open_end {
             self.open_ends += 1;
         }
-        if has_holiday_code(kind, line) {
+        if mark.code.is_some() {
             self.holiday_codes += 1;
         }
     }
@@ -216,52 +219,4 @@ impl UpdateCounts {
     {
         self.open_ends > 0 || self.holiday_codes > 0
     }
-}
-
-/// The transaction of a line of this kind.
-fn transaction_as(kind: Option<Kind>, line: &Line) -> Option<Transaction>
-    ensures { result ≡ transaction_as kind line.now }
-{
-    match kind {
-        Some(Kind::Ti) => Some(Transaction::New),
-        Some(Kind::Ta) => Some(Transaction::Revised),
-        Some(Kind::Td) => Some(Transaction::Deleted),
-        Some(Kind::Aa | Kind::Bs) => transaction_in(line),
-        _ => None,
-    }
-}
-
-/// The transaction in column 3 of a line of an update.
-fn transaction_in(line: &Line) -> Option<Transaction>
-    ensures { result ≡ transaction_in (column 3 line.now) }
-{
-    let column: [u8; 1] = columns_at(line, 3);
-    Transaction::read(column[0])
-}
-
-/// Whether a line of this kind has an open end that is read.
-fn ends_open(kind: Option<Kind>, line: &Line) -> bool
-    ensures { result ≡ ends_open kind line.now }
-{
-    let open = match kind {
-        Some(Kind::Aa) => has_open_end(line, 22),
-        Some(Kind::Bs) => has_open_end(line, 16),
-        _ => false,
-    };
-    open && !is_deleted(transaction_in(line))
-}
-
-/// Whether a line of this kind has a holiday code that is read.
-fn has_holiday_code(kind: Option<Kind>, line: &Line) -> bool
-    ensures { result ≡ has_holiday_code kind line.now }
-{
-    let column: [u8; 1] = columns_at(line, 29);
-    matches!(kind, Some(Kind::Bs)) && column[0] != b' ' && !is_deleted(transaction_in(line))
-}
-
-/// Whether it is `D`.
-fn is_deleted(transaction: Option<Transaction>) -> bool
-    ensures { result ≡ is_deleted transaction }
-{
-    matches!(transaction, Some(Transaction::Deleted))
 }

@@ -28,7 +28,7 @@ use crate::{
 };
 use cif_calendar::{Entry, Window};
 use cif_columns::{Day, ReadDevice, Sink, Source, WriteDevice, WriteFault};
-use cif_extract::{Fault, Schedule};
+use cif_extract::Schedule;
 use cif_records::{AssocKey, Association};
 use std::alloc::{AllocError, Global};
 use std::collections::BTreeMap;
@@ -58,14 +58,10 @@ pub fn write_prepared<R: ReadDevice, W: WriteDevice>(
     ensures reads { IsResultOf R.remaining R.read_errors
         (preparing holidays.now max_lines kept.new) source.old source.new result }
 {
-    match PublishedExtract::read(alloc, source, max_lines, holidays.codes()) {
-        Ok(extract) => {
-            let answer = extract.append_prepared(alloc, holidays, drops_clashes, sink);
-            *kept = Some(extract);
-            answer
-        }
-        Err(fault) => Err(fault),
-    }
+    let extract = PublishedExtract::read(alloc, source, max_lines, holidays.codes())?;
+    let answer = extract.append_prepared(alloc, holidays, drops_clashes, sink);
+    *kept = Some(extract);
+    answer
 }
 
 /// The prepared extract of a published one, from which its records are borrowed: a clause sees what
@@ -98,13 +94,9 @@ impl PublishedExtract {
         ensures { WritesPrepared W.contents W.write_errors holidays.now drops_clashes
             (published_parts self.now) sink.old sink.new result }
     {
-        let Ok((prepared, dropped)) = self.prepare_if(alloc, holidays, drops_clashes) else {
-            return Err(FeedFault::Extract(Fault::Memory));
-        };
-        match prepared.write(sink) {
-            Ok(()) => Ok(dropped),
-            Err(WriteFault) => Err(FeedFault::Extract(Fault::Write)),
-        }
+        let (prepared, dropped) = self.prepare_if(alloc, holidays, drops_clashes)?;
+        prepared.write(sink)?;
+        Ok(dropped)
     }
 
     /// Its prepared extract, without the dates on which a key clashes, if that is asked for.

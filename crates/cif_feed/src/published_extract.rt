@@ -12,7 +12,7 @@ use crate::mark::RecordMark;
 use crate::written::{Written, write_records, write_schedule};
 use crate::{Feed, FeedFault, HolidayCode, HolidayCodes, Passed, UpdateCounts};
 use cif_columns::{Line, LineTexts, ReadDevice, Sink, Source, WriteDevice, WriteFault};
-use cif_extract::{Extract, Fault, Schedule};
+use cif_extract::{Extract, Schedule};
 use cif_records::{Association, Header, Tiploc};
 use std::alloc::{AllocError, Global};
 
@@ -78,13 +78,8 @@ impl PublishedExtract {
         ensures { IsResultOf R.remaining R.read_errors (reading_published allowed max_lines)
             source.old source.new result }
     {
-        match read_feed(alloc, source, max_lines, Feed::Full, allowed) {
-            Ok(lines) => match PublishedExtract::of_lines(alloc, lines) {
-                Ok(extract) => Ok(extract),
-                Err(AllocError) => Err(FeedFault::Extract(Fault::Memory)),
-            },
-            Err(fault) => Err(fault),
-        }
+        let lines = read_feed(alloc, source, max_lines, Feed::Full, allowed)?;
+        Ok(PublishedExtract::of_lines(alloc, lines)?)
     }
 
     /// What these lines say.

@@ -21,7 +21,7 @@ use crate::{
     PublishedSchedule, RefusedLine, Transaction, Unfit, UpdateCounts, apply,
 };
 use cif_columns::{Day, ReadDevice, Source, Stp, Uid};
-use cif_extract::{Extract, Fault, Schedule};
+use cif_extract::{Extract, Schedule};
 use cif_records::{AssocKey, Association, Header, Tiploc};
 use std::alloc::{AllocError, Global};
 
@@ -61,13 +61,8 @@ impl Update {
         ensures { IsResultOf R.remaining R.read_errors (reading_update max_lines)
             source.old source.new result }
     {
-        match read_feed(alloc, source, max_lines, Feed::Update, HolidayCodes::all()) {
-            Ok(lines) => match Update::of_lines(alloc, lines) {
-                Ok(update) => Ok(update),
-                Err(AllocError) => Err(FeedFault::Extract(Fault::Memory)),
-            },
-            Err(fault) => Err(fault),
-        }
+        let lines = read_feed(alloc, source, max_lines, Feed::Update, HolidayCodes::all())?;
+        Ok(Update::of_lines(alloc, lines)?)
     }
 
     /// What these lines say.
@@ -145,16 +140,10 @@ impl PublishedExtract {
             (updating lenient (published_parts self.old) (published_parts self.new) max_lines)
             source.old source.new result }
     {
-        match Update::read(alloc, source, max_lines) {
-            Ok(update) => {
-                let (counts, passed) = (update.counts, update.passed);
-                match self.update(alloc, update) {
-                    Ok(waived) => answer_of(lenient, waived, counts, passed),
-                    Err(AllocError) => Err(FeedFault::Extract(Fault::Memory)),
-                }
-            }
-            Err(fault) => Err(fault),
-        }
+        let update = Update::read(alloc, source, max_lines)?;
+        let (counts, passed) = (update.counts, update.passed);
+        let waived = self.update(alloc, update)?;
+        answer_of(lenient, waived, counts, passed)
     }
 }
 

@@ -1,8 +1,8 @@
 //! From a call that reads published extracts to its status: its inputs are opened here, and `--verbose` says more.
 //! What is read, done, written and told is said by the clauses of the functions that are called.
-use crate::advice::Reader;
 use crate::devices::{ExtractInput, Output, Written, buffered};
 use crate::job::{Call, FeedJob, InputNames, PrepareJob, UpdateJob};
+use crate::line_advice::Reader;
 use crate::message::{Detail, Message};
 use crate::run::{run_prepare, run_update};
 use crate::status::{DONE, end};

@@ -1,12 +1,13 @@
 //! From the words of the process to its status. No clause says what is done here: the rows of `tests/`
 //! show it on the built program.
-use crate::advice::{DoneJob, advise_on_word};
+use crate::advice::DoneJob;
 use crate::devices::{ExtractInput, Output, Written, buffered};
 use crate::feeds::feed_task;
 use crate::job::{Call, Job, JobFault, Task};
 use crate::message::Detail;
 use crate::run::{run_fault, run_job};
 use crate::status::{USAGE_ERROR, end};
+use crate::word_advice::advise_on_word;
 use crate::words::task_of;
 use cif_columns::{Sink, Source};
 use cif_extract::Fault;

@@ -37,9 +37,7 @@ pub fn week_calendar<W: WriteDevice>(
     ensures fault { IfErr result IsWeekCalendarFault }
 {
     let window = Window::of(&extract.header);
-    let Ok(states) = states_of_train(alloc, extract.schedules.as_slice(), uid, &window) else {
-        return Err(Fault::Memory);
-    };
+    let states = states_of_train(alloc, extract.schedules.as_slice(), uid, &window)?;
     append("       MTWTFSS\n", sink);
     write_weeks(states.as_slice(), &window, sink);
     answer(sink)

@@ -38,14 +38,14 @@ const BASE_UID: Column = ("base_uid", Whole(4, 9));
 
 const ASSOCIATED_UID: Column = ("associated_uid", Whole(10, 15));
 
-/// Its dates and days.
+/// The dates and days of AA.
 const HOLDS_FROM: Column = ("first_date", Date(16, 21));
 
 const HOLDS_TO: Column = ("last_date", Date(22, 27));
 
 const HOLDS_ON: Column = ("days_run", Text(28, 34));
 
-/// Its location, with the suffixes.
+/// The location of AA, with the suffixes.
 const MEETS_AT: Column = ("location", Text(38, 44));
 
 const BASE_SUFFIX: Column = ("base_suffix", Text(45, 45));
@@ -55,7 +55,7 @@ const ASSOCIATED_SUFFIX: Column = ("associated_suffix", Text(46, 46));
 /// The UID of BS.
 const UID: Column = ("uid", Whole(4, 9));
 
-/// Its dates and days.
+/// The dates and days of BS.
 const RUNS_FROM: Column = ("first_date", Date(10, 15));
 
 const RUNS_TO: Column = ("last_date", Date(16, 21));
@@ -85,7 +85,7 @@ use self::Place::{Call, Date, DayFirst, Text, Whole};
 /// A field: its name, and where it stands.
 pub(crate) type Column = (&'static str, Place);
 
-/// Those of HD.
+/// The columns of HD.
 pub(crate) const HEADER: [Column; 9] = [
     ("mainframe_identity", Text(3, 22)),
     ("extract_date", Text(23, 28)),
@@ -98,7 +98,7 @@ pub(crate) const HEADER: [Column; 9] = [
     ("last_date", DayFirst(55, 60)),
 ];
 
-/// Those of TI.
+/// The columns of TI.
 pub(crate) const TIPLOC: [Column; 9] = [
     LOCATION,
     ("capitals", Text(10, 11)),
@@ -111,7 +111,7 @@ pub(crate) const TIPLOC: [Column; 9] = [
     ("description", Text(57, 72)),
 ];
 
-/// Those of AA.
+/// The columns of AA.
 pub(crate) const ASSOCIATION: [Column; 12] = [
     BASE_UID,
     ASSOCIATED_UID,
@@ -127,7 +127,7 @@ pub(crate) const ASSOCIATION: [Column; 12] = [
     ("association_type", Text(48, 48)),
 ];
 
-/// Those of BS.
+/// The columns of BS.
 pub(crate) const BASIC: [Column; 21] = [
     UID,
     RUNS_FROM,
@@ -152,7 +152,7 @@ pub(crate) const BASIC: [Column; 21] = [
     ("branding", Text(75, 78)),
 ];
 
-/// Those of BX.
+/// The columns of BX.
 pub(crate) const EXTRA: [Column; 7] = [
     ("extra", Text(1, 2)),
     ("traction", Text(3, 6)),
@@ -163,7 +163,7 @@ pub(crate) const EXTRA: [Column; 7] = [
     ("reserved_b", Text(23, 23)),
 ];
 
-/// Those of LO, LI and LT.
+/// The columns of LO, LI and LT.
 pub(crate) const CALL: [Column; 15] = [
     ("record", Text(1, 2)),
     ("location", Text(3, 9)),
@@ -182,7 +182,7 @@ pub(crate) const CALL: [Column; 15] = [
     ("performance", Call((42, 43), (59, 60), NOWHERE)),
 ];
 
-/// Those of a public call. Its times, and whether riders may get off and on, stand in no columns.
+/// The columns of a public call. Its times, and whether riders may get off and on, stand in no columns.
 pub(crate) const PUBLIC: [Column; 6] = [
     ("location", Text(3, 9)),
     ("platform", Call((20, 22), (34, 36), (20, 22))),
@@ -192,7 +192,7 @@ pub(crate) const PUBLIC: [Column; 6] = [
     ("pick_up", Text(1, 0)),
 ];
 
-/// Those of CR.
+/// The columns of CR.
 pub(crate) const CHANGE: [Column; 21] = [
     ("location", Text(3, 9)),
     ("suffix", Text(10, 10)),
@@ -235,7 +235,7 @@ pub(crate) const ASSOCIATION_HEAD: [Column; 9] = [
     HOLDS_ON,
 ];
 
-/// Those of BS.
+/// The columns of BS.
 pub(crate) const BASIC_HEAD: [Column; 9] = [
     NOTHING, UID, NOTHING, NOTHING, NOTHING, NOTHING, RUNS_FROM, RUNS_TO, RUNS_ON,
 ];

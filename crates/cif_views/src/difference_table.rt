@@ -376,9 +376,6 @@ fn fields_of(kind: JourneyKind) -> &'static [Column]
 {
     match kind {
         JourneyKind::Change => &CHANGE[2..],
-        JourneyKind::Origin => &CALL[3..],
-        JourneyKind::Stop => &CALL[3..],
-        JourneyKind::Terminus => &CALL[3..],
-        JourneyKind::Other => &CALL[3..],
+        _ => &CALL[3..],
     }
 }

@@ -65,12 +65,8 @@ pub fn explain_listing<W: WriteDevice>(
     ensures fault { IfErr result (IsExplanationFault (extract_parts extract.now) day) }
 {
     check_within(&extract.header, day)?;
-    let Ok(associations) = records_on(alloc, extract.associations.as_slice(), uid, day) else {
-        return Err(Fault::Memory);
-    };
-    let Ok(trains) = records_on(alloc, extract.schedules.as_slice(), uid, day) else {
-        return Err(Fault::Memory);
-    };
+    let associations = records_on(alloc, extract.associations.as_slice(), uid, day)?;
+    let trains = records_on(alloc, extract.schedules.as_slice(), uid, day)?;
     let listing = Listing {
         format,
         calls: false,

@@ -26,13 +26,9 @@ pub fn clashes(alloc: Global, extract: &Extract) -> Result<Clashes, Fault>
 {
     let window = Window::of(&extract.header);
     let none = Vec::new(alloc);
-    let Ok(some) = add_clashes(alloc, none, extract.associations.as_slice(), &window) else {
-        return Err(Fault::Memory);
-    };
-    match add_clashes(alloc, some, extract.schedules.as_slice(), &window) {
-        Ok(all) => Ok(Clashes::of(all)),
-        Err(AllocError) => Err(Fault::Memory),
-    }
+    let some = add_clashes(alloc, none, extract.associations.as_slice(), &window)?;
+    let all = add_clashes(alloc, some, extract.schedules.as_slice(), &window)?;
+    Ok(Clashes::of(all))
 }
 
 /// Appends the clashes of the entries in the window: for each key that has one its first, rising by

@@ -48,7 +48,7 @@ pub use Rattle.cif_weeks.specs.Steps.Spans.{AgreeOn, AreSpansOf, HasDay, HaveOne
 pub use Rattle.cif_weeks.specs.Steps.Spans.{IsSpanOf, Leads, Shows, SomeOf}
 pub use Rattle.cif_weeks.specs.Steps.WeekMasks.{Counts, IsLastDay, IsMask, MasksAgree, MasksDiffer}
 pub use Rattle.cif_weeks.specs.WhatRuns.{SayTheSame, SayWhatRuns}
-pub use Rattle.cif_weeks.specs.Window.{IsWithin, Window, window_from}
+pub use Rattle.cif_weeks.specs.Window.{IsWithin, Window, window_days, window_from}
 pub use Rattle.cif_weeks.specs.declared.form.Form.{Form}
 pub use Rattle.cif_weeks.specs.declared.form.Form.TheVariants.{One, Two}
 pub use Rattle.cif_weeks.specs.declared.form.Run.{Run}

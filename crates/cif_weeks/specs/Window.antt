@@ -1,5 +1,6 @@
 -- A window: the days from its first to its last.
 use Rattle.std.specs.Prelude.{ℕ, ◌≤◌}
+use Rattle.cif_calendar.specs.declared.applies.Window.{Window as Dates}
 
 -- the days from `first` to `last`
 pub record Window : Type 0 where
@@ -9,6 +10,10 @@ pub record Window : Type 0 where
 -- the window of these days
 abbrev pub window_from : ℕ → ℕ → Window
 window_from first last = record { first = first; last = last }
+
+-- the days of this one, as the code has it
+abbrev pub window_days : Dates → Window
+window_days window = window_from window.first window.last
 
 -- day n lies in the window, which has its first day and its last
 pub record IsWithin (window : Window) (n : ℕ) : Type 0 where

@@ -8,7 +8,7 @@ ghost use Rattle.cif_columns.specs.Day.{IsDay, week_of};
 ghost use Rattle.cif_calendar.specs.Source.{body_at};
 ghost use Rattle.cif_weeks.specs.Steps.BodyRuns.{AreGrownTo, AreNextWeeks, AreRunsOfBody};
 ghost use Rattle.cif_weeks.specs.Steps.Spans.{AgreeOn, HaveOneMask, IsDisputed, IsSourceAmong, Leads, Shows};
-ghost use Rattle.cif_weeks.specs.Window.{IsWithin, window_from};
+ghost use Rattle.cif_weeks.specs.Window.{IsWithin, window_days};
 ghost use Rattle.cif_weeks.specs.declared.form.Run.{Run};
 ghost use Rattle.cif_weeks.specs.declared.span.Span.{Span};
 
@@ -111,14 +111,14 @@ fn grow(
     joining: &Joining,
 ) -> Result<(), AllocError>
     requires shown { (spans : List Span)
-        × AreNextWeeks (window_from joining.now.window.first joining.now.window.last) spans source week weeks }
+        × AreNextWeeks (window_days joining.now.window) spans source week weeks }
     requires in_range { IsDay joining.now.window.last }
     ensures { IfOk result (λ _. (spans : List Span) (old : List Run)
-        → AreNextWeeks (window_from joining.now.window.first joining.now.window.last) spans source week weeks
+        → AreNextWeeks (window_days joining.now.window) spans source week weeks
         → length old ≡ start
-        → AreGrownTo joining.now.form (window_from joining.now.window.first joining.now.window.last)
+        → AreGrownTo joining.now.form (window_days joining.now.window)
         (Shows spans source) source week old runs.old.items
-        → AreGrownTo joining.now.form (window_from joining.now.window.first joining.now.window.last)
+        → AreGrownTo joining.now.form (window_days joining.now.window)
         (Shows spans source) source (weeks.last + 1) old runs.new.items) }
 {
     let Some(first_weekday) = weeks.days.first() else {
@@ -173,11 +173,11 @@ pub(crate) fn add_body_runs(
     joining: &Joining,
 ) -> Result<bool, AllocError>
     requires inside { (n : ℕ) → Shows spans.now source n →
-        IsWithin (window_from joining.now.window.first joining.now.window.last) n }
+        IsWithin (window_days joining.now.window) n }
     requires order { IsNonDecreasingBy (λ s. s.first_week) spans.now }
     ensures { IfOk result (λ made. MatchBool made
         ((added : List Run) × (runs.new.items ≡ runs.old.items ++ added)
-        × AreRunsOfBody joining.now.form (window_from joining.now.window.first joining.now.window.last)
+        × AreRunsOfBody joining.now.form (window_days joining.now.window)
         spans.now source added)
         ((n : ℕ) × IsDisputed spans.now n)) }
 {

@@ -7,7 +7,7 @@ ghost use Rattle.cif_weeks.specs.Runs.{AreCanonicalRuns, AreSources, window_of};
 ghost use Rattle.cif_weeks.specs.Steps.BodyRuns.{AreRunsOfSpans, HasBody};
 ghost use Rattle.cif_weeks.specs.Steps.PieceSpans.{AreBySource, AreSpansBefore, HasBodyOn, IsWinnerOn, named};
 ghost use Rattle.cif_weeks.specs.Steps.Spans.{IsAgreed, Shows};
-ghost use Rattle.cif_weeks.specs.Window.{IsWithin, window_from};
+ghost use Rattle.cif_weeks.specs.Window.{IsWithin, window_days};
 ghost use Rattle.cif_weeks.specs.declared.span.Span.{Span};
 
 use crate::body_runs::{add_body_runs, have_one_body, source_of};
@@ -85,13 +85,13 @@ fn add_runs_by_source(
 ) -> Result<(), AllocError>
     requires none { runs.old.items ≡ [] }
     requires inside { (source n : ℕ) → Shows spans.now source n →
-        IsWithin (window_from joining.now.window.first joining.now.window.last) n }
+        IsWithin (window_days joining.now.window) n }
     requires bodied { All HasBody spans.now }
     requires level { (s t : Span) → Contains spans.now s → Contains spans.now t → s.letter ≡ t.letter }
     requires agreed { (n : ℕ) → IsAgreed spans.now n }
     requires order { AreBySource spans.now }
     ensures { IfOk result (λ _. AreRunsOfSpans joining.now.form
-        (window_from joining.now.window.first joining.now.window.last) spans.now runs.new.items) }
+        (window_days joining.now.window) spans.now runs.new.items) }
 {
     let mut left = spans;
     while let [span, ..] = left {

@@ -5,7 +5,7 @@ ghost use Rattle.std.specs.List.Sorted.{IsNonDecreasingBy};
 ghost use Rattle.cif_weeks.specs.MemberRuns.{AreRunsOfMembers, HaveClash};
 ghost use Rattle.cif_weeks.specs.Steps.BodyRuns.{AreRunsOfSpans, HasBody, HasSource};
 ghost use Rattle.cif_weeks.specs.Steps.Spans.{IsDisputed, Shows};
-ghost use Rattle.cif_weeks.specs.Window.{IsWithin, window_from};
+ghost use Rattle.cif_weeks.specs.Window.{IsWithin, window_days};
 
 use crate::body_runs::{add_body_runs, source_of};
 use crate::form::{Form, Joining, Run, sort_by_first};
@@ -39,10 +39,10 @@ fn is_added(before: &[Span], span: &Span) -> bool
 fn add_all_runs(runs: &mut Vec<Run>, spans: &[Span], joining: &Joining) -> Result<bool, AllocError>
     requires none { runs.old.items ≡ [] }
     requires inside { (source n : ℕ) → Shows spans.now source n →
-        IsWithin (window_from joining.now.window.first joining.now.window.last) n }
+        IsWithin (window_days joining.now.window) n }
     requires order { IsNonDecreasingBy (λ s. s.first_week) spans.now }
     ensures { IfOk result (λ made. MatchBool made
-        (AreRunsOfSpans joining.now.form (window_from joining.now.window.first joining.now.window.last)
+        (AreRunsOfSpans joining.now.form (window_days joining.now.window)
         spans.now runs.new.items)
         ((n : ℕ) × IsDisputed spans.now n)) }
 {
@@ -74,9 +74,9 @@ pub fn runs_of_few<E: Entry>(
     requires within { All (λ i. i < length entries.now) members.now }
     ensures { IfOk result (λ made. MatchBool made
         (AreRunsOfMembers form (map E.terms entries.now) members.now
-        (window_from window.now.first window.now.last) runs.new.items)
+        (window_days window.now) runs.new.items)
         ((8 < length members.now) ⊎ HaveClash (map E.terms entries.now) members.now
-        (window_from window.now.first window.now.last))) }
+        (window_days window.now))) }
 {
     if FEW < members.len() {
         return Ok(false);

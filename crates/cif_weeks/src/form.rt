@@ -4,7 +4,7 @@
 ghost use Rattle.std.specs.Prelude.{◌≡◌, ◌<◌, ◌+◌, ◌↔◌, ℕ, IsPermutation, IsTrue, MatchBool};
 ghost use Rattle.std.specs.List.Sorted.{IsNonDecreasingBy};
 ghost use Rattle.cif_weeks.specs.Steps.WeekMasks.{Counts, MasksAgree, MasksDiffer};
-ghost use Rattle.cif_weeks.specs.Window.{window_from};
+ghost use Rattle.cif_weeks.specs.Window.{window_days};
 
 use cif_calendar::Window;
 use cif_columns::{DAYS_IN_WEEK, Day, DaysRun};
@@ -63,7 +63,7 @@ impl Joining {
     fn counts(&self, next: u32, weekday: u8) -> bool
         requires { weekday < 7 }
         ensures { (week : ℕ) → week + 1 ≡ next → IsTrue result ↔
-            Counts self.now.form (window_from self.now.window.first self.now.window.last) week weekday }
+            Counts self.now.form (window_days self.now.window) week weekday }
     {
         match self.form {
             Form::One => true,
@@ -79,8 +79,8 @@ impl Joining {
     /// Whether the masks of the week before `next` and of this one agree where they have to.
     pub(crate) fn agree(&self, next: u32, before: DaysRun, days: DaysRun) -> bool
         ensures { (week : ℕ) → week + 1 ≡ next → MatchBool result
-            (MasksAgree self.now.form (window_from self.now.window.first self.now.window.last) week before days)
-            (MasksDiffer self.now.form (window_from self.now.window.first self.now.window.last) week before days) }
+            (MasksAgree self.now.form (window_days self.now.window) week before days)
+            (MasksDiffer self.now.form (window_days self.now.window) week before days) }
     {
         if before.is(days) {
             return true;

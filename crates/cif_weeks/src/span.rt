@@ -58,7 +58,7 @@ impl Span {
     ghost use Rattle.cif_calendar.specs.Applies.{Applies, IsAmongDates};
     ghost use Rattle.cif_columns.specs.Day.{week_of};
     ghost use Rattle.cif_weeks.specs.Steps.Spans.{HasDay, HaveOneMask, IsSpanOf};
-    ghost use Rattle.cif_weeks.specs.Window.{IsWithin, window_from};
+    ghost use Rattle.cif_weeks.specs.Window.{IsWithin, window_days};
 
     /// The dates from a first to a last on these weekdays, on which the body at `source` applies with this
     /// letter.
@@ -95,9 +95,9 @@ impl Span {
     /// `None` where it ends before the window or begins after it.
     pub(crate) fn of<E: Entry>(entry: &E, source: usize, window: &Window) -> Option<Span>
         ensures some { IfSome result
-            (IsSpanOf (window_from window.now.first window.now.last) (E.terms entry.now)) }
+            (IsSpanOf (window_days window.now) (E.terms entry.now)) }
         ensures source { IfSome result (λ span. span.source ≡ source) }
-        ensures none { IfNone result ((n : ℕ) → IsWithin (window_from window.now.first window.now.last) n →
+        ensures none { IfNone result ((n : ℕ) → IsWithin (window_days window.now) n →
             ¬ Applies (E.terms entry.now) n) }
     {
         let dates = Dates::of(entry);

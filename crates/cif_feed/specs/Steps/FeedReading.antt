@@ -16,10 +16,12 @@ use Rattle.cif_feed.specs.FeedLine.{SpellsInFeed}
 use Rattle.cif_feed.specs.FeedRefusal.{line_refusal}
 use Rattle.cif_feed.specs.Marks.{mark_parts, marks_in}
 use Rattle.cif_feed.specs.RecordLines.{is_basic, is_trailer, record_lines}
+use Rattle.cif_feed.specs.Steps.Marks.{mark_of}
 use Rattle.cif_feed.specs.declared.feed_line.Feed.{Feed}
 use Rattle.cif_feed.specs.declared.feed_line.Feed.TheVariants.{Update}
 use Rattle.cif_feed.specs.declared.feed_reading.FeedReading.{FeedReading}
 use Rattle.cif_feed.specs.declared.holidays.HolidayCodes.{HolidayCodes}
+use Rattle.cif_feed.specs.declared.mark.Mark.{Mark}
 use Rattle.cif_feed.specs.declared.mark.Passed.{Passed}
 
 -- the reading has taken these contents
@@ -33,6 +35,12 @@ pub record HasTakenFeed (feed : Feed) (allowed : HolidayCodes) (contents : List 
 abbrev pub IsRecordTaken : Feed → HolidayCodes → List ℕ → Progress → Result Unit TakeFault → Progress → Type 0
 IsRecordTaken feed allowed line before =
     IsTakenAs (refusal_at (feed_layouts feed allowed) before.place line) (SpellsInFeed feed allowed line) before
+
+-- the same, and what it says beyond the record
+abbrev pub IsMarkedTaken : Feed → HolidayCodes → ℕ × List ℕ → Progress → Result Mark TakeFault → Progress → Type 0
+IsMarkedTaken feed allowed line before (Ok mark) after =
+    IsRecordTaken feed allowed line.1 before (Ok tt) after × (mark ≡ mark_of allowed (kind_in line.1) line)
+IsMarkedTaken feed allowed line before (Err fault) after = IsRecordTaken feed allowed line.1 before (Err fault) after
 
 -- a line of this kind is read as one of an extract of this profile
 abbrev pub IsOwn : Option Kind → Feed → Type 0

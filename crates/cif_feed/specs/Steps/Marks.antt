@@ -1,9 +1,11 @@
 -- The marks of one line more, and of the records.
-use Rattle.std.specs.Prelude.{◌≡◌, ℕ, ◌+◌, ◌<◌, ◌==◌, ◌&&◌, Bool, List, [], ◌∷◌, ◌++◌, Option, IsTrue, length, if◌then◌else◌}
+use Rattle.std.specs.Prelude.{◌≡◌, ℕ, ◌+◌, ◌<◌, ◌==◌, ◌&&◌, Bool, true, false, List, [], ◌∷◌, ◌++◌, Option, Some, IsTrue, is_some, length}
+use Rattle.std.specs.Prelude.{if◌then◌else◌}
 use Rattle.cif_columns.specs.declared.line_reader.TheConstants.{MAX_LINES}
 use Rattle.cif_extract.specs.declared.extract.Schedule.{Schedule}
 use Rattle.cif_records.specs.declared.association.Association.{Association}
 use Rattle.cif_records.specs.declared.record.Kind.{Kind}
+use Rattle.cif_records.specs.declared.record.Kind.TheVariants.{Hd, Ti, Ta, Td, Aa, Bs, Zz}
 use Rattle.cif_feed.specs.Counts.{ends_open, has_holiday_code, is_deleted, is_new, is_revised, transaction_as}
 use Rattle.cif_feed.specs.FromLines.{ArePairs}
 use Rattle.cif_feed.specs.LastDay.{last_day}
@@ -11,7 +13,10 @@ use Rattle.cif_feed.specs.Marks.{MarkParts, association_mark, schedule_mark, tip
 use Rattle.cif_feed.specs.RecordLines.{is_association, is_basic, is_header, is_of_tiploc}
 use Rattle.cif_feed.specs.SpellsFeed.{FeedParts}
 use Rattle.cif_feed.specs.declared.holidays.HolidayCodes.{HolidayCodes}
+use Rattle.cif_feed.specs.declared.mark.Mark.{Mark}
+use Rattle.cif_feed.specs.declared.mark.Mark.TheVariants as of
 use Rattle.cif_feed.specs.declared.mark.RecordMark.{RecordMark}
+use Rattle.cif_feed.specs.declared.mark.Transaction.{Transaction}
 use Rattle.cif_feed.specs.declared.mark.UpdateCounts.{UpdateCounts}
 
 -- one more, if it counts
@@ -54,6 +59,55 @@ with_line m allowed kind line = record {
   counts = with_counts m.counts kind line.1;
   passed = m.passed;
 }
+
+-- ---- mark by mark
+
+-- what a line of this kind says beyond its record, where these holiday codes may stand
+abbrev pub mark_of : HolidayCodes → Option Kind → ℕ × List ℕ → Mark
+mark_of allowed (Some Hd) line = of.Header line.0
+mark_of allowed (Some Ti) line = of.Tiploc (tiploc_mark (Some Ti) line)
+mark_of allowed (Some Ta) line = of.Tiploc (tiploc_mark (Some Ta) line)
+mark_of allowed (Some Td) line = of.Tiploc (tiploc_mark (Some Td) line)
+mark_of allowed (Some Aa) line = of.Association (association_mark line)
+mark_of allowed (Some Bs) line = of.Schedule (schedule_mark allowed line)
+mark_of allowed (Some Zz) line = of.Trailer
+mark_of allowed kind line = of.Nothing
+
+-- the same, where the line is as in an extract of this profile
+abbrev pub own_mark : Kind → Mark
+own_mark Zz = of.Trailer
+own_mark kind = of.Nothing
+
+-- whether it is that of a BS, and of a ZZ
+abbrev pub is_schedule_mark : Mark → Bool
+is_schedule_mark (of.Schedule m) = true
+is_schedule_mark mark = false
+
+abbrev pub is_trailer_mark : Mark → Bool
+is_trailer_mark of.Trailer = true
+is_trailer_mark mark = false
+
+-- the counts with a line of this transaction, and with an AA or a BS of this mark
+abbrev pub with_transaction : UpdateCounts → Transaction → UpdateCounts
+with_transaction c transaction = record c {
+  put = plus_if c.put (is_new (Some transaction));
+  revised = plus_if c.revised (is_revised (Some transaction));
+  taken_out = plus_if c.taken_out (is_deleted (Some transaction));
+}
+
+abbrev pub with_record : UpdateCounts → RecordMark → UpdateCounts
+with_record c mark = record (with_transaction c mark.transaction) {
+  open_ends = plus_if c.open_ends mark.open_end;
+  holiday_codes = plus_if c.holiday_codes (is_some mark.code);
+}
+
+-- the marks with one more
+abbrev pub with_mark : MarkParts → Mark → MarkParts
+with_mark m (of.Header number) = record m { header_line = if m.header_line == 0 then number else m.header_line }
+with_mark m (of.Tiploc t) = record m { tiplocs = m.tiplocs ++ t ∷ []; counts = with_transaction m.counts t.transaction }
+with_mark m (of.Association a) = record m { associations = m.associations ++ a ∷ []; counts = with_record m.counts a }
+with_mark m (of.Schedule s) = record m { schedules = m.schedules ++ s ∷ []; counts = with_record m.counts s }
+with_mark m mark = m
 
 -- ---- record by record
 

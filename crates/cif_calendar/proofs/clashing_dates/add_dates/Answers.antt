@@ -1,13 +1,13 @@
 -- One date more is a clash date, or none (`dates-more`); without a dispute no date of the stretch is (`dates-none`).
-use Rattle.cif_calendar.proofs.Names.{AreClashDates, IsChosen, Nobody, Stands, arith, get_or, map, subst, sym, weekday_of, ◌+◌, ◌<◌, ◌∙◌}
+use Rattle.cif_calendar.proofs.Names.{AreClashDates, IsChosen, Nobody, Stands, arith, get_or, subst, sym, weekday_of, ◌+◌, ◌<◌, ◌∙◌}
 use Rattle.cif_calendar.proofs.Names.{◌≡◌}
 use Rattle.cif_calendar.proofs.ClashingDates.{dates-more, dates-none, undisputed}
 use Rattle.cif_calendar.proofs.clashing_dates.add_dates.Goals as goal
 
 pub loop-next-preserved : goal.loop-next-preserved
 loop-next-preserved g c =
-    let xs = map g.E.Entry.terms c.args._members.now.entries.now in
-    let members = c.args._members.now.positions.now in
+    let xs = c.args._members.now.terms in
+    let members = c.args._members.now.positions in
     let day = c.loop-next.day in
     let is = c.loop-next.invariant in
     let stands = subst (λ w. Stands xs members (IsChosen xs members) day (get_or c.args.stretch.now.standings w Nobody))
@@ -23,8 +23,8 @@ loop-next-preserved g c =
 
 pub returns-in-None : goal.returns-in-None
 returns-in-None g c =
-    let xs = map g.E.Entry.terms c.args._members.now.entries.now in
-    let members = c.args._members.now.positions.now in
+    let xs = c.args._members.now.terms in
+    let members = c.args._members.now.positions in
     let day = c.loop-next.day in
     let is = c.loop-next.invariant in
     let stands = subst (λ w. Stands xs members (IsChosen xs members) day (get_or c.args.stretch.now.standings w Nobody))
@@ -36,8 +36,8 @@ returns-in-None g c =
 
 pub returns-then-not-has_dispute : goal.returns-then-not-has_dispute
 returns-then-not-has_dispute g c = λ n below start.
-    let xs = map g.E.Entry.terms c.args._members.now.entries.now in
-    let members = c.args._members.now.positions.now in
+    let xs = c.args._members.now.terms in
+    let members = c.args._members.now.positions in
     let stretch = c.requires.stretch.1 in
     dates-none (IsChosen xs members) n c.args.first _ start (c.args.stretch.now.last + 1)
     (let order = stretch.in_order in omega arith)

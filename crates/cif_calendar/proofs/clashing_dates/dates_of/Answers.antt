@@ -1,5 +1,5 @@
 -- The clash dates of one stretch more are found (`made-next`).
-use Rattle.cif_calendar.proofs.Names.{arith, drop_all, map, ◌∙◌}
+use Rattle.cif_calendar.proofs.Names.{arith, drop_all, ◌∙◌}
 use Rattle.cif_calendar.proofs.ClashingDates.{dates-start}
 use Rattle.cif_calendar.proofs.DayStates.{made-all, made-next, made-none, stretch-here}
 use Rattle.cif_calendar.proofs.LaidPieces.{next-day}
@@ -17,7 +17,7 @@ add_dates-requires g c = record {
 pub loop-stretch-preserved : goal.loop-stretch-preserved
 loop-stretch-preserved g c =
     let stretch = stretch-here _ _ _ _ _ _ c.args.stretches.now _ _ c.loop-stretch-test.true c.stretch-item.is c.loop-stretch.invariant in
-    made-next _ (map g.E.Entry.terms c.args.members.now.entries.now) c.args.members.now.positions.now _ _ _ c.args.stretches.now _ _
+    made-next _ c.args.members.now.terms c.args.members.now.positions _ _ _ c.args.stretches.now _ _
     c.loop-stretch-test.true
     c.stretch-item.is c.loop-stretch.invariant c.unwrap_or-first.result c.add_dates.new.days.items
     (λ less. c.unwrap_or-first.ensures ∙ next-day _ _ _ _ c.next_up_to.ensures less)

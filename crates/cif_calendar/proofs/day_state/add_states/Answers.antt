@@ -1,12 +1,12 @@
 -- The state of one date more stands (`states-more`).
-use Rattle.cif_calendar.proofs.Names.{IsChosen, Nobody, Stands, arith, get_or, map, subst, sym, ◌+◌, ◌∙◌}
+use Rattle.cif_calendar.proofs.Names.{IsChosen, Nobody, Stands, arith, get_or, subst, sym, ◌+◌, ◌∙◌}
 use Rattle.cif_calendar.proofs.DayStates.{states-more}
 use Rattle.cif_calendar.proofs.day_state.add_states.Goals as goal
 
 pub loop-next-preserved : goal.loop-next-preserved
 loop-next-preserved g c =
-    let xs = map g.E.Entry.terms c.args.members.now.entries.now in
-    let members = c.args.members.now.positions.now in
+    let xs = c.args.members.now.terms in
+    let members = c.args.members.now.positions in
     let day = c.loop-next.day in
     let is = c.loop-next.invariant in
     let state = c.state_by.ensures day (subst
@@ -21,8 +21,8 @@ loop-next-preserved g c =
 
 pub returns-in-None : goal.returns-in-None
 returns-in-None g c =
-    let xs = map g.E.Entry.terms c.args.members.now.entries.now in
-    let members = c.args.members.now.positions.now in
+    let xs = c.args.members.now.terms in
+    let members = c.args.members.now.positions in
     let day = c.loop-next.day in
     let is = c.loop-next.invariant in
     let state = c.state_by.ensures day (subst

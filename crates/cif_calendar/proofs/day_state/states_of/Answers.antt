@@ -1,5 +1,5 @@
 -- The states of one stretch more stand (`made-next`).
-use Rattle.cif_calendar.proofs.Names.{drop_all, map, ◌∙◌}
+use Rattle.cif_calendar.proofs.Names.{drop_all, ◌∙◌}
 use Rattle.cif_calendar.proofs.DayStates.{made-all, made-next, made-none, states-none, stretch-here}
 use Rattle.cif_calendar.proofs.LaidPieces.{next-day}
 use Rattle.cif_calendar.proofs.day_state.states_of.Goals as goal
@@ -15,7 +15,7 @@ add_states-requires g c = record {
 
 pub loop-stretch-preserved : goal.loop-stretch-preserved
 loop-stretch-preserved g c =
-    made-next _ (map g.E.Entry.terms c.args.members.now.entries.now) c.args.members.now.positions.now _ _ _ c.args.stretches.now _ _
+    made-next _ c.args.members.now.terms c.args.members.now.positions _ _ _ c.args.stretches.now _ _
     c.loop-stretch-test.true
     c.stretch-item.is c.loop-stretch.invariant c.unwrap_or-first.result c.add_states.new.states.items
     (λ less. c.unwrap_or-first.ensures ∙ next-day _ _ _ _ c.next_up_to.ensures less)

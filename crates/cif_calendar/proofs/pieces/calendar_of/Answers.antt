@@ -1,5 +1,5 @@
 -- One piece more is laid (`laid-more`), all are the calendar (`laid-all`), and a clash is the window's first (`laid-fault`).
-use Rattle.cif_calendar.proofs.Names.{Err, IsAnswer, Memory, ap, drop_all, err_from_is_err_and, map, refl, subst, sym, ◌∙◌}
+use Rattle.cif_calendar.proofs.Names.{Err, IsAnswer, Memory, ap, drop_all, err_from_is_err_and, refl, subst, sym, ◌∙◌}
 use Rattle.cif_calendar.proofs.LaidPieces.{laid-all, laid-fault, laid-memory, laid-more, laid-none, laid-tiles, next-day, stretch-laid}
 use Rattle.cif_calendar.proofs.pieces.calendar_of.Goals as goal
 
@@ -13,7 +13,7 @@ judge-requires g c = record {
 
 pub returns-in_err-judge : goal.returns-in_err-judge
 returns-in_err-judge g c = let p = err_from_is_err_and c.from_residual.result c.from_residual.ensures.1 in
-    subst (IsAnswer (map g.E.Entry.terms c.args.members.now.entries.now) c.args.members.now.positions.now c.args.window.first
+    subst (IsAnswer c.args.members.now.terms c.args.members.now.positions c.args.window.first
     c.args.window.last)
     (sym (p.1 ∙ ap Err p.2)) (laid-fault _ _ _ _ _ _ c.args.stretches.now _ _ c.loop-stretch-test.true c.stretch-item.is
     c.loop-stretch.invariant _ c.in_err-judge.ensures.fault)
@@ -25,7 +25,7 @@ loop-stretch-preserved g c =
     (λ less. c.unwrap_or-first.ensures ∙ next-day _ _ _ _ c.next_up_to.ensures less) c.in-Ok.ensures.items c.in_ok-judge.ensures.piece
 
 pub new-requires : goal.new-requires
-new-requires g c = laid-tiles (map g.E.Entry.terms c.args.members.now.entries.now) c.args.members.now.positions.now _ _ _ _ _
+new-requires g c = laid-tiles c.args.members.now.terms c.args.members.now.positions _ _ _ _ _
     c.loop-stretch.invariant
     (drop_all c.loop-stretch.stretch-index c.args.stretches.now c.loop-stretch-test.false)
 

@@ -1,6 +1,6 @@
 -- One day more sets its weekday's winner; among seven days that is no other day's, so the others stay (`week-more`). The winners of the
 -- first week are those of the whole piece (`piece-from_week`).
-use Rattle.cif_calendar.proofs.Names.{arith, length-set, map, min, refl, subst, weekday_of, ◌+◌, ◌∙◌, ◌≡◌}
+use Rattle.cif_calendar.proofs.Names.{arith, length-set, min, refl, subst, weekday_of, ◌+◌, ◌∙◌, ◌≡◌}
 use Rattle.cif_calendar.proofs.UnbrokenStretches.{IsWeekFrom, piece-from_week, week-more}
 use Rattle.cif_calendar.proofs.pieces.judge.Goals as goal
 use Rattle.cif_calendar.proofs.pieces.judge.Goals.{else-loop-test, then-loop-test+in_ok-winners+in-None}
@@ -15,7 +15,7 @@ loop-preserved g c = let is = c.loop.invariant in record {
   seven = length-set _ _ _ ∙ is.seven;
   day_is = omega (arith, c.in-Some.ensures);
   upto = omega (arith, c.in-Some.ensures);
-  week = week-more (map g.E.Entry.terms c.args.members.now.entries.now) c.args.members.now.positions.now c.args.first c.loop.day
+  week = week-more c.args.members.now.terms c.args.members.now.positions c.args.first c.loop.day
       c.from-weekday.result c.in-Some.next
       c.loop.winners c.in_ok-winners.field-0 (c.from-weekday.ensures ∙ c.weekday.ensures.value) c.in-Some.ensures.1 is.seven (omega arith)
       (omega arith) c.in_ok-winners.ensures.1 c.in_ok-winners.ensures.0 is.week;
@@ -23,8 +23,8 @@ loop-preserved g c = let is = c.loop.invariant in record {
 
 pub returns-clause-piece : goal.returns-clause-piece
 returns-clause-piece g c =
-    let xs = map g.E.Entry.terms c.args.members.now.entries.now in
-    let members = c.args.members.now.positions.now in
+    let xs = c.args.members.now.terms in
+    let members = c.args.members.now.positions in
     let is = c.loop.invariant in (
       refl,
       refl,

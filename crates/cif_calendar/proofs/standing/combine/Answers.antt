@@ -1,5 +1,5 @@
 -- The lesser letter leads; where neither is less, both are the same.
-use Rattle.cif_calendar.proofs.Names.{IsRank, arith, map, subst, ◌≡◌}
+use Rattle.cif_calendar.proofs.Names.{IsRank, arith, subst, ◌≡◌}
 use Rattle.cif_calendar.proofs.Winning.{combines_first, combines_second}
 use Rattle.cif_calendar.proofs.standing.combine.Goals as goal
 
@@ -16,5 +16,5 @@ returns-else-rank_of_other-rank_of_one-clause-stands g c =
     let same : c.rank-rank_of_other.result ≡ c.rank-rank_of_one.result =
     omega (arith, c.if-rank_of_one-rank_of_other.false, c.if-rank_of_other-rank_of_one.false) in
     c.level.ensures.stands c.rank-rank_of_one.result c.rank-rank_of_one.ensures
-    (subst (IsRank (map g.E.Entry.terms c.args.members.now.entries.now) c.args.members.now.positions.now c.args.other) same
+    (subst (IsRank c.args.members.now.terms c.args.members.now.positions c.args.other) same
     c.rank-rank_of_other.ensures)

@@ -1,5 +1,5 @@
 -- A link leads to a member with the same body (`falling-next`), and so do two (`alike-noted`).
-use Rattle.cif_calendar.proofs.Names.{HaveOneBody, IsTrue, ap, body_at, map, refl, slice_get, sym, ◌↔◌, ◌∙◌}
+use Rattle.cif_calendar.proofs.Names.{HaveOneBody, IsTrue, ap, body_at, refl, slice_get, sym, ◌↔◌, ◌∙◌}
 use Rattle.cif_calendar.proofs.Bodies.{alike-noted, falling-next, one-body}
 use Rattle.cif_calendar.proofs.standing.have_one_body.Goals as goal
 use Rattle.cif_calendar.proofs.standing.have_one_body.Given.{Over}
@@ -8,22 +8,22 @@ use Rattle.cif_calendar.proofs.standing.have_one_body.Goals.{After-same_body-sam
 pub loop-init : goal.loop-init
 loop-init g c = record {
   alike = c.requires.alike;
-  both = falling-next (map g.E.Entry.terms c.args.members.now.entries.now) c.args.members.now.positions.now c.args.one c.args.one
+  both = falling-next c.args.members.now.terms c.args.members.now.positions c.args.one c.args.one
       c.args.other _ _ _ refl
       c.max.ensures c.min.ensures (λ h. h, λ h. h);
 }
 
 pub returns-then-pair-clause-told : goal.returns-then-pair-clause-told
 returns-then-pair-clause-told g c = (
-  λ _. c.loop.invariant.both.0 (ap (λ k. body_at (map g.E.Entry.terms c.args.members.now.entries.now) (slice_get
-      c.args.members.now.positions.now k)) c.if-pair.true),
+  λ _. c.loop.invariant.both.0 (ap (λ k. body_at c.args.members.now.terms (slice_get
+      c.args.members.now.positions k)) c.if-pair.true),
   λ _. refl,
 )
 
 pub loop-preserved : goal.loop-preserved
 loop-preserved g c =
-    let xs = map g.E.Entry.terms c.args.members.now.entries.now in
-    let members = c.args.members.now.positions.now in
+    let xs = c.args.members.now.terms in
+    let members = c.args.members.now.positions in
     let same : HaveOneBody xs members c.loop.pair.0 c.in-Some.next =
     c.loop.invariant.alike c.loop.pair.0 c.in-Some.next (sym c.known.ensures ∙ c.in-Some.is) in
     record {
@@ -38,9 +38,9 @@ loop-preserved g c =
     }
 
 told : (g : Over) (c : After-same_body-same g) →
-    IsTrue c.same_body-same.result ↔ HaveOneBody (map g.E.Entry.terms c.args.members.now.entries.now) c.args.members.now.positions.now
+    IsTrue c.same_body-same.result ↔ HaveOneBody c.args.members.now.terms c.args.members.now.positions
     c.args.one c.args.other
-told g c = one-body _ _ _ _ _ _ _ c.entry.ensures c.entry-2.ensures c.same_body-same.ensures
+told g c = one-body _ _ _ _ _ _ _ c.entry.ensures.stands c.entry-2.ensures.stands c.same_body-same.ensures
 
 pub returns-then-same-clause-told : goal.returns-then-same-clause-told
 returns-then-same-clause-told g c = told g (goal.at.returns-then-same-clause-told g c).After-same_body-same
@@ -49,7 +49,7 @@ pub returns-else-same-clause-told : goal.returns-else-same-clause-told
 returns-else-same-clause-told g c = told g (goal.at.returns-else-same-clause-told g c).After-same_body-same
 
 pub returns-then-same-clause-alike : goal.returns-then-same-clause-alike
-returns-then-same-clause-alike g c = alike-noted (map g.E.Entry.terms c.args.members.now.entries.now) c.args.members.now.positions.now
+returns-then-same-clause-alike g c = alike-noted c.args.members.now.terms c.args.members.now.positions
     c.loop.alike _ _ _
     (c.loop.invariant.both.1 ((told g (goal.at.returns-then-same-clause-alike g c).After-same_body-same).0 c.if-same.true))
     c.note-then-same.ensures c.loop.invariant.alike

@@ -1,5 +1,5 @@
 -- The part gets shorter. The stretches of both halves are merged so far, and those left get fewer.
-use Rattle.cif_calendar.proofs.Names.{AreAlike, drop, length, map, take, ◌+◌}
+use Rattle.cif_calendar.proofs.Names.{AreAlike, drop, length, take, ◌+◌}
 use Rattle.cif_calendar.proofs.Stretches.{AreMerged}
 use Rattle.cif_calendar.proofs.stretch.+stretches_of.Given as goal
 
@@ -8,8 +8,8 @@ decreases-stretches_of g l = length l.part.now
 
 abbrev pub invariant-loop-left : goal.invariant-loop-left
 invariant-loop-left g l = record {
-  alike : AreAlike (map g.E.Entry.terms l.members.entries.now) l.members.positions.now l.alike;
-  merged : AreMerged (map g.E.Entry.terms l.members.entries.now) l.members.positions.now (take l.half l.part) (drop l.half l.part)
+  alike : AreAlike l.members.terms l.members.positions l.alike;
+  merged : AreMerged l.members.terms l.members.positions (take l.half l.part) (drop l.half l.part)
       (l.window.last + 1)
       l.window.first (l.window.last + 1) l.left l.right l.stretches.items;
 }

@@ -1,34 +1,33 @@
 -- One member more begins later, has ended (`stretch-begins`, `stretch-ended`), or lies over the first day (`stretch-looked`).
-use Rattle.cif_calendar.proofs.Names.{Leader, [], arith, get_or, get_or_default, length, map, refl, take, take_all, take_more, ◌+◌}
+use Rattle.cif_calendar.proofs.Names.{Leader, Some, [], arith, length, refl, same_Some, slice_get, subst, sym, take, take_all}
+use Rattle.cif_calendar.proofs.Names.{take_more, ◌+◌, ◌∙◌, ◌≡◌}
 use Rattle.cif_calendar.proofs.Standings.{below-same}
-use Rattle.cif_calendar.proofs.Stretches.{day_upto, part-all, part-at, some-before, stretch-begins, stretch-ended, stretch-looked}
+use Rattle.cif_calendar.proofs.Stretches.{day_upto, part-at, some-before, stretch-begins, stretch-ended, stretch-looked}
 use Rattle.cif_calendar.proofs.Stretches.{stretch-none}
-use Rattle.cif_calendar.proofs.Winning.{terms_at}
 use Rattle.cif_calendar.proofs.stretch.stretch_from.Goals as goal
 use Rattle.cif_calendar.proofs.stretch.stretch_from.Goals.{else-le+in-Some, else-le+in_default, then-le+else-le-2, then-le+then-le-2}
 
 pub loop-index-init : goal.loop-index-init
 loop-index-init g c = record {
   alike = c.requires.alike;
-  stretch = stretch-none (map g.E.Entry.terms c.args.members.now.entries.now) c.args.members.now.positions.now [] (c.args.last + 1)
+  stretch = stretch-none c.args.members.now.terms c.args.members.now.positions [] (c.args.last + 1)
       c.args.first c.args.last
       c.requires.in_order refl;
 }
 
-pub bounds-members-position : goal.bounds-members-position
-bounds-members-position g c = part-all _ c.args.number _ c.requires.part (length c.args.members.now.entries.now) c.args.members.now.within
-    c.loop-index.index 0 c.loop-index-test.true
+pub entry-requires : goal.entry-requires
+entry-requires g c = omega (arith, c.loop-index-test.true, c.requires.part.within)
 
 pub loop-index-preserved : goal.loop-index-preserved
 loop-index-preserved g c =
-    let xs = map g.E.Entry.terms c.args.members.now.entries.now in
+    let xs = c.args.members.now.terms in
     let part = c.args.part.now in
     let k = c.loop-index.index in
     let here = c.loop-index-test.true in
-    let below = part-all _ c.args.number part c.requires.part (length c.args.members.now.entries.now) c.args.members.now.within k 0 here in
-    let one = get_or c.args.members.now.entries.now (get_or part k 0) c.index-members-position.result in
-    let at = terms_at g.E.Entry.terms c.args.members.now.entries.now (get_or part k 0) one below (get_or_default _ _ _ _ below) in
-    let member = part-at c.args.members.now.positions.now c.args.number part c.requires.part k 0 here in
+    let one = c.entry.result.now in
+    let stands = c.entry.ensures.stands in
+    let member = part-at c.args.members.now.positions c.args.number part c.requires.part k 0 here in
+    let at = subst (λ p. slice_get xs p ≡ Some (g.E.Entry.terms one)) (same_Some _ _ (sym stands.member ∙ member)) stands.at in
     let old = c.loop-index.invariant in
     let first = c.of-dates.ensures.first in
     let begun = day_upto c.of-dates.result.first c.args.first c.le.result c.le.ensures in
@@ -62,11 +61,8 @@ pub returns-clause-stretch : goal.returns-clause-stretch
 returns-clause-stretch g c = rw (take_all c.loop-index.index c.args.part.now c.loop-index-test.false) at c.loop-index.invariant.stretch
 
 pub look_at-requires-clause-others : goal.look_at-requires-clause-others
-look_at-requires-clause-others g c = below-same (length c.args.members.now.positions.now) (Leader (c.args.number + c.loop-index.index))
+look_at-requires-clause-others g c = below-same (length c.args.members.now.positions) (Leader (c.args.number + c.loop-index.index))
     (omega (arith, c.loop-index-test.true, c.requires.part.within))
-
-pub bounds-part-index : goal.bounds-part-index
-bounds-part-index g c = c.loop-index-test.true
 
 pub look_at-requires-clause-alike : goal.look_at-requires-clause-alike
 look_at-requires-clause-alike g c = c.loop-index.invariant.alike
@@ -76,3 +72,9 @@ look_at-requires-clause-below g c = c.loop-index.invariant.stretch.below
 
 pub returns-clause-alike : goal.returns-clause-alike
 returns-clause-alike g c = c.loop-index.invariant.alike
+
+pub overflow_add-number : goal.overflow_add-number
+overflow_add-number g c = omega (arith, c.loop-index-test.true, c.requires.part.within, c.args.members.now.few)
+
+pub overflow_add-others : goal.overflow_add-others
+overflow_add-others g c = omega (arith, c.loop-index-test.true, c.requires.part.within, c.args.members.now.few)

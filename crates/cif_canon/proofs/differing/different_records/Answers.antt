@@ -1,6 +1,6 @@
 -- The fronts of both rests are the positions of one key (`ComparedKeys`), whose differences go behind the others (`found-key`).
 use Rattle.cif_canon.proofs.Names.{All, All-drop, All-take, AreAllByKey, IfOk-from_err, List, Run, Sided, [], all-within, calendar_sources}
-use Rattle.cif_canon.proofs.Names.{keyed, length, nil_from_length, refl, same_key-cmp, subst, sym, window_from, ℕ, ◌<◌, ◌∙◌}
+use Rattle.cif_canon.proofs.Names.{keyed, length, nil_from_length, refl, same_key-cmp, subst, sym, window_days, window_from, ℕ, ◌<◌, ◌∙◌}
 use Rattle.cif_canon.proofs.FoundRecords.{AreFound, found-all, found-enough, found-first, found-key, found-turns}
 use Rattle.cif_canon.proofs.KeyDifferences.{key-of}
 use Rattle.cif_canon.proofs.differing.different_records.Goals as goal
@@ -19,7 +19,7 @@ loop-first-init g c =
     let r = c.as_slice-right_rest.result.now in
     let left = subst (AreAllByKey cmp xs) (sym c.as_slice-left_rest.ensures.value) c.in_ok-left_positions.ensures in
     let right = subst (AreAllByKey cmp ys) (sym c.as_slice-right_rest.ensures.value) c.in_ok-right_positions.ensures in
-    let window = window_from c.args.window.now.first c.args.window.now.last in
+    let window = window_days c.args.window.now in
     let none = found-first cmp g.met.E.Key.Ord.total same window xs ys l r left right in
     record {
       left_within = all-within key terms c.args.left.now _ left.within;
@@ -64,14 +64,14 @@ loop-first-smaller g c =
     let f = c.in-Some.ensures in
     let same = same_key-cmp g.E.Key.PartialEq.eq g.E.Key.Ord.cmp g.met.E.Key.Ord.matches_eq g.met.E.Entry.same_key in
     rw (f.left_split.later_is, f.right_split.later_is)
-    (found-turns g.E.Key.Ord.cmp g.met.E.Key.Ord.total same (window_from c.args.window.now.first c.args.window.now.last)
+    (found-turns g.E.Key.Ord.cmp g.met.E.Key.Ord.total same (window_days c.args.window.now)
     (keyed g.E.Entry.key g.E.Entry.terms c.args.left.now) (keyed g.E.Entry.key g.E.Entry.terms c.args.right.now) c.loop-first.left_rest.now
     c.loop-first.right_rest.now c.loop-first.found.items c.loop-first.invariant.found (g.E.Entry.key c.in-Some.first.entry.now) f.first _ _
     f.left_split.is_count f.right_split.is_count).smaller
 
 -- with the key's differences behind the others
 more : (g : Over) (c : In_ok-push_differences g) →
-    AreFound g.E.Key.Ord.cmp (window_from c.args.window.now.first c.args.window.now.last)
+    AreFound g.E.Key.Ord.cmp (window_days c.args.window.now)
     (keyed g.E.Entry.key g.E.Entry.terms c.args.left.now) (keyed g.E.Entry.key g.E.Entry.terms c.args.right.now)
     c.in-Some.first.left_later.now c.in-Some.first.right_later.now c.push_differences.new.found.items
 more g c =
@@ -98,7 +98,7 @@ pub returns-then-is_enough : goal.returns-then-is_enough
 returns-then-is_enough g c =
     let enough = c.if-is_enough.ensures.0 refl in
     let at = goal.at.returns-then-is_enough g c in
-    found-enough g.E.Key.Ord.cmp g.met.E.Key.Ord.total (window_from c.args.window.now.first c.args.window.now.last) _ _ _ _
+    found-enough g.E.Key.Ord.cmp g.met.E.Key.Ord.total (window_days c.args.window.now) _ _ _ _
     c.push_differences.new.found.items (more g at.In_ok-push_differences) c.args.extent enough.0
     (rw c.as_slice.ensures.value at enough.1)
 
@@ -119,7 +119,7 @@ returns g c =
     let cmp = g.E.Key.Ord.cmp in
     let xs = keyed g.E.Entry.key g.E.Entry.terms c.args.left.now in
     let ys = keyed g.E.Entry.key g.E.Entry.terms c.args.right.now in
-    let window = window_from c.args.window.now.first c.args.window.now.last in
+    let window = window_days c.args.window.now in
     let same = same_key-cmp g.E.Key.PartialEq.eq cmp g.met.E.Key.Ord.matches_eq g.met.E.Entry.same_key in
     let none = c.in_default.ensures in
     found-all cmp g.met.E.Key.Ord.total window xs ys same c.loop-first.found.items

@@ -1,5 +1,5 @@
 -- The runs are those of all keys but the ones with entries at the rests.
-use Rattle.cif_canon.proofs.Names.{All, keyed, length, window_from, ◌+◌, ◌<◌}
+use Rattle.cif_canon.proofs.Names.{All, keyed, length, window_days, ◌+◌, ◌<◌}
 use Rattle.cif_canon.proofs.FoundRecords.{AreFound}
 use Rattle.cif_canon.proofs.differing.different_records.Given as goal
 
@@ -7,7 +7,7 @@ abbrev pub invariant-loop-first : goal.invariant-loop-first
 invariant-loop-first g l = record {
   left_within : All (λ i. i < length l.left) l.left_rest;
   right_within : All (λ i. i < length l.right) l.right_rest;
-  found : AreFound g.E.Key.Ord.cmp (window_from l.window.first l.window.last) (keyed g.E.Entry.key g.E.Entry.terms l.left)
+  found : AreFound g.E.Key.Ord.cmp (window_days l.window) (keyed g.E.Entry.key g.E.Entry.terms l.left)
       (keyed g.E.Entry.key g.E.Entry.terms l.right) l.left_rest l.right_rest l.found.items;
 }
 

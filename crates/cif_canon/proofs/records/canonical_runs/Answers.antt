@@ -1,14 +1,14 @@
 -- Key by key (`MadeRecords`): the first run of positions is all of a key, whose records go behind, or whose clash is first.
 use Rattle.cif_canon.proofs.Names.{All, All-drop, All-take, AreLawful-of_key, List, Run, [], all-within, ap, arith, eqb-true}
 use Rattle.cif_canon.proofs.Names.{err_from_is_err_and, keyed, length, length-drop, length-take-le, nil_from_length, same_key-cmp, subst}
-use Rattle.cif_canon.proofs.Names.{sym, window_from, ℕ, ◌-◌, ◌<◌, ◌∙◌, ◌≡◌}
+use Rattle.cif_canon.proofs.Names.{sym, window_days, ℕ, ◌-◌, ◌<◌, ◌∙◌, ◌≡◌}
 use Rattle.cif_canon.proofs.MadeRecords.{IsMade, made-all, made-fault, made-key, made-nothing}
 use Rattle.cif_canon.proofs.records.canonical_runs.Goals as goal
 
 pub loop-rest-init : goal.loop-rest-init
 loop-rest-init g c =
     let es = keyed g.E.Entry.key g.E.Entry.terms c.args.entries.now in
-    let window = window_from c.args.window.now.first c.args.window.now.last in record {
+    let window = window_days c.args.window.now in record {
       within = subst (λ (rest : List ℕ). All (λ i. i < length c.args.entries.now) rest) (sym c.as_slice-rest.ensures.value)
           (all-within g.E.Entry.key g.E.Entry.terms c.args.entries.now c.in_ok-positions.positions.items c.in_ok-positions.ensures.within);
       made = subst (λ (runs : List Run). IsMade g.E.Key.Ord.cmp c.args.form window es runs c.as_slice-rest.result.now)
@@ -52,7 +52,7 @@ loop-rest-smaller g c =
 pub loop-rest-preserved : goal.loop-rest-preserved
 loop-rest-preserved g c =
     let es = keyed g.E.Entry.key g.E.Entry.terms c.args.entries.now in
-    let window = window_from c.args.window.now.first c.args.window.now.last in
+    let window = window_days c.args.window.now in
     let same = same_key-cmp g.E.Key.PartialEq.eq g.E.Key.Ord.cmp g.met.E.Key.Ord.matches_eq g.met.E.Entry.same_key in
     record {
       within = subst (λ (rest : List ℕ). All (λ i. i < length c.args.entries.now) rest) (sym c.split_at.ensures.back)
@@ -66,7 +66,7 @@ loop-rest-preserved g c =
 pub returns-in_err-make_runs_of_key-clause-fault : goal.returns-in_err-make_runs_of_key-clause-fault
 returns-in_err-make_runs_of_key-clause-fault g c =
     let es = keyed g.E.Entry.key g.E.Entry.terms c.args.entries.now in
-    let window = window_from c.args.window.now.first c.args.window.now.last in
+    let window = window_days c.args.window.now in
     let same = same_key-cmp g.E.Key.PartialEq.eq g.E.Key.Ord.cmp g.met.E.Key.Ord.matches_eq g.met.E.Entry.same_key in
     let p = err_from_is_err_and c.from_residual-in_err-make_runs_of_key.result c.from_residual-in_err-make_runs_of_key.ensures.1 in
     rw (p.1, p.2) (made-fault g.E.Key.Ord.cmp c.args.form window es g.met.E.Key.Ord.total same c.loop-rest.all.items c.loop-rest.rest.now
@@ -77,7 +77,7 @@ returns-in_err-make_runs_of_key-clause-fault g c =
 pub returns-clause-records : goal.returns-clause-records
 returns-clause-records g c =
     let es = keyed g.E.Entry.key g.E.Entry.terms c.args.entries.now in
-    let window = window_from c.args.window.now.first c.args.window.now.last in
+    let window = window_days c.args.window.now in
     made-all g.E.Key.Ord.cmp c.args.form window es
     (AreLawful-of_key g.E.Entry.key g.E.Entry.terms g.met.E.Entry.cancelled c.args.entries.now) c.loop-rest.all.items
     (subst (λ (rest : List ℕ). IsMade g.E.Key.Ord.cmp c.args.form window es c.loop-rest.all.items rest)

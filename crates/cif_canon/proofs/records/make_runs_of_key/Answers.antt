@@ -1,13 +1,13 @@
 -- Whichever key has these positions: a fault of the calendar is one of that key (`key_fault`), and the runs of its members, found with
 -- or without a calendar, are the key's (`members-records`, `key-records`).
-use Rattle.cif_canon.proofs.Names.{Contains-get_or, calendar_sources, window_from}
+use Rattle.cif_canon.proofs.Names.{Contains-get_or, calendar_sources, window_days}
 use Rattle.cif_canon.proofs.KeyRecords.{key-records, key_fault, members-records}
 use Rattle.cif_canon.proofs.records.make_runs_of_key.Goals as goal
 
 pub returns-then-branch-clause-runs : goal.returns-then-branch-clause-runs
 returns-then-branch-clause-runs g c k p =
     members-records g.E.Entry.key g.E.Entry.terms c.args.entries.now k c.args.members.now p c.args.form
-    (window_from c.args.window.now.first c.args.window.now.last) c.runs_of_few.new.runs.items
+    (window_days c.args.window.now) c.runs_of_few.new.runs.items
     (rw c.if-branch.true at c.in_ok-runs_of_few.ensures)
 
 pub returns-in-Err-clause-fault : goal.returns-in-Err-clause-fault

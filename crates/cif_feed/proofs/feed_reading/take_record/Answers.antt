@@ -1,70 +1,147 @@
 -- It is refused where it may not stand (`out_of_place`), or for its fields (`in_place`); the record that it spells is put (`put_taken`).
-use Rattle.cif_feed.proofs.Names.{IsKeepable, IsRecordTaken, Kind, None, Ok, Progress, Record, Refusal, Result, Some, SpellsInFeed}
-use Rattle.cif_feed.proofs.Names.{TakeFault, UnlessMemory, ap, feed_layouts, feed_refusal_as, kind_in, may_stand, memory_so, progress_of}
-use Rattle.cif_feed.proofs.Names.{read_as, refusal_at, step, sym, true, ◌∙◌, ◌≡◌}
+use Rattle.cif_feed.proofs.Names.{Err, IsKeepable, IsMarkedTaken, Kind, Mark, Ok, Progress, Record, Refusal, Result, Some, SpellsInFeed}
+use Rattle.cif_feed.proofs.Names.{TakeFault, UnlessMemory, ap, feed_refusal_as, kind_in, mark_of, may_stand}
+use Rattle.cif_feed.proofs.Names.{progress_of, read_as, refl, step, sym}
+use Rattle.cif_feed.proofs.Names.{true, ◌∙◌, ◌≡◌}
+use Rattle.std.specs.Result.{IsErrAnd}
 use Rattle.cif_records.specs.declared.record.Record.TheVariants as of
-use Rattle.cif_feed.proofs.FeedSteps.{in_place, out_of_place, put_taken}
+use Rattle.cif_extract.specs.declared.reading.TakeFault.TheVariants.{Memory, Refused}
+use Rattle.cif_feed.proofs.FeedSteps.{in_place, out_of_place, put_taken, unnamed}
+use Rattle.cif_feed.proofs.MarkLaws.{passed_on}
+use Rattle.cif_feed.specs.declared.mark.Mark.TheVariants as mark
 use Rattle.cif_feed.proofs.feed_reading.take_record.Goals as goal
 use Rattle.cif_feed.proofs.feed_reading.take_record.Goals.{Else-not-allows}
 
 module _ (c : Else-not-allows) where
+  abbrev before : Progress
+  before = progress_of c.args.reading.now
+
+  abbrev Taken : Progress → Result Mark TakeFault → Type 0
+  Taken after result = IsMarkedTaken c.args.feed c.args.allowed (c.args.number, c.args.line.now) before result after
+
   named : Some c.in-Some.kind ≡ kind_in c.args.line.now
-  named = sym c.in-Some.is ∙ c.requires.kind
+  named = sym c.in-Some.is ∙ c.kind_of.ensures.kind
 
   may : may_stand c.args.reading.now.place (read_as c.args.feed c.in-Some.kind) ≡ true
   may = ap (may_stand c.args.reading.now.place) (sym c.read_as.ensures) ∙ sym c.allows.ensures ∙ c.if-not-allows.false
 
+  -- a field is refused
   refused : (kind : Kind) → c.in-Some.kind ≡ kind → (why : Refusal)
       → feed_refusal_as c.args.feed c.args.allowed (Some kind) c.args.line.now ≡ Some why
-      → refusal_at (feed_layouts c.args.feed c.args.allowed) c.args.reading.now.place c.args.line.now ≡ Some why
-  refused kind is why reason =
-      in_place c.args.feed c.args.allowed c.args.line.now (progress_of c.args.reading.now) c.in-Some.kind named may
-      ∙ ap (λ k. feed_refusal_as c.args.feed c.args.allowed (Some k) c.args.line.now) is ∙ reason
+      → (after : Progress) (result : Result Mark TakeFault) → IsErrAnd result (λ e. e ≡ Refused why) → Taken after result
+  refused kind is why reason after result handed =
+      passed_on (Taken after) (Refused why) result handed
+      (in_place c.args.feed c.args.allowed c.args.line.now before c.in-Some.kind named may
+      ∙ ap (λ k. feed_refusal_as c.args.feed c.args.allowed (Some k) c.args.line.now) is ∙ reason)
 
-  put : (r : Record) → SpellsInFeed c.args.feed c.args.allowed c.args.line.now r → (result : Result Unit TakeFault) (after : Progress)
-      → UnlessMemory (IsKeepable r × (after ≡ step (progress_of c.args.reading.now) r)) result
-      → IsRecordTaken c.args.feed c.args.allowed c.args.line.now (progress_of c.args.reading.now) result after
-  put = put_taken c.args.feed c.args.allowed c.args.line.now (progress_of c.args.reading.now) c.in-Some.kind named may
+  module _ (r : Record) (spells : SpellsInFeed c.args.feed c.args.allowed c.args.line.now r) (after : Progress) where
+    -- the record is put
+    put : (m : Mark) (kind : Kind) → c.in-Some.kind ≡ kind
+        → m ≡ mark_of c.args.allowed (Some kind) (c.args.number, c.args.line.now)
+        → IsKeepable r × (after ≡ step before r) → Taken after (Ok m)
+    put m kind is marked taken = (
+      put_taken c.args.feed c.args.allowed c.args.line.now before c.in-Some.kind named may r spells (Ok tt) after taken,
+      marked ∙ ap (λ k. mark_of c.args.allowed k (c.args.number, c.args.line.now)) (ap Some (sym is) ∙ named),
+    )
+
+    -- or memory runs out
+    unput : (fault : TakeFault) → UnlessMemory ⊥ (Err fault) → (result : Result Mark TakeFault)
+        → IsErrAnd result (λ e. e ≡ fault) → Taken after result
+    unput Memory memory result handed = passed_on (Taken after) Memory result handed tt
+    unput (Refused why) memory result handed = absurd memory
 
 pub returns-then-not-allows : goal.returns-then-not-allows
 returns-then-not-allows c =
     out_of_place c.args.feed c.args.allowed c.args.line.now (progress_of c.args.reading.now) c.in-Some.kind
-    (sym c.in-Some.is ∙ c.requires.kind)
+    (sym c.in-Some.is ∙ c.kind_of.ensures.kind)
     (ap (may_stand c.args.reading.now.place) (sym c.read_as.ensures) ∙ sym c.allows.ensures ∙ c.if-not-allows.true)
 
-pub returns-in-Ok : goal.returns-in-Ok
-returns-in-Ok c = put (goal.at.returns-in-Ok c).Else-not-allows (of.Header c.in-Ok.header)
-    (c.in-Ok.ensures c.args.allowed).1 (Ok tt) (progress_of c.put_header.new.self) (tt, c.put_header.ensures)
+pub returns-in_default : goal.returns-in_default
+returns-in_default c =
+    unnamed c.args.feed c.args.allowed c.args.line.now (progress_of c.args.reading.now) (sym c.kind_of.ensures.kind ∙ c.in_default.is)
 
-pub returns-in-Err : goal.returns-in-Err
-returns-in-Err c = refused (goal.at.returns-in-Err c).Else-not-allows _ c.in-Hd-default.is-0 c.in-Err.why (c.in-Err.ensures c.args.allowed)
+-- ---- HD
 
-pub returns-in-Ok-read_association : goal.returns-in-Ok-read_association
-returns-in-Ok-read_association c = put (goal.at.returns-in-Ok-read_association c).Else-not-allows
-    (of.Association c.in-Ok-read_association.association) (c.in-Ok-read_association.ensures c.args.allowed).1 c.put_association.result
-    (progress_of c.put_association.new.self) (memory_so None (λ is. (tt, is)) c.put_association.result c.put_association.ensures)
+pub returns-in_ok-read_header-in-Hd-default : goal.returns-in_ok-read_header-in-Hd-default
+returns-in_ok-read_header-in-Hd-default c =
+    let read = c.in_ok-read_header-in-Hd-default in
+    put (goal.at.returns-in_ok-read_header-in-Hd-default c).Else-not-allows (of.Header read.field-0) (read.ensures c.args.allowed).1
+    (progress_of c.put_header.new.self) (mark.Header c.args.number) _ c.in-Hd-default.is-0 refl (tt, c.put_header.ensures)
 
-pub returns-in-Err-read_association : goal.returns-in-Err-read_association
-returns-in-Err-read_association c = refused (goal.at.returns-in-Err-read_association c).Else-not-allows _ c.in-Aa-default.is-0
-    c.in-Err-read_association.why (c.in-Err-read_association.ensures c.args.allowed)
+pub returns-in_err-read_header-in-Hd-default : goal.returns-in_err-read_header-in-Hd-default
+returns-in_err-read_header-in-Hd-default c =
+    let read = c.in_err-read_header-in-Hd-default in
+    refused (goal.at.returns-in_err-read_header-in-Hd-default c).Else-not-allows _ c.in-Hd-default.is-0 read.field-0.0
+    (read.ensures c.args.allowed) _ c.from_residual.result c.from_residual.ensures.1
 
-pub returns-in-Ok-read_basic : goal.returns-in-Ok-read_basic
-returns-in-Ok-read_basic c =
-    let read = c.in-Ok-read_basic.ensures.1 in
-    put (goal.at.returns-in-Ok-read_basic c).Else-not-allows (of.Basic read.basic) read.spells c.put_basic.result
-    (progress_of c.put_basic.new.self) (c.put_basic.ensures read.basic read.terms read.detail)
+-- ---- AA
 
-pub returns-in-Err-read_basic : goal.returns-in-Err-read_basic
-returns-in-Err-read_basic c = refused (goal.at.returns-in-Err-read_basic c).Else-not-allows _ c.in-Bs-default.is-0
-    c.in-Err-read_basic.why c.in-Err-read_basic.ensures
+pub returns-in_ok-put_association-in-Aa-default : goal.returns-in_ok-put_association-in-Aa-default
+returns-in_ok-put_association-in-Aa-default c =
+    let read = c.in_ok-association-in-Aa-default in
+    let is = (read.ensures c.args.allowed).1 in
+    put (goal.at.returns-in_ok-put_association-in-Aa-default c).Else-not-allows (of.Association read.association) is.0
+    (progress_of c.put_association.new.self) (mark.Association read.mark) _ c.in-Aa-default.is-0 (ap mark.Association is.1)
+    (tt, c.in_ok-put_association-in-Aa-default.ensures)
 
-pub returns-in-Ti-default : goal.returns-in-Ti-default
-returns-in-Ti-default c = put (goal.at.returns-in-Ti-default c).Else-not-allows (of.Tiploc c.read_tiploc.result)
-    (c.read_tiploc.ensures c.args.allowed) c.put_tiploc.result (progress_of c.put_tiploc.new.self)
-    (memory_so None (λ is. (tt, is)) c.put_tiploc.result c.put_tiploc.ensures)
+pub returns-in_err-association-in-Aa-default : goal.returns-in_err-association-in-Aa-default
+returns-in_err-association-in-Aa-default c =
+    let read = c.in_err-association-in-Aa-default in
+    let handed = c.from_residual-in_err-association-in-Aa-default in
+    refused (goal.at.returns-in_err-association-in-Aa-default c).Else-not-allows _ c.in-Aa-default.is-0 read.field-0.0
+    (read.ensures c.args.allowed) _ handed.result handed.ensures.1
+
+pub returns-in_err-put_association-in-Aa-default : goal.returns-in_err-put_association-in-Aa-default
+returns-in_err-put_association-in-Aa-default c =
+    let read = c.in_ok-association-in-Aa-default in
+    let put = c.in_err-put_association-in-Aa-default in
+    let handed = c.from_residual-in_err-put_association-in-Aa-default in
+    unput (goal.at.returns-in_err-put_association-in-Aa-default c).Else-not-allows (of.Association read.association)
+    (read.ensures c.args.allowed).1.0 (progress_of c.put_association.new.self) put.field-0.0 put.ensures handed.result handed.ensures.1
+
+-- ---- BS
+
+pub returns-in_ok-put_basic-in-Bs-default : goal.returns-in_ok-put_basic-in-Bs-default
+returns-in_ok-put_basic-in-Bs-default c =
+    let read = c.in_ok-terms-in-Bs-default in
+    let is = read.ensures.1 in
+    put (goal.at.returns-in_ok-put_basic-in-Bs-default c).Else-not-allows (of.Basic is.0.basic) is.0.spells
+    (progress_of c.put_basic.new.self) (mark.Schedule read.mark) _ c.in-Bs-default.is-0 (ap mark.Schedule is.1)
+    (c.in_ok-put_basic-in-Bs-default.ensures is.0.basic is.0.terms is.0.detail)
+
+pub returns-in_err-terms-in-Bs-default : goal.returns-in_err-terms-in-Bs-default
+returns-in_err-terms-in-Bs-default c =
+    let read = c.in_err-terms-in-Bs-default in
+    let handed = c.from_residual-in_err-terms-in-Bs-default in
+    refused (goal.at.returns-in_err-terms-in-Bs-default c).Else-not-allows _ c.in-Bs-default.is-0 read.field-0.0 read.ensures _
+    handed.result handed.ensures.1
+
+pub returns-in_err-put_basic-in-Bs-default : goal.returns-in_err-put_basic-in-Bs-default
+returns-in_err-put_basic-in-Bs-default c =
+    let is = c.in_ok-terms-in-Bs-default.ensures.1.0 in
+    let put = c.in_err-put_basic-in-Bs-default in
+    let handed = c.from_residual-in_err-put_basic-in-Bs-default in
+    unput (goal.at.returns-in_err-put_basic-in-Bs-default c).Else-not-allows (of.Basic is.basic) is.spells
+    (progress_of c.put_basic.new.self) put.field-0.0 (put.ensures is.basic is.terms is.detail) handed.result handed.ensures.1
+
+-- ---- TI, TA and TD
+
+pub returns-in_ok-put_tiploc-in-Ti-default : goal.returns-in_ok-put_tiploc-in-Ti-default
+returns-in_ok-put_tiploc-in-Ti-default c =
+    let read = c.read_tiploc in
+    put (goal.at.returns-in_ok-put_tiploc-in-Ti-default c).Else-not-allows (of.Tiploc read.result.0) (read.ensures.spells c.args.allowed)
+    (progress_of c.put_tiploc.new.self) (mark.Tiploc read.result.1) c.in-Some.kind refl (read.ensures.mark c.args.allowed)
+    (tt, c.in_ok-put_tiploc-in-Ti-default.ensures)
+
+pub returns-in_err-put_tiploc-in-Ti-default : goal.returns-in_err-put_tiploc-in-Ti-default
+returns-in_err-put_tiploc-in-Ti-default c =
+    let put = c.in_err-put_tiploc-in-Ti-default in
+    let handed = c.from_residual-in_err-put_tiploc-in-Ti-default in
+    unput (goal.at.returns-in_err-put_tiploc-in-Ti-default c).Else-not-allows (of.Tiploc c.read_tiploc.result.0)
+    (c.read_tiploc.ensures.spells c.args.allowed) (progress_of c.put_tiploc.new.self) put.field-0.0 put.ensures handed.result
+    handed.ensures.1
+
+-- ---- any other
 
 pub returns-in_default-2 : goal.returns-in_default-2
-returns-in_default-2 c = c.take_own-in_default-2.ensures c.args.allowed
-
-pub returns-in_default : goal.returns-in_default
-returns-in_default c = c.take_own.ensures c.args.allowed
+returns-in_default-2 c = c.take_own.ensures c.args.allowed c.args.number

@@ -5,7 +5,7 @@ use Rattle.cif_views.proofs.WeekLines.{is-calendar}
 use Rattle.cif_views.proofs.calendar_weeks.week_calendar.Goals as goal
 
 pub write_weeks-requires : goal.write_weeks-requires
-write_weeks-requires g c = rw c.as_slice-2.ensures.value c.in-Ok.ensures.many
+write_weeks-requires g c = rw c.as_slice-2.ensures.value c.in_ok-states.ensures.many
 
 pub returns-clause-view : goal.returns-clause-view
 returns-clause-view g c =
@@ -21,5 +21,5 @@ returns-clause-view g c =
           c.of-window.ensures.first c.of-window.ensures.last
           (subst (λ (ss : List Schedule). AreDayStates (of_key (schedule_entries ss) u) first (last + 1) states) c.as_slice.ensures.value
           (subst (λ (l : List DayState). AreDayStates (of_key (schedule_entries c.as_slice.result.now) u) first (last + 1) l)
-          (sym c.as_slice-2.ensures.value) c.in-Ok.ensures))),
+          (sym c.as_slice-2.ensures.value) c.in_ok-states.ensures))),
     )

@@ -23,15 +23,16 @@ returns-clause-view g c =
       written-so c.answer.result _ (explanation c.args.format (extract_parts c.args.extract.now) c.args.uid.now c.args.day
           c.in_ok-check_within.ensures.ok c.as_slice.result.now _ ones.0 c.as_slice.ensures.value
           (subst (λ es. ArePlacedInOrder key_cmp IsAssociationOf (association_entries c.as_slice.result.now) c.args.uid.now c.args.day
-          (map (placed_of (λ (a : Association). a.key) association_terms) es)) (sym c.as_slice-3.ensures.value) c.in-Ok.ensures)
+          (map (placed_of (λ (a : Association). a.key) association_terms) es)) (sym c.as_slice-3.ensures.value)
+          c.in_ok-associations.ensures)
           ones.1 c.as_slice-2.result.now _ others.0 c.as_slice-2.ensures.value
           (subst (λ es. ArePlacedInOrder (slice_cmp nat_cmp) IsTrain (schedule_entries c.as_slice-2.result.now) c.args.uid.now c.args.day
-          (map (placed_of (λ (s : Schedule). s.uid) schedule_terms) es)) (sym c.as_slice-4.ensures.value) c.in-Ok-records_on.ensures)
+          (map (placed_of (λ (s : Schedule). s.uid) schedule_terms) es)) (sym c.as_slice-4.ensures.value) c.in_ok-trains.ensures)
           others.1),
     )
 
 pub write_explained-requires : goal.write_explained-requires
-write_explained-requires g c = record { rising = rw c.as_slice-3.ensures.value c.in-Ok.ensures.rising }
+write_explained-requires g c = record { rising = rw c.as_slice-3.ensures.value c.in_ok-associations.ensures.rising }
 
 pub write_explained-requires-2 : goal.write_explained-requires-2
-write_explained-requires-2 g c = record { rising = rw c.as_slice-4.ensures.value c.in-Ok-records_on.ensures.rising }
+write_explained-requires-2 g c = record { rising = rw c.as_slice-4.ensures.value c.in_ok-trains.ensures.rising }

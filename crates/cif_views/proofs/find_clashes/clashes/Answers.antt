@@ -3,27 +3,27 @@ use Rattle.cif_views.proofs.Names.{AreAllClashes, Clash, IsClearExtract, IsFirst
 use Rattle.cif_views.proofs.Names.{sym, ◌↔◌, ◌≡◌}
 use Rattle.cif_views.proofs.ClashLists.{all-found, clashes-clear, clashes-first}
 use Rattle.cif_views.proofs.find_clashes.clashes.Goals as goal
-use Rattle.cif_views.proofs.find_clashes.clashes.Goals.{In-Ok-add_clashes}
+use Rattle.cif_views.proofs.find_clashes.clashes.Goals.{In_ok-all}
 
 -- the clashes of both slices are those of the extract
-found : (c : In-Ok-add_clashes) → AreAllClashes (extract_parts c.args.extract.now) c.in-Ok-add_clashes.all.items
+found : (c : In_ok-all) → AreAllClashes (extract_parts c.args.extract.now) c.in_ok-all.all.items
 found c =
     all-found (extract_parts c.args.extract.now) _ _ _ _ _ _ _ c.of-window.ensures.first c.of-window.ensures.last
-    c.as_slice.ensures.value c.as_slice-2.ensures.value c.new-none.ensures.items c.in-Ok.ensures c.in-Ok-add_clashes.ensures
+    c.as_slice.ensures.value c.as_slice-2.ensures.value c.new-none.ensures.items c.in_ok-some.ensures c.in_ok-all.ensures
 
-pub returns-in-Ok-add_clashes-clause-all : goal.returns-in-Ok-add_clashes-clause-all
-returns-in-Ok-add_clashes-clause-all c =
+pub returns-clause-all : goal.returns-clause-all
+returns-clause-all c =
     subst (AreAllClashes (extract_parts c.args.extract.now)) (sym c.of.ensures)
-    (found (goal.at.returns-in-Ok-add_clashes-clause-all c).In-Ok-add_clashes)
+    (found (goal.at.returns-clause-all c).In_ok-all)
 
-pub returns-in-Ok-add_clashes-clause-clear : goal.returns-in-Ok-add_clashes-clause-clear
-returns-in-Ok-add_clashes-clause-clear c =
+pub returns-clause-clear : goal.returns-clause-clear
+returns-clause-clear c =
     let x = extract_parts c.args.extract.now in
     subst (λ (cs : List Clash). (cs ≡ []) ↔ IsClearExtract x) (sym c.of.ensures)
-    (clashes-clear x _ (found (goal.at.returns-in-Ok-add_clashes-clause-clear c).In-Ok-add_clashes))
+    (clashes-clear x _ (found (goal.at.returns-clause-clear c).In_ok-all))
 
-pub returns-in-Ok-add_clashes-clause-first : goal.returns-in-Ok-add_clashes-clause-first
-returns-in-Ok-add_clashes-clause-first c clash =
+pub returns-clause-first : goal.returns-clause-first
+returns-clause-first c clash =
     let x = extract_parts c.args.extract.now in
     subst (λ (cs : List Clash). (slice_get cs 0 ≡ Some clash) ↔ IsFirstClashIn x clash) (sym c.of.ensures)
-    (clashes-first x _ (found (goal.at.returns-in-Ok-add_clashes-clause-first c).In-Ok-add_clashes) clash)
+    (clashes-first x _ (found (goal.at.returns-clause-first c).In_ok-all) clash)

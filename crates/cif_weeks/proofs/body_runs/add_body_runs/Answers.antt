@@ -1,6 +1,6 @@
 -- While spans are left: one has ended (`left-fewer`), or weeks are done in which they have one mask (`mask-all`, `agree-all`). Then
 -- the runs are made (`body-made`).
-use Rattle.cif_weeks.proofs.Names.{Shows, [], append-nil, arith, cases_lt, inl, sym, week_of, window_from, ℕ, ⊎_elim, ◌+◌, ◌<◌, ◌∙◌, ◌≤◌}
+use Rattle.cif_weeks.proofs.Names.{Shows, [], append-nil, arith, cases_lt, inl, sym, week_of, window_days, ℕ, ⊎_elim, ◌+◌, ◌<◌, ◌∙◌, ◌≤◌}
 use Rattle.cif_weeks.proofs.ActiveSpans.{SameOn, agree-all, disputed-all, left-fewer, left-later, left-same, mask-all, none-after}
 use Rattle.cif_weeks.proofs.ActiveSpans.{none-before}
 use Rattle.cif_weeks.proofs.BodyRuns.{body-idle, body-made}
@@ -59,7 +59,7 @@ loop-left-preserved c =
           (record { inside = c.requires.inside; one_mask = mask-all (same j) shown.weeks }) (sym (c.len-start.ensures ∙ a.runs.now.ok.0)) (
             i.grown.0,
             i.grown.1,
-            body-idle a.joining.now.form (window_from a.joining.now.window.first a.joining.now.window.last) (Shows a.spans.now a.source)
+            body-idle a.joining.now.form (window_days a.joining.now.window) (Shows a.spans.now a.source)
                 a.source
                 c.loop-left.week c.max-from.result i.grown.0 (omega arith) (λ n from less. none n from less) i.grown.2,
           );
@@ -79,6 +79,6 @@ returns c =
     let i = c.loop-left.invariant in
     let over = λ (n : ℕ) (shows : Shows a.spans.now a.source n). none-after i.left c.in_default.len_below n
     (c.weeks_of-first.ensures.weeks n shows).1 shows in
-    body-made a.joining.now.form (window_from a.joining.now.window.first a.joining.now.window.last) a.spans.now a.source
+    body-made a.joining.now.form (window_days a.joining.now.window) a.spans.now a.source
     c.loop-left.week over
     (λ n shows. i.agreed n (over n shows) shows) a.runs.now.items c.loop-left.runs.items i.grown

@@ -1,6 +1,6 @@
 -- Weeks without a day change nothing (`body-idle`); else the run goes on in them (`grow-longer`), or one begins (`grow-first`,
 -- `grow-next`).
-use Rattle.cif_weeks.proofs.Names.{AreBodyRuns, Run, Shows, [], ap, arith, length, refl, subst, sym, week_of, weekday_of, window_from, ◌+◌}
+use Rattle.cif_weeks.proofs.Names.{AreBodyRuns, Run, Shows, [], ap, arith, length, refl, subst, sym, week_of, weekday_of, window_days, ◌+◌}
 use Rattle.cif_weeks.proofs.Names.{◌-◌, ◌<◌, ◌∙◌, ◌∷◌, ◌≡◌}
 use Rattle.cif_weeks.proofs.BodyRuns.{body-idle, first-date, grow-first, grow-longer, grow-next, last-date, last-made, last-set, made-more}
 use Rattle.cif_weeks.proofs.BodyRuns.{none-made}
@@ -13,7 +13,7 @@ returns-in_default c spans old next start (made, are, body) =
     let a = c.args in (
       made,
       are,
-      body-idle a.joining.now.form (window_from a.joining.now.window.first a.joining.now.window.last) (Shows spans a.source) a.source a.week
+      body-idle a.joining.now.form (window_days a.joining.now.window) (Shows spans a.source) a.source a.week
           (a.weeks.last + 1) made (omega (arith, next.one_mask.from))
           (λ n from less on.
           c.in_default.ensures.none (weekday_of n) ((next.one_mask.masks (week_of n) from (omega arith)).shows n refl on))
@@ -23,7 +23,7 @@ returns-in_default c spans old next start (made, are, body) =
 pub returns-then-agree : goal.returns-then-agree
 returns-then-agree c spans old next start (made, are, body) =
     let a = c.args in
-    let window = window_from a.joining.now.window.first a.joining.now.window.last in
+    let window = window_days a.joining.now.window in
     let run = c.index-run.result.now in
     let place = c.len-place.result - 1 in
     let some : length old < length a.runs.now.items = omega (arith, c.if-start-len.true, c.len.ensures, a.runs.now.ok.0) in
@@ -55,7 +55,7 @@ day_of-requires-clause-in_range c =
 pub returns : goal.returns
 returns c spans old next start (made, are, body) =
     let a = c.args in
-    let window = window_from a.joining.now.window.first a.joining.now.window.last in
+    let window = window_days a.joining.now.window in
     let it : Run = record { first = c.day_of.result; last = c.day_of-last.result; days = a.weeks.days; source = a.source } in (
       it ∷ made,
       rw (c.in_ok-push.ensures.items, are) (made-more old made it),

@@ -1,6 +1,6 @@
 -- The runs of one source more (`runs-more`), and those of all after the sort.
 use Rattle.cif_weeks.proofs.Names.{AreRunsOfBody, IsDisputed, IsPartitionPoint-from_clause, IsPartitionedBy-leb, Shows, Span, arith, leb}
-use Rattle.cif_weeks.proofs.Names.{rules, subst, window_from}
+use Rattle.cif_weeks.proofs.Names.{rules, subst, window_days}
 use Rattle.cif_weeks.proofs.SourceRuns.{EndsSource, count-some, other, own-order, rest-order, runs-all, runs-more, runs-none, shows-all}
 use Rattle.cif_weeks.proofs.SourceRuns.{undisputed, whole-rest}
 use Rattle.cif_weeks.proofs.SpanRuns.{runs-permuted, runs-sorted}
@@ -14,7 +14,7 @@ point c = IsPartitionPoint-from_clause (λ (s : Span). leb s.source c.span-item.
 
 pub loop-left-init : goal.loop-left-init
 loop-left-init c = record {
-  runs = rw c.requires.none (runs-none c.args.joining.now.form (window_from c.args.joining.now.window.first c.args.joining.now.window.last)
+  runs = rw c.requires.none (runs-none c.args.joining.now.form (window_days c.args.joining.now.window)
       c.args.spans.now);
   left = λ s listed. listed;
   whole = λ s t listed _ _. listed;
@@ -56,7 +56,7 @@ loop-left-preserved c =
     let left = c.loop-left.left.now in
     let span = c.span-item.result in
     let count = c.partition_point-count.result in
-    let window = window_from c.args.joining.now.window.first c.args.joining.now.window.last in
+    let window = window_days c.args.joining.now.window in
     rw (c.split_at.ensures.back, are) (record {
       runs = runs-more left span count l.order c.span-item.is c.in-len1-up.len_at_least (point here) c.args.spans.now l.left l.whole
           c.requires.level c.args.joining.now.form window c.loop-left.runs.items added c.requires.agreed l.runs

@@ -1,9 +1,9 @@
 -- The runs of the spans so far.
-use Rattle.cif_weeks.proofs.Names.{HasSource, take, window_from}
+use Rattle.cif_weeks.proofs.Names.{HasSource, take, window_days}
 use Rattle.cif_weeks.proofs.SpanRuns.{AreRunsOf}
 use Rattle.cif_weeks.proofs.few.add_all_runs.Given as goal
 
 abbrev pub invariant-loop-number : goal.invariant-loop-number
 invariant-loop-number l =
-    AreRunsOf l.joining.form (window_from l.joining.window.first l.joining.window.last) l.spans (HasSource (take l.number l.spans))
+    AreRunsOf l.joining.form (window_days l.joining.window) l.spans (HasSource (take l.number l.spans))
     l.runs.items

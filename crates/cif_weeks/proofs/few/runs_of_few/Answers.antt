@@ -3,7 +3,7 @@
 use Rattle.cif_weeks.proofs.Names.{All-contains, All-take, AreLawful-chosen, AreSpansOf, Bool, Contains-get_or, IfOk-weaker}
 use Rattle.cif_weeks.proofs.Names.{IsNonDecreasingBy-from_sort_by_key, List, MatchBool, Span, ap, arith, false, get_or, inr, length}
 use Rattle.cif_weeks.proofs.Names.{length-append, map, refill, rules, subst, take-append_seam, take_all, take_more, terms_at, true}
-use Rattle.cif_weeks.proofs.Names.{window_from, ℕ, ◌<◌, ◌∙◌, ◌≡◌}
+use Rattle.cif_weeks.proofs.Names.{window_days, ℕ, ◌<◌, ◌∙◌, ◌≡◌}
 use Rattle.cif_weeks.proofs.MemberClash.{disputed-clash, spans-permuted}
 use Rattle.cif_weeks.proofs.MemberRuns.{runs-of_members, shown-inside, spans-more, spans-same}
 use Rattle.cif_weeks.proofs.few.runs_of_few.Goals as goal
@@ -41,7 +41,7 @@ refilled n xs ws e = subst (λ v. refill v xs ws ≡ ws) e (take-append_seam ws 
 
 -- the spans of all members
 all : (g : Over) (c : After-as_slice-2 g) → AreSpansOf (map g.E.Entry.terms c.args.entries.now) c.args.members.now
-    (window_from c.args.window.now.first c.args.window.now.last) c.as_slice-2.result.now
+    (window_days c.args.window.now) c.as_slice-2.result.now
 all g c =
     let items = c.loop-position.spans.items in
     let sorted = c.sort_unstable_by_key.ensures in

@@ -1,14 +1,24 @@
--- What the lines say is one published extract (`makes-published`).
-use Rattle.cif_feed.proofs.Names.{Ok, goes-on, hands-on, refl}
+-- What the lines say is one published extract (`makes-published`), unless memory runs out.
+use Rattle.cif_extract.specs.declared.fault.Fault.TheVariants.{Memory}
+use Rattle.cif_feed.proofs.Names.{Extract, Ok, goes-on, hands-on, refl}
+use Rattle.cif_extract.proofs.ReadCalls.{hands-either}
 use Rattle.cif_feed.proofs.SpelledFeeds.{makes-published, reads-published}
 use Rattle.cif_feed.proofs.published_extract.PublishedExtract.read.Goals as goal
 
-pub returns-in-Ok-of_lines : goal.returns-in-Ok-of_lines
-returns-in-Ok-of_lines g c =
-    goes-on _ _ _ _ _ _ c.in-Ok.lines c.in-Ok.ensures.reads (Ok c.in-Ok-of_lines.extract)
-    (makes-published c.args.allowed c.args.max_lines c.in-Ok.lines c.in-Ok-of_lines.extract c.in-Ok-of_lines.ensures.says
-    c.in-Ok-of_lines.ensures.counts c.in-Ok-of_lines.ensures.passed)
+pub returns : goal.returns
+returns g c =
+    goes-on _ _ _ _ _ _ c.in_ok-lines.lines c.in_ok-lines.ensures.reads (Ok c.in_ok-of_lines.field-0)
+    (makes-published c.args.allowed c.args.max_lines c.in_ok-lines.lines c.in_ok-of_lines.field-0 c.in_ok-of_lines.ensures.says
+    c.in_ok-of_lines.ensures.counts c.in_ok-of_lines.ensures.passed)
 
-pub returns-in-Err : goal.returns-in-Err
-returns-in-Err g c =
-    hands-on _ _ _ _ _ _ c.in-Err.fault (reads-published c.args.allowed c.args.max_lines c.in-Err.fault) c.in-Err.ensures.reads _ refl
+pub returns-in_err-of_lines : goal.returns-in_err-of_lines
+returns-in_err-of_lines g c =
+    let handed = c.from_residual-in_err-of_lines in
+    goes-on _ _ _ _ _ _ c.in_ok-lines.lines c.in_ok-lines.ensures.reads handed.result
+    (hands-either handed.result (Extract Memory) handed.ensures.1 _ _ (record { fault = λ bytes after is. tt; answers = tt; other = refl }))
+
+pub returns-in_err-lines : goal.returns-in_err-lines
+returns-in_err-lines g c =
+    let fault = c.in_err-lines.field-0.0 in
+    hands-on _ _ _ _ _ _ fault (reads-published c.args.allowed c.args.max_lines fault) c.in_err-lines.ensures.reads _
+    c.from_residual.ensures.1

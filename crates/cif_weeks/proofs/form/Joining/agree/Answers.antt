@@ -1,5 +1,5 @@
 -- Equal masks agree (`same-agree`). Else one weekday more, which doesn't count or on which the masks are alike (`agree-more`).
-use Rattle.cif_weeks.proofs.Names.{iff_false, rules, sym, window_from, ◌∙◌, ◌≡◌}
+use Rattle.cif_weeks.proofs.Names.{iff_false, rules, sym, window_days, ◌∙◌, ◌≡◌}
 use Rattle.cif_weeks.proofs.AgreedDays.{agree-more, same-agree}
 use Rattle.cif_weeks.proofs.form.Joining.agree.Goals as goal
 use Rattle.cif_weeks.proofs.form.Joining.agree.Goals.{else-has-via-else-has, else-has-via-then-has+else-counts}
@@ -7,7 +7,7 @@ use Rattle.cif_weeks.proofs.form.Joining.agree.Goals.{else-has-via-else-has, els
 pub returns-then-is : goal.returns-then-is
 returns-then-is c week next =
     let a = c.args in
-    same-agree a.self.now.form (window_from a.self.now.window.first a.self.now.window.last) week a.before a.days
+    same-agree a.self.now.form (window_days a.self.now.window) week a.before a.days
     (c.is.ensures.0 c.if-is.true)
 
 pub loop-weekday-preserved : goal.loop-weekday-preserved

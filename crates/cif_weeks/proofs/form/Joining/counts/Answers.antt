@@ -1,12 +1,12 @@
 -- What is compared are numbers of days from the first Monday (`counts-if`, `counts-only`).
-use Rattle.cif_weeks.proofs.Names.{arith, le-leb, leb-true, window_from, ◌*◌, ◌+◌, ◌≡◌, ◌≤◌}
+use Rattle.cif_weeks.proofs.Names.{arith, le-leb, leb-true, window_days, ◌*◌, ◌+◌, ◌≡◌, ◌≤◌}
 use Rattle.cif_weeks.proofs.AgreedDays.{counts-if, counts-only}
 use Rattle.cif_weeks.proofs.form.Joining.counts.Goals as goal
 
 pub returns-then-from-day : goal.returns-then-from-day
 returns-then-from-day c week is =
     let w = c.args.self.now.window in
-    let window = window_from w.first w.last in
+    let window = window_days w in
     let upto : c.from-then-from-day.result ≡ w.last + 4 =
     omega (arith, c.from-then-from-day.ensures, c.days_since_first_monday-last.ensures.value) in
     let told = rw (c.from.ensures, c.from-in-Two.ensures, c.from-in-Two-2.ensures) at c.if-from-day.true in

@@ -1,0 +1,69 @@
+//! What is said of a mistaken word.
+use crate::job::JobFault;
+use crate::message::{Detail, Escaped, Message};
+use crate::refused_columns::YYMMDD;
+use crate::words::bad_word;
+use arrayvec::ArrayString;
+use cif_columns::Sink;
+use std::alloc::Global;
+use std::io::Stderr;
+
+/// Says which of the words is mistaken, if one is, and what it must be, on a terminal or where `--verbose` is among them.
+pub(crate) fn advise_on_word(
+    alloc: Global,
+    words: &[String],
+    fault: &JobFault,
+    detail: Detail,
+    errors: &mut Sink<Stderr>,
+) {
+    let mut message = Message::new(alloc);
+    match fault {
+        JobFault::BadDate | JobFault::BadUid => {
+            if let Some(word) = bad_word(alloc, words, fault, detail) {
+                add_word(word, fault, &mut message);
+            }
+        }
+        JobFault::Usage { kind: _, text: _ } => match words.get(1).map(String::as_str) {
+            Some("-v" | "--verbose") => {
+                message.line("options stand behind the command: cif check --verbose FILE");
+            }
+            _ => {}
+        },
+        _ => {}
+    }
+    message.tell(errors);
+}
+
+/// Adds what a word that names no date, or no UID, must be.
+fn add_word(word: &str, fault: &JobFault, message: &mut Message) {
+    let shown = Escaped {
+        text: word,
+        has_lines: false,
+    };
+    if let JobFault::BadUid = fault {
+        message.line(format_args!("'{shown}': must be six printable ASCII characters"));
+        if word.len() == 5 {
+            message.line("a space before or behind the other five belongs to it, in quotes");
+        }
+        return;
+    }
+    message.line(format_args!("'{shown}': {YYMMDD}"));
+    if let Some(date) = written_as_iso(word) {
+        message.line(format_args!("dates are YYMMDD: {date}"));
+    }
+}
+
+/// The digits of a date YYYY-MM-DD, as YYMMDD.
+fn written_as_iso(word: &str) -> Option<ArrayString<6>> {
+    let mut date = ArrayString::new();
+    for (at, byte) in word.bytes().enumerate() {
+        match (at, byte) {
+            (4 | 7, b'-') => {}
+            (4 | 7, _) => return None,
+            (0 | 1, b'0'..=b'9') => {}
+            (_, b'0'..=b'9') => date.try_push(char::from(byte)).ok()?,
+            _ => return None,
+        }
+    }
+    (date.len() == 6).then_some(date)
+}
