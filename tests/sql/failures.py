@@ -189,7 +189,9 @@ def check_writer(counts, maker, special):
     with subprocess.Popen(words, cwd=maker.folder, stderr=subprocess.PIPE, text=True) as process:
         while not (maker.folder / "reached").exists():
             time.sleep(0.05)
-        children = Path(f"/proc/{process.pid}/task/{process.pid}/children").read_text().split()
+        children = (
+            Path(f"/proc/{process.pid}/task/{process.pid}/children").read_text("ascii").split()
+        )
         writers = [
             int(child)
             for child in children
