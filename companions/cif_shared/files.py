@@ -42,6 +42,13 @@ def scratch_file() -> Iterator[IO[bytes]]:
             yield scratch
 
 
+@contextmanager
+def file_beside(place: Path) -> Iterator[Path]:
+    """An empty temporary file in the folder of a place, for whoever opens it by its name."""
+    with tempfile.NamedTemporaryFile(dir=place.parent, prefix=f".{place.name}.") as file:
+        yield Path(file.name)
+
+
 def output_path(text: str) -> Path:
     """The place of an output: that of a regular file, or where there is nothing yet. A link is
     followed."""

@@ -45,7 +45,7 @@ class Background(Database):
         try:
             ending = self.process.recv()
         except (OSError, EOFError):
-            return Failed("the process that writes the database was killed")
+            return Failed("the process that writes the database ended early")
         assert ending is None or isinstance(ending, Ending)
         return ending
 

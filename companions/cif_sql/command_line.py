@@ -16,7 +16,7 @@ from cif_shared.arguments import add_cif, add_help, add_names, add_window, new_p
 from cif_shared.cif import Cif, find_cif
 from cif_shared.csv_files import CONTROL, read_file
 from cif_shared.endings import SUCCESS, Misused
-from cif_shared.files import BLOCK, new_files, output_path
+from cif_shared.files import BLOCK, file_beside, new_files, output_path
 from cif_shared.operators import read_operators
 from cif_shared.places import PLACES
 from cif_shared.progress import Progress
@@ -122,9 +122,9 @@ def make_file(asked: argparse.Namespace, progress: Progress) -> int:
         if not asked.force:
             check_age(place, extract.header())
         source = source_of(extract, asked.extract)
-        with new_files() as files:
+        with new_files() as files, file_beside(place) as tables:
             path = files.reserve(place)
-            with in_background(lambda: new_database(path, place)) as database:
+            with in_background(lambda: new_database(tables, path, place)) as database:
                 load(extract, source, given, database, progress)
                 progress.show("building indexes")
             # it may have become another one meanwhile

@@ -4,7 +4,6 @@ from __future__ import annotations
 import sqlite3
 from contextlib import closing, contextmanager
 from pathlib import Path
-from tempfile import NamedTemporaryFile
 from typing import Iterator, Optional, Sequence, Tuple
 from urllib.parse import quote
 
@@ -106,19 +105,18 @@ def opened(path: Path) -> Iterator[sqlite3.Connection]:
 
 
 @contextmanager
-def new_database(path: Path, place: Path) -> Iterator[SqliteFile]:
+def new_database(tables: Path, path: Path, place: Path) -> Iterator[SqliteFile]:
     """A database in an empty file, which is for a place. First its tables are filled in another
     file. From there they are copied with all pages full, and then its indexes and views are made.
     """
     try:
-        with NamedTemporaryFile(dir=path.parent, prefix=f"{path.name}.") as tables:
-            with opened(Path(tables.name)) as connection:
-                connection.execute(f"PRAGMA application_id = {APPLICATION}")
-                connection.executescript(sql("tables"))
-                connection.execute("BEGIN")
-                yield SqliteFile(connection)
-                connection.execute("COMMIT")
-                connection.execute("VACUUM INTO ?", (str(path),))
+        with opened(tables) as connection:
+            connection.execute(f"PRAGMA application_id = {APPLICATION}")
+            connection.executescript(sql("tables"))
+            connection.execute("BEGIN")
+            yield SqliteFile(connection)
+            connection.execute("COMMIT")
+            connection.execute("VACUUM INTO ?", (str(path),))
         with opened(path) as connection:
             connection.executescript(sql("indexes") + sql("views"))
             connection.execute("ANALYZE")

@@ -8,6 +8,7 @@ import subprocess
 import threading
 import time
 from contextlib import closing
+from pathlib import Path
 
 from gtfs.checks import COMPANIONS
 from gtfs.failures import FAILING
@@ -180,6 +181,33 @@ def check_signals(counts, maker, special):
     (maker.folder / "failing-cif").unlink()
 
 
+def check_writer(counts, maker, special):
+    """If the process that writes the database is killed, the run fails, and nothing is left."""
+    failing = failing_cif(maker, "calls", "touch reached; sleep 1; exit 0")
+    before = {path.name: path.read_bytes() for path in maker.folder.iterdir()}
+    words = [COMPANIONS / "cif-sql", "--cif", failing.cif, "--force", "-o", "kept.db", special]
+    with subprocess.Popen(words, cwd=maker.folder, stderr=subprocess.PIPE, text=True) as process:
+        while not (maker.folder / "reached").exists():
+            time.sleep(0.05)
+        children = (
+            Path(f"/proc/{process.pid}/task/{process.pid}/children").read_text("ascii").split()
+        )
+        writers = [
+            int(child)
+            for child in children
+            if b"/cif-sql\0" in Path(f"/proc/{child}/cmdline").read_bytes()
+        ]
+        counts.same("processes that write", 1, len(writers))
+        os.kill(writers[0], signal.SIGKILL)
+        _, printed = process.communicate()
+    (maker.folder / "reached").unlink()
+    want = (4, "cif-sql: the process that writes the database ended early\n")
+    counts.same("the writer is killed", want, (process.returncode, printed))
+    after = {path.name: path.read_bytes() for path in maker.folder.iterdir()}
+    counts.test("the writer is killed, what is left", before == after, sorted(after))
+    (maker.folder / "failing-cif").unlink()
+
+
 def check_kills(counts, maker, special):
     """Killed at any moment, with the process that writes, it leaves the old database or the new one, whole."""
     first = changed(maker, special, "first.cif", ("DFTEST1", "DFTESTA"))
@@ -248,5 +276,6 @@ def check(counts, maker, special):
     check_replacement(counts, maker, special)
     check_failures(counts, maker, special)
     check_signals(counts, maker, special)
+    check_writer(counts, maker, special)
     check_kills(counts, maker, special)
     check_readers(counts, maker, special)
