@@ -80,6 +80,17 @@ class Train:
         self.uid, self.operators = unescape(get["uid"]), unescape(get["operator"]).split(" ")
         self.places = list(map(int, get["places"].split(" ")))
         self.text = text_of(markup)
+        # of each table of calls the rows: a place, and its cells, with `*` where they are marked
+        self.calls = [
+            [
+                (
+                    unescape(name),
+                    [re.sub("<mark>(.*)</mark>", r"*\1", cell) for cell in cells.split("<td>")[1:]],
+                )
+                for name, cells in re.findall(r'<tr><th scope="row">(.*?)(<td>.*)', table)
+            ]
+            for table in re.findall(r'(?s)<table class="calls">(.*?)</table>', markup)
+        ]
 
 
 class Page:
