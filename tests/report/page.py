@@ -51,9 +51,9 @@ class Group:
         others = re.findall(r'class="more-trains">and ([\d,]+) other', markup)
         self.others = number_of(others[0]) if others else 0
 
-    def dates_of_weeks(self, first, last):
-        """The dates that its calendar marks."""
-        found = set()
+    def marks(self, first, last):
+        """What its calendar has at which dates."""
+        found = {}
         mondays = [first + number * timedelta(1) for number in range(-6, (last - first).days + 1)]
         for label, cells in self.weeks:
             name, _, count = unescape(label).partition(", ")
@@ -61,7 +61,7 @@ class Group:
             marks = re.findall(r"<td[^>]*>([^<\n]*)", cells)
             for week in range(int(count.split()[0]) if count else 1):
                 days = (monday + (7 * week + number) * timedelta(1) for number in range(7))
-                found |= {day for day, mark in zip(days, marks) if mark.strip()}
+                found |= {day: mark for day, mark in zip(days, marks) if mark.strip()}
         return found
 
 
