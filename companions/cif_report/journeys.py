@@ -151,15 +151,16 @@ def rows_of(old: Sequence[Call], new: Sequence[Call]) -> List[Row]:
     places: Dict[Tuple[bytes, int], int] = {key: at for at, key in enumerate(numbered(old))}
     rows: List[Row] = []
     done = 0
+    added: List[Row] = []
     for key, call in zip(numbered(new), new):
         at = places.get(key, -1)
         if at < done:
-            rows.append((None, call))
+            added.append((None, call))
             continue
-        rows += [(earlier, None) for earlier in old[done:at]]
-        rows.append((old[at], call))
+        rows += [*((earlier, None) for earlier in old[done:at]), *added, (old[at], call)]
+        added = []
         done = at + 1
-    rows += [(later, None) for later in old[done:]]
+    rows += [*((later, None) for later in old[done:]), *added]
     return rows
 
 

@@ -155,8 +155,11 @@ def call_cells(cells: Sequence[str], others: Sequence[str]) -> Iterator[Markup]:
 
 
 def call_row(report: Report, old: Optional[Call], new: Optional[Call]) -> Markup:
+    """A call in both journeys. Public times stand there if nothing else of its times differs."""
     name = next(report.names.at(call) for call in (new, old) if call)
-    with_public = bool(old and new and public_times(old) != public_times(new))
+    with_public = False
+    if old and new and old.kind == new.kind and old.times == new.times:
+        with_public = public_times(old) != public_times(new)
     was, now = cells_of(old, with_public), cells_of(new, with_public)
     cells = joined((*call_cells(was, now), *call_cells(now, was)))
     return joined((Markup('<tr><th scope="row">'), name, cells))

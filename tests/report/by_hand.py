@@ -323,6 +323,41 @@ def check_words(counts, maker):
     counts.test("another identity, in words", "9Z99 for 1A01" in train.text, train.text)
 
 
+def check_calls(counts, maker):
+    """Calls side by side: arrival, departure or pass, and platform, before and after."""
+    calls = with_call(with_call(USUAL, 1, platform="4"), 3, leaves=643)
+    new = extract([replace(TRAIN, calls=calls), OTHER, cancelled(OTHER, june(13))])
+    page = maker.page(maker.folder / "before.cif", write(maker, "after.cif", new))
+    tables = {train.uid: train.calls for train in page.trains()}
+    rows = [
+        ("Alpha", ["", "10:00", "5", "", "10:00", "5"]),
+        ("Beta", ["10:20", "10:21", "*5", "10:20", "10:21", "*4"]),
+        ("North Junction", ["", "10/30", "", "", "10/30", ""]),
+        ("Gamma", ["10:40", "*10:41", "5", "10:40", "*10:43", "5"]),
+        ("Delta", ["11:00", "", "5", "11:00", "", "5"]),
+    ]
+    counts.same("calls side by side", [rows], tables["A00001"])
+    rows = [
+        ("Alpha", ["", "11:40", "5"]),
+        ("Beta", ["12:00", "12:01", "5"]),
+        ("North Junction", ["", "12/10", ""]),
+        ("Gamma", ["12:20", "12:21", "5"]),
+        ("Delta", ["12:40", "", "5"]),
+    ]
+    counts.same("calls of a train that is cancelled", [rows], tables["A00002"])
+    new = extract([replace(TRAIN, calls=USUAL[1:2] + SOUTHERN[2:])])
+    page = maker.page(maker.folder / "before.cif", write(maker, "after.cif", new))
+    rows = [
+        ("Alpha", ["", "*10:00", "*5", "", "", ""]),
+        ("Beta", ["*10:20", "10:21", "5", "", "10:21", "5"]),
+        ("North Junction", ["", "*10/30", "", "", "", ""]),
+        ("South Junction", ["", "", "", "", "*10/30", ""]),
+        ("Gamma", ["10:40", "10:41", "5", "10:40", "10:41", "5"]),
+        ("Delta", ["11:00", "", "5", "11:00", "", "5"]),
+    ]
+    counts.same("calls at other places", [rows], page.trains()[0].calls)
+
+
 def check_night(counts, maker):
     """Of a train that is moved from its date to the next one, the old date is gone, and the new one is there."""
     first, second = june(10), june(11)
@@ -345,6 +380,12 @@ def check_half_minutes(counts, maker):
     page = maker.page(maker.folder / "before.cif", write(maker, "after.cif", text))
     words = ["Other public times at Beta on Mondays to Fridays"]
     counts.same("other public times, in words", words, page.words())
+    [table] = page.trains()[0].calls
+    want = (
+        "Beta",
+        ["10:20 (10:20)", "*10:21 (10:21)", "5", "10:20 (10:20)", "*10:21 (10:22)", "5"],
+    )
+    counts.same("other public times, the call", want, table[1])
 
 
 def check_others(counts, maker):
@@ -491,6 +532,7 @@ def check_example(counts, maker):
 
 def check(counts, maker):
     check_words(counts, maker)
+    check_calls(counts, maker)
     check_night(counts, maker)
     check_half_minutes(counts, maker)
     check_others(counts, maker)

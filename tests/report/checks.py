@@ -162,9 +162,10 @@ def check_trains(counts, name, expected, page):
             want = {kind: days for (uid, kind), days in changes.items() if uid == train.uid}
             same_values(counts, f"{name}, dates of {train.uid}", want, group.kinds)
         if group.all_weeks:
-            want = set().union(*group.kinds.values())
-            got = group.dates_of_weeks(first, last)
-            counts.same(f"{name}, weeks of {group.trains[0].uid}", want, got)
+            marks = {"cancelled": "×", "runs": "+"}
+            want = {day: marks.get(kind, "•") for kind, days in group.kinds.items() for day in days}
+            name_of = f"{name}, weeks of {group.trains[0].uid}"
+            same_values(counts, name_of, want, group.marks(first, last))
     dates = [len(set().union(*group.kinds.values())) for group in page.groups]
     counts.same(f"{name}, most dates first", sorted(dates, reverse=True), dates)
     left_out = len(expected.trains) - len(uids)

@@ -51,9 +51,9 @@ class Group:
         others = re.findall(r'class="more-trains">and ([\d,]+) other', markup)
         self.others = number_of(others[0]) if others else 0
 
-    def dates_of_weeks(self, first, last):
-        """The dates that its calendar marks."""
-        found = set()
+    def marks(self, first, last):
+        """What its calendar has at which dates."""
+        found = {}
         mondays = [first + number * timedelta(1) for number in range(-6, (last - first).days + 1)]
         for label, cells in self.weeks:
             name, _, count = unescape(label).partition(", ")
@@ -61,7 +61,7 @@ class Group:
             marks = re.findall(r"<td[^>]*>([^<\n]*)", cells)
             for week in range(int(count.split()[0]) if count else 1):
                 days = (monday + (7 * week + number) * timedelta(1) for number in range(7))
-                found |= {day for day, mark in zip(days, marks) if mark.strip()}
+                found |= {day: mark for day, mark in zip(days, marks) if mark.strip()}
         return found
 
 
@@ -80,6 +80,17 @@ class Train:
         self.uid, self.operators = unescape(get["uid"]), unescape(get["operator"]).split(" ")
         self.places = list(map(int, get["places"].split(" ")))
         self.text = text_of(markup)
+        # of each table of calls the rows: a place, and its cells, with `*` where they are marked
+        self.calls = [
+            [
+                (
+                    unescape(name),
+                    [re.sub("<mark>(.*)</mark>", r"*\1", cell) for cell in cells.split("<td>")[1:]],
+                )
+                for name, cells in re.findall(r'<tr><th scope="row">(.*?)(<td>.*)', table)
+            ]
+            for table in re.findall(r'(?s)<table class="calls">(.*?)</table>', markup)
+        ]
 
 
 class Page:
