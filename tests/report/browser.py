@@ -1,5 +1,6 @@
 """The page in headless Chromium, by its DevTools protocol: JSON on two pipes, with a byte 0 after each message."""
 import base64
+import contextlib
 import json
 import os
 import shutil
@@ -103,7 +104,8 @@ class Browser:
             os.dup2(ends[1], 4)
 
         words = [path, "--headless=new", "--no-sandbox", "--disable-gpu", "--remote-debugging-pipe"]
-        words += ["--disable-background-networking", f"--user-data-dir={folder}", "about:blank"]
+        words += ["--disable-dev-shm-usage", "--disable-background-networking"]
+        words += [f"--user-data-dir={folder}", "about:blank"]
         options = {"stdout": subprocess.DEVNULL, "stderr": subprocess.DEVNULL}
         options |= {"preexec_fn": as_three_and_four, "close_fds": False}
         self.process = subprocess.Popen(words, **options)
@@ -173,8 +175,9 @@ class Browser:
         return [event["params"] for event in self.events if event.get("method") == method]
 
     def close(self):
-        self.output.close()
-        self.input.close()
+        for end in self.output, self.input:
+            with contextlib.suppress(OSError):
+                end.close()
         self.process.terminate()
         self.process.wait(timeout=30)
 
@@ -347,10 +350,24 @@ def check_print(counts, browser, page, made):
     )
 
 
+def starts(path):
+    """Whether the browser starts here, and shows a page: it may lack what it needs of the system."""
+    folder = tempfile.mkdtemp(prefix="cif-report-browser-")
+    browser = Browser(path, folder)
+    try:
+        browser.attach()
+        return browser.value("1 + 1") == 2
+    except (OSError, RuntimeError, ValueError):
+        return False
+    finally:
+        browser.close()
+        shutil.rmtree(folder, ignore_errors=True)
+
+
 def check(counts, page):
     """All of a page with many changes. Returns whether there is a browser."""
     path = program()
-    if path is None:
+    if path is None or not starts(path):
         return False
     made, folder = Page(page), tempfile.mkdtemp(prefix="cif-report-browser-")
     browser = Browser(path, folder)

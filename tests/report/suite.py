@@ -60,7 +60,7 @@ def main():
         words.check(counts)
         has_browser = browser.check(counts, shown)
     if not has_browser:
-        print("Chromium isn't there: how the page looks is skipped")
+        print("Chromium isn't there, or doesn't start: how the page looks is skipped")
     skipped = "" if has_browser else ", 1 skipped"
     print(f"{counts.passed} passed, {counts.failed} failed{skipped}")
     return 0 if counts.failed == 0 and counts.passed > 0 else 1
