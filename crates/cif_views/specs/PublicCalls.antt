@@ -1,5 +1,5 @@
 -- The public calls of a schedule, and when they are.
-use Rattle.std.specs.Prelude.{◌≡◌, ⊤, ℕ, ◌-◌, ◌+◌, Bool, not, ◌&&◌, ◌||◌, List, [], ◌∷◌, ◌++◌, Option, None, Some, IfSome, IsNone, codes}
+use Rattle.std.specs.Prelude.{◌≡◌, ⊤, ℕ, ◌-◌, ◌+◌, Bool, not, ◌&&◌, ◌||◌, List, [], ◌∷◌, Option, None, Some, IfSome, IsNone, codes}
 use Rattle.std.specs.Prelude.{is_some, map, max, if◌then◌else◌}
 use Rattle.std.specs.List.{filter}
 use Rattle.std.specs.Option.{option_and_then, option_or}
@@ -10,13 +10,10 @@ use Rattle.cif_canon.specs.Lines.{ScheduleLines}
 use Rattle.cif_canon.specs.declared.rows.Shape.TheVariants.{Whole}
 use Rattle.cif_columns.specs.PublicTime.{public_seconds, public_time_in}
 use Rattle.cif_columns.specs.WorkTime.{work_seconds, work_time_in}
-use Rattle.cif_views.specs.Moments.{IsNearest, IsNext, in_day_from, midnight, time_text}
-use Rattle.cif_views.specs.Tables.{Numbered, TableFields, calls_of, kind_of_line, number, numbered_from, text_at}
+use Rattle.cif_views.specs.Moments.{IsNearest, IsNext, midnight, time_text}
+use Rattle.cif_views.specs.Tables.{Numbered, TableFields, calls_of, kind_of_line, number, text_at}
 use Rattle.cif_views.specs.declared.public_calls.CallTimes.{CallTimes}
-use Rattle.cif_views.specs.declared.public_calls.Journey.{Journey}
 use Rattle.cif_views.specs.declared.public_calls.Riders.{Riders}
-use Rattle.cif_views.specs.declared.public_calls.Shown.{Shown}
-use Rattle.cif_views.specs.declared.public_calls.Stay.{Stay}
 use Rattle.cif_views.specs.declared.columns.JourneyKind.{JourneyKind}
 use Rattle.cif_views.specs.declared.columns.JourneyKind.TheVariants.{Origin, Stop, Terminus}
 

@@ -1,5 +1,5 @@
 -- The public calls of a schedule as the code makes them, call by call. `public_calls_are_by_moments` says what they are.
-use Rattle.std.specs.Prelude.{◌≡◌, ℕ, ◌-◌, ◌+◌, List, [], ◌∷◌, ◌++◌, Option, None, Some, max, if◌then◌else◌}
+use Rattle.std.specs.Prelude.{ℕ, ◌-◌, ◌+◌, List, [], ◌∷◌, ◌++◌, Option, None, Some, max, if◌then◌else◌}
 use Rattle.cif_canon.specs.Lines.{ScheduleLines}
 use Rattle.cif_views.specs.Moments.{in_day_from, midnight}
 use Rattle.cif_views.specs.PublicCalls.{PublicCall, left_at, reached_at, riders_of, times_of}

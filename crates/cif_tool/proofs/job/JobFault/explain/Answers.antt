@@ -1,6 +1,6 @@
 -- The text that went out is that of the fault: at a failed flush nothing was left to write.
-use Rattle.cif_tool.proofs.Names.{Err, Explains, HasFailed, List, Writes, [], ap, append-nil, err_from_is_err_and, failed_second, refl, subst}
-use Rattle.cif_tool.proofs.Names.{sym, text_of, ℕ, ◌∙◌}
+use Rattle.cif_tool.proofs.Names.{Err, Explains, HasFailed, List, Writes, [], ap, append-nil, err_from_is_err_and, failed_second, refl}
+use Rattle.cif_tool.proofs.Names.{subst, sym, ℕ, ◌∙◌}
 use Rattle.cif_tool.proofs.job.JobFault.explain.Goals as goal
 
 pub returns-in_err-flush-clause-answer : goal.returns-in_err-flush-clause-answer
