@@ -21,7 +21,7 @@ from typing import (
 )
 
 from . import network
-from .definition import Content, Days, Expected, days_of, expected, table_rows
+from .definition import Content, Days, Expected, Row, days_of, expected, table_rows
 from .feeds import EXTENDED_TYPES, TYPES, Feed, Names, Shown, active_services, coded, rows_of, shown
 from .journeys import by_definition, by_feed, transfers_of
 from .validator import ERROR, notices
@@ -100,7 +100,7 @@ class Maker:
             }
 
 
-def made_places(names: Iterable[str]) -> List[Dict[str, str]]:
+def made_places(names: Iterable[str]) -> List[Row]:
     """A row of places.csv for each place, with a name and coordinates of its own, near to the others."""
     return [
         {
@@ -204,9 +204,7 @@ def compare(
     )
 
 
-def check_records(
-    counts: Counts, name: str, days: Days, feed: Feed, rows: List[Dict[str, str]]
-) -> None:
+def check_records(counts: Counts, name: str, days: Days, feed: Feed, rows: List[Row]) -> None:
     """On each date each trip is of one schedule, which applies on the date of its train."""
     of_trip, idle = defaultdict(list), {tuple(row.values()) for row in rows}
     for row in rows:
@@ -226,7 +224,7 @@ def check_records(
     counts.test(f"{name}, schedules of trips on no date", not idle, list(idle)[:2])
 
 
-def is_of_train(row: Dict[str, str], days: Days, day: date) -> bool:
+def is_of_train(row: Row, days: Days, day: date) -> bool:
     """Whether a row has what the schedule of its train has."""
     train = days[day + timedelta(days=int(row["days_later"]))].public[row["uid"]].row
     names = ("first_date", "last_date", "days_run")
@@ -235,7 +233,7 @@ def is_of_train(row: Dict[str, str], days: Days, day: date) -> bool:
     ]
 
 
-def applies(row: Dict[str, str], day: date) -> bool:
+def applies(row: Row, day: date) -> bool:
     return (
         row["first_date"] <= day.isoformat() <= row["last_date"]
         and row["days_run"][day.weekday()] == "1"

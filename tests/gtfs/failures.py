@@ -14,7 +14,7 @@ import zipfile
 from collections import defaultdict
 from datetime import date, timedelta
 from pathlib import Path
-from typing import DefaultDict, Dict, FrozenSet, List, Optional, Set, Tuple, Union
+from typing import DefaultDict, Dict, FrozenSet, List, Optional, Set, Tuple
 
 from cif_gtfs import trips
 from cif_gtfs.trains import about_of
@@ -137,7 +137,7 @@ def refused(
     name: str,
     status: int,
     told: Optional[List[str]],
-    *words: Union[Path, str],
+    *words: Word,
 ) -> None:
     """Whether a run ends with the status, tells these lines or any, and leaves the folder as it was."""
     before = left(maker)

@@ -118,8 +118,11 @@ IN_SEAT = ("4", "5")
 FASTEST = {"1": 150, "2": 500, "3": 150, "4": 80}
 FARTHEST = 10
 
+# A row of a file by its fields.
+Row = Dict[str, str]
 
-def rows_of(text: str) -> List[Dict[str, str]]:
+
+def rows_of(text: str) -> List[Row]:
     """The rows of a file; what is behind its fields has the name None."""
     return list(csv.DictReader(io.StringIO(text, newline="")))
 
@@ -144,7 +147,7 @@ class Feed:
     def note(self, severity: str, rule: str, *places: object) -> None:
         self.notices += [Notice(severity, rule, str(place)) for place in places]
 
-    def all(self, name: str) -> List[Dict[str, str]]:
+    def all(self, name: str) -> List[Row]:
         return self.rows.get(name, [])
 
 
@@ -182,7 +185,7 @@ def check_fields(feed: Feed) -> None:
                 check_value(feed, name, row, field, forms.get(field, ANY))
 
 
-def check_value(feed: Feed, name: str, row: Dict[str, str], field: str, form: str) -> None:
+def check_value(feed: Feed, name: str, row: Row, field: str, form: str) -> None:
     value = row[field]
     if not value:
         if field in REQUIRED[name]:
@@ -278,7 +281,7 @@ def check_routes(feed: Feed) -> None:
         feed.note(WARNING, "feed_info_lang_and_agency_lang_mismatch", languages)
 
 
-def kilometres(one: Dict[str, str], other: Dict[str, str]) -> float:
+def kilometres(one: Row, other: Row) -> float:
     """The distance of two stops, or 0 where one has no coordinates."""
     if not all(stop["stop_lat"] and stop["stop_lon"] for stop in (one, other)):
         return 0
@@ -396,7 +399,7 @@ def check_blocks(feed: Feed) -> None:
             feed.note(ERROR, "block_of_other_services_or_of_one_trip", name)
 
 
-def number_of(row: Dict[str, str]) -> int:
+def number_of(row: Row) -> int:
     return int(row["stop_sequence"])
 
 
