@@ -28,10 +28,13 @@ line that ends with a space gets a `|` behind it; one that ends with a `|`, or b
 `\x23`, `\x2d` or `\x3d` there.
 A file that has a space at the end of a line, or a byte that isn't printable ASCII, is refused.
 """
+from __future__ import annotations
+
 import re
 import shlex
 import sys
 from pathlib import Path
+from typing import Dict, Iterable, List, Mapping, Optional, Sequence, Tuple, Union
 
 NAME = r"[a-z0-9][a-z0-9-]*"
 FILE = r"[\w.-]+"
@@ -43,6 +46,10 @@ PRINTABLE = re.compile(r"([ -~]*[!-~])?")
 LINE = re.compile(r"((?:[^\\]|\\x[0-9a-f]{2})*?)((?<= )\||(?<!\|))(\\?)")
 
 
+# What a row says of a file: its bytes, the file of another row, or None for any text.
+Content = Union[bytes, Tuple[str, str], None]
+
+
 class Mistake(Exception):
     """What is wrong with a file of rows, and where."""
 
@@ -50,27 +57,29 @@ class Mistake(Exception):
 class Row:
     """A row: its words, its status, and what it says of each file: bytes, a reference (row, file), or None for any text."""
 
-    def __init__(self, name, words):
-        self.name, self.words, self.status = name, words, None
-        self.files, self.whole = {}, {}
+    def __init__(self, name: str, words: List[str]) -> None:
+        self.name, self.words = name, words
+        self.status: Optional[int] = None
+        self.files: Dict[str, Content] = {}
+        self.whole: Dict[str, Optional[bytes]] = {}
 
-    def set_status(self, status):
+    def set_status(self, status: str) -> None:
         if self.status is not None:
             raise Mistake("a second status")
         self.status = int(status)
 
-    def add(self, name, data):
+    def add(self, name: str, data: Content) -> None:
         if name in self.files or name in ("args", "status"):
             raise Mistake(f"the row can't have another {name}")
         self.files[name] = data
 
 
-def unescaped(text):
+def unescaped(text: str) -> str:
     """The text with the bytes that its escapes stand for."""
     return re.sub(r"\\x(..)", lambda found: chr(int(found[1], 16)), text)
 
 
-def bytes_of(line):
+def bytes_of(line: str) -> bytes:
     """The bytes that a line of a file stands for."""
     if "\\" not in line and not line.endswith("|"):
         return line.encode() + b"\n"
@@ -80,10 +89,14 @@ def bytes_of(line):
     return (unescaped(found[1]) + ("" if found[3] else "\n")).encode("latin-1")
 
 
-def add_line(rows, row, section, line):
+def add_line(
+    rows: Dict[str, Row], row: Optional[Row], section: Optional[str], line: str
+) -> Tuple[Row, Optional[str]]:
     """Adds a line to the rows; returns the row and the file that the next line is for."""
-    if section and not line.startswith(("== ", "-- ")):
-        row.files[section] += bytes_of(line)
+    if row and section and not line.startswith(("== ", "-- ")):
+        before = row.files[section]
+        assert isinstance(before, bytes)
+        row.files[section] = before + bytes_of(line)
         return row, section
     if found := HEADING.fullmatch(line):
         if found[1] in rows:
@@ -105,9 +118,10 @@ def add_line(rows, row, section, line):
     return row, None
 
 
-def read_file(rows, path):
+def read_file(rows: Dict[str, Row], path: Path) -> None:
     """Adds the rows of the file."""
-    row = section = None
+    row: Optional[Row] = None
+    section: Optional[str] = None
     for number, line in enumerate(path.read_bytes().decode("latin-1").split("\n"), 1):
         try:
             if not PRINTABLE.fullmatch(line):
@@ -118,7 +132,9 @@ def read_file(rows, path):
             raise Mistake(f"{path}, line {number}: {mistake}") from None
 
 
-def content(rows, row, name, seen=()):
+def content(
+    rows: Mapping[str, Row], row: str, name: str, seen: Tuple[Tuple[str, str], ...] = ()
+) -> Optional[bytes]:
     """The bytes of the row's file, or None for any text."""
     if (row, name) in seen or row not in rows or name not in rows[row].files:
         raise Mistake(f"{(seen or [(row, name)])[0][0]}: there is no {row}/{name}")
@@ -126,9 +142,9 @@ def content(rows, row, name, seen=()):
     return content(rows, *found, (*seen, (row, name))) if isinstance(found, tuple) else found
 
 
-def read_rows(paths):
+def read_rows(paths: Iterable[Path]) -> Dict[str, Row]:
     """The rows of the files, by their names, with bytes in place of references."""
-    rows = {}
+    rows: Dict[str, Row] = {}
     for path in paths:
         read_file(rows, path)
     for row in rows.values():
@@ -138,7 +154,9 @@ def read_rows(paths):
     return rows
 
 
-def make_folder(folder, words, status, files):
+def make_folder(
+    folder: Path, words: List[str], status: Optional[int], files: Mapping[str, Optional[bytes]]
+) -> None:
     """Writes a row: its words in `args`, one a line, its status, and its files but for those that may have any text."""
     folder.mkdir(parents=True)
     (folder / "args").write_bytes("".join(word + "\n" for word in words).encode("latin-1"))
@@ -148,7 +166,7 @@ def make_folder(folder, words, status, files):
             (folder / name).write_bytes(whole)
 
 
-def make_folders(rows, form_1, row):
+def make_folders(rows: Path, form_1: Path, row: Row) -> None:
     """Writes the row, and if it is one of both forms its copy in form 1."""
     make_folder(rows / row.name, row.words, row.status, row.whole)
     if (
@@ -162,16 +180,16 @@ def make_folders(rows, form_1, row):
         make_folder(form_1 / f"{row.name}-in-form-1", words, row.status, files)
 
 
-def escape(byte):
+def escape(byte: str) -> str:
     return f"\\x{ord(byte):02x}"
 
 
-def escaped(line):
+def escaped(line: bytes) -> str:
     """The bytes with an escape for each that isn't printable ASCII, or is a backslash."""
     return re.sub(r"[^ -~]|\\", lambda byte: escape(byte[0]), line.decode("latin-1"))
 
 
-def line_of(line, ended):
+def line_of(line: bytes, ended: bool) -> str:
     """How a file of rows writes a line of a file."""
     text = escaped(line)
     if text.startswith(("#", "-- ", "== ")):
@@ -183,7 +201,12 @@ def line_of(line, ended):
     return text + ("|" if text.endswith(" ") else "") + ("" if ended else "\\")
 
 
-def text_of(name, words, files, status):
+def text_of(
+    name: str,
+    words: Sequence[str],
+    files: Mapping[str, Union[bytes, str]],
+    status: Union[int, str, None],
+) -> str:
     """How a file of rows writes a row. For each file it is given bytes, or the text that follows the name in its line."""
     lines = [f"== {name}: {escaped(shlex.join(words).encode())}"]
     for file, whole in files.items():
@@ -200,7 +223,7 @@ def text_of(name, words, files, status):
     return "".join(line + "\n" for line in lines)
 
 
-def main():
+def main() -> int:
     if len(sys.argv) < 4:
         print("usage: row_files.py FOLDER FORM_1 FILE..", file=sys.stderr)
         return 2

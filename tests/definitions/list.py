@@ -15,10 +15,14 @@ other libraries define isn't listed. Each further CLAUSES lists only what those 
 With --text each of them is followed by its text. What is only cited by types, or is one, says how the code keeps a value, and
 is marked so. The others are the theorem's own words.
 """
+from __future__ import annotations
+
 import os
 import sys
+from pathlib import Path
+from typing import List, Optional, Set
 
-from sources import DEVICES, cited, clauses, declaration, module, said_of, source_text
+from sources import DEVICES, Place, cited, clauses, declaration, module, said_of, source_text
 
 THEOREM = ("cif_canon", "normal_form.rt", "normalise", "normal", "reads")
 
@@ -26,26 +30,26 @@ THEOREM = ("cif_canon", "normal_form.rt", "normalise", "normal", "reads")
 class Sum:
     """How many definitions and types, of how many lines in which files."""
 
-    def __init__(self):
+    def __init__(self) -> None:
         self.definitions = self.lines = self.types = 0
-        self.files = set()
+        self.files: Set[Path] = set()
 
-    def add_definition(self, lines, file):
+    def add_definition(self, lines: int, file: Path) -> None:
         self.definitions += 1
         self.lines += lines
         self.files.add(file)
 
-    def add(self, other):
+    def add(self, other: Sum) -> None:
         self.definitions += other.definitions
         self.lines += other.lines
         self.types += other.types
         self.files |= other.files
 
-    def __str__(self):
+    def __str__(self) -> str:
         return f"{self.definitions:,} definitions of {self.lines:,} lines in {len(self.files)} files, {self.types} types"
 
 
-def case_of(at):
+def case_of(at: Place) -> Optional[Place]:
     """The definition that a name stands in: itself, or what it is a case or a field of; or nothing."""
     _, crate, inner, name = at
     own = module(crate, inner)
@@ -57,12 +61,12 @@ def case_of(at):
     )
 
 
-def is_kept(at):
+def is_kept(at: Place) -> bool:
     """Whether this is a type by which the code keeps values, and no trait of a device."""
     return at[0] == "type" and at[3] not in DEVICES
 
 
-def next_cited(at, through_types=True):
+def next_cited(at: Place, through_types: bool = True) -> List[Place]:
     """What a definition or a type cites."""
     kind, crate, inner, name = at
     if kind == "type":
@@ -71,12 +75,13 @@ def next_cited(at, through_types=True):
     return cited(own.definitions[name], own.imports, own.definitions, crate, inner)
 
 
-def reached(roots, seen, through_types=True):
+def reached(roots: List[Place], seen: Set[Place], through_types: bool = True) -> List[Place]:
     """What is reached from the roots and wasn't before, in the order in which it is cited."""
-    waiting, found = list(roots), []
+    waiting = list(roots)
+    found: List[Place] = []
     while waiting:
-        at = waiting.pop(0)
-        at = case_of(at) if at[0] == "definition" else at
+        first = waiting.pop(0)
+        at = case_of(first) if first[0] == "definition" else first
         if at is None or at in seen:
             continue
         seen.add(at)
@@ -85,7 +90,7 @@ def reached(roots, seen, through_types=True):
     return found
 
 
-def line_of(at):
+def line_of(at: Place) -> str:
     """How the list names a definition or a type."""
     kind, crate, inner, name = at
     if kind == "type":
@@ -93,7 +98,7 @@ def line_of(at):
     return f"{crate} specs/{inner.replace('.', '/')}.antt {name} {len(module(crate, inner).definitions[name])}"
 
 
-def text_of(at):
+def text_of(at: Place) -> str:
     """The text of a definition or a type."""
     kind, crate, inner, name = at
     if kind == "definition":
@@ -101,18 +106,20 @@ def text_of(at):
     return "\n".join(filter(None, declaration(source_text(crate, inner), name)))
 
 
-def show(at, kept, with_text):
+def show(at: Place, kept: bool, with_text: bool) -> None:
     """Prints a definition or a type; with its text, and a mark if it only says how a value is kept."""
     print(line_of(at) + (" (how a value is kept)" if with_text and kept else ""))
     if with_text:
         print("\n" + text_of(at) + "\n")
 
 
-def main():
+def main() -> None:
     words = sys.argv[1:]
     with_text = words[:1] == ["--text"]
     crate, source, function, *groups = words[with_text:] or THEOREM
-    seen, said, whole = set(), set(), Sum()
+    seen: Set[Place] = set()
+    said: Set[Place] = set()
+    whole = Sum()
     for group in groups:
         lines, imports, devices = clauses(crate, source, function, group.split(","))
         roots = cited(lines, imports, {}, crate, "") + devices

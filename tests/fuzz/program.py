@@ -1,13 +1,17 @@
 """Runs the program on a job, in a folder of its own with the inputs of the job."""
-import subprocess
+from __future__ import annotations
 
-from reference.answers import Answer, names_of
+import subprocess
+from pathlib import Path
+from typing import List
+
+from reference.answers import Answer, Inputs, Job, names_of
 
 SECONDS = 60
 NO_END = Answer(b"", b"", f"none after {SECONDS} seconds")
 
 
-def words_of(job):
+def words_of(job: Job) -> List[str]:
     """The words of a command: its options come first, and then its places."""
     words = [job.command]
     for option, word in (
@@ -31,7 +35,7 @@ def words_of(job):
     )
 
 
-def written(folder, job, inputs):
+def written(folder: Path, job: Job, inputs: Inputs) -> None:
     """Writes the inputs into a new folder; one that is None isn't there."""
     folder.mkdir()
     for name, data in zip(names_of(job), inputs):
@@ -39,7 +43,7 @@ def written(folder, job, inputs):
             (folder / ("stdin" if name == "-" else name)).write_bytes(data)
 
 
-def answer_of(cif, folder, job):
+def answer_of(cif: Path, folder: Path, job: Job) -> Answer:
     """What the program prints and ends with in that folder."""
     piped = (folder / "stdin").read_bytes() if "-" in names_of(job) else b""
     try:

@@ -4,23 +4,33 @@ The first is the case itself. Beside it stand cases that have several faults, da
 with a line of each sort, where each damage in one place has its turn, and wrong columns have theirs in each command. Where the
 case is accepted there are further runs, whose answers have to agree with its own.
 """
-import re
-from collections import namedtuple
-from itertools import chain, cycle, product
+from __future__ import annotations
 
-from generator.cases import OFTEN, small_jobs, small_views, some_bytes, some_case
+import re
+from itertools import chain, cycle, product
+from random import Random
+from typing import Callable, Dict, Iterable, Iterator, List, NamedTuple, Tuple
+
+from generator.cases import OFTEN, Case, small_jobs, small_views, some_bytes, some_case
 from generator.damage import damaged, damaged_at, places_of_damage, wrong_columns
 from generator.derived import changed_once, said_otherwise
 from generator.feeds import OfSmall, small_feeds
 from generator.spelling import PLAIN, spelled, with_one_moved
-from generator.timetables import each_sort
-from reference.answers import OF_FEEDS, SOME, Answer, Job, answer, date_of, names_of
+from generator.timetables import Timetable, each_sort
+from reference.answers import OF_FEEDS, SOME, Answer, Inputs, Job, answer, date_of, names_of
 from reference.dates import yymmdd
 from reference.extracts import common_of, read_extract
 from reference.faults import REFUSED
 
-# A name of what is tried, the job, the bytes of each input, and the answer that is wanted.
-Trial = namedtuple("Trial", "name job inputs want")
+
+class Trial(NamedTuple):
+    """A name of what is tried, the job, the bytes of each input, and the answer that is wanted."""
+
+    name: str
+    job: Job
+    inputs: Inputs
+    want: Answer
+
 
 SAME = Answer(b"same\n", b"", 0)
 OTHER_FORM = {"1": "2", "2": "1", None: "1"}
@@ -35,7 +45,7 @@ class Inconsistent(Exception):
     """Two answers of the reference don't agree."""
 
 
-def counts_of(output):
+def counts_of(output: bytes) -> Answer:
     """What check has to say of a canonical extract."""
     kinds = [line[:2] for line in output.splitlines()]
     numbers = (kinds.count(kind) for kind in (b"TI", b"AA", b"BS"))
@@ -44,7 +54,7 @@ def counts_of(output):
     )
 
 
-def of_canonical(job, inputs, output, options):
+def of_canonical(job: Job, inputs: Inputs, output: bytes, options: bool) -> Iterator[Trial]:
     """Of a canonical extract: that it is its own, that it says what its input says, and the other form."""
     plain_job = job._replace(files=())
     yield Trial("the output again", plain_job, [output], Answer(output, b"", 0))
@@ -68,7 +78,9 @@ def of_canonical(job, inputs, output, options):
         )
 
 
-def of_second_extracts(rng, job, inputs, output, timetable):
+def of_second_extracts(
+    rng: Random, job: Job, inputs: Inputs, output: bytes, timetable: Timetable
+) -> Iterator[Trial]:
     """Of two other extracts: one says the same, and one is changed in one place."""
     compared = Job("compare", BOTH, first=job.first, last=job.last)
     same, changed = some_bytes(rng, said_otherwise(rng, timetable)), some_bytes(
@@ -87,7 +99,7 @@ def of_second_extracts(rng, job, inputs, output, timetable):
     )
 
 
-def with_dates(job, inputs):
+def with_dates(job: Job, inputs: Inputs) -> Job:
     """The job of two files without --common, with the dates that it stands for."""
     if not job.common:
         return job
@@ -96,13 +108,13 @@ def with_dates(job, inputs):
     return job._replace(first=first, last=last, common=False)
 
 
-def of_comparison(job, inputs, want):
+def of_comparison(job: Job, inputs: Inputs, want: Answer) -> Iterator[Trial]:
     """Two extracts differ alike in the other order, and after one is normalised."""
     yield Trial("the other order", job, inputs[::-1], want)
     yield from of_equal_jobs(job, inputs, want)
 
 
-def of_equal_jobs(job, inputs, want):
+def of_equal_jobs(job: Job, inputs: Inputs, want: Answer) -> Iterator[Trial]:
     """Two extracts differ alike with the dates of their common window, and after one is normalised."""
     dated = with_dates(job, inputs)
     if job.common:
@@ -111,21 +123,21 @@ def of_equal_jobs(job, inputs, want):
     yield Trial("the left one normalised", job, [output, inputs[1]], want)
 
 
-def records_of(lines):
+def records_of(lines: List[bytes]) -> Tuple[List[bytes], ...]:
     """The lines of HD, of TI, of AA and of schedules."""
     kinds = {b"HD": 0, b"TI": 1, b"AA": 2}
-    found = [], [], [], []
+    found: Tuple[List[bytes], ...] = [], [], [], []
     for line in lines:
         if line[:2] != b"ZZ":
             found[kinds.get(line[:2], 3)].append(line)
     return found
 
 
-def with_letter(lines, letter):
+def with_letter(lines: List[bytes], letter: bytes) -> List[bytes]:
     return [line[:79] + letter if line[:2] in (b"AA", b"BS") else line for line in lines]
 
 
-def turned_into(left, differences, header):
+def turned_into(left: bytes, differences: bytes, header: bytes) -> bytes:
     """An extract in which nothing runs of what only the left one says, and what only the right one says overlays the rest."""
     ours, theirs = (
         [line[2:] for line in differences.splitlines() if line[:1] == mark] for mark in (b"<", b">")
@@ -135,7 +147,7 @@ def turned_into(left, differences, header):
     _, new_tiplocs, new_associations, new_schedules = records_of(with_letter(theirs, b"O"))
     places = [line for line in tiplocs if line not in no_tiplocs] + new_tiplocs
 
-    def extract(*records):
+    def extract(*records: List[bytes]) -> bytes:
         return b"".join(
             line + b"\n" for line in [header, *places, *chain(*records), b"ZZ".ljust(80)]
         )
@@ -147,7 +159,7 @@ def turned_into(left, differences, header):
     return extract(associations, new_associations, schedules, new_schedules)
 
 
-def of_differences(job, inputs, want):
+def of_differences(job: Job, inputs: Inputs, want: Answer) -> Iterator[Trial]:
     """Nothing differs exactly if the two compare as the same; and the differences turn the left one into the right one."""
     compared = job._replace(command="compare", format=None)
     comparison = answer(compared, inputs)
@@ -167,7 +179,7 @@ def of_differences(job, inputs, want):
     )
 
 
-def of_difference_table(job, inputs, want):
+def of_difference_table(job: Job, inputs: Inputs, want: Answer) -> Iterator[Trial]:
     """There is a row exactly if there is a difference; and the table is that of the other order with its sides changed."""
     listed = job._replace(format=None)
     text = answer(listed, inputs)
@@ -185,7 +197,7 @@ def of_difference_table(job, inputs, want):
     yield from of_equal_jobs(job, inputs, want)
 
 
-def sides_changed(table):
+def sides_changed(table: bytes) -> List[bytes]:
     """The rows of a table of differences with left in the place of right, sorted."""
     heading, *rows = (line.split(b"\t") for line in table.splitlines())
     other = {b"<": b">", b">": b"<", b"<>": b"<>"}
@@ -193,11 +205,11 @@ def sides_changed(table):
     return sorted(b"\t".join(row) for row in [heading, *rows])
 
 
-def of_diff(job, inputs, want):
+def of_diff(job: Job, inputs: Inputs, want: Answer) -> Iterator[Trial]:
     return (of_difference_table if job.format == "tsv" else of_differences)(job, inputs, want)
 
 
-def of_explanation(job, inputs, want):
+def of_explanation(job: Job, inputs: Inputs, want: Answer) -> Iterator[Trial]:
     """What wins on a date is what day says, where there is no clash, and the only record of a canonical extract."""
     if job.format == "tsv":
         text = job._replace(format=None)
@@ -207,6 +219,7 @@ def of_explanation(job, inputs, want):
     listed = answer(day, inputs)
     yield Trial("the day of it", day, inputs, listed)
     if listed.status == 0:
+        assert job.uid is not None
         of_uid = [line for line in listed.stdout.split(b"\n") if job.uid.encode() in uids_of(line)]
         won = [
             line
@@ -224,12 +237,12 @@ def of_explanation(job, inputs, want):
         )
 
 
-def uids_of(line):
+def uids_of(line: bytes) -> Tuple[bytes, ...]:
     """The UID of a line of day, or both if it is of an association."""
     return (line[3:9], line[10:16]) if line.startswith(b"AA") else (line[3:9],)
 
 
-def of_clashes(job, inputs, want):
+def of_clashes(job: Job, inputs: Inputs, want: Answer) -> Iterator[Trial]:
     """The first clash is the one for which check refuses the extract; and each is explained."""
     checked = answer(job._replace(command="check"), inputs)
     lines = want.stdout.splitlines()
@@ -247,13 +260,13 @@ def of_clashes(job, inputs, want):
         yield Trial("a clash explained", explain, inputs, answer(explain, inputs))
 
 
-def of_view(job, inputs, want):
+def of_view(job: Job, inputs: Inputs, want: Answer) -> Iterator[Trial]:
     """A view, as a table of a whole extract, is that of the canonical extract."""
     output = answer(Job("normalise", first=job.first, last=job.last), inputs).stdout
     yield Trial("the same of the canonical extract", job._replace(files=()), [output], want)
 
 
-def of_table(job, inputs, want):
+def of_table(job: Job, inputs: Inputs, want: Answer) -> Iterator[Trial]:
     """The tables have as many records as check says."""
     counted = answer(
         Job("check", first=job.first, last=job.last, form=job.form), inputs
@@ -262,7 +275,7 @@ def of_table(job, inputs, want):
         zip(("tiplocs", "associations", "schedules"), map(int, re.findall("[0-9]+", counted)))
     )
     heading, *rows = want.stdout.splitlines()
-    if len(rows) != numbers.get(job.table, len(rows)) or any(
+    if len(rows) != numbers.get(job.table or "", len(rows)) or any(
         row.count(b"\t") != heading.count(b"\t") for row in rows
     ):
         raise Inconsistent(
@@ -271,7 +284,7 @@ def of_table(job, inputs, want):
     yield from of_view(job, inputs, want)
 
 
-def of_calendar(job, inputs, want):
+def of_calendar(job: Job, inputs: Inputs, want: Answer) -> Iterator[Trial]:
     """Where there is no clash, the canonical extract has a P exactly where something runs."""
     output = answer(Job("normalise", first=job.first, last=job.last), inputs)
     if output.status == 0:
@@ -281,7 +294,7 @@ def of_calendar(job, inputs, want):
         )
 
 
-def of_prepared(job, inputs, want):
+def of_prepared(job: Job, inputs: Inputs, want: Answer) -> Iterator[Trial]:
     """What is prepared is an extract of the profile, of which prepare writes the same again, and has no clash if they are dropped."""
     again = job._replace(files=(), holidays=None)
     yield Trial("the output again", again, [want.stdout], want._replace(stderr=b""))
@@ -289,7 +302,7 @@ def of_prepared(job, inputs, want):
         yield Trial("the clashes of it", Job("clashes"), [want.stdout], Answer(b"", b"", 0))
 
 
-def of_update(job, inputs, want):
+def of_update(job: Job, inputs: Inputs, want: Answer) -> Iterator[Trial]:
     """Several updates do what the one after the other do."""
     if len(inputs) == 2:
         return
@@ -303,18 +316,19 @@ def of_update(job, inputs, want):
         raise Inconsistent("several updates don't do what the one after the other do")
 
 
-def of_damage(rng, case, options):
+def of_damage(rng: Random, case: Case, options: bool) -> Iterator[Trial]:
     """A case of prepare or update after each of some damages to an input; of any other, what check says of its first one."""
     for _ in range(DAMAGED):
-        job, inputs = Job("check", all=options and rng.random() < 0.5), case.inputs[:1]
+        job, whole = Job("check", all=options and rng.random() < 0.5), case.inputs[:1]
         if case.job.command in OF_FEEDS:
-            job, inputs = case.job, list(case.inputs)
+            job, whole = case.job, case.inputs
+        inputs = [data for data in whole if data is not None]
         at = rng.randrange(len(inputs))
         inputs[at] = damaged(rng, inputs[at])
         yield Trial("damaged", job, inputs, answer(job, inputs))
 
 
-def of_small_extracts(rng, turn, options):
+def of_small_extracts(rng: Random, turn: int, options: bool) -> Iterator[Trial]:
     """What commands say of small extracts with one damage, and of others; and normalise of texts that stand further right."""
     timetable = each_sort(rng)
     data = spelled(rng, timetable.lines(), PLAIN)
@@ -328,7 +342,7 @@ def of_small_extracts(rng, turn, options):
     yield Trial("small, with moved texts", job, [data], answer(job, [data]))
 
 
-def of_small_feeds(rng, turn, options):
+def of_small_feeds(rng: Random, turn: int, options: bool) -> Iterator[Trial]:
     """The same of prepare, or of an input of update."""
     sorts = small_feeds(rng)
     turn, sort = divmod(turn, len(sorts))
@@ -336,7 +350,7 @@ def of_small_feeds(rng, turn, options):
     yield from of_damage_in_turn(jobs if options else jobs[:1], inputs, turns_of(turn, SMALL_FEEDS))
 
 
-def of_damage_in_turn(jobs, inputs, turns):
+def of_damage_in_turn(jobs: List[OfSmall], inputs: List[bytes], turns: range) -> Iterator[Trial]:
     """What jobs say of an input with one damage: each job of the columns that each kind can have wrong, and then of all that
     can be done in one place some job.
     """
@@ -351,24 +365,24 @@ def of_damage_in_turn(jobs, inputs, turns):
         yield Trial("small and damaged", job, of_job, answer(job, of_job))
 
 
-def turns_of(turn, count):
+def turns_of(turn: int, count: int) -> range:
     return range(turn * count, (turn + 1) * count)
 
 
-def of_faults(rng, commands, options):
+def of_faults(rng: Random, commands: List[str], options: bool) -> Iterator[Trial]:
     """Other cases, of which many have several faults."""
     for _ in range(FAULTY):
         job, inputs, _ = some_case(rng, commands, options, OFTEN)
         yield Trial("with faults", job, inputs, answer(job, inputs))
 
 
-def without_more(want):
+def without_more(want: Answer) -> Answer:
     """The answer without what --verbose adds."""
     lines = want.stderr.splitlines(keepends=True)
     return want._replace(stderr=b"".join(line for line in lines if not line.startswith(b"  ")))
 
 
-def further_trials(rng, case, want, options):
+def further_trials(rng: Random, case: Case, want: Answer, options: bool) -> Iterator[Trial]:
     """Of a case that is accepted."""
     job, inputs = case.job, case.inputs
     if job.command == "normalise":
@@ -379,7 +393,7 @@ def further_trials(rng, case, want, options):
         yield from FURTHER[job.command](job, inputs, want)
 
 
-FURTHER = {
+FURTHER: Dict[str, Callable[[Job, Inputs, Answer], Iterable[Trial]]] = {
     "check": lambda *_: (),
     "compare": of_comparison,
     "diff": of_diff,
@@ -394,7 +408,9 @@ FURTHER = {
 }
 
 
-def trials_of(rng, turn, case, commands, options):
+def trials_of(
+    rng: Random, turn: int, case: Case, commands: List[str], options: bool
+) -> Iterator[Trial]:
     """All trials of a case that are of these commands; turn counts the cases."""
     want = answer(case.job, case.inputs)
     further = [[Trial("", case.job, case.inputs, want)], of_faults(rng, commands, options)]

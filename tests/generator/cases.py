@@ -1,8 +1,11 @@
 """Cases: a job, its inputs, and the timetable from which the first of them was made."""
-from collections import namedtuple
+from __future__ import annotations
 
-from reference.answers import Job, OF_FEEDS, OF_TWO, OPTIONS
-from reference.dates import DAY, yymmdd
+from random import Random
+from typing import List, NamedTuple, Optional, Sequence, Tuple
+
+from reference.answers import OF_FEEDS, OF_TWO, OPTIONS, Inputs, Job
+from reference.dates import DAY, Window, yymmdd
 from reference.tables import TABLES
 
 from .damage import damaged
@@ -10,12 +13,18 @@ from .derived import changed_once, said_otherwise, with_other_bodies
 from .feeds import OfSmall, some_feed
 from .published import spelled_as_published
 from .spelling import some_habits, spelled
-from .timetables import UIDS, some_header, some_timetable
-from .windows import bounded, some_day, some_window, with_one_end_moved
+from .timetables import UIDS, Record, Timetable, some_header, some_timetable
+from .windows import Odds, bounded, some_day, some_window, with_one_end_moved
 
-# The job; the bytes of each of its inputs, None for a file that isn't there; and the timetable of the first one, or None
-# where an input was damaged or isn't there.
-Case = namedtuple("Case", "job inputs timetable")
+
+class Case(NamedTuple):
+    """The job; the bytes of each of its inputs, None for a file that isn't there; and the timetable of the first one, or None
+    where an input was damaged or isn't there."""
+
+    job: Job
+    inputs: Inputs
+    timetable: Optional[Timetable]
+
 
 COMMANDS = {
     "normalise": 32,
@@ -37,7 +46,7 @@ FORMATS, NO_FORMATS = (None, None, "text", "tsv", "tsv", "tsv"), ("csv", "TSV", 
 NO_TABLES = ("stops", "Calls", "call", "", "schedules ")
 FORMS = (None, None, "1", "1", "2")
 NO_FORMS = ("3", "0", "", "12", "1 ", "one")
-BAD_DATE_WORDS = (
+BAD_DATE_WORDS: Tuple[str, ...] = (
     "260230",
     "2601141",
     "26014",
@@ -69,7 +78,7 @@ BAD_UID_WORDS = (
 
 # How likely a job has dates, and how likely each fault of a job or its inputs is: where most cases are to be accepted, and
 # where many are to have several faults, which show the fault that comes first.
-FAULTS = (
+FAULTS: Tuple[str, ...] = (
     "dates",
     "mistake",
     "no date",
@@ -79,29 +88,28 @@ FAULTS = (
     "no file",
     "damage",
     "another window",
-    "clash",
 )
 FAULTS += ("no code", "no holidays", "stray line", "astray", "wrong header")
 SELDOM = dict(
     zip(
         FAULTS,
-        (0.4, 0.005, 0.02, 0.04, 0.04, 0.04, 0.02, 0.15, 0.08, None, 0.06, 0.05, 0.04, 0.1, 0.01),
+        (0.4, 0.005, 0.02, 0.04, 0.04, 0.04, 0.02, 0.15, 0.08, 0.06, 0.05, 0.04, 0.1, 0.01),
     )
 )
-OFTEN = dict(
-    zip(FAULTS, (0.8, 0.05, 0.2, 0.3, 0.4, 0.4, 0.1, 0.3, 0.4, 1, 0.3, 0.3, 0.3, 0.4, 0.2))
-)
+OFTEN = dict(zip(FAULTS, (0.8, 0.05, 0.2, 0.3, 0.4, 0.4, 0.1, 0.3, 0.4, 0.3, 0.3, 0.3, 0.4, 0.2)))
+# Where it isn't there, most extracts have no clash.
+OFTEN["clash"] = 1
 
 # The same of clashes, for the commands that accept them.
 CLASHES = (0, 0.2, 1, 1)
 OF_CLASHES = ("explain", "clashes", "calendar")
 
 
-def some_bytes(rng, timetable):
+def some_bytes(rng: Random, timetable: Timetable) -> bytes:
     return spelled(rng, timetable.lines(), some_habits(rng))
 
 
-def date_word(rng, window, odds):
+def date_word(rng: Random, window: Window, odds: Odds) -> str:
     """A date in the window, at its ends or beside them; or a word that is no date."""
     first, last = window
     if rng.random() < odds["no date"]:
@@ -113,7 +121,7 @@ def date_word(rng, window, odds):
     return yymmdd(some_day(rng, window))
 
 
-def window_words(rng, window, odds):
+def window_words(rng: Random, window: Window, odds: Odds) -> Sequence[Optional[str]]:
     """The words of --from and --to, or None."""
     if rng.random() > odds["dates"]:
         return None, None
@@ -122,12 +130,12 @@ def window_words(rng, window, odds):
     return [word if rng.random() < 0.7 else None for word in words]
 
 
-def uid_of(rng, record):
+def uid_of(rng: Random, record: Record) -> str:
     """The UID of a train, or one of both of an association."""
     return rng.choice(record.key[:2])[1]
 
 
-def uid_word(rng, records, odds):
+def uid_word(rng: Random, records: List[Record], odds: Odds) -> str:
     if rng.random() < odds["no UID"]:
         return rng.choice(BAD_UID_WORDS)
     if records and rng.random() < 0.95:
@@ -135,7 +143,7 @@ def uid_word(rng, records, odds):
     return rng.choice(UIDS)
 
 
-def uid_and_day(rng, timetable, odds):
+def uid_and_day(rng: Random, timetable: Timetable, odds: Odds) -> Tuple[str, str]:
     """The words of explain: often a UID and a date on which a record of it applies."""
     records = timetable.associations + timetable.schedules
     first, last = timetable.window
@@ -147,7 +155,7 @@ def uid_and_day(rng, timetable, odds):
     return uid_of(rng, record), yymmdd(day)
 
 
-def beside_it(rng, window):
+def beside_it(rng: Random, window: Window) -> Window:
     """A window of the next days, which has some dates in common, or now and then none."""
     first, last = window
     days = (
@@ -158,7 +166,7 @@ def beside_it(rng, window):
     return bounded(first + days), bounded(last + days)
 
 
-def second_timetable(rng, job, timetable, odds):
+def second_timetable(rng: Random, job: Job, timetable: Timetable, odds: Odds) -> Timetable:
     """What another extract is compared with: often it says the same, or differs in a few places."""
     chance = rng.random()
     if job.format == "tsv" and chance < 0.5:
@@ -170,7 +178,7 @@ def second_timetable(rng, job, timetable, odds):
         for _ in range(rng.choice([1, 1, 1, 2, 4, 8])):
             other = changed_once(rng, other)
     else:
-        other = some_timetable(rng, odds["clash"])
+        other = some_timetable(rng, odds.get("clash"))
         other.window = timetable.window
     if rng.random() < 0.5:
         other.header = some_header(rng)
@@ -183,7 +191,7 @@ def second_timetable(rng, job, timetable, odds):
     return other
 
 
-def some_files(rng, command, odds):
+def some_files(rng: Random, command: str, odds: Odds) -> Tuple[str, ...]:
     names = (
         ("left.cif", "right.cif")
         if command in OF_TWO
@@ -198,14 +206,15 @@ def some_files(rng, command, odds):
     return (*names, "further.cif") if names and rng.random() < odds["mistake"] else names
 
 
-def some_inputs(rng, job, timetable, odds):
+def some_inputs(rng: Random, job: Job, timetable: Timetable, odds: Odds) -> Tuple[Inputs, bool]:
     """The bytes of each input, and whether they are as they were spelled."""
-    inputs, sound = [some_bytes(rng, timetable)], True
+    made, sound = [some_bytes(rng, timetable)], True
     if job.all and rng.random() < 0.5:
-        inputs, sound = [spelled_as_published(rng, timetable.lines(), odds)], False
+        made, sound = [spelled_as_published(rng, timetable.lines(), odds)], False
     if job.command in OF_TWO:
-        inputs.append(some_bytes(rng, second_timetable(rng, job, timetable, odds)))
-    for at, data in enumerate(inputs):
+        made.append(some_bytes(rng, second_timetable(rng, job, timetable, odds)))
+    inputs: List[Optional[bytes]] = [*made]
+    for at, data in enumerate(made):
         if rng.random() < odds["damage"] / len(inputs):
             inputs[at], sound = damaged(rng, data), False
         if job.files and job.files[at] != "-" and rng.random() < odds["no file"]:
@@ -213,7 +222,7 @@ def some_inputs(rng, job, timetable, odds):
     return inputs, sound
 
 
-def some_job(rng, command, timetable, options, odds):
+def some_job(rng: Random, command: str, timetable: Timetable, options: bool, odds: Odds) -> Job:
     job = Job(command, some_files(rng, command, odds))
     if command == "day":
         job = job._replace(day=date_word(rng, timetable.window, odds))
@@ -231,7 +240,7 @@ def some_job(rng, command, timetable, options, odds):
     return with_options(rng, job, timetable, odds) if options else job
 
 
-def with_options(rng, job, timetable, odds):
+def with_options(rng: Random, job: Job, timetable: Timetable, odds: Odds) -> Job:
     """The job with options that its command takes, and now and then with others."""
     taken = (
         set().union(*OPTIONS.values()) if rng.random() < odds["mistake"] else OPTIONS[job.command]
@@ -254,7 +263,7 @@ def with_options(rng, job, timetable, odds):
     return job._replace(verbose=rng.random() < 0.5)
 
 
-def small_jobs(timetable):
+def small_jobs(timetable: Timetable) -> List[OfSmall]:
     """Jobs of each command of extracts, of which one input is to be damaged: a file, or standard input."""
     uid, day = "C00123", yymmdd(timetable.window[0])
     jobs = [
@@ -284,7 +293,7 @@ def small_jobs(timetable):
     return [OfSmall(job._replace(verbose=True), at) for job, at in found]
 
 
-def small_views(rng, timetable):
+def small_views(rng: Random, timetable: Timetable) -> List[Tuple[Job, List[bytes]]]:
     """Jobs about small extracts with their inputs: about a UID, and about two windows, which may share one date or none."""
     records = timetable.associations + timetable.schedules
     uid, data = rng.choice([*(uid_of(rng, record) for record in records), "NONE  "]), some_bytes(
@@ -303,13 +312,13 @@ def small_views(rng, timetable):
     return [(job._replace(verbose=True), inputs) for job, inputs in found]
 
 
-def some_case(rng, commands, options, odds):
+def some_case(rng: Random, commands: List[str], options: bool, odds: Odds) -> Case:
     """A case of one of these commands; options says whether the job may have some."""
     command = rng.choices(commands, [COMMANDS[name] for name in commands])[0]
     if command in OF_FEEDS:
         job, inputs = some_feed(rng, command, odds)
         return Case(job._replace(verbose=options and rng.random() < 0.5), inputs, None)
-    clashes = rng.choice(CLASHES) if command in OF_CLASHES else odds["clash"]
+    clashes = rng.choice(CLASHES) if command in OF_CLASHES else odds.get("clash")
     timetable = some_timetable(rng, clashes)
     job = some_job(rng, command, timetable, options, odds)
     inputs, sound = some_inputs(rng, job, timetable, odds)

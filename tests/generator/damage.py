@@ -1,9 +1,17 @@
 """Damage to an input: to its bytes, to its lines, or to fields of a line. Some of it leaves an extract that is right."""
+from __future__ import annotations
+
 from itertools import combinations, product
+from random import Random
+from typing import Callable, Dict, Iterator, List, Optional, Tuple, Union
 
 from reference import values
-from reference.faults import Refusal
-from reference.layouts import LAYOUTS, read
+from reference.faults import Reader, Refusal
+from reference.layouts import LAYOUTS, Field, read
+
+# A change of the bytes, and one of the list of lines.
+Change = Callable[[Random, bytes], bytes]
+ChangeOfLines = Callable[[Random, List[bytes]], None]
 
 NO_DATES = (
     "260230",
@@ -40,7 +48,7 @@ IDENTITIES = (
 )
 
 
-def with_other_signs(text, signs):
+def with_other_signs(text: str, signs: Union[Tuple[str, ...], str]) -> List[str]:
     """The texts with one other sign: of those that are given for each place."""
     return [text[:at] + sign + text[at + 1 :] for at, others in enumerate(signs) for sign in others]
 
@@ -52,7 +60,7 @@ TIMES = (
     "0900",
     "9:00",
 )
-BAD_FIELDS = {
+BAD_FIELDS: Dict[Reader, Tuple[str, ...]] = {
     values.full: ("U", "F", " ", "f"),
     values.new: ("R", "D", "N", " ", "n"),
     values.header_date: (
@@ -90,7 +98,7 @@ ODD_BYTES = (
 )
 ENDINGS = (b"\r", b"\r\n", b"\r\r\n", b"\n\r", b"\n\n", b" \n", b" \r\n", b" ", b"")
 # What may stand before the first line: how inputs of other formats begin, and what is like it.
-BEGINNINGS = (
+BEGINNINGS: Tuple[bytes, ...] = (
     b"\x1f\x8b",
     b"\x1f\x8c",
     b"PK\x03\x04",
@@ -115,7 +123,7 @@ BEHIND = (
 # ---- of bytes
 
 
-def place(rng, data):
+def place(rng: Random, data: bytes) -> int:
     """A place in the bytes: often at a line's end or its first columns."""
     ends = [at for at, byte in enumerate(data) if byte == 0x0A]
     if ends and rng.random() < 0.4:
@@ -123,40 +131,40 @@ def place(rng, data):
     return rng.randrange(len(data))
 
 
-def replaced_byte(rng, data):
+def replaced_byte(rng: Random, data: bytes) -> bytes:
     at = place(rng, data)
     return data[:at] + rng.choice(ODD_BYTES) + data[at + 1 :]
 
 
-def dropped_byte(rng, data):
+def dropped_byte(rng: Random, data: bytes) -> bytes:
     at = place(rng, data)
     return data[:at] + data[at + 1 :]
 
 
-def inserted_byte(rng, data):
+def inserted_byte(rng: Random, data: bytes) -> bytes:
     at = place(rng, data)
     return data[:at] + rng.choice(ODD_BYTES) + data[at:]
 
 
-def cut(rng, data):
+def cut(rng: Random, data: bytes) -> bytes:
     return data[: place(rng, data)]
 
 
-def more_behind(rng, data):
+def more_behind(rng: Random, data: bytes) -> bytes:
     return data + rng.choice((*BEHIND, data))
 
 
-def emptied(rng, data):
+def emptied(rng: Random, data: bytes) -> bytes:
     return b""
 
 
 # ---- of lines
 
 
-def of_lines(change):
+def of_lines(change: ChangeOfLines) -> Change:
     """A change of the list of lines, each with its ending."""
 
-    def changed(rng, data):
+    def changed(rng: Random, data: bytes) -> bytes:
         lines = data.splitlines(keepends=True)
         change(rng, lines)
         return b"".join(lines)
@@ -164,36 +172,36 @@ def of_lines(change):
     return changed
 
 
-def swapped(rng, lines):
+def swapped(rng: Random, lines: List[bytes]) -> None:
     one, other = rng.randrange(len(lines)), rng.randrange(len(lines))
     lines[one], lines[other] = lines[other], lines[one]
 
 
-def dropped(rng, lines):
+def dropped(rng: Random, lines: List[bytes]) -> None:
     del lines[rng.randrange(len(lines))]
 
 
-def repeated(rng, lines):
+def repeated(rng: Random, lines: List[bytes]) -> None:
     lines.insert(rng.randint(0, len(lines)), rng.choice(lines))
 
 
-def cut_behind_one(rng, lines):
+def cut_behind_one(rng: Random, lines: List[bytes]) -> None:
     del lines[rng.randint(1, len(lines)) :]
 
 
-def long_line(rng, lines):
+def long_line(rng: Random, lines: List[bytes]) -> None:
     """A line of as many bytes as are read of one, or of one more, and behind the last line one that is refused."""
     lines.insert(rng.randint(0, len(lines)), b"X" * rng.choice([9999, 10000]) + b"\n")
     lines.append(empty_line("XX"))
 
 
-def of_another_kind(rng, lines):
+def of_another_kind(rng: Random, lines: List[bytes]) -> None:
     at = rng.randrange(len(lines))
     identity = rng.choice(IDENTITIES).encode()
     lines[at] = identity + lines[at][len(identity) :]
 
 
-def sorts_of(lines):
+def sorts_of(lines: List[bytes]) -> List[Tuple[str, str]]:
     """The kind of each line, and whether it is of a cancellation or a deleted record: its `C` or `D`, or an empty text."""
     found, idle = [], ""
     for line in lines:
@@ -203,11 +211,11 @@ def sorts_of(lines):
     return found
 
 
-def empty_line(identity):
+def empty_line(identity: str) -> bytes:
     return identity.encode().ljust(80) + b"\n"
 
 
-def further(rng, lines):
+def further(rng: Random, lines: List[bytes]) -> None:
     """A line of some kind, with nothing in it, is put behind another one; each sort of these is as likely."""
     sorts = sorts_of(lines)
     sort = rng.choice(sorted(set(sorts)))
@@ -215,15 +223,16 @@ def further(rng, lines):
     lines.insert(at + 1, empty_line(rng.choice(IDENTITIES)))
 
 
-def with_another_ending(rng, lines):
+def with_another_ending(rng: Random, lines: List[bytes]) -> None:
     at = rng.choice([rng.randrange(len(lines)), -1])
     lines[at] = lines[at].rstrip(b"\r\n") + rng.choice(ENDINGS)
 
 
-def reversed_dates(rng, lines):
+def reversed_dates(rng: Random, lines: List[bytes]) -> None:
     """First and last date of a record change places."""
     columns = {b"HD": 48, b"AA": 15, b"BS": 9}
-    at = rng.choice([at for at, line in enumerate(lines) if line[:2] in columns] or [None])
+    places: List[Optional[int]] = [at for at, line in enumerate(lines) if line[:2] in columns]
+    at = rng.choice(places or [None])
     if at is not None:
         line, first = lines[at], columns[lines[at][:2]]
         lines[at] = (
@@ -237,7 +246,7 @@ def reversed_dates(rng, lines):
 # ---- of fields
 
 
-def field_places(lines):
+def field_places(lines: List[bytes]) -> List[Tuple[Tuple[str, str], int, Field]]:
     """The fields that can be wrong: what sort each is, its line, and the field; those of idle records are sorts too."""
     found = []
     for at, (kind, idle) in enumerate(sorts_of(lines)):
@@ -247,15 +256,15 @@ def field_places(lines):
     return found
 
 
-def with_text(line, field, text):
+def with_text(line: bytes, field: Field, text: str) -> bytes:
     return line[: field.first - 1] + text.encode() + line[field.last :]
 
 
-def spoil(rng, lines, at, field):
+def spoil(rng: Random, lines: List[bytes], at: int, field: Field) -> None:
     lines[at] = with_text(lines[at], field, rng.choice(BAD_FIELDS[field.read]))
 
 
-def bad_field(rng, lines):
+def bad_field(rng: Random, lines: List[bytes]) -> None:
     """A text that is no value of its field, or a value that doesn't go with the others; each sort is as likely."""
     places = field_places(lines)
     if places:
@@ -263,7 +272,7 @@ def bad_field(rng, lines):
         spoil(rng, lines, *rng.choice([place[1:] for place in places if place[0] == sort]))
 
 
-def bad_fields(rng, lines):
+def bad_fields(rng: Random, lines: List[bytes]) -> None:
     """The same of a few fields of one line."""
     places = field_places(lines)
     if places:
@@ -294,7 +303,7 @@ DAMAGES = {
 }
 
 
-def damaged(rng, data):
+def damaged(rng: Random, data: bytes) -> bytes:
     """The bytes after one damage, or after a few."""
     for _ in range(rng.choice([1, 1, 1, 1, 2, 3])):
         if data:
@@ -305,7 +314,7 @@ def damaged(rng, data):
 # ---- all that can be done in one place
 
 
-def spoiled(line, sort):
+def spoiled(line: bytes, sort: Tuple[str, str]) -> Iterator[bytes]:
     """The line with another text in one field; and with such texts in two fields that are read otherwise."""
     kind, idle = sort
     fields = [
@@ -323,7 +332,7 @@ def spoiled(line, sort):
             )
 
 
-def of_other_bytes(line):
+def of_other_bytes(line: bytes) -> Iterator[bytes]:
     """Lines that are shorter or longer than this one, or have another byte."""
     content = line.rstrip(b"\n")
     contents = [
@@ -340,7 +349,7 @@ def of_other_bytes(line):
     yield from (other + ending for other in contents for ending in (b"\n", b"\r\n"))
 
 
-def places_of_damage(lines):
+def places_of_damage(lines: List[bytes]) -> Iterator[Tuple[int, bytes]]:
     """What may stand for the first line of each sort: it and a line behind it, or it with wrong fields; for the first and the
     last line: lines of other bytes; and before the first line: another beginning, or a line.
     """
@@ -354,11 +363,12 @@ def places_of_damage(lines):
         yield from ((at, line) for line in spoiled(lines[at], sort))
 
 
-def wrong_columns(lines):
+def wrong_columns(lines: List[bytes]) -> List[Tuple[int, bytes]]:
     """What may stand for a line so that it is refused: once for each kind, each reason and the columns of it."""
-    found, sorts = {kind: (0, lines[0] + empty_line(kind)) for kind in ("TA", "TD")}, sorts_of(
-        lines
-    )
+    found: Dict[Union[str, Tuple[str, str, Optional[int]]], Tuple[int, bytes]] = {
+        kind: (0, lines[0] + empty_line(kind)) for kind in ("TA", "TD")
+    }
+    sorts = sorts_of(lines)
     for sort in sorted(set(sorts)):
         at = sorts.index(sort)
         for line in spoiled(lines[at], sort):
@@ -369,5 +379,5 @@ def wrong_columns(lines):
     return list(found.values())
 
 
-def damaged_at(lines, at, instead):
+def damaged_at(lines: List[bytes], at: int, instead: bytes) -> bytes:
     return b"".join([*lines[:at], instead, *lines[at + 1 :]])

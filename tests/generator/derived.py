@@ -1,16 +1,20 @@
 """Second extracts: one that says the same by other records, and one that is changed in one place."""
+from __future__ import annotations
+
 from dataclasses import replace
+from random import Random
+from typing import List
 
 from reference.dates import DAY, FIRST_OF_ALL, LAST_OF_ALL
 
-from .fields import changed, with_other_fields
-from .timetables import some_tiplocs, some_uid
+from .fields import Body, changed, with_other_fields
+from .timetables import Record, Timetable, some_tiplocs, some_uid
 from .windows import bounded, some_day, some_part
 
 # ---- the same by other records
 
 
-def split_by_date(rng, records, at):
+def split_by_date(rng: Random, records: List[Record], at: int) -> None:
     """A record becomes two, with a date between them."""
     record = records[at]
     if record.first < record.last:
@@ -18,7 +22,7 @@ def split_by_date(rng, records, at):
         records[at : at + 1] = [replace(record, last=last), replace(record, first=last + DAY)]
 
 
-def split_by_weekday(rng, records, at):
+def split_by_weekday(rng: Random, records: List[Record], at: int) -> None:
     """A record becomes two, each with some of its weekdays, and perhaps both with one of them."""
     record = records[at]
     sides = [rng.choice(["10", "01", "11"]) if bit == "1" else "00" for bit in record.days]
@@ -27,7 +31,7 @@ def split_by_weekday(rng, records, at):
     ]
 
 
-def part_again(rng, records, at):
+def part_again(rng: Random, records: List[Record], at: int) -> None:
     """A part of a record stands a second time."""
     record = records[at]
     first, last = some_part(rng, (record.first, record.last))
@@ -35,7 +39,7 @@ def part_again(rng, records, at):
     records.append(replace(record, first=first, last=last, days=days))
 
 
-def overlaid(rng, records, at):
+def overlaid(rng: Random, records: List[Record], at: int) -> None:
     """An overlay with the body of a permanent record stands over it, where no other overlay does."""
     record = records[at]
     if record.letter == "P" and not any(
@@ -45,7 +49,7 @@ def overlaid(rng, records, at):
         records.append(replace(record, letter="O", first=first, last=last))
 
 
-def idle(rng, records, at):
+def idle(rng: Random, records: List[Record], at: int) -> None:
     """A record that applies on no date."""
     records.append(replace(records[at], days="0000000", first=FIRST_OF_ALL, last=LAST_OF_ALL))
 
@@ -53,7 +57,7 @@ def idle(rng, records, at):
 WAYS = (split_by_date, split_by_weekday, part_again, overlaid, idle)
 
 
-def said_otherwise(rng, timetable):
+def said_otherwise(rng: Random, timetable: Timetable) -> Timetable:
     """A timetable with the same header, which says the same."""
     other = timetable.copy()
     for records in other.associations, other.schedules:
@@ -69,7 +73,7 @@ def said_otherwise(rng, timetable):
 # ---- changed in one place
 
 
-def with_another_date(rng, record):
+def with_another_date(rng: Random, record: Record) -> Record:
     """One day more or less at one of its ends."""
     if rng.random() < 0.5:
         return replace(
@@ -78,19 +82,19 @@ def with_another_date(rng, record):
     return replace(record, last=max(bounded(record.last + rng.choice([-1, 1]) * DAY), record.first))
 
 
-def with_another_weekday(rng, record):
+def with_another_weekday(rng: Random, record: Record) -> Record:
     at = rng.randrange(7)
     return replace(
         record, days=record.days[:at] + "10"[int(record.days[at])] + record.days[at + 1 :]
     )
 
 
-def with_another_uid(rng, record):
+def with_another_uid(rng: Random, record: Record) -> Record:
     name = "uid" if record.kind == "BS" else rng.choice(["base", "associated"])
     return replace(record, key=tuple((dict(record.key) | {name: some_uid(rng)}).items()))
 
 
-def with_another_body(rng, record):
+def with_another_body(rng: Random, record: Record) -> Record:
     if record.letter == "C":
         return with_another_weekday(rng, record)
     return replace(record, body=changed(rng, record.kind, record.body))
@@ -105,7 +109,7 @@ CHANGES = (
 )
 
 
-def changed_once(rng, timetable):
+def changed_once(rng: Random, timetable: Timetable) -> Timetable:
     """A timetable with the same header that differs in one place; now and then it says the same."""
     other = timetable.copy()
     lists = [records for records in (other.associations, other.schedules) if records]
@@ -121,7 +125,7 @@ def changed_once(rng, timetable):
     return other
 
 
-def with_other_bodies(rng, timetable):
+def with_other_bodies(rng: Random, timetable: Timetable) -> Timetable:
     """A timetable with the same records, of which many have another body; equal bodies stay equal, so that nothing clashes."""
     other, bodies = timetable.copy(), {}
     for records in other.associations, other.schedules:
@@ -133,7 +137,7 @@ def with_other_bodies(rng, timetable):
     return other
 
 
-def changed_often(rng, record):
+def changed_often(rng: Random, record: Record) -> Body:
     """The record's body with a few changes, or none."""
     if record.kind == "BS" and rng.random() < 0.5:
         return with_other_fields(rng, record.body)

@@ -1,8 +1,11 @@
 """Jobs of prepare and update, and their inputs."""
-from collections import namedtuple
-from dataclasses import replace
+from __future__ import annotations
 
-from reference.answers import Job, names_of
+from dataclasses import replace
+from random import Random
+from typing import List, NamedTuple, Optional, Tuple
+
+from reference.answers import Inputs, Job, names_of
 from reference.dates import DAY
 from reference.layouts import plain
 from reference.values import OPEN_END
@@ -19,12 +22,12 @@ from .published import (
     with_field,
 )
 from .spelling import some_habits, spelled
-from .timetables import each_sort, some_timetable
+from .timetables import Timetable, each_sort, some_timetable
 from .updates import header_line, header_of_update, some_update, with_same_key
-from .windows import bounded, some_day, some_mask
+from .windows import Odds, bounded, some_day, some_mask
 
 
-def some_published(rng):
+def some_published(rng: Random) -> Timetable:
     """A timetable, some of whose records begin after its window, and some of which stand a second time with other dates.
 
     Now and then its associations are all of one of its trains.
@@ -47,7 +50,7 @@ def some_published(rng):
     return timetable
 
 
-def with_clashes(rng, timetable):
+def with_clashes(rng: Random, timetable: Timetable) -> None:
     """Some keys get short records of one letter, of which many clash with each other or with a record that is there."""
     for records in timetable.associations, timetable.schedules:
         for _ in range(rng.choice([0, 1, 1, 2]) if records else 0):
@@ -66,7 +69,7 @@ def with_clashes(rng, timetable):
                 body = changed(rng, record.kind, body) if rng.random() < 0.7 else body
 
 
-def some_prepare(rng, odds):
+def some_prepare(rng: Random, odds: Odds) -> Tuple[Job, List[bytes]]:
     timetable, drop_clashes = some_published(rng), rng.random() < 0.5
     if drop_clashes and rng.random() < 0.7:
         with_clashes(rng, timetable)
@@ -85,7 +88,7 @@ def some_prepare(rng, odds):
     return job, inputs
 
 
-def some_update_job(rng, odds):
+def some_update_job(rng: Random, odds: Odds) -> Tuple[Job, List[bytes]]:
     timetable, lenient = some_published(rng), rng.random() < 0.4
     astray = rng.choice([0, 0.3 if lenient else odds["astray"]])
     inputs = [spelled_as_published(rng, timetable.lines(), odds)]
@@ -102,17 +105,23 @@ def some_update_job(rng, odds):
     return Job("update", tuple(names), lenient=lenient), inputs
 
 
-def some_feed(rng, command, odds):
+def some_feed(rng: Random, command: str, odds: Odds) -> Tuple[Job, Inputs]:
     """A job of one of these commands, and its inputs."""
-    job, inputs = (some_prepare if command == "prepare" else some_update_job)(rng, odds)
+    job, sound = (some_prepare if command == "prepare" else some_update_job)(rng, odds)
+    inputs: List[Optional[bytes]] = [*sound]
     for at, name in enumerate(names_of(job)):
         if rng.random() < odds["damage"] / len(inputs):
-            inputs[at] = damaged(rng, inputs[at])
+            inputs[at] = damaged(rng, sound[at])
         if name != "-" and rng.random() < odds["no file"]:
             inputs[at] = None
     if rng.random() < odds["mistake"] / 2:
-        job = job._replace(
-            **rng.choice([{"form": "2"}, {"first": "260105"}, {"all": True}, {"stops": True}])
+        job = rng.choice(
+            [
+                job._replace(form="2"),
+                job._replace(first="260105"),
+                job._replace(all=True),
+                job._replace(stops=True),
+            ]
         )
     return job, inputs
 
@@ -120,11 +129,14 @@ def some_feed(rng, command, odds):
 # ---- small ones, with a line of each sort
 
 
-# A job, and the number of the one of its inputs that is to be damaged.
-OfSmall = namedtuple("OfSmall", "job damaged")
+class OfSmall(NamedTuple):
+    """A job, and the number of the one of its inputs that is to be damaged."""
+
+    job: Job
+    damaged: int
 
 
-def small_published(rng):
+def small_published(rng: Random) -> List[bytes]:
     """An extract in which every sort of line of published extracts stands once, and its holidays."""
     first, *lines = each_sort(rng).lines()
     at = next(at for at, line in enumerate(lines) if line[:2] == "BS")
@@ -133,7 +145,7 @@ def small_published(rng):
     return ["\n".join(lines).encode() + b"\n", b"X\n"]
 
 
-def small_update(rng):
+def small_update(rng: Random) -> List[bytes]:
     """A full extract, and such an update, in which each line finds what it needs."""
     timetable = each_sort(rng)
     [value] = timetable.tiplocs
@@ -151,7 +163,7 @@ def small_update(rng):
     ]
 
 
-def small_feeds(rng):
+def small_feeds(rng: Random) -> List[Tuple[List[OfSmall], List[bytes]]]:
     """Jobs of prepare, those of update whose FULL is to be damaged, those whose UPDATE is, and those of check, which are about
     an extract or an update behind a comment; each with the inputs.
     """

@@ -1,11 +1,17 @@
 """Published extracts, and the holidays of their codes."""
-from reference.dates import DAY, from_yymmdd, yymmdd
-from reference.layouts import LAYOUTS, columns_of
+from __future__ import annotations
+
+from datetime import date
+from random import Random
+from typing import List, Tuple
+
+from reference.dates import DAY, day_of, from_yymmdd, yymmdd
+from reference.layouts import LAYOUTS, Field, columns_of
 from reference.values import HOLIDAY_CODES, OPEN_END
 
 from .fields import PRINTABLE, of_width
 from .spelling import some_habits, spelled, with_columns
-from .windows import bounded, some_day
+from .windows import Odds, bounded, some_day
 
 NO_CODES = ("x", "Y", "e", "0", "1", "~")
 NO_COMMENTS = (
@@ -23,28 +29,28 @@ NO_COMMENTS = (
 ODDS_OF_LINES = (0, 0, 0.05, 0.3)
 
 
-def field_of(kind, name):
+def field_of(kind: str, name: str) -> Field:
     return next(field for field in LAYOUTS[kind] if field.name == name)
 
 
-def with_field(line, name, columns):
+def with_field(line: str, name: str, columns: str) -> str:
     return with_columns(line, field_of(line[:2], name), columns)
 
 
-def field_text(line, name):
+def field_text(line: str, name: str) -> str:
     return columns_of(line, field_of(line[:2], name))
 
 
-def some_comment(rng):
+def some_comment(rng: Random) -> str:
     signs = PRINTABLE if rng.random() < 0.7 else PRINTABLE + "\t\0\r\x1b\x7f"
     return "/!!" + of_width(rng, rng.choice([0, 1, 20, 76, 77, 78, 79, 500, 996, 997]), signs)
 
 
-def some_note(rng):
+def some_note(rng: Random) -> str:
     return rng.choice(["TN", "LN"]) + of_width(rng, 78, rng.choice([" ", PRINTABLE]))
 
 
-def with_stray_line(rng, lines):
+def with_stray_line(rng: Random, lines: List[str]) -> List[str]:
     """The lines with one that may not stand there, or only by chance."""
     at = rng.randint(0, len(lines))
     return [
@@ -54,7 +60,7 @@ def with_stray_line(rng, lines):
     ]
 
 
-def published(rng, lines, odds):
+def published(rng: Random, lines: List[str], odds: Odds) -> List[str]:
     """The lines with comments, notes, open ends and holiday codes."""
     open_ends, codes = rng.choice((0, 0.1, 0.5)), rng.choice((0, 0.2, 0.7))
     comments, notes = rng.choice(ODDS_OF_LINES), rng.choice(ODDS_OF_LINES)
@@ -77,13 +83,13 @@ def published(rng, lines, odds):
     return with_stray_line(rng, found) if rng.random() < odds["stray line"] else found
 
 
-def spelled_as_published(rng, lines, odds):
+def spelled_as_published(rng: Random, lines: List[str], odds: Odds) -> bytes:
     return spelled(rng, published(rng, lines, odds), some_habits(rng))
 
 
 # ---- holidays
 
-NO_HOLIDAYS = (
+NO_HOLIDAYS: Tuple[bytes, ...] = (
     b"Y 260406",
     b"X260406",
     b"X 260230",
@@ -116,17 +122,17 @@ NO_HOLIDAYS += tuple(
 )
 
 
-def some_holiday(rng, lines, days):
+def some_holiday(rng: Random, lines: List[str], days: List[date]) -> date:
     """A date: often the day after one of these, or of a record with a code, at its ends or between them."""
     if days and rng.random() < 0.25:
         return bounded(rng.choice(days) + DAY)
-    first, last = (field_text(rng.choice(lines), name) for name in ("first", "last"))
-    first = from_yymmdd(first)
-    last = max(first, from_yymmdd(last) or bounded(first + rng.choice([7, 90, 900]) * DAY))
+    begins, ends = (field_text(rng.choice(lines), name) for name in ("first", "last"))
+    first = day_of(begins)
+    last = max(first, from_yymmdd(ends) or bounded(first + rng.choice([7, 90, 900]) * DAY))
     return rng.choice([first, last, some_day(rng, (first, last)), some_day(rng, (first, last))])
 
 
-def holiday_lines(rng, code, days):
+def holiday_lines(rng: Random, code: str, days: List[date]) -> List[bytes]:
     """Lines that name a code and say its dates, in whatever order, some of them twice."""
     found = [b""] * rng.choice([1, 1, 1, 2, 3])
     for day in rng.sample(days, len(days)):
@@ -138,7 +144,7 @@ def holiday_lines(rng, code, days):
     ]
 
 
-def some_remark(rng):
+def some_remark(rng: Random) -> bytes:
     signs = (
         [byte for byte in range(256) if byte != 0x0A]
         if rng.random() < 0.5
@@ -147,14 +153,14 @@ def some_remark(rng):
     return b"#" + bytes(rng.choices(signs, k=rng.choice([0, 1, 5, 40])))
 
 
-def some_holidays(rng, lines, odds):
+def some_holidays(rng: Random, lines: List[str], odds: Odds) -> bytes:
     """A text of holidays, which names most codes of these lines."""
     found = [rng.choice([b"", b"", b"   "]) for _ in range(rng.choice([0, 0, 1, 3]))]
     for code in HOLIDAY_CODES:
         of_code = [
             line for line in lines if line[:2] == "BS" and field_text(line, "bank_holiday") == code
         ]
-        days = []
+        days: List[date] = []
         for _ in range(rng.choice([0, 1, 2, 4, 12]) if of_code else 0):
             days.append(some_holiday(rng, of_code, days))
         if rng.random() < (1 - odds["no code"] if of_code else 0.5):

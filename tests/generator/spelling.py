@@ -1,8 +1,13 @@
 """Other lines that spell the same records: texts moved in their columns, activities with gaps, and filled spare columns."""
+from __future__ import annotations
+
 from dataclasses import dataclass
+from random import Random
+from typing import Callable, Dict, List
 
 from reference import values
-from reference.layouts import BODIES, LAYOUTS, WIDTH, columns_of, read_fields
+from reference.faults import Reader
+from reference.layouts import BODIES, LAYOUTS, WIDTH, Field, columns_of, read_fields
 
 from .fields import COMMON, PRINTABLE, of_width
 
@@ -20,7 +25,7 @@ class Habits:
 PLAIN = Habits(0, 0, 0, True)
 
 
-def some_habits(rng):
+def some_habits(rng: Random) -> Habits:
     if rng.random() < 0.3:
         return PLAIN
     odds = (0, 0, 0.1, 0.6)
@@ -29,12 +34,12 @@ def some_habits(rng):
     )
 
 
-def moved_text(rng, columns):
+def moved_text(rng: Random, columns: str) -> str:
     word = columns.strip(" ")
     return word.rjust(rng.randint(len(word), len(columns))).ljust(len(columns))
 
 
-def with_gaps(rng, columns):
+def with_gaps(rng: Random, columns: str) -> str:
     """Activities in other pairs of columns, in their order."""
     codes = [
         columns[at : at + 2] for at in range(0, len(columns), 2) if columns[at : at + 2] != "  "
@@ -44,10 +49,13 @@ def with_gaps(rng, columns):
     return "".join(codes)
 
 
-MOVES = {values.text: moved_text, values.activities: with_gaps}
+MOVES: Dict[Reader, Callable[[Random, str], str]] = {
+    values.text: moved_text,
+    values.activities: with_gaps,
+}
 
 
-def meaningful_fields(kind, line):
+def meaningful_fields(kind: str, line: str) -> List[Field]:
     """The fields of a line but for those that a cancellation lacks, or a deleted record."""
     return [
         field
@@ -56,13 +64,13 @@ def meaningful_fields(kind, line):
     ]
 
 
-def with_columns(line, field, columns):
+def with_columns(line: str, field: Field, columns: str) -> str:
     return (
         line[: field.first - 1] + columns.ljust(field.last - field.first + 1) + line[field.last :]
     )
 
 
-def with_one_moved(rng, line):
+def with_one_moved(rng: Random, line: str) -> str:
     """The line with another text in one field, before which spaces stand; often the only one. AA, which has a key, stays."""
     fields = [field for field in meaningful_fields(line[:2], line) if field.read in MOVES]
     places = [
@@ -77,7 +85,7 @@ def with_one_moved(rng, line):
     return with_columns(line, field, " " * skipped + word)
 
 
-def respelled(rng, line, habits):
+def respelled(rng: Random, line: str, habits: Habits) -> str:
     """A line that spells what the plain line does; a comment or a note stays."""
     if not LAYOUTS.get(line[:2]) or not habits.moved and not habits.filled:
         return line
@@ -91,7 +99,7 @@ def respelled(rng, line, habits):
     return found
 
 
-def spelled(rng, lines, habits):
+def spelled(rng: Random, lines: List[str], habits: Habits) -> bytes:
     """The bytes of an extract whose plain lines these are."""
     data = b""
     for line in lines:

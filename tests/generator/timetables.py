@@ -1,14 +1,19 @@
 """Extracts by chance: a window, a few keys, and for each of them records that overlap in all ways."""
+from __future__ import annotations
+
 from dataclasses import dataclass, field, replace
 from datetime import date
+from random import Random
+from typing import Dict, List, Optional
 
-from reference.dates import DAY, ddmmyy, yymmdd
+from reference.dates import DAY, Window, ddmmyy, yymmdd
 from reference.layouts import plain
 
 from .fields import (
     COMMON,
     PRINTABLE,
     Body,
+    Pairs,
     changed,
     full_body,
     lines_behind,
@@ -40,20 +45,20 @@ class Record:
     """A record about an association or a train; that of a cancellation has a body without meaning."""
 
     kind: str
-    key: tuple
+    key: Pairs
     first: date
     last: date
     days: str
     letter: str
     body: Body
 
-    def lines(self):
+    def lines(self) -> List[str]:
         fields = {**dict(self.key), **dict(self.body.fields)}
         fields |= {"transaction": "N", "bank_holiday": " ", "letter": self.letter}
         fields |= {"first": yymmdd(self.first), "last": yymmdd(self.last), "days": self.days}
         return [plain(self.kind, fields), *lines_behind(self.body)]
 
-    def applies(self, day):
+    def applies(self, day: date) -> bool:
         return self.first <= day <= self.last and self.days[day.weekday()] == "1"
 
 
@@ -61,13 +66,13 @@ class Record:
 class Timetable:
     """An extract before it is spelled."""
 
-    header: dict
-    window: tuple
-    tiplocs: list = field(default_factory=list)
-    associations: list = field(default_factory=list)
-    schedules: list = field(default_factory=list)
+    header: Dict[str, str]
+    window: Window
+    tiplocs: List[str] = field(default_factory=list)
+    associations: List[Record] = field(default_factory=list)
+    schedules: List[Record] = field(default_factory=list)
 
-    def copy(self):
+    def copy(self) -> Timetable:
         return Timetable(
             self.header,
             self.window,
@@ -76,7 +81,7 @@ class Timetable:
             list(self.schedules),
         )
 
-    def lines(self):
+    def lines(self) -> List[str]:
         """The plain lines."""
         first, last = self.window
         header = plain("HD", self.header | {"first": ddmmyy(first), "last": ddmmyy(last)})
@@ -88,7 +93,7 @@ class Timetable:
 # ---- records of a key
 
 
-def clash(record, other, window):
+def clash(record: Record, other: Record, window: Window) -> Optional[date]:
     """The first date on which two records of one letter apply with different bodies, or None."""
     if record.letter != other.letter or record.letter == "C" or record.body == other.body:
         return None
@@ -99,7 +104,9 @@ def clash(record, other, window):
     )
 
 
-def beside(rng, record, before, window, clashes):
+def beside(
+    rng: Random, record: Record, before: List[Record], window: Window, clashes: float
+) -> List[Record]:
     """The records that stand for this one behind those before; clashes says how likely it is that a clash is left."""
     for _ in range(4):
         clashing = [other for other in before if clash(record, other, window)]
@@ -118,7 +125,7 @@ def beside(rng, record, before, window, clashes):
     return []
 
 
-def as_it_may_stand(rng, record):
+def as_it_may_stand(rng: Random, record: Record) -> Record:
     """The record; of a cancellation what may stand in it: nothing, or a BX, a journey or both."""
     if record.letter != "C" or record.kind == "AA" or rng.random() < 0.2:
         return record
@@ -129,13 +136,19 @@ def as_it_may_stand(rng, record):
     )
 
 
-def records_of_key(rng, kind, key, window, clashes):
+def records_of_key(
+    rng: Random,
+    kind: str,
+    key: Pairs,
+    window: Window,
+    clashes: float,
+) -> List[Record]:
     bodies = [some_body(rng, kind)]
     for _ in range(rng.choice([0, 1, 1, 1, 2, 3])):
         bodies.append(
             changed(rng, kind, rng.choice(bodies)) if rng.random() < 0.8 else some_body(rng, kind)
         )
-    records = []
+    records: List[Record] = []
     for _ in range(rng.choice([1, 2, 3, 3, 4, 4, 5, 6, 8, 12])):
         letter = rng.choices("PONC", [50, 22, 10, 18])[0]
         days = some_mask(rng, [record.days for record in records])
@@ -147,11 +160,11 @@ def records_of_key(rng, kind, key, window, clashes):
 # ---- whole extracts
 
 
-def some_uid(rng):
+def some_uid(rng: Random) -> str:
     return rng.choice(UIDS) if rng.random() < 0.7 else "A" + of_width(rng, 5, COMMON + " ")
 
 
-def association_key(rng, before):
+def association_key(rng: Random, before: List[Pairs]) -> Pairs:
     """A key, often one that differs in one part from a key before, has its first parts alone, or its trains the other way."""
     parts = {
         "base": some_uid(rng),
@@ -169,9 +182,9 @@ def association_key(rng, before):
     return tuple(parts.items())
 
 
-def some_keys(rng, kind):
+def some_keys(rng: Random, kind: str) -> List[Pairs]:
     """A few keys; now and then a dozen, and rarely a hundred."""
-    keys = []
+    keys: List[Pairs] = []
     for _ in range(rng.choices([0, 1, 2, 3, 12, 100], [160, 475, 160, 155, 45, 5])[0]):
         key = association_key(rng, keys) if kind == "AA" else (("uid", some_uid(rng)),)
         if key not in keys:
@@ -179,7 +192,7 @@ def some_keys(rng, kind):
     return keys
 
 
-def some_header(rng):
+def some_header(rng: Random) -> Dict[str, str]:
     widths = {
         "mainframe": 20,
         "date_of_extract": 6,
@@ -195,11 +208,11 @@ def some_header(rng):
     )
 
 
-def some_tiplocs(rng):
+def some_tiplocs(rng: Random) -> List[str]:
     """Columns 3-72 of TI records; some stand twice, some differ in one column, and rarely there are many."""
     if rng.random() < 0.01:
         return [of_width(rng, 70, COMMON) for _ in range(rng.randint(500, 3000))]
-    found = []
+    found: List[str] = []
     for _ in range(rng.choice([0, 0, 1, 2, 3, 6])):
         chance = rng.random()
         if found and chance < 0.3:
@@ -212,7 +225,7 @@ def some_tiplocs(rng):
     return found
 
 
-def some_timetable(rng, clashes=None):
+def some_timetable(rng: Random, clashes: Optional[float] = None) -> Timetable:
     """An extract that is well formed; clashes says how likely they are, and where it isn't given, most have none."""
     timetable = Timetable(some_header(rng), some_window(rng), some_tiplocs(rng))
     clashes = rng.choice([0, 0, 0, 0, 0.1, 0.3]) if clashes is None else clashes
@@ -224,7 +237,7 @@ def some_timetable(rng, clashes=None):
     return timetable
 
 
-def each_sort(rng):
+def each_sort(rng: Random) -> Timetable:
     """A small extract with a line of each sort: of what runs, and of cancellations with all lines that may stand in them."""
     first, _ = some_window(rng)
     window = first, bounded(first + 6 * DAY)
@@ -232,7 +245,7 @@ def each_sort(rng):
         some_header(rng), window, [rng.choice(LOCATIONS) + of_width(rng, 63, COMMON)]
     )
 
-    def record(kind, key, letter):
+    def record(kind: str, key: Pairs, letter: str) -> Record:
         return Record(kind, key, *window, "1111111", letter, full_body(rng, kind))
 
     key = association_key(rng, [])

@@ -1,14 +1,19 @@
 """Updates: lines that change what is there, or that can't."""
-from dataclasses import replace
+from __future__ import annotations
 
-from reference.dates import DAY, ddmmyy
+from dataclasses import replace
+from datetime import date
+from random import Random
+from typing import Dict, List, Tuple
+
+from reference.dates import DAY, Window, ddmmyy
 from reference.layouts import plain
 
-from .fields import COMMON, changed, of_width, some_body
+from .fields import COMMON, Pairs, changed, of_width, some_body
 from .published import with_field
 from .spelling import Habits, respelled
-from .timetables import LOCATIONS, Record, as_it_may_stand, some_header, some_uid
-from .windows import bounded, some_mask, some_span, some_window, with_one_end_moved
+from .timetables import LOCATIONS, Record, Timetable, as_it_may_stand, some_header, some_uid
+from .windows import Odds, bounded, some_mask, some_span, some_window, with_one_end_moved
 
 RUBBISH = Habits(0, 1, 0, True)
 
@@ -16,11 +21,11 @@ RUBBISH = Habits(0, 1, 0, True)
 STEPS = (0, 1, 2, 3, 6)
 
 
-def place_of(record):
+def place_of(record: Record) -> Tuple[Pairs, date, str]:
     return record.key, record.first, record.letter
 
 
-def with_same_key(rng, timetable, record):
+def with_same_key(rng: Random, timetable: Timetable, record: Record) -> Record:
     """A record that an update knows by the same key, with another last date, other days and often another body."""
     body = record.body
     if record.letter != "C":
@@ -29,7 +34,7 @@ def with_same_key(rng, timetable, record):
     return replace(record, last=last, days=some_mask(rng, [record.days]), body=body)
 
 
-def with_another_key(rng, record):
+def with_another_key(rng: Random, record: Record) -> Record:
     """A record that differs from this one in its key, in one part of it."""
     part = rng.choice(["first", "letter", "key"])
     if part == "first":
@@ -50,8 +55,8 @@ def with_another_key(rng, record):
     return replace(record, letter=rng.choice("PON"), body=some_body(rng, record.kind))
 
 
-def some_record(rng, timetable, kind):
-    key = (("uid", some_uid(rng)),)
+def some_record(rng: Random, timetable: Timetable, kind: str) -> Record:
+    key: Pairs = (("uid", some_uid(rng)),)
     if kind == "AA":
         key = tuple(
             zip(
@@ -66,7 +71,14 @@ def some_record(rng, timetable, kind):
     )
 
 
-def one_to_change(rng, timetable, kind, records, gone, there):
+def one_to_change(
+    rng: Random,
+    timetable: Timetable,
+    kind: str,
+    records: List[Record],
+    gone: List[Record],
+    there: bool,
+) -> Record:
     """A record whose key is there, or isn't, as far as that can be had; gone has some that were there."""
     if there and records:
         return with_same_key(rng, timetable, rng.choice(records))
@@ -84,7 +96,7 @@ def one_to_change(rng, timetable, kind, records, gone, there):
     return as_it_may_stand(rng, record)
 
 
-def lines_of_deletion(rng, record):
+def lines_of_deletion(rng: Random, record: Record) -> List[str]:
     """A deleted record, with anything in the columns that aren't read; behind a BS there may be a BX and a journey."""
     first, *behind = record.lines()
     first = with_field(first, "transaction", "D")
@@ -92,15 +104,19 @@ def lines_of_deletion(rng, record):
     extra, journey = (
         [line for line in behind if (line[:2] == "BX") == is_extra] for is_extra in (True, False)
     )
-    return [first, *rng.choice([[], [], [], extra, journey, behind])]
+    further: List[List[str]] = [[], [], [], extra, journey, behind]
+    return [first, *rng.choice(further)]
 
 
-def update_of_records(rng, timetable, kind, records, astray):
+def update_of_records(
+    rng: Random, timetable: Timetable, kind: str, records: List[Record], astray: float
+) -> Tuple[List[str], List[Record]]:
     """The lines of an update about the records of one kind, and the records after it.
 
     Astray says how likely a line can't do what it says.
     """
-    lines, gone = [], []
+    lines: List[str] = []
+    gone: List[Record] = []
     for _ in range(rng.choice(STEPS)):
         transaction = rng.choice("NNRRD" if records else "N")
         there = (transaction != "N") != (rng.random() < astray)
@@ -119,7 +135,7 @@ def update_of_records(rng, timetable, kind, records, astray):
     return lines, records
 
 
-def some_tiploc(rng, tiplocs, there):
+def some_tiploc(rng: Random, tiplocs: List[str], there: bool) -> str:
     """Columns 3-9 of a TIPLOC that is there, or of one that isn't."""
     names = {tiploc[:7] for tiploc in tiplocs}
     if there and names:
@@ -128,7 +144,9 @@ def some_tiploc(rng, tiplocs, there):
     return rng.choice(others)
 
 
-def update_of_tiplocs(rng, tiplocs, astray):
+def update_of_tiplocs(
+    rng: Random, tiplocs: List[str], astray: float
+) -> Tuple[List[str], List[str]]:
     """The same of TIPLOCs."""
     lines = []
     for _ in range(rng.choice(STEPS)):
@@ -148,7 +166,7 @@ def update_of_tiplocs(rng, tiplocs, astray):
     return lines, tiplocs
 
 
-def last_reference(rng, header, astray):
+def last_reference(rng: Random, header: Dict[str, str], astray: float) -> str:
     """The last reference of an update to an extract with this header."""
     current = header["current_file"]
     if rng.random() >= astray:
@@ -162,7 +180,7 @@ def last_reference(rng, header, astray):
     return rng.choice([header["last_file"], of_width(rng, 7, COMMON), *others])
 
 
-def header_of_update(rng, before, astray):
+def header_of_update(rng: Random, before: Dict[str, str], astray: float) -> Dict[str, str]:
     """The header of an update to a timetable that has that one before."""
     header = some_header(rng) | {"update": "U", "last_file": last_reference(rng, before, astray)}
     return (
@@ -172,12 +190,14 @@ def header_of_update(rng, before, astray):
     )
 
 
-def header_line(header, window):
+def header_line(header: Dict[str, str], window: Window) -> str:
     first, last = window
     return plain("HD", {**header, "first": ddmmyy(first), "last": ddmmyy(last)})
 
 
-def some_update(rng, timetable, odds, astray):
+def some_update(
+    rng: Random, timetable: Timetable, odds: Odds, astray: float
+) -> Tuple[List[str], Timetable]:
     """The lines of an update, and the timetable after it."""
     after = timetable.copy()
     after.window = rng.choice(

@@ -1,9 +1,16 @@
 """Windows, dates and weekdays by chance: often at the ends of weeks, years, Februaries and of the calendar."""
-from datetime import date
+from __future__ import annotations
 
-from reference.dates import DAY, FIRST_OF_ALL, LAST_OF_ALL, WEEK, monday_of
+from datetime import date
+from random import Random
+from typing import List, Mapping
+
+from reference.dates import DAY, FIRST_OF_ALL, LAST_OF_ALL, WEEK, Window, monday_of
 
 from .fields import of_width
+
+# How likely each fault is, by its name.
+Odds = Mapping[str, float]
 
 MASKS = (
     "1111111",
@@ -20,11 +27,11 @@ MASKS = (
 LENGTHS = {(1, 1): 6, (2, 7): 17, (8, 21): 33, (22, 61): 26, (62, 200): 14, (201, 1200): 4}
 
 
-def bounded(day):
+def bounded(day: date) -> date:
     return min(max(day, FIRST_OF_ALL), LAST_OF_ALL)
 
 
-def some_start(rng):
+def some_start(rng: Random) -> date:
     """A first date: often of no note, or near an end of the calendar, of a year or of February."""
     chance = rng.random()
     any_date = FIRST_OF_ALL + rng.randrange((LAST_OF_ALL - FIRST_OF_ALL).days) * DAY
@@ -39,7 +46,7 @@ def some_start(rng):
     return any_date
 
 
-def some_window(rng):
+def some_window(rng: Random) -> Window:
     """First and last date; rarely all dates that there are."""
     if rng.random() < 0.005:
         return FIRST_OF_ALL, LAST_OF_ALL
@@ -54,7 +61,7 @@ def some_window(rng):
     return first, bounded(first + length - DAY)
 
 
-def with_one_end_moved(rng, window):
+def with_one_end_moved(rng: Random, window: Window) -> Window:
     """The window with one of its ends a few days earlier or later."""
     first, last = window
     days = rng.choice([-7, -2, -1, 1, 2, 7]) * DAY
@@ -65,17 +72,17 @@ def with_one_end_moved(rng, window):
     )
 
 
-def some_day(rng, window):
+def some_day(rng: Random, window: Window) -> date:
     first, last = window
     return first + rng.randint(0, (last - first).days) * DAY
 
 
-def some_part(rng, window):
+def some_part(rng: Random, window: Window) -> List[date]:
     """First and last date of a part of a window."""
     return sorted([some_day(rng, window), some_day(rng, window)])
 
 
-def some_span(rng, window):
+def some_span(rng: Random, window: Window) -> Window:
     """First and last date of a record: over the whole window, over one of its ends, inside it or outside."""
     first, last = window
     day = some_day(rng, window)
@@ -95,7 +102,7 @@ def some_span(rng, window):
     return bounded(start), bounded(end)
 
 
-def some_mask(rng, masks):
+def some_mask(rng: Random, masks: List[str]) -> str:
     """Days run, now and then those that one of these masks lacks."""
     chance = rng.random()
     if chance < 0.55:

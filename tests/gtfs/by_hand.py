@@ -1,11 +1,15 @@
 """What special.cif becomes, against expected.txt, with and without files of the user."""
+from __future__ import annotations
+
 import csv
 import io
 import re
 from datetime import date
 from pathlib import Path
+from typing import Dict, List, Tuple
 
-from .feeds import Feed
+from .checks import Counts, Maker
+from .feeds import Feed, Shown
 from .validator import ERROR, notices
 
 HERE = Path(__file__).resolve().parent
@@ -26,9 +30,9 @@ INTERCHANGE = "minutes,crs\n5,ALP\n0,BET\n7,ZZZ\n"
 LINKS = "from,to,minutes\nBET,GAM,12\nALP,ZZZ,1\nUNU,ALP,2\n"
 
 
-def sections():
+def sections() -> Dict[str, List[str]]:
     """The sections of expected.txt by their names."""
-    found = {}
+    found: Dict[str, List[str]] = {}
     for line in (HERE / "expected.txt").read_text().splitlines():
         if line.startswith("== "):
             lines = found[line[3:]] = []
@@ -37,27 +41,27 @@ def sections():
     return found
 
 
-def clock(seconds):
+def clock(seconds: int) -> str:
     return f"{seconds // 3600:02}:{seconds // 60 % 60:02}"
 
 
-def call_text(call):
+def call_text(call: Tuple[str, int, int, str, str]) -> str:
     stop, arrival, departure, set_down, pick_up = call
     times = clock(arrival) if arrival == departure else f"{clock(arrival)}>{clock(departure)}"
     sign = {"00": "", "10": "+", "01": "-", "11": "x"}[set_down + pick_up]
     return f"{stop} {times}{sign}"
 
 
-def trip_text(trip):
+def trip_text(trip: Shown) -> str:
     return " ".join([trip.uid, *map(call_text, trip.calls)])
 
 
-def link_text(link):
+def link_text(link: Tuple[Shown, ...]) -> str:
     one, other = link
     return " ".join((one.uid, one.calls[-1][0], other.uid, other.calls[0][0]))
 
 
-def check_dates(counts, want, feed):
+def check_dates(counts: Counts, want: Dict[str, List[str]], feed: Feed) -> None:
     for name in want:
         if found := re.fullmatch(r"(trips|links) on (\d\d)(\d\d)(\d\d)", name):
             on_date = feed.on(date(2000 + int(found[2]), int(found[3]), int(found[4])))
@@ -69,7 +73,7 @@ def check_dates(counts, want, feed):
             counts.same(f"special.cif by hand, {name}", want[name], sorted(got))
 
 
-def uids_of(files):
+def uids_of(files: Dict[str, str]) -> Dict[str, str]:
     """The UIDs of special.cif, by what ids have of them."""
     names = {
         row["trip_id"].rpartition("-")[0]
@@ -78,7 +82,7 @@ def uids_of(files):
     return {name: name.replace("_", " ") for name in names}
 
 
-def check_named(counts, want, maker, special):
+def check_named(counts: Counts, want: Dict[str, List[str]], maker: Maker, special: Path) -> None:
     for name, text in (
         ("places", PLACES),
         ("operators", OPERATORS),
@@ -109,7 +113,7 @@ def check_named(counts, want, maker, special):
         counts.same(f"special.cif with names, all {name}", want[f"{name} with names"], got)
 
 
-def check(counts, maker, special):
+def check(counts: Counts, maker: Maker, special: Path) -> None:
     want = sections()
     done, files = maker.feed(special)
     counts.same("special.cif by hand, status", 1, done.returncode)

@@ -1,14 +1,28 @@
 """What the tests share: counting, running the programs, and looking at a whole feed."""
+from __future__ import annotations
+
 import csv
 import subprocess
 import zipfile
 from collections import Counter, defaultdict
-from datetime import timedelta
+from datetime import date, timedelta
 from pathlib import Path
+from typing import (
+    AbstractSet,
+    Dict,
+    FrozenSet,
+    Iterable,
+    List,
+    Mapping,
+    Sequence,
+    Tuple,
+    TypeVar,
+    Union,
+)
 
 from . import network
-from .definition import days_of, expected, table_rows
-from .feeds import EXTENDED_TYPES, TYPES, Feed, Names, active_services, coded, rows_of, shown
+from .definition import Content, Days, Expected, Row, days_of, expected, table_rows
+from .feeds import EXTENDED_TYPES, TYPES, Feed, Names, Shown, active_services, coded, rows_of, shown
 from .journeys import by_definition, by_feed, transfers_of
 from .validator import ERROR, notices
 
@@ -28,29 +42,33 @@ FILES = (
 # The warnings that are known: nobody is named who answers for a feed.
 KNOWN_WARNINGS = {"missing_feed_contact_email_and_url"}
 
+Item = TypeVar("Item")
+# A word of a command.
+Word = Union[Path, str]
+
 
 class Counts:
     """The tests that passed and failed. A failure is printed with what is wrong."""
 
-    def __init__(self):
+    def __init__(self) -> None:
         self.passed = self.failed = 0
 
-    def test(self, name, right, found=""):
+    def test(self, name: str, right: object, found: object = "") -> None:
         self.passed, self.failed = self.passed + bool(right), self.failed + (not right)
         if not right:
             print(f"{name}: {str(found)[:1500]}")
 
-    def same(self, name, want, got):
+    def same(self, name: str, want: object, got: object) -> None:
         self.test(name, want == got, f"wanted {want!r}, got {got!r}")
 
 
 class Source:
     """What cif says of an extract."""
 
-    def __init__(self, cif, path):
+    def __init__(self, cif: Path, path: Path) -> None:
         self.cif, self.path = cif, path
 
-    def lines(self, *words):
+    def lines(self, *words: str) -> List[str]:
         done = subprocess.run(
             [self.cif, *words, self.path], capture_output=True, check=True, text=True
         )
@@ -60,18 +78,15 @@ class Source:
 class Maker:
     """Runs cif-gtfs in a folder."""
 
-    def __init__(self, cif, folder):
+    def __init__(self, cif: Path, folder: Path) -> None:
         self.cif, self.folder = cif, folder
 
-    def run(self, *words, program="cif-gtfs"):
-        words = [
-            COMPANIONS / program,
-            *(("--cif", self.cif) if program == "cif-gtfs" else ()),
-            *words,
-        ]
-        return subprocess.run(words, cwd=self.folder, capture_output=True, text=True, check=False)
+    def run(self, *words: Word, program: str = "cif-gtfs") -> subprocess.CompletedProcess[str]:
+        named: List[Word] = ["--cif", self.cif] if program == "cif-gtfs" else []
+        call = [COMPANIONS / program, *named, *words]
+        return subprocess.run(call, cwd=self.folder, capture_output=True, text=True, check=False)
 
-    def feed(self, *words):
+    def feed(self, *words: Word) -> Tuple[subprocess.CompletedProcess[str], Dict[str, str]]:
         """The answer, and the files of the zip it has made, as texts by their names."""
         made = self.folder / "feed.zip"
         made.unlink(missing_ok=True)
@@ -85,7 +100,7 @@ class Maker:
             }
 
 
-def made_places(names):
+def made_places(names: Iterable[str]) -> List[Row]:
     """A row of places.csv for each place, with a name and coordinates of its own, near to the others."""
     return [
         {
@@ -98,30 +113,34 @@ def made_places(names):
     ]
 
 
-def write_csv(path, rows):
+def write_csv(path: Path, rows: Sequence[Mapping[str, object]]) -> None:
     with path.open("w", newline="", encoding="utf-8") as file:
         writer = csv.DictWriter(file, rows[0])
         writer.writeheader()
         writer.writerows(rows)
 
 
-def first_difference(want, got):
+def first_difference(want: AbstractSet[Item], got: AbstractSet[Item]) -> str:
     """What one of two has and the other lacks, for the first few."""
     return f"lacks {list(want - got)[:2]}, has {list(got - want)[:2]}"
 
 
-def left_out_of(text, what):
+def same_counts(counts: Counts, name: str, want: Counter[Item], got: Counter[Item]) -> None:
+    counts.test(name, want == got, first_difference(want.items(), got.items()))
+
+
+def left_out_of(text: str, what: str) -> int:
     """How many dates of associations, or of trains, are reported to be left out."""
     return sum(
         int(line.rpartition(": ")[2]) for line in text.splitlines() if f"{what} left out" in line
     )
 
 
-def check_feed(counts, maker, source):
+def check_feed(counts: Counts, maker: Maker, source: Source) -> None:
     """A feed is valid; on each date it has the trips and the links that the definition has; and it has no trip twice."""
     name, days = source.path.name, days_of(source)
     locations = {
-        stop["location"]
+        stop.cells["location"]
         for day in days.values()
         for train in day.trains.values()
         for stop in train.stops
@@ -157,24 +176,25 @@ def check_feed(counts, maker, source):
         counts.same(f"{name}, trains left out", not_for_riders, left_out_of(done.stderr, "trains"))
 
 
-def compare(counts, name, days, feed, names, want):
+def compare(
+    counts: Counts, name: str, days: Days, feed: Feed, names: Names, want: Expected
+) -> None:
     """Date by date what a feed has and what it has to have."""
 
-    def as_shown(contents):
+    def as_shown(contents: Iterable[Content]) -> Tuple[Shown, ...]:
         return tuple(shown(content, names) for content in contents)
 
     for day in days:
         got = feed.on(day)
-        for what, wanted, found in (
-            ("trips", Counter(as_shown(want.trips[day].elements())), got.trips),
-            ("links", Counter(map(as_shown, want.links[day])), Counter(got.links)),
-            ("blocks", Counter(map(as_shown, want.blocks[day].elements())), got.blocks),
-        ):
-            unequal = first_difference(wanted.items(), found.items())
-            counts.test(f"{name}, {what} on {day}", wanted == found, unequal)
+        trips = Counter(as_shown(want.trips[day].elements()))
+        same_counts(counts, f"{name}, trips on {day}", trips, got.trips)
+        links = Counter(map(as_shown, want.links[day]))
+        same_counts(counts, f"{name}, links on {day}", links, Counter(got.links))
+        blocks = Counter(map(as_shown, want.blocks[day].elements()))
+        same_counts(counts, f"{name}, blocks on {day}", blocks, got.blocks)
     counts.test(f"{name}, links on no date", not feed.idle_links(days), feed.idle_links(days)[:2])
     counts.same(f"{name}, the number of distinct trips", want.distinct, len(feed.trips))
-    dates = Counter()
+    dates: Counter[FrozenSet[date]] = Counter()
     for service in feed.of_service:
         dates[frozenset(day for day in days if service in active_services(feed.rows, day))] += 1
     counts.test(
@@ -184,7 +204,7 @@ def compare(counts, name, days, feed, names, want):
     )
 
 
-def check_records(counts, name, days, feed, rows):
+def check_records(counts: Counts, name: str, days: Days, feed: Feed, rows: List[Row]) -> None:
     """On each date each trip is of one schedule, which applies on the date of its train."""
     of_trip, idle = defaultdict(list), {tuple(row.values()) for row in rows}
     for row in rows:
@@ -204,7 +224,7 @@ def check_records(counts, name, days, feed, rows):
     counts.test(f"{name}, schedules of trips on no date", not idle, list(idle)[:2])
 
 
-def is_of_train(row, days, day):
+def is_of_train(row: Row, days: Days, day: date) -> bool:
     """Whether a row has what the schedule of its train has."""
     train = days[day + timedelta(days=int(row["days_later"]))].public[row["uid"]].row
     names = ("first_date", "last_date", "days_run")
@@ -213,7 +233,7 @@ def is_of_train(row, days, day):
     ]
 
 
-def applies(row, day):
+def applies(row: Row, day: date) -> bool:
     return (
         row["first_date"] <= day.isoformat() <= row["last_date"]
         and row["days_run"][day.weekday()] == "1"
@@ -225,7 +245,9 @@ def applies(row, day):
 CHANGE, WALK = 5, 12
 
 
-def check_journeys(counts, maker, source, queries):
+def check_journeys(
+    counts: Counts, maker: Maker, source: Source, queries: List[Tuple[str, int]]
+) -> None:
     """Who searches a feed arrives when the definition says, whether the planner knows linked trips, or blocks alone, or none."""
     days = days_of(source)
     places = made_places(network.STATIONS)

@@ -1,4 +1,6 @@
 """What is refused, that a failure leaves nothing, and what stays the same from run to run."""
+from __future__ import annotations
+
 import gzip
 import io
 import os
@@ -11,15 +13,17 @@ import time
 import zipfile
 from collections import defaultdict
 from datetime import date, timedelta
+from pathlib import Path
+from typing import DefaultDict, Dict, FrozenSet, List, Optional, Set, Tuple
 
 from cif_gtfs import trips
 from cif_gtfs.trains import about_of
 from cif_shared.endings import Refused
 from cif_shared.tables import rows_with
 
-from .checks import COMPANIONS, TOP, Maker
-from .feeds import Feed, active_services
 from .by_hand import uids_of
+from .checks import COMPANIONS, TOP, Counts, Maker, Word
+from .feeds import Feed, Shown, active_services
 
 # A file of each kind, with what is told of it.
 BAD_FILES = {
@@ -123,11 +127,18 @@ exec "{cif}" "$@"
 """
 
 
-def left(maker):
+def left(maker: Maker) -> List[str]:
     return sorted(path.name for path in maker.folder.iterdir())
 
 
-def refused(counts, maker, name, status, told, *words):
+def refused(
+    counts: Counts,
+    maker: Maker,
+    name: str,
+    status: int,
+    told: Optional[List[str]],
+    *words: Word,
+) -> None:
     """Whether a run ends with the status, tells these lines or any, and leaves the folder as it was."""
     before = left(maker)
     done = maker.run(*map(str, words))
@@ -140,7 +151,7 @@ def refused(counts, maker, name, status, told, *words):
     counts.same(f"{name}, what is left", before, left(maker))
 
 
-def check_user_files(counts, maker, special):
+def check_user_files(counts: Counts, maker: Maker, special: Path) -> None:
     for files in BAD_FILES, BAD_HEADINGS:
         for kind, (text, told) in files.items():
             (maker.folder / "bad.csv").write_text(text)
@@ -162,7 +173,7 @@ def check_user_files(counts, maker, special):
             )
 
 
-def check_other_files(counts, maker, special):
+def check_other_files(counts: Counts, maker: Maker, special: Path) -> None:
     for name, (data, told) in OTHER_FILES.items():
         (maker.folder / "bad.csv").write_bytes(data)
         lines = None if told is None else [f"cif-gtfs: bad.csv: {told}"]
@@ -180,7 +191,7 @@ def check_other_files(counts, maker, special):
     refused(counts, maker, "an endless file", 3, endless, "--places", "/dev/zero", special)
 
 
-def check_outputs(counts, maker, special):
+def check_outputs(counts: Counts, maker: Maker, special: Path) -> None:
     """An output is a file, or a link to one, and what was there stays if it isn't."""
     folder = maker.folder
     os.mkfifo(folder / "fifo")
@@ -217,7 +228,7 @@ def check_outputs(counts, maker, special):
     )
 
 
-def check_wanted(counts, maker, special):
+def check_wanted(counts: Counts, maker: Maker, special: Path) -> None:
     """An older list of places without coordinates goes when no place is without, but not if somebody has filled it in."""
     folder = maker.folder / "folder"
     wanted = folder / "places-wanted.csv"
@@ -242,13 +253,13 @@ def check_wanted(counts, maker, special):
         (maker.folder / name).unlink()
 
 
-def check_pipes(counts, maker, special):
+def check_pipes(counts: Counts, maker: Maker, special: Path) -> None:
     """An extract from standard input, or from a pipe, makes the same feed."""
     want = maker.feed(special)[1]
     feed = maker.folder / "feed.zip"
     for name in "-", "/dev/stdin":
         feed.unlink()
-        words = [COMPANIONS / "cif-gtfs", "--cif", maker.cif, "-o", feed, name]
+        words: List[Word] = [COMPANIONS / "cif-gtfs", "--cif", maker.cif, "-o", feed, name]
         done = subprocess.run(
             words, input=special.read_bytes(), capture_output=True, cwd=maker.folder, check=False
         )
@@ -263,7 +274,7 @@ def check_pipes(counts, maker, special):
     (maker.folder / "places-wanted.csv").unlink()
 
 
-def check_hints(counts, maker, special):
+def check_hints(counts: Counts, maker: Maker, special: Path) -> None:
     """What cif says of an input that isn't an extract helps."""
     packed, update = maker.folder / "packed.gz", EXAMPLES / "update.cif"
     packed.write_bytes(gzip.compress(special.read_bytes()))
@@ -280,12 +291,12 @@ def check_hints(counts, maker, special):
         )
 
 
-def check_space(counts, maker, special):
+def check_space(counts: Counts, maker: Maker, special: Path) -> None:
     """Where temporary files can't be written, their folder is named."""
     temporary = maker.folder / "temporary"
     temporary.mkdir()
     limited = 'ulimit -f 2; TMPDIR=$1; export TMPDIR; shift; exec "$@"'
-    words = [
+    words: List[Word] = [
         "sh",
         "-c",
         limited,
@@ -304,7 +315,7 @@ def check_space(counts, maker, special):
     temporary.rmdir()
 
 
-def check_version(counts, maker):
+def check_version(counts: Counts, maker: Maker) -> None:
     version = subprocess.run([maker.cif, "--version"], capture_output=True, text=True, check=False)
     number = version.stdout.partition(" ")[2]
     for program in "cif-gtfs", "cif-gtfs-csv":
@@ -312,7 +323,7 @@ def check_version(counts, maker):
         counts.same(f"{program} --version", f"{program} {number}", done.stdout)
 
 
-def check_publisher(counts, maker, special):
+def check_publisher(counts: Counts, maker: Maker, special: Path) -> None:
     words = (
         "--publisher",
         "Acme, Feeds",
@@ -333,18 +344,20 @@ def check_publisher(counts, maker, special):
         refused(counts, maker, f"{option} {bad!r}", 2, None, option, bad, special)
 
 
-def check_words(counts, maker, special):
-    for words in (
+def check_words(counts: Counts, maker: Maker, special: Path) -> None:
+    calls: List[Tuple[Word, ...]] = [
         (),
         (special, special),
         ("--form", "1", special),
         ("--fro", "260105", special),
         (".",),
-    ):
+    ]
+    for words in calls:
         refused(counts, maker, f"the words {words}", 2, None, *words)
     wanted = maker.folder / "places-wanted.csv"
     wanted.write_text("tiploc,name,latitude,longitude\n")
-    for words in ("-o", special, special), ("-o", "gtfs.zip", "--places", wanted, special):
+    calls = [("-o", special, special), ("-o", "gtfs.zip", "--places", wanted, special)]
+    for words in calls:
         refused(counts, maker, f"an output in the place of an input, {words[1]}", 2, None, *words)
     wanted.unlink()
     for word in "260230", "":
@@ -354,7 +367,7 @@ def check_words(counts, maker, special):
     refused(counts, maker, "a date outside the window", 3, told, "--to", "260126", special)
 
 
-def check_failures(counts, maker, special):
+def check_failures(counts: Counts, maker: Maker, special: Path) -> None:
     lines = special.read_text().splitlines(keepends=True)
     bad, freight = maker.folder / "bad.cif", maker.folder / "freight.cif"
     bad.write_text("".join(lines[:-1]))
@@ -400,14 +413,14 @@ def check_failures(counts, maker, special):
         check_failing_cif(counts, maker, special, table)
 
 
-def failing_cif(maker, table, then):
+def failing_cif(maker: Maker, table: str, then: str) -> Maker:
     program = maker.folder / "failing-cif"
     program.write_text(FAILING.format(cif=maker.cif, table=table, then=then))
     program.chmod(0o755)
     return Maker(program, maker.folder)
 
 
-def check_failing_cif(counts, maker, special, table):
+def check_failing_cif(counts: Counts, maker: Maker, special: Path, table: str) -> None:
     failing = failing_cif(maker, table, "echo 'cif: Memory' >&2; exit 4")
     refused(counts, failing, f"cif fails at {table}", 4, ["cif: Memory"], special)
     failing = failing_cif(maker, table, "kill -KILL $$")
@@ -419,7 +432,7 @@ def check_failing_cif(counts, maker, special, table):
         refused(counts, failing, f"cif ends with {status} at {table}", 4, ended, special)
 
 
-def check_changed(counts, maker, special):
+def check_changed(counts: Counts, maker: Maker, special: Path) -> None:
     """An extract that another one replaces between two tables is refused."""
     changing = maker.folder / "changing.cif"
     for table in "schedules", "public":
@@ -429,12 +442,19 @@ def check_changed(counts, maker, special):
         refused(counts, failing, f"the extract changes at {table}", 4, told, "changing.cif")
 
 
-def check_signals(counts, maker, special):
+def check_signals(counts: Counts, maker: Maker, special: Path) -> None:
     failing = failing_cif(maker, "public", "exec sleep 60")
     before = left(maker)
     for number in signal.SIGTERM, signal.SIGINT:
         # what runs in the background may have interrupts ignored
-        words = ["env", "--default-signal", COMPANIONS / "cif-gtfs", "--cif", failing.cif, special]
+        words: List[Word] = [
+            "env",
+            "--default-signal",
+            COMPANIONS / "cif-gtfs",
+            "--cif",
+            failing.cif,
+            special,
+        ]
         process = subprocess.Popen(words, cwd=maker.folder, stderr=subprocess.PIPE)
         for _ in range(1200):
             if left(maker) != before:
@@ -451,10 +471,10 @@ def check_signals(counts, maker, special):
         counts.same(f"stopped by {name}, what is left", before, left(maker))
 
 
-def check_terminal(counts, maker, special):
+def check_terminal(counts: Counts, maker: Maker, special: Path) -> None:
     """On a terminal it tells how far it is, and ends with a clear line."""
     ours, theirs = pty.openpty()
-    words = [COMPANIONS / "cif-gtfs", "--cif", maker.cif, special]
+    words: List[Word] = [COMPANIONS / "cif-gtfs", "--cif", maker.cif, special]
     process = subprocess.Popen(words, cwd=maker.folder, stderr=theirs)
     os.close(theirs)
     told = b""
@@ -465,14 +485,14 @@ def check_terminal(counts, maker, special):
     counts.test("on a terminal", all(part in told for part in parts), told)
 
 
-def read_terminal(device):
+def read_terminal(device: int) -> bytes:
     try:
         return os.read(device, 10000)
     except OSError:
         return b""
 
 
-def ids_by_shown(files):
+def ids_by_shown(files: Dict[str, str]) -> Tuple[Feed, DefaultDict[Shown, Set[str]]]:
     """The ids of the trips that have no link, by what they show."""
     feed, found = Feed(files, uids_of(files)), defaultdict(set)
     linked = {name for link in feed.links for name in link}
@@ -482,13 +502,13 @@ def ids_by_shown(files):
     return feed, found
 
 
-def dates_of(feed, service):
+def dates_of(feed: Feed, service: str) -> FrozenSet[date]:
     """The dates of a service from 1 to 31 January 2026."""
     days = [date(2026, 1, 1) + timedelta(days=number) for number in range(31)]
     return frozenset(day for day in days if service in active_services(feed.rows, day))
 
 
-def check_windows(counts, maker, special):
+def check_windows(counts: Counts, maker: Maker, special: Path) -> None:
     """In another window the same trips have the same ids, and so have linked ones that no end of the window touches."""
     whole, in_whole = ids_by_shown(maker.feed(special)[1])
     part, in_part = ids_by_shown(maker.feed("--from", "260107", "--to", "260119", special)[1])
@@ -507,14 +527,14 @@ def check_windows(counts, maker, special):
         {row["service_id"]: dates_of(feed, row["service_id"]) for row in feed.rows["trips"]}
         for feed in (whole, part)
     ]
-    both = ids[0].keys() & ids[1].keys()
+    services = ids[0].keys() & ids[1].keys()
     counts.test(
         "services in another window",
-        len(both) > 5 and all(ids[0][name] == ids[1][name] for name in both),
-        both,
+        len(services) > 5 and all(ids[0][name] == ids[1][name] for name in services),
+        services,
     )
     same = [name for name, dates in ids[1].items() if dates in ids[0].values()]
-    counts.test("services with the same dates in another window", both == set(same), both)
+    counts.test("services with the same dates in another window", services == set(same), services)
     [about] = part.rows["feed_info"]
     counts.same(
         "the dates of a part",
@@ -523,7 +543,7 @@ def check_windows(counts, maker, special):
     )
 
 
-def check_again(counts, maker, special):
+def check_again(counts: Counts, maker: Maker, special: Path) -> None:
     zips = []
     for name in "one.zip", "two.zip":
         maker.run("-o", name, special)
@@ -532,7 +552,7 @@ def check_again(counts, maker, special):
     counts.test("the same bytes again", zips[0] == zips[1])
 
 
-def check_collision(counts):
+def check_collision(counts: Counts) -> None:
     """Two trips of a train with one id are refused, which needs shorter ids than there are."""
     about, found = about_of(b"1A01", b"SN", 2), trips.TripsOfUid(" 00001")
     length, trips.ID_BYTES = trips.ID_BYTES, 1
@@ -552,7 +572,7 @@ def check_collision(counts):
     counts.test("the length of ids", length >= 5, length)
 
 
-def check_blocks(counts):
+def check_blocks(counts: Counts) -> None:
     """The rows of some schedules are the same in blocks of any size."""
     rows = [
         b"%d\t%d\tLO\t%s\t%s\tend"
@@ -560,14 +580,15 @@ def check_blocks(counts):
         for schedule in range(1, 130)
         for call in range(1 + schedule % 7)
     ]
-    for wanted in (
+    numbers: List[List[int]] = [
         [1, 2, 5, 8, 9, 10, 11, 99, 100, 101, 128, 129],
         [129],
         [1],
         [6],
         list(range(1, 130)),
         [],
-    ):
+    ]
+    for wanted in numbers:
         texts = {
             b"%d" % number: {b"A", b"none"} if number % 3 else {b"A", b"B"} for number in wanted
         }
@@ -581,7 +602,7 @@ def check_blocks(counts):
             )
 
 
-def check(counts, maker, special):
+def check(counts: Counts, maker: Maker, special: Path) -> None:
     folder = maker.folder / "failures"
     folder.mkdir()
     maker = Maker(maker.cif, folder)

@@ -1,5 +1,9 @@
 """An extract of a network in which most trains divide, join or go on: portions, sleepers, and overlays that move one train of a
 pair, leave out the place where they meet, or cancel it."""
+from __future__ import annotations
+
+from random import Random
+from typing import Iterator, List, Optional, Tuple
 
 WINDOW = "260302", "260322"
 HEADER = "HDTPS.UTEST01.PD2603010103262000DFTEST1       FA020326220326"
@@ -13,17 +17,17 @@ CRS = {place: f"{place[0]}{place[2]}{place[-1]}" for place in STATIONS}
 DAILY, WEEKDAYS, WEEKENDS = "1111111", "1111100", "0000011"
 
 
-def clock(minutes):
+def clock(minutes: int) -> str:
     return f"{minutes // 60 % 24:02}{minutes % 60:02}"
 
 
 class Run:
     """The calls of a train: place, arrival and departure in minutes, and whether it is advertised there."""
 
-    def __init__(self, calls):
+    def __init__(self, calls: List[Tuple[str, int, int, bool]]) -> None:
         self.calls = calls
 
-    def later(self, minutes):
+    def later(self, minutes: int) -> Run:
         return Run(
             [
                 (place, arrival + minutes, departure + minutes, public)
@@ -31,15 +35,15 @@ class Run:
             ]
         )
 
-    def without(self, place):
+    def without(self, place: str) -> Run:
         """The same without a call on the way."""
         first, *way, last = self.calls
         return Run([first, *(call for call in way if call[0] != place), last])
 
-    def at(self, place):
+    def at(self, place: str) -> Tuple[str, int, int, bool]:
         return next(call for call in self.calls if call[0] == place)
 
-    def lines(self):
+    def lines(self) -> Iterator[str]:
         (place, _, departure, public), *way, last = self.calls
         yield f"LO{place:8}{clock(departure)} {clock(departure) if public else '0000'}1{'':9}TB"
         for call, arrival, leaves, advertised in way:
@@ -49,7 +53,7 @@ class Run:
         yield f"LT{place:8}{clock(arrival)} {clock(arrival) if public else '0000'}3{'':5}TF"
 
 
-def journey(rng, places, start, hidden=None):
+def journey(rng: Random, places: List[str], start: int, hidden: Optional[str] = None) -> Run:
     """A run along these places, one of which isn't advertised."""
     calls, now = [], start
     for place in places:
@@ -63,20 +67,28 @@ def journey(rng, places, start, hidden=None):
 class Network:
     """The lines of an extract as they are made."""
 
-    def __init__(self, rng):
-        self.rng, self.lines, self.count = rng, [], 0
+    def __init__(self, rng: Random) -> None:
+        self.rng, self.count = rng, 0
+        self.lines: List[str] = []
 
-    def uid(self):
+    def uid(self) -> str:
         self.count += 1
         return f"N{self.count:05}"
 
-    def schedule(self, uid, run, dates=WINDOW, days=DAILY, letter="P"):
+    def schedule(
+        self,
+        uid: str,
+        run: Run,
+        dates: Tuple[str, str] = WINDOW,
+        days: str = DAILY,
+        letter: str = "P",
+    ) -> None:
         self.lines.append(
             f"BSN{uid}{''.join(dates)}{days} POO1N01    122104000 DMU    075      S            {letter}"
         )
         self.lines += ["BX         SRY", *run.lines()]
 
-    def train(self, run, meets, days):
+    def train(self, run: Run, meets: str, days: str) -> str:
         """A train with overlays on some dates. Returns its UID."""
         uid, rng = self.uid(), self.rng
         self.schedule(uid, run, days=days)
@@ -94,19 +106,21 @@ class Network:
                 self.lines.append(f"BSN{uid}{first}{last}{days}".ljust(79) + "C")
         return uid
 
-    def associate(self, base, associated, category, indicator, place, days):
+    def associate(
+        self, base: str, associated: str, category: str, indicator: str, place: str, days: str
+    ) -> None:
         fields = f"AAN{base}{associated}{{}}{{}}{days}{category}{indicator}{place:7}  T"
         self.lines.append((fields.format(*WINDOW) + "P").ljust(79) + "P")
         if self.rng.random() < 0.2:
             cancelled = f"AAN{base}{associated}260309260311{days}   {place:7}  T"
             self.lines.append(cancelled.ljust(79) + "C")
 
-    def base(self, start, hidden):
+    def base(self, start: int, hidden: Optional[str]) -> Run:
         """A train along the main line, one way or the other."""
         places = MAIN if self.rng.random() < 0.5 else MAIN[::-1]
         return journey(self.rng, places, start, hidden)
 
-    def add(self):
+    def add(self) -> None:
         """Adds a train with portions, or one that goes on as another."""
         rng = self.rng
         sleeper = rng.random() < 0.3
@@ -120,7 +134,7 @@ class Network:
         if rng.random() < 0.4:
             self.add_next(base, run, days)
 
-    def add_portion(self, base, run, place, days):
+    def add_portion(self, base: str, run: Run, place: str, days: str) -> None:
         """A portion that leaves a train at a place, or joins it there."""
         rng = self.rng
         _, arrival, departure, public = run.at(place)
@@ -136,7 +150,7 @@ class Network:
         indicator = {0: "S", 1: "N", -1: "P"}[leaves // 1440]
         self.associate(base, self.train(portion, place, days), category, indicator, place, DAILY)
 
-    def add_next(self, base, run, days):
+    def add_next(self, base: str, run: Run, days: str) -> None:
         """A train as which another one goes on."""
         place, arrival, _, _ = run.calls[-1]
         back = journey(
@@ -148,7 +162,7 @@ class Network:
         self.associate(base, self.train(back, MAIN[4], days), "NP", indicator, place, DAILY)
 
 
-def extract(rng, count):
+def extract(rng: Random, count: int) -> List[str]:
     """The lines of an extract with that many trains of a main line, and their portions."""
     network = Network(rng)
     for _ in range(count):

@@ -1,10 +1,15 @@
 """The files that cif-gtfs-csv makes of made-up public ones, whose layouts are those of companions/cif_gtfs_csv."""
+from __future__ import annotations
+
 import csv
 import io
 from math import degrees
 from pathlib import Path
+from typing import Dict, Optional, Tuple, Union
 
 from cif_gtfs_csv.grid import latitude_and_longitude, on_airy
+
+from .checks import Counts, Maker
 
 NAPTAN = """\
 ATCOCode,NaptanCode,CommonName,Street,GridType,Easting,Northing,Longitude,Latitude,StopType
@@ -28,7 +33,9 @@ VICTRIC,London Victoria,51.49520,-0.14453
 """
 
 
-def master(name, tiploc, crs, easting, northing, minutes):
+def master(
+    name: str, tiploc: str, crs: str, easting: str, northing: str, minutes: Union[int, str]
+) -> str:
     """A record A of MSN."""
     line = f"A    {name:30}2{tiploc:7}{crs:3}   {crs:3}{easting:5} {northing:5}{minutes:>2}"
     return f"{line:80}"
@@ -44,7 +51,7 @@ MSN = [
     "Z    ",
 ]
 # The points are 527.3 km east and 175.5 km north of the grid's origin, and 528.9 and 179.0 km.
-OF_MSN = {
+OF_MSN: Dict[str, Tuple[str, Optional[float], Optional[float]]] = {
     "CLPHMJC": ("Clapham Junction", 51.4642, -0.1689),
     "VICTRIC": ("London Victoria", 51.4953, -0.1446),
 }
@@ -69,9 +76,11 @@ POINT, ON_AIRY = (651409.903, 313177.270), (
 IN_WGS_84, NEAR = (52 + 39 / 60 + 28.8282 / 3600, 1 + 42 / 60 + 57.8663 / 3600), 0.00007
 
 
-def with_record(*fields):
+def with_record(
+    tiploc: str, crs: str, easting: str, northing: str, minutes: Union[int, str]
+) -> str:
     """The text of MSN with a further record."""
-    return "\n".join([*MSN, master("HOVE", *fields)])
+    return "\n".join([*MSN, master("HOVE", tiploc, crs, easting, northing, minutes)])
 
 
 BAD = {
@@ -120,19 +129,20 @@ BAD = {
 }
 
 
-def check_places_of_master(counts, text):
+def check_places_of_master(counts: Counts, text: str) -> None:
     rows = list(csv.DictReader(io.StringIO(text, newline="")))
     counts.same("msn-places, TIPLOCs", sorted(OF_MSN), [row["tiploc"] for row in rows])
     for row in rows:
         name, *place = OF_MSN[row["tiploc"]]
         got = [float(row[field]) if row[field] else None for field in ("latitude", "longitude")]
         near = all(
-            abs(one - other) < 0.001 if one else one == other for one, other in zip(place, got)
+            one == other if one is None or other is None else abs(one - other) < 0.001
+            for one, other in zip(place, got)
         )
         counts.test(f"msn-places, {row['tiploc']}", row["name"] == name and near, row)
 
 
-def check_grid(counts):
+def check_grid(counts: Counts) -> None:
     for name, want, got, near in (
         ("on the grid's datum", ON_AIRY, tuple(map(degrees, on_airy(*POINT))), 0.00000001),
         ("in WGS 84", IN_WGS_84, latitude_and_longitude(*POINT), NEAR),
@@ -142,7 +152,7 @@ def check_grid(counts):
         )
 
 
-def check(counts, maker):
+def check(counts: Counts, maker: Maker) -> None:
     inputs = {
         "naptan-places": NAPTAN,
         "msn-places": "\r\n".join(MSN) + "\r\n",
@@ -185,7 +195,7 @@ def check(counts, maker):
     check_taken(counts, maker, outputs)
 
 
-def check_taken(counts, maker, outputs):
+def check_taken(counts: Counts, maker: Maker, outputs: Dict[str, str]) -> None:
     """cif-gtfs takes what cif-gtfs-csv makes."""
     options = []
     for kind, text in outputs.items():

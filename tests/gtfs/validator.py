@@ -3,14 +3,24 @@
 Both are from memory, and the rules have the validator's names where it has them. Of its rules those are left out that are about
 files and fields that these feeds never have, such as shapes, fares and frequencies, and those that depend on today's date.
 """
+from __future__ import annotations
+
 import csv
 import io
 import re
-from collections import Counter, defaultdict, namedtuple
+from collections import Counter, defaultdict
 from math import asin, cos, radians, sin, sqrt
+from typing import DefaultDict, Dict, List, NamedTuple, Optional, Set, Tuple
 
-# A fault of a feed: whether it is an ERROR or a WARNING, the rule, and where.
-Notice = namedtuple("Notice", "severity rule place")
+
+class Notice(NamedTuple):
+    """A fault of a feed: whether it is an ERROR or a WARNING, the rule, and where."""
+
+    severity: str
+    rule: str
+    place: str
+
+
 ERROR, WARNING = "ERROR", "WARNING"
 
 WEEKDAYS = ("monday", "tuesday", "wednesday", "thursday", "friday", "saturday", "sunday")
@@ -19,7 +29,7 @@ ANY, WEB, WHOLE, DEGREES = r"(?s).+", r"https?://[^\s/]+\.\S+", r"\d+", r"-?\d+(
 TYPES = "0|1|2|3|4|5|6|7|11|12|1\\d\\d|714"
 
 # Of each file the fields that have to have a value, and those that may, with their forms; and its key.
-REQUIRED = {
+REQUIRED: Dict[str, Dict[str, str]] = {
     "agency": {
         "agency_id": ANY,
         "agency_name": ANY,
@@ -40,7 +50,7 @@ REQUIRED = {
     "transfers": {"transfer_type": "[0-5]"},
     "feed_info": {"feed_publisher_name": ANY, "feed_publisher_url": WEB, "feed_lang": "[a-z]{2}"},
 }
-OPTIONAL = {
+OPTIONAL: Dict[str, Dict[str, str]] = {
     "agency": {"agency_lang": "[a-z]{2}"},
     "stops": {
         **{"stop_code": ANY, "stop_lat": DEGREES, "stop_lon": DEGREES, "location_type": "[0-4]"},
@@ -70,7 +80,7 @@ OPTIONAL = {
         **{"feed_contact_email": ANY, "feed_contact_url": WEB},
     },
 }
-KEYS = {
+KEYS: Dict[str, Tuple[str, ...]] = {
     **{
         "agency": ("agency_id",),
         "stops": ("stop_id",),
@@ -108,13 +118,16 @@ IN_SEAT = ("4", "5")
 FASTEST = {"1": 150, "2": 500, "3": 150, "4": 80}
 FARTHEST = 10
 
+# A row of a file by its fields.
+Row = Dict[str, str]
 
-def rows_of(text):
+
+def rows_of(text: str) -> List[Row]:
     """The rows of a file; what is behind its fields has the name None."""
     return list(csv.DictReader(io.StringIO(text, newline="")))
 
 
-def seconds_of(time):
+def seconds_of(time: str) -> int:
     hours, minutes, seconds = map(int, time.split(":"))
     return hours * 3600 + minutes * 60 + seconds
 
@@ -122,23 +135,23 @@ def seconds_of(time):
 class Feed:
     """The files of a feed, and the notices on them."""
 
-    def __init__(self, files):
+    def __init__(self, files: Dict[str, str]) -> None:
         self.texts = files
         self.rows = {name: rows_of(text) for name, text in files.items()}
-        self.notices = []
+        self.notices: List[Notice] = []
         self.stops = {row.get("stop_id"): row for row in self.rows.get("stops", ())}
         self.calls = defaultdict(list)
         for row in self.rows.get("stop_times", ()):
             self.calls[row.get("trip_id")].append(row)
 
-    def note(self, severity, rule, *places):
+    def note(self, severity: str, rule: str, *places: object) -> None:
         self.notices += [Notice(severity, rule, str(place)) for place in places]
 
-    def all(self, name):
+    def all(self, name: str) -> List[Row]:
         return self.rows.get(name, [])
 
 
-def check_files(feed):
+def check_files(feed: Feed) -> None:
     for name in REQUIRED.keys() - feed.rows.keys() - {"calendar_dates", "transfers"}:
         feed.note(ERROR, "missing_required_file", name)
     for name in feed.rows.keys() - REQUIRED.keys():
@@ -148,7 +161,7 @@ def check_files(feed):
             feed.note(ERROR, "empty_file", name)
 
 
-def check_fields(feed):
+def check_fields(feed: Feed) -> None:
     for name, rows in feed.rows.items():
         forms = {**REQUIRED.get(name, {}), **OPTIONAL.get(name, {})}
         heading = next(csv.reader(io.StringIO(feed.texts[name], newline="")))
@@ -172,7 +185,7 @@ def check_fields(feed):
                 check_value(feed, name, row, field, forms.get(field, ANY))
 
 
-def check_value(feed, name, row, field, form):
+def check_value(feed: Feed, name: str, row: Row, field: str, form: str) -> None:
     value = row[field]
     if not value:
         if field in REQUIRED[name]:
@@ -194,7 +207,7 @@ def check_value(feed, name, row, field, form):
         feed.note(WARNING, "mixed_case_recommended_field", f"{name}, {field}: {value}")
 
 
-def check_keys(feed):
+def check_keys(feed: Feed) -> None:
     for name, key in KEYS.items():
         counts = Counter(tuple(row.get(field, "") for field in key) for row in feed.all(name))
         feed.note(
@@ -204,11 +217,11 @@ def check_keys(feed):
         )
 
 
-def values(feed, name, field):
+def values(feed: Feed, name: str, field: str) -> Set[str]:
     return {row.get(field, "") for row in feed.all(name)}
 
 
-def check_references(feed):
+def check_references(feed: Feed) -> None:
     for name, field, other, key in REFERENCES:
         unknown = values(feed, name, field) - values(feed, other, key) - {""}
         feed.note(
@@ -229,7 +242,7 @@ def check_references(feed):
     feed.note(WARNING, "unused_service", *(services - values(feed, "trips", "service_id")))
 
 
-def check_stops(feed):
+def check_stops(feed: Feed) -> None:
     used, parents = values(feed, "stop_times", "stop_id"), values(feed, "stops", "parent_station")
     for name, row in feed.stops.items():
         kind, parent = row["location_type"], row["parent_station"]
@@ -251,8 +264,8 @@ def check_stops(feed):
             feed.note(WARNING, "unused_station", name)
 
 
-def check_routes(feed):
-    names = Counter()
+def check_routes(feed: Feed) -> None:
+    names: Counter[Tuple[str, ...]] = Counter()
     languages = values(feed, "agency", "agency_lang") | values(feed, "feed_info", "feed_lang")
     for row in feed.all("routes"):
         short, long = row.get("route_short_name", ""), row.get("route_long_name", "")
@@ -268,7 +281,7 @@ def check_routes(feed):
         feed.note(WARNING, "feed_info_lang_and_agency_lang_mismatch", languages)
 
 
-def kilometres(one, other):
+def kilometres(one: Row, other: Row) -> float:
     """The distance of two stops, or 0 where one has no coordinates."""
     if not all(stop["stop_lat"] and stop["stop_lon"] for stop in (one, other)):
         return 0
@@ -282,7 +295,7 @@ def kilometres(one, other):
     return 2 * 6371 * asin(sqrt(half))
 
 
-def check_trips(feed):
+def check_trips(feed: Feed) -> None:
     types = {row["route_id"]: row["route_type"] for row in feed.all("routes")}
     for trip in feed.all("trips"):
         calls = sorted(feed.calls[trip["trip_id"]], key=lambda row: int(row["stop_sequence"]))
@@ -298,14 +311,14 @@ def check_trips(feed):
             feed.note(
                 ERROR, "stop_time_with_arrival_before_previous_departure_time", trip["trip_id"]
             )
-        fastest = FASTEST.get(types.get(trip["route_id"]), 500)
+        fastest = FASTEST.get(types.get(trip["route_id"], ""), 500)
         for before, after in zip(calls, calls[1:]):
-            ends = [feed.stops.get(row["stop_id"]) for row in (before, after)]
+            one, other = (feed.stops.get(row["stop_id"]) for row in (before, after))
             hours = (
                 max(seconds_of(after["arrival_time"]) - seconds_of(before["departure_time"]), 60)
                 / 3600
             )
-            if None not in ends and kilometres(*ends) / hours > fastest:
+            if one and other and kilometres(one, other) / hours > fastest:
                 feed.note(
                     WARNING,
                     "fast_travel_between_consecutive_stops",
@@ -313,7 +326,7 @@ def check_trips(feed):
                 )
 
 
-def check_services(feed):
+def check_services(feed: Feed) -> None:
     for name, first, last in ("calendar", "start_date", "end_date"), (
         "feed_info",
         "feed_start_date",
@@ -333,7 +346,7 @@ def check_services(feed):
     feed.note(WARNING, "service_never_active", *(every - added - regular))
 
 
-def check_transfers(feed):
+def check_transfers(feed: Feed) -> None:
     for row in feed.all("transfers"):
         stops = [feed.stops.get(row[field]) for field in ("from_stop_id", "to_stop_id")]
         trips = [feed.calls.get(row[field], []) for field in ("from_trip_id", "to_trip_id")]
@@ -354,15 +367,15 @@ def check_transfers(feed):
                 feed.note(ERROR, "linked_trips_at_different_places", row)
             if seconds_of(ends[0]["arrival_time"]) > seconds_of(ends[1]["departure_time"]):
                 feed.note(ERROR, "link_back_in_time", row)
-        if None not in stops and kilometres(*stops) > FARTHEST:
+        if stops[0] and stops[1] and kilometres(stops[0], stops[1]) > FARTHEST:
             feed.note(WARNING, "transfer_distance_too_large", row)
 
 
-def check_continuations(feed):
+def check_continuations(feed: Feed) -> None:
     """Where a trip goes on as several, or several as one, all these have one service."""
     service = {row["trip_id"]: row["service_id"] for row in feed.all("trips")}
     for field, other in ("from_trip_id", "to_trip_id"), ("to_trip_id", "from_trip_id"):
-        services = defaultdict(set)
+        services: DefaultDict[str, Set[Optional[str]]] = defaultdict(set)
         for row in feed.all("transfers"):
             if row["transfer_type"] == "4":
                 services[row[field]] |= {service.get(row[other]), service.get(row[field])}
@@ -370,7 +383,7 @@ def check_continuations(feed):
         feed.note(ERROR, "linked_trips_of_other_services", *several)
 
 
-def check_blocks(feed):
+def check_blocks(feed: Feed) -> None:
     """Trips of a block that run on one date don't overlap. Here they have one service."""
     blocks = defaultdict(list)
     for row in feed.all("trips"):
@@ -386,16 +399,16 @@ def check_blocks(feed):
             feed.note(ERROR, "block_of_other_services_or_of_one_trip", name)
 
 
-def number_of(row):
+def number_of(row: Row) -> int:
     return int(row["stop_sequence"])
 
 
-def place_of(feed, stop):
+def place_of(feed: Feed, stop: str) -> str:
     """The station of a stop, or the stop."""
     return feed.stops.get(stop, {}).get("parent_station") or stop
 
 
-def check_about(feed):
+def check_about(feed: Feed) -> None:
     for row in feed.all("feed_info"):
         if not row.get("feed_contact_email") and not row.get("feed_contact_url"):
             feed.note(WARNING, "missing_feed_contact_email_and_url", "")
@@ -412,7 +425,7 @@ CHECKS = (
 )
 
 
-def notices(files):
+def notices(files: Dict[str, str]) -> List[Notice]:
     """All notices on a feed, given as the texts of its files by their names without .txt."""
     feed = Feed(files)
     check_files(feed)

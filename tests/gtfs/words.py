@@ -1,14 +1,17 @@
 """The help of cif-gtfs and cif-gtfs-csv against their manual page and the completions for bash, zsh and fish."""
+from __future__ import annotations
+
 import re
 import subprocess
+from typing import Dict, List, Set
 
-from .checks import COMPANIONS, TOP
+from .checks import COMPANIONS, TOP, Counts
 
 WIDTH = 80
 PROGRAMS = ("cif-gtfs", "cif-gtfs-csv")
 
 # What bash offers behind these words: words, or `files`.
-LINES = {
+LINES: Dict[str, List[str]] = {
     "cif-gtfs --pl": ["--places"],
     "cif-gtfs --places ": ["files"],
     "cif-gtfs -o ": ["files"],
@@ -29,23 +32,23 @@ printf '%s\\n' "${COMPREPLY[@]}"
 """
 
 
-def help_of(name):
+def help_of(name: str) -> str:
     return subprocess.run(
         [COMPANIONS / name, "--help"], capture_output=True, check=True, text=True
     ).stdout
 
 
-def options_in(text):
+def options_in(text: str) -> Set[str]:
     """The options that a usage or a list of options names."""
     return set(re.findall(r"(?<![\w-])(--?[a-zA-Z][a-z-]*)", text))
 
 
-def options_of_help(text):
+def options_of_help(text: str) -> Set[str]:
     """The options of a help, by its list of them."""
     return options_in("\n".join(re.findall(r"^  (-.*?)(?:  .*)?$", text, re.MULTILINE)))
 
 
-def options_of_page(text):
+def options_of_page(text: str) -> Set[str]:
     tags = re.findall(r"^\.It (Fl .*)$", text, re.MULTILINE)
     return options_in(
         re.sub(
@@ -54,16 +57,16 @@ def options_of_page(text):
     )
 
 
-def options_of_fish(text):
+def options_of_fish(text: str) -> Set[str]:
     letters = {f"-{letter}" for letter in re.findall(r" -s (\w)", text)}
     return letters | {f"--{word}" for word in re.findall(r" -l ([\w-]+)", text)}
 
 
-def options_of_zsh(text):
+def options_of_zsh(text: str) -> Set[str]:
     return {option.rstrip("=+") for option in re.findall(r"['{,](--?[a-zA-Z][a-z-]*[=+]?)", text)}
 
 
-def offered(line):
+def offered(line: str) -> List[str]:
     *words, last = line.split(" ")
     path = TOP / "completions" / f"{words[0]}.bash"
     done = subprocess.run(
@@ -75,11 +78,11 @@ def offered(line):
     return done.stdout.split() + done.stderr.splitlines()
 
 
-def completion(name):
+def completion(name: str) -> str:
     return (TOP / "completions" / name).read_text()
 
 
-def check(counts):
+def check(counts: Counts) -> None:
     page = (TOP / "man" / "cif-gtfs.1").read_text()
     for name in PROGRAMS:
         text = help_of(name)

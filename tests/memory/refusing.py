@@ -1,15 +1,17 @@
 """What the runners of tests/memory share: rows, and a program that runs on one with an allocation refused."""
+from __future__ import annotations
+
 import os
 import subprocess
 import sys
 import tempfile
 from pathlib import Path
-from typing import NamedTuple
+from typing import Callable, Iterable, List, NamedTuple
 
 HERE = Path(__file__).resolve().parent
 sys.path.append(str(HERE.parent))
 
-from row_files import make_folder, read_rows
+from row_files import Row, make_folder, read_rows
 
 TOLD = 9
 INPUT = 2**64 - 1
@@ -21,20 +23,20 @@ class Answer(NamedTuple):
     status: int
     stdout: bytes
     stderr: bytes
-    told: list
+    told: List[int]
 
     @property
-    def refused(self):
+    def refused(self) -> bool:
         """Whether an allocation was refused."""
         return len(self.told) > 0
 
-    def said(self):
+    def said(self) -> str:
         """What is printed of a run that isn't right."""
         was = "refused" if self.refused else "not reached"
         return f"{was}: status {self.status}, {len(self.stdout)} bytes of output, {self.stderr!r}"
 
 
-def library(work):
+def library(work: Path) -> Path:
     """Builds the library that refuses, with the compiler of the kit that proves the program."""
     kit = Path(
         subprocess.run(["rt", "doc"], stdout=subprocess.PIPE, text=True, check=True).stdout.strip()
@@ -49,7 +51,7 @@ def library(work):
 class Refusing:
     """The program of a test, the rows for it, and how many runs passed."""
 
-    def __init__(self, work, program, files):
+    def __init__(self, work: Path, program: str, files: Iterable[Path]) -> None:
         os.dup2(os.open(work / "told", os.O_CREAT | os.O_RDWR), TOLD)
         self.program = Path(program).resolve()
         self.work = work
@@ -62,10 +64,10 @@ class Refusing:
         for row in self.rows.values():
             make_folder(self.folder(row), row.words, row.status, row.whole)
 
-    def folder(self, row):
+    def folder(self, row: Row) -> Path:
         return self.work / "rows" / row.name
 
-    def run(self, row, nth):
+    def run(self, row: Row, nth: int) -> Answer:
         """Runs the program on the row with this allocation refused; with none for 0."""
         for output in self.outputs:
             os.ftruncate(output, 0)
@@ -88,7 +90,7 @@ class Refusing:
         sizes = [int.from_bytes(told[at : at + 8], "little") for at in range(0, len(told), 8)]
         return Answer(status, stdout, stderr, sizes)
 
-    def count(self, is_right, what):
+    def count(self, is_right: bool, what: str) -> None:
         """Counts a run; what it was of is printed if it isn't right."""
         self.passed += is_right
         self.failed += not is_right
@@ -96,7 +98,7 @@ class Refusing:
             print(what, flush=True)
 
 
-def main(program, files, test):
+def main(program: str, files: Iterable[Path], test: Callable[[Refusing], None]) -> int:
     """Runs the test, prints the counts, and gives the status: 0 if all passed and some ran."""
     if len(sys.argv) != 2:
         print(f"usage: {Path(sys.argv[0]).name} {program}", file=sys.stderr)

@@ -1,41 +1,57 @@
 """The answer to a job: standard output, standard error and the status."""
+from __future__ import annotations
+
 import re
-from collections import namedtuple
+from datetime import date
+from typing import List, NamedTuple, Optional, Sequence, Tuple, Union
 
 from . import published, tables, texts, verbose
 from .calendars import calendar
 from .dates import from_yymmdd
 from .explanation import explanation
-from .extracts import common_of, extract_of, narrowed, read_extract, window_of
-from .faults import Fault, REFUSED, WORDS, of_input
+from .extracts import Extract, common_of, extract_of, narrowed, read_extract, window_of
+from .faults import REFUSED, WORDS, Fault, of_input
 from .holidays import read_holidays
 from .meaning import Meaning, all_clashes, clash_dates, first_difference
 from .reasons import all_reasons, listed
+from .verbose import Input
 
-# What the words of a command ask for. Dates, a UID and the name of a table are words as they were given, or None where there
-# is none; without a form it is 2, without a format text, and common, all and others say whether such an option is there. Files
-# and holidays are names; where there is no file, the command reads standard input, as it does where the name is `-`.
-NAMES = "command files day uid first last form common stops table format all holidays drop_clashes lenient verbose"
-DEFAULTS = (
-    (),
-    None,
-    None,
-    None,
-    None,
-    None,
-    False,
-    False,
-    None,
-    None,
-    False,
-    None,
-    False,
-    False,
-    False,
-)
-Job = namedtuple("Job", NAMES, defaults=DEFAULTS)
+# The bytes of each input, or None where it can't be read.
+Inputs = Sequence[Optional[bytes]]
 
-Answer = namedtuple("Answer", "stdout stderr status")
+
+class Job(NamedTuple):
+    """What the words of a command ask for. Dates, a UID and the name of a table are words as they were given, or None where
+    there is none; without a form it is 2, without a format text, and common, all and others say whether such an option is
+    there. Files and holidays are names; where there is no file, the command reads standard input, as it does where the name is
+    `-`.
+    """
+
+    command: str
+    files: Tuple[str, ...] = ()
+    day: Optional[str] = None
+    uid: Optional[str] = None
+    first: Optional[str] = None
+    last: Optional[str] = None
+    form: Optional[str] = None
+    common: bool = False
+    stops: bool = False
+    table: Optional[str] = None
+    format: Optional[str] = None
+    all: bool = False
+    holidays: Optional[str] = None
+    drop_clashes: bool = False
+    lenient: bool = False
+    verbose: bool = False
+
+
+class Answer(NamedTuple):
+    """What a run prints, and its status, or a text where it has none."""
+
+    stdout: bytes
+    stderr: bytes
+    status: Union[int, str]
+
 
 UID = re.compile(r"[ -~]{6}")
 SOME = 1
@@ -70,7 +86,7 @@ TWICE |= dict.fromkeys(OF_TWO, "LEFT and RIGHT are both standard input")
 MISTAKE = Answer(b"", b"error:", WORDS)
 
 
-def date_of(word):
+def date_of(word: Optional[str]) -> Optional[date]:
     """The date of a word; of no word there is none."""
     day = None if word is None else from_yymmdd(word)
     if word is not None and day is None:
@@ -78,12 +94,12 @@ def date_of(word):
     return day
 
 
-def names_of(job):
+def names_of(job: Job) -> List[str]:
     """The names of the inputs: those of the files, and then that of the holidays."""
     return [*(job.files or ("-",)), *(() if job.holidays is None else (job.holidays,))]
 
 
-def output(job, inputs):
+def output(job: Job, inputs: Inputs) -> Tuple[List[str], int, List[str], List[str]]:
     """The lines of standard output, the status, the lines of standard error, and those that `--verbose` adds.
 
     Inputs has the bytes of each input in the order of names_of, or None where it can't be read.
@@ -103,12 +119,12 @@ def output(job, inputs):
     return of_extracts(job, day, asked, shown(job, inputs))
 
 
-def shown(job, inputs):
+def shown(job: Job, inputs: Inputs) -> List[Input]:
     """The inputs with their names."""
     return verbose.inputs_of(job, names_of(job), inputs)
 
 
-def of_prepare(job, inputs):
+def of_prepare(job: Job, inputs: List[Input]) -> Tuple[List[str], int, List[str], List[str]]:
     """The lines of the prepared extract, and a line for each key that is dropped."""
     with of_input(1):
         holidays = {} if job.holidays is None else read_holidays(inputs[1].data)
@@ -127,15 +143,17 @@ def of_prepare(job, inputs):
     )
 
 
-def of_update(job, inputs):
+def of_update(job: Job, inputs: List[Input]) -> Tuple[List[str], int, List[str], List[str]]:
     """
     The lines of the full extract after all updates, a line if it looks as if it were prepared, and one for each line that is
     waived.
     """
     full, *updates = inputs
     with of_input(0):
-        records, told = published.read_published(full.data), []
-    of_full, more, is_marked = verbose.of_feed(full, records, ""), [], published.has_marks(records)
+        records = published.read_published(full.data)
+    told: List[str] = []
+    more: List[str] = []
+    of_full, is_marked = verbose.of_feed(full, records, ""), published.has_marks(records)
     for at, update in enumerate(updates, 1):
         with of_input(at):
             read = published.read_update(update.data)
@@ -148,7 +166,9 @@ def of_update(job, inputs):
     return published.written(records), 0, told, of_full + more
 
 
-def of_extracts(job, day, asked, inputs):
+def of_extracts(
+    job: Job, day: Optional[date], asked: Sequence[Optional[date]], inputs: List[Input]
+) -> Tuple[List[str], int, List[str], List[str]]:
     """The same of the commands that read extracts of the profile."""
     extracts = []
     for at, one in enumerate(inputs):
@@ -166,14 +186,16 @@ def of_extracts(job, day, asked, inputs):
     return lines, status, [], verbose.of_extracts(job, inputs, extracts, lines)
 
 
-def said(job, day, extracts):
+def said(job: Job, day: Optional[date], extracts: List[Extract]) -> Tuple[List[str], int]:
     """The same of extracts that have the window asked for, in which the day lies if there is one."""
     as_table = job.format == "tsv"
     if job.command == "explain":
+        assert job.uid is not None and day is not None
         return (tables.explanation_table if as_table else explanation)(extracts[0], job.uid, day), 0
     if job.command == "clashes":
         return some_or_none(list(all_clashes(extracts[0]).values()))
     if job.command == "calendar":
+        assert job.uid is not None
         return calendar(extracts[0], job.uid), 0
     meanings = []
     for at, extract in enumerate(extracts):
@@ -186,10 +208,13 @@ def said(job, day, extracts):
     if job.command == "check":
         return [texts.counted(texts.canonical(meaning, form)[1])], 0
     if job.command == "table":
+        assert job.table is not None
         return tables.table(job.table, texts.canonical(meaning, form)[0]), 0
     if job.command == "day":
+        assert day is not None
         return (tables.day_table if as_table else texts.day_view)(meaning, day, job.stops), 0
     if job.command == "train":
+        assert job.uid is not None
         return (tables.train_table if as_table else texts.train_view)(
             meaning, job.uid, form, job.stops
         ), 0
@@ -202,18 +227,18 @@ def said(job, day, extracts):
     return ([f"differs: {difference}"], SOME) if difference else (["same"], 0)
 
 
-def some_or_none(lines):
+def some_or_none(lines: List[str]) -> Tuple[List[str], int]:
     return lines, SOME if lines else 0
 
 
-def agrees(want, got):
+def agrees(want: Answer, got: Answer) -> bool:
     """Whether an answer is the wanted one."""
     if want == MISTAKE:
         return got.stderr.startswith(want.stderr) and got._replace(stderr=want.stderr) == want
     return got == want
 
 
-def is_mistake(job):
+def is_mistake(job: Job) -> bool:
     """Whether the command doesn't take such options or such a table, or not so many files."""
     names = (
         "first",
@@ -244,7 +269,7 @@ def is_mistake(job):
     return not (given <= OPTIONS[job.command] and taken and fits)
 
 
-def answer(job, inputs):
+def answer(job: Job, inputs: Inputs) -> Answer:
     """What the program has to print and to end with."""
     if is_mistake(job):
         return MISTAKE
@@ -257,5 +282,5 @@ def answer(job, inputs):
     return Answer(text_of(lines), text_of(errors), status)
 
 
-def text_of(lines):
+def text_of(lines: List[str]) -> bytes:
     return "".join(line + "\n" for line in lines).encode()

@@ -1,13 +1,18 @@
 """The calendar of a train: a line for each week, with the letter of what wins on each date."""
-from .dates import DAY, FIRST_OF_ALL, WEEK, monday_of, yymmdd
-from .extracts import window_of
+from __future__ import annotations
+
+from datetime import date
+from typing import List
+
+from .dates import DAY, FIRST_OF_ALL, WEEK, Window, monday_of, yymmdd
+from .extracts import Entry, Extract, window_of
 from .meaning import winners
 
 HEADING = " " * 7 + "MTWTFSS"
 OUTSIDE, NO_RECORD, CLASH = " ", ".", "!"
 
 
-def sign_on(entries, day, window):
+def sign_on(entries: List[Entry], day: date, window: Window) -> str:
     """What stands for a date."""
     if not window[0] <= day <= window[1]:
         return OUTSIDE
@@ -17,7 +22,7 @@ def sign_on(entries, day, window):
     return winning[0].letter if len({entry.body for entry in winning}) == 1 else CLASH
 
 
-def calendar(extract, uid):
+def calendar(extract: Extract, uid: str) -> List[str]:
     """The lines of each week that has a date of the window."""
     entries, window = [entry for entry in extract.schedules if entry.key == (uid,)], window_of(
         extract

@@ -1,12 +1,18 @@
 """Why a train runs on a date, or doesn't: each record that applies, with its mark."""
+from __future__ import annotations
+
+from datetime import date
+from typing import List, Tuple
+
 from .dates import yymmdd
+from .extracts import Entry, Extract
 from .meaning import applies, by_key, winners
 from .texts import association_fields, train_fields
 
 WINS, CLASH, HIDDEN = "wins  ", "clash ", "hidden"
 
 
-def marked(entries, day):
+def marked(entries: List[Entry], day: date) -> List[Tuple[str, Entry]]:
     """The records of one key that apply on the date, each with its mark."""
     winning = winners(entries, day)
     mark = WINS if len({entry.body for entry in winning}) == 1 else CLASH
@@ -19,7 +25,7 @@ def marked(entries, day):
     return [(mark if entry in winning else HIDDEN, entry) for entry in applying]
 
 
-def explained(extract, uid, day):
+def explained(extract: Extract, uid: str, day: date) -> List[Tuple[str, str, Entry]]:
     """The mark and the kind of each record: those of the associations that have the UID, and then those of the train."""
     found = []
     for key, entries in by_key(extract.associations):
@@ -31,20 +37,20 @@ def explained(extract, uid, day):
     return found
 
 
-def line_of(mark, kind, entry):
+def line_of(mark: str, kind: str, entry: Entry) -> str:
     fields_of = association_fields if kind == "AA" else train_fields
-    said = " ".join(entry.key) if entry.letter == "C" else fields_of(entry.key, entry.body)
+    said = " ".join(entry.key) if entry.body is None else fields_of(entry.key, entry.body)
     return " ".join(
         [mark, kind, entry.letter, yymmdd(entry.first), yymmdd(entry.last), entry.days, said]
     )
 
 
-def explanation(extract, uid, day):
+def explanation(extract: Extract, uid: str, day: date) -> List[str]:
     """A line for each of these records."""
     return [line_of(*found) for found in explained(extract, uid, day)]
 
 
-def clashing(entries, day):
+def clashing(entries: List[Entry], day: date) -> List[str]:
     """The lines of those records of one key that clash on the date."""
     kind = "BS" if len(entries[0].key) == 1 else "AA"
     return [line_of(mark, kind, entry) for mark, entry in marked(entries, day) if mark == CLASH]

@@ -1,27 +1,69 @@
 """Reading: the lines of an input, the order of its records, and the extract that they are, or the first refused line."""
+from __future__ import annotations
+
 import re
-from collections import namedtuple
+from datetime import date
+from typing import Dict, List, NamedTuple, Optional, Sequence, Tuple
 
 from . import layouts
-from .dates import ddmmyy
-from .faults import FAILED, Fault, REFUSED, Refusal, of_line
+from .dates import Window, ddmmyy
+from .faults import FAILED, REFUSED, Fault, Refusal, of_line
+from .layouts import Fields, Readers
 
-# The fields of HD, the columns 3-72 of each TI, and the records about associations and about schedules.
-Extract = namedtuple("Extract", "header tiplocs associations schedules")
+# The texts of a key.
+Key = Tuple[str, ...]
 
-# A line but those of BX and a journey: its number, its kind and its fields; and the plain lines of BX and a journey behind it.
-Record = namedtuple("Record", "number kind fields lines")
 
-# How extracts of one sort are read: the kinds of record that they have, the readers that stand for some of those of the
-# layouts, and whether they may have comments.
-Sort = namedtuple("Sort", "kinds readers comments")
+class Record(NamedTuple):
+    """A line but those of BX and a journey: its number, its kind and its fields; and the plain lines of BX and a journey behind
+    it."""
 
-# A record about a key: the texts of the key, first and last date, days run, letter and body, which a cancellation lacks.
-Entry = namedtuple("Entry", "key first last days letter body")
+    number: int
+    kind: str
+    fields: Fields
+    lines: List[str]
 
-# The body of an association or a schedule: names and texts of the fields that AA or BS has of it, and the plain lines of
-# BX, if there is one, and of the journey.
-Body = namedtuple("Body", "fields lines")
+
+class Sort(NamedTuple):
+    """How extracts of one sort are read: the kinds of record that they have, the readers that stand for some of those of the
+    layouts, and whether they may have comments."""
+
+    kinds: Tuple[str, ...]
+    readers: Readers
+    comments: bool
+
+
+class Body(NamedTuple):
+    """The body of an association or a schedule: names and texts of the fields that AA or BS has of it, and the plain lines of
+    BX, if there is one, and of the journey."""
+
+    fields: Tuple[Tuple[str, str], ...]
+    lines: Tuple[str, ...]
+
+
+class Entry(NamedTuple):
+    """A record about a key: the texts of the key, first and last date, days run, letter and body, which a cancellation lacks."""
+
+    key: Key
+    first: date
+    last: date
+    days: str
+    letter: str
+    body: Optional[Body]
+
+
+class Extract(NamedTuple):
+    """The fields of HD, the columns 3-72 of each TI, and the records about associations and about schedules."""
+
+    header: Fields
+    tiplocs: List[str]
+    associations: List[Entry]
+    schedules: List[Entry]
+
+
+# For each key the body of each date on which one runs.
+Running = Dict[Key, Dict[date, Body]]
+
 
 PRINTABLE = re.compile(rb"[\x20-\x7e]*")
 KINDS = ("HD", "TI", "TA", "TD", "AA", "BS", "BX", "LO", "LI", "CR", "LT", "ZZ")
@@ -50,36 +92,38 @@ MAY_FOLLOW = {
 }
 
 
-def contents_of(data):
+def contents_of(data: bytes) -> List[bytes]:
     """What stands before each LF, without one CR before it, and behind the last LF if a byte stands there."""
     *ended, last = data.split(b"\n")
     return [part.removesuffix(b"\r") for part in ended] + ([last] if last else [])
 
 
-def line_of(content):
+def line_of(content: bytes) -> str:
     """The line that a content is."""
     if len(content) != layouts.WIDTH:
         raise Refusal("BadLength")
-    column = PRINTABLE.match(content).end() + 1
+    printable = PRINTABLE.match(content)
+    assert printable is not None
+    column = printable.end() + 1
     if column <= layouts.WIDTH:
         raise Refusal("BadByte", column, column)
     return content.decode("ascii")
 
 
-def kind_of(line, kinds):
+def kind_of(line: str, kinds: Tuple[str, ...]) -> str:
     if line[:2] not in kinds:
         raise Refusal("UnknownRecord", 1, 2)
     return line[:2]
 
 
-def may_follow(kind, before):
+def may_follow(kind: str, before: str) -> bool:
     """Whether a line of this kind may stand behind the one before."""
     if kind in NOTES:
         return before[:2] in OF_SCHEDULE
     return ("TI" if kind in ("TA", "TD") else kind) in MAY_FOLLOW[before]
 
 
-def place_behind(kind, fields, before):
+def place_behind(kind: str, fields: Fields, before: str) -> str:
     """What MAY_FOLLOW calls the place behind a line."""
     if kind in NOTES:
         return before
@@ -93,11 +137,12 @@ def place_behind(kind, fields, before):
     return kind + OF_CANCELLATION if alone and kind in ("BS", "BX") else kind
 
 
-def records_of(data, sort):
+def records_of(data: Optional[bytes], sort: Sort) -> List[Record]:
     """The records of an input, up to ZZ and the end of the input; None is an input that can't be read."""
     if data is None:
         raise Fault("ReadFault", FAILED)
-    records, before = [], START
+    records: List[Record] = []
+    before = START
     contents = contents_of(data)
     for number, content in enumerate(contents, 1):
         if sort.comments and COMMENT.fullmatch(content):
@@ -120,16 +165,16 @@ def records_of(data, sort):
     return records
 
 
-def of_kind(records, kind):
+def of_kind(records: List[Record], kind: str) -> List[Record]:
     return [record for record in records if record.kind == kind]
 
 
-def key_of(record):
+def key_of(record: Record) -> Tuple[str, ...]:
     """The key of an association or a schedule."""
     return tuple(record.fields[name] for name in layouts.KEYS[record.kind])
 
 
-def entry(record):
+def entry(record: Record) -> Entry:
     """What a record says about its key."""
     fields = record.fields
     first, last = layouts.window_of(record.kind, fields)
@@ -138,7 +183,7 @@ def entry(record):
     return Entry(key_of(record), first, last, fields["days"], fields["letter"], body)
 
 
-def extract_of(records):
+def extract_of(records: List[Record]) -> Extract:
     """The extract that these records are."""
     [header] = of_kind(records, "HD")
     tiplocs = [record.fields["tiploc"] for record in of_kind(records, "TI")]
@@ -148,21 +193,21 @@ def extract_of(records):
     return Extract(header.fields, tiplocs, associations, schedules)
 
 
-def read_extract(data):
+def read_extract(data: Optional[bytes]) -> Extract:
     return extract_of(records_of(data, OF_PROFILE))
 
 
-def window_of(extract):
+def window_of(extract: Extract) -> Window:
     return layouts.window_of("HD", extract.header)
 
 
-def common_of(extracts):
+def common_of(extracts: List[Extract]) -> Window:
     """The first and the last date of the part that the windows of two extracts have in common, if they have one."""
     firsts, lasts = zip(*(window_of(extract) for extract in extracts))
     return max(firsts), min(lasts)
 
 
-def narrowed(extract, asked):
+def narrowed(extract: Extract, asked: Sequence[Optional[date]]) -> Extract:
     """The extract with the window that is asked for: a first and a last date, each of them or None."""
     own = window_of(extract)
     for day in asked:

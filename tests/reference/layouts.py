@@ -1,17 +1,29 @@
 """The columns of each kind of record. Columns that no field has are spare."""
-from collections import namedtuple
+from __future__ import annotations
+
+from typing import Dict, List, NamedTuple, Tuple
 
 from . import values
-from .dates import from_ddmmyy, from_yymmdd
-from .faults import Refusal
+from .dates import Window, from_ddmmyy, from_yymmdd
+from .faults import Reader, Refusal
 
 WIDTH = 80
 
-# A field stands in the columns from first to last, which are counted from 1 and both included.
-Field = namedtuple("Field", "first last name read")
+# The columns of the fields of a line by the fields' names, and the readers that stand for others.
+Fields = Dict[str, str]
+Readers = Dict[Reader, Reader]
 
 
-def layout(*rows):
+class Field(NamedTuple):
+    """A field stands in the columns from first to last, which are counted from 1 and both included."""
+
+    first: int
+    last: int
+    name: str
+    read: Reader
+
+
+def layout(*rows: Tuple[int, int, str, Reader]) -> List[Field]:
     return [Field(*row) for row in rows]
 
 
@@ -36,9 +48,9 @@ TRAIN_TEXTS = [
 ]
 
 
-def texts(first, widths):
+def texts(first: int, widths: List[Tuple[str, int]]) -> List[Tuple[int, int, str, Reader]]:
     """Rows of texts that stand one behind the other."""
-    rows = []
+    rows: List[Tuple[int, int, str, Reader]] = []
     for name, width in widths:
         rows.append((first, first + width - 1, name, values.text))
         first += width
@@ -162,16 +174,16 @@ OF_DELETED = {
 }
 
 
-def columns_of(line, field):
+def columns_of(line: str, field: Field) -> str:
     return line[field.first - 1 : field.last]
 
 
-def read_fields(kind, line):
+def read_fields(kind: str, line: str) -> List[Field]:
     """The fields that are read of a line."""
     return OF_DELETED[kind] if kind in OF_DELETED and line[2] == "D" else LAYOUTS[kind]
 
 
-def read(kind, line, instead):
+def read(kind: str, line: str, instead: Readers) -> Fields:
     """The fields of a line by their names, as they are written; raises the first refusal in the order of columns.
 
     Instead has the readers that stand for some of those of the layouts.
@@ -188,7 +200,7 @@ def read(kind, line, instead):
     return fields
 
 
-def is_reversed(kind, fields):
+def is_reversed(kind: str, fields: Fields) -> bool:
     """Whether the first date of a record is after its last date, if it has one."""
     return (
         fields["last"] != values.OPEN_END
@@ -196,13 +208,15 @@ def is_reversed(kind, fields):
     )
 
 
-def window_of(kind, fields):
+def window_of(kind: str, fields: Fields) -> Window:
     """The first and the last date of a record."""
     from_columns = from_ddmmyy if kind == "HD" else from_yymmdd
-    return from_columns(fields["first"]), from_columns(fields["last"])
+    first, last = from_columns(fields["first"]), from_columns(fields["last"])
+    assert first is not None and last is not None
+    return first, last
 
 
-def plain(kind, fields):
+def plain(kind: str, fields: Fields) -> str:
     """The line that has these fields, and spaces in all other columns."""
     line = kind.ljust(WIDTH)
     for field in LAYOUTS[kind]:

@@ -1,30 +1,35 @@
 """Published extracts: how they are read, the extract of the profile that is made of one, and what updates do to one."""
-from itertools import pairwise
+from __future__ import annotations
+
+from datetime import date
+from typing import Dict, Iterable, Iterator, List, Optional, Set, Tuple, Union
 
 from . import values
-from .dates import DAY, from_yymmdd, yymmdd
-from .extracts import KINDS, NOTES, Sort, key_of, of_kind, records_of
+from .dates import DAY, Window, day_of, yymmdd
+from .extracts import KINDS, NOTES, Record, Sort, key_of, of_kind, records_of
 from .faults import Refusal, of_line
-from .layouts import BODIES, LAYOUTS, plain, window_of
+from .layouts import BODIES, LAYOUTS, Readers, plain, window_of
 from .meaning import name_of
 
 AS_PREPARED = "FULL has no open end and no holiday code, as if it were prepared"
-OPEN_ENDS = {values.last_date: values.last_date_or_open_end}
-TRANSACTIONS = {
+OPEN_ENDS: Readers = {values.last_date: values.last_date_or_open_end}
+TRANSACTIONS: Readers = {
     values.full: values.update,
     values.new: values.transaction,
     values.of_update: values.as_it_stands,
 }
 
 
-def read_published(data, codes=values.HOLIDAY_CODES):
+def read_published(
+    data: Optional[bytes], codes: Iterable[str] = values.HOLIDAY_CODES
+) -> List[Record]:
     """The records of a published extract in which these holiday codes may stand."""
-    readers = OPEN_ENDS | {values.bank_holiday: values.holiday_code(codes)}
+    readers: Readers = OPEN_ENDS | {values.bank_holiday: values.holiday_code(codes)}
     return records_of(data, Sort((*KINDS, *NOTES), readers, True))
 
 
-def read_update(data):
-    readers = (
+def read_update(data: Optional[bytes]) -> List[Record]:
+    readers: Readers = (
         OPEN_ENDS | TRANSACTIONS | {values.bank_holiday: values.holiday_code(values.HOLIDAY_CODES)}
     )
     return records_of(data, Sort((*KINDS, *NOTES), readers, True))
@@ -33,7 +38,7 @@ def read_update(data):
 # ---- written
 
 
-def plain_lines(record):
+def plain_lines(record: Record) -> List[str]:
     """The lines of a record; a cancellation has no body."""
     if record.fields.get("letter") != "C":
         return [plain(record.kind, record.fields), *record.lines]
@@ -46,7 +51,7 @@ def plain_lines(record):
     ]
 
 
-def written(records):
+def written(records: List[Record]) -> List[str]:
     """The lines of an extract: those of each kind in the order of its records."""
     kinds = ("HD", "TI", "AA", "BS", "ZZ")
     return [
@@ -57,20 +62,20 @@ def written(records):
 # ---- prepared
 
 
-def span(record, window):
+def span(record: Record, window: Window) -> Window:
     """The first and the last date of an association or a schedule; an open end is one of the window, or the first date."""
     first, last = record.fields["first"], record.fields["last"]
-    return from_yymmdd(first), max(
-        from_yymmdd(first), window[1]
-    ) if last == values.OPEN_END else from_yymmdd(last)
+    return day_of(first), (
+        max(day_of(first), window[1]) if last == values.OPEN_END else day_of(last)
+    )
 
 
-def holidays_of(record, holidays):
+def holidays_of(record: Record, holidays: Dict[str, Set[date]]) -> Set[date]:
     """The holidays of its code."""
-    return set(holidays.get(record.fields.get("bank_holiday"), ()))
+    return set(holidays.get(record.fields.get("bank_holiday", ""), ()))
 
 
-def cuts(record, window, days):
+def cuts(record: Record, window: Window, days: Set[date]) -> List[date]:
     """Those of the days at which it is cut, rising."""
     first, last = span(record, window)
     return [
@@ -80,19 +85,25 @@ def cuts(record, window, days):
     ]
 
 
-def parts(record, window, days):
+def parts(record: Record, window: Window, days: Set[date]) -> Iterator[Record]:
     """The records of the profile that stand for an association or a schedule that is cut at these days."""
     fields, (first, last) = record.fields, span(record, window)
-    for before, behind in pairwise([first - DAY, *cuts(record, window, days), last + DAY]):
+    ends = [first - DAY, *cuts(record, window, days), last + DAY]
+    for before, behind in zip(ends, ends[1:]):
         start, end = before + DAY, behind - DAY
         if start <= end:
             dates = {"first": yymmdd(start), "last": yymmdd(end), "bank_holiday": " "}
             yield record._replace(fields=fields | dates)
 
 
-def prepared(records, holidays, clashes=None):
+def prepared(
+    records: List[Record],
+    holidays: Dict[str, Set[date]],
+    clashes: Optional[Dict[Tuple[str, ...], List[date]]] = None,
+) -> List[Record]:
     """The records of the prepared extract, which are cut at the clash dates of their keys too if these are given."""
-    window, found = window_in(records), []
+    window = window_in(records)
+    found: List[Record] = []
     for record in records:
         if record.kind in BODIES:
             found += parts(
@@ -105,12 +116,12 @@ def prepared(records, holidays, clashes=None):
     return found
 
 
-def window_in(records):
+def window_in(records: List[Record]) -> Window:
     [header] = of_kind(records, "HD")
     return window_of("HD", header.fields)
 
 
-def count_cut(records, holidays):
+def count_cut(records: List[Record], holidays: Dict[str, Set[date]]) -> int:
     """How many records are cut by holidays."""
     window = window_in(records)
     return sum(
@@ -120,18 +131,22 @@ def count_cut(records, holidays):
     )
 
 
-def count_clashing(records, holidays, clashes):
+def count_clashing(
+    records: List[Record],
+    holidays: Dict[str, Set[date]],
+    clashes: Dict[Tuple[str, ...], List[date]],
+) -> int:
     """How many records apply on a clash date of their keys."""
     window, kept = window_in(records), [record for record in records if record.kind in BODIES]
     days = [set(clashes.get(key_of(record), ())) - holidays_of(record, holidays) for record in kept]
     return sum(bool(cuts(record, window, of_key)) for record, of_key in zip(kept, days))
 
 
-def count_open_ends(records):
+def count_open_ends(records: List[Record]) -> int:
     return sum(record.fields.get("last") == values.OPEN_END for record in records)
 
 
-def has_marks(records):
+def has_marks(records: List[Record]) -> bool:
     """Whether a record that isn't deleted has an open end or a holiday code."""
     kept = [
         record.fields
@@ -144,7 +159,7 @@ def has_marks(records):
     )
 
 
-def told(key, days):
+def told(key: Tuple[str, ...], days: List[date]) -> str:
     """What is told of a key that has these clash dates."""
     more = len(days) - 1
     rest = f" and {more} more date" + "s" * (more > 1) if more else ""
@@ -154,14 +169,14 @@ def told(key, days):
 # ---- updated
 
 
-def update_key(record):
+def update_key(record: Record) -> Union[Tuple[str, ...], str]:
     """What an update knows a record by."""
     if record.kind not in BODIES:
         return record.fields["tiploc"][:7]
     return record.kind, *key_of(record), record.fields["first"], record.fields["letter"]
 
 
-def put_by(record):
+def put_by(record: Record) -> Optional[Record]:
     """The record that a line of an update puts, if it puts one."""
     if record.kind == "TA":
         tiploc, new = record.fields["tiploc"], record.fields["new_tiploc"]
@@ -177,12 +192,14 @@ def put_by(record):
     )
 
 
-def transaction_of(record):
+def transaction_of(record: Record) -> Optional[str]:
     """What a line of an update does: `N` new, `R` revised or `D` deleted."""
     return {"TI": "N", "TA": "R", "TD": "D"}.get(record.kind) or record.fields.get("transaction")
 
 
-def refusal_of(record, put, there):
+def refusal_of(
+    record: Record, put: Optional[Record], there: Set[Union[Tuple[str, ...], str]]
+) -> Optional[str]:
     """Why a line of an update can't do what it says, or None; there has the keys of all records that are there."""
     new = transaction_of(record) == "N"
     if not new and update_key(record) not in there:
@@ -195,13 +212,15 @@ def refusal_of(record, put, there):
     return "AlreadyThere" if also else None
 
 
-def follows(update_header, header):
+def follows(update_header: Record, header: Record) -> bool:
     """Whether an update with this header follows an extract with that one."""
     last = update_header.fields["last_file"]
     return last in (" " * 7, header.fields["current_file"])
 
 
-def updated(records, update, lenient):
+def updated(
+    records: List[Record], update: List[Record], lenient: bool
+) -> Tuple[List[Record], List[str]]:
     """The records after an update, and its lines that are waived, each by its number with its refusal."""
     [header], [trailer], [update_header] = (
         of_kind(records, "HD"),
@@ -211,7 +230,7 @@ def updated(records, update, lenient):
     there = [(update_key(record), record) for record in records if record.kind not in ("HD", "ZZ")]
     waived = []
 
-    def waive(record, refusal):
+    def waive(record: Record, refusal: str) -> None:
         if not lenient:
             raise of_line(record.number, Refusal(refusal))
         waived.append(f"line {record.number}: {refusal}")

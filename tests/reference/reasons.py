@@ -1,10 +1,14 @@
 """All reasons to refuse an input, with the lines that have them."""
+from __future__ import annotations
+
+from typing import Dict, List, Optional, Tuple
+
 from . import layouts
 from .extracts import KINDS, contents_of, kind_of, line_of
 from .faults import FAILED, Fault, Refusal
 
 # The reasons that a line can have by itself, in the order of their numbers.
-REASONS = (
+REASONS: Tuple[str, ...] = (
     "BadLength",
     "BadByte",
     "UnknownRecord",
@@ -20,7 +24,7 @@ REASONS += ("BankHoliday", "BadStp", "BadTime")
 LONGEST = 10000
 
 
-def own_reason(content):
+def own_reason(content: bytes) -> Optional[str]:
     """The reason of a line whatever stands before it, or None."""
     try:
         line = line_of(content)
@@ -30,7 +34,7 @@ def own_reason(content):
     return None
 
 
-def judged(data):
+def judged(data: bytes) -> List[bytes]:
     """The contents that are judged; a line that is too long to be read to its end is the last one."""
     at = 0
     while 0 <= data.find(b"\n", at, at + LONGEST):
@@ -38,17 +42,17 @@ def judged(data):
     return contents_of(data[: at + LONGEST])
 
 
-def all_reasons(data):
+def all_reasons(data: Optional[bytes]) -> Dict[str, List[int]]:
     """The reasons that lines have, each with the numbers of those lines."""
     if data is None:
         raise Fault("ReadFault", FAILED)
-    lines = {}
+    lines: Dict[Optional[str], List[int]] = {}
     for number, content in enumerate(judged(data), 1):
         lines.setdefault(own_reason(content), []).append(number)
     return {name: lines[name] for name in REASONS if name in lines}
 
 
-def listed(reasons):
+def listed(reasons: Dict[str, List[int]]) -> List[str]:
     """A line for each reason."""
     return [
         f"{name}: {len(at)} line{'s' * (len(at) > 1)}, first at line {at[0]}"

@@ -1,8 +1,24 @@
 """Tables: a line of field names, then a line for each row. A tab stands between fields, and a field has no spaces at its end."""
+from __future__ import annotations
+
+from datetime import date
+from typing import List, Optional, Sequence, Tuple
+
 from . import values
-from .dates import from_ddmmyy, from_yymmdd
+from .dates import Window, day_of
 from .explanation import explained
-from .layouts import ASSOCIATION_KEY, LAYOUTS, TRAIN_KEY, TRAIN_TEXTS, columns_of, layout, plain
+from .extracts import Body, Extract, Running
+from .layouts import (
+    ASSOCIATION_KEY,
+    LAYOUTS,
+    TRAIN_KEY,
+    TRAIN_TEXTS,
+    columns_of,
+    layout,
+    plain,
+    window_of,
+)
+from .meaning import Meaning
 from .public import Call, public_calls
 from .texts import of_one_side, record_lines
 from .weeks import joined
@@ -72,22 +88,22 @@ OTHER_NAMES = {
 }
 
 
-def named(*names):
+def named(*names: str) -> List[str]:
     return [OTHER_NAMES.get(name, name) for name in names]
 
 
-def lines_of(heading, rows):
+def lines_of(heading: List[str], rows: List[List[str]]) -> List[str]:
     return ["\t".join(row) for row in [heading, *rows]]
 
 
-def cell(name, columns):
+def cell(name: str, columns: str) -> str:
     """The cell that has these columns: of a UID all six, and of a date YYYY-MM-DD."""
     if name in UIDS:
         return columns
-    return from_yymmdd(columns).isoformat() if name in DATES else columns.rstrip(" ")
+    return day_of(columns).isoformat() if name in DATES else columns.rstrip(" ")
 
 
-def cells(line, names):
+def cells(line: str, names: Tuple[str, ...]) -> List[str]:
     """The cells of a plain line; those of fields that its kind doesn't have are empty."""
     columns = {field.name: columns_of(line, field) for field in LAYOUTS[line[:2]]}
     return [cell(name, columns[name]) if name in columns else "" for name in names]
@@ -96,9 +112,9 @@ def cells(line, names):
 # ---- of a whole extract
 
 
-def schedules_of(lines):
+def schedules_of(lines: List[str]) -> List[List[str]]:
     """The lines of each schedule of a canonical extract."""
-    found = []
+    found: List[List[str]] = []
     for line in lines:
         if line[:2] == "BS":
             found.append([])
@@ -107,14 +123,14 @@ def schedules_of(lines):
     return found
 
 
-def extra_of(lines):
+def extra_of(lines: List[str]) -> List[str]:
     """The cells that a schedule has of its BX: `BX` and its fields, all of them empty where it has none."""
     return next(
         (["BX", *cells(line, EXTRA)] for line in lines if line[:2] == "BX"), [""] * (1 + len(EXTRA))
     )
 
 
-def numbered(lines):
+def numbered(lines: Sequence[str]) -> List[Tuple[str, str]]:
     """The lines of a journey, each with the number of its call; a CR has that of the call behind it."""
     found, call = [], 1
     for line in lines:
@@ -124,32 +140,33 @@ def numbered(lines):
     return found
 
 
-def header_rows(lines):
+def header_rows(lines: List[str]) -> List[List[str]]:
     fields = {field.name: columns_of(lines[0], field).rstrip(" ") for field in LAYOUTS["HD"]}
-    fields |= {name: from_ddmmyy(fields[name]).isoformat() for name in DATES}
+    first, last = window_of("HD", fields)
+    fields |= {"first": first.isoformat(), "last": last.isoformat()}
     return [[fields[name] for name in HEADER]]
 
 
-def tiploc_cells(line):
+def tiploc_cells(line: str) -> List[str]:
     return [columns_of(line, field).rstrip(" ") for field in TIPLOC]
 
 
-def tiploc_rows(lines):
+def tiploc_rows(lines: List[str]) -> List[List[str]]:
     return [tiploc_cells(line) for line in lines if line[:2] == "TI"]
 
 
-def association_rows(lines):
+def association_rows(lines: List[str]) -> List[List[str]]:
     return [cells(line, ASSOCIATION) for line in lines if line[:2] == "AA"]
 
 
-def schedule_rows(lines):
+def schedule_rows(lines: List[str]) -> List[List[str]]:
     return [
         [str(number), *cells(schedule[0], ("uid", *RECORD, *TRAIN)), *extra_of(schedule)]
         for number, schedule in enumerate(schedules_of(lines), 1)
     ]
 
 
-def call_rows(lines):
+def call_rows(lines: List[str]) -> List[List[str]]:
     return [
         [str(number), call, line[:2], *cells(line, ("location", "suffix", *CALL))]
         for number, schedule in enumerate(schedules_of(lines), 1)
@@ -158,7 +175,7 @@ def call_rows(lines):
     ]
 
 
-def change_rows(lines):
+def change_rows(lines: List[str]) -> List[List[str]]:
     return [
         [str(number), call, *cells(line, ("location", "suffix", *CHANGE))]
         for number, schedule in enumerate(schedules_of(lines), 1)
@@ -167,7 +184,7 @@ def change_rows(lines):
     ]
 
 
-def public_rows(lines):
+def public_rows(lines: List[str]) -> List[List[str]]:
     rows = []
     for number, schedule in enumerate(schedules_of(lines), 1):
         names = ("location", *CALL)
@@ -191,7 +208,7 @@ TABLES = {
 }
 
 
-def table(name, lines):
+def table(name: str, lines: List[str]) -> List[str]:
     """A table of the canonical extract that has these lines."""
     heading, rows = TABLES[name]
     return lines_of(heading, rows(lines))
@@ -213,11 +230,11 @@ LISTED_OF_CALL = ("location", "suffix", *TIMES, "platform", "path", "line", "act
 OF_CALL = ["call", *(f"call_{name}" for name in LISTED_OF_CALL)]
 
 
-def nothing(names):
+def nothing(names: List[str]) -> List[str]:
     return [""] * len(names)
 
 
-def journey_cells(body):
+def journey_cells(body: Body) -> List[str]:
     origin, terminus = (
         next(line for line in body.lines if line.startswith(kind)) for kind in ("LO", "LT")
     )
@@ -226,14 +243,14 @@ def journey_cells(body):
     return [dict(body.fields)["identity"].rstrip(" "), *ends]
 
 
-def association_cells(key, body):
+def association_cells(key: Tuple[str, ...], body: Optional[Body]) -> List[str]:
     """The fields of an association; a cancellation has those of the key alone."""
     fields = dict(zip(ASSOCIATION_KEY, key)) | dict(body.fields if body else ())
     names = ("base", "associated", "category", "date_indicator", *OF_KEY, "diagram", "type")
     return [cell(name, fields.get(name, "")) for name in names]
 
 
-def rows_of_train(row, body, stops):
+def rows_of_train(row: List[str], body: Body, stops: bool) -> List[List[str]]:
     """The row of a train; with stops one row for each of its calls, which begins with it."""
     if not stops:
         return [row]
@@ -242,7 +259,7 @@ def rows_of_train(row, body, stops):
     ]
 
 
-def day_table(meaning, day, stops):
+def day_table(meaning: Meaning, day: date, stops: bool) -> List[str]:
     """What holds and runs on a date."""
     calls, rows = OF_CALL if stops else [], []
     for key, bodies in meaning.associations.items():
@@ -268,7 +285,7 @@ def day_table(meaning, day, stops):
     return lines_of(["date", "kind", "uid", *OF_JOURNEY, *OF_ASSOCIATION, *calls], rows)
 
 
-def train_table(meaning, uid, form, stops):
+def train_table(meaning: Meaning, uid: str, form: str, stops: bool) -> List[str]:
     """The records that a train has in the canonical extract."""
     rows = []
     for record in joined(meaning.trains.get((uid,), {}), meaning.window, form):
@@ -277,7 +294,7 @@ def train_table(meaning, uid, form, stops):
     return lines_of(["uid", *named(*RECORD), *OF_JOURNEY, *(OF_CALL if stops else ())], rows)
 
 
-def explanation_table(extract, uid, day):
+def explanation_table(extract: Extract, uid: str, day: date) -> List[str]:
     """The records that apply on a date, each with its mark."""
     rows = []
     for mark, kind, entry in explained(extract, uid, day):
@@ -317,19 +334,21 @@ OF_DIFFERENCE = [
 ]
 
 
-def unequal(where, names, ours, theirs):
+def unequal(
+    where: List[str], names: Sequence[str], ours: List[str], theirs: List[str]
+) -> List[List[str]]:
     """For each field whose cells differ: where it is, its name and both cells."""
     return [
         [*where, name, our, their] for name, our, their in zip(names, ours, theirs) if our != their
     ]
 
 
-def unequal_associations(ours, theirs):
+def unequal_associations(ours: List[str], theirs: List[str]) -> List[List[str]]:
     both = (cells(lines[0], ASSOCIATION_BODY) for lines in (ours, theirs))
     return unequal(["", "AA", ""], named(*ASSOCIATION_BODY), *both)
 
 
-def unequal_journeys(ours, theirs):
+def unequal_journeys(ours: List[str], theirs: List[str]) -> List[List[str]]:
     """Call by call, where both journeys have the same calls and changes at the same places; else how many calls they have."""
     both = [numbered(lines) for lines in (ours, theirs)]
     ways = [
@@ -355,7 +374,7 @@ def unequal_journeys(ours, theirs):
     return rows
 
 
-def unequal_schedules(ours, theirs):
+def unequal_schedules(ours: List[str], theirs: List[str]) -> List[List[str]]:
     trains = (cells(lines[0], TRAIN) for lines in (ours, theirs))
     (our_extra, *our_fields), (their_extra, *their_fields) = extra_of(ours), extra_of(theirs)
     rows = unequal(["", "BS", ""], TRAIN, *trains)
@@ -367,12 +386,18 @@ def unequal_schedules(ours, theirs):
 UNEQUAL = {"AA": unequal_associations, "BS": unequal_schedules}
 
 
-def place_cells(kind, line):
+def place_cells(kind: str, line: str) -> List[str]:
     """From `tiploc` to `days_run`: what the record is about and its dates; what its kind doesn't have is empty."""
     return ["", *cells(line, ("base" if kind == "AA" else "uid", "associated", *OF_KEY, *RECORD))]
 
 
-def rows_of_kind(kind, names, left, right, window):
+def rows_of_kind(
+    kind: str,
+    names: Tuple[str, ...],
+    left: Running,
+    right: Running,
+    window: Window,
+) -> List[List[str]]:
     """A row for each record that only one side has at its dates, and for a pair one for each field that differs."""
     records = [
         (mark, record_lines(kind, names, key, record))
@@ -390,7 +415,7 @@ def rows_of_kind(kind, names, left, right, window):
     return rows
 
 
-def difference_table(left, right):
+def difference_table(left: Meaning, right: Meaning) -> List[str]:
     """Everything in which two meanings with one window differ, field by field."""
     rows = []
     for tiploc in sorted(set(left.tiplocs) ^ set(right.tiplocs)):

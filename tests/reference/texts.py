@@ -1,10 +1,17 @@
 """The texts that the program prints of what an extract means."""
-from .dates import yymmdd
+from __future__ import annotations
+
+from datetime import date
+from typing import Dict, List, Tuple, Union
+
+from .dates import Window, yymmdd
+from .extracts import Body, Key, Running
 from .layouts import ASSOCIATION_KEY, TRAIN_KEY, plain
-from .weeks import joined
+from .meaning import Meaning
+from .weeks import Joined, joined
 
 
-def record_lines(kind, names, key, record):
+def record_lines(kind: str, names: Tuple[str, ...], key: Key, record: Joined) -> List[str]:
     """The plain lines of one joined record."""
     fields = {**dict(zip(names, key)), **dict(record.body.fields)}
     fields |= {"transaction": "N", "bank_holiday": " ", "letter": "P"}
@@ -12,7 +19,13 @@ def record_lines(kind, names, key, record):
     return [plain(kind, fields), *record.body.lines]
 
 
-def lines_of(kind, names, running, window, form):
+def lines_of(
+    kind: str,
+    names: Tuple[str, ...],
+    running: Running,
+    window: Window,
+    form: str,
+) -> Tuple[List[str], int]:
     """The plain lines of the joined records of all keys, and how many records they are."""
     lines, count = [], 0
     for key, bodies in running.items():
@@ -22,7 +35,7 @@ def lines_of(kind, names, running, window, form):
     return lines, count
 
 
-def canonical(meaning, form):
+def canonical(meaning: Meaning, form: str) -> Tuple[List[str], Tuple[int, int, int]]:
     """The canonical extract, and the numbers of its locations, associations and schedules."""
     associations, held = lines_of("AA", ASSOCIATION_KEY, meaning.associations, meaning.window, form)
     schedules, run = lines_of("BS", TRAIN_KEY, meaning.trains, meaning.window, form)
@@ -31,7 +44,7 @@ def canonical(meaning, form):
     return lines, (len(tiplocs), held, run)
 
 
-def alone_said(ours, theirs):
+def alone_said(ours: Running, theirs: Running) -> Running:
     """For each key the body of each date on which only one of the two says it."""
     return {
         key: {day: body for day, body in bodies.items() if theirs.get(key, {}).get(day) != body}
@@ -39,7 +52,11 @@ def alone_said(ours, theirs):
     }
 
 
-def of_one_side(left, right, window):
+def of_one_side(
+    left: Running,
+    right: Running,
+    window: Window,
+) -> List[Tuple[Tuple[str, ...], str, Joined]]:
     """The records that only one of the two says: each with its key and mark, rising by key, then by first date, left first."""
     sides = ("<", alone_said(left, right)), (">", alone_said(right, left))
     found = []
@@ -55,7 +72,13 @@ def of_one_side(left, right, window):
     return found
 
 
-def differing(kind, names, left, right, window):
+def differing(
+    kind: str,
+    names: Tuple[str, ...],
+    left: Running,
+    right: Running,
+    window: Window,
+) -> List[str]:
     """The lines of these records."""
     return [
         f"{mark} {line}"
@@ -64,7 +87,7 @@ def differing(kind, names, left, right, window):
     ]
 
 
-def differences(left, right):
+def differences(left: Meaning, right: Meaning) -> List[str]:
     """Everything in which two meanings with one window differ."""
     of_one = sorted(set(left.tiplocs) ^ set(right.tiplocs))
     lines = [
@@ -75,11 +98,11 @@ def differences(left, right):
     return lines + differing("BS", TRAIN_KEY, left.trains, right.trains, left.window)
 
 
-def counted(numbers):
+def counted(numbers: Tuple[int, int, int]) -> str:
     return "accepted: {} tiplocs, {} associations, {} schedules".format(*numbers)
 
 
-def journey(body):
+def journey(body: Body) -> str:
     """The train identity, where and when the journey begins and ends, and the platforms."""
     origin, terminus = (
         next(line for line in body.lines if line.startswith(kind)) for kind in ("LO", "LT")
@@ -90,20 +113,20 @@ def journey(body):
     return " ".join([dict(body.fields)["identity"], *ends])
 
 
-def association_fields(key, body):
+def association_fields(key: Key, body: Body) -> str:
     fields = dict(zip(ASSOCIATION_KEY, key)) | dict(body.fields)
-    shown = ("base", "associated", "category", "date_indicator", "location")
+    shown: Tuple[str, ...] = ("base", "associated", "category", "date_indicator", "location")
     shown += ("base_suffix", "associated_suffix", "diagram", "type")
     return " ".join(fields[name] for name in shown)
 
 
-def train_fields(key, body):
+def train_fields(key: Key, body: Body) -> str:
     return f"{key[0]} {journey(body)}"
 
 
-def call_line(line):
+def call_line(line: str) -> str:
     """The line of a call by its fields, each with its columns in LO, LI and LT; one that a record lacks is spaces."""
-    kinds = {
+    kinds: Dict[str, Tuple[Union[int, Tuple[int, int]], ...]] = {
         "LO": ((3, 9), (10, 10), 5, (11, 15), 5, 4, (16, 19), (20, 22), 3, (23, 25), (30, 41)),
         "LI": (
             (3, 9),
@@ -132,14 +155,14 @@ def call_line(line):
     )
 
 
-def call_lines(body, stops):
+def call_lines(body: Body, stops: bool) -> List[str]:
     """The lines of a train's calls, if they are asked for."""
     return (
         [call_line(line) for line in body.lines if line[:2] in ("LO", "LI", "LT")] if stops else []
     )
 
 
-def day_view(meaning, day, stops):
+def day_view(meaning: Meaning, day: date, stops: bool) -> List[str]:
     """A line for each association that holds on the date, and for each train that runs, with its calls if they are asked for."""
     associations = [
         f"AA {association_fields(key, bodies[day])}"
@@ -154,7 +177,7 @@ def day_view(meaning, day, stops):
     ]
 
 
-def train_view(meaning, uid, form, stops):
+def train_view(meaning: Meaning, uid: str, form: str, stops: bool) -> List[str]:
     """A line for each record that the train has in the canonical extract, with its calls if they are asked for."""
     records = joined(meaning.trains.get((uid,), {}), meaning.window, form)
     lines = []

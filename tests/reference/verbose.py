@@ -1,16 +1,31 @@
 """What `--verbose` adds on standard error: of an answer what was read, of a fault which input it is about and what helps."""
+from __future__ import annotations
+
 import re
-from collections import namedtuple
+from datetime import date
+from typing import Dict, List, Match, NamedTuple, Optional, Set, TYPE_CHECKING, Tuple, Union
 
 from . import layouts, values
 from .dates import from_yymmdd, yymmdd
 from .explanation import clashing
+from .extracts import COMMENT, NOTES, Extract, Record, contents_of
+from .faults import Fault, Reader, Refusal
 from .holidays import WIDTH
-from .extracts import COMMENT, NOTES, contents_of
+from .layouts import Fields
 from .published import count_clashing, count_cut, count_open_ends, transaction_of
 
-# An input: its name as it is shown, its bytes, or None where it can't be read, and whether it is a file, which can be read again.
-Input = namedtuple("Input", "name data again")
+if TYPE_CHECKING:
+    from .answers import Inputs, Job
+
+
+class Input(NamedTuple):
+    """An input: its name as it is shown, its bytes, or None where it can't be read, and whether it is a file, which can be read
+    again."""
+
+    name: str
+    data: Optional[bytes]
+    again: bool
+
 
 SIDES = {"compare": ("LEFT", "RIGHT"), "diff": ("LEFT", "RIGHT"), "prepare": ("", "holidays")}
 
@@ -57,7 +72,7 @@ CLASHES = "cif clashes lists all clashes; cif prepare --drop-clashes leaves them
 LENIENT = "--lenient goes on after such a line"
 
 # What must stand in columns that are refused: by the reason, or else by what stands there.
-MUST = {
+MUST: Dict[Union[str, Reader, None], str] = {
     "BadByte": "a byte is 0x20 to 0x7E",
     "UnknownRecord": "no kind of record has this identity",
     "OutOfOrder": "a record of this kind can't stand here",
@@ -88,18 +103,18 @@ PREPARE_WITH_HOLIDAYS = "cif prepare --holidays FILE makes an extract of a publi
 UPDATE = "cif update applies an update to a full extract"
 
 
-def has_code(line):
+def has_code(line: bytes) -> bool:
     return line[28:29].decode("latin-1") in values.HOLIDAY_CODES
 
 
-def letter_of_header(one):
+def letter_of_header(one: Input) -> bytes:
     """Column 47 of the header behind the first comments of a file."""
-    lines = contents_of(one.data)[:COMMENTS] if one.again else []
+    lines = contents_of(data_of(one))[:COMMENTS] if one.again else []
     header = next((line for line in lines if not COMMENT.fullmatch(line)), b"")
     return header[46:47] if header[:2] == b"HD" else b""
 
 
-def helps(reason, line, one):
+def helps(reason: str, line: bytes, one: Input) -> Optional[str]:
     """The command that accepts a line of an input which others refuse, if there is one."""
     if reason == "OpenEnd":
         return PREPARE
@@ -112,7 +127,7 @@ def helps(reason, line, one):
     return UPDATE if reason == "NotFull" and line[:2] == b"HD" and line[46:47] == b"U" else None
 
 
-def help_with_all(one, reasons):
+def help_with_all(one: Input, reasons: Dict[str, List[int]]) -> List[str]:
     """The commands for the first lines of some reasons; none of them but update accepts an update."""
     lines = {name: line_again(one, at[0]) for name, at in reasons.items()}
     found = {helps(name, line, one) for name, line in lines.items()}
@@ -124,15 +139,15 @@ def help_with_all(one, reasons):
 # ---- inputs
 
 
-def escaped(text):
-    def escape(found):
+def escaped(text: str) -> str:
+    def escape(found: Match[str]) -> str:
         sign = found[0]
         return LETTERS.get(sign) or (f"\\u{{{ord(sign):x}}}" if found[1] else f"\\x{ord(sign):02x}")
 
     return HIDDEN.sub(escape, text)
 
 
-def inputs_of(job, names, data):
+def inputs_of(job: Job, names: List[str], data: Inputs) -> List[Input]:
     """The inputs of these names."""
     sides = (
         ("FULL", *["UPDATE"] * len(data))
@@ -146,22 +161,30 @@ def inputs_of(job, names, data):
     return found
 
 
-def line_again(one, number):
+def data_of(one: Input) -> bytes:
+    """The bytes of an input that can be read."""
+    assert one.data is not None
+    return one.data
+
+
+def line_again(one: Input, number: int) -> bytes:
     """The content of the line of this number, or its first bytes."""
-    return contents_of(one.data)[number - 1][: None if one.again else KEPT]
+    return contents_of(data_of(one))[number - 1][: None if one.again else KEPT]
 
 
-def shown(line):
+def shown(line: bytes) -> str:
     return re.sub("[^ -~]", "?", line[: layouts.WIDTH].decode("latin-1"))
 
 
-def header_of(one):
+def header_of(one: Input) -> Fields:
     """The fields of the header with which an input begins, or which stands behind comments there."""
-    header = next(line for line in contents_of(one.data) if not COMMENT.fullmatch(line)).decode()
+    header = next(
+        line for line in contents_of(data_of(one)) if not COMMENT.fullmatch(line)
+    ).decode()
     return layouts.read("HD", header, {values.full: values.as_it_stands})
 
 
-def window(one):
+def window(one: Input) -> Tuple[date, date, str]:
     """The line of its window."""
     first, last = layouts.window_of("HD", header_of(one))
     return first, last, f"{one.name} has the window {yymmdd(first)} to {yymmdd(last)}"
@@ -170,12 +193,14 @@ def window(one):
 # ---- of an answer
 
 
-def of_reasons(one, reasons):
+def of_reasons(one: Input, reasons: Dict[str, List[int]]) -> List[str]:
     """What is said of the reasons of check --all, each with the numbers of its lines."""
     return [f"in {one.name}", *(other_format(one) or help_with_all(one, reasons))]
 
 
-def of_extracts(job, inputs, extracts, lines):
+def of_extracts(
+    job: Job, inputs: List[Input], extracts: List[Extract], lines: List[str]
+) -> List[str]:
     """What is said of the lines that were answered about these extracts."""
     said = [window(one)[2] for one in inputs]
     has_schedule = any(entry.key == (job.uid,) for entry in extracts[0].schedules)
@@ -188,16 +213,21 @@ def of_extracts(job, inputs, extracts, lines):
     return said
 
 
-def of_feed(one, records, more):
+def of_feed(one: Input, records: List[Record], more: str) -> List[str]:
     """What is said of an input of prepare or update with these records, and more of it."""
-    lines = contents_of(one.data)
+    lines = contents_of(data_of(one))
     comments = sum(bool(COMMENT.fullmatch(line)) for line in lines)
     notes = sum(line[:2].decode("latin-1") in NOTES for line in lines)
     counts = f"comments: {comments}, notes: {notes}, open ends: {count_open_ends(records)}"
     return [window(one)[2], f"{one.name}: {counts}{more}"]
 
 
-def of_prepared(one, records, holidays, clashes):
+def of_prepared(
+    one: Input,
+    records: List[Record],
+    holidays: Dict[str, Set[date]],
+    clashes: Optional[Dict[Tuple[str, ...], List[date]]],
+) -> List[str]:
     """The same of prepare; clashes has the clash dates of the keys, or is None where they aren't dropped."""
     by_clashes = (
         ""
@@ -209,11 +239,11 @@ def of_prepared(one, records, holidays, clashes):
     )
 
 
-def of_prepared_full(one):
+def of_prepared_full(one: Input) -> str:
     return f"{one.name}: FULL has to be what was published, or what cif update wrote"
 
 
-def of_update(one, records, waived):
+def of_update(one: Input, records: List[Record], waived: List[str]) -> List[str]:
     done = [transaction_of(record) for record in records]
     new, revised, deleted = (done.count(transaction) for transaction in "NRD")
     said = of_feed(
@@ -227,7 +257,7 @@ def of_update(one, records, waived):
 # ---- of a fault
 
 
-def of_windows(inputs, fault):
+def of_windows(inputs: List[Input], fault: Fault) -> List[str]:
     firsts, lasts, said = zip(*map(window, inputs))
     if max(firsts) > min(lasts):
         return [*said, "they have no date in common"]
@@ -237,8 +267,9 @@ def of_windows(inputs, fault):
     ]
 
 
-def of_line(job, one, fault):
+def of_line(job: Job, one: Input, fault: Fault) -> List[str]:
     """What is said of a refused line."""
+    assert fault.line is not None and fault.refusal is not None
     line = line_again(one, fault.line)
     is_feed, refusal = job.command in ("prepare", "update"), fault.refusal
     command = None if is_feed and fault.name != "NotFull" else helps(fault.name, line, one)
@@ -253,10 +284,10 @@ def of_line(job, one, fault):
         said += of_code(job, refusal, line)
     elif refusal.first:
         said += columns(refusal.first, refusal.last, MUST.get(fault.name) or MUST[refusal.read])
-    return [*said, *[FULL_FIRST] * (fault.name == "NotUpdate"), *[command] * bool(command)]
+    return [*said, *[FULL_FIRST] * (fault.name == "NotUpdate"), *([command] if command else [])]
 
 
-def of_code(job, refusal, line):
+def of_code(job: Job, refusal: Refusal, line: bytes) -> List[str]:
     """What is said of a holiday code that may not stand there."""
     if not has_code(line):
         return columns(refusal.first, refusal.last, NO_CODE)
@@ -266,27 +297,28 @@ def of_code(job, refusal, line):
     ]
 
 
-def length(one, number):
+def length(one: Input, number: int) -> List[str]:
     """How long the line of this number is, and whether the input ends in the midst of it."""
-    contents = contents_of(one.data)
+    contents = contents_of(data_of(one))
     line = contents[number - 1]
     width = "thousands of" if len(line) >= LOOKED_AT else len(line)
     if not one.again and len(line) >= KEPT:
         return ["the line has more than 80 columns"]
-    is_last = number == len(contents) and not one.data.endswith(b"\n")
+    is_last = number == len(contents) and not data_of(one).endswith(b"\n")
     is_cut = is_last and len(line) < layouts.WIDTH
     return [f"the line has {width} columns, not 80", *[ENDS_IN_IT] * is_cut]
 
 
-def columns(first, last, must):
+def columns(first: Optional[int], last: Optional[int], must: str) -> List[str]:
+    assert first is not None and last is not None
     name = f"column {first}" if first == last else f"columns {first}-{last}"
     return [" " * (first - 1) + "^" * (last - first + 1), f"{name}: {must}"]
 
 
-def of_holidays(one, line):
+def of_holidays(one: Input, line: bytes) -> List[str]:
     """What is said of a line of holidays: what the file looks like, or the first mistaken word, if the line isn't too long."""
-    if format_of(one):
-        name = format_of(one).split(": take", 1)[0]
+    if found := format_of(one):
+        name = found.split(": take", 1)[0]
         return [f"the holidays look like {name}", *[HOLIDAYS_OF_JSON] * (name == "JSON")]
     if len(line) > WIDTH:
         return [shown(line), HOLIDAY_LINE]
@@ -311,19 +343,20 @@ def of_holidays(one, line):
     return [shown(line), HOLIDAY_LINE]
 
 
-def format_of(one):
+def format_of(one: Input) -> Optional[str]:
     """The other format as which an input begins, if it does."""
     return next(
-        (said for beginning, said in BEGINNINGS.items() if one.data.startswith(beginning)), None
+        (said for beginning, said in BEGINNINGS.items() if data_of(one).startswith(beginning)), None
     )
 
 
-def other_format(one):
+def other_format(one: Input) -> List[str]:
     return [f"the input looks like {format_of(one)}"] if format_of(one) else []
 
 
-def of_unfit(inputs, fault):
+def of_unfit(inputs: List[Input], fault: Fault) -> List[str]:
     """What is said of a line of an update that doesn't fit, or of its header."""
+    assert fault.at is not None and fault.line is not None
     one, before = inputs[fault.at], inputs[fault.at - 1]
     said, last = [shown(line_again(one, fault.line))], header_of(one)["last_file"]
     if fault.name != "OutOfSequence":
@@ -341,8 +374,9 @@ def of_unfit(inputs, fault):
     return said + [IN_THEIR_ORDER] * (len(inputs) > 2)
 
 
-def of_refused(job, inputs, fault):
+def of_refused(job: Job, inputs: List[Input], fault: Fault) -> List[str]:
     """What is said of an input of which a line is refused."""
+    assert fault.at is not None and fault.line is not None
     one = inputs[fault.at]
     if fault.name in ("OutOfSequence", "NotThere", "AlreadyThere"):
         return of_unfit(inputs, fault)
@@ -355,8 +389,9 @@ def of_refused(job, inputs, fault):
     return of_line(job, one, fault)
 
 
-def of_word(fault):
+def of_word(fault: Fault) -> List[str]:
     """What more is said of a word that names no date, or no UID."""
+    assert fault.word is not None
     if fault.name == "bad UID":
         five = len(fault.word.encode(errors="surrogateescape")) == 5
         return ["a space before or behind the other five belongs to it, in quotes"] * five
@@ -364,7 +399,7 @@ def of_word(fault):
     return [f"dates are YYMMDD: {''.join(iso.groups())}"] if iso else []
 
 
-def of_fault(job, inputs, fault):
+def of_fault(job: Job, inputs: List[Input], fault: Fault) -> List[str]:
     """What is said of a fault."""
     if fault.word is not None:
         return [f"'{escaped(fault.word)}': {WANTED[fault.name]}", *of_word(fault)]

@@ -1,18 +1,28 @@
 """Records joined over weeks, in both forms: from the dates on which a body runs, week by week."""
-from collections import namedtuple
+from __future__ import annotations
 
-from .dates import DAY, WEEK, monday_of
+from datetime import date
+from typing import Dict, List, NamedTuple, Optional, Set
 
-# A record of letter P, without its key.
-Joined = namedtuple("Joined", "first last days body")
+from .dates import DAY, WEEK, Window, monday_of
+from .extracts import Body
 
 
-def alike_in_form_1(days, window, monday):
+class Joined(NamedTuple):
+    """A record of letter P, without its key."""
+
+    first: date
+    last: date
+    days: str
+    body: Body
+
+
+def alike_in_form_1(days: Set[date], window: Window, monday: date) -> bool:
     """Whether the body, which runs on these days, runs on the same weekdays in this week as in the week after."""
     return all((day in days) == (day + WEEK in days) for day in week_of(monday))
 
 
-def alike_in_form_2(days, window, monday):
+def alike_in_form_2(days: Set[date], window: Window, monday: date) -> bool:
     """The same, of the weekdays whose dates in both weeks lie in the window."""
     first, last = window
     both = [day for day in week_of(monday) if first <= day and day + WEEK <= last]
@@ -22,16 +32,17 @@ def alike_in_form_2(days, window, monday):
 ALIKE = {"1": alike_in_form_1, "2": alike_in_form_2}
 
 
-def week_of(monday):
+def week_of(monday: date) -> List[date]:
     return [monday + number * DAY for number in range(7)]
 
 
-def rows_of(days, window, form):
+def rows_of(days: Set[date], window: Window, form: str) -> List[List[date]]:
     """The longest rows of joined weeks, each as its dates."""
-    rows, before = [], None
+    rows: List[List[date]] = []
+    before: Optional[date] = None
     for monday in sorted({monday_of(day) for day in days}):
         of_week = [day for day in week_of(monday) if day in days]
-        if before == monday - WEEK and ALIKE[form](days, window, before):
+        if before is not None and before == monday - WEEK and ALIKE[form](days, window, before):
             rows[-1] += of_week
         else:
             rows.append(of_week)
@@ -39,7 +50,7 @@ def rows_of(days, window, form):
     return rows
 
 
-def joined(bodies, window, form):
+def joined(bodies: Dict[date, Body], window: Window, form: str) -> List[Joined]:
     """The records of one key, rising by first date; bodies has the body of each date on which one runs."""
     found = []
     for body in set(bodies.values()):

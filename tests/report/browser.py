@@ -1,4 +1,6 @@
 """The page in headless Chromium, by its DevTools protocol: JSON on two pipes, with a byte 0 after each message."""
+from __future__ import annotations
+
 import base64
 import contextlib
 import json
@@ -6,8 +8,13 @@ import os
 import shutil
 import subprocess
 import tempfile
+from datetime import date
+from pathlib import Path
+from typing import Callable, Dict, List, Optional, Set, TypedDict
 
-from .page import Page
+from gtfs.checks import Counts
+
+from .page import Group, Page, Train
 
 PROGRAMS = "chromium", "chromium-browser", "google-chrome"
 WIDE, NARROW = 1280, 400
@@ -87,17 +94,69 @@ OPEN_ALL = 'for (const each of document.querySelectorAll("details")) { each.open
 SHOWN = '[...document.querySelectorAll(".train")].filter((train) => train.getClientRects().length).map((train) => train.dataset.uid)'
 
 
-def program():
+def program() -> Optional[str]:
     return next(filter(None, map(shutil.which, PROGRAMS)), None)
+
+
+class TargetInfo(TypedDict):
+    """A page of the browser, or another part of it."""
+
+    targetId: str
+    type: str
+
+
+class RemoteObject(TypedDict, total=False):
+    """A value of the page's script."""
+
+    value: object
+    description: str
+
+
+class ExceptionDetails(TypedDict):
+    """What a script has thrown."""
+
+    exception: RemoteObject
+
+
+class Result(TypedDict, total=False):
+    """What a method answers, as far as it is used here."""
+
+    targetInfos: List[TargetInfo]
+    sessionId: str
+    result: RemoteObject
+    exceptionDetails: ExceptionDetails
+    data: str
+
+
+class Request(TypedDict):
+    """What the page asks for."""
+
+    url: str
+
+
+class Params(TypedDict, total=False):
+    """What an event says, as far as it is used here."""
+
+    request: Request
+
+
+class Message(TypedDict, total=False):
+    """An answer to a call, or an event."""
+
+    id: int
+    method: str
+    params: Params
+    result: Result
+    error: object
 
 
 class Browser:
     """A browser with one page, and what it has sent."""
 
-    def __init__(self, path, folder):
+    def __init__(self, path: str, folder: str) -> None:
         reads, writes = os.pipe(), os.pipe()
 
-        def as_three_and_four():
+        def as_three_and_four() -> None:
             # both are moved out of the way first, since one may have the number of the other
             ends = os.dup(reads[0]), os.dup(writes[1])
             os.dup2(ends[0], 3)
@@ -106,29 +165,36 @@ class Browser:
         words = [path, "--headless=new", "--no-sandbox", "--disable-gpu", "--remote-debugging-pipe"]
         words += ["--disable-dev-shm-usage", "--disable-background-networking"]
         words += [f"--user-data-dir={folder}", "about:blank"]
-        options = {"stdout": subprocess.DEVNULL, "stderr": subprocess.DEVNULL}
-        options |= {"preexec_fn": as_three_and_four, "close_fds": False}
-        self.process = subprocess.Popen(words, **options)
+        # no thread runs then
+        self.process = subprocess.Popen(  # pylint: disable=subprocess-popen-preexec-fn
+            words,
+            stdout=subprocess.DEVNULL,
+            stderr=subprocess.DEVNULL,
+            preexec_fn=as_three_and_four,
+            close_fds=False,
+        )
         os.close(reads[0])
         os.close(writes[1])
         self.output = os.fdopen(reads[1], "wb", buffering=0)
         self.input = os.fdopen(writes[0], "rb")
-        self.number, self.rest, self.events = 0, b"", []
-        self.session = None
+        self.number, self.rest = 0, b""
+        self.events: List[Message] = []
+        self.session: Optional[str] = None
 
-    def receive(self):
+    def receive(self) -> Message:
         while b"\0" not in self.rest:
             block = os.read(self.input.fileno(), 1 << 16)
             if not block:
                 raise RuntimeError("the browser has ended")
             self.rest += block
-        message, _, self.rest = self.rest.partition(b"\0")
-        return json.loads(message)
+        text, _, self.rest = self.rest.partition(b"\0")
+        message: Message = json.loads(text)
+        return message
 
-    def call(self, method, **params):
+    def call(self, method: str, **params: object) -> Result:
         """What a method answers. Events before it are kept."""
         self.number += 1
-        message = {"id": self.number, "method": method, "params": params}
+        message: Dict[str, object] = {"id": self.number, "method": method, "params": params}
         if self.session:
             message["sessionId"] = self.session
         self.output.write(json.dumps(message).encode() + b"\0")
@@ -140,7 +206,7 @@ class Browser:
                 return answer["result"]
             self.events.append(answer)
 
-    def attach(self):
+    def attach(self) -> None:
         [target] = [
             each for each in self.call("Target.getTargets")["targetInfos"] if each["type"] == "page"
         ]
@@ -149,7 +215,7 @@ class Browser:
         for domain in "Page", "Runtime", "Log", "Network":
             self.call(f"{domain}.enable")
 
-    def open(self, path, width, scheme="light", script=True):
+    def open(self, path: Path, width: int, scheme: str = "light", script: bool = True) -> None:
         """Opens a page at a width, with light or dark colours."""
         self.events.clear()
         metrics = {"width": width, "height": 900, "deviceScaleFactor": 1, "mobile": False}
@@ -161,20 +227,32 @@ class Browser:
         while not any(event.get("method") == "Page.loadEventFired" for event in self.events):
             self.events.append(self.receive())
 
-    def value(self, expression):
+    def value(self, expression: str) -> object:
         found = self.call("Runtime.evaluate", expression=expression, returnByValue=True)
         if "exceptionDetails" in found:
             raise RuntimeError(found["exceptionDetails"]["exception"]["description"])
         return found["result"].get("value")
 
-    def screenshot(self, path):
+    def texts(self, expression: str) -> List[str]:
+        """A value that is a list of texts."""
+        found = self.value(expression)
+        assert isinstance(found, list)
+        return found
+
+    def count(self, expression: str) -> int:
+        """A value that is a whole number."""
+        found = self.value(expression)
+        assert isinstance(found, int)
+        return found
+
+    def screenshot(self, path: Path) -> None:
         found = self.call("Page.captureScreenshot", captureBeyondViewport=True)
         path.write_bytes(base64.b64decode(found["data"]))
 
-    def happened(self, method):
+    def happened(self, method: str) -> List[Params]:
         return [event["params"] for event in self.events if event.get("method") == method]
 
-    def close(self):
+    def close(self) -> None:
         for end in self.output, self.input:
             with contextlib.suppress(OSError):
                 end.close()
@@ -182,7 +260,7 @@ class Browser:
         self.process.wait(timeout=30)
 
 
-def check_quiet(counts, name, browser, page):
+def check_quiet(counts: Counts, name: str, browser: Browser, page: Path) -> None:
     """Nothing in the console, and nothing fetched."""
     counts.same(f"{name}, errors", [], browser.happened("Runtime.exceptionThrown"))
     counts.same(f"{name}, the console", [], browser.happened("Runtime.consoleAPICalled"))
@@ -193,21 +271,21 @@ def check_quiet(counts, name, browser, page):
     counts.test(f"{name}, the page is asked for", page.as_uri() in asked, asked)
 
 
-def check_looks(counts, browser, page):
+def check_looks(counts: Counts, browser: Browser, page: Path) -> None:
     """Nothing overlaps, goes beyond the window or is hard to read, in a wide and a narrow one."""
     for width, scheme in (WIDE, "light"), (NARROW, "dark"):
         name = f"at {width} columns, {scheme}"
         browser.open(page, width, scheme)
         counts.same(f"{name}, width", width, browser.value("innerWidth"))
         browser.value(OPEN_ALL)
-        counts.same(f"{name}, overlaps", [], browser.value(OVERLAPS)[:5])
+        counts.same(f"{name}, overlaps", [], browser.texts(OVERLAPS)[:5])
         counts.same(f"{name}, beyond the window", 0, browser.value(BEYOND))
-        counts.same(f"{name}, contrast", [], browser.value(CONTRASTS)[:5])
-        counts.test(f"{name}, texts", browser.value("document.body.innerText.length") > 1000)
+        counts.same(f"{name}, contrast", [], browser.texts(CONTRASTS)[:5])
+        counts.test(f"{name}, texts", browser.count("document.body.innerText.length") > 1000)
         check_quiet(counts, name, browser, page)
 
 
-def set_field(browser, name, value):
+def set_field(browser: Browser, name: str, value: str) -> None:
     """Fills a field of the filter as a user does."""
     browser.value(
         f'(() => {{ const field = document.getElementById("filter").elements[{json.dumps(name)}];'
@@ -215,12 +293,19 @@ def set_field(browser, name, value):
     )
 
 
-def check_one_filter(counts, browser, made, name, fields, wanted):
+def check_one_filter(
+    counts: Counts,
+    browser: Browser,
+    made: Page,
+    name: str,
+    fields: Dict[str, str],
+    wanted: List[str],
+) -> None:
     """The filter shows those trains that are wanted, and says how many."""
     browser.value('document.getElementById("filter").reset()')
     for field, value in fields.items():
         set_field(browser, field, value)
-    got = browser.value(SHOWN)
+    got = browser.texts(SHOWN)
     counts.same(f"filter by {name}", sorted(wanted), sorted(got))
     counts.test(
         f"filter by {name}, some and not all", 0 < len(wanted) < len(made.trains()), len(wanted)
@@ -238,49 +323,60 @@ def check_one_filter(counts, browser, made, name, fields, wanted):
     counts.same(f"filter by {name}, groups", want, groups)
 
 
-def trains_with(made, right):
+def trains_with(made: Page, right: Callable[[Group, Train], object]) -> List[str]:
     """The UIDs of the trains for which this is so, given their group."""
     return [train.uid for group in made.groups for train in group.trains if right(group, train)]
 
 
-def check_filter(counts, browser, page, made):
+def trains_at(made: Page, numbers: Set[int]) -> List[str]:
+    """Those that have one of these places."""
+    return trains_with(made, lambda group, train: numbers & set(train.places))
+
+
+def trains_of_kind(made: Page, kind: str) -> List[str]:
+    return trains_with(made, lambda group, train: kind in group.kinds)
+
+
+def trains_on(made: Page, day: date) -> List[str]:
+    """Those that differ on a date."""
+    return trains_with(made, lambda group, train: any(day in days for days in group.kinds.values()))
+
+
+def check_filter(counts: Counts, browser: Browser, page: Path, made: Page) -> None:
     browser.open(page, WIDE)
+    assert made.data is not None
     places = made.data["places"]
     counts.same(
         "without a filter",
         sorted(train.uid for train in made.trains()),
-        sorted(browser.value(SHOWN)),
+        sorted(browser.texts(SHOWN)),
     )
     operator = made.trains()[0].operators[0]
     by_operator = trains_with(made, lambda group, train: operator in train.operators)
     check_one_filter(counts, browser, made, "operator", {"operator": operator}, by_operator)
     for name, text in ("a CRS code", "gtw"), ("a TIPLOC", "GTWK"), ("a name", "Gatwick air"):
         numbers = {number for number, place in enumerate(places) if place[2] == "GTWK"}
-        at_place = trains_with(
-            made, lambda group, train, numbers=numbers: numbers & set(train.places)
-        )
+        at_place = trains_at(made, numbers)
         check_one_filter(counts, browser, made, name, {"place": text}, at_place)
     for kind in sorted({kind for group in made.groups for kind in group.kinds}):
-        of_kind = trains_with(made, lambda group, train, kind=kind: kind in group.kinds)
+        of_kind = trains_of_kind(made, kind)
         check_one_filter(counts, browser, made, f"kind {kind}", {"kind": kind}, of_kind)
-    all_dates = [days for group in made.groups for days in group.kinds.values()]
-    for day in max(map(max, all_dates)), min(map(min, all_dates)):
-        on_date = trains_with(
-            made, lambda group, _, day=day: any(day in days for days in group.kinds.values())
-        )
+    all_dates = set().union(*(days for group in made.groups for days in group.kinds.values()))
+    for day in max(all_dates), min(all_dates):
+        on_date = trains_on(made, day)
         check_one_filter(counts, browser, made, f"date {day}", {"date": day.isoformat()}, on_date)
     both = trains_with(made, lambda group, train: day in group.kinds.get("cancelled", ()))
     fields = {"date": day.isoformat(), "kind": "cancelled"}
     check_one_filter(counts, browser, made, "date and kind", fields, both)
     link = f"document.querySelector('#when a[data-date=\"{day.isoformat()}\"]').click()"
     browser.value(f'document.getElementById("filter").reset(); {link}')
-    counts.same("a date of the calendar", sorted(on_date), sorted(browser.value(SHOWN)))
+    counts.same("a date of the calendar", sorted(on_date), sorted(browser.texts(SHOWN)))
     browser.value('document.querySelector("#filter [type=reset]").click()')
     for _ in range(50):
-        if len(browser.value(SHOWN)) == len(made.trains()):
+        if len(browser.texts(SHOWN)) == len(made.trains()):
             break
-    counts.same("all again", len(made.trains()), len(browser.value(SHOWN)))
-    closed = browser.value('document.querySelectorAll(".train details:not([open])").length')
+    counts.same("all again", len(made.trains()), len(browser.texts(SHOWN)))
+    closed = browser.count('document.querySelectorAll(".train details:not([open])").length')
     browser.value('document.getElementById("filter").elements.calls.click()')
     counts.test("calls are closed at first", closed > 0)
     counts.same(
@@ -290,7 +386,7 @@ def check_filter(counts, browser, page, made):
     )
 
 
-def check_keyboard(counts, browser, page):
+def check_keyboard(counts: Counts, browser: Browser, page: Path) -> None:
     """By the tab key one gets to a date, to the filter and to the calls, and the calls open by Enter."""
     browser.open(page, WIDE)
     reached = set()
@@ -321,9 +417,9 @@ def check_keyboard(counts, browser, page):
     )
 
 
-def check_without_script(counts, browser, page, made):
+def check_without_script(counts: Counts, browser: Browser, page: Path, made: Page) -> None:
     browser.open(page, WIDE, script=False)
-    counts.same("without script, trains", len(made.trains()), len(browser.value(SHOWN)))
+    counts.same("without script, trains", len(made.trains()), len(browser.texts(SHOWN)))
     counts.same(
         "without script, the filter",
         True,
@@ -331,18 +427,18 @@ def check_without_script(counts, browser, page, made):
     )
 
 
-def check_print(counts, browser, page, made):
+def check_print(counts: Counts, browser: Browser, page: Path, made: Page) -> None:
     """On paper all trains are there, with dark letters also where the screen is dark."""
     browser.open(page, 700, "dark")
     features = [{"name": "prefers-color-scheme", "value": "dark"}]
     browser.call("Emulation.setEmulatedMedia", media="print", features=features)
-    counts.same("printed, trains", len(made.trains()), len(browser.value(SHOWN)))
+    counts.same("printed, trains", len(made.trains()), len(browser.texts(SHOWN)))
     counts.same(
         "printed, the filter",
         0,
         browser.value('document.getElementById("filter").getClientRects().length'),
     )
-    counts.same("printed, contrast", [], browser.value(CONTRASTS)[:5])
+    counts.same("printed, contrast", [], browser.texts(CONTRASTS)[:5])
     counts.same(
         "printed, paper",
         "rgb(255, 255, 255)",
@@ -350,13 +446,13 @@ def check_print(counts, browser, page, made):
     )
 
 
-def starts(path):
+def starts(path: str) -> bool:
     """Whether the browser starts here, and shows a page: it may lack what it needs of the system."""
     folder = tempfile.mkdtemp(prefix="cif-report-browser-")
     browser = Browser(path, folder)
     try:
         browser.attach()
-        return browser.value("1 + 1") == 2
+        return bool(browser.value("1 + 1") == 2)
     except (OSError, RuntimeError, ValueError):
         return False
     finally:
@@ -364,7 +460,7 @@ def starts(path):
         shutil.rmtree(folder, ignore_errors=True)
 
 
-def check(counts, page):
+def check(counts: Counts, page: Path) -> bool:
     """All of a page with many changes. Returns whether there is a browser."""
     path = program()
     if path is None or not starts(path):

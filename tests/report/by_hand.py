@@ -1,12 +1,20 @@
 """Pairs of extracts that differ in one thing each, with what the page says of it in words."""
+from __future__ import annotations
+
 import re
 from collections import Counter
 from dataclasses import replace
 from datetime import date, timedelta
+from functools import partial
+from pathlib import Path
+from typing import Callable, List, Mapping, Optional, Sequence, Union
 
-from gtfs.checks import TOP
+from gtfs.checks import TOP, Counts, Word
+from reference.dates import Window
 
-from .timetables import Call, Extract, Schedule, association_line
+from .checks import Maker
+from .page import Page, Train
+from .timetables import Call, Calls, Extract, Place, Schedule, association_line
 
 DAY = timedelta(days=1)
 # From a Monday to a Sunday, four weeks later.
@@ -22,11 +30,11 @@ PLACES = {
 WEEKDAYS = "1111100"
 
 
-def june(day):
+def june(day: int) -> date:
     return date(2026, 6, day)
 
 
-def journey(*times, platform="5"):
+def journey(*times: int, platform: str = "5") -> Calls:
     """A train by Alpha, Beta, North Junction, Gamma and Delta, at these minutes: it stops a minute, and passes the junction."""
     names = "ALPHA", "BETA", "NORTH", "GAMMA", "DELTA"
     calls = []
@@ -46,16 +54,22 @@ TRAINS = [TRAIN, OTHER, LATE]
 LINK = association_line("A00001", "A00002", "BETA", WINDOW)
 
 
-def extract(trains=(), places=(), associations=(LINK,), window=WINDOW, extracted="2905262130"):
+def extract(
+    trains: Sequence[Schedule] = (),
+    places: Optional[Mapping[str, Place]] = None,
+    associations: Sequence[str] = (LINK,),
+    window: Window = WINDOW,
+    extracted: str = "2905262130",
+) -> str:
     """An extract with these trains in place of those of their UIDs, and these places in place of those of their names."""
     changed = {train.uid for train in trains}
     schedules = [train for train in TRAINS if train.uid not in changed] + list(trains)
-    found = Extract("DFTEST1", extracted, window, {**PLACES, **dict(places)}, schedules)
+    found = Extract("DFTEST1", extracted, window, {**PLACES, **(places or {})}, schedules)
     found.associations = list(associations)
     return found.text()
 
 
-def moved(calls, minutes, since=0):
+def moved(calls: Calls, minutes: int, since: int = 0) -> Calls:
     """The calls so many minutes later: from the departure of one of them on, or all."""
     found = []
     for number, call in enumerate(calls):
@@ -65,21 +79,21 @@ def moved(calls, minutes, since=0):
     return tuple(found)
 
 
-def with_call(calls, number, **changes):
+def with_call(calls: Calls, number: int, **changes: Union[int, str]) -> Calls:
     found = list(calls)
     found[number] = replace(found[number], **changes)
     return tuple(found)
 
 
-def overlay(train, first, last, **changes):
-    return replace(train, first=first, last=last, letter="O", **changes)
+def overlay(train: Schedule, first: date, last: date, calls: Calls) -> Schedule:
+    return replace(train, first=first, last=last, letter="O", calls=calls)
 
 
-def cancelled(train, first, last=None):
+def cancelled(train: Schedule, first: date, last: Optional[date] = None) -> Schedule:
     return replace(train, first=first, last=last or first, letter="C")
 
 
-def without(number):
+def without(number: int) -> Calls:
     return USUAL[:number] + USUAL[number + 1 :]
 
 
@@ -259,7 +273,7 @@ CASES = {
 }
 
 
-def write(maker, name, text):
+def write(maker: Maker, name: str, text: str) -> Path:
     path = maker.folder / name
     path.write_text(text)
     return path
@@ -269,26 +283,31 @@ def write(maker, name, text):
 OF_THEIR_OWN = "gone", "new", "another UID"
 
 
-def with_own_uids(trains, number):
+def with_own_uids(trains: List[Schedule], number: int) -> List[Schedule]:
     """The trains of a case, with UIDs of their own."""
     return [replace(train, uid=f"{train.uid[0]}{number:02}{train.uid[3:]}") for train in trains]
 
 
-def check_case(counts, page, name, of_case):
+def check_case(counts: Counts, page: Page, name: str, of_case: Callable[[Train], bool]) -> None:
     """The words and the numbers of a case, whose trains are told by their UIDs."""
     _, words, numbers = CASES[name]
     groups = [group for group in page.groups if any(map(of_case, group.trains))]
     counts.same(
         f"{name}, in words", words, [" ".join(each) for group in groups for each in group.words]
     )
-    got = Counter()
+    got: Counter[str] = Counter()
     for group in groups:
         kinds = [kind for kind in group.kinds if kind != "data" or len(group.kinds) == 1]
         got.update({kind: sum(map(of_case, group.trains)) for kind in kinds})
     counts.same(f"{name}, numbers", numbers, dict(got))
 
 
-def check_words(counts, maker):
+def has_number(number: int, train: Train) -> bool:
+    """Whether a train is of the case with this number, by its UID."""
+    return train.uid[1:3] == f"{number:02}"
+
+
+def check_words(counts: Counts, maker: Maker) -> None:
     """The cases, all but some in one pair."""
     old = write(maker, "before.cif", extract())
     together = [name for name in CASES if name not in OF_THEIR_OWN]
@@ -304,9 +323,7 @@ def check_words(counts, maker):
     paths = [write(maker, f"together-{number}.cif", text) for number, text in enumerate(texts)]
     page = maker.page("--most", "1000", *paths)
     for number, name in enumerate(together):
-        check_case(
-            counts, page, name, lambda train, number=number: train.uid[1:3] == f"{number:02}"
-        )
+        check_case(counts, page, name, partial(has_number, number))
     for name in OF_THEIR_OWN:
         page = maker.page(old, write(maker, "after.cif", extract(CASES[name][0])))
         check_case(counts, page, name, lambda train: True)
@@ -323,7 +340,7 @@ def check_words(counts, maker):
     counts.test("another identity, in words", "9Z99 for 1A01" in train.text, train.text)
 
 
-def check_calls(counts, maker):
+def check_calls(counts: Counts, maker: Maker) -> None:
     """Calls side by side: arrival, departure or pass, and platform, before and after."""
     calls = with_call(with_call(USUAL, 1, platform="4"), 3, leaves=643)
     new = extract([replace(TRAIN, calls=calls), OTHER, cancelled(OTHER, june(13))])
@@ -358,7 +375,7 @@ def check_calls(counts, maker):
     counts.same("calls at other places", [rows], page.trains()[0].calls)
 
 
-def check_night(counts, maker):
+def check_night(counts: Counts, maker: Maker) -> None:
     """Of a train that is moved from its date to the next one, the old date is gone, and the new one is there."""
     first, second = june(10), june(11)
     moved_on = [
@@ -371,7 +388,7 @@ def check_night(counts, maker):
     counts.same("moved to the next date, in words", words, page.words())
 
 
-def check_half_minutes(counts, maker):
+def check_half_minutes(counts: Counts, maker: Maker) -> None:
     text = extract().replace("1030 ", "1030H").replace("10201020", "10211021")
     page = maker.page(maker.folder / "before.cif", write(maker, "after.cif", text))
     words = ["½ min later at North Junction on Mondays to Fridays"]
@@ -388,7 +405,7 @@ def check_half_minutes(counts, maker):
     counts.same("other public times, the call", want, table[1])
 
 
-def check_others(counts, maker):
+def check_others(counts: Counts, maker: Maker) -> None:
     """Associations and places."""
     old = maker.folder / "before.cif"
     span = june(6), june(6)
@@ -422,14 +439,14 @@ def check_others(counts, maker):
     )
 
 
-def check_names(counts, maker):
+def check_names(counts: Counts, maker: Maker) -> None:
     """What looks like HTML is text."""
     odd = {"BETA": ("BET", "<SCRIPT>ALERT(1)</SCRIPT>"), "GAMMA": ("G<M", "]]>&AMP;\"'")}
     operators = write(
         maker, "operators.csv", 'operator_code,name,url\nSN,"<img src=x onerror=""alert(1)"">",\n'
     )
     new = extract([replace(TRAIN, calls=moved(USUAL, 5, since=1), identity="<B>&")], odd)
-    words = ["--operators", operators, "--title", "</title><b>&x", "--most", "1"]
+    words: List[Word] = ["--operators", operators, "--title", "</title><b>&x", "--most", "1"]
     page = maker.page(*words, maker.folder / "before.cif", write(maker, "after.cif", new))
     counts.same("scripts of the page", 2, page.markup.lower().count("<script"))
     for text in "<img", "</title><b>", "<B>&", "]]>", "&x", "<script>alert":
@@ -441,11 +458,12 @@ def check_names(counts, maker):
         "<B>&",
     ):
         counts.test(f"{text} is in its text", text in page.text, page.text[:300])
+    assert page.data is not None
     names = [place[0] for place in page.data["places"]]
     counts.test("names for the filter", "<script>alert(1)</Script>" in names, names)
 
 
-def check_same(counts, maker):
+def check_same(counts: Counts, maker: Maker) -> None:
     old = maker.folder / "before.cif"
     page = maker.page(old, old)
     counts.test("the same timetable", "The timetables are the same" in page.text, page.text)
@@ -456,7 +474,7 @@ def check_same(counts, maker):
     counts.test("the same by other records", "The timetables are the same" in page.text, page.text)
 
 
-def check_windows(counts, maker):
+def check_windows(counts: Counts, maker: Maker) -> None:
     """Only the dates that both extracts have, or those that are asked for, count."""
     gone = [TRAIN, cancelled(TRAIN, june(1)), cancelled(TRAIN, june(26))]
     later = june(2), june(30)
@@ -474,14 +492,12 @@ def check_windows(counts, maker):
     counts.same("the other way round", ["Runs also on Fri 26 June"], page.words())
 
 
-def check_years(counts, maker):
+def check_years(counts: Counts, maker: Maker) -> None:
     """Where the window has several years, dates have theirs."""
     window = date(2026, 12, 28), date(2027, 1, 10)
     train = replace(TRAIN, first=window[0], last=window[1])
-    texts = [
-        extract([train, *more], associations=(), window=window)
-        for more in ([], [cancelled(train, date(2027, 1, 4))])
-    ]
+    additions: List[List[Schedule]] = [[], [cancelled(train, date(2027, 1, 4))]]
+    texts = [extract([train, *more], associations=(), window=window) for more in additions]
     old, new = (
         write(maker, name, text) for name, text in zip(("before-year.cif", "after-year.cif"), texts)
     )
@@ -490,7 +506,7 @@ def check_years(counts, maker):
     )
 
 
-def check_order(counts, maker):
+def check_order(counts: Counts, maker: Maker) -> None:
     """The page says so if the later extract comes first."""
     warning = "extracted before the first"
     older = write(
@@ -501,7 +517,7 @@ def check_order(counts, maker):
     counts.test("the earlier extract first", warning not in maker.page(older, old).text)
 
 
-def check_most(counts, maker):
+def check_most(counts: Counts, maker: Maker) -> None:
     """How many trains the page has."""
     old = maker.folder / "before.cif"
     new = write(
@@ -519,7 +535,7 @@ def check_most(counts, maker):
         counts.same(f"--most {most}, the CSV file", 3, len(page.rows))
 
 
-def check_example(counts, maker):
+def check_example(counts: Counts, maker: Maker) -> None:
     """What README shows."""
     folder = TOP / "examples"
     page = maker.page(folder / "timetable.cif", folder / "changed.cif")
@@ -530,7 +546,7 @@ def check_example(counts, maker):
     counts.same("the examples, in words", want, page.words())
 
 
-def check(counts, maker):
+def check(counts: Counts, maker: Maker) -> None:
     check_words(counts, maker)
     check_calls(counts, maker)
     check_night(counts, maker)

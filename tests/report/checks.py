@@ -1,35 +1,75 @@
 """A page against what `cif` says, number by number and date by date."""
+from __future__ import annotations
+
 import subprocess
 import sys
+from pathlib import Path
+from typing import Callable, List, Mapping, Optional, TypeVar
 
-from gtfs.checks import COMPANIONS
+from gtfs.checks import COMPANIONS, Counts, Word
 
+from .definition import Expected
 from .page import Page, bars, heights
 
 # The numbers of the page that aren't of trains.
 OTHERS = "associations", "tiplocs"
 
+Key = TypeVar("Key")
+Value = TypeVar("Value")
+
 
 class Maker:
     """Runs cif-report in a folder."""
 
-    def __init__(self, cif, folder):
+    def __init__(self, cif: Path, folder: Path) -> None:
         self.cif, self.folder = cif, folder
 
-    def run(self, *words, **options):
-        words = [COMPANIONS / "cif-report", "--cif", self.cif, *words]
-        options = {"text": True, **options}
-        return subprocess.run(words, cwd=self.folder, capture_output=True, check=False, **options)
+    def run(
+        self,
+        *words: Word,
+        stdin: Optional[str] = None,
+        preexec_fn: Optional[Callable[[], None]] = None,
+    ) -> subprocess.CompletedProcess[str]:
+        """How a run ends that has this text as its standard input, and calls a function first."""
+        return subprocess.run(
+            [COMPANIONS / "cif-report", "--cif", self.cif, *words],
+            cwd=self.folder,
+            input=stdin,
+            capture_output=True,
+            check=False,
+            text=True,
+            preexec_fn=preexec_fn,
+        )
 
-    def small_page(self, most_bytes, *words):
+    def run_bytes(self, stdin: bytes, *words: Word) -> subprocess.CompletedProcess[bytes]:
+        """The same in bytes."""
+        return subprocess.run(
+            [COMPANIONS / "cif-report", "--cif", self.cif, *words],
+            cwd=self.folder,
+            input=stdin,
+            capture_output=True,
+            check=False,
+        )
+
+    def small_page(self, most_bytes: int, *words: Word) -> Page:
         """What a page says that may have so many bytes only."""
         program = f"import sys; sys.path.insert(0, {str(COMPANIONS)!r}); from cif_report import page, command_line;"
         program += f" page.MOST_BYTES = {most_bytes}; sys.exit(command_line.main())"
-        words = [sys.executable, "-B", "-c", program, "--cif", self.cif, "-o", "small.html", *words]
-        subprocess.run(words, cwd=self.folder, capture_output=True, check=True)
+        call: List[Word] = [
+            sys.executable,
+            "-B",
+            "-c",
+            program,
+            "--cif",
+            self.cif,
+            "-o",
+            "small.html",
+            *words,
+        ]
+        subprocess.run(call, cwd=self.folder, capture_output=True, check=True)
         return Page(self.folder / "small.html")
 
-    def page(self, *words):
+    def page(self, *words: Word) -> Page:
         """What a page that is made says."""
         done = self.run("-o", "made.html", *words)
         if done.returncode:
@@ -37,14 +77,16 @@ class Maker:
         return Page(self.folder / "made.html")
 
 
-def same_values(counts, name, want, got):
+def same_values(
+    counts: Counts, name: str, want: Mapping[Key, Value], got: Mapping[Key, Value]
+) -> None:
     """Whether two dictionaries are equal. What is printed is the first key for which they aren't."""
     unlike = [key for key in {**want, **got} if want.get(key) != got.get(key)]
-    first = unlike[0] if unlike else None
-    counts.test(name, not unlike, f"{first}: wanted {want.get(first)}, got {got.get(first)}")
+    found = [f"{key}: wanted {want.get(key)}, got {got.get(key)}" for key in unlike[:1]]
+    counts.test(name, not unlike, "".join(found))
 
 
-def check_expected(counts, name, expected):
+def check_expected(counts: Counts, name: str, expected: Expected) -> None:
     """What the tables say is what `cif day` and `cif diff` say, and something differs."""
     for extract in expected.old, expected.new:
         wrong = [
@@ -63,7 +105,7 @@ def check_expected(counts, name, expected):
     same_values(counts, f"{name}, trains and dates of cif diff", differing, expected.by_diff())
 
 
-def check_summary(counts, name, expected, page):
+def check_summary(counts: Counts, name: str, expected: Expected, page: Page) -> None:
     figures = expected.figures()
     want = {kind: figures.get(kind, 0) for kind in page.figures if kind not in OTHERS}
     got = {kind: number for kind, number in page.figures.items() if kind not in OTHERS}
@@ -94,11 +136,11 @@ def check_summary(counts, name, expected, page):
     )
     counts.test(f"{name}, trains in the first sentence", differing in page.text, differing)
     dates = [day for day in expected.dates if expected.on(day)]
-    count = f"on {len(dates):,} of the" if len(dates) < len(expected.dates) else "on all"
-    counts.test(f"{name}, dates in the first sentence", count in page.text, count)
+    part = f"on {len(dates):,} of the" if len(dates) < len(expected.dates) else "on all"
+    counts.test(f"{name}, dates in the first sentence", part in page.text, part)
 
 
-def check_days(counts, name, expected, page):
+def check_days(counts: Counts, name: str, expected: Expected, page: Page) -> None:
     """The table behind the charts, the calendar, and the charts themselves."""
     want, calendar = {}, {}
     for day in expected.dates:
@@ -133,7 +175,7 @@ def check_days(counts, name, expected, page):
     check_chart(counts, f"{name}, all trains", page.charts["all"], *series)
 
 
-def check_chart(counts, name, chart, before, after):
+def check_chart(counts: Counts, name: str, chart: str, before: List[int], after: List[int]) -> None:
     most = max(*before, *after, 1)
     for part, numbers in ("before", before), ("after", after):
         want = [1000 - round(1000 * number / most) for number in numbers]
@@ -141,15 +183,15 @@ def check_chart(counts, name, chart, before, after):
     differences = [new - old for old, new in zip(before, after)]
     scale = 1000 / max(max(0, *differences) + max(0, *(-each for each in differences)), 1)
     for part, sign in ("more", 1), ("less", -1):
-        want = {
+        wanted = {
             number: round(each * scale)
             for number, each in enumerate(differences)
             if each * sign > 0
         }
-        counts.same(f"{name}, bars of {part}", want, bars(chart, part))
+        counts.same(f"{name}, bars of {part}", wanted, bars(chart, part))
 
 
-def check_trains(counts, name, expected, page):
+def check_trains(counts: Counts, name: str, expected: Expected, page: Page) -> None:
     """Every change in the CSV file, and the trains on the page with their dates."""
     changes = expected.changes
     same_values(counts, f"{name}, changes in the CSV file", changes, page.by_kind(expected.dates))
@@ -163,9 +205,11 @@ def check_trains(counts, name, expected, page):
             same_values(counts, f"{name}, dates of {train.uid}", want, group.kinds)
         if group.all_weeks:
             marks = {"cancelled": "×", "runs": "+"}
-            want = {day: marks.get(kind, "•") for kind, days in group.kinds.items() for day in days}
+            wanted = {
+                day: marks.get(kind, "•") for kind, days in group.kinds.items() for day in days
+            }
             name_of = f"{name}, weeks of {group.trains[0].uid}"
-            same_values(counts, name_of, want, group.marks(first, last))
+            same_values(counts, name_of, wanted, group.marks(first, last))
     dates = [len(set().union(*group.kinds.values())) for group in page.groups]
     counts.same(f"{name}, most dates first", sorted(dates, reverse=True), dates)
     left_out = len(expected.trains) - len(uids)
@@ -173,8 +217,9 @@ def check_trains(counts, name, expected, page):
     counts.test(f"{name}, trains that aren't on the page", rest in page.text, rest)
 
 
-def check_operators_and_places(counts, name, expected, page):
+def check_operators_and_places(counts: Counts, name: str, expected: Expected, page: Page) -> None:
     """What the filter goes by."""
+    assert page.data is not None
     tiplocs = [place[2] for place in page.data["places"]]
     for train in page.trains():
         days = expected.trains[train.uid]
@@ -204,13 +249,13 @@ def check_operators_and_places(counts, name, expected, page):
         counts.test(f"{name}, places of {train.uid}", got <= places, got)
 
 
-def check_others(counts, name, expected, page):
+def check_others(counts: Counts, name: str, expected: Expected, page: Page) -> None:
     want = {"associations": len(expected.associations()), "tiplocs": len(expected.places())}
     got = {kind: page.figures[kind] for kind in OTHERS}
     counts.same(f"{name}, numbers of other changes", want, got)
-    want = sorted((base, associated) for base, associated, _, _ in expected.associations())
-    got = sorted((base, associated) for base, associated, _ in page.associations)
-    counts.same(f"{name}, associations", want, got)
+    pairs = sorted((base, associated) for base, associated, _, _ in expected.associations())
+    shown = sorted((base, associated) for base, associated, _ in page.associations)
+    counts.same(f"{name}, associations", pairs, shown)
     found = {
         (row["uid"], row["associated_uid"], row["location"], row["kind"])
         for row in page.rows
@@ -220,11 +265,11 @@ def check_others(counts, name, expected, page):
     counts.same(
         f"{name}, places", sorted(expected.places()), sorted(tiploc for tiploc, _ in page.places)
     )
-    found = {row["location"]: row["kind"] for row in page.rows if row["subject"] == "place"}
-    counts.same(f"{name}, places in the CSV file", expected.places(), found)
+    places = {row["location"]: row["kind"] for row in page.rows if row["subject"] == "place"}
+    counts.same(f"{name}, places in the CSV file", expected.places(), places)
 
 
-def check_size(counts, maker, expected, *words):
+def check_size(counts: Counts, maker: Maker, expected: Expected, *words: Word) -> None:
     """A page that would have too many bytes has fewer trains, and says so; the CSV file has all."""
     most = 400_000
     page = maker.small_page(most, *words)
@@ -238,7 +283,7 @@ def check_size(counts, maker, expected, *words):
     same_values(counts, "a small page, the CSV file", changes, page.by_kind(expected.dates))
 
 
-def check_trains_and_days(counts, name, expected, page):
+def check_trains_and_days(counts: Counts, name: str, expected: Expected, page: Page) -> None:
     """All of a page but associations and places."""
     check_expected(counts, name, expected)
     check_summary(counts, name, expected, page)
@@ -247,7 +292,7 @@ def check_trains_and_days(counts, name, expected, page):
     check_operators_and_places(counts, name, expected, page)
 
 
-def check_page(counts, name, expected, page):
+def check_page(counts: Counts, name: str, expected: Expected, page: Page) -> None:
     """All of a page."""
     check_trains_and_days(counts, name, expected, page)
     check_others(counts, name, expected, page)

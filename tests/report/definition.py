@@ -1,22 +1,27 @@
 """What a page has to say, worked out of what `cif table`, `cif day` and `cif diff` say of each date."""
+from __future__ import annotations
+
 import subprocess
 from collections import Counter, defaultdict
 from datetime import date, timedelta
 from functools import cached_property
+from pathlib import Path
+from typing import DefaultDict, Dict, Iterator, List, Optional, Set, Tuple
 
 from gtfs.checks import Source
-from gtfs.definition import table_rows
+from gtfs.definition import Row, table_rows
+from reference.dates import Window
 
 TRAIN_FIELDS = "status category headcode course service_code sector power timing_load speed characteristics class sleepers".split()
 TRAIN_FIELDS += "reservations connection catering branding extra traction uic operator_code timetable_code reserved_a reserved_b".split()
 CALL_DATA = "suffix line path activities engineering pathing performance".split()
 
 
-def day_of(text):
+def day_of(text: str) -> date:
     return date.fromisoformat(text)
 
 
-def dates_of(row, dates):
+def dates_of(row: Row, dates: List[date]) -> List[date]:
     """Those of the dates on which a record with first date, last date and days run applies."""
     first, last = day_of(row["first_date"]), day_of(row["last_date"])
     return [day for day in dates if first <= day <= last and row["days_run"][day.weekday()] == "1"]
@@ -25,7 +30,7 @@ def dates_of(row, dates):
 class Body:
     """What runs: the row of `schedules`, and the rows of `calls` and `changes`."""
 
-    def __init__(self, schedule, calls, changes):
+    def __init__(self, schedule: Row, calls: List[Row], changes: List[Row]) -> None:
         self.schedule = schedule
         self.calls, self.changes = calls, changes
         fields = [schedule[name] for name in ("identity", *TRAIN_FIELDS)]
@@ -34,17 +39,17 @@ class Body:
         )
         self.whole = (tuple(fields), self.journey)
 
-    def __eq__(self, other):
+    def __eq__(self, other: object) -> bool:
         return isinstance(other, Body) and self.whole == other.whole
 
-    def __hash__(self):
+    def __hash__(self) -> int:
         return hash(self.whole)
 
 
 class Extract:
     """The bodies of an extract by train and date, for some dates."""
 
-    def __init__(self, cif, path, dates):
+    def __init__(self, cif: Path, path: Path, dates: List[date]) -> None:
         self.source, self.dates = Source(cif, path), dates
         rows = {
             name: table_rows(self.source.lines("table", name))
@@ -53,23 +58,25 @@ class Extract:
         [self.header] = rows["header"]
         self.tiplocs = rows["tiplocs"]
         self.associations = rows["associations"]
-        parts = {name: defaultdict(list) for name in ("calls", "changes")}
+        parts: Dict[str, DefaultDict[str, List[Row]]] = {
+            name: defaultdict(list) for name in ("calls", "changes")
+        }
         for name, found in parts.items():
             for row in rows[name]:
                 found[row["schedule"]].append(row)
-        self.bodies = defaultdict(dict)
+        self.bodies: DefaultDict[str, Dict[date, Body]] = defaultdict(dict)
         for row in rows["schedules"]:
             number = row["schedule"]
             body = Body(row, parts["calls"][number], parts["changes"][number])
             for day in dates_of(row, dates):
                 self.bodies[row["uid"]][day] = body
 
-    def listed(self, day):
+    def listed(self, day: date) -> List[str]:
         """The UIDs that `cif day` lists."""
         rows = table_rows(self.source.lines("day", "--format", "tsv", f"{day:%y%m%d}"))
         return sorted(row["uid"] for row in rows if row["kind"] == "BS")
 
-    def trains_on(self, day, operator=None):
+    def trains_on(self, day: date, operator: Optional[str] = None) -> int:
         """How many trains run on a date, all or those of an operator."""
         found = (bodies.get(day) for bodies in self.bodies.values())
         return sum(
@@ -81,25 +88,25 @@ class Extract:
 # ---- what differs between two bodies
 
 
-def numbered(calls):
-    seen = Counter()
+def numbered(calls: List[Row]) -> Iterator[Tuple[Tuple[str, int], Row]]:
+    seen: Counter[str] = Counter()
     for row in calls:
         yield (row["location"], seen[row["location"]]), row
         seen[row["location"]] += 1
 
 
-def with_other_times(old, new):
+def with_other_times(old: Row, new: Row) -> bool:
     """Whether a working time that both have differs, or a public time of calls of one sort."""
     names = "arrival", "pass", "departure"
     working = any(old[name] and new[name] and old[name] != new[name] for name in names)
     return working or (old["record"] == new["record"] and public(old) != public(new))
 
 
-def public(row):
+def public(row: Row) -> Tuple[str, ...]:
     return tuple(row[name].replace("0000", "") for name in ("public_arrival", "public_departure"))
 
 
-def pairs_of(old, new):
+def pairs_of(old: Body, new: Body) -> List[Tuple[Row, Row]]:
     """The calls at places where both call, or both pass."""
     keys = [key for key, _ in numbered(old.calls)]
     found, done = [], 0
@@ -111,7 +118,7 @@ def pairs_of(old, new):
     return [(was, now) for was, now in found if bool(was["pass"]) == bool(now["pass"])]
 
 
-def kinds_of(old, new):
+def kinds_of(old: Body, new: Body) -> Set[str]:
     """The kinds of the difference between two bodies."""
     pairs, kinds = pairs_of(old, new), set()
     places = [[(row["location"], bool(row["pass"])) for row in body.calls] for body in (old, new)]
@@ -138,18 +145,18 @@ def kinds_of(old, new):
 class Expected:
     """All changes on the dates that both extracts have, or on those from one to another."""
 
-    def __init__(self, cif, old, new, window=None):
+    def __init__(self, cif: Path, old: Path, new: Path, window: Optional[Window] = None) -> None:
         self.cif, self.paths = cif, (old, new)
         headers = [table_rows(Source(cif, path).lines("table", "header"))[0] for path in (old, new)]
-        first = max(row["first_date"] for row in headers)
-        last = min(row["last_date"] for row in headers)
-        first, last = window or (day_of(first), day_of(last))
+        begins = max(row["first_date"] for row in headers)
+        ends = min(row["last_date"] for row in headers)
+        first, last = window or (day_of(begins), day_of(ends))
         self.dates = [first + timedelta(days=number) for number in range((last - first).days + 1)]
         self.old, self.new = (Extract(cif, path, self.dates) for path in (old, new))
 
-    def alone(self, extract, other):
+    def alone(self, extract: Extract, other: Extract) -> DefaultDict[Tuple[str, Body], Set[date]]:
         """By train and body, the dates on which the other extract has no body."""
-        found = defaultdict(set)
+        found: DefaultDict[Tuple[str, Body], Set[date]] = defaultdict(set)
         for uid, bodies in extract.bodies.items():
             for day, body in bodies.items():
                 if day not in other.bodies.get(uid, {}):
@@ -157,7 +164,7 @@ class Expected:
         return found
 
     @cached_property
-    def renumbered(self):
+    def renumbered(self) -> List[Tuple[str, str, Set[date], Body, Body]]:
         """The trains that have another UID: old UID, new UID, and the dates."""
         lost, got = self.alone(self.old, self.new), self.alone(self.new, self.old)
         free = defaultdict(list)
@@ -172,10 +179,11 @@ class Expected:
         return found
 
     @cached_property
-    def changes(self):
+    def changes(self) -> Dict[Tuple[str, str], Set[date]]:
         """By train and kind, the dates."""
-        found = defaultdict(set)
-        gone, come = defaultdict(set), defaultdict(set)
+        found: DefaultDict[Tuple[str, str], Set[date]] = defaultdict(set)
+        gone: DefaultDict[str, Set[date]] = defaultdict(set)
+        come: DefaultDict[str, Set[date]] = defaultdict(set)
         for uid, other, days, body, new_body in self.renumbered:
             gone[uid] |= days
             come[other] |= days
@@ -197,14 +205,14 @@ class Expected:
         return dict(found)
 
     @cached_property
-    def trains(self):
+    def trains(self) -> Dict[str, Set[date]]:
         """By train, the dates on which anything differs."""
-        found = defaultdict(set)
+        found: DefaultDict[str, Set[date]] = defaultdict(set)
         for (uid, _), days in self.changes.items():
             found[uid] |= days
         return dict(found)
 
-    def figures(self):
+    def figures(self) -> Counter[str]:
         """The numbers of trains with each kind, those with other data alone."""
         kinds = defaultdict(set)
         for uid, kind in self.changes:
@@ -213,13 +221,15 @@ class Expected:
         found["data"] = sum(each == {"data"} for each in kinds.values())
         return found
 
-    def on(self, day):
+    def on(self, day: date) -> int:
         """How many trains differ on a date."""
         return sum(day in days for days in self.trains.values())
 
-    def associations_of(self, extract):
+    def associations_of(
+        self, extract: Extract
+    ) -> DefaultDict[Tuple[str, ...], Dict[date, Tuple[str, ...]]]:
         """By key and date, what holds."""
-        found = defaultdict(dict)
+        found: DefaultDict[Tuple[str, ...], Dict[date, Tuple[str, ...]]] = defaultdict(dict)
         for row in extract.associations:
             names = "base_uid associated_uid location base_suffix associated_suffix".split()
             body = "category date_indicator diagram_type association_type".split()
@@ -228,7 +238,7 @@ class Expected:
                 found[key][day] = tuple(row[name] for name in body)
         return found
 
-    def associations(self):
+    def associations(self) -> Dict[Tuple[str, ...], Set[date]]:
         """By key, the dates on which an association is new, gone or another one."""
         sides = [self.associations_of(extract) for extract in (self.old, self.new)]
         old, new = sides
@@ -241,7 +251,7 @@ class Expected:
                     changes[(*key[:3], kind)].add(day)
         return dict(changes)
 
-    def places(self):
+    def places(self) -> Row:
         """The TIPLOCs whose records differ, and how."""
         old, new = ({row["tiploc"]: row for row in each.tiplocs} for each in (self.old, self.new))
         found = {}
@@ -251,7 +261,7 @@ class Expected:
                 found[tiploc] = kind
         return found
 
-    def by_diff(self):
+    def by_diff(self) -> Dict[str, Set[date]]:
         """The trains with the dates on which `cif diff --format tsv` says that something differs."""
         window = f"--from={self.dates[0]:%y%m%d}", f"--to={self.dates[-1]:%y%m%d}"
         words = ["diff", "--common", "--format", "tsv", *window]
@@ -262,7 +272,7 @@ class Expected:
         return dict(found)
 
 
-def difference_lines(cif, words, paths):
+def difference_lines(cif: Path, words: List[str], paths: Tuple[Path, Path]) -> List[str]:
     """What `cif diff` prints, whose status is 1 where there is something."""
     done = subprocess.run([cif, *words, *paths], capture_output=True, check=False, text=True)
     if done.returncode > 1:

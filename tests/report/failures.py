@@ -1,10 +1,14 @@
 """What is refused, and that nothing is left or lost then."""
+from __future__ import annotations
+
 import resource
 import signal
 import subprocess
 import time
+from pathlib import Path
+from typing import Callable, Dict, List, Optional
 
-from gtfs.checks import COMPANIONS
+from gtfs.checks import COMPANIONS, Counts, Word
 from gtfs.failures import FAILING
 
 from .by_hand import extract, june
@@ -13,14 +17,23 @@ from .checks import Maker
 STOPS = signal.SIGTERM, signal.SIGINT, signal.SIGHUP
 
 
-def files_in(folder):
+def files_in(folder: Path) -> Dict[str, bytes]:
     return {path.name: path.read_bytes() for path in folder.iterdir() if path.is_file()}
 
 
-def refused(counts, maker, name, status, reported, *words, **options):
+def refused(
+    counts: Counts,
+    maker: Maker,
+    name: str,
+    status: int,
+    reported: str,
+    *words: Word,
+    stdin: Optional[str] = None,
+    preexec_fn: Optional[Callable[[], None]] = None,
+) -> None:
     """Whether a run ends with the status, reports this, and leaves the folder as it was."""
     before = files_in(maker.folder)
-    done = maker.run(*map(str, words), **options)
+    done = maker.run(*map(str, words), stdin=stdin, preexec_fn=preexec_fn)
     counts.same(f"{name}, status", status, done.returncode)
     counts.test(f"{name}, reported", reported in done.stderr, done.stderr)
     counts.test(
@@ -31,7 +44,7 @@ def refused(counts, maker, name, status, reported, *words, **options):
     counts.test(f"{name}, the files stay", before == after)
 
 
-def check_outputs(counts, maker, old, new):
+def check_outputs(counts: Counts, maker: Maker, old: Path, new: Path) -> None:
     """Where the page and the CSV file go."""
     done = maker.run(old, new)
     made = sorted(path.name for path in maker.folder.glob("REPORT.*"))
@@ -40,16 +53,18 @@ def check_outputs(counts, maker, old, new):
     first = files_in(maker.folder)
     maker.run(old, new)
     counts.test("the same again has the same bytes", first == files_in(maker.folder))
-    done = maker.run("-o", "other.htm", "-", new, text=False, input=old.read_bytes())
+    piped = maker.run_bytes(old.read_bytes(), "-o", "other.htm", "-", new)
     same = (maker.folder / "other.csv").read_bytes() == (maker.folder / "REPORT.csv").read_bytes()
     counts.same(
-        "an extract from standard input", (0, b"", True), (done.returncode, done.stderr, same)
+        "an extract from standard input", (0, b"", True), (piped.returncode, piped.stderr, same)
     )
     shell = f"cat {old} | {COMPANIONS / 'cif-report'} --cif {maker.cif} -o other.htm - <(cat {new})"
-    done = subprocess.run(["bash", "-c", shell], cwd=maker.folder, capture_output=True, check=False)
+    piped = subprocess.run(
+        ["bash", "-c", shell], cwd=maker.folder, capture_output=True, check=False
+    )
     same = (maker.folder / "other.csv").read_bytes() == (maker.folder / "REPORT.csv").read_bytes()
-    counts.same("both extracts from pipes", (0, b"", True), (done.returncode, done.stderr, same))
-    refused(counts, maker, "both from standard input", 2, "only one", "-", "-", input="")
+    counts.same("both extracts from pipes", (0, b"", True), (piped.returncode, piped.stderr, same))
+    refused(counts, maker, "both from standard input", 2, "only one", "-", "-", stdin="")
     refused(counts, maker, "a folder as output", 2, "folder", "-o", ".", old, new)
     refused(
         counts, maker, "a CSV file as output", 2, "the place of the page", "-o", "x.csv", old, new
@@ -86,7 +101,7 @@ def check_outputs(counts, maker, old, new):
     other.unlink()
 
 
-def check_refusals(counts, maker, old, new):
+def check_refusals(counts: Counts, maker: Maker, old: Path, new: Path) -> None:
     bad = maker.folder / "bad.cif"
     bad.write_text(old.read_text()[:-81])
     refused(counts, maker, "a refused extract, first", 3, "Truncated", bad, new)
@@ -125,7 +140,7 @@ def check_refusals(counts, maker, old, new):
     refused(counts, missing, "no program cif", 4, "can't be run", old, new)
 
 
-def second_body(text):
+def second_body(text: str) -> str:
     """The first train again, with another platform."""
     lines = text.splitlines()
     first = next(number for number, line in enumerate(lines) if line.startswith("BS"))
@@ -133,7 +148,7 @@ def second_body(text):
     return "\n".join(lines[first : last + 1]).replace("5  ", "6  ")
 
 
-def failing_cif(maker, table, then):
+def failing_cif(maker: Maker, table: str, then: str) -> Maker:
     """A program that is `cif`, but for one table or for `diff`."""
     program = maker.folder / "failing-cif"
     program.write_text(FAILING.format(cif=maker.cif, table=table, then=then))
@@ -141,7 +156,7 @@ def failing_cif(maker, table, then):
     return Maker(program, maker.folder)
 
 
-def check_failures(counts, maker, old, new):
+def check_failures(counts: Counts, maker: Maker, old: Path, new: Path) -> None:
     for table in "header", "tiplocs", "schedules":
         failing = failing_cif(maker, table, "echo 'cif: Memory' >&2; exit 4")
         refused(counts, failing, f"cif fails at {table}", 4, "cif: Memory", old, new)
@@ -151,27 +166,32 @@ def check_failures(counts, maker, old, new):
     )
     (maker.folder / "failing-cif").unlink()
 
-    def little_space():
+    def little_space() -> None:
         resource.setrlimit(resource.RLIMIT_FSIZE, (8000, 8000))
 
     refused(counts, maker, "no space", 4, "File too large", old, new, preexec_fn=little_space)
 
 
-def check_signals(counts, maker, old, new):
+def check_signals(counts: Counts, maker: Maker, old: Path, new: Path) -> None:
     """Interrupted, it leaves nothing but the older files."""
     failing = failing_cif(maker, "schedules", "touch reached; exec sleep 60")
     before, reached = files_in(maker.folder), maker.folder / "reached"
-    words = [COMPANIONS / "cif-report", "--cif", failing.cif, old, new]
+    words: List[Word] = [COMPANIONS / "cif-report", "--cif", failing.cif, old, new]
 
-    def not_ignored():
+    def not_ignored() -> None:
         # a background job of a shell is started with some of them ignored
         for each in STOPS:
             signal.signal(each, signal.SIG_DFL)
 
-    options = {"cwd": maker.folder, "stderr": subprocess.PIPE, "start_new_session": True}
-    options["preexec_fn"] = not_ignored
     for number in STOPS:
-        process = subprocess.Popen(words, **options)
+        # no thread runs then
+        process = subprocess.Popen(  # pylint: disable=subprocess-popen-preexec-fn
+            words,
+            cwd=maker.folder,
+            stderr=subprocess.PIPE,
+            start_new_session=True,
+            preexec_fn=not_ignored,
+        )
         for _ in range(600):
             if reached.exists():
                 break
@@ -179,6 +199,7 @@ def check_signals(counts, maker, old, new):
         reached.unlink()
         process.send_signal(number)
         process.wait(timeout=30)
+        assert process.stderr is not None
         process.stderr.close()
         name = signal.Signals(number).name
         counts.same(f"stopped by {name}, status", 4, process.returncode)
@@ -186,7 +207,7 @@ def check_signals(counts, maker, old, new):
     (maker.folder / "failing-cif").unlink()
 
 
-def check(counts, maker):
+def check(counts: Counts, maker: Maker) -> None:
     old, new = maker.folder / "one.cif", maker.folder / "two.cif"
     old.write_text(extract())
     new.write_text(extract(places={"BETA": ("BET", "BETA TOWN")}))

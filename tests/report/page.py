@@ -1,10 +1,14 @@
 """What a page and the CSV file beside it say, as values."""
+from __future__ import annotations
+
 import csv
 import json
 import re
 from collections import defaultdict
 from datetime import date, timedelta
 from html import unescape
+from pathlib import Path
+from typing import Dict, Iterator, List, Optional, Set, Tuple, TypedDict
 
 from .definition import dates_of
 
@@ -13,16 +17,16 @@ MONTHS = (
 )
 
 
-def text_of(markup):
+def text_of(markup: str) -> str:
     """The text of a part of the page, on one line."""
     return " ".join(unescape(re.sub(r"<[^>]*>", " ", markup)).split())
 
 
-def number_of(text):
+def number_of(text: str) -> int:
     return int(text.replace(",", "").replace("−", "-").replace("+", ""))
 
 
-def month_day(text, days):
+def month_day(text: str, days: List[date]) -> date:
     """A date such as `6 June`, among these."""
     words = text.split()
     return next(
@@ -33,17 +37,24 @@ def month_day(text, days):
     )
 
 
+class Data(TypedDict):
+    """What the script of a page has."""
+
+    firstDate: str
+    places: List[List[str]]
+
+
 class Group:
     """Trains with the same changes: these in words, their kinds with dates, and the trains' parts of the page."""
 
-    def __init__(self, markup, first):
+    def __init__(self, markup: str, first: date) -> None:
         [changes] = re.findall(r'data-changes="([^"]*)"', markup)
         self.kinds = {}
         for change in changes.split(";"):
             kind, *ranges = change.split(" ")
             self.kinds[kind] = {first + number * timedelta(1) for number in numbers_in(ranges)}
         words = re.findall(r'<p><strong>(.*?)</strong> <span class="when">(.*?)</span></p>', markup)
-        self.words = [tuple(map(unescape, each)) for each in words]
+        self.words = [(unescape(change), unescape(when)) for change, when in words]
         [weeks] = re.findall(r'(?s)<table class="weeks">(.*?)</table>', markup)
         self.weeks = re.findall(r'<tr><th scope="row">(.*?)((?:<td[^>]*>[^<\n]*)+)', weeks)
         self.all_weeks = "colspan" not in weeks
@@ -51,9 +62,9 @@ class Group:
         others = re.findall(r'class="more-trains">and ([\d,]+) other', markup)
         self.others = number_of(others[0]) if others else 0
 
-    def marks(self, first, last):
+    def marks(self, first: date, last: date) -> Dict[date, str]:
         """What its calendar has at which dates."""
-        found = {}
+        found: Dict[date, str] = {}
         mondays = [first + number * timedelta(1) for number in range(-6, (last - first).days + 1)]
         for label, cells in self.weeks:
             name, _, count = unescape(label).partition(", ")
@@ -65,7 +76,7 @@ class Group:
         return found
 
 
-def numbers_in(ranges):
+def numbers_in(ranges: List[str]) -> Iterator[int]:
     for each in ranges:
         first, _, last = each.partition("-")
         yield from range(int(first), int(last or first) + 1)
@@ -74,9 +85,9 @@ def numbers_in(ranges):
 class Train:
     """A train on the page."""
 
-    def __init__(self, markup):
+    def __init__(self, markup: str) -> None:
         self.markup = markup
-        get = dict(re.findall(r'data-(\w+)="([^"]*)"', markup))
+        get: Dict[str, str] = dict(re.findall(r'data-(\w+)="([^"]*)"', markup))
         self.uid, self.operators = unescape(get["uid"]), unescape(get["operator"]).split(" ")
         self.places = list(map(int, get["places"].split(" ")))
         self.text = text_of(markup)
@@ -96,7 +107,7 @@ class Train:
 class Page:
     """The page and the CSV file."""
 
-    def __init__(self, path):
+    def __init__(self, path: Path) -> None:
         self.markup = path.read_text(encoding="utf-8")
         self.text = text_of(re.sub(r"(?s)<(style|script).*?</\1>", "", self.markup))
         found = re.findall(
@@ -122,8 +133,8 @@ class Page:
         data = re.findall(
             r'(?s)<script type="application/json" id="data">(.*?)</script>', self.markup
         )
-        self.data = json.loads(data[0]) if data else None
-        first = date.fromisoformat(self.data["firstDate"]) if data else None
+        self.data: Optional[Data] = json.loads(data[0]) if data else None
+        first = date.fromisoformat(self.data["firstDate"]) if self.data else date.min
         self.groups = [
             Group(each, first)
             for each in re.findall(r'(?s)<article class="group".*?</article>', self.markup)
@@ -135,10 +146,10 @@ class Page:
         with path.with_suffix(".csv").open(encoding="utf-8", newline="") as file:
             self.rows = list(csv.DictReader(file))
 
-    def trains(self):
+    def trains(self) -> List[Train]:
         return [train for group in self.groups for train in group.trains]
 
-    def by_kind(self, dates):
+    def by_kind(self, dates: List[date]) -> Dict[Tuple[str, str], Set[date]]:
         """Of the CSV file: by train and kind, the dates."""
         found = defaultdict(set)
         for row in self.rows:
@@ -146,22 +157,22 @@ class Page:
                 found[row["uid"], row["kind"]].update(dates_of(row, dates))
         return dict(found)
 
-    def words(self):
+    def words(self) -> List[str]:
         """The changes of the trains, in words with their dates, as the page has them."""
         return [" ".join(each) for group in self.groups for each in group.words]
 
 
-def heights(chart, name, count):
+def heights(chart: str, name: str, count: int) -> List[int]:
     """The heights of a path of steps, date by date."""
     [path] = re.findall(rf'<path class="{name}" d="(.*?)"', chart)
-    found = []
+    found: List[int] = []
     for height, end in re.findall(r"V(\d+)H(\d+)", path.split("Z")[0]):
         if int(end) > len(found):
             found += [int(height)] * (int(end) - len(found))
     return found[:count]
 
 
-def bars(chart, name):
+def bars(chart: str, name: str) -> Dict[int, int]:
     """The bars of a path: by the number of the date, how high they are."""
     [path] = re.findall(rf'<path class="{name}" d="(.*?)"', chart)
     found = {}

@@ -1,4 +1,6 @@
 """What `run` says, in Python."""
+from __future__ import annotations
+
 import random
 import sys
 import tempfile
@@ -24,7 +26,7 @@ PART = date(2026, 6, 8), date(2026, 7, 19)
 SHOWN = 60
 
 
-def check_generated(counts, cif, maker):
+def check_generated(counts: Counts, cif: Path, maker: Maker) -> Path:
     """A pair of extracts with changes of each kind. Returns the path of a page of it with fewer trains."""
     old, new = maker.folder / "old.cif", maker.folder / "new.cif"
     for path, text in zip((old, new), timetables.pair(random.Random(SEED), SCHEDULES, CHANGES)):
@@ -38,7 +40,7 @@ def check_generated(counts, cif, maker):
     return maker.folder / "shown.html"
 
 
-def check_by_chance(counts, cif, maker):
+def check_by_chance(counts: Counts, cif: Path, maker: Maker) -> None:
     """A pair of extracts whose records are made by chance: odd journeys, changes en route, no operators."""
     old, new = maker.folder / "odd-old.cif", maker.folder / "odd-new.cif"
     for number, path in enumerate((old, new)):
@@ -47,7 +49,7 @@ def check_by_chance(counts, cif, maker):
     check_trains_and_days(counts, "a pair by chance", Expected(cif, old, new), page)
 
 
-def main():
+def main() -> int:
     counts, cif = Counts(), Path(sys.argv[1]).resolve()
     with tempfile.TemporaryDirectory(prefix="cif-report-") as work:
         maker = Maker(cif, Path(work))

@@ -1,7 +1,12 @@
 """Pairs of extracts that look like those of a railway: a few lines with an operator each, and changes of each kind between the two."""
+from __future__ import annotations
+
 from dataclasses import dataclass, field, replace
 from datetime import date, timedelta
+from random import Random
+from typing import Dict, List, Tuple
 
+from reference.dates import Window
 from reference.layouts import LAYOUTS, plain
 
 DAY = timedelta(days=1)
@@ -64,6 +69,10 @@ MNCRVIC 15 MCV MANCHESTER VICTORIA
 """
 PATTERNS = ("1111100", "1111100", "1111111", "0000010", "0000001", "1111110")
 
+# The CRS code and the name of a place; and a line as its places with minutes.
+Place = Tuple[str, str]
+Line = List[Tuple[str, int]]
+
 
 @dataclass(frozen=True)
 class Call:
@@ -76,6 +85,9 @@ class Call:
     passes: bool = False
 
 
+Calls = Tuple[Call, ...]
+
+
 @dataclass(frozen=True)
 class Schedule:
     """A record of a train."""
@@ -84,7 +96,7 @@ class Schedule:
     first: date
     last: date
     days: str
-    calls: tuple
+    calls: Calls
     operator: str
     identity: str = "1A00"
     power: str = "EMU"
@@ -97,12 +109,12 @@ class Extract:
 
     reference: str
     extracted: str
-    window: tuple
-    places: dict
-    schedules: list = field(default_factory=list)
-    associations: list = field(default_factory=list)
+    window: Window
+    places: Dict[str, Place]
+    schedules: List[Schedule] = field(default_factory=list)
+    associations: List[str] = field(default_factory=list)
 
-    def text(self):
+    def text(self) -> str:
         first, last = (f"{day:%d%m%y}" for day in self.window)
         header = {"mainframe": "TPS.UTEST01.PD260517", "date_of_extract": self.extracted[:6]}
         header |= {"time_of_extract": self.extracted[6:], "current_file": self.reference}
@@ -115,27 +127,27 @@ class Extract:
         return "".join(f"{line}\n" for line in [*lines, line_of("ZZ", {})])
 
 
-def line_of(kind, fields):
+def line_of(kind: str, fields: Dict[str, str]) -> str:
     """A line, with blanks for what isn't given."""
     widths = {field.name: field.last - field.first + 1 for field in LAYOUTS[kind]}
     return plain(kind, {name: fields.get(name, "").ljust(width) for name, width in widths.items()})
 
 
-def place_line(tiploc, crs, name):
+def place_line(tiploc: str, crs: str, name: str) -> str:
     short = name[:16].ljust(16)
     return line_of("TI", {"tiploc": f"{tiploc:7}00500000A{name:26}72000   0{crs:3}{short}"})
 
 
-def clock(minutes):
+def clock(minutes: int) -> str:
     return f"{minutes // 60 % 24:02}{minutes % 60:02}"
 
 
-def times_of(call, kind):
+def times_of(call: Call, kind: str) -> Dict[str, str]:
     """The fields of a call's times."""
     if call.passes:
         none = {"public_arrival": "0000", "public_departure": "0000"}
         return none | {"pass": clock(call.arrives)}
-    found = {}
+    found: Dict[str, str] = {}
     if kind != "LO":
         found |= {"arrival": clock(call.arrives), "public_arrival": clock(call.arrives)}
     if kind != "LT":
@@ -143,13 +155,13 @@ def times_of(call, kind):
     return found
 
 
-def call_line(call, kind):
+def call_line(call: Call, kind: str) -> str:
     codes = {"LO": "TB", "LT": "TF"}.get(kind, "" if call.passes else "T ")
     fields = {"location": call.place, "platform": call.platform, "activities": codes}
     return line_of(kind, fields | times_of(call, kind))
 
 
-def schedule_lines(schedule):
+def schedule_lines(schedule: Schedule) -> List[str]:
     terms = {"transaction": "N", "uid": schedule.uid, "letter": schedule.letter}
     terms |= {"first": f"{schedule.first:%y%m%d}", "last": f"{schedule.last:%y%m%d}"}
     terms |= {"days": schedule.days}
@@ -165,7 +177,9 @@ def schedule_lines(schedule):
     ]
 
 
-def association_line(base, associated, location, span, category="VV"):
+def association_line(
+    base: str, associated: str, location: str, span: Window, category: str = "VV"
+) -> str:
     first, last = (f"{day:%y%m%d}" for day in span)
     fields = {"transaction": "N", "base": base, "associated": associated, "first": first}
     fields |= {"last": last, "days": "1111111", "category": category, "date_indicator": "S"}
@@ -177,9 +191,11 @@ def association_line(base, associated, location, span, category="VV"):
 # ---- the timetable before
 
 
-def read_lines():
+def read_lines() -> Tuple[Dict[str, Line], Dict[str, Place]]:
     """The lines by their operators, and all places with their CRS codes and names."""
-    lines, places = {}, {}
+    lines: Dict[str, Line] = {}
+    places: Dict[str, Place] = {}
+    operator = ""
     for row in LINES_TEXT.split("\n"):
         words = row.split(" ", 3)
         if len(words) > 1:
@@ -194,7 +210,7 @@ def read_lines():
 LINES, PLACES = read_lines()
 
 
-def journey(line, start, number):
+def journey(line: Line, start: int, number: int) -> Calls:
     """The calls of a train that starts after so many minutes. Those without a CRS code are passed."""
     calls, now = [], start
     for at, (place, minutes) in enumerate(line):
@@ -207,13 +223,13 @@ def journey(line, start, number):
     return tuple(calls)
 
 
-def backwards(line):
+def backwards(line: Line) -> Line:
     places = [place for place, _ in reversed(line)]
     minutes = [0, *(minutes for _, minutes in reversed(line[1:]))]
     return list(zip(places, minutes))
 
 
-def regular(rng, number):
+def regular(rng: Random, number: int) -> Schedule:
     """A train with one record."""
     operator = list(LINES)[number % len(LINES)]
     line = LINES[operator] if rng.random() < 0.5 else backwards(LINES[operator])
@@ -226,7 +242,7 @@ def regular(rng, number):
     return Schedule(uid, first, last, rng.choice(PATTERNS), calls, operator, identity)
 
 
-def without_holidays(schedules, operators):
+def without_holidays(schedules: List[Schedule], operators: Tuple[str, str]) -> List[Schedule]:
     """These operators run nothing on bank holidays."""
     found = []
     for schedule in schedules:
@@ -237,7 +253,7 @@ def without_holidays(schedules, operators):
     return found
 
 
-def before(rng, count):
+def before(rng: Random, count: int) -> Extract:
     """The extract before, with so many schedules."""
     trains = [regular(rng, number) for number in range(count * 9 // 10)]
     extract = Extract("DFTEST1", "1705262110", WINDOW, dict(PLACES), trains)
@@ -254,7 +270,7 @@ def before(rng, count):
 # ---- the timetable after
 
 
-def moved(calls, minutes, start=0):
+def moved(calls: Calls, minutes: int, start: int = 0) -> Calls:
     """The calls so many minutes later, from one of them on."""
     return tuple(
         replace(
@@ -268,94 +284,94 @@ def moved(calls, minutes, start=0):
     )
 
 
-def overlay(train, first, last, **changes):
+def overlay(train: Schedule, first: date, last: date, calls: Calls) -> Schedule:
     """The train with another body from one date to another."""
-    return replace(train, first=first, last=last, letter="O", **changes)
+    return replace(train, first=first, last=last, letter="O", calls=calls)
 
 
-def cancelled(train, first, last):
+def cancelled(train: Schedule, first: date, last: date) -> Schedule:
     return replace(train, first=first, last=last, letter="C")
 
 
-def summer(rng):
+def summer(rng: Random) -> Window:
     """Some weeks within the window, from a Monday on."""
     first = WINDOW[0] + rng.randrange(2, 10) * 7 * DAY
     return first, first + rng.choice([0, 1, 4]) * 7 * DAY + 6 * DAY
 
 
-def with_platform(calls, at, platform):
+def with_platform(calls: Calls, at: int, platform: str) -> Calls:
     return tuple(
         replace(call, platform=platform) if number == at else call
         for number, call in enumerate(calls)
     )
 
 
-def without_call(calls, at):
+def without_call(calls: Calls, at: int) -> Calls:
     return tuple(
         replace(call, leaves=call.arrives, passes=True, platform="") if number == at else call
         for number, call in enumerate(calls)
     )
 
 
-def later(rng, train):
+def later(rng: Random, train: Schedule) -> List[Schedule]:
     return [
         train,
         overlay(train, *summer(rng), calls=moved(train.calls, rng.choice([12, 12, 5, 30, -4]))),
     ]
 
 
-def later_on_the_way(rng, train):
+def later_on_the_way(rng: Random, train: Schedule) -> List[Schedule]:
     return [
         train,
         overlay(train, *summer(rng), calls=moved(train.calls, 7, start=rng.choice([2, 3]))),
     ]
 
 
-def other_platform(rng, train):
+def other_platform(rng: Random, train: Schedule) -> List[Schedule]:
     return [replace(train, calls=with_platform(train.calls, rng.choice([0, 2]), "9"))]
 
 
-def starts_later(rng, train):
+def starts_later(rng: Random, train: Schedule) -> List[Schedule]:
     return [train, overlay(train, *summer(rng), calls=train.calls[2:])]
 
 
-def ends_earlier(rng, train):
+def ends_earlier(rng: Random, train: Schedule) -> List[Schedule]:
     return [train, overlay(train, *summer(rng), calls=train.calls[:-2])]
 
 
-def fewer_calls(rng, train):
+def fewer_calls(rng: Random, train: Schedule) -> List[Schedule]:
     return [replace(train, calls=without_call(train.calls, 2))]
 
 
-def another_uid(rng, train):
+def another_uid(rng: Random, train: Schedule) -> List[Schedule]:
     return [replace(train, uid="Z" + train.uid[1:])]
 
 
-def another_identity(rng, train):
+def another_identity(rng: Random, train: Schedule) -> List[Schedule]:
     return [replace(train, identity="9" + train.identity[1:])]
 
 
-def another_power(rng, train):
+def another_power(rng: Random, train: Schedule) -> List[Schedule]:
     return [replace(train, power="BMU")]
 
 
-def another_operator(rng, train):
+def another_operator(rng: Random, train: Schedule) -> List[Schedule]:
     return [replace(train, operator="XC")]
 
 
-def out_for_weeks(rng, train):
+def out_for_weeks(rng: Random, train: Schedule) -> List[Schedule]:
     return [train, cancelled(train, *summer(rng))]
 
 
-def gone(rng, train):
+def gone(rng: Random, train: Schedule) -> List[Schedule]:
     return []
 
 
-def ends_in_july(rng, train):
+def ends_in_july(rng: Random, train: Schedule) -> List[Schedule]:
     return [replace(train, last=date(2026, 7, 11))] if train.first < date(2026, 7, 1) else [train]
 
 
-def also_on_sundays(rng, train):
+def also_on_sundays(rng: Random, train: Schedule) -> List[Schedule]:
     return [train, replace(train, days="0000001", letter="N")] if train.days[6] == "0" else [train]
 
 
@@ -377,7 +393,7 @@ WAYS = (
 )
 
 
-def engineering(schedules, operator, day):
+def engineering(schedules: List[Schedule], operator: str, day: date) -> List[Schedule]:
     """No train of the operator runs on a date."""
     weekday = day.weekday()
     return [
@@ -390,7 +406,7 @@ def engineering(schedules, operator, day):
     ]
 
 
-def after(rng, old, each):
+def after(rng: Random, old: Extract, each: int) -> Extract:
     """The extract after, in which so many trains have each of the changes."""
     permanent = [train for train in old.schedules if train.letter == "P"]
     chosen = rng.sample(range(len(permanent)), min(each * len(WAYS), len(permanent)))
@@ -421,7 +437,7 @@ def after(rng, old, each):
     return extract
 
 
-def pair(rng, count, each):
+def pair(rng: Random, count: int, each: int) -> Tuple[str, str]:
     """The texts of both extracts: so many schedules, and so many changes of each kind."""
     old = before(rng, count)
     return old.text(), after(rng, old, each).text()

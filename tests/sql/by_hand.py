@@ -1,9 +1,14 @@
 """Rows by hand: of an extract whose trains show a rule each, and of examples/timetable.cif."""
+from __future__ import annotations
+
 from functools import partial
+from pathlib import Path
+from typing import Dict, List, Tuple
 
-from gtfs.checks import TOP
+from gtfs.checks import TOP, Counts
 
-from .checks import sqlite_rows
+from .checks import Maker, Query, sqlite_rows
+from .definition import SqlRow
 
 EXAMPLE = TOP / "examples" / "timetable.cif"
 
@@ -57,8 +62,9 @@ ZZ
 """
 EXTRACT = "".join(line.ljust(80) + "\n" for line in LINES.strip().split("\n"))
 
-# Queries, each with its rows.
-QUERIES = {
+# Queries by what they are about, each with its rows.
+Queries = Dict[str, Tuple[str, List[SqlRow]]]
+QUERIES: Queries = {
     "departures of a station": (
         "SELECT date, time, train_date, uid, platform, destination FROM departures"
         " WHERE crs = 'BET' AND date BETWEEN '2026-01-08' AND '2026-01-10' ORDER BY date, time",
@@ -136,7 +142,7 @@ QUERIES = {
         [("TPS.UTEST01.PD260104", "DFTEST1", "2026-01-04T21:30", "2026-01-05", "2026-01-11")],
     ),
 }
-EXAMPLE_QUERIES = {
+EXAMPLE_QUERIES: Queries = {
     "after midnight the date is that of the clock": (
         "SELECT station, time, train_date, uid, destination_name FROM departures"
         " WHERE crs = 'HHE' AND date = '2026-06-06' ORDER BY time LIMIT 1",
@@ -145,12 +151,17 @@ EXAMPLE_QUERIES = {
 }
 
 
-def check_queries(counts, queries, rows, name):
+def check_queries(
+    counts: Counts,
+    queries: Queries,
+    rows: Query,
+    name: str,
+) -> None:
     """Each of the queries. `rows` gives the rows of one."""
     for about, (query, want) in queries.items():
         counts.same(f"{about}, in {name}", want, rows(query))
 
 
-def check(counts, maker, special):
+def check(counts: Counts, maker: Maker, special: Path) -> None:
     for path, queries in (special, QUERIES), (EXAMPLE, EXAMPLE_QUERIES):
         check_queries(counts, queries, partial(sqlite_rows, maker.database(path)), path.name)

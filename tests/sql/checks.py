@@ -1,29 +1,59 @@
 """A database against what `cif` says, field by field and date by date."""
+from __future__ import annotations
+
 import sqlite3
 import subprocess
 from collections import Counter
 from contextlib import closing
+from pathlib import Path
+from typing import Callable, Iterable, List, Optional, TypeVar, Union
 
-from gtfs.checks import COMPANIONS, first_difference
+from gtfs.checks import COMPANIONS, Counts, Word, first_difference
 from gtfs.definition import seconds_of
 
-from .definition import RENAMED
+from .definition import RENAMED, Expected, SqlRow
 
 BOARD = "crs, date, time, train_date, uid, identity, operator, platform, {end}, pick_up, set_down, location"
+
+# What gives the rows of a query.
+Query = Callable[[str], List[SqlRow]]
+Item = TypeVar("Item")
 
 
 class Maker:
     """Runs cif-sql in a folder."""
 
-    def __init__(self, cif, folder):
+    def __init__(self, cif: Path, folder: Path) -> None:
         self.cif, self.folder = cif, folder
 
-    def run(self, *words, **options):
-        words = [COMPANIONS / "cif-sql", "--cif", self.cif, *words]
-        options = {"text": True, **options}
-        return subprocess.run(words, cwd=self.folder, capture_output=True, check=False, **options)
+    def run(
+        self,
+        *words: Word,
+        stdin: Optional[str] = None,
+        preexec_fn: Optional[Callable[[], None]] = None,
+    ) -> subprocess.CompletedProcess[str]:
+        """How a run ends that has this text as its standard input, and calls a function first."""
+        return subprocess.run(
+            [COMPANIONS / "cif-sql", "--cif", self.cif, *words],
+            cwd=self.folder,
+            input=stdin,
+            capture_output=True,
+            check=False,
+            text=True,
+            preexec_fn=preexec_fn,
+        )
 
-    def database(self, *words):
+    def run_bytes(self, stdin: bytes, *words: Word) -> subprocess.CompletedProcess[bytes]:
+        """The same in bytes."""
+        return subprocess.run(
+            [COMPANIONS / "cif-sql", "--cif", self.cif, *words],
+            cwd=self.folder,
+            input=stdin,
+            capture_output=True,
+            check=False,
+        )
+
+    def database(self, *words: Word) -> Path:
         """The path of a database that is made."""
         path = self.folder / "made.db"
         path.unlink(missing_ok=True)
@@ -33,26 +63,27 @@ class Maker:
         return path
 
 
-def text_of(value):
+def text_of(value: Optional[Union[int, str]]) -> Optional[str]:
     return None if value is None else str(value)
 
 
-def sqlite_rows(path, query):
+def sqlite_rows(path: Path, query: str) -> List[SqlRow]:
     """The rows of a query, each value as a text or None."""
     with closing(sqlite3.connect(path)) as connection:
         return [tuple(map(text_of, row)) for row in connection.execute(query)]
 
 
-def same_rows(counts, name, want, got):
-    got = Counter(got)
-    counts.test(name, want == got, "" if want == got else first_difference(want, got))
+def same_rows(counts: Counts, name: str, want: Counter[Item], got: Iterable[Item]) -> None:
+    found = Counter(got)
+    unequal = "" if want == found else first_difference(want.items(), found.items())
+    counts.test(name, want == found, unequal)
 
 
-def columns_of(names, table):
+def columns_of(names: List[str], table: str) -> str:
     return ", ".join(f"{table}.{RENAMED.get(name, name)}" for name in names)
 
 
-def check_fields(counts, name, expected, rows):
+def check_fields(counts: Counts, name: str, expected: Expected, rows: Query) -> None:
     """Every field of schedules, calls, changes and public calls comes back."""
     for table, place in (
         ("calls", "calls"),
@@ -81,12 +112,14 @@ def check_fields(counts, name, expected, rows):
     query = "SELECT arrival_seconds, departure_seconds, pass_seconds FROM calls"
     same_rows(counts, f"{name}, working times", expected.working_seconds(), rows(query))
     times = rows("SELECT arrival, departure, arrival_seconds, departure_seconds FROM public_calls")
-    wrong = [row for row in times if tuple(str(seconds_of(time)) for time in row[:2]) != row[2:]]
+    wrong = [
+        row for row in times if tuple(str(seconds_of(time or "")) for time in row[:2]) != row[2:]
+    ]
     counts.same(f"{name}, public times", [], wrong)
 
 
-def check_places(counts, name, expected, rows):
-    places = Counter(
+def check_places(counts: Counts, name: str, expected: Expected, rows: Query) -> None:
+    places: Counter[SqlRow] = Counter(
         (
             row["tiploc"],
             row["crs_code"] or None,
@@ -98,12 +131,14 @@ def check_places(counts, name, expected, rows):
     )
     got = rows("SELECT tiploc, crs, description, nlc, stanox FROM locations")
     same_rows(counts, f"{name}, locations", places, got)
-    codes = Counter({row["crs_code"]: 1 for row in expected.tables["tiplocs"] if row["crs_code"]})
-    got = [crs for crs, in rows("SELECT crs FROM stations")]
-    same_rows(counts, f"{name}, stations", codes, got)
+    codes: Counter[Optional[str]] = Counter(
+        {row["crs_code"]: 1 for row in expected.tables["tiplocs"] if row["crs_code"]}
+    )
+    stations = [crs for crs, in rows("SELECT crs FROM stations")]
+    same_rows(counts, f"{name}, stations", codes, stations)
 
 
-def check_dates(counts, name, expected, rows):
+def check_dates(counts: Counts, name: str, expected: Expected, rows: Query) -> None:
     trains, associations = expected.days
     counts.test(f"{name} has trains and associations", trains and associations)
     query = "SELECT date, uid, identity, origin, departure, destination, arrival FROM runs"
@@ -120,18 +155,18 @@ def check_dates(counts, name, expected, rows):
     same_rows(counts, f"{name}, calls_on", expected.calls_on, got)
 
 
-def check_boards(counts, name, expected, rows):
+def check_boards(counts: Counts, name: str, expected: Expected, rows: Query) -> None:
     for view, want, end in (
         ("departures", expected.departures, "destination"),
         ("arrivals", expected.arrivals, "origin"),
     ):
         got = rows(f"SELECT {BOARD.format(end=end)} FROM {view}")
         same_rows(counts, f"{name}, {view}", want, got)
-        later = sum(row[1] > row[3] for row in want)
+        later = sum(str(row[1]) > str(row[3]) for row in want)
         counts.test(f"{name}, {view} after midnight", later > 0)
 
 
-def check_database(counts, expected, rows, kind="SQLite"):
+def check_database(counts: Counts, expected: Expected, rows: Query, kind: str = "SQLite") -> None:
     """All of a database. `rows` gives those of a query."""
     name = f"{expected.source.path.name} in {kind}"
     check_fields(counts, name, expected, rows)

@@ -1,12 +1,15 @@
 """The questions of docs/SQL.md in PostgreSQL, and the nightly job of examples/."""
+from __future__ import annotations
+
 import os
 import re
 import subprocess
+from pathlib import Path
 
-from gtfs.checks import COMPANIONS, TOP
+from gtfs.checks import COMPANIONS, TOP, Counts
 
 from .by_hand import EXAMPLE
-from .checks import sqlite_rows
+from .checks import Maker, sqlite_rows
 from .postgres import load, psql
 
 QUESTION = re.compile(r'^\$ sqlite3 timetable\.db "([^"]*)"\n((?:[^`$\n].*\n)*)', re.MULTILINE)
@@ -25,7 +28,7 @@ DAYS = (
 )
 
 
-def check_questions(counts, maker):
+def check_questions(counts: Counts, maker: Maker) -> None:
     """Each question has the answer that the document shows, which tests/tour looks for in SQLite."""
     found = QUESTION.findall((TOP / "docs" / "SQL.md").read_text())
     counts.test("questions of docs/SQL.md", len(found) >= QUESTIONS, len(found))
@@ -36,7 +39,7 @@ def check_questions(counts, maker):
         counts.same(f"{query} in PostgreSQL", (answer, ""), (done.stdout, done.stderr))
 
 
-def check_job(counts, cif, folder):
+def check_job(counts: Counts, cif: Path, folder: Path) -> None:
     """The job prints nothing if all is well, and one line if not; then nothing changes."""
     folder.mkdir()
     programs = folder / "bin"

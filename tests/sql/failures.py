@@ -1,4 +1,6 @@
 """What is refused, that the old database stays whole then, and that readers have the old one or the new one."""
+from __future__ import annotations
+
 import hashlib
 import os
 import resource
@@ -9,11 +11,13 @@ import threading
 import time
 from contextlib import closing
 from pathlib import Path
+from typing import Callable, List, Optional, Set, Tuple, Union
 
-from gtfs.checks import COMPANIONS
+from gtfs.checks import COMPANIONS, Counts, Word
 from gtfs.failures import FAILING
 
 from .checks import Maker, sqlite_rows
+from .definition import SqlRow
 
 # Headers of the same extract: an hour earlier, with a later window, and without a moment.
 EARLIER = ("0401262130", "0401262030")
@@ -24,20 +28,29 @@ TRAINS = "SELECT current_reference, count(*) FROM extract, runs GROUP BY 1"
 KILLS = 12
 
 
-def left(maker):
+def left(maker: Maker) -> List[str]:
     return sorted(path.name for path in maker.folder.iterdir())
 
 
-def changed(maker, special, name, change):
+def changed(maker: Maker, special: Path, name: str, change: Tuple[str, str]) -> Path:
     path = maker.folder / name
     path.write_text(special.read_text().replace(*change))
     return path
 
 
-def refused(counts, maker, name, status, reported, *words, **options):
+def refused(
+    counts: Counts,
+    maker: Maker,
+    name: str,
+    status: int,
+    reported: str,
+    *words: Word,
+    stdin: Optional[str] = None,
+    preexec_fn: Optional[Callable[[], None]] = None,
+) -> None:
     """Whether a run ends with the status, reports this, and leaves the folder as it was."""
     before = {path: path.read_bytes() for path in maker.folder.iterdir() if path.is_file()}
-    done = maker.run(*map(str, words), **options)
+    done = maker.run(*map(str, words), stdin=stdin, preexec_fn=preexec_fn)
     counts.same(f"{name}, status", status, done.returncode)
     counts.test(f"{name}, reported", reported in done.stderr, done.stderr)
     after = {path: path.read_bytes() for path in maker.folder.iterdir() if path.is_file()}
@@ -45,19 +58,21 @@ def refused(counts, maker, name, status, reported, *words, **options):
     counts.test(f"{name}, the files stay", before == after)
 
 
-def check_names(counts, maker, special):
+def check_names(counts: Counts, maker: Maker, special: Path) -> None:
     done = maker.run(special)
     counts.same(
         "the name by default", (0, True), (done.returncode, special.with_suffix(".db").exists())
     )
     special.with_suffix(".db").unlink()
-    done = maker.run("-o", "piped.db", "-", text=False, input=special.read_bytes())
+    piped = maker.run_bytes(special.read_bytes(), "-o", "piped.db", "-")
     counts.same(
-        "an extract from standard input", (0, b"", b""), (done.returncode, done.stdout, done.stderr)
+        "an extract from standard input",
+        (0, b"", b""),
+        (piped.returncode, piped.stdout, piped.stderr),
     )
     [row] = sqlite_rows(maker.folder / "piped.db", "SELECT file_name, sha256 FROM extract")
     counts.same("its name and digest", ("-", hashlib.sha256(special.read_bytes()).hexdigest()), row)
-    refused(counts, maker, "standard input without -o", 2, "-o", "-", input="")
+    refused(counts, maker, "standard input without -o", 2, "-o", "-", stdin="")
     copy = maker.folder / "copy.db"
     copy.write_bytes(special.read_bytes())
     refused(counts, maker, "the extract in its place", 2, "place of an input", copy)
@@ -69,7 +84,7 @@ def check_names(counts, maker, special):
     (maker.folder / "piped.db").unlink()
 
 
-def check_user_files(counts, maker, special):
+def check_user_files(counts: Counts, maker: Maker, special: Path) -> None:
     places, operators = maker.folder / "places.csv", maker.folder / "operators.csv"
     places.write_text("tiploc,name,latitude,longitude\nBETAE,Beta's End,51.5,-0.25\n")
     operators.write_text("operator_code,name,url\nSR,Our Trains,\n")
@@ -87,7 +102,7 @@ def check_user_files(counts, maker, special):
         used.unlink()
 
 
-def check_replacement(counts, maker, special):
+def check_replacement(counts: Counts, maker: Maker, special: Path) -> None:
     """Which databases are replaced."""
     maker.run("-o", "kept.db", special)
     kept = ("-o", "kept.db")
@@ -120,14 +135,14 @@ def check_replacement(counts, maker, special):
     log.unlink()
 
 
-def failing_cif(maker, table, then):
+def failing_cif(maker: Maker, table: str, then: str) -> Maker:
     program = maker.folder / "failing-cif"
     program.write_text(FAILING.format(cif=maker.cif, table=table, then=then))
     program.chmod(0o755)
     return Maker(program, maker.folder)
 
 
-def check_failures(counts, maker, special):
+def check_failures(counts: Counts, maker: Maker, special: Path) -> None:
     """A run that fails leaves the old database, and nothing beside it."""
     kept = ("-o", "kept.db")
     bad = maker.folder / "bad.cif"
@@ -143,19 +158,27 @@ def check_failures(counts, maker, special):
     size = (maker.folder / "kept.db").stat().st_size
     for most in 4096, size // 2, size - 1:
 
-        def little_space(most=most):
+        def little_space(most: int = most) -> None:
             resource.setrlimit(resource.RLIMIT_FSIZE, (most, most))
 
         name = f"space for {most} bytes of {size}"
         refused(counts, maker, name, 4, "kept.db: ", *kept, special, preexec_fn=little_space)
 
 
-def check_signals(counts, maker, special):
+def check_signals(counts: Counts, maker: Maker, special: Path) -> None:
     """Interrupted, it leaves nothing; killed, it leaves the old database."""
     old = (maker.folder / "kept.db").read_bytes()
     failing = failing_cif(maker, "calls", "touch reached; exec sleep 60")
     before, reached = left(maker), maker.folder / "reached"
-    words = [COMPANIONS / "cif-sql", "--cif", failing.cif, "--force", "-o", "kept.db", special]
+    words: List[Word] = [
+        COMPANIONS / "cif-sql",
+        "--cif",
+        failing.cif,
+        "--force",
+        "-o",
+        "kept.db",
+        special,
+    ]
     for number in signal.SIGTERM, signal.SIGINT, signal.SIGKILL:
         process = subprocess.Popen(
             words, cwd=maker.folder, stderr=subprocess.PIPE, start_new_session=True
@@ -167,6 +190,7 @@ def check_signals(counts, maker, special):
         reached.unlink()
         process.send_signal(number)
         process.wait(timeout=30)
+        assert process.stderr is not None
         process.stderr.close()
         name = signal.Signals(number).name
         status = -number if number == signal.SIGKILL else 4
@@ -181,11 +205,19 @@ def check_signals(counts, maker, special):
     (maker.folder / "failing-cif").unlink()
 
 
-def check_writer(counts, maker, special):
+def check_writer(counts: Counts, maker: Maker, special: Path) -> None:
     """If the process that writes the database is killed, the run fails, and nothing is left."""
     failing = failing_cif(maker, "calls", "touch reached; sleep 1; exit 0")
     before = {path.name: path.read_bytes() for path in maker.folder.iterdir()}
-    words = [COMPANIONS / "cif-sql", "--cif", failing.cif, "--force", "-o", "kept.db", special]
+    words: List[Word] = [
+        COMPANIONS / "cif-sql",
+        "--cif",
+        failing.cif,
+        "--force",
+        "-o",
+        "kept.db",
+        special,
+    ]
     with subprocess.Popen(words, cwd=maker.folder, stderr=subprocess.PIPE, text=True) as process:
         while not (maker.folder / "reached").exists():
             time.sleep(0.05)
@@ -208,15 +240,16 @@ def check_writer(counts, maker, special):
     (maker.folder / "failing-cif").unlink()
 
 
-def check_kills(counts, maker, special):
+def check_kills(counts: Counts, maker: Maker, special: Path) -> None:
     """Killed at any moment, with the process that writes, it leaves the old database or the new one, whole."""
     first = changed(maker, special, "first.cif", ("DFTEST1", "DFTESTA"))
     extracts = {"DFTESTA": first, "DFTEST1": special}
-    words = [COMPANIONS / "cif-sql", "--cif", maker.cif, "--force", "-o", "kept.db"]
+    words: List[Word] = [COMPANIONS / "cif-sql", "--cif", maker.cif, "--force", "-o", "kept.db"]
     start = time.monotonic()
     maker.run(*words[3:], special)
     whole = time.monotonic() - start
-    there, seen = "DFTEST1", set()
+    there: Optional[str] = "DFTEST1"
+    seen = set()
     for number in range(KILLS):
         other = next(name for name in extracts if name != there)
         with subprocess.Popen(
@@ -240,14 +273,15 @@ def check_kills(counts, maker, special):
     maker.run(*words[3:], special)
 
 
-def check_readers(counts, maker, special):
+def check_readers(counts: Counts, maker: Maker, special: Path) -> None:
     """A reader that polls while a database is replaced sees the old one or the new one, and never an error."""
     first = changed(maker, special, "first.cif", ("DFTEST1", "DFTESTA"))
     second = changed(maker, special, "second.cif", ("DFTEST1", "DFTESTB"))
-    path, done, seen = maker.folder / "kept.db", threading.Event(), set()
+    path, done = maker.folder / "kept.db", threading.Event()
+    seen: Set[Union[SqlRow, str]] = set()
     maker.run("--force", "-o", "kept.db", first)
 
-    def poll():
+    def poll() -> None:
         while not done.is_set():
             try:
                 seen.update(sqlite_rows(path, TRAINS))
@@ -266,7 +300,7 @@ def check_readers(counts, maker, special):
     counts.same("what a reader sees", want, seen)
 
 
-def check(counts, maker, special):
+def check(counts: Counts, maker: Maker, special: Path) -> None:
     folder = maker.folder / "failures"
     folder.mkdir()
     maker = Maker(maker.cif, folder)

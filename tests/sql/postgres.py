@@ -1,26 +1,34 @@
 """The script for psql, against the PostgreSQL server that the environment names."""
+from __future__ import annotations
+
 import os
 import subprocess
 import threading
 import time
+from pathlib import Path
+from typing import List, Optional, Tuple
 
-from gtfs.checks import COMPANIONS
+from gtfs.checks import COMPANIONS, Counts, Word
 
 from . import by_hand, checks
+from .checks import Maker
+from .definition import Expected, SqlRow
 from .failures import EARLIER, changed, failing_cif
 
 BETWEEN, NULL = "\x1f", "\x02"
 PSQL = ("psql", "-X", "-q", "-v", "ON_ERROR_STOP=1")
 
 
-def psql(*words, schema="cif", **options):
+def psql(
+    *words: str, schema: str = "cif", script: Optional[str] = None
+) -> subprocess.CompletedProcess[str]:
     settings = {**os.environ, "PGOPTIONS": f"-c search_path={schema}"}
     return subprocess.run(
-        [*PSQL, *words], env=settings, capture_output=True, text=True, check=False, **options
+        [*PSQL, *words], env=settings, input=script, capture_output=True, text=True, check=False
     )
 
 
-def rows_of(query):
+def rows_of(query: str) -> List[SqlRow]:
     """The rows of a query, each value as a text or None."""
     done = psql("-A", "-t", "-F", BETWEEN, "-P", f"null={NULL}", "-c", query)
     if done.returncode:
@@ -31,29 +39,31 @@ def rows_of(query):
     ]
 
 
-def script_of(maker, *words):
+def script_of(maker: Maker, *words: Word) -> str:
     done = maker.run("--postgres", *words)
     if done.returncode or done.stderr:
         raise RuntimeError(f"cif-sql {words} ends with {done.returncode}: {done.stderr}")
     return done.stdout
 
 
-def load(maker, *words):
+def load(maker: Maker, *words: Word) -> subprocess.CompletedProcess[str]:
     """How psql ends after a script."""
-    return psql(input=script_of(maker, *words))
+    return psql(script=script_of(maker, *words))
 
 
-def check_database(counts, maker, expected):
+def check_database(counts: Counts, maker: Maker, expected: Expected) -> None:
     path = expected.source.path
     counts.same(f"{path.name}, psql", (0, "", ""), ended(load(maker, "--force", path)))
     checks.check_database(counts, expected, rows_of, "PostgreSQL")
 
 
-def ended(done):
+def ended(done: subprocess.CompletedProcess[str]) -> Tuple[int, str, str]:
     return done.returncode, done.stdout, done.stderr
 
 
-def refused(counts, name, reported, done):
+def refused(
+    counts: Counts, name: str, reported: str, done: subprocess.CompletedProcess[str]
+) -> None:
     """Whether psql ends a script early, and what the schema has stays."""
     counts.same(f"{name}, status", 3, done.returncode)
     counts.test(f"{name}, reported", reported in done.stderr, done.stderr)
@@ -61,17 +71,17 @@ def refused(counts, name, reported, done):
     counts.same(f"{name}, what is there", [("DFTEST1", "20")], rows)
 
 
-def check_replacement(counts, maker, special):
+def check_replacement(counts: Counts, maker: Maker, special: Path) -> None:
     counts.same("the same extract again, in PostgreSQL", 0, load(maker, special).returncode)
     earlier = changed(maker, special, "earlier.cif", EARLIER)
     refused(counts, "an older extract, in PostgreSQL", "later extract", load(maker, earlier))
     script = script_of(maker, special)
     for part in 0.2, 0.5, 0.9:
         cut = script[: int(len(script) * part)].rpartition("\n")[0] + "\n"
-        psql(input=cut)
+        psql(script=cut)
         rows = rows_of("SELECT count(*) FROM runs")
         counts.same(f"{part} of a script leaves the old schema", [("20",)], rows)
-    counts.same("a script after a cut one", 0, psql(input=script).returncode)
+    counts.same("a script after a cut one", 0, psql(script=script).returncode)
     by_force = load(maker, "--force", earlier)
     counts.same("an older extract by force, in PostgreSQL", 0, by_force.returncode)
     psql("-c", "CREATE SCHEMA mine; CREATE TABLE mine.kept (x integer); CREATE SCHEMA other_new")
@@ -86,7 +96,7 @@ def check_replacement(counts, maker, special):
     counts.same("the trains in another schema", [("20",)], rows)
 
 
-def check_misuse(counts, maker, special):
+def check_misuse(counts: Counts, maker: Maker, special: Path) -> None:
     for name, words in (
         ("a bad schema", ("--postgres", "--schema", 'a"b')),
         ("an output", ("--postgres", "-o", "made.db")),
@@ -98,17 +108,17 @@ def check_misuse(counts, maker, special):
     done = failing.run("--postgres", special)
     counts.same("cif fails, nothing is written", (4, "", "cif: Memory\n"), ended(done))
     (maker.folder / "failing-cif").unlink()
-    words = [COMPANIONS / "cif-sql", "--cif", maker.cif, "--postgres", special]
+    call: List[Word] = [COMPANIONS / "cif-sql", "--cif", maker.cif, "--postgres", special]
     with open("/dev/full", "wb") as full:
-        done = subprocess.run(words, stdout=full, stderr=subprocess.PIPE, check=False)
-    counts.same("a full device", 4, done.returncode)
+        written = subprocess.run(call, stdout=full, stderr=subprocess.PIPE, check=False)
+    counts.same("a full device", 4, written.returncode)
 
 
-def check_readers(counts, maker, special):
+def check_readers(counts: Counts, maker: Maker, special: Path) -> None:
     """A reader that polls while the schema is replaced sees the old one or the new one, and never an error."""
     seen, done = set(), threading.Event()
 
-    def poll():
+    def poll() -> None:
         while not done.is_set():
             found = psql(
                 "-A",
@@ -121,16 +131,16 @@ def check_readers(counts, maker, special):
     reader = threading.Thread(target=poll)
     first = changed(maker, special, "first.cif", ("DFTEST1", "DFTESTA"))
     scripts = [script_of(maker, "--force", path) for path in (first, special)]
-    psql(input=scripts[1])
+    psql(script=scripts[1])
     reader.start()
     for number in range(6):
-        psql(input=scripts[number % 2])
+        psql(script=scripts[number % 2])
     done.set()
     reader.join()
     counts.same("what a reader of PostgreSQL sees", set(), seen - {"DFTESTA|20\n", "DFTEST1|20\n"})
 
 
-def check_transactions(counts, maker, special):
+def check_transactions(counts: Counts, maker: Maker, special: Path) -> None:
     """A transaction that reads one table after another isn't in a deadlock with a replacement."""
     reads = "BEGIN; SELECT 1 FROM cif.calls; SELECT pg_sleep(1.5);"
     tables = ("extract", "runs", "departures", "schedules", "public_calls")
@@ -139,7 +149,7 @@ def check_transactions(counts, maker, special):
     reader = threading.Thread(target=lambda: found.append(psql("-c", reads + " COMMIT")))
     reader.start()
     time.sleep(0.3)
-    done = psql(input=script)
+    done = psql(script=script)
     reader.join()
     counts.same("a replacement beside a transaction", (0, "", ""), ended(done))
     counts.same(
@@ -147,7 +157,7 @@ def check_transactions(counts, maker, special):
     )
 
 
-def check_words(counts):
+def check_words(counts: Counts) -> None:
     """No table or column has a word of PostgreSQL's for its name."""
     query = (
         "SELECT DISTINCT word FROM pg_get_keywords() JOIN information_schema.columns ON word IN (table_name, column_name)"
@@ -160,7 +170,7 @@ def check_words(counts):
     counts.same("there are columns", "t", count)
 
 
-def check(counts, maker, special):
+def check(counts: Counts, maker: Maker, special: Path) -> None:
     counts.same("special.cif for psql", 0, load(maker, "--force", special).returncode)
     queries = {name: query for name, query in by_hand.QUERIES.items() if "typeof" not in query[0]}
     by_hand.check_queries(counts, queries, rows_of, "PostgreSQL")

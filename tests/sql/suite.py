@@ -1,4 +1,6 @@
 """What `run` says, in Python."""
+from __future__ import annotations
+
 import os
 import random
 import sys
@@ -21,7 +23,7 @@ SCHEDULES = 1000
 SEED = 1
 
 
-def main():
+def main() -> int:
     counts, cif = Counts(), Path(sys.argv[1]).resolve()
     with tempfile.TemporaryDirectory(prefix="cif-sql-") as work:
         folder = Path(work)

@@ -1,7 +1,10 @@
 """The help of cif-sql against its manual page and the completions for bash, zsh and fish."""
-import re
+from __future__ import annotations
 
-from gtfs.checks import TOP
+import re
+from typing import Dict, List
+
+from gtfs.checks import TOP, Counts
 from gtfs.words import (
     WIDTH,
     completion,
@@ -14,7 +17,7 @@ from gtfs.words import (
 )
 
 # What bash offers behind these words: words, or `files`.
-LINES = {
+LINES: Dict[str, List[str]] = {
     "cif-sql --fo": ["--force"],
     "cif-sql -o ": ["files"],
     "cif-sql --to ": [],
@@ -22,7 +25,7 @@ LINES = {
 }
 
 
-def check(counts):
+def check(counts: Counts) -> None:
     page, text = (TOP / "man" / "cif-sql.1").read_text(), help_of("cif-sql")
     counts.test(
         "cif-sql --help, width", all(len(line) <= WIDTH for line in text.splitlines()), text

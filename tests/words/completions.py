@@ -1,10 +1,13 @@
 """What the completions say about the program's arguments. That of bash is run; those of zsh and fish are read."""
+from __future__ import annotations
+
 import re
 import shlex
 import subprocess
 from pathlib import Path
+from typing import Dict, Iterable, List, Optional
 
-from facts import COMMAND, OPTION, PLACES, TAKES_VALUE, VALUE, NotUnderstood, Option
+from facts import COMMAND, OPTION, PLACES, TAKES_VALUE, VALUE, Facts, FactsOf, NotUnderstood, Option
 from facts import offer_fact, offer_facts, place_fact, value_offer_fact, values_facts
 
 ASK_BASH = Path(__file__).with_name("offered.bash")
@@ -12,7 +15,7 @@ ASK_BASH = Path(__file__).with_name("offered.bash")
 # ---- bash
 
 
-def offered(completion, words):
+def offered(completion: Path, words: List[str]) -> List[str]:
     """What bash offers for the last of the words: words, or `files`."""
     done = subprocess.run(
         ["bash", "--noprofile", "--norc", ASK_BASH, completion, *words],
@@ -25,7 +28,7 @@ def offered(completion, words):
     return sorted(done.stdout.splitlines())
 
 
-def bash_option_facts(completion, command, option):
+def bash_option_facts(completion: Path, command: str, option: str) -> Facts:
     """For an option that is offered: whether it takes the next word, so that this is no option and no later place moves, and
     which words."""
     found = {(OPTION, option)}
@@ -45,7 +48,7 @@ def bash_option_facts(completion, command, option):
     return found
 
 
-def bash_facts(completion):
+def bash_facts(completion: Path) -> FactsOf:
     """The facts of each command that bash offers."""
     names = offered(completion, [""])
     facts = {
@@ -78,10 +81,10 @@ ZSH_OPTION = re.compile(r"^(--[a-z-]+)=\[[^]]*\]:(\w+):(?:\(([^()]*)\)|(_files))
 ZSH_SWITCH = re.compile(r"^(--[a-z-]+)\[[^]]*\]$")
 ZSH_FLAG = re.compile(r"^'\((?:- : \*|-\w --[a-z]+)\)'\{(-\w),(--[a-z]+)\}'\[[^]]*\]'$")
 ZSH_PLACE = re.compile(r"^(\*?):(:?)(\w+):(?:(\w*)|\(([^()]*)\))$")
-ZSH_ACTIONS = {"_files": "files", "_cif_commands": "commands", "": None}
+ZSH_ACTIONS: Dict[str, Optional[str]] = {"_files": "files", "_cif_commands": "commands", "": None}
 
 
-def zsh_specs(text):
+def zsh_specs(text: str) -> List[str]:
     """The specifications of a call of _arguments, one per line."""
     lines = [
         line.strip().removesuffix("&& ret=0").removesuffix("\\").strip()
@@ -90,8 +93,9 @@ def zsh_specs(text):
     return [line for line in lines if line and not line.startswith("_arguments")]
 
 
-def zsh_facts_of(specs):
-    found, number = set(), 0
+def zsh_facts_of(specs: Iterable[str]) -> Facts:
+    found: Facts = set()
+    number = 0
     for spec in specs:
         flag = ZSH_FLAG.match(spec)
         option = ZSH_OPTION.match(spec.strip("'"))
@@ -107,14 +111,14 @@ def zsh_facts_of(specs):
             number += 1
             found.add(place_fact(number, f"[{place[3]}]" if place[2] else f"<{place[3]}>"))
             found |= values_facts(number, (place[5] or "").split())
-            if ZSH_ACTIONS.get(place[4]):
-                found |= offer_facts(number, ZSH_ACTIONS[place[4]], place[1] == "*")
+            if what := ZSH_ACTIONS.get(place[4]):
+                found |= offer_facts(number, what, place[1] == "*")
         else:
             raise NotUnderstood(f"_cif has: {spec}")
     return found
 
 
-def zsh_facts(text):
+def zsh_facts(text: str) -> FactsOf:
     listed = ZSH_LISTED.findall(text)
     top = re.search(r"^ {4}_arguments -C \\\n(.*?)&& ret=0\n", text, re.MULTILINE | re.DOTALL)
     if not listed or not top:
@@ -146,7 +150,7 @@ def zsh_facts(text):
 FISH_WITHOUT = ["__cif_without_command"]
 
 
-def fish_flags(line):
+def fish_flags(line: str) -> Dict[str, str]:
     """The flags of a call of complete, each with its word."""
     words = shlex.split(line)[1:]
     found = {}
@@ -161,13 +165,13 @@ def fish_flags(line):
     return found
 
 
-def fish_option(flags):
+def fish_option(flags: Dict[str, str]) -> Option:
     names = [f"-{flags['-s']}"] if "-s" in flags else []
     value_name = "VALUE" if "-x" in flags else "FILE" if "-r" in flags and "-F" in flags else ""
     return Option([*names, f"--{flags['-l']}"], value_name, flags.get("-a", "").split())
 
 
-def fish_facts(text):
+def fish_facts(text: str) -> FactsOf:
     calls = [fish_flags(line) for line in text.splitlines() if line.startswith("complete ")]
     if {"-c": "cif", "-f": ""} not in calls:
         raise NotUnderstood("cif.fish offers files everywhere")
@@ -184,7 +188,7 @@ def fish_facts(text):
         for flags in calls
         if flags.get("-n", "").split() == FISH_WITHOUT and "-a" in flags
     ]
-    facts = {"": {(COMMAND, name) for name in listed}}
+    facts: FactsOf = {"": {(COMMAND, name) for name in listed}}
     for flags in calls:
         condition, *words = flags.get("-n", "").split() or [""]
         if "-l" in flags and ([condition] == FISH_WITHOUT or (condition == "__cif_in" and words)):

@@ -2,7 +2,10 @@
 
 A fact is a kind and a text. Not every text has all kinds: completions of bash have no names of values.
 """
+from __future__ import annotations
+
 from dataclasses import dataclass, field
+from typing import Dict, List, Optional, Set, Tuple
 
 COMMAND, OPTION, TAKES_VALUE, VALUE_NAME, VALUE = (
     "command",
@@ -26,8 +29,12 @@ OFFERS = {
 # The places that are looked at: one more than the most that a usage names. One that can be repeated is all from its own on.
 PLACES = 4
 
+Facts = Set[Tuple[str, str]]
+# The facts of each command by its name, those of the program itself under the empty one.
+FactsOf = Dict[str, Facts]
 
-def bare(place):
+
+def bare(place: str) -> str:
     """The name of a place without the signs around it."""
     return place.strip("<>[].")
 
@@ -40,11 +47,11 @@ class NotUnderstood(Exception):
 class Option:
     """An option: `-h` and `--help`, perhaps the name of its value, and the values if only some are valid."""
 
-    names: list
+    names: List[str]
     value_name: str = ""
-    values: list = field(default_factory=list)
+    values: List[str] = field(default_factory=list)
 
-    def facts(self):
+    def facts(self) -> Facts:
         last = self.names[-1]
         found = {(OPTION, name) for name in self.names}
         if self.value_name:
@@ -59,12 +66,12 @@ class Command:
     """A command, or the program itself: its options, its places as usage has them, such as `[FILE]` or `<UID>`, and the values
     of each place that takes only some."""
 
-    options: list = field(default_factory=list)
-    places: list = field(default_factory=list)
-    values: dict = field(default_factory=dict)
+    options: List[Option] = field(default_factory=list)
+    places: List[str] = field(default_factory=list)
+    values: Dict[str, List[str]] = field(default_factory=dict)
 
-    def facts(self):
-        found = set()
+    def facts(self) -> Facts:
+        found: Facts = set()
         for option in self.options:
             found |= option.facts()
         for number, place in enumerate(self.places, 1):
@@ -74,46 +81,50 @@ class Command:
             found |= values_facts(number, self.values.get(bare(place), []))
         return found
 
-    def option(self, name):
+    def option(self, name: str) -> Optional[Option]:
         return next((option for option in self.options if name in option.names), None)
 
 
-def place_fact(number, place):
+# The commands by their names, the program itself under the empty one.
+Program = Dict[str, Command]
+
+
+def place_fact(number: int, place: str) -> Tuple[str, str]:
     """That there is a place; whether it can be repeated isn't checked."""
     return PLACE, f"{number} {place.removesuffix('...')}"
 
 
-def offer_fact(number, what):
+def offer_fact(number: int, what: str) -> Tuple[str, str]:
     """That a shell offers something at a place."""
     return OFFER, f"{what} at place {number}"
 
 
-def offer_facts(number, what, repeated):
+def offer_facts(number: int, what: str, repeated: bool) -> Facts:
     """That a shell offers something at a place, and at all places behind it if files can be repeated there. Commands can't:
     `help` takes more words, but the program has only one level of commands."""
     last = PLACES if repeated and what == "files" else number
     return {offer_fact(each, what) for each in range(number, last + 1)}
 
 
-def values_facts(number, values):
+def values_facts(number: int, values: List[str]) -> Facts:
     """The values of a place, each of which a shell offers there; nothing if the place takes any word."""
     found = {(PLACE_VALUE, f"{number} {value}") for value in values}
     return found | {offer_fact(number, " ".join(sorted(values)))} if values else found
 
 
-def value_offer_fact(option, what):
+def value_offer_fact(option: str, what: str) -> Tuple[str, str]:
     """That a shell offers something as the value of an option."""
     return OFFER, f"{what} as the value of {option}"
 
 
-def facts_of(program):
+def facts_of(program: Program) -> FactsOf:
     """The facts of each command by its name, and those of the program itself under the empty one."""
     facts = {name: command.facts() for name, command in program.items()}
     facts[""] |= {(COMMAND, name) for name in program if name}
     return facts
 
 
-def mistake(program, words):
+def mistake(program: Program, words: List[str]) -> str:
     """What is wrong with the arguments of an example, the first of which is the command; nothing if they are right."""
     name, rest = words[0], words[1:]
     command = program.get(name)

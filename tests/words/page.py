@@ -1,15 +1,18 @@
 """What the manual page, in mdoc, says about the program's arguments."""
+from __future__ import annotations
+
 import re
 import shlex
+from typing import Dict, Iterator, List, Optional, Set, Tuple, Union
 
-from facts import Command, NotUnderstood, Option, bare
+from facts import Command, NotUnderstood, Option, Program, bare
 
 MACRO = re.compile(r"^\.(?P<name>[A-Z][a-z])(?: (?P<rest>.*))?$")
 CALLED = {"Fl", "Cm", "Ar", "Op", "Nm"}
 PUNCTUATION = {".", ",", ";", ":", ")", "|"}
 
 
-def macros(text):
+def macros(text: str) -> Iterator[List[str]]:
     """The lines that call a macro, each as the macro's name and its words."""
     for line in text.splitlines():
         match = MACRO.match(line)
@@ -21,7 +24,7 @@ def macros(text):
             yield [match["name"], *words]
 
 
-def section(text, heading):
+def section(text: str, heading: str) -> str:
     """The lines below the heading."""
     match = re.search(
         rf"^\.Sh {re.escape(heading)}\n(.*?)(?=^\.Sh |\Z)", text, re.MULTILINE | re.DOTALL
@@ -31,9 +34,11 @@ def section(text, heading):
     return match.group(1)
 
 
-def marked(words):
+def marked(words: List[str]) -> List[Tuple[str, str]]:
     """The words of a line with the macro that marks each: `Fl Fl from Ar YYMMDD` has --from and YYMMDD."""
-    macro, hyphens, found = None, 0, []
+    macro: Optional[str] = None
+    hyphens = 0
+    found: List[Tuple[str, str]] = []
     for word in words:
         if word in CALLED:
             if word == "Fl":
@@ -49,7 +54,7 @@ def marked(words):
     return found
 
 
-def usage_part(words, where):
+def usage_part(words: List[str], where: str) -> Tuple[str, Union[Option, str]]:
     """An option or a place of the synopsis, or a command's name."""
     optional = words[0] == "Op"
     parts = marked(words[1:] if optional else words)
@@ -64,10 +69,10 @@ def usage_part(words, where):
     raise NotUnderstood(f"{where} has: {' '.join(words)}")
 
 
-def synopsis(text):
+def synopsis(text: str) -> Program:
     """The commands of the synopsis, and the program itself with the options that follow no command."""
     program = {"": Command()}
-    command = None
+    command: Optional[Command] = None
     for words in macros(section(text, "SYNOPSIS")):
         if words == ["Nm"]:
             command = None
@@ -75,18 +80,18 @@ def synopsis(text):
             program[""].options += [Option([name]) for _, name in marked(words)]
         else:
             kind, part = usage_part(words, "SYNOPSIS")
-            if kind == "name" and command is None:
+            if isinstance(part, str) and kind == "name" and command is None:
                 command = program.setdefault(part, Command())
-            elif kind == "option" and command:
+            elif isinstance(part, Option) and command:
                 command.options.append(part)
-            elif kind == "place" and command:
+            elif isinstance(part, str) and kind == "place" and command:
                 command.places.append(part)
             else:
                 raise NotUnderstood(f"SYNOPSIS has: {' '.join(words)}")
     return program
 
 
-def as_in_synopsis(program):
+def as_in_synopsis(program: Program) -> Program:
     """The program as in a synopsis: options by their long names, and help only for the program itself."""
     found = {}
     for name, command in program.items():
@@ -97,7 +102,7 @@ def as_in_synopsis(program):
     return found
 
 
-def tags(lines):
+def tags(lines: str) -> Iterator[Tuple[int, List[str]]]:
     """The tags of the outer lists and those of the lists inside them: pairs of the depth and the words."""
     depth = 0
     for words in macros(lines):
@@ -109,7 +114,7 @@ def tags(lines):
             yield depth, words[1:]
 
 
-def commands(text):
+def commands(text: str) -> Program:
     """The commands of the section COMMANDS, each with its places, and with the values of its first place that a list below it
     has."""
     program = {"": Command()}
@@ -130,16 +135,16 @@ def commands(text):
                 len(rest),
             )
             kind, part = usage_part(rest[:size], "COMMANDS")
-            if kind != "place":
+            if not isinstance(part, str) or kind != "place":
                 raise NotUnderstood(f"COMMANDS has: {' '.join(words)}")
             command.places.append(part)
             rest = rest[size:]
     return program
 
 
-def options(text):
+def options(text: str) -> List[Option]:
     """The options of the section OPTIONS, with the values that a list below one of them has."""
-    found = []
+    found: List[Option] = []
     for depth, words in tags(section(text, "OPTIONS")):
         parts = marked(words)
         names = [name for kind, name in parts if kind == "Fl"]
@@ -153,15 +158,15 @@ def options(text):
     return found
 
 
-def mentioned(text):
+def mentioned(text: str) -> Set[Tuple[str, str]]:
     """All commands, values, options and names that are marked anywhere on the page."""
-    found = set()
+    found: Set[Tuple[str, str]] = set()
     for words in macros(text):
         found |= {part for part in marked(words) if part[1] != "..."}
     return found
 
 
-def known(program):
+def known(program: Program) -> Set[Tuple[str, str]]:
     """The same for the program, so that nothing else may be mentioned."""
     found = {("Cm", name) for name in program if name}
     for command in program.values():
@@ -175,20 +180,20 @@ def known(program):
     return found
 
 
-def examples(text):
+def examples(text: str) -> List[str]:
     """The lines of the examples that call the program, each from its name on."""
-    found = []
+    found: List[str] = []
     for words in re.findall(r"^\.Dl \$ (.*)$", section(text, "EXAMPLES"), re.MULTILINE):
         found += [part.strip() for part in words.split("|") if part.strip().startswith("cif ")]
     return found
 
 
-def bare_words(text):
+def bare_words(text: str) -> List[str]:
     """The words of a text in lower case, without punctuation."""
     return re.findall(r"[\w']+", text.lower())
 
 
-def summary(text):
+def summary(text: str) -> str:
     """What the section NAME says about the program."""
     match = re.search(r"^\.Nd (.*)$", section(text, "NAME"), re.MULTILINE)
     if not match:
@@ -196,9 +201,11 @@ def summary(text):
     return match.group(1)
 
 
-def openings(text, heading):
+def openings(text: str, heading: str) -> Dict[str, List[str]]:
     """The words of the first paragraph below each tag of the section's outer list, by the first word of the tag."""
-    found, depth, current = {}, 0, None
+    found: Dict[str, List[str]] = {}
+    depth = 0
+    current: Optional[List[str]] = None
     for line in section(text, heading).splitlines():
         macro = line[1:3] if line.startswith(".") else ""
         words = [word for word in line.split() if word not in CALLED and word != "." + macro]
@@ -212,6 +219,6 @@ def openings(text, heading):
     return found
 
 
-def reasons(text):
+def reasons(text: str) -> List[str]:
     """The names of the reasons in the section DIAGNOSTICS."""
     return re.findall(r"^\.It Sy (\w+)$", section(text, "DIAGNOSTICS"), re.MULTILINE)

@@ -1,8 +1,12 @@
 """What the program's help says about its arguments."""
+from __future__ import annotations
+
 import re
 import subprocess
+from pathlib import Path
+from typing import Dict, List, Optional, Tuple
 
-from facts import Command, NotUnderstood, Option
+from facts import Command, NotUnderstood, Option, Program
 
 OPTION_LINE = re.compile(
     r"^ {2,6}(?P<names>-\w(?:, --[\w-]+)?|--[\w-]+)(?: <(?P<value>[^<>]+)>)?(?:  |$)"
@@ -14,7 +18,7 @@ POSSIBLE = re.compile(r"\[possible values: ([^]]*)\]")
 HEADING = re.compile(r"^([A-Z]\w*):$")
 
 
-def asked(cif, words):
+def asked(cif: Path, words: List[str]) -> str:
     """What the program prints for arguments that ask for help or for the version."""
     done = subprocess.run(
         [cif, *words], stdin=subprocess.DEVNULL, capture_output=True, text=True, check=False
@@ -26,9 +30,10 @@ def asked(cif, words):
     return done.stdout
 
 
-def sections(text):
+def sections(text: str) -> Dict[str, List[str]]:
     """The lines below each heading of the help."""
-    found, current = {}, None
+    found: Dict[str, List[str]] = {}
+    current: Optional[List[str]] = None
     for line in text.splitlines():
         heading = HEADING.match(line)
         if heading:
@@ -40,9 +45,9 @@ def sections(text):
     return found
 
 
-def items(lines):
+def items(lines: List[str]) -> List[str]:
     """The lines of a section, each with the lines that continue it."""
-    found = []
+    found: List[str] = []
     for line in lines:
         if CONTINUED.match(line) and found:
             found[-1] += "\n" + line
@@ -51,7 +56,7 @@ def items(lines):
     return found
 
 
-def options_of(lines):
+def options_of(lines: List[str]) -> List[Option]:
     found = []
     for item in items(lines):
         match = OPTION_LINE.match(item.split("\n")[0])
@@ -67,7 +72,7 @@ def options_of(lines):
     return found
 
 
-def places_of(text, called):
+def places_of(text: str, called: str) -> List[str]:
     """The places that the usage line has after what is called."""
     usage = re.search(rf"^Usage: {called}( .*)?$", text, re.MULTILINE)
     if not usage:
@@ -79,7 +84,7 @@ def places_of(text, called):
     return places
 
 
-def values_of(lines):
+def values_of(lines: List[str]) -> Dict[str, List[str]]:
     """The values of each place that takes only some, by its name: those that the help lists."""
     found = {}
     for item in items(lines):
@@ -92,7 +97,7 @@ def values_of(lines):
     return found
 
 
-def program_of(cif):
+def program_of(cif: Path) -> Program:
     """The program's commands by their names, with the program itself under the empty one."""
     text = asked(cif, ["--help"])
     parts = sections(text)
@@ -111,7 +116,7 @@ def program_of(cif):
     return program
 
 
-def sentences(cif):
+def sentences(cif: Path) -> Tuple[str, Dict[str, str], Dict[str, str]]:
     """What the help says about the program, about each command, and about each status."""
     text = asked(cif, ["--help"])
     listed = [items(sections(text).get(heading, [])) for heading in ("Commands", "Statuses")]
@@ -119,18 +124,18 @@ def sentences(cif):
     return text.splitlines()[0], commands, statuses
 
 
-def help_texts(cif, names):
+def help_texts(cif: Path, names: List[str]) -> Dict[str, str]:
     """Each text of help, with the arguments that ask for it."""
     asking = [["--help"], ["-h"], ["help"]]
     asking += [[name, word] for name in names if name != "help" for word in ("--help", "-h")]
     asking += [["help", name] for name in names]
-    found = {}
+    found: Dict[str, str] = {}
     for words in asking:
         found.setdefault(asked(cif, words), " ".join(["cif", *words]))
     return found
 
 
-def examples(text):
+def examples(text: str) -> List[str]:
     """The examples in a text of help, as words: lines below `Example:` or `Examples:` that begin with cif."""
     parts = sections(text)
     lines = parts.get("Example", []) + parts.get("Examples", [])
