@@ -161,7 +161,7 @@ def summary(series: Series, calendar: Calendar) -> str:
     dates = sum(1 for difference in series.differences if difference)
     if not dates:
         return "as many trains on every date"
-    return f"another number on {number_word(dates, 'date')}"
+    return f"different on {number_word(dates, 'date')}"
 
 
 def chart(code: str, name: str, series: Series, calendar: Calendar, small: bool) -> Markup:
