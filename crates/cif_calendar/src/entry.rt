@@ -1,4 +1,4 @@
-//! What a record of a timetable tells the calendar: associations and schedules as its entries.
+//! What the calendar reads of a record: associations and schedules as its entries.
 
 ghost use Rattle.std.specs.Prelude.{◌≡◌, ◌≤◌, ◌↔◌, IsTrue, IsNone};
 ghost use Rattle.std.specs.Option.{option_copied};

@@ -84,7 +84,7 @@ impl Calendar {
         &pieces[i]
     }
 
-    /// The dates of which it tells.
+    /// The dates that it covers.
     pub fn window(&self) -> Window
         ensures first { result.first ≡ self.now.first }
         ensures last { result.last ≡ self.now.last }
@@ -120,7 +120,7 @@ impl From<AllocError> for CalendarFault {
     }
 }
 
-/// As `Ambiguous on 260106`, or Memory.
+/// `Ambiguous on 260106`, or `Memory`.
 impl fmt::Display for CalendarFault {
     ghost use Rattle.cif_calendar.specs.CalendarFault.{text_of};
 

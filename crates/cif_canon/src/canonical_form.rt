@@ -32,7 +32,7 @@ pub struct Canon<'a> {
     /// The records of associations, rising by key and first date. The source of each is the
     /// position of an association with its key and body.
     pub(crate) associations: Vec<Run>,
-    /// Those of schedules.
+    /// The records of schedules, likewise, by UID and first date.
     pub(crate) schedules: Vec<Run>,
 }
 

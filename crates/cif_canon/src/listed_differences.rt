@@ -205,7 +205,7 @@ pub struct Differences<'a> {
     /// The records of associations, by key, first date and side. The source of each is the position
     /// of an association of its side, with its key and body.
     pub(crate) associations: Vec<Sided<Run>>,
-    /// Those of schedules.
+    /// The records of schedules, by UID, first date and side.
     pub(crate) schedules: Vec<Sided<Run>>,
 }
 

@@ -36,7 +36,7 @@ pub fn write_each<T, L: Texts<T>, W: WriteDevice>(texts: &L, items: &[T], sink: 
     }
 }
 
-/// What a call answers that has written to the sink: Write where the sink has failed.
+/// The answer of a call that has written to the sink: `Write` where the sink has failed.
 pub fn answer<W: WriteDevice>(sink: &Sink<W>) -> Result<(), Fault>
     ensures ok { OnOk result (sink_failed sink.now ≡ false) }
     ensures failed { IfErr result (λ _. sink_failed sink.now ≡ true) }

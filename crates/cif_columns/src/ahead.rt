@@ -130,7 +130,7 @@ impl Ahead {
     ghost use Rattle.cif_columns.specs.Ahead.{BeginWithLine, held_bytes};
 
     /// Makes it the line that stands first in the held bytes, if that is 80 bytes and a line feed, and
-    /// tells whether it did. Most lines are, and this gives them with one copy.
+    /// returns whether it did. Most lines are, and this gives them with one copy.
     pub(crate) fn line_with_feed(&self, is_full: bool, line: &mut Line) -> bool
         ensures found { IsTrue result → BeginWithLine (held_bytes self.now) line.new }
         ensures not_full { IsTrue result → is_full ≡ false }
@@ -181,7 +181,7 @@ impl Ahead {
     ghost use Rattle.cif_columns.specs.Contents.{AreUndecided};
 
     /// Passes the content that stands first in the held bytes and those that the source gives after
-    /// them, and tells what stands there.
+    /// them, and returns what stood there.
     ///
     /// The source is read only while the held bytes decide no content, each time once. A content is
     /// decided by its line feed, by so many bytes with none that it is overlong, and by the end of the input.

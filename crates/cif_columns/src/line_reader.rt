@@ -98,7 +98,7 @@ impl LineReader {
         Ok(is_given.then_some(line))
     }
 
-    /// Puts the next line into `line`, and tells whether there was one; it answers as `next` does, and
+    /// Puts the next line into `line`, and returns whether there was one; it answers as `next` does, and
     /// what stands in `line` means nothing where there was none.
     // It is called for each line, so that the line is copied once, from what was read ahead.
     #[inline(always)]
@@ -116,7 +116,7 @@ impl LineReader {
         self.read_other_line(source, line)
     }
 
-    /// Puts the next line into `line`, or passes the comment that stands there, and tells which. It
+    /// Puts the next line into `line`, or passes the comment that stands there, and returns which. It
     /// answers as `next` does of all but comments, which count as lines, and are decided as such.
     #[inline(always)]
     pub fn read_content<R: ReadDevice>(
@@ -134,7 +134,7 @@ impl LineReader {
     }
 
     /// Puts the line that stands first in what is held into `line`, if a line feed follows it and it may
-    /// come, and tells whether it did. Nothing is read.
+    /// come, and returns whether it did. Nothing is read.
     #[inline(always)]
     fn read_ahead(&mut self, line: &mut Line) -> bool
         ensures read { IsTrue result → HasReadAhead self.old line.new self.new }
@@ -231,7 +231,7 @@ impl LineReader {
         }
     }
 
-    /// Passes the next content, and tells whether there is one. An end or a fault is answered from now on.
+    /// Passes the next content, and returns whether there is one. An end or a fault is answered from now on.
     fn pass_content<R: ReadDevice>(
         &mut self,
         most: Most,

@@ -38,7 +38,7 @@ impl Lines {
         }
     }
 
-    /// The same lines, in room of their size.
+    /// A copy of the lines, with no spare capacity.
     pub fn of(alloc: Global, lines: &LineSlice<'_>) -> Result<Lines, AllocError>
         ensures { IfOk result (λ copy. copy ≡ lines.now) }
     {
@@ -125,7 +125,7 @@ pub fn used_columns(columns: &[u8]) -> usize
     }
 }
 
-/// The same, column by column.
+/// `used_columns`, column by column.
 #[inline(always)]
 fn count_used(columns: &[u8]) -> usize
     ensures value { result ≡ used columns.now }

@@ -27,7 +27,7 @@ pub struct PlainTest {
 }
 
 impl PlainTest {
-    /// What `passes` tells of columns that may be no line. Where the tables have bytes of lines alone, columns
+    /// `passes` for columns that may be no line. Where the tables have bytes of lines alone, columns
     /// that pass are one.
     #[inline(always)]
     pub fn passes_columns(&self, columns: &[u8; LINE_WIDTH]) -> bool
@@ -54,7 +54,7 @@ impl PlainTest {
     }
 }
 
-/// What `passes` tells, without what that means for tables: this has a proof of its own.
+/// Whether each column passes, without what that means for tables: this has a proof of its own.
 // A step looks at one column of each fifth, and no branch ends the loop.
 #[inline(always)]
 fn has_all(columns: &[u8; LINE_WIDTH], test: &PlainTest) -> bool

@@ -1,4 +1,4 @@
-//! A writer that isn't written to again once it has failed, and what a writer tells of its errors.
+//! A writer that isn't written to again once it has failed, and the errors that a writer reports.
 ghost use Rattle.std.specs.Prelude.{◌≡◌, ◌++◌, ◌∷◌, [], ◌<◌, IfOk, ℕ, Option, None, IsErr, false, length};
 ghost use Rattle.cif_columns.specs.Contents.{lines_text};
 ghost use Rattle.std.specs.Io.{WritesAtMost};
@@ -195,7 +195,7 @@ impl<A: Allocator> WriteDevice for Vec<u8, A> {
     }
 }
 
-/// The errors of the writer behind the buffer aren't told. It holds back what is in the buffer.
+/// The errors of the writer behind the buffer aren't kept. It holds back what is in the buffer.
 impl<W: WriteDevice + Drop, A: Allocator> WriteDevice for BufWriter<W, A> {
     ghost use Rattle.std.specs.Prelude.{◌≡◌, []};
     ghost use Rattle.std.specs.Io.Buffered.{writer_buffer};

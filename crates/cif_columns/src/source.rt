@@ -1,4 +1,4 @@
-//! A reader that isn't read again once it has failed, and what a reader tells of its errors.
+//! A reader that isn't read again once it has failed, and the errors that a reader reports.
 ghost use Rattle.std.specs.Prelude.{◌≡◌, ◌↔◌, ◌<◌, ℕ, Option, None, Some, IfOk, IsTrue, false, length};
 ghost use Rattle.std.specs.Io.{ReadsAtMost};
 ghost use Rattle.std.specs.Io.KnownBytes.{ReadConsumes};
@@ -14,7 +14,7 @@ use thiserror::Error;
 #[error("the input can't be read")]
 pub struct ReadFault;
 
-/// A reader, whether it has failed, and whether the last read that didn't fail told the end.
+/// A reader, whether it has failed, and whether the last read that didn't fail reached the end.
 #[derive(Drop)]
 pub struct Source<R> {
     reader: R,
@@ -121,7 +121,7 @@ impl ReadDevice for &[u8] {
     }
 }
 
-/// The errors of the reader behind the buffer aren't told.
+/// The errors of the reader behind the buffer aren't kept.
 impl<R: ReadDevice, A: Allocator> ReadDevice for BufReader<R, A> {
     fn read_once(&mut self, buf: &mut [u8]) -> io::Result<usize> {
         self.read(buf)

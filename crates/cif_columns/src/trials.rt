@@ -1,4 +1,4 @@
-//! A reader and a writer for tests, which fail where they are told to.
+//! A reader and a writer for tests, which fail where a test asks for it.
 ghost use Rattle.std.specs.Prelude.{◌≡◌, ◌+◌, ◌-◌, ◌^◌, ◌<◌, ◌≤◌, [], Some, IsTrue, IfOk, IsErr, min, length, take};
 ghost use Rattle.std.specs.Io.{ReadsAtMost, WritesAtMost};
 ghost use Rattle.std.specs.Io.KnownBytes.{ReadConsumes, Keeps, WriteAppends};

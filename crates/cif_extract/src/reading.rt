@@ -354,7 +354,7 @@ impl Reading {
         self.keep_columns(line.bytes())
     }
 
-    /// Does so with the plain line of these columns.
+    /// Keeps the plain line of these columns in the open body.
     #[inline(always)]
     fn keep_columns(&mut self, columns: &[u8; LINE_WIDTH]) -> Result<(), TakeFault>
         requires { ArePrintable columns.now }

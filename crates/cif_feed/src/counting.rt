@@ -29,7 +29,7 @@ pub(crate) fn counted_clash_dates<E: PublishedEntry>(
     clash_dates_by(alloc, entries, members, &codes, holidays, window)
 }
 
-/// The same, where the holidays of these codes alone matter.
+/// The dates of the window on which winners clash, where the holidays of these codes alone matter.
 fn clash_dates_by<E: PublishedEntry>(
     alloc: Global,
     entries: &[E],
@@ -74,7 +74,7 @@ fn have_code<E: PublishedEntry>(entries: &[E], members: &[usize], code: HolidayC
     false
 }
 
-/// Those of the positions whose entries don't have the code.
+/// The positions whose entries don't have the code.
 fn without_code<E: PublishedEntry>(
     alloc: Global,
     entries: &[E],

@@ -76,7 +76,7 @@ impl Dropped {
     }
 }
 
-/// The dates of the window on which keys of the entries clash. These keys are told behind others, rising.
+/// The dates of the window on which keys of the entries clash. These keys are appended to the list, rising.
 pub(crate) fn find_clash_dates<E: PublishedEntry>(
     alloc: Global,
     entries: &[E],

@@ -117,7 +117,7 @@ pub fn prepared_texts_say_what_was_published()
         → BytesSpell text x → SayAsPublished h drops p x × AreDroppedIf drops h p dropped }
 {}
 
-/// What changes leave, by a test that tells whether two keys are the same.
+/// What changes leave, by a test of whether two keys are the same.
 pub fn changes_leave_the_last_word<K, I>()
     // Of each key, what the last change of it puts, or what was there.
     ensures last { (same : K → K → Bool) (records : List (K × I)) (changes : List (ChangeParts K I)) (key : K)

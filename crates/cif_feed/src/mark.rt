@@ -95,7 +95,7 @@ impl Mark {
     }
 }
 
-/// How many contents of a feed said nothing.
+/// How many contents of a feed were ignored.
 #[derive(Clone, Copy, Debug)]
 pub struct Passed {
     /// The comments.
@@ -119,7 +119,7 @@ pub(crate) struct Marks {
 }
 
 impl Marks {
-    /// Those of no contents.
+    /// The marks of no contents.
     pub(crate) fn new(alloc: Global) -> Marks
         ensures { (allowed : HolidayCodes) → mark_parts result ≡ marks_in allowed [] }
     {
@@ -180,9 +180,9 @@ pub struct UpdateCounts {
     pub revised: u64,
     /// The TD, and the AA and BS with D.
     pub taken_out: u64,
-    /// Those of AA and BS, but for D, that have an open end.
+    /// The AA and BS without D that have an open end.
     pub open_ends: u64,
-    /// Those of BS, but for D, that have a holiday code.
+    /// The BS without D that have a holiday code.
     pub holiday_codes: u64,
 }
 

@@ -149,7 +149,7 @@ impl PublishedExtract {
         Ok((prepared, Dropped { keys, records }))
     }
 
-    /// The dates on which keys of associations and of trains clash. These keys are told.
+    /// The dates on which keys of associations and of trains clash. These keys are listed.
     fn clash_dates(
         &self,
         alloc: Global,

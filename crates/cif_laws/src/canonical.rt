@@ -1,4 +1,4 @@
-//! Laws of canonical extracts: what the canonical bytes of an input tell of it.
+//! Laws of canonical extracts: what the canonical bytes of an input say of it.
 ghost use Rattle.std.specs.Prelude.{◌≡◌, ◌↔◌, ℕ, List, true};
 ghost use Rattle.cif_canon.specs.Accepted.{IsAccepted, IsClearExtract};
 ghost use Rattle.cif_canon.specs.Asked.{AskedDatesAreWithin, header_window, nothing_asked, window_asked};

@@ -208,7 +208,7 @@ pub fn plain_line_of(kind: Kind, line: &Line) -> Result<Line, Refusal>
 }
 
 /// Whether the line is the plain line of a record of this kind, and spells it, as far as one pass
-/// over its columns tells. A `false` costs time alone: `plain_line_of` answers then.
+/// over its columns shows. A `false` costs time alone: `plain_line_of` answers then.
 #[inline]
 pub fn is_plain_line(kind: Kind, line: &Line) -> bool
     ensures { IsTrue result → IsJudged (record_refusal line.now)

@@ -157,7 +157,7 @@ impl Stop {
     }
 
     /// Whether these columns are the plain line of a location on the way, as far as one pass over them
-    /// tells. A `false` costs time alone.
+    /// shows. A `false` costs time alone.
     #[inline(always)]
     pub fn are_plain(columns: &[u8; LINE_WIDTH]) -> bool
         ensures line { IsTrue result → IsLine columns.now }

@@ -162,7 +162,7 @@ impl Written {
         }
     }
 
-    /// Adds that the output wasn't written, and why if the system told it.
+    /// Adds that the output wasn't written, and why if the system says so.
     pub(crate) fn add_failure(&self, message: &mut Message) {
         match reason_of(message.alloc, self.failure) {
             Some(reason) => message.line(format_args!("in standard output: {reason}")),
@@ -171,7 +171,7 @@ impl Written {
     }
 }
 
-/// What the system says of the error of this number, if it told one.
+/// The system's text for the error of this number, if it gave one.
 pub(crate) fn reason_of(alloc: Global, failure: Option<i32>) -> Option<String> {
     io::Error::from_raw_os_error(failure?).to_string(alloc).ok()
 }

@@ -60,7 +60,7 @@ impl ExtractInput<'_> {
         message.line(format_args!("in {self}"));
     }
 
-    /// Adds what wasn't read, and why if the system told it.
+    /// Adds what wasn't read, and why if the system says so.
     pub(crate) fn add_read_failure(&self, message: &mut Message) {
         match reason_of(message.alloc, self.failure) {
             Some(reason) => message.line(format_args!("in {self}: {reason}")),
@@ -206,7 +206,7 @@ impl ExtractInput<'_> {
     }
 
     /// The command that accepts a line of the input which others refuse for this reason, if there is one. Of a
-    /// line that isn't known only an open end tells it; of a comment what stands behind it, in a file.
+    /// line that isn't known only an open end decides; of a comment what stands behind it, in a file.
     fn command_for(
         &self,
         alloc: Global,

@@ -166,7 +166,7 @@ pub enum JobFault {
 /// Inputs of which one may be the standard input.
 #[derive(Clone, Copy, Debug)]
 pub enum Inputs {
-    /// Those of `compare` or `diff`.
+    /// The two extracts of `compare` or `diff`.
     LeftAndRight,
     /// The holidays and the extract of `prepare`.
     HolidaysAndFile,

@@ -13,9 +13,9 @@ const LONGEST_OF_HOLIDAYS: usize = 1000;
 /// Which commands read an input.
 #[derive(Clone, Copy, PartialEq, Eq)]
 pub(crate) enum Reader {
-    /// Those of extracts.
+    /// The commands that read extracts.
     Extracts,
-    /// Those of published extracts and updates, and whether holidays are given.
+    /// `prepare` and `update`, which read published extracts, and whether holidays are given.
     Feeds { has_holidays: bool },
 }
 

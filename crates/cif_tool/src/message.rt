@@ -13,7 +13,7 @@ pub(crate) enum Detail {
     Fault,
     /// What helps with the fault too: standard error is a terminal.
     Help,
-    /// And what was read and done: `--verbose`.
+    /// What was read and done too: `--verbose`.
     All,
 }
 

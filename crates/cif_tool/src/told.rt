@@ -10,7 +10,7 @@ use cif_canon::writing::{Texts, append, write_each};
 use cif_columns::{Sink, WriteDevice};
 use cif_feed::{DoneUpdate, Dropped, DroppedKey, FeedFault, KeptUpdate, RefusedLine};
 
-/// Says what `prepare` tells of its answer, or why there is none, and gives the status that the program exits
+/// Reports the answer of `prepare`, or why there is none, and gives the status that the program exits
 /// with. That it can't be written changes no status.
 pub fn end_prepare<W: WriteDevice>(answer: &Result<Dropped, FeedFault>, errors: &mut Sink<W>) -> u8
     ensures status { result ≡ told_status answer.now }
@@ -25,7 +25,7 @@ pub fn end_prepare<W: WriteDevice>(answer: &Result<Dropped, FeedFault>, errors: 
     }
 }
 
-/// Says what `update` tells of its answer, where it has left this, or why there is none, and gives the status
+/// Reports the answer of `update`, where it has left this, or why there is none, and gives the status
 /// that the program exits with. That it can't be written changes no status.
 pub fn end_update<W: WriteDevice>(
     answer: &Result<(), FeedFault>,

@@ -33,9 +33,10 @@ const NOTHING: Column = ("", Text(1, 0));
 /// The location of TI.
 const LOCATION: Column = ("tiploc", Text(3, 9));
 
-/// The UIDs of AA.
+/// The base UID of AA.
 const BASE_UID: Column = ("base_uid", Whole(4, 9));
 
+/// The associated UID of AA.
 const ASSOCIATED_UID: Column = ("associated_uid", Whole(10, 15));
 
 /// The dates and days of AA.
@@ -74,7 +75,7 @@ pub(crate) enum Place {
     Whole(usize, usize),
     /// As a date YYYY-MM-DD: six digits YYMMDD.
     Date(usize, usize),
-    /// As such a date: six digits DDMMYY.
+    /// As a date YYYY-MM-DD: six digits DDMMYY.
     DayFirst(usize, usize),
     /// Without the spaces at its end: where it stands in LO, in LI and in LT.
     Call(Span, Span, Span),
@@ -222,7 +223,7 @@ pub(crate) const TIPLOC_HEAD: [Column; 9] = [
     LOCATION, NOTHING, NOTHING, NOTHING, NOTHING, NOTHING, NOTHING, NOTHING, NOTHING,
 ];
 
-/// Those of AA.
+/// The fields up to the days run of AA, in the table of differences.
 pub(crate) const ASSOCIATION_HEAD: [Column; 9] = [
     NOTHING,
     BASE_UID,
@@ -235,7 +236,7 @@ pub(crate) const ASSOCIATION_HEAD: [Column; 9] = [
     HOLDS_ON,
 ];
 
-/// The columns of BS.
+/// The fields up to the days run of BS, in the table of differences.
 pub(crate) const BASIC_HEAD: [Column; 9] = [
     NOTHING, UID, NOTHING, NOTHING, NOTHING, NOTHING, RUNS_FROM, RUNS_TO, RUNS_ON,
 ];

@@ -1,4 +1,4 @@
-//! Laws: what the marks of an explanation and the letters of a calendar say, and what tables tell.
+//! Laws: what the marks of an explanation and the letters of a calendar say, and what tables say.
 ghost use Rattle.std.specs.Prelude.{◌≡◌, ◌↔◌, ◌<◌, ◌≤◌, ◌^◌, ℕ, Contains, List, length};
 ghost use Rattle.cif_calendar.specs.Clash.{IsClear};
 ghost use Rattle.cif_calendar.specs.Keys.{keyed, of_key};

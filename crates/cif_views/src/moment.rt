@@ -152,7 +152,7 @@ impl Moment {
         }
     }
 
-    /// The same, on any date.
+    /// Appends the moment on any date, behind the hours of the dates before.
     #[inline(never)]
     fn push_later(self, row: &mut TableRow)
         requires from { midnight ≤ self }

@@ -151,7 +151,7 @@ impl TableRow {
         }
     }
 
-    /// The same, of a copy of the line.
+    /// `push_field` of a copy of the line.
     // So the compiler knows that no byte of the line is one of the row.
     #[inline(always)]
     pub(crate) fn push_of_copy(&mut self, place: &Place, kind: JourneyKind, line: Line)
@@ -175,7 +175,7 @@ impl TableRow {
         self.push(shape, columns);
     }
 
-    /// The same row.
+    /// A copy of the row.
     pub(crate) fn copy(&self) -> TableRow
         ensures { result ≡ self.now }
     {
@@ -211,7 +211,7 @@ impl TableRow {
         let _ = sink.write_all(&self.bytes[1..self.len + 1]);
     }
 
-    /// The same, and then keeps what the row began with alone, which had so many bytes.
+    /// Writes the row as `write` does, and then keeps only its first `begun` bytes.
     pub(crate) fn write_and_keep<W: WriteDevice>(&mut self, begun: usize, sink: &mut Sink<W>)
         requires some { 0 < begun }
         requires begun { begun ≤ length self.old }

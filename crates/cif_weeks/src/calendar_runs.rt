@@ -121,7 +121,7 @@ fn name_sources(runs: &mut [Run], calendar: &Calendar)
 
 /// The canonical runs of a calendar in a form, rising by first date.
 ///
-/// Hand in the entries of which the calendar tells. A run's source is the calendar's on the run's
+/// Hand in the entries from which the calendar was made. A run's source is the calendar's on the run's
 /// first date. The time depends on the runs and pieces of the calendar, not on its dates.
 pub fn runs<E: Entry>(
     alloc: Global,

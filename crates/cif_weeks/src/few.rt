@@ -60,7 +60,7 @@ fn add_all_runs(runs: &mut Vec<Run>, spans: &[Span], joining: &Joining) -> Resul
 
 /// Makes the runs of the canonical records that say what runs by the entries at `members`, rising by
 /// first date, in place of those that the list has. `false` if there are more than eight members, or
-/// two winners of a date of the window have different bodies: a calendar tells then.
+/// two winners of a date of the window have different bodies: then make a calendar.
 ///
 /// A run's source is the position of a member with its body. `runs` of the members' calendar gives
 /// runs with the same dates, weekdays and bodies.
