@@ -1,5 +1,5 @@
 -- What changes leave of each key, and in which order.
-use Rattle.cif_feed.proofs.Names.{Action, All, All-head, All-tail, AreAfter, Bool, Change, ChangeParts, HaveLastWord, IsEquivalence, IsTrue}
+use Rattle.cif_feed.proofs.Names.{Action, All, All-head, All-tail, AreAfter, Bool, RecordChange, ChangeParts, HaveLastWord, IsEquivalence, IsTrue}
 use Rattle.cif_feed.proofs.Names.{List, None, Option, Ordering, Some, TellsSame, [], after_all, after_change, ap, append-nil, append_assoc}
 use Rattle.cif_feed.proofs.Names.{changes_of, cond, eq_by_cmp, false, filter, filter-append, filter_agree, is_changed, is_there, key_of}
 use Rattle.cif_feed.proofs.Names.{keyed_record, last_word, not, option_to_list, put_last, put_of, refl, refusal, refusals, same_by}
@@ -176,7 +176,7 @@ module _ {K R : Type 0} (key : R → K) (same : K → K → Bool) (tells : Tells
   same_records = same_values (λ (r : R). (key r, r)) (λ x y e. ap (λ (v : K × R). v.1) e)
 
   -- changes of other keys
-  others : (cs : List (Change K R)) (b : List (K × R)) → All (λ d. key_of key d.action ≢ k) cs → last_word same b (changes_of key cs) k ≡ b
+  others : (cs : List (RecordChange K R)) (b : List (K × R)) → All (λ d. key_of key d.action ≢ k) cs → last_word same b (changes_of key cs) k ≡ b
   others [] b none = refl
   others (c ∷ cs) b none =
       ap (λ v. last_word same (cond v (keyed_record (key_of key c.action) (put_of c.action)) b) (changes_of key cs) k)
@@ -187,13 +187,13 @@ module _ {K R : Type 0} (key : R → K) (same : K → K → Bool) (tells : Tells
       at false is = refl
       at true is = absurd (All-head (λ d. key_of key d.action ≢ k) c cs none ((tells (key_of key c.action) k).0 is))
 
-  behind : (before after : List (Change K R)) (b : List (K × R)) → last_word same b (changes_of key (before ++ after)) k
+  behind : (before after : List (RecordChange K R)) (b : List (K × R)) → last_word same b (changes_of key (before ++ after)) k
       ≡ last_word same (last_word same b (changes_of key before) k) (changes_of key after) k
   behind [] after b = refl
   behind (c ∷ before) after b =
       behind before after (cond (same (key_of key c.action) k) (keyed_record (key_of key c.action) (put_of c.action)) b)
 
-  last_is : (before after : List (Change K R)) (c : Change K R) (b : List (K × R)) → key_of key c.action ≡ k
+  last_is : (before after : List (RecordChange K R)) (c : RecordChange K R) (b : List (K × R)) → key_of key c.action ≡ k
       → All (λ d. key_of key d.action ≢ k) after
       → last_word same b (changes_of key (before ++ c ∷ after)) k ≡ with_keys key (option_to_list (put_of c.action))
   last_is before after c b is none =
@@ -202,7 +202,7 @@ module _ {K R : Type 0} (key : R → K) (same : K → K → Bool) (tells : Tells
       (changes_of key after) k) ((tells (key_of key c.action) k).1 is)
       ∙ others after (keyed_record (key_of key c.action) (put_of c.action)) none ∙ put_keys key c.action
 
-pub have_last_word : {K R : Type 0} (key : R → K) (old : List R) (changes : List (Change K R)) (new : List R)
+pub have_last_word : {K R : Type 0} (key : R → K) (old : List R) (changes : List (RecordChange K R)) (new : List R)
     → AreAfter key old changes new → (k : K) → HaveLastWord key old changes new k
 have_last_word {K} {R} key old changes new are k = record {
   last = λ before after c parts is none. record {

@@ -1,5 +1,5 @@
 -- The changes of an update, one after another.
-use Rattle.cif_feed.proofs.Names.{AreLast, Bool, Change, ChangeParts, IsEquivalence, List, None, Option, SaysAlone, SaysThere, Some, []}
+use Rattle.cif_feed.proofs.Names.{AreLast, Bool, RecordChange, ChangeParts, IsEquivalence, List, None, Option, SaysAlone, SaysThere, Some, []}
 use Rattle.cif_feed.proofs.Names.{after_all, after_change, ap, append-nil, append_assoc, arith, changes_of, cond, drop, eq-eqb, false}
 use Rattle.cif_feed.proofs.Names.{filter, filter_agree, get_or, get_or-map, is_changed, is_position, is_some, is_there, items_where_true}
 use Rattle.cif_feed.proofs.Names.{keyed_record, last_from, length, length-map, length-take, list_any, list_any-append, list_any_at, map}
@@ -227,7 +227,7 @@ module _ {X P : Type 0} (R : P → X → Bool → P → Type 0) (flags : P → L
 -- ---- what the lines of an update are
 
 module _ {K R : Type 0} (key : R → K) where
-  module _ (xs : List (Change K R)) (i : ℕ) (x : Change K R) (below : i < length xs) (is : x ≡ get_or xs i x) where
+  module _ (xs : List (RecordChange K R)) (i : ℕ) (x : RecordChange K R) (below : i < length xs) (is : x ≡ get_or xs i x) where
     pub changes-more : changes_of key (take (i + 1) xs) ≡ changes_of key (take i xs) ++ parts_of key x ∷ []
     changes-more = made-more (parts_of key) xs i x below is
 
@@ -256,14 +256,14 @@ module _ {K R : Type 0} (key : R → K) where
       ∙ sym (filter-map (λ (r : K × R). not (is_changed same changes r.0)) (λ (r : R). (key r, r)) xs)
 
   -- what a change puts, if it is the last of its key
-  pub put-keys : (x : Change K R) (b : Bool)
+  pub put-keys : (x : RecordChange K R) (b : Bool)
       → with_keys key (cond (not b) (option_to_list (parts_of key x).puts) [])
       ≡ cond b [] (keyed_record (parts_of key x).key (parts_of key x).puts)
   put-keys x true = refl
   put-keys x false = sym (put_keys key x.action)
 
   -- one change less is left
-  pub put-more : (same : K → K → Bool) (records more : List R) (x : Change K R) (others : List (Change K R)) (is_last : Bool)
+  pub put-more : (same : K → K → Bool) (records more : List R) (x : RecordChange K R) (others : List (RecordChange K R)) (is_last : Bool)
       → more ≡ records ++ cond is_last (option_to_list (parts_of key x).puts) []
       → is_last ≡ not (is_changed same (changes_of key others) (parts_of key x).key)
       → with_keys key more ++ put_last same (changes_of key others) ≡ with_keys key records ++ put_last same (changes_of key (x ∷ others))
@@ -278,7 +278,7 @@ module _ {K R : Type 0} (key : R → K) where
 
   -- the change that comes after so many is the last of its key or not
   pub last-of_all : (same : K → K → Bool) → IsEquivalence same
-      → (all : List (Change K R)) (x : Change K R) (others : List (Change K R)) (n : ℕ)
+      → (all : List (RecordChange K R)) (x : RecordChange K R) (others : List (RecordChange K R)) (n : ℕ)
       (last : K → Option ℕ) → AreLast same (changes_of key all) last → x ∷ others ≡ drop n all → n ≤ length all
       → is_position (last (parts_of key x).key) n ≡ not (is_changed same (changes_of key others) (parts_of key x).key)
   last-of_all same laws all x others n last are rest within =

@@ -1,6 +1,6 @@
 -- What an update leaves fits the columns of lines, where what was there does.
 use Rattle.cif_feed.proofs.Names.{All, All-append, All-cons, All-filter, All-head, All-map, All-nil, All-tail, AllFit, AreAfter, AreTriples}
-use Rattle.cif_feed.proofs.Names.{Association, AssociationKey, Bool, BytesSpellUpdate, Change, ChangeParts, FitsColumns, IfSome}
+use Rattle.cif_feed.proofs.Names.{Association, AssociationKey, Bool, BytesSpellUpdate, RecordChange, ChangeParts, FitsColumns, IfSome}
 use Rattle.cif_feed.proofs.Names.{IsAssociationChange, IsScheduleChange, IsUpdated, List, None, Option, PublishedAssociation}
 use Rattle.cif_feed.proofs.Names.{PublishedParts, PublishedSchedule, RecordMark, Schedule, ScheduleFits, ScheduleKey, Some, Transaction}
 use Rattle.cif_feed.proofs.Names.{UpdateParts, [], after_all, after_change, all_codes, association_table, change_by, changes_of}
@@ -46,14 +46,14 @@ module _ {K R : Type 0} (P : R → Type 0) where
       (All-tail Puts c changes puts)
 
   -- a change puts a record of which P holds
-  abbrev PutsSuch : Change K R → Type 0
+  abbrev PutsSuch : RecordChange K R → Type 0
   PutsSuch c = IfSome (put_of c.action) P
 
   change_puts : (transaction : Transaction) (number : ℕ) (k : K) (r : R) → P r → PutsSuch (change_by transaction number k r)
   change_puts Deleted number k r p = tt
   change_puts _ number k r p = p
 
-  left : (key : R → K) (old : List R) (cs : List (Change K R)) (new : List R) → AreAfter key old cs new → All P old → All PutsSuch cs
+  left : (key : R → K) (old : List R) (cs : List (RecordChange K R)) (new : List R) → AreAfter key old cs new → All P old → All PutsSuch cs
       → All P new
   left key old cs new after p puts =
       All-from_map (λ (r : R). (key r, r)) IsEntry new (subst (All IsEntry) (sym after.after)
@@ -71,14 +71,14 @@ AssociationOf a = AssociationFits a.association
 abbrev ScheduleOf : PublishedSchedule → Type 0
 ScheduleOf s = ScheduleFits s.schedule
 
-association_put : (x : Association) (m : RecordMark) (c : Change AssociationKey PublishedAssociation)
+association_put : (x : Association) (m : RecordMark) (c : RecordChange AssociationKey PublishedAssociation)
     → IsAssociationChange x m c → AssociationFits x → PutsSuch AssociationOf c
 association_put x m c is fits =
     subst (PutsSuch AssociationOf) (sym is.change)
     (change_puts AssociationOf m.transaction m.line (x.key, x.first, m.letter) is.published
     (subst AssociationFits (sym is.is.of_profile) fits))
 
-schedule_put : (x : Schedule) (m : RecordMark) (c : Change ScheduleKey PublishedSchedule) → IsScheduleChange x m c
+schedule_put : (x : Schedule) (m : RecordMark) (c : RecordChange ScheduleKey PublishedSchedule) → IsScheduleChange x m c
     → ScheduleFits x → PutsSuch ScheduleOf c
 schedule_put x m c is fits =
     subst (PutsSuch ScheduleOf) (sym is.change)

@@ -177,7 +177,7 @@ pub use Rattle.cif_feed.specs.WrittenOver.{with_code, with_open_end}
 pub use Rattle.cif_feed.specs.WrittenPrepared.{AreDroppedIf, FeedWrites, IsDeviceOrMemory, IsPrepareFault, IsPreparedAs, IsPreparedText}
 pub use Rattle.cif_feed.specs.WrittenPrepared.{Prepares, WritesPrepared, codes_named, preparing}
 pub use Rattle.cif_feed.specs.declared.changes.Action.{Action}
-pub use Rattle.cif_feed.specs.declared.changes.Change.{Change}
+pub use Rattle.cif_feed.specs.declared.changes.RecordChange.{RecordChange}
 pub use Rattle.cif_feed.specs.declared.changes.RefusedLine.{RefusedLine}
 pub use Rattle.cif_feed.specs.declared.dropped.Dropped.{Dropped}
 pub use Rattle.cif_feed.specs.declared.dropped.DroppedKey.{DroppedKey}

@@ -1,6 +1,6 @@
 -- The records of a kind, and its lines, one by one, with the records that they spell, the changes that they say, and their marks.
 use Rattle.cif_feed.proofs.Names.{All, All-filter, All-head, All-tail, AllFit, AllStandIn, AreExtract, ArePairs, AreSchedule, AreSchedules}
-use Rattle.cif_feed.proofs.Names.{AreTriples, Association, AssociationKey, Basic, BodyLines, Bool, Change, Detail, Each, Err, Extra}
+use Rattle.cif_feed.proofs.Names.{AreTriples, Association, AssociationKey, Basic, BodyLines, Bool, RecordChange, Detail, Each, Err, Extra}
 use Rattle.cif_feed.proofs.Names.{ExtractParts, Feed, FeedExtract, FeedFault, FeedParts, FitsColumns, Full, HasMarks, HaveBody, Header}
 use Rattle.cif_feed.proofs.Names.{HolidayCodes, IfOk, Inside, IsAssociationChange, IsClosed, IsFeedContent, IsLine, IsScheduleChange, Kind}
 use Rattle.cif_feed.proofs.Names.{IsTrue}
@@ -303,7 +303,7 @@ module _ (Spells : List ℕ → Record → Type 0) where
 -- ---- what it says
 
 module _ (line : ℕ × List ℕ) (b : Basic) (s : Schedule) (terms : HasTerms b s)
-    (detail : b.detail ≡ option_map detail_of s.body) (change : Change ScheduleKey PublishedSchedule) where
+    (detail : b.detail ≡ option_map detail_of s.body) (change : RecordChange ScheduleKey PublishedSchedule) where
   put_schedule_stands : (t : Transaction) (p : PublishedSchedule) → p.schedule ≡ s → p.open_end ≡ is_open 16 line.1
       → p.code ≡ code_of all_codes line.1
       → AllStandIn line.1 (put_basic_rows t (is_open 16 line.1) (code_of all_codes line.1) (terms_of b) b.detail)
@@ -395,7 +395,7 @@ tiplocs_said cs u s =
 
 -- ---- associations
 
-module _ (line : ℕ × List ℕ) (a : Association) (change : Change AssociationKey PublishedAssociation) where
+module _ (line : ℕ × List ℕ) (a : Association) (change : RecordChange AssociationKey PublishedAssociation) where
   put_stands : (t : Transaction) (p : PublishedAssociation) → p.association ≡ a → p.open_end ≡ is_open 22 line.1
       → AllStandIn line.1 (put_association_rows t (is_open 22 line.1) a) → AllStandIn line.1 (published_association_rows t p)
   put_stands t p same ends stands =

@@ -1,6 +1,6 @@
 -- Bytes that spell a published extract, or an update, aren't refused, and spell no other: it is what its lines say.
 use Rattle.cif_feed.proofs.Names.{All, All-filter, All-weaker, AreTriples, Association, AssociationKey, BadTransaction, Bool}
-use Rattle.cif_feed.proofs.Names.{BytesSpellFeed, BytesSpellPublished, BytesSpellUpdate, Change, Err, Extract, ExtractParts, Feed}
+use Rattle.cif_feed.proofs.Names.{BytesSpellFeed, BytesSpellPublished, BytesSpellUpdate, RecordChange, Err, Extract, ExtractParts, Feed}
 use Rattle.cif_feed.proofs.Names.{FeedExtract, FeedFault, FeedParts, Full, HandsOn, Header, HolidayCode, HolidayCodes, IfErr, IfOk}
 use Rattle.cif_feed.proofs.Names.{IsAssociationChange, IsFailure, IsFeedContent, IsFeedFault, IsFeedTruncated, IsFirstOfFeed, IsLine}
 use Rattle.cif_feed.proofs.Names.{IsNoTrailer, IsPublishedAssociation, IsPublishedOf, IsPublishedSchedule, IsRefusedContent}
@@ -199,14 +199,14 @@ one_update_said : (lines : FeedParts) (p q : UpdateParts) → SayUpdate lines p 
 one_update_said lines p q s t =
     ap (λ (v : Header). record p { header = v }) (s.header ∙ sym t.header)
     ∙ ap (λ (v : ℕ). record p { header = q.header; header_line = v }) (s.header_line ∙ sym t.header_line)
-    ∙ ap (λ (v : List (Change (List ℕ) Tiploc)). record p { header = q.header; header_line = q.header_line; tiplocs = v })
+    ∙ ap (λ (v : List (RecordChange (List ℕ) Tiploc)). record p { header = q.header; header_line = q.header_line; tiplocs = v })
     (s.tiplocs ∙ sym t.tiplocs)
-    ∙ ap (λ (v : List (Change AssociationKey PublishedAssociation)). record q { associations = v; schedules = p.schedules })
+    ∙ ap (λ (v : List (RecordChange AssociationKey PublishedAssociation)). record q { associations = v; schedules = p.schedules })
     (same_triples IsAssociationChange
     (λ x y z w a b. a.change ∙ ap (change_by y.transaction y.line (x.key, x.first, y.letter))
     (same_association a.published b.published (a.is.of_profile ∙ sym b.is.of_profile) (a.is.open_end ∙ sym b.is.open_end)) ∙ sym b.change)
     _ _ p.associations q.associations s.associations t.associations)
-    ∙ ap (λ (v : List (Change ScheduleKey PublishedSchedule)). record q { schedules = v })
+    ∙ ap (λ (v : List (RecordChange ScheduleKey PublishedSchedule)). record q { schedules = v })
     (same_triples IsScheduleChange
     (λ x y z w a b. a.change ∙ ap (change_by y.transaction y.line (x.uid, x.first, y.letter))
     (same_schedule a.published b.published (a.is.of_profile ∙ sym b.is.of_profile) (a.is.open_end ∙ sym b.is.open_end)

@@ -1,5 +1,5 @@
 -- An update that was read is done, or a line of it is refused; and updates are done one after another.
-use Rattle.cif_feed.proofs.Names.{AlreadyThere, AreAfter, AreRefused, AreRefusedLines, Bool, BytesSpellPublished, BytesSpellUpdate, Change}
+use Rattle.cif_feed.proofs.Names.{AlreadyThere, AreAfter, AreRefused, AreRefusedLines, Bool, BytesSpellPublished, BytesSpellUpdate, RecordChange}
 use Rattle.cif_feed.proofs.Names.{Err, FeedFault, FitsColumns, HandsOn, Header, IfOk, IsDone, IsFailure, IsLineRefused, IsUpdateFault}
 use Rattle.cif_feed.proofs.Names.{IsUpdateOf, IsUpdated, IsUpdatedBy, List, Makes, MatchResult, MayBeDone, NotThere, Ok}
 use Rattle.cif_feed.proofs.Names.{PublishedAssociation, PublishedParts, PublishedSchedule, RefusedLine, Refuses, Result, Some, Tiploc}
@@ -47,7 +47,7 @@ told-three xs ys zs =
 -- ---- one update
 
 -- there is one list of lines that may not be done
-one_refused : {K R : Type 0} (key : R → K) (old : List R) (changes : List (Change K R)) (p q : List RefusedLine)
+one_refused : {K R : Type 0} (key : R → K) (old : List R) (changes : List (RecordChange K R)) (p q : List RefusedLine)
     → AreRefused key old changes p → AreRefused key old changes q → p ≡ q
 one_refused key old changes p q a b =
     a.are ∙ refusals-alike a.same b.same (same_alike a.same b.same a.tells b.tells) (with_keys key old) (changes_of key changes) ∙ sym b.are
@@ -141,7 +141,7 @@ module _ (lenient : Bool) (max : ℕ) (old : PublishedParts) (bytes : List ℕ) 
 -- ---- what is done
 
 -- changes leave one list
-one_after : {K R : Type 0} (key : R → K) (old : List R) (cs : List (Change K R)) (p q : List R) → AreAfter key old cs p
+one_after : {K R : Type 0} (key : R → K) (old : List R) (cs : List (RecordChange K R)) (p q : List R) → AreAfter key old cs p
     → AreAfter key old cs q → p ≡ q
 one_after {K} {R} key old cs p q a b =
     same_values (λ (r : R). (key r, r)) (λ x y e. ap (λ (v : K × R). v.1) e) p q

@@ -4,7 +4,7 @@ use Rattle.std.specs.Prelude.{option_to_list, if◌then◌else◌}
 use Rattle.std.specs.List.{list_any}
 use Rattle.cif_feed.specs.declared.changes.Action.{Action}
 use Rattle.cif_feed.specs.declared.changes.Action.TheVariants.{New, Revised, Deleted}
-use Rattle.cif_feed.specs.declared.changes.Change.{Change}
+use Rattle.cif_feed.specs.declared.changes.RecordChange.{RecordChange}
 use Rattle.cif_feed.specs.declared.changes.RefusedLine.{RefusedLine}
 use Rattle.cif_feed.specs.declared.changes.Unfit.{Unfit}
 use Rattle.cif_feed.specs.declared.changes.Unfit.TheVariants.{NotThere, AlreadyThere}
@@ -40,7 +40,7 @@ put_of (Revised r) = Some r
 put_of (Deleted k) = None
 
 -- what a line of an update does, as a change of the key of its record
-abbrev pub parts_of : {K R : Type 0} → (R → K) → Change K R → ChangeParts K R
+abbrev pub parts_of : {K R : Type 0} → (R → K) → RecordChange K R → ChangeParts K R
 parts_of key c = record {
   line = c.line;
   transaction = transaction_of c.action;
@@ -48,7 +48,7 @@ parts_of key c = record {
   puts = put_of c.action;
 }
 
-abbrev pub changes_of : {K R : Type 0} → (R → K) → List (Change K R) → List (ChangeParts K R)
+abbrev pub changes_of : {K R : Type 0} → (R → K) → List (RecordChange K R) → List (ChangeParts K R)
 changes_of key changes = map (parts_of key) changes
 
 -- records with their keys
@@ -120,7 +120,7 @@ refusals same records [] = []
 refusals same records (c ∷ changes) = refusal (is_there same records c.key) c ++ refusals same (after_change same records c) changes
 
 -- The new records are the old ones after these changes. Tests that tell whether two keys are the same agree.
-pub record AreAfter {K R : Type 0} (key : R → K) (old : List R) (changes : List (Change K R)) (new : List R) : Type 0 where
+pub record AreAfter {K R : Type 0} (key : R → K) (old : List R) (changes : List (RecordChange K R)) (new : List R) : Type 0 where
   pub same : K → K → Bool
   pub tells : TellsSame same
   pub after : with_keys key new ≡ after_all same (with_keys key old) (changes_of key changes)
@@ -133,13 +133,13 @@ pub record AreOfKey {K R : Type 0} (key : R → K) (records : List R) (k : K) (i
 
 -- What the new records have of a key: what the last change of this key puts, or nothing, if that is a deletion; and what the old ones
 -- have, if no change is of this key.
-pub record HaveLastWord {K R : Type 0} (key : R → K) (old : List R) (changes : List (Change K R)) (new : List R) (k : K) : Type 0 where
-  pub last : (before after : List (Change K R)) (c : Change K R) → changes ≡ before ++ c ∷ after → key_of key c.action ≡ k
+pub record HaveLastWord {K R : Type 0} (key : R → K) (old : List R) (changes : List (RecordChange K R)) (new : List R) (k : K) : Type 0 where
+  pub last : (before after : List (RecordChange K R)) (c : RecordChange K R) → changes ≡ before ++ c ∷ after → key_of key c.action ≡ k
       → All (λ d. key_of key d.action ≢ k) after → AreOfKey key new k (option_to_list (put_of c.action))
   pub kept : All (λ c. key_of key c.action ≢ k) changes → (items : List R) → AreOfKey key old k items → AreOfKey key new k items
 
 -- these are the changes that may not be done, each after those before it
-pub record AreRefused {K R : Type 0} (key : R → K) (old : List R) (changes : List (Change K R)) (refused : List RefusedLine) : Type 0 where
+pub record AreRefused {K R : Type 0} (key : R → K) (old : List R) (changes : List (RecordChange K R)) (refused : List RefusedLine) : Type 0 where
   pub same : K → K → Bool
   pub tells : TellsSame same
   pub are : refused ≡ refusals same (with_keys key old) (changes_of key changes)

@@ -11,7 +11,7 @@ use Rattle.cif_feed.specs.Marks.{tiploc_mark}
 use Rattle.cif_feed.specs.UpdateParts.{AssociationKey, ScheduleKey, tiploc_changes_of}
 use Rattle.cif_feed.specs.declared.changes.Action.{Action}
 use Rattle.cif_feed.specs.declared.changes.Action.TheVariants.{New, Revised, Deleted}
-use Rattle.cif_feed.specs.declared.changes.Change.{Change}
+use Rattle.cif_feed.specs.declared.changes.RecordChange.{RecordChange}
 use Rattle.cif_feed.specs.declared.feed_line.Feed.TheVariants.{Update}
 use Rattle.cif_feed.specs.declared.mark.Transaction.{Transaction}
 use Rattle.cif_feed.specs.declared.mark.Transaction.TheVariants as transaction
@@ -28,28 +28,28 @@ action_rows put deleted (Deleted k) = deleted k
 
 -- A line, by its number and its columns, makes this change: what it does stands in its columns. Of a deletion only those of its transaction
 -- and its key are read.
-pub record SaysChange {K R : Type 0} (rows : Action K R → List Row) (line : ℕ × List ℕ) (c : Change K R) : Type 0 where
+pub record SaysChange {K R : Type 0} (rows : Action K R → List Row) (line : ℕ × List ℕ) (c : RecordChange K R) : Type 0 where
   pub number : c.line ≡ line.0
   pub stands : AllStandIn line.1 (rows c.action)
 
 -- an AA, and a BS, of which what the lines behind it say is read as in a full extract
-abbrev pub SaysAssociation : ℕ × List ℕ → Change AssociationKey PublishedAssociation → Type 0
+abbrev pub SaysAssociation : ℕ × List ℕ → RecordChange AssociationKey PublishedAssociation → Type 0
 SaysAssociation = SaysChange (action_rows published_association_rows (λ k. deleted_association_rows k.0 k.1 k.2))
 
-abbrev pub SaysSchedule : ℕ × List ℕ → Change ScheduleKey PublishedSchedule → Type 0
+abbrev pub SaysSchedule : ℕ × List ℕ → RecordChange ScheduleKey PublishedSchedule → Type 0
 SaysSchedule = SaysChange (action_rows published_basic_rows (λ k. deleted_basic_rows k.0 k.1 k.2))
 
 -- ---- locations
 
 -- A TI puts the location that it spells, of its columns 3 to 72. A TA amends that of its own TIPLOC: it puts the one that it spells, with
 -- its columns 10 to 72. A TD deletes that of its TIPLOC.
-pub record SaysTiploc (line : ℕ × List ℕ) (changes : List (Change (List ℕ) Tiploc)) : Type 0 where
+pub record SaysTiploc (line : ℕ × List ℕ) (changes : List (RecordChange (List ℕ) Tiploc)) : Type 0 where
   pub tiploc : Tiploc
   pub spells : SpellsInFeed Update all_codes line.1 (of.Tiploc tiploc)
   pub are : changes ≡ tiploc_changes_of (tiploc_mark (kind_in line.1) line) tiploc
 
 -- the lines make these changes, one line after another
-abbrev pub SayTiplocs : List (ℕ × List ℕ) → List (Change (List ℕ) Tiploc) → Type 0
+abbrev pub SayTiplocs : List (ℕ × List ℕ) → List (RecordChange (List ℕ) Tiploc) → Type 0
 SayTiplocs [] changes = changes ≡ []
-SayTiplocs (line ∷ lines) changes = (own others : List (Change (List ℕ) Tiploc)) × (changes ≡ own ++ others)
+SayTiplocs (line ∷ lines) changes = (own others : List (RecordChange (List ℕ) Tiploc)) × (changes ≡ own ++ others)
     × SaysTiploc line own × SayTiplocs lines others

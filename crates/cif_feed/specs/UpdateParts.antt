@@ -18,7 +18,7 @@ use Rattle.cif_feed.specs.PublishedParts.{IsPublishedAssociation, IsPublishedSch
 use Rattle.cif_feed.specs.RecordKeys.{tiploc_key}
 use Rattle.cif_feed.specs.SpellsFeed.{FeedParts, SpellFeed}
 use Rattle.cif_feed.specs.declared.changes.Action.TheVariants.{New, Revised, Deleted}
-use Rattle.cif_feed.specs.declared.changes.Change.{Change}
+use Rattle.cif_feed.specs.declared.changes.RecordChange.{RecordChange}
 use Rattle.cif_feed.specs.declared.feed_line.Feed.TheVariants.{Update}
 use Rattle.cif_feed.specs.declared.feed.FeedFault.{FeedFault}
 use Rattle.cif_feed.specs.declared.mark.RecordMark.{RecordMark}
@@ -40,9 +40,9 @@ ScheduleKey = List ℕ × ℕ × Stp
 pub record UpdateParts : Type 0 where
   pub header : Header
   pub header_line : ℕ
-  pub tiplocs : List (Change (List ℕ) Tiploc)
-  pub associations : List (Change AssociationKey PublishedAssociation)
-  pub schedules : List (Change ScheduleKey PublishedSchedule)
+  pub tiplocs : List (RecordChange (List ℕ) Tiploc)
+  pub associations : List (RecordChange AssociationKey PublishedAssociation)
+  pub schedules : List (RecordChange ScheduleKey PublishedSchedule)
 
 -- the parts of an update, whose vectors have capacities too
 abbrev pub update_parts : declared.Update → UpdateParts
@@ -57,40 +57,40 @@ update_parts u = record {
 -- ---- what its lines do
 
 -- what a line of this number with this transaction does: it puts this record, or deletes this key
-abbrev pub change_by : {K R : Type 0} → Transaction → ℕ → K → R → Change K R
+abbrev pub change_by : {K R : Type 0} → Transaction → ℕ → K → R → RecordChange K R
 change_by transaction.New number key put = record { line = number; action = New put }
 change_by transaction.Revised number key put = record { line = number; action = Revised put }
 change_by transaction.Deleted number key put = record { line = number; action = Deleted key }
 
 -- What a TA of this number does, whose own TIPLOC this is: where it puts another, it deletes its own, and then puts the other.
-abbrev pub amendment : ℕ → List ℕ → Tiploc → List (Change (List ℕ) Tiploc)
+abbrev pub amendment : ℕ → List ℕ → Tiploc → List (RecordChange (List ℕ) Tiploc)
 amendment number own t =
     if are (tiploc_key t) own then record { line = number; action = Revised t } ∷ []
     else record { line = number; action = Deleted own } ∷ record { line = number; action = New t } ∷ []
 
 -- what a TI, a TA or a TD does
-abbrev pub tiploc_changes_by : Transaction → ℕ → List ℕ → Tiploc → List (Change (List ℕ) Tiploc)
+abbrev pub tiploc_changes_by : Transaction → ℕ → List ℕ → Tiploc → List (RecordChange (List ℕ) Tiploc)
 tiploc_changes_by transaction.New number own t = record { line = number; action = New t } ∷ []
 tiploc_changes_by transaction.Revised number own t = amendment number own t
 tiploc_changes_by transaction.Deleted number own t = record { line = number; action = Deleted own } ∷ []
 
-abbrev pub tiploc_changes_of : TiplocMark → Tiploc → List (Change (List ℕ) Tiploc)
+abbrev pub tiploc_changes_of : TiplocMark → Tiploc → List (RecordChange (List ℕ) Tiploc)
 tiploc_changes_of m t = tiploc_changes_by m.transaction m.line m.tiploc t
 
 -- what all of them do
-abbrev pub tiploc_changes : List Tiploc → List TiplocMark → List (Change (List ℕ) Tiploc)
+abbrev pub tiploc_changes : List Tiploc → List TiplocMark → List (RecordChange (List ℕ) Tiploc)
 tiploc_changes (t ∷ tiplocs) (m ∷ marks) =
     tiploc_changes_of m t ++ tiploc_changes tiplocs marks
 tiploc_changes tiplocs marks = []
 
 -- What a line does to associations, and to schedules. What a deletion deletes is its UIDs and the other fields of its key, its first
 -- date and its letter.
-pub record IsAssociationChange (r : Association) (m : RecordMark) (c : Change AssociationKey PublishedAssociation) : Type 0 where
+pub record IsAssociationChange (r : Association) (m : RecordMark) (c : RecordChange AssociationKey PublishedAssociation) : Type 0 where
   pub published : PublishedAssociation
   pub is : IsPublishedAssociation r m published
   pub change : c ≡ change_by m.transaction m.line (r.key, r.first, m.letter) published
 
-pub record IsScheduleChange (r : Schedule) (m : RecordMark) (c : Change ScheduleKey PublishedSchedule) : Type 0 where
+pub record IsScheduleChange (r : Schedule) (m : RecordMark) (c : RecordChange ScheduleKey PublishedSchedule) : Type 0 where
   pub published : PublishedSchedule
   pub is : IsPublishedSchedule r m published
   pub change : c ≡ change_by m.transaction m.line (r.uid, r.first, m.letter) published

@@ -38,7 +38,7 @@ pub trait Keyed {
 
 /// What a line of an update does.
 #[derive(Drop)]
-pub struct Change<K, R> {
+pub struct RecordChange<K, R> {
     /// The number of the line.
     pub line: u64,
     /// What it does.
@@ -98,7 +98,7 @@ impl RefusedLine {
 pub fn apply<R: Keyed + Drop>(
     alloc: Global,
     records: &mut Vec<R>,
-    mut changes: Vec<Change<R::Key, R>>,
+    mut changes: Vec<RecordChange<R::Key, R>>,
 ) -> Result<Vec<RefusedLine>, AllocError>
     ensures records { IfOk result (λ _.
         AreAfter R.key records.old.items changes.items records.new.items) }
@@ -117,7 +117,7 @@ pub fn apply<R: Keyed + Drop>(
 /// Of each key that is changed, the position of its last change.
 fn last_changes<R: Keyed>(
     alloc: Global,
-    changes: &[Change<R::Key, R>],
+    changes: &[RecordChange<R::Key, R>],
 ) -> Result<BTreeMap<R::Rank, usize>, AllocError>
     ensures { IfOk result (λ last. AreLast (same_by R.Rank.cmp R.rank) (changes_of R.key changes.now)
         (at_keys R.rank (get R.Rank.cmp last))) }
@@ -160,7 +160,7 @@ fn keys_there<R: Keyed>(
 fn refused_changes<R: Keyed>(
     alloc: Global,
     mut there: BTreeMap<R::Rank, bool>,
-    changes: &[Change<R::Key, R>],
+    changes: &[RecordChange<R::Key, R>],
 ) -> Result<Vec<RefusedLine>, AllocError>
     ensures { IfOk result (λ refused. (records : List (R.Key × R))
         → SaysThere (same_by R.Rank.cmp R.rank) records (changes_of R.key changes.now)
@@ -206,7 +206,7 @@ fn take_out<R: Drop>(records: &mut Vec<R>, changed: &[bool])
 /// Puts what the changes put that are the last of their keys. The first change stands last.
 fn put_last<R: Keyed + Drop>(
     records: &mut Vec<R>,
-    mut changes: Vec<Change<R::Key, R>>,
+    mut changes: Vec<RecordChange<R::Key, R>>,
     last: &BTreeMap<R::Rank, usize>,
 ) -> Result<(), AllocError>
     ensures { IfOk result (λ _. AreLast (same_by R.Rank.cmp R.rank) (changes_of R.key (reverse changes.items))
@@ -224,7 +224,7 @@ fn put_last<R: Keyed + Drop>(
 }
 
 /// Whether the change at this position is the last of its key.
-fn is_last<R: Keyed>(change: &Change<R::Key, R>, at: usize, last: &BTreeMap<R::Rank, usize>) -> bool
+fn is_last<R: Keyed>(change: &RecordChange<R::Key, R>, at: usize, last: &BTreeMap<R::Rank, usize>) -> bool
     ensures { result ≡ is_position (get R.Rank.cmp last.now (R.rank (parts_of R.key change.now).key)) at }
 {
     match last.get(&rank_of::<R>(change)) {
@@ -246,7 +246,7 @@ fn put_if<R: Drop>(is_put: bool, item: Option<R>, records: &mut Vec<R>) -> Resul
 }
 
 /// The record that a change puts.
-fn record_of<R: Keyed + Drop>(change: Change<R::Key, R>) -> Option<R>
+fn record_of<R: Keyed + Drop>(change: RecordChange<R::Key, R>) -> Option<R>
     ensures { result ≡ (parts_of R.key change).puts }
 {
     match change.action {
@@ -256,7 +256,7 @@ fn record_of<R: Keyed + Drop>(change: Change<R::Key, R>) -> Option<R>
 }
 
 /// The rank of the key of a change.
-fn rank_of<R: Keyed>(change: &Change<R::Key, R>) -> R::Rank
+fn rank_of<R: Keyed>(change: &RecordChange<R::Key, R>) -> R::Rank
     ensures { result ≡ R.rank (parts_of R.key change.now).key }
 {
     match &change.action {
@@ -266,7 +266,7 @@ fn rank_of<R: Keyed>(change: &Change<R::Key, R>) -> R::Rank
 }
 
 /// Whether the change may be done, by whether there are records of its key.
-fn may_be_applied<R: Keyed>(change: &Change<R::Key, R>, is_there: bool) -> bool
+fn may_be_applied<R: Keyed>(change: &RecordChange<R::Key, R>, is_there: bool) -> bool
     ensures { result ≡ may_be_applied (parts_of R.key change.now).transaction is_there }
 {
     match change.action {
@@ -287,7 +287,7 @@ fn why_unfit(is_there: bool) -> Unfit
 }
 
 /// Whether the change puts a record.
-fn puts<R: Keyed>(change: &Change<R::Key, R>) -> bool
+fn puts<R: Keyed>(change: &RecordChange<R::Key, R>) -> bool
     ensures { result ≡ is_some (parts_of R.key change.now).puts }
 {
     match change.action {

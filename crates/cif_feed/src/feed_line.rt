@@ -22,7 +22,7 @@ use crate::mark::{Mark, RecordMark, TiplocMark};
 use crate::{HolidayCode, HolidayCodes, Transaction};
 use cif_columns::{Day, DaysRun, Line, Refusal, Stp, columns_at, uid_at};
 use cif_records::{
-    AssocKey, Association, BasicTerms, Dates, Header, Kind, Tiploc, dates_at, field_or,
+    AssocKey, Association, BasicTerms, DateRange, Header, Kind, Tiploc, dates_at, field_or,
 };
 
 /// What is read.
@@ -283,7 +283,7 @@ fn transaction_at(feed: Feed, line: &Line) -> Option<Transaction>
 
 /// The dates in the twelve columns of a line from `at` on, counted from 1, and whether the last is open: it may be
 /// `999999`, which is read as the last day there is.
-fn open_dates_at(line: &Line, at: usize) -> Result<(Dates, bool), Refusal>
+fn open_dates_at(line: &Line, at: usize) -> Result<(DateRange, bool), Refusal>
     requires from_one { 1 ≤ at }
     requires within { at ≤ 69 }
     ensures { IsJudged (open_dates_refusal (columns_from at 6 line.now) (columns_from (at + 6) 6 line.now))
@@ -295,7 +295,7 @@ fn open_dates_at(line: &Line, at: usize) -> Result<(Dates, bool), Refusal>
     if columns_at(line, at + 6) == *b"999999" {
         let first: Day = field_or(line, at, Refusal::BadDate)?;
         first.fits();
-        let dates = Dates {
+        let dates = DateRange {
             first,
             last: last_day(),
         };

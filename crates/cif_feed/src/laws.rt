@@ -22,7 +22,7 @@ ghost use Rattle.cif_calendar.specs.Applies.{Applies};
 ghost use Rattle.cif_calendar.specs.Terms.{Terms};
 ghost use Rattle.cif_feed.specs.RecordKeys.{tiploc_key};
 ghost use Rattle.cif_columns.specs.Field.{columns};
-ghost use Rattle.cif_feed.specs.declared.changes.Change.{Change};
+ghost use Rattle.cif_feed.specs.declared.changes.RecordChange.{RecordChange};
 ghost use Rattle.cif_feed.specs.declared.mark.Transaction.TheVariants as transaction;
 ghost use Rattle.cif_feed.specs.declared.published_extract.PublishedAssociation.{PublishedAssociation};
 ghost use Rattle.cif_feed.specs.declared.published_extract.PublishedSchedule.{PublishedSchedule};
@@ -142,12 +142,12 @@ pub fn updates_say_what_their_lines_say()
     ensures schedules { (max : ℕ) (bytes : List ℕ) (u : UpdateParts) → BytesSpellUpdate max bytes u
         → ArePairs SaysSchedule (lines_of is_basic (contents_of bytes)) u.schedules }
     // Two deletions of associations that agree in columns 3 to 21, 38 to 46 and 80 are the same,
-    ensures same_association { (one other : ℕ × List ℕ) (c d : Change AssociationKey PublishedAssociation)
+    ensures same_association { (one other : ℕ × List ℕ) (c d : RecordChange AssociationKey PublishedAssociation)
         → SaysAssociation one c → SaysAssociation other d → transaction_of c.action ≡ transaction.Deleted
         → columns 3 21 one.1 ≡ columns 3 21 other.1 → columns 38 46 one.1 ≡ columns 38 46 other.1
         → columns 80 80 one.1 ≡ columns 80 80 other.1 → c.action ≡ d.action }
     // and two of schedules that agree in columns 3 to 15 and 80.
-    ensures same_schedule { (one other : ℕ × List ℕ) (c d : Change ScheduleKey PublishedSchedule)
+    ensures same_schedule { (one other : ℕ × List ℕ) (c d : RecordChange ScheduleKey PublishedSchedule)
         → SaysSchedule one c → SaysSchedule other d → transaction_of c.action ≡ transaction.Deleted
         → columns 3 15 one.1 ≡ columns 3 15 other.1 → columns 80 80 one.1 ≡ columns 80 80 other.1
         → c.action ≡ d.action }

@@ -23,7 +23,7 @@ mod record_keys;
 mod update;
 mod written;
 
-pub use changes::{Action, Change, Keyed, RefusedLine, Unfit, apply};
+pub use changes::{Action, RecordChange, Keyed, RefusedLine, Unfit, apply};
 pub use dropped::{Dropped, DroppedKey};
 pub use feed::FeedFault;
 pub use feed_answers::{

@@ -17,7 +17,7 @@ use crate::mark::{RecordMark, TiplocMark};
 use crate::published_extract::{FromLine, from_lines, last_of};
 use crate::record_keys::tiploc_key;
 use crate::{
-    Action, Change, Feed, FeedFault, HolidayCodes, Passed, PublishedAssociation, PublishedExtract,
+    Action, RecordChange, Feed, FeedFault, HolidayCodes, Passed, PublishedAssociation, PublishedExtract,
     PublishedSchedule, RefusedLine, Transaction, Unfit, UpdateCounts, apply,
 };
 use cif_columns::{Day, ReadDevice, Source, Stp, Uid};
@@ -33,11 +33,11 @@ pub struct Update {
     /// The number of the header's line.
     pub header_line: u64,
     /// What its TI, TA and TD do. A TA that renames a location does two things.
-    pub tiplocs: Vec<Change<[u8; 7], Tiploc>>,
+    pub tiplocs: Vec<RecordChange<[u8; 7], Tiploc>>,
     /// What its AA do.
-    pub associations: Vec<Change<(AssocKey, Day, Stp), PublishedAssociation>>,
+    pub associations: Vec<RecordChange<(AssocKey, Day, Stp), PublishedAssociation>>,
     /// What its BS do, each with what follows it.
-    pub schedules: Vec<Change<(Uid, Day, Stp), PublishedSchedule>>,
+    pub schedules: Vec<RecordChange<(Uid, Day, Stp), PublishedSchedule>>,
     /// How many lines there are, by what they do.
     pub counts: UpdateCounts,
     /// What was passed over as it was read.
@@ -249,7 +249,7 @@ fn tiploc_changes(
     alloc: Global,
     mut tiplocs: Vec<Tiploc>,
     mut marks: Vec<TiplocMark>,
-) -> Result<Vec<Change<[u8; 7], Tiploc>>, AllocError>
+) -> Result<Vec<RecordChange<[u8; 7], Tiploc>>, AllocError>
     requires { length marks.items ≡ length tiplocs.items }
     ensures { IfOk result (λ changes. changes.items ≡ tiploc_changes tiplocs.items marks.items) }
 {
@@ -263,7 +263,7 @@ fn tiploc_changes(
 
 /// Appends what a TI, a TA or a TD does, the last first.
 fn push_reversed(
-    changes: &mut Vec<Change<[u8; 7], Tiploc>>,
+    changes: &mut Vec<RecordChange<[u8; 7], Tiploc>>,
     tiploc: Tiploc,
     mark: TiplocMark,
 ) -> Result<(), AllocError>
@@ -288,19 +288,19 @@ fn push_reversed(
 
 /// Appends a change.
 fn push(
-    changes: &mut Vec<Change<[u8; 7], Tiploc>>,
+    changes: &mut Vec<RecordChange<[u8; 7], Tiploc>>,
     line: u64,
     action: Action<[u8; 7], Tiploc>,
 ) -> Result<(), AllocError>
     ensures { IfOk result (λ _. changes.new.items
         ≡ changes.old.items ++ record { line = line; action = action } ∷ []) }
 {
-    changes.push(Change { line, action })?;
+    changes.push(RecordChange { line, action })?;
     Ok(())
 }
 
 /// The change that line `line` makes by its transaction: it puts this record, or deletes this key.
-fn change_by<K: Drop, R: Drop>(transaction: Transaction, line: u64, key: K, put: R) -> Change<K, R>
+fn change_by<K: Drop, R: Drop>(transaction: Transaction, line: u64, key: K, put: R) -> RecordChange<K, R>
     ensures { result ≡ change_by transaction line key put }
 {
     let action = match transaction {
@@ -308,10 +308,10 @@ fn change_by<K: Drop, R: Drop>(transaction: Transaction, line: u64, key: K, put:
         Transaction::Revised => Action::Revised(put),
         Transaction::Deleted => Action::Deleted(key),
     };
-    Change { line, action }
+    RecordChange { line, action }
 }
 
-impl FromLine for Change<(AssocKey, Day, Stp), PublishedAssociation> {
+impl FromLine for RecordChange<(AssocKey, Day, Stp), PublishedAssociation> {
     type Record = Association;
 
     ghost use Rattle.cif_feed.specs.Steps.Marks.{IsClosed, last_of_association};
@@ -324,14 +324,14 @@ impl FromLine for Change<(AssocKey, Day, Stp), PublishedAssociation> {
     fn from_line(
         association: Association,
         mark: RecordMark,
-    ) -> Change<(AssocKey, Day, Stp), PublishedAssociation> {
+    ) -> RecordChange<(AssocKey, Day, Stp), PublishedAssociation> {
         let key = (association.key.copy(), association.first, mark.letter);
         let published = PublishedAssociation::from_line(association, mark);
         change_by(mark.transaction, mark.line, key, published)
     }
 }
 
-impl FromLine for Change<(Uid, Day, Stp), PublishedSchedule> {
+impl FromLine for RecordChange<(Uid, Day, Stp), PublishedSchedule> {
     type Record = Schedule;
 
     ghost use Rattle.cif_feed.specs.Steps.Marks.{IsClosed, last_of_schedule};
@@ -344,7 +344,7 @@ impl FromLine for Change<(Uid, Day, Stp), PublishedSchedule> {
     fn from_line(
         schedule: Schedule,
         mark: RecordMark,
-    ) -> Change<(Uid, Day, Stp), PublishedSchedule> {
+    ) -> RecordChange<(Uid, Day, Stp), PublishedSchedule> {
         let key = (schedule.uid, schedule.first, mark.letter);
         let published = PublishedSchedule::from_line(schedule, mark);
         change_by(mark.transaction, mark.line, key, published)

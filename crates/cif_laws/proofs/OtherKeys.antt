@@ -9,13 +9,13 @@ use Rattle.cif_feed.proofs.ChangeLaws.{have_last_word}
 use Rattle.cif_feed.proofs.ListSteps.{Contains-from_map, Contains-map}
 use Rattle.cif_feed.specs.Changes.{AreAfter, AreOfKey, key_of}
 use Rattle.cif_feed.specs.Published.{CountOn, PublishedTerms}
-use Rattle.cif_feed.specs.declared.changes.Change.{Change}
+use Rattle.cif_feed.specs.declared.changes.RecordChange.{RecordChange}
 use Rattle.cif_feed.specs.declared.holidays.Holidays.{Holidays}
 use Rattle.cif_laws.specs.PublishedFeed.{FeedRuns}
 
 -- ---- what is there
 
-module _ {K R : Type 0} (key : R → K) (old : List R) (changes : List (Change K R)) (new : List R) (are : AreAfter key old changes new)
+module _ {K R : Type 0} (key : R → K) (old : List R) (changes : List (RecordChange K R)) (new : List R) (are : AreAfter key old changes new)
     (k : K) (none : All (λ c. key_of key c.action ≢ k) changes) where
   test : R → Bool
   test r = are.same (key r) k
@@ -84,7 +84,7 @@ module _ {K B : Type 0} (h : Holidays) (xs ys : List (K × PublishedTerms B)) (k
 
 -- ---- an update
 
-module _ {K J R B : Type 0} (key : R → K) (part : K → J) (terms : R → PublishedTerms B) (old : List R) (changes : List (Change K R))
+module _ {K J R B : Type 0} (key : R → K) (part : K → J) (terms : R → PublishedTerms B) (old : List R) (changes : List (RecordChange K R))
     (new : List R) (are : AreAfter key old changes new) (j : J) (none : All (λ c. part (key_of key c.action) ≢ j) changes) where
   abbrev entry : R → J × PublishedTerms B
   entry r = (part (key r), terms r)

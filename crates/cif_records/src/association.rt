@@ -5,7 +5,7 @@ ghost use Rattle.cif_columns.specs.LineBuilder.{put_all};
 ghost use Rattle.cif_records.specs.Bodies.{has_body};
 ghost use Rattle.cif_records.specs.Checks.{IsJudged};
 
-use crate::layout::{self, Dates, Layout, check_letters, dates_at, field_or, has_body};
+use crate::layout::{self, DateRange, Layout, check_letters, dates_at, field_or, has_body};
 use cif_columns::{
     Day, DaysRun, Field, Line, LineBuilder, Refusal, Stp, Text, Uid, text_at, uid_at,
 };
@@ -34,7 +34,7 @@ pub struct Association {
 /// On which dates an association applies, and its indicator.
 #[derive(Clone, Copy)]
 struct Applicability {
-    dates: Dates,
+    dates: DateRange,
     days: DaysRun,
     letter: Stp,
 }
@@ -46,7 +46,7 @@ impl Layout for Association {
     ghost table = { association_table };
 
     fn put_rows(&self, line: &mut LineBuilder) {
-        let dates = Dates {
+        let dates = DateRange {
             first: self.first,
             last: self.last,
         };
@@ -156,7 +156,7 @@ impl Association {
             (association_rows key.now first last days Stp.P (Some body.now)) }
     {
         let mut line = LineBuilder::new();
-        let dates = Dates { first, last };
+        let dates = DateRange { first, last };
         Association::put_fields(key, dates, days, Stp::P, body, &mut line);
         line.finish()
     }
@@ -168,12 +168,12 @@ impl Association {
         ensures again { AllStandIn result (rows_on first last self.now) }
     {
         let mut line = LineBuilder::new();
-        self.put_rows_on(Dates { first, last }, &mut line);
+        self.put_rows_on(DateRange { first, last }, &mut line);
         line.finish()
     }
 
     /// Puts its plain columns on an empty line, with these dates in place of its own.
-    fn put_rows_on(&self, dates: Dates, line: &mut LineBuilder)
+    fn put_rows_on(&self, dates: DateRange, line: &mut LineBuilder)
         requires { line.old ≡ [] }
         ensures columns { line.new ≡ put_all [] (rows_on dates.first dates.last self.now) }
         ensures fits { AllFit (rows_on dates.first dates.last self.now) }
@@ -186,7 +186,7 @@ impl Association {
     /// Puts the plain columns of an association with these fields on an empty line.
     fn put_fields(
         key: &AssocKey,
-        dates: Dates,
+        dates: DateRange,
         days: DaysRun,
         letter: Stp,
         body: &AssocBody,

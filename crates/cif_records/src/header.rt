@@ -7,7 +7,7 @@ ghost use Rattle.cif_columns.specs.Line.{ArePrintable};
 ghost use Rattle.cif_records.specs.Checks.{IsJudged};
 ghost use Rattle.cif_records.specs.HeaderColumns.{IsFull, kept, with_window as columns_with_window};
 
-use crate::layout::{self, Dates, Layout, check_letters, window_date_at};
+use crate::layout::{self, DateRange, Layout, check_letters, window_date_at};
 use cif_columns::{Day, Line, LineBuilder, Refusal, columns_at};
 use std::fmt;
 
@@ -97,7 +97,7 @@ impl Header {
 
     /// The window of the header that the line spells, or the first reason in column order why it spells none.
     #[tactic(auto, unfolding(crate::specs::Header::header_refusal_by))]
-    fn window_at(line: &Line, indicator: &[u8; 1]) -> Result<Dates, Refusal>
+    fn window_at(line: &Line, indicator: &[u8; 1]) -> Result<DateRange, Refusal>
         ensures { IsJudged (header_refusal_by indicator.now line.now)
             (λ dates. (columns 1 2 line.now ≡ codes "HD")
             × (columns 47 47 line.now ≡ indicator.now)
@@ -109,7 +109,7 @@ impl Header {
         let first = window_date_at(line, 49)?;
         let last = window_date_at(line, 55)?;
         if first <= last {
-            Ok(Dates { first, last })
+            Ok(DateRange { first, last })
         } else {
             Err(Refusal::DatesReversed)
         }

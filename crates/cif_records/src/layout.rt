@@ -79,14 +79,14 @@ pub fn field_or<F: Field>(line: &Line, at: usize, why: Refusal) -> Result<F, Ref
 
 /// The first and the last date of a record.
 #[derive(Clone, Copy)]
-pub struct Dates {
+pub struct DateRange {
     pub first: Day,
     pub last: Day,
     ghost in_order: { first ≤ last },
 }
 
 /// The dates in the twelve columns of a line from `at` on, counted from 1.
-pub fn dates_at(line: &Line, at: usize) -> Result<Dates, Refusal>
+pub fn dates_at(line: &Line, at: usize) -> Result<DateRange, Refusal>
     requires from_one { 1 ≤ at }
     requires within { at ≤ 69 }
     ensures { IsJudged
@@ -97,7 +97,7 @@ pub fn dates_at(line: &Line, at: usize) -> Result<Dates, Refusal>
     let first = field_or(line, at, Refusal::BadDate)?;
     let last = last_date_at(line, at + 6)?;
     if first <= last {
-        Ok(Dates { first, last })
+        Ok(DateRange { first, last })
     } else {
         Err(Refusal::DatesReversed)
     }

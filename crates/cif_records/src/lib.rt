@@ -22,7 +22,7 @@ pub use change::Change;
 pub use detail::Detail;
 pub use extra::Extra;
 pub use header::Header;
-pub use layout::{Dates, dates_at, field_or};
+pub use layout::{DateRange, dates_at, field_or};
 pub use origin::Origin;
 pub use record::{Kind, Record, is_plain_line, kind_of, plain_line_of, read_record, write_record};
 pub use stop::Stop;

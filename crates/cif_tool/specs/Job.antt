@@ -15,7 +15,7 @@ use Rattle.cif_weeks.specs.declared.form.Form.{Form}
 use Rattle.cif_weeks.specs.declared.form.Form.TheVariants.{One, Two}
 use Rattle.cif_tool.specs.CommandLine.{AreChoices, chosen, faults_of}
 use Rattle.cif_tool.specs.declared.command_line.Choices.{Choices}
-use Rattle.cif_tool.specs.declared.job.Call.{Call}
+use Rattle.cif_tool.specs.declared.job.Request.{Request}
 use Rattle.cif_tool.specs.declared.job.FeedJob.{FeedJob}
 use Rattle.cif_tool.specs.declared.job.FeedJob.TheVariants.{Prepare, Update}
 use Rattle.cif_tool.specs.declared.job.InputNames.{InputNames}
@@ -155,15 +155,15 @@ IsTaskChosen (Extract job) = IsChosen job
 IsTaskChosen (Feed job) = IsFeedChosen job
 
 -- the same of a call, which has the names of the inputs, of which at most one is standard input
-pub record IsCallChosen (call : Call) (met : Text × List Row) : Type 0 where
-  pub task : IsTaskChosen call.task met
-  pub inputs : names_of call.inputs ≡ inputs_of met
-  pub one_standard : standard_inputs (names_of call.inputs) ≤ 1
-  pub verbose : call.verbose ≡ has_flag (codes "verbose") met.1
+pub record IsRequestChosen (request : Request) (met : Text × List Row) : Type 0 where
+  pub task : IsTaskChosen request.task met
+  pub inputs : names_of request.inputs ≡ inputs_of met
+  pub one_standard : standard_inputs (names_of request.inputs) ≤ 1
+  pub verbose : request.verbose ≡ has_flag (codes "verbose") met.1
 
 -- `clap` takes the words, enters the task's subcommand and finds what the call holds
-pub record Asks (words : List Text) (call : Call) : Type 0 where
+pub record Asks (words : List Text) (request : Request) : Type 0 where
   pub choices : Choices
   pub are_choices : AreChoices choices
   pub taken : faults_of choices words ≡ []
-  pub is_chosen : IsSomeAnd (chosen choices words) (IsCallChosen call)
+  pub is_chosen : IsSomeAnd (chosen choices words) (IsRequestChosen request)

@@ -1,7 +1,7 @@
 //! What `--verbose` says on standard error of a job that was done, beyond the line that names its fault. It is said when
 //! the answer is decided, and changes nothing of it.
 use crate::answers::Kept;
-use crate::devices::{ExtractInput, Written};
+use crate::devices::{ExtractInput, OutputState};
 use crate::job::Job;
 use crate::line_advice::Reader;
 use crate::message::{Detail, Message};
@@ -21,7 +21,7 @@ pub(crate) struct DoneJob<'a, 'b> {
     pub(crate) detail: Detail,
     pub(crate) job: &'a Job,
     /// What became of the output.
-    pub(crate) written: &'a Written,
+    pub(crate) written: &'a OutputState,
     pub(crate) left: &'a ExtractInput<'b>,
     /// A job with one input has read nothing of it.
     pub(crate) right: &'a ExtractInput<'b>,
@@ -153,7 +153,7 @@ fn add_records_of(extract: &Extract, uid: &Uid, message: &mut Message) {
     });
 }
 
-impl Written {
+impl OutputState {
     /// Whether there is a line in the output that isn't the heading of a table.
     fn has_row(&self, format: Format) -> bool {
         match format {

@@ -224,17 +224,17 @@ impl ReadDevice for ExtractInput<'_> {
 
 /// What became of an output.
 #[derive(Clone, Copy)]
-pub(crate) struct Written {
+pub(crate) struct OutputState {
     /// How many lines were written, of which no more than two are counted.
     pub(crate) lines: u8,
     /// The system's number of the error that a write ended with.
     pub(crate) failure: Option<i32>,
 }
 
-impl Written {
+impl OutputState {
     /// Nothing was written yet.
     pub(crate) fn new() -> Self {
-        Written {
+        OutputState {
             lines: 0,
             failure: None,
         }
@@ -257,7 +257,7 @@ impl Written {
 #[derive(Drop)]
 pub(crate) struct Output<'a> {
     pub(crate) writer: Stdout,
-    pub(crate) written: &'a mut Written,
+    pub(crate) written: &'a mut OutputState,
 }
 
 impl Write for Output<'_> {

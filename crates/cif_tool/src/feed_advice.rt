@@ -1,5 +1,5 @@
 //! What `--verbose` says of a fault of `prepare` or `update`.
-use crate::devices::{ExtractInput, Written};
+use crate::devices::{ExtractInput, OutputState};
 use crate::input_advice::{FULL_FIRST, other_format};
 use crate::line_advice::Reader;
 use crate::message::{Message, shown};
@@ -19,7 +19,7 @@ impl ExtractInput<'_> {
         &self,
         fault: &FeedFault,
         reader: Reader,
-        written: &Written,
+        written: &OutputState,
         message: &mut Message,
     ) {
         match fault {

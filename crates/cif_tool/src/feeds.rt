@@ -1,7 +1,7 @@
 //! From a call that reads published extracts to its status: its inputs are opened here, and `--verbose` says more.
 //! What is read, done, written and told is said by the clauses of the functions that are called.
-use crate::devices::{ExtractInput, Output, Written, buffered};
-use crate::job::{Call, FeedJob, InputNames, PrepareJob, UpdateJob};
+use crate::devices::{ExtractInput, Output, OutputState, buffered};
+use crate::job::{Request, FeedJob, InputNames, PrepareJob, UpdateJob};
 use crate::line_advice::Reader;
 use crate::message::{Detail, Message};
 use crate::run::{run_prepare, run_update};
@@ -21,12 +21,12 @@ use std::mem::ManuallyDrop;
 pub(crate) fn feed_task(
     rt: HostRuntime,
     job: &FeedJob,
-    call: &Call,
+    request: &Request,
     errors: &mut Sink<Stderr>,
 ) -> u8 {
     match job {
-        FeedJob::Prepare(job) => prepare(rt, job, call, errors),
-        FeedJob::Update(job) => update(rt, job, call, errors),
+        FeedJob::Prepare(job) => prepare(rt, job, request, errors),
+        FeedJob::Update(job) => update(rt, job, request, errors),
     }
 }
 
@@ -68,15 +68,15 @@ fn boxed_source<'a>(
 /// Writes the prepared extract of the last input, with the holidays of the one before it, if there is one.
 // Inlined, it would keep its inputs on the stack beside those of `update`.
 #[inline(never)]
-fn prepare(rt: HostRuntime, job: &PrepareJob, call: &Call, errors: &mut Sink<Stderr>) -> u8 {
+fn prepare(rt: HostRuntime, job: &PrepareJob, request: &Request, errors: &mut Sink<Stderr>) -> u8 {
     let alloc = rt.alloc();
-    let detail = Detail::of(rt, call.verbose);
-    let mut holidays = source_of_holidays(rt, &call.inputs, detail);
-    let file = call.inputs.rest.first().unwrap_or(&call.inputs.first);
+    let detail = Detail::of(rt, request.verbose);
+    let mut holidays = source_of_holidays(rt, &request.inputs, detail);
+    let file = request.inputs.rest.first().unwrap_or(&request.inputs.first);
     let Ok(mut source) = boxed_source(rt, file, detail) else {
         return end(&Err(Fault::Memory), errors);
     };
-    let mut written = Written::new();
+    let mut written = OutputState::new();
     let output = Output {
         writer: rt.stdout(),
         written: &mut written,
@@ -168,16 +168,16 @@ fn sources_of<'a>(
 
 /// Writes what the updates make of the full extract, the first input.
 #[inline(never)]
-fn update(rt: HostRuntime, job: &UpdateJob, call: &Call, errors: &mut Sink<Stderr>) -> u8 {
+fn update(rt: HostRuntime, job: &UpdateJob, request: &Request, errors: &mut Sink<Stderr>) -> u8 {
     let alloc = rt.alloc();
-    let detail = Detail::of(rt, call.verbose);
-    let Ok(mut sources) = sources_of(rt, &call.inputs, detail) else {
+    let detail = Detail::of(rt, request.verbose);
+    let Ok(mut sources) = sources_of(rt, &request.inputs, detail) else {
         return end(&Err(Fault::Memory), errors);
     };
     let Some((full, updates)) = sources.split_first_mut() else {
         return DONE;
     };
-    let mut written = Written::new();
+    let mut written = OutputState::new();
     let output = Output {
         writer: rt.stdout(),
         written: &mut written,
@@ -213,7 +213,7 @@ fn add_undone(
     input: &ExtractInput<'_>,
     fault: &FeedFault,
     kept: &KeptUpdate,
-    written: &Written,
+    written: &OutputState,
     message: &mut Message,
 ) {
     match fault {

@@ -12,7 +12,7 @@ use std::alloc::AllocError;
 
 /// What a call of `cif` asks for.
 #[derive(Drop)]
-pub struct Call {
+pub struct Request {
     pub task: Task,
     pub inputs: InputNames,
     /// Whether it is to say more on standard error.

@@ -1,9 +1,9 @@
 //! From the words of the process to its status. No clause says what is done here: the rows of `tests/`
 //! show it on the built program.
 use crate::advice::DoneJob;
-use crate::devices::{ExtractInput, Output, Written, buffered};
+use crate::devices::{ExtractInput, Output, OutputState, buffered};
 use crate::feeds::feed_task;
-use crate::job::{Call, Job, JobFault, Task};
+use crate::job::{Request, Job, JobFault, Task};
 use crate::message::Detail;
 use crate::run::{run_fault, run_job};
 use crate::status::{USAGE_ERROR, end};
@@ -39,9 +39,9 @@ pub fn run(rt: HostRuntime) -> u8 {
 /// Does what these words ask for, and returns the status to exit with.
 fn run_words(rt: HostRuntime, words: Vec<String>, errors: &mut Sink<Stderr>) -> u8 {
     match task_of(rt.alloc(), words) {
-        Ok(call) => match &call.task {
-            Task::Extract(job) => done(rt, job, &call, errors),
-            Task::Feed(job) => feed_task(rt, job, &call, errors),
+        Ok(request) => match &request.task {
+            Task::Extract(job) => done(rt, job, &request, errors),
+            Task::Feed(job) => feed_task(rt, job, &request, errors),
         },
         Err(fault) => refused(rt, fault, errors),
     }
@@ -85,23 +85,23 @@ fn boxed_source<'a>(
 /// Answers the job on the standard output, and returns the status to exit with.
 // Inlined, it would keep its inputs on the stack while a feed is read.
 #[inline(never)]
-fn done(rt: HostRuntime, job: &Job, call: &Call, errors: &mut Sink<Stderr>) -> u8 {
+fn done(rt: HostRuntime, job: &Job, request: &Request, errors: &mut Sink<Stderr>) -> u8 {
     // Of a job with one input `right` stands for no file, and is never touched.
-    let right_file = call.inputs.rest.first().map(String::as_str);
+    let right_file = request.inputs.rest.first().map(String::as_str);
     let (side, right_side) = match right_file {
         Some(_) => ("LEFT", "RIGHT"),
         None => ("", ""),
     };
     let alloc = rt.alloc();
-    let detail = Detail::of(rt, call.verbose);
-    let left_file = Some(call.inputs.first.as_str());
+    let detail = Detail::of(rt, request.verbose);
+    let left_file = Some(request.inputs.first.as_str());
     let Ok(mut left) = boxed_source(rt, side, left_file, detail) else {
         return end(&Err(Fault::Memory), errors);
     };
     let Ok(mut right) = boxed_source(rt, right_side, right_file, detail) else {
         return end(&Err(Fault::Memory), errors);
     };
-    let mut written = Written::new();
+    let mut written = OutputState::new();
     let output = Output {
         writer: rt.stdout(),
         written: &mut written,

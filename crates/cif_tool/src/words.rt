@@ -4,7 +4,7 @@ ghost use Rattle.std.specs.Prelude.{MatchOption, String, codes, false, map, opti
 ghost use Rattle.clap.specs.Words.{all_of, first_of, found_of, kind_of, rows_of, subcommand_rows_of};
 ghost use Rattle.cif_columns.specs.Day.{StandsInYymmdd};
 ghost use Rattle.cif_tool.specs.CommandLine.{feed_subcommands};
-ghost use Rattle.cif_tool.specs.Job.{AreCanonicalWords, AreComparedWords, Asks, IsAskedBy, IsCallChosen, IsChosen, IsDateOf, IsTaskChosen};
+ghost use Rattle.cif_tool.specs.Job.{AreCanonicalWords, AreComparedWords, Asks, IsAskedBy, IsRequestChosen, IsChosen, IsDateOf, IsTaskChosen};
 ghost use Rattle.cif_tool.specs.Job.{IsUidWord, file_of, form_of, format_of, has_flag, inputs_of, is_standard, listing_of, names_of};
 ghost use Rattle.cif_tool.specs.Job.{required_word, standard_inputs, table_of};
 ghost use Rattle.cif_tool.specs.JobFault.{HasBadDate, HasBadWindow, IsAskedFor, IsEnteredFault};
@@ -12,7 +12,7 @@ ghost use Rattle.cif_tool.specs.JobFault.{IsFaultOf, IsNoUid, IsNoneOf, NamesNoD
 
 use crate::command_line::{all_choices, matches_of};
 use crate::job::{
-    CalendarJob, Call, CanonicalJob, CompareJob, DayJob, DiffJob, ExplainJob, FeedJob, InputNames,
+    CalendarJob, Request, CanonicalJob, CompareJob, DayJob, DiffJob, ExplainJob, FeedJob, InputNames,
     Inputs, Job, JobFault, PrepareJob, TableJob, Task, TrainJob, UpdateJob,
 };
 use crate::message::{Detail, Escaped};
@@ -32,12 +32,12 @@ use std::alloc::{AllocError, Global};
 /// `clap` or in this call itself.
 // Inlined, it would keep `clap`'s 25 KiB on the stack while the job is done.
 #[inline(never)]
-pub fn task_of(alloc: Global, words: Vec<String>) -> Result<Call, JobFault>
+pub fn task_of(alloc: Global, words: Vec<String>) -> Result<Request, JobFault>
     ensures asked { IfOk result (Asks (map string_bytes words.items)) }
     ensures refused { IfErr result (IsFaultOf (map string_bytes words.items)) }
 {
     match matches_of(alloc, &all_choices(), words.as_slice()) {
-        Ok(matches) => chosen_call(alloc, &matches),
+        Ok(matches) => chosen_request(alloc, &matches),
         Err(error) => Err(fault_of_error(alloc, &error)),
     }
 }
@@ -102,26 +102,26 @@ fn text_of_error(alloc: Global, error: &clap::Error) -> Result<String, AllocErro
 // ---- the jobs
 
 /// What the subcommand that was entered asks for.
-fn chosen_call(alloc: Global, matches: &ArgMatches<'_>) -> Result<Call, JobFault>
-    ensures ok { IfOk result (λ call. IsSomeAnd (subcommand_rows_of matches.now) (IsCallChosen call)) }
+fn chosen_request(alloc: Global, matches: &ArgMatches<'_>) -> Result<Request, JobFault>
+    ensures ok { IfOk result (λ request. IsSomeAnd (subcommand_rows_of matches.now) (IsRequestChosen request)) }
     ensures err { IfErr result (IsEnteredFault (subcommand_rows_of matches.now)) }
 {
     match matches.subcommand() {
-        Some((name, inner)) => named_call(alloc, name, inner),
+        Some((name, inner)) => named_request(alloc, name, inner),
         None => Err(JobFault::NoCommand),
     }
 }
 
 /// What the subcommand of this name asks for.
-fn named_call(alloc: Global, name: &str, matches: &ArgMatches<'_>) -> Result<Call, JobFault>
-    ensures { IsAskedFor IsCallChosen (name.now, rows_of (found_of matches.now)) result }
+fn named_request(alloc: Global, name: &str, matches: &ArgMatches<'_>) -> Result<Request, JobFault>
+    ensures { IsAskedFor IsRequestChosen (name.now, rows_of (found_of matches.now)) result }
 {
     let task = named_task(name, matches)?;
     let inputs = inputs_of(alloc, name, matches)?;
     if share_standard(&inputs) {
         return Err(JobFault::StandardInputTwice(several_of(name)));
     }
-    Ok(Call {
+    Ok(Request {
         task,
         inputs,
         verbose: has_flag(matches, "verbose"),
