@@ -9,7 +9,7 @@ ghost use Rattle.cif_calendar.specs.Entries.{schedule_entries};
 ghost use Rattle.cif_canon.specs.Steps.Texts.{HasRecord, body_at, record_at, run_text, schedule_run_text};
 ghost use Rattle.cif_canon.specs.Appended.{IsAppended};
 
-use crate::records::AT_ONCE;
+use crate::extract_runs::AT_ONCE;
 use crate::writing::{Texts, answer, write_each};
 use arrayvec::ArrayString;
 use cif_calendar::Entry;

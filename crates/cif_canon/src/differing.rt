@@ -13,9 +13,9 @@ ghost use Rattle.cif_weeks.specs.Window.{window_days};
 ghost use Rattle.cif_canon.specs.declared.differing.Extent.TheVariants.{FirstKey};
 
 use crate::Differences;
+use crate::extract_runs::extract_runs;
 use crate::listed_differences::{Side, Sided, push_next};
 use crate::only_days::{are_alike, only_runs};
-use crate::records::extract_runs;
 use crate::tiplocs::different_tiplocs;
 use cif_calendar::{Calendar, CalendarFault, Entry, Window, calendar, first_key, positions_by_key};
 use cif_extract::{Extract, Fault};

@@ -10,7 +10,7 @@ ghost use Rattle.cif_canon.specs.Fault.{IsCanonFault, reading_narrowed};
 ghost use Rattle.cif_canon.specs.Normalised.{FaultWrites, HasCanon, Normalises, reading_canon, checking, normalising};
 ghost use Rattle.cif_canon.specs.Report.{fault_line};
 
-use crate::records::extract_runs;
+use crate::extract_runs::extract_runs;
 use crate::tiplocs::distinct_tiplocs;
 use crate::{Asked, Canon, Counts, narrow};
 use arrayvec::ArrayString;

@@ -10,7 +10,7 @@ ghost use Rattle.cif_canon.specs.Views.{IsDayFault, IsDayListed, IsDayView, IsTr
 
 use crate::asked::check_within;
 use crate::canonical_form::{CanonRecord, write_runs};
-use crate::records::extract_runs;
+use crate::extract_runs::extract_runs;
 use crate::rows::{Format, LONGEST_ROW, association_row, schedule_row, train_row};
 use crate::writing::{Texts, answer, append};
 use arrayvec::ArrayString;

@@ -181,8 +181,8 @@ pub use Rattle.cif_feed.specs.declared.changes.RecordChange.{RecordChange}
 pub use Rattle.cif_feed.specs.declared.changes.RefusedLine.{RefusedLine}
 pub use Rattle.cif_feed.specs.declared.dropped.Dropped.{Dropped}
 pub use Rattle.cif_feed.specs.declared.dropped.DroppedKey.{DroppedKey}
-pub use Rattle.cif_feed.specs.declared.feed.FeedFault.{FeedFault}
-pub use Rattle.cif_feed.specs.declared.feed.FeedFault.TheVariants.{AlreadyThere, BadTransaction, Extract, NotThere, NotUpdate}
+pub use Rattle.cif_feed.specs.declared.feed_fault.FeedFault.{FeedFault}
+pub use Rattle.cif_feed.specs.declared.feed_fault.FeedFault.TheVariants.{AlreadyThere, BadTransaction, Extract, NotThere, NotUpdate}
 pub use Rattle.cif_feed.specs.declared.feed_line.Feed.{Feed}
 pub use Rattle.cif_feed.specs.declared.feed_line.Feed.TheVariants.{Full}
 pub use Rattle.cif_feed.specs.declared.feed_reading.FeedExtract.{FeedExtract}
@@ -194,8 +194,8 @@ pub use Rattle.cif_feed.specs.declared.holidays.Holidays.{Holidays}
 pub use Rattle.cif_feed.specs.declared.mark.RecordMark.{RecordMark}
 pub use Rattle.cif_feed.specs.declared.mark.TiplocMark.{TiplocMark}
 pub use Rattle.cif_feed.specs.declared.mark.Transaction.{Transaction}
-pub use Rattle.cif_feed.specs.declared.parts.PreparedRecord.{PreparedRecord}
-pub use Rattle.cif_feed.specs.declared.parts.RisingDays.{RisingDays}
+pub use Rattle.cif_feed.specs.declared.prepared_record.PreparedRecord.{PreparedRecord}
+pub use Rattle.cif_feed.specs.declared.prepared_record.RisingDays.{RisingDays}
 pub use Rattle.cif_feed.specs.declared.published_extract.PublishedAssociation.{PublishedAssociation}
 pub use Rattle.cif_feed.specs.declared.published_extract.PublishedExtract.{PublishedExtract}
 pub use Rattle.cif_feed.specs.declared.published_extract.PublishedSchedule.{PublishedSchedule}

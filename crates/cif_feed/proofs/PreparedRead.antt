@@ -14,7 +14,7 @@ use Rattle.cif_feed.specs.FeedFault.{of_holiday_fault}
 use Rattle.cif_feed.specs.HolidayText.{is_holiday_read}
 use Rattle.cif_feed.specs.WrittenPrepared.{IsPrepareFault as IsOnePrepareFault}
 use Rattle.cif_feed.specs.declared.dropped.Dropped.{Dropped}
-use Rattle.cif_feed.specs.declared.feed.FeedFault.TheVariants.{Extract}
+use Rattle.cif_feed.specs.declared.feed_fault.FeedFault.TheVariants.{Extract}
 use Rattle.cif_feed.specs.declared.feed_line.Feed.TheVariants.{Full}
 use Rattle.cif_feed.specs.declared.holiday_text.HolidayFault.{HolidayFault}
 use Rattle.cif_feed.specs.declared.holiday_text.HolidayFault.TheVariants.{BadHoliday, Memory, Read}

@@ -12,7 +12,7 @@ use Rattle.cif_feed.proofs.FittingUpdates.{updated_fits}
 use Rattle.cif_feed.proofs.PublishedTexts.{may_any, published-lines, published-spells, said_fits}
 use Rattle.cif_feed.proofs.SpelledFeeds.{one_published, one_update, spelled_first, update_blames_none}
 use Rattle.cif_feed.specs.UpdatesInTurn.{AreUpdatesDone, IsOneRefused, IsRefused, IsRefusedFor, IsWritten}
-use Rattle.cif_feed.specs.declared.feed.FeedFault.TheVariants.{OutOfSequence}
+use Rattle.cif_feed.specs.declared.feed_fault.FeedFault.TheVariants.{OutOfSequence}
 use Rattle.cif_feed.specs.declared.feed_line.Feed.TheVariants as feed
 use Rattle.cif_feed.specs.declared.update.Outcome.{Outcome}
 use Rattle.cif_feed.specs.declared.update.Update.{Update}

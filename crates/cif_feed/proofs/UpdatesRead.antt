@@ -11,13 +11,13 @@ use Rattle.cif_feed.specs.FeedAnswer.{IsUpdateFault, OfUpdates, UpdateTold, coun
 use Rattle.cif_columns.specs.declared.line_reader.TheConstants.{MAX_LINES}
 use Rattle.cif_extract.specs.ReadCall.{ReadCall}
 use Rattle.cif_extract.specs.declared.fault.Fault.TheVariants.{Write}
-use Rattle.cif_feed.specs.declared.feed.FeedFault.TheVariants.{OutOfSequence}
+use Rattle.cif_feed.specs.declared.feed_fault.FeedFault.TheVariants.{OutOfSequence}
 use Rattle.cif_columns.specs.declared.sink.WriteFault.{WriteFault}
 use Rattle.cif_extract.specs.declared.fault.Fault.TheVariants.{Memory, Read, Refused}
 use Rattle.cif_feed.specs.Updated.{IsOfUpdate, IsOutcomeOf, IsUpdateFault as IsOneUpdateFault}
 use Rattle.cif_feed.specs.UpdatesInTurn.{AreUpdatesDone, IsOneRefused, IsRefusedFor}
 use Rattle.cif_feed.specs.declared.changes.Unfit.TheVariants as unfit
-use Rattle.cif_feed.specs.declared.feed.FeedFault.TheVariants.{BadHoliday, Extract}
+use Rattle.cif_feed.specs.declared.feed_fault.FeedFault.TheVariants.{BadHoliday, Extract}
 use Rattle.cif_feed.specs.declared.holidays.HolidayCodes.{HolidayCodes}
 use Rattle.cif_feed.specs.declared.update.Outcome.{Outcome}
 use Rattle.cif_feed.specs.declared.feed_answers.DoneUpdate.{DoneUpdate}

@@ -10,8 +10,8 @@ use Rattle.cif_extract.specs.declared.fault.Fault.TheVariants.{Refused, Read, Me
 use Rattle.cif_feed.specs.FeedRefusal.{IsFeedContent, IsFeedCut, IsFirstOfFeed}
 use Rattle.cif_feed.specs.SpellsFeed.{BytesSpellFeed, feed_parts}
 use Rattle.cif_feed.specs.declared.feed_line.Feed.{Feed}
-use Rattle.cif_feed.specs.declared.feed.FeedFault.{FeedFault}
-use Rattle.cif_feed.specs.declared.feed.FeedFault.TheVariants.{BadHoliday, BadTransaction, Extract, NotUpdate}
+use Rattle.cif_feed.specs.declared.feed_fault.FeedFault.{FeedFault}
+use Rattle.cif_feed.specs.declared.feed_fault.FeedFault.TheVariants.{BadHoliday, BadTransaction, Extract, NotUpdate}
 use Rattle.cif_feed.specs.declared.feed_reading.FeedExtract.{FeedExtract}
 use Rattle.cif_feed.specs.declared.holidays.HolidayCodes.{HolidayCodes}
 use Rattle.cif_feed.specs.declared.holiday_text.HolidayFault.{HolidayFault}

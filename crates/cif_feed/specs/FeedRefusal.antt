@@ -21,8 +21,8 @@ use Rattle.cif_feed.specs.FeedLayouts.{feed_layouts}
 use Rattle.cif_feed.specs.RecordLines.{is_note, notes_may_stand, record_lines}
 use Rattle.cif_feed.specs.declared.feed_line.Feed.{Feed}
 use Rattle.cif_feed.specs.declared.feed_line.Feed.TheVariants.{Full, Update}
-use Rattle.cif_feed.specs.declared.feed.FeedFault.{FeedFault}
-use Rattle.cif_feed.specs.declared.feed.FeedFault.TheVariants.{Extract, NotUpdate, BadTransaction}
+use Rattle.cif_feed.specs.declared.feed_fault.FeedFault.{FeedFault}
+use Rattle.cif_feed.specs.declared.feed_fault.FeedFault.TheVariants.{Extract, NotUpdate, BadTransaction}
 use Rattle.cif_feed.specs.declared.holidays.HolidayCodes.{HolidayCodes}
 
 -- a content that says something or is refused: a comment, or a line

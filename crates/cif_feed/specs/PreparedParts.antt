@@ -9,7 +9,7 @@ use Rattle.cif_feed.specs.Prepared.{ArePrepared}
 use Rattle.cif_feed.specs.Published.{IsStop}
 use Rattle.cif_feed.specs.PublishedParts.{PublishedParts, published_associations, published_schedules}
 use Rattle.cif_feed.specs.declared.holidays.Holidays.{Holidays}
-use Rattle.cif_feed.specs.declared.parts.PreparedRecord.{PreparedRecord}
+use Rattle.cif_feed.specs.declared.prepared_record.PreparedRecord.{PreparedRecord}
 use Rattle.cif_feed.specs.declared.published_extract.PublishedExtract.{PublishedExtract}
 
 -- an association, and a schedule, of a published extract with the dates that it has in the prepared one

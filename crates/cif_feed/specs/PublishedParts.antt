@@ -23,7 +23,7 @@ use Rattle.cif_feed.specs.Published.{PublishedTerms}
 use Rattle.cif_feed.specs.SpellsFeed.{FeedParts, SpellFeed}
 use Rattle.cif_feed.specs.WrittenOver.{with_code, with_open_end}
 use Rattle.cif_feed.specs.declared.feed_line.Feed.TheVariants.{Full}
-use Rattle.cif_feed.specs.declared.feed.FeedFault.{FeedFault}
+use Rattle.cif_feed.specs.declared.feed_fault.FeedFault.{FeedFault}
 use Rattle.cif_feed.specs.declared.holidays.HolidayCodes.{HolidayCodes}
 use Rattle.cif_feed.specs.declared.mark.RecordMark.{RecordMark}
 use Rattle.cif_feed.specs.declared.published_extract.PublishedAssociation.{PublishedAssociation}

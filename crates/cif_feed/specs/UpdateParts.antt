@@ -20,7 +20,7 @@ use Rattle.cif_feed.specs.SpellsFeed.{FeedParts, SpellFeed}
 use Rattle.cif_feed.specs.declared.changes.Action.TheVariants.{New, Revised, Deleted}
 use Rattle.cif_feed.specs.declared.changes.RecordChange.{RecordChange}
 use Rattle.cif_feed.specs.declared.feed_line.Feed.TheVariants.{Update}
-use Rattle.cif_feed.specs.declared.feed.FeedFault.{FeedFault}
+use Rattle.cif_feed.specs.declared.feed_fault.FeedFault.{FeedFault}
 use Rattle.cif_feed.specs.declared.mark.RecordMark.{RecordMark}
 use Rattle.cif_feed.specs.declared.mark.TiplocMark.{TiplocMark}
 use Rattle.cif_feed.specs.declared.mark.Transaction.{Transaction}

@@ -7,7 +7,7 @@ use Rattle.cif_feed.specs.PublishedParts.{BytesSpellPublished, PublishedParts, p
 use Rattle.cif_feed.specs.Updated.{IsLineRefused, IsUpdatedBy, refused_fault}
 use Rattle.cif_feed.specs.declared.changes.RefusedLine.{RefusedLine}
 use Rattle.cif_feed.specs.declared.feed_line.Feed.TheVariants.{Update}
-use Rattle.cif_feed.specs.declared.feed.FeedFault.{FeedFault}
+use Rattle.cif_feed.specs.declared.feed_fault.FeedFault.{FeedFault}
 
 -- The updates that these bytes spell are done to a published extract, one after another. The lines that are waived are those of the one
 -- update after those of the other.

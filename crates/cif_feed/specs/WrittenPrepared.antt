@@ -14,8 +14,8 @@ use Rattle.cif_feed.specs.PreparedParts.{IsPrepared}
 use Rattle.cif_feed.specs.PublishedParts.{BytesSpellPublished, IsPublishedOf, PublishedParts}
 use Rattle.cif_feed.specs.declared.dropped.Dropped.{Dropped}
 use Rattle.cif_feed.specs.declared.feed_line.Feed.TheVariants.{Full}
-use Rattle.cif_feed.specs.declared.feed.FeedFault.{FeedFault}
-use Rattle.cif_feed.specs.declared.feed.FeedFault.TheVariants.{Extract}
+use Rattle.cif_feed.specs.declared.feed_fault.FeedFault.{FeedFault}
+use Rattle.cif_feed.specs.declared.feed_fault.FeedFault.TheVariants.{Extract}
 use Rattle.cif_feed.specs.declared.holidays.HolidayCodes.{HolidayCodes}
 use Rattle.cif_feed.specs.declared.holidays.Holidays.{Holidays}
 use Rattle.cif_feed.specs.declared.published_extract.PublishedExtract.{PublishedExtract}

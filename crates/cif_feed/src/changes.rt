@@ -224,7 +224,11 @@ fn put_last<R: Keyed + Drop>(
 }
 
 /// Whether the change at this position is the last of its key.
-fn is_last<R: Keyed>(change: &RecordChange<R::Key, R>, at: usize, last: &BTreeMap<R::Rank, usize>) -> bool
+fn is_last<R: Keyed>(
+    change: &RecordChange<R::Key, R>,
+    at: usize,
+    last: &BTreeMap<R::Rank, usize>,
+) -> bool
     ensures { result ≡ is_position (get R.Rank.cmp last.now (R.rank (parts_of R.key change.now).key)) at }
 {
     match last.get(&rank_of::<R>(change)) {

@@ -14,8 +14,8 @@ ghost use Rattle.cif_feed.specs.declared.published_extract.PublishedSchedule.{Pu
 ghost use Rattle.cif_records.specs.AssocKey.{key_cmp};
 ghost use Rattle.cif_records.specs.declared.association.AssocKey.{AssocKey};
 
-use crate::parts::from_day;
 use crate::prepare::{ClashDates, dates_of, prepared_last};
+use crate::prepared_record::from_day;
 use crate::{HolidayCode, Holidays, PublishedExtract, PublishedSchedule};
 use cif_calendar::{Dates, Entry};
 use cif_columns::Day;

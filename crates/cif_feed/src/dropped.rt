@@ -8,8 +8,8 @@ ghost use Rattle.cif_feed.specs.Steps.Dropping.{AreFound, IsKeyTold, IsTold, pub
 
 use crate::Holidays;
 use crate::counting::counted_clash_dates;
-use crate::parts::RisingDays;
 use crate::prepare::ClashDates;
+use crate::prepared_record::RisingDays;
 use crate::published_entry::PublishedEntry;
 use arrayvec::ArrayString;
 use cif_calendar::{NamedEntry, Window, count_of_first_key, positions_by_key};

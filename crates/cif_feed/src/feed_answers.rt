@@ -10,7 +10,7 @@ ghost use Rattle.cif_feed.specs.FeedAnswer.{IsOneDone, IsPrepareAnswer, IsPrepar
 ghost use Rattle.cif_feed.specs.FeedAnswer.{IsUpdateFault, OfHolidays, OfUpdates, looks_prepared, told_of};
 
 use crate::dropped::Dropped;
-use crate::feed::FeedFault;
+use crate::feed_fault::FeedFault;
 use crate::holidays::{HolidayCodes, Holidays};
 use crate::mark::{Passed, UpdateCounts};
 use crate::prepare::write_prepared;

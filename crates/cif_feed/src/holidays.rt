@@ -3,7 +3,7 @@ ghost use Rattle.std.specs.Prelude.{◌≡◌, ◌<◌, ◌≤◌, ◌⊎◌, �
 ghost use Rattle.std.specs.List.Sorted.{IsNonDecreasing};
 ghost use Rattle.cif_feed.specs.HolidayCode.{code_in, letter};
 
-use crate::parts::next_on;
+use crate::prepared_record::next_on;
 use cif_columns::{Day, DaysRun};
 use std::alloc::{AllocError, Global};
 

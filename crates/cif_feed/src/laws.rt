@@ -50,7 +50,7 @@ ghost use Rattle.cif_feed.specs.LayoutRefusals.{feed_refusal_as};
 ghost use Rattle.cif_feed.specs.RecordLines.{is_association, is_basic, is_of_tiploc, lines_of};
 ghost use Rattle.cif_feed.specs.WrittenExtracts.{CodesMayStand};
 ghost use Rattle.cif_feed.specs.declared.changes.RefusedLine.{RefusedLine};
-ghost use Rattle.cif_feed.specs.declared.feed.FeedFault.{FeedFault};
+ghost use Rattle.cif_feed.specs.declared.feed_fault.FeedFault.{FeedFault};
 ghost use Rattle.cif_feed.specs.declared.holidays.HolidayCodes.{HolidayCodes};
 ghost use Rattle.cif_feed.specs.declared.holidays.HolidayCode.{HolidayCode};
 ghost use Rattle.cif_feed.specs.declared.holidays.Holidays.{Holidays};

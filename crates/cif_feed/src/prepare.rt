@@ -20,7 +20,7 @@ ghost use Rattle.cif_records.specs.AssocKey.{key_cmp};
 ghost use Rattle.cif_records.specs.declared.association.AssocKey.{AssocKey};
 
 use crate::dropped::find_clash_dates;
-use crate::parts::{RisingDays, add_parts};
+use crate::prepared_record::{RisingDays, add_parts};
 use crate::written::write_records;
 use crate::{
     Dropped, DroppedKey, FeedFault, Holidays, PreparedRecord, PublishedAssociation,

@@ -17,8 +17,8 @@ use crate::mark::{RecordMark, TiplocMark};
 use crate::published_extract::{FromLine, from_lines, last_of};
 use crate::record_keys::tiploc_key;
 use crate::{
-    Action, RecordChange, Feed, FeedFault, HolidayCodes, Passed, PublishedAssociation, PublishedExtract,
-    PublishedSchedule, RefusedLine, Transaction, Unfit, UpdateCounts, apply,
+    Action, Feed, FeedFault, HolidayCodes, Passed, PublishedAssociation, PublishedExtract,
+    PublishedSchedule, RecordChange, RefusedLine, Transaction, Unfit, UpdateCounts, apply,
 };
 use cif_columns::{Day, ReadDevice, Source, Stp, Uid};
 use cif_extract::{Extract, Schedule};
@@ -300,7 +300,12 @@ fn push(
 }
 
 /// The change that line `line` makes by its transaction: it puts this record, or deletes this key.
-fn change_by<K: Drop, R: Drop>(transaction: Transaction, line: u64, key: K, put: R) -> RecordChange<K, R>
+fn change_by<K: Drop, R: Drop>(
+    transaction: Transaction,
+    line: u64,
+    key: K,
+    put: R,
+) -> RecordChange<K, R>
     ensures { result ≡ change_by transaction line key put }
 {
     let action = match transaction {

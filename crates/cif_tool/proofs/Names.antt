@@ -17,8 +17,8 @@ pub use Rattle.cif_feed.proofs.Names.{failed_second, flat_map-append, goes-on, h
 pub use Rattle.cif_feed.proofs.Names.{published_parts, published_text, reader_of, reading_holidays, reading_published, refuses, told_text}
 pub use Rattle.cif_feed.proofs.Names.{unread_of, updating, written_both}
 pub use Rattle.cif_feed.specs.FeedAnswer.{IsHandedOn}
-pub use Rattle.cif_feed.specs.declared.feed.FeedFault.{FeedFault}
-pub use Rattle.cif_feed.specs.declared.feed.FeedFault.TheVariants.{AlreadyThere, BadTransaction, NotThere, NotUpdate, OutOfSequence}
+pub use Rattle.cif_feed.specs.declared.feed_fault.FeedFault.{FeedFault}
+pub use Rattle.cif_feed.specs.declared.feed_fault.FeedFault.TheVariants.{AlreadyThere, BadTransaction, NotThere, NotUpdate, OutOfSequence}
 pub use Rattle.cif_feed.specs.declared.published_extract.PublishedExtract.{PublishedExtract}
 pub use Rattle.cif_canon.proofs.Names.{AreDifferences, AreNone, CanonParts, DifferencesParts, Fault, FaultWrites, Form, HasCanon, IfWritten}
 pub use Rattle.cif_canon.proofs.Names.{IsCanonOfInput, IsCompareFault, IsNormaliseFault, IsOfReadNarrowed, IsOfReading, IsReadNarrowedFault}

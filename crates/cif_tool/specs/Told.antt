@@ -8,8 +8,8 @@ use Rattle.cif_feed.specs.Updated.{refused_fault}
 use Rattle.cif_feed.specs.declared.changes.RefusedLine.{RefusedLine}
 use Rattle.cif_feed.specs.declared.dropped.Dropped.{Dropped}
 use Rattle.cif_feed.specs.declared.dropped.DroppedKey.{DroppedKey}
-use Rattle.cif_feed.specs.declared.feed.FeedFault.{FeedFault}
-use Rattle.cif_feed.specs.declared.feed.FeedFault.TheVariants.{Extract}
+use Rattle.cif_feed.specs.declared.feed_fault.FeedFault.{FeedFault}
+use Rattle.cif_feed.specs.declared.feed_fault.FeedFault.TheVariants.{Extract}
 use Rattle.cif_feed.specs.declared.feed_answers.DoneUpdate.{DoneUpdate}
 use Rattle.cif_feed.specs.declared.feed_answers.KeptUpdate.{KeptUpdate}
 use Rattle.cif_tool.specs.Status.{status_of}

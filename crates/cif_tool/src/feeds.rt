@@ -1,7 +1,7 @@
 //! From a call that reads published extracts to its status: its inputs are opened here, and `--verbose` says more.
 //! What is read, done, written and told is said by the clauses of the functions that are called.
 use crate::devices::{ExtractInput, Output, OutputState, buffered};
-use crate::job::{Request, FeedJob, InputNames, PrepareJob, UpdateJob};
+use crate::job::{FeedJob, InputNames, PrepareJob, Request, UpdateJob};
 use crate::line_advice::Reader;
 use crate::message::{Detail, Message};
 use crate::run::{run_prepare, run_update};

@@ -3,7 +3,7 @@
 use crate::advice::DoneJob;
 use crate::devices::{ExtractInput, Output, OutputState, buffered};
 use crate::feeds::feed_task;
-use crate::job::{Request, Job, JobFault, Task};
+use crate::job::{Job, JobFault, Request, Task};
 use crate::message::Detail;
 use crate::run::{run_fault, run_job};
 use crate::status::{USAGE_ERROR, end};

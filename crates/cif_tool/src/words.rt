@@ -12,8 +12,8 @@ ghost use Rattle.cif_tool.specs.JobFault.{IsFaultOf, IsNoUid, IsNoneOf, NamesNoD
 
 use crate::command_line::{all_choices, matches_of};
 use crate::job::{
-    CalendarJob, Request, CanonicalJob, CompareJob, DayJob, DiffJob, ExplainJob, FeedJob, InputNames,
-    Inputs, Job, JobFault, PrepareJob, TableJob, Task, TrainJob, UpdateJob,
+    CalendarJob, CanonicalJob, CompareJob, DayJob, DiffJob, ExplainJob, FeedJob, InputNames,
+    Inputs, Job, JobFault, PrepareJob, Request, TableJob, Task, TrainJob, UpdateJob,
 };
 use crate::message::{Detail, Escaped};
 use cif_canon::{Asked, Format};

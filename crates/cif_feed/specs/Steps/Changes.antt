@@ -6,8 +6,8 @@ use Rattle.std.specs.Ordering.{eq_by_cmp}
 use Rattle.std.specs.declared.cmp.Ordering.{Ordering}
 use Rattle.cif_feed.specs.declared.changes.RefusedLine.{RefusedLine}
 use Rattle.cif_feed.specs.declared.changes.Unfit.TheVariants as unfit
-use Rattle.cif_feed.specs.declared.feed.FeedFault.{FeedFault}
-use Rattle.cif_feed.specs.declared.feed.FeedFault.TheVariants.{NotThere, AlreadyThere, OutOfSequence}
+use Rattle.cif_feed.specs.declared.feed_fault.FeedFault.{FeedFault}
+use Rattle.cif_feed.specs.declared.feed_fault.FeedFault.TheVariants.{NotThere, AlreadyThere, OutOfSequence}
 use Rattle.cif_feed.specs.declared.update.Outcome.{Outcome}
 use Rattle.cif_feed.specs.Changes.{ChangeParts, is_changed, is_there}
 

@@ -17,7 +17,7 @@ use Rattle.cif_feed.specs.PublishedParts.{PublishedParts, published_associations
 use Rattle.cif_feed.specs.declared.dropped.DroppedKey.{DroppedKey}
 use Rattle.cif_feed.specs.declared.holidays.HolidayCode.{HolidayCode}
 use Rattle.cif_feed.specs.declared.holidays.Holidays.{Holidays}
-use Rattle.cif_feed.specs.declared.parts.RisingDays.{RisingDays}
+use Rattle.cif_feed.specs.declared.prepared_record.RisingDays.{RisingDays}
 
 -- the days that were found for what stands for a key, if any were
 abbrev pub days_in : Option RisingDays → List ℕ

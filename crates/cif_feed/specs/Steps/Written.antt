@@ -12,7 +12,7 @@ use Rattle.cif_records.specs.declared.header.Header.{Header}
 use Rattle.cif_records.specs.declared.tiploc.Tiploc.{Tiploc}
 use Rattle.cif_feed.specs.PreparedParts.{association_on, schedule_on}
 use Rattle.cif_feed.specs.PublishedParts.{published_association_line, published_schedule_lines}
-use Rattle.cif_feed.specs.declared.parts.PreparedRecord.{PreparedRecord}
+use Rattle.cif_feed.specs.declared.prepared_record.PreparedRecord.{PreparedRecord}
 use Rattle.cif_feed.specs.declared.published_extract.PublishedAssociation.{PublishedAssociation}
 use Rattle.cif_feed.specs.declared.published_extract.PublishedSchedule.{PublishedSchedule}
 

@@ -1,7 +1,7 @@
 -- The first of what is left is the next (`rest-found`).
 use Rattle.cif_feed.proofs.Names.{IsDateOnDaysRun, IsFirstFrom, Option, subst, sym, ℕ}
 use Rattle.cif_feed.proofs.PartLists.{rest-first, rest-found}
-use Rattle.cif_feed.proofs.parts.next_on.Goals as goal
+use Rattle.cif_feed.proofs.prepared_record.next_on.Goals as goal
 
 pub returns : goal.returns
 returns c = subst (λ (o : Option ℕ). IsFirstFrom (IsDateOnDaysRun c.args.dates.now c.args.days) c.args.from c.args.last o)

@@ -3,7 +3,7 @@ use Rattle.cif_canon.proofs.Names.{All, All-drop, All-take, AreLawful-of_key, Li
 use Rattle.cif_canon.proofs.Names.{err_from_is_err_and, keyed, length, length-drop, length-take-le, nil_from_length, same_key-cmp, subst}
 use Rattle.cif_canon.proofs.Names.{sym, window_days, ℕ, ◌-◌, ◌<◌, ◌∙◌, ◌≡◌}
 use Rattle.cif_canon.proofs.MadeRecords.{IsMade, made-all, made-fault, made-key, made-nothing}
-use Rattle.cif_canon.proofs.records.canonical_runs.Goals as goal
+use Rattle.cif_canon.proofs.extract_runs.canonical_runs.Goals as goal
 
 pub loop-rest-init : goal.loop-rest-init
 loop-rest-init g c =

@@ -3,8 +3,8 @@ use Rattle.cif_canon.proofs.Names.{AreCanonicalRecords, IsCanonFault, IsRecordsF
 use Rattle.cif_canon.proofs.Names.{header_window, key_cmp, nat_cmp, schedule_entries, slice_cmp}
 use Rattle.cif_extract.specs.declared.fault.Clash.TheVariants.{Association}
 use Rattle.cif_canon.proofs.CanonForm.{associations-fault, of_slice, schedules-fault}
-use Rattle.cif_canon.proofs.records.extract_runs.Goals as goal
-use Rattle.cif_canon.proofs.records.extract_runs.Goals.{In_ok-associations}
+use Rattle.cif_canon.proofs.extract_runs.extract_runs.Goals as goal
+use Rattle.cif_canon.proofs.extract_runs.extract_runs.Goals.{In_ok-associations}
 
 -- the runs of associations
 associations : (c : In_ok-associations) → AreCanonicalRecords key_cmp c.args.form (header_window c.args.extract.now.header)

@@ -115,7 +115,7 @@ impl From<HolidayFault> for FeedFault {
 
 impl From<LineFault> for FeedFault {
     ghost use Rattle.cif_extract.specs.Fault.{of_line_fault};
-    ghost use Rattle.cif_feed.specs.declared.feed.FeedFault.TheVariants.{Extract};
+    ghost use Rattle.cif_feed.specs.declared.feed_fault.FeedFault.TheVariants.{Extract};
 
     ghost from_gives = { λ line_fault fault. fault ≡ Extract (of_line_fault line_fault) };
 
@@ -126,7 +126,7 @@ impl From<LineFault> for FeedFault {
 
 impl From<WriteFault> for FeedFault {
     ghost use Rattle.cif_extract.specs.declared.fault.Fault.TheVariants.{Write};
-    ghost use Rattle.cif_feed.specs.declared.feed.FeedFault.TheVariants.{Extract};
+    ghost use Rattle.cif_feed.specs.declared.feed_fault.FeedFault.TheVariants.{Extract};
 
     ghost from_gives = { λ _ fault. fault ≡ Extract Write };
 
@@ -137,7 +137,7 @@ impl From<WriteFault> for FeedFault {
 
 impl From<AllocError> for FeedFault {
     ghost use Rattle.cif_extract.specs.declared.fault.Fault.TheVariants.{Memory};
-    ghost use Rattle.cif_feed.specs.declared.feed.FeedFault.TheVariants.{Extract};
+    ghost use Rattle.cif_feed.specs.declared.feed_fault.FeedFault.TheVariants.{Extract};
 
     ghost from_gives = { λ _ fault. fault ≡ Extract Memory };
 

@@ -1,7 +1,7 @@
 -- The dates don't fall, so the search finds the place.
 use Rattle.cif_feed.proofs.Names.{IsPartitionPoint, IsPartitionPoint-from_clause, IsPartitionedBy-ltb, arith, false, ltb, ltb-false}
 use Rattle.cif_feed.proofs.Names.{ltb-true, rules, take_rest, true, ℕ, ◌≡◌}
-use Rattle.cif_feed.proofs.parts.from_day.Goals as goal
+use Rattle.cif_feed.proofs.prepared_record.from_day.Goals as goal
 
 point : (c : goal.After-result-1) → IsPartitionPoint (λ (d : ℕ). ltb d c.args.day ≡ true) (λ (d : ℕ). ltb d c.args.day ≡ false)
     c.args.dates.now c.partition_point.result

@@ -1,6 +1,6 @@
 -- Which fault it is gives its text.
 use Rattle.cif_feed.specs.FeedTexts.{fault_text}
-use Rattle.cif_feed.proofs.feed.FeedFault.text.Goals as goal
+use Rattle.cif_feed.proofs.feed_fault.FeedFault.text.Goals as goal
 
 pub returns-in-BadTransaction : goal.returns-in-BadTransaction
 unfolding fault_text

@@ -3,7 +3,7 @@ use Rattle.cif_feed.proofs.Names.{Bool, Contains, IfOk-weaker, IsFromNext, List,
 use Rattle.cif_feed.proofs.Names.{records_on, rules, subst, sym, ℕ, ◌≡◌, ◌≤◌, ◌⊎◌}
 use Rattle.cif_feed.proofs.PartLists.{IsCutUpTo, IsRestOf, cut-end, cut-last, cut-next, cut-nothing, never-stopped, pushed-added}
 use Rattle.cif_feed.proofs.PartLists.{pushed-from, rest-first, rest-later, rests-found}
-use Rattle.cif_feed.proofs.parts.add_parts.Goals as goal
+use Rattle.cif_feed.proofs.prepared_record.add_parts.Goals as goal
 
 pub returns-then-is_empty-2 : goal.returns-then-is_empty-2
 returns-then-is_empty-2 g c =

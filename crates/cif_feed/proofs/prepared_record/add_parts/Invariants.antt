@@ -1,7 +1,7 @@
 -- The entry is cut up to `first` (`IsCutUpTo`), and of each list the dates from then on are left.
 use Rattle.cif_feed.proofs.Names.{Contains, ended, records_on, ℕ, ◌+◌, ◌-◌, ◌⊎◌}
 use Rattle.cif_feed.proofs.PartLists.{IsCutUpTo, IsRestOf}
-use Rattle.cif_feed.proofs.parts.add_parts.Given as goal
+use Rattle.cif_feed.proofs.prepared_record.add_parts.Given as goal
 
 abbrev pub invariant-loop-cut : goal.invariant-loop-cut
 invariant-loop-cut g l = record {
