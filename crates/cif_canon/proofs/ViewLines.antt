@@ -96,11 +96,6 @@ with_first-line Tsv first field fields =
     append_assoc (shown Tsv first) (codes "\t") (line_of Tsv (field ∷ fields))
     ∙ sym (append_assoc (shown Tsv first) (9 ∷ fields_text Tsv (field ∷ fields)) (codes "\n"))
 
--- so many empty fields are so many tabs
-pub tabs-after : (count : ℕ) → after Tsv (replicate count nothing) ≡ replicate count 9
-tabs-after zero = refl
-tabs-after (suc count) = ap (λ (l : List ℕ). 9 ∷ l) (tabs-after count)
-
 -- a field that can be shown has printable columns, no more than it takes
 -- with the fields that are left, the line is whole, and no longer than it may be
 pub record IsGrowing (format : Format) (whole : List ℕ) (most : ℕ) (line : List ℕ) (size : ℕ) (left : List Field) : Type 0 where

@@ -1,5 +1,5 @@
 //! How views lay out what runs: its fields, as text or as the row of a table.
-ghost use Rattle.std.specs.Prelude.{◌≡◌, ◌≤◌, ◌+◌, ◌++◌, ◌∷◌, [], length, map, replicate};
+ghost use Rattle.std.specs.Prelude.{◌≡◌, ◌≤◌, ◌+◌, ◌++◌, ◌∷◌, [], length, map};
 ghost use Rattle.arrayvec.specs.ArrayString.{array_string_len};
 ghost use Rattle.cif_columns.specs.Line.{ArePrintable};
 ghost use Rattle.cif_weeks.specs.Runs.{record_of};
@@ -34,11 +34,14 @@ pub enum Shape {
     Date,
 }
 
-/// The fields of a train, where a row has none.
-pub const NO_TRAIN: &str = "\t\t\t\t\t\t\t\t\t\t";
+/// How many fields a journey has.
+pub const JOURNEY_FIELDS: usize = 9;
 
-/// The fields of an association, where a row has none.
-pub const NO_ASSOCIATION: &str = "\t\t\t\t\t\t\t\t\t";
+/// How many fields a train has: its UID, and those of its journey.
+pub const TRAIN_FIELDS: usize = 10;
+
+/// How many fields an association has.
+pub const ASSOCIATION_FIELDS: usize = 9;
 
 /// The bytes of the longest line: that of a schedule in the table of an explanation.
 pub const LONGEST_ROW: usize = 116;
@@ -58,7 +61,7 @@ pub fn association_row(
     ensures len { array_string_len result + 13 ≤ LONGEST_ROW }
 {
     let mut row = started(before, format, Shape::Trimmed, b"AA");
-    push_left_out(&mut row, format, NO_TRAIN);
+    push_left_out(&mut row, format, TRAIN_FIELDS);
     push_association(&mut row, format, key, body);
     row
 }
@@ -71,7 +74,7 @@ pub fn train_row(before: &str, format: Format, uid: &Uid, body: &Body) -> ArrayS
 {
     let mut row = started(before, format, Shape::Trimmed, b"BS");
     push_train(&mut row, format, uid, body);
-    push_left_out(&mut row, format, NO_ASSOCIATION);
+    push_left_out(&mut row, format, ASSOCIATION_FIELDS);
     row
 }
 
@@ -207,16 +210,19 @@ fn push_location(
     }
 }
 
-/// Appends as many empty fields as there are tabs, if the line is a row.
-pub fn push_left_out(line: &mut ArrayString<LONGEST_ROW>, format: Format, tabs: &str)
-    requires room { array_string_len line.old + length tabs.now ≤ LONGEST_ROW }
-    requires tabs { tabs.now ≡ replicate (length tabs.now) 9 }
-    ensures text { line.new.bytes ≡ line.old.bytes ++ after format (left_out format (length tabs.now)) }
-    ensures len { array_string_len line.new ≤ array_string_len line.old + length tabs.now }
+/// Appends so many empty fields, if the line is a row.
+pub fn push_left_out(line: &mut ArrayString<LONGEST_ROW>, format: Format, count: usize)
+    requires { array_string_len line.old + count ≤ LONGEST_ROW }
+    ensures text { line.new.bytes ≡ line.old.bytes ++ after format (left_out format count) }
+    ensures len { array_string_len line.new ≤ array_string_len line.old + count }
 {
     match format {
         Format::Text => {}
-        Format::Tsv => line.push_str(tabs),
+        Format::Tsv => {
+            for _ in 0..count {
+                push_field(line, format, Shape::Whole, b"");
+            }
+        }
     }
 }
 

@@ -21,18 +21,25 @@ use cif_records::{AssocBody, AssocKey};
 use cif_weeks::{Form, Run};
 use std::alloc::Global;
 
-/// What is listed of a day: a text for each association that holds, and for each train that runs.
+/// What is listed of a day: a heading, and a text for each association that holds and for each train that runs.
 pub trait DayLines {
     ghost use Rattle.std.specs.Prelude.{ℕ, List};
     ghost use Rattle.cif_extract.specs.Body.{BodyLines};
     ghost use Rattle.cif_records.specs.declared.association.AssocBody.{AssocBody};
     ghost use Rattle.cif_records.specs.declared.association.AssocKey.{AssocKey};
 
+    // What comes first.
+    ghost heading: { Self → List ℕ };
+
     // The text of an association that holds.
     ghost association: { Self → AssocKey × AssocBody → List ℕ };
 
     // The text of a train that runs.
     ghost train: { Self → List ℕ × BodyLines → List ℕ };
+
+    /// Appends what comes first.
+    fn write_heading<W: WriteDevice>(&self, sink: &mut Sink<W>)
+        ensures { IsAppended W.contents W.write_errors (heading self.now) sink.old sink.new };
 
     /// Appends the text of an association that holds.
     fn write_association<W: WriteDevice>(
@@ -50,14 +57,21 @@ pub trait DayLines {
             (train self.now (uid.now, body.now)) sink.old sink.new };
 }
 
-/// What is listed of a train: a text for each of its canonical schedules.
+/// What is listed of a train: a heading, and a text for each of its canonical schedules.
 pub trait TrainLines {
     ghost use Rattle.std.specs.Prelude.{ℕ, List};
     ghost use Rattle.cif_extract.specs.Body.{BodyLines};
     ghost use Rattle.cif_weeks.specs.Permanent.{Permanent};
 
+    // What comes first.
+    ghost heading: { Self → List ℕ };
+
     // The text of a canonical schedule.
     ghost schedule: { Self → Permanent BodyLines → List ℕ };
+
+    /// Appends what comes first.
+    fn write_heading<W: WriteDevice>(&self, sink: &mut Sink<W>)
+        ensures { IsAppended W.contents W.write_errors (heading self.now) sink.old sink.new };
 
     /// Appends the text of the schedule with the dates and the mask of the run, and with this body.
     fn write_schedule<W: WriteDevice>(&self, run: &Run, body: &Body, sink: &mut Sink<W>)
@@ -65,16 +79,21 @@ pub trait TrainLines {
             (schedule self.now (record_of run.now body.now)) sink.old sink.new };
 }
 
-/// Lines of text, one for each of them.
+/// Lines of text, one for each of them, without a heading.
 #[derive(Clone, Copy)]
 struct TextLines;
 
 impl DayLines for TextLines {
+    ghost use Rattle.std.specs.Prelude.{[]};
     ghost use Rattle.cif_canon.specs.Views.{association_line, train_line};
+
+    ghost heading = { λ lines. [] };
 
     ghost association = { λ lines. association_line };
 
     ghost train = { λ lines. train_line };
+
+    fn write_heading<W: WriteDevice>(&self, _sink: &mut Sink<W>) {}
 
     fn write_association<W: WriteDevice>(
         &self,
@@ -91,9 +110,14 @@ impl DayLines for TextLines {
 }
 
 impl TrainLines for TextLines {
+    ghost use Rattle.std.specs.Prelude.{[]};
     ghost use Rattle.cif_canon.specs.Views.{schedule_line};
 
+    ghost heading = { λ lines. [] };
+
     ghost schedule = { λ lines. schedule_line };
+
+    fn write_heading<W: WriteDevice>(&self, _sink: &mut Sink<W>) {}
 
     fn write_schedule<W: WriteDevice>(&self, run: &Run, body: &Body, sink: &mut Sink<W>) {
         write_line(schedule_row("", Format::Text, run, body), sink);
@@ -126,10 +150,10 @@ pub fn day_view<W: WriteDevice>(
         × IfWritten result (IsDayView (extract_parts extract.now) day text) }
     ensures fault { IfErr result (IsDayFault (extract_parts extract.now) day) }
 {
-    write_day(alloc, extract, day, sink, "", &TextLines)
+    write_day(alloc, extract, day, sink, &TextLines)
 }
 
-/// Appends a heading, and what `lines` list of what runs on the day: of each association that holds,
+/// Appends what `lines` list of what runs on the day: their heading, and then of each association that holds,
 /// rising by key, and then of each train that runs, rising by UID. The faults are those of
 /// `day_view`.
 pub fn write_day<L: DayLines, W: WriteDevice>(
@@ -137,13 +161,12 @@ pub fn write_day<L: DayLines, W: WriteDevice>(
     extract: &Extract,
     day: Day,
     sink: &mut Sink<W>,
-    heading: &str,
     lines: &L,
 ) -> Result<(), Fault>
     ensures view { (text : List ℕ)
         × FaultWrites W.contents W.write_errors text sink.old sink.new result
         × IfWritten result (IsDayListed (record {
-          heading = heading.now;
+          heading = L.heading lines.now;
           association = L.association lines.now;
           train = L.train lines.now;
         }) (extract_parts extract.now) day text) }
@@ -151,7 +174,7 @@ pub fn write_day<L: DayLines, W: WriteDevice>(
 {
     check_within(&extract.header, day)?;
     let runs = extract_runs(alloc, extract, Form::Two)?;
-    append(heading, sink);
+    lines.write_heading(sink);
     let on_day = OnDay { day, lines };
     write_runs(
         &on_day,
@@ -232,10 +255,10 @@ pub fn train_view<W: WriteDevice>(
         × IfWritten result (IsTrainView form (extract_parts extract.now) uid.now text) }
     ensures fault { IfErr result (IsTrainFault (extract_parts extract.now)) }
 {
-    write_train(alloc, extract, uid, sink, form, "", &TextLines)
+    write_train(alloc, extract, uid, sink, form, &TextLines)
 }
 
-/// Appends a heading, and what `lines` list of each of the train's canonical records in this form,
+/// Appends what `lines` list of a train: their heading, and then of each of its canonical records in this form,
 /// rising by first date. The faults are those of `train_view`.
 pub fn write_train<L: TrainLines, W: WriteDevice>(
     alloc: Global,
@@ -243,19 +266,18 @@ pub fn write_train<L: TrainLines, W: WriteDevice>(
     uid: &Uid,
     sink: &mut Sink<W>,
     form: Form,
-    heading: &str,
     lines: &L,
 ) -> Result<(), Fault>
     ensures view { (text : List ℕ)
         × FaultWrites W.contents W.write_errors text sink.old sink.new result
         × IfWritten result (IsTrainListed (record {
-          heading = heading.now;
+          heading = L.heading lines.now;
           schedule = L.schedule lines.now;
         }) form (extract_parts extract.now) uid.now text) }
     ensures fault { IfErr result (IsTrainFault (extract_parts extract.now)) }
 {
     let runs = extract_runs(alloc, extract, form)?;
-    append(heading, sink);
+    lines.write_heading(sink);
     let of_train = OfTrain { uid: *uid, lines };
     write_runs(
         &of_train,

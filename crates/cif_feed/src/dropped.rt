@@ -1,10 +1,9 @@
 //! The keys that clash, and their dates.
-ghost use Rattle.std.specs.Prelude.{◌≡◌, ◌+◌, ◌<◌, All, [], IfOk, length};
+ghost use Rattle.std.specs.Prelude.{◌≡◌, ◌+◌, [], IfOk};
 ghost use Rattle.std.specs.BTreeMap.{get};
-ghost use Rattle.cif_calendar.specs.Keys.{ArePositionsOf, keyed};
 ghost use Rattle.std.specs.List.Sorted.{IsNonDecreasing};
 ghost use Rattle.cif_feed.specs.Dropped.{AreClashDays, dropped_text};
-ghost use Rattle.cif_feed.specs.Steps.Dropping.{AreFound, IsKeyTold, IsTold, published_by};
+ghost use Rattle.cif_feed.specs.Steps.Dropping.{AreFound, IsTold, published_by};
 
 use crate::Holidays;
 use crate::counting::counted_clash_dates;
@@ -93,36 +92,15 @@ pub(crate) fn find_clash_dates<E: PublishedEntry>(
     let mut rest = positions.as_slice();
     while !rest.is_empty() {
         let (members, later) = rest.split_at(count_of_first_key(entries, rest));
-        add_key(alloc, entries, members, holidays, window, &mut dates, told)?;
+        let found = counted_clash_dates(alloc, entries, members, holidays, window)?;
+        list_key(&entries[members[0]], found, &mut dates, told)?;
         rest = later;
     }
     Ok(dates)
 }
 
-/// Tells the key whose entries are at `members` with its clash dates in the window, if it has one.
-fn add_key<E: PublishedEntry>(
-    alloc: Global,
-    entries: &[E],
-    members: &[usize],
-    holidays: &Holidays,
-    window: &Window,
-    dates: &mut ClashDates<E::Rank>,
-    told: &mut Vec<DroppedKey>,
-) -> Result<(), AllocError>
-    requires within { All (λ i. i < length entries.now) members.now }
-    requires some { 0 < length members.now }
-    ensures { IfOk result (λ _. (k : E.Key) → ArePositionsOf (keyed E.key E.terms entries.now) k members.now
-        → IsKeyTold E.Key.cmp E.clash_of E.stands_for
-        (AreClashDays holidays.now (published_by E.key E.published entries.now) window.now.first (window.now.last + 1)) k
-        told.old.items told.new.items (get E.Rank.cmp dates.old) (get E.Rank.cmp dates.new)) }
-{
-    let found = counted_clash_dates(alloc, entries, members, holidays, window)?;
-    let entry = &entries[members[0]];
-    tell(entry, found, dates, told)
-}
-
-/// Tells the key of the entry with its clash dates, if it has one.
-fn tell<E: NamedEntry>(
+/// Lists the key of the entry with its clash dates, if it has one.
+fn list_key<E: NamedEntry>(
     entry: &E,
     found: Vec<Day>,
     dates: &mut ClashDates<E::Rank>,

@@ -13,7 +13,7 @@ use crate::dropped::Dropped;
 use crate::feed_fault::FeedFault;
 use crate::holidays::{HolidayCodes, Holidays};
 use crate::mark::{Passed, UpdateCounts};
-use crate::prepare::write_prepared;
+use crate::prepare::{Preparation, write_prepared};
 use crate::published_extract::PublishedExtract;
 use crate::update::Outcome;
 use cif_columns::{MAX_LINES, ReadDevice, Sink, Source, WriteDevice, WriteFault};
@@ -161,8 +161,12 @@ pub fn answer_prepare<R: ReadDevice, W: WriteDevice>(
 {
     let read = read_holidays(alloc, holidays)?;
     let holidays = kept.holidays.insert(read);
+    let preparation = Preparation {
+        holidays,
+        drops_clashes: drop_clashes,
+    };
     let kept = &mut kept.extract;
-    let dropped = write_prepared(alloc, source, sink, MAX_LINES, holidays, drop_clashes, kept)?;
+    let dropped = write_prepared(alloc, source, sink, MAX_LINES, preparation, kept)?;
     finish(Ok(()), sink)?;
     Ok(dropped)
 }

@@ -34,7 +34,7 @@ pub use holiday_text::HolidayFault;
 pub use holidays::{HolidayCode, HolidayCodes, Holidays};
 pub use judged::Judged;
 pub use mark::{Passed, Transaction, UpdateCounts};
-pub use prepare::{Prepared, write_prepared};
+pub use prepare::{Preparation, Prepared, write_prepared};
 pub use prepared_record::PreparedRecord;
 pub use published_extract::{PublishedAssociation, PublishedExtract, PublishedSchedule};
 pub use reasons::Reasons;

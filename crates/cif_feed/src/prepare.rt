@@ -34,9 +34,17 @@ use std::alloc::{AllocError, Global};
 use std::collections::BTreeMap;
 use std::marker::Model;
 
+/// How an extract is prepared.
+#[derive(Clone, Copy)]
+pub struct Preparation<'a> {
+    /// The holidays on which records with a code don't apply.
+    pub holidays: &'a Holidays,
+    /// Whether the dates on which a key clashes are left out.
+    pub drops_clashes: bool,
+}
+
 /// Reads a published extract, of which at most `max_lines` contents may come, and appends the text of
-/// its prepared extract, with these holidays: without the dates on which keys clash, if
-/// `drops_clashes`. The answer is these keys.
+/// its prepared extract. The answer is what was left out.
 ///
 /// The faults are those of `PublishedExtract::read`, and then Write; Memory where memory ran out. Nothing is
 /// written before the whole input is accepted and all memory is allocated. What was read is left in
@@ -46,20 +54,20 @@ pub fn write_prepared<R: ReadDevice, W: WriteDevice>(
     source: &mut Source<R>,
     sink: &mut Sink<W>,
     max_lines: u64,
-    holidays: &Holidays,
-    drops_clashes: bool,
+    preparation: Preparation<'_>,
     kept: &mut Option<PublishedExtract>,
 ) -> Result<Dropped, FeedFault>
     requires within { max_lines ≤ MAX_LINES }
     ensures prepared { (text : List ℕ)
         × FeedWrites W.contents W.write_errors text sink.old sink.new result
         × IfSome (R.remaining (reader_of source.old)) (λ bytes.
-        Prepares holidays.now drops_clashes max_lines bytes text result) }
+        Prepares preparation.holidays.now preparation.drops_clashes max_lines bytes text result) }
     ensures reads { IsResultOf R.remaining R.read_errors
-        (preparing holidays.now max_lines kept.new) source.old source.new result }
+        (preparing preparation.holidays.now max_lines kept.new) source.old source.new result }
 {
-    let extract = PublishedExtract::read(alloc, source, max_lines, holidays.codes())?;
-    let answer = extract.append_prepared(alloc, holidays, drops_clashes, sink);
+    let codes = preparation.holidays.codes();
+    let extract = PublishedExtract::read(alloc, source, max_lines, codes)?;
+    let answer = extract.append_prepared(alloc, preparation, sink);
     *kept = Some(extract);
     answer
 }
@@ -87,14 +95,13 @@ impl PublishedExtract {
     fn append_prepared<W: WriteDevice>(
         &self,
         alloc: Global,
-        holidays: &Holidays,
-        drops_clashes: bool,
+        preparation: Preparation<'_>,
         sink: &mut Sink<W>,
     ) -> Result<Dropped, FeedFault>
-        ensures { WritesPrepared W.contents W.write_errors holidays.now drops_clashes
+        ensures { WritesPrepared W.contents W.write_errors preparation.holidays.now preparation.drops_clashes
             (published_parts self.now) sink.old sink.new result }
     {
-        let (prepared, dropped) = self.prepare_if(alloc, holidays, drops_clashes)?;
+        let (prepared, dropped) = self.prepare_if(alloc, preparation)?;
         prepared.write(sink)?;
         Ok(dropped)
     }
@@ -103,15 +110,15 @@ impl PublishedExtract {
     fn prepare_if<'a>(
         &'a self,
         alloc: Global,
-        holidays: &Holidays,
-        drops_clashes: bool,
+        preparation: Preparation<'_>,
     ) -> Result<(Prepared<'a>, Dropped), AllocError>
-        ensures { IfOk result (λ done. IsPreparedAs holidays.now drops_clashes (published_parts self.now) done.0 done.1) }
+        ensures { IfOk result (λ done. IsPreparedAs preparation.holidays.now preparation.drops_clashes
+            (published_parts self.now) done.0 done.1) }
     {
-        if drops_clashes {
-            return self.prepare_without_clashes(alloc, holidays);
+        if preparation.drops_clashes {
+            return self.prepare_without_clashes(alloc, preparation.holidays);
         }
-        let prepared = self.prepare(alloc, holidays)?;
+        let prepared = self.prepare(alloc, preparation.holidays)?;
         Ok((prepared, Dropped::none(alloc)))
     }
 

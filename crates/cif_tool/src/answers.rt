@@ -118,25 +118,34 @@ pub enum PairOutput {
     Differences(Format),
 }
 
-/// Writes this of the extracts of two sources, and answers 0 where they say the same, else 1. The right one isn't
+/// What is asked of two extracts.
+#[derive(Clone, Copy)]
+pub struct PairJob<'a> {
+    /// How they are read and narrowed.
+    pub compared: &'a CompareJob,
+    /// What is said of them.
+    pub output: PairOutput,
+}
+
+/// Writes what is asked of the extracts of two sources, and answers 0 where they say the same, else 1. The right one isn't
 /// touched before the left one is read to its end and no line of it is refused.
 pub fn answer_pair<R: ReadDevice, W: WriteDevice>(
     alloc: Global,
     left: &mut Source<R>,
     right: &mut Source<R>,
     sink: &mut Sink<W>,
-    job: &CompareJob,
-    output: PairOutput,
+    job: PairJob<'_>,
     kept: &mut Kept,
 ) -> Result<u8, Fault>
     ensures { AreAnswered R.remaining R.read_errors W.contents W.write_errors W.holds_nothing
-        (IsPairAnswer output job.now) (AreComparedAs job.now.asked job.now.common)
+        (IsPairAnswer job.output job.compared.now) (AreComparedAs job.compared.now.asked job.compared.now.common)
         left.old left.new right.old right.new sink.old sink.new result }
 {
-    let (left, right) = read_pair(alloc, left, right, &job.asked, job.common)?;
+    let compared = job.compared;
+    let (left, right) = read_pair(alloc, left, right, &compared.asked, compared.common)?;
     let left = kept.left.insert(left);
     let right = kept.right.insert(right);
-    match output {
+    match job.output {
         PairOutput::Comparison => {
             let comparison = compare(alloc, left, right)?;
             let written = write_comparison(&comparison, sink).map_err(Fault::from);
@@ -285,40 +294,27 @@ pub fn answer<R: ReadDevice, W: WriteDevice>(
 {
     match job {
         Job::Normalise(job) => {
-            answer_canonical(
-                alloc,
-                source,
-                sink,
-                job,
-                CanonicalOutput::Extract,
-                &mut kept.left,
-            )
+            let output = CanonicalOutput::Extract;
+            answer_canonical(alloc, source, sink, job, output, &mut kept.left)
         }
         Job::Check(job) => {
-            answer_canonical(
-                alloc,
-                source,
-                sink,
-                job,
-                CanonicalOutput::Counts,
-                &mut kept.left,
-            )
+            let output = CanonicalOutput::Counts;
+            answer_canonical(alloc, source, sink, job, output, &mut kept.left)
         }
         Job::CheckAll(job) => answer_check_all(alloc, source, sink, job, kept),
         Job::Compare(job) => {
-            answer_pair(
-                alloc,
-                source,
-                right,
-                sink,
-                job,
-                PairOutput::Comparison,
-                kept,
-            )
+            let job = PairJob {
+                compared: job,
+                output: PairOutput::Comparison,
+            };
+            answer_pair(alloc, source, right, sink, job, kept)
         }
         Job::Diff(job) => {
-            let output = PairOutput::Differences(job.format);
-            answer_pair(alloc, source, right, sink, &job.compared, output, kept)
+            let job = PairJob {
+                compared: &job.compared,
+                output: PairOutput::Differences(job.format),
+            };
+            answer_pair(alloc, source, right, sink, job, kept)
         }
         Job::Day(job) => answer_day(alloc, source, sink, job, &mut kept.left),
         Job::Train(job) => answer_train(alloc, source, sink, job, &mut kept.left),

@@ -5,10 +5,10 @@ use crate::line_again::{LastRead, LineAgain, MOST_LOOKED_AT, START};
 use crate::message::{Detail, Escaped};
 use crate::words::is_standard;
 use arrayvec::ArrayVec;
-use cif_columns::{LINE_WIDTH, Line, ReadDevice, Sink, WriteDevice};
+use cif_columns::{LINE_WIDTH, Line, ReadDevice, Sink, Source, WriteDevice};
 use cif_extract::Fault;
 use cif_records::Header;
-use std::alloc::Global;
+use std::alloc::{AllocError, Global};
 use std::fmt::{Display, Formatter};
 use std::fs::{File, OpenFile};
 use std::io::{BufRead, BufReader, BufWriter, Read, Seek, SeekFrom, StdinLock, Stdout, Write};
@@ -301,8 +301,39 @@ pub(crate) fn buffered<W: WriteDevice + Drop>(
     alloc: Global,
     output: W,
 ) -> Result<ManuallyDrop<Sink<BufWriter<W>>>, Fault> {
-    match BufWriter::with_capacity(alloc, OUTPUT_BUFFER, output) {
-        Ok(output) => Ok(ManuallyDrop::new(Sink::new(output))),
-        Err(_) => Err(Fault::Memory),
-    }
+    let output = BufWriter::with_capacity(alloc, OUTPUT_BUFFER, output)?;
+    Ok(ManuallyDrop::new(Sink::new(output)))
+}
+
+/// The standard output, gathered, of which `written` says what became of it.
+pub(crate) fn standard_output<'a>(
+    rt: HostRuntime,
+    written: &'a mut OutputState,
+) -> Result<ManuallyDrop<Sink<BufWriter<Output<'a>>>>, Fault> {
+    let writer = rt.stdout();
+    buffered(rt.alloc(), Output { writer, written })
+}
+
+/// The input of this name; `side` says which it is.
+// Inlined, it would keep a second input on the stack of its caller, and each is some kilobytes large.
+#[inline(never)]
+pub(crate) fn source_of<'a>(
+    rt: HostRuntime,
+    side: &'static str,
+    file: Option<&'a str>,
+    detail: Detail,
+) -> Source<ExtractInput<'a>> {
+    Source::new(ExtractInput::of(rt, side, file, detail))
+}
+
+/// The input of this name on the heap, since a small stack has no room for two.
+// Inlined, it would keep a copy on the stack of its caller.
+#[inline(never)]
+pub(crate) fn boxed_source<'a>(
+    rt: HostRuntime,
+    side: &'static str,
+    file: Option<&'a str>,
+    detail: Detail,
+) -> Result<Box<Source<ExtractInput<'a>>>, AllocError> {
+    Ok(Box::new(rt.alloc(), source_of(rt, side, file, detail))?)
 }

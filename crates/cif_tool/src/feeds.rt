@@ -1,11 +1,11 @@
 //! From a call that reads published extracts to its status: its inputs are opened here, and `--verbose` says more.
 //! What is read, done, written and told is said by the clauses of the functions that are called.
-use crate::devices::{ExtractInput, Output, OutputState, buffered};
+use crate::devices::{ExtractInput, OutputState, boxed_source, source_of, standard_output};
 use crate::job::{FeedJob, InputNames, PrepareJob, Request, UpdateJob};
 use crate::line_advice::Reader;
 use crate::message::{Detail, Message};
 use crate::run::{run_prepare, run_update};
-use crate::status::{DONE, end};
+use crate::status::DONE;
 use cif_columns::{Sink, Source};
 use cif_extract::Fault;
 use cif_feed::{
@@ -15,7 +15,8 @@ use std::alloc::AllocError;
 use std::io::Stderr;
 use std::mem::ManuallyDrop;
 
-/// Does what the call asks for, and returns the status to exit with.
+/// Does what the job asks for, and returns the status to exit with. Memory comes where there is none for its inputs or its
+/// output.
 // Inlined, it would keep its inputs on the stack while an extract is read.
 #[inline(never)]
 pub(crate) fn feed_task(
@@ -23,23 +24,11 @@ pub(crate) fn feed_task(
     job: &FeedJob,
     request: &Request,
     errors: &mut Sink<Stderr>,
-) -> u8 {
+) -> Result<u8, Fault> {
     match job {
         FeedJob::Prepare(job) => prepare(rt, job, request, errors),
         FeedJob::Update(job) => update(rt, job, request, errors),
     }
-}
-
-/// The input of this name; `side` says which it is.
-// Inlined, it would keep a second input on the stack of its caller, and each is some kilobytes large.
-#[inline(never)]
-fn source_of<'a>(
-    rt: HostRuntime,
-    side: &'static str,
-    name: &'a String,
-    detail: Detail,
-) -> Source<ExtractInput<'a>> {
-    Source::new(ExtractInput::of(rt, side, Some(name.as_str()), detail))
 }
 
 // ---- prepare
@@ -52,47 +41,36 @@ fn source_of_holidays<'a>(
     detail: Detail,
 ) -> Option<Source<ExtractInput<'a>>> {
     inputs.rest.first()?;
-    Some(source_of(rt, "holidays", &inputs.first, detail))
-}
-
-/// The extract, on the heap, since a small stack has no room for it beside the holidays.
-#[inline(never)]
-fn boxed_source<'a>(
-    rt: HostRuntime,
-    name: &'a String,
-    detail: Detail,
-) -> Result<Box<Source<ExtractInput<'a>>>, AllocError> {
-    Ok(Box::new(rt.alloc(), source_of(rt, "", name, detail))?)
+    let file = Some(inputs.first.as_str());
+    Some(source_of(rt, "holidays", file, detail))
 }
 
 /// Writes the prepared extract of the last input, with the holidays of the one before it, if there is one.
 // Inlined, it would keep its inputs on the stack beside those of `update`.
 #[inline(never)]
-fn prepare(rt: HostRuntime, job: &PrepareJob, request: &Request, errors: &mut Sink<Stderr>) -> u8 {
+fn prepare(
+    rt: HostRuntime,
+    job: &PrepareJob,
+    request: &Request,
+    errors: &mut Sink<Stderr>,
+) -> Result<u8, Fault> {
     let alloc = rt.alloc();
     let detail = Detail::of(rt, request.verbose);
     let mut holidays = source_of_holidays(rt, &request.inputs, detail);
     let file = request.inputs.rest.first().unwrap_or(&request.inputs.first);
-    let Ok(mut source) = boxed_source(rt, file, detail) else {
-        return end(&Err(Fault::Memory), errors);
-    };
+    let mut source = boxed_source(rt, "", Some(file.as_str()), detail)?;
     let mut written = OutputState::new();
-    let output = Output {
-        writer: rt.stdout(),
-        written: &mut written,
-    };
-    let ended = match buffered(alloc, output) {
-        // The process ends after this: the system takes back the memory of all bodies at once.
-        Ok(mut output) => ManuallyDrop::new(run_prepare(
-            alloc,
-            job,
-            &mut holidays,
-            &mut *source,
-            &mut output,
-            errors,
-        )),
-        Err(fault) => return end(&Err(fault), errors),
-    };
+    let mut output = standard_output(rt, &mut written)?;
+    let ended = run_prepare(
+        alloc,
+        job,
+        &mut holidays,
+        &mut *source,
+        &mut output,
+        errors,
+    );
+    // The process ends after this: the system takes back the memory of all bodies at once.
+    let ended = ManuallyDrop::new(ended);
     if detail.helps() {
         let mut message = Message::new(alloc);
         match &ended.answer {
@@ -102,22 +80,31 @@ fn prepare(rt: HostRuntime, job: &PrepareJob, request: &Request, errors: &mut Si
                 add_prepared(source.reader(), &ended.kept, clashing, &mut message);
             }
             Err(fault) => {
-                let reader = Reader::Feeds {
-                    has_holidays: holidays.is_some(),
-                };
-                match holidays.as_ref().map(Source::reader) {
-                    Some(input) if !source.reader().is_touched() => {
-                        input.add_feed_fault(fault, reader, &written, &mut message);
-                    }
-                    _ => source
-                        .reader()
-                        .add_feed_fault(fault, reader, &written, &mut message),
-                }
+                let holidays = holidays.as_ref().map(Source::reader);
+                add_unprepared(holidays, source.reader(), fault, &written, &mut message);
             }
         }
         message.tell(errors);
     }
-    ended.status
+    Ok(ended.status)
+}
+
+/// Adds why there is no prepared extract, of the input that was read last.
+fn add_unprepared(
+    holidays: Option<&ExtractInput<'_>>,
+    extract: &ExtractInput<'_>,
+    fault: &FeedFault,
+    written: &OutputState,
+    message: &mut Message,
+) {
+    let reader = Reader::Feeds {
+        has_holidays: holidays.is_some(),
+    };
+    let input = match holidays {
+        Some(holidays) if !extract.is_touched() => holidays,
+        _ => extract,
+    };
+    input.add_feed_fault(fault, reader, written, message);
 }
 
 /// Adds what was read of the extract that was prepared, and how many of its records were cut: by holidays, and by
@@ -159,36 +146,33 @@ fn sources_of<'a>(
     detail: Detail,
 ) -> Result<Vec<Source<ExtractInput<'a>>>, AllocError> {
     let mut sources = Vec::new(rt.alloc());
-    sources.push(source_of(rt, "FULL", &inputs.first, detail))?;
+    let full = Some(inputs.first.as_str());
+    sources.push(source_of(rt, "FULL", full, detail))?;
     for name in &inputs.rest {
-        sources.push(source_of(rt, "UPDATE", name, detail))?;
+        sources.push(source_of(rt, "UPDATE", Some(name.as_str()), detail))?;
     }
     Ok(sources)
 }
 
 /// Writes what the updates make of the full extract, the first input.
 #[inline(never)]
-fn update(rt: HostRuntime, job: &UpdateJob, request: &Request, errors: &mut Sink<Stderr>) -> u8 {
+fn update(
+    rt: HostRuntime,
+    job: &UpdateJob,
+    request: &Request,
+    errors: &mut Sink<Stderr>,
+) -> Result<u8, Fault> {
     let alloc = rt.alloc();
     let detail = Detail::of(rt, request.verbose);
-    let Ok(mut sources) = sources_of(rt, &request.inputs, detail) else {
-        return end(&Err(Fault::Memory), errors);
-    };
+    let mut sources = sources_of(rt, &request.inputs, detail)?;
     let Some((full, updates)) = sources.split_first_mut() else {
-        return DONE;
+        return Ok(DONE);
     };
     let mut written = OutputState::new();
-    let output = Output {
-        writer: rt.stdout(),
-        written: &mut written,
-    };
-    let ended = match buffered(alloc, output) {
-        // The process ends after this: the system takes back the memory of all bodies at once.
-        Ok(mut output) => {
-            ManuallyDrop::new(run_update(alloc, job, full, updates, &mut output, errors))
-        }
-        Err(fault) => return end(&Err(fault), errors),
-    };
+    let mut output = standard_output(rt, &mut written)?;
+    let ended = run_update(alloc, job, full, updates, &mut output, errors);
+    // The process ends after this: the system takes back the memory of all bodies at once.
+    let ended = ManuallyDrop::new(ended);
     if detail.helps() {
         let mut message = Message::new(alloc);
         match &ended.answer {
@@ -205,7 +189,7 @@ fn update(rt: HostRuntime, job: &UpdateJob, request: &Request, errors: &mut Sink
         }
         message.tell(errors);
     }
-    ended.status
+    Ok(ended.status)
 }
 
 /// Adds why an update of this input isn't done, or why this input isn't read.

@@ -1,7 +1,7 @@
 //! From the words of the process to its status. No clause says what is done here: the rows of `tests/`
 //! show it on the built program.
 use crate::advice::DoneJob;
-use crate::devices::{ExtractInput, Output, OutputState, buffered};
+use crate::devices::{OutputState, boxed_source, buffered, standard_output};
 use crate::feeds::feed_task;
 use crate::job::{Job, JobFault, Request, Task};
 use crate::message::Detail;
@@ -9,9 +9,8 @@ use crate::run::{run_fault, run_job};
 use crate::status::{USAGE_ERROR, end};
 use crate::word_advice::advise_on_word;
 use crate::words::task_of;
-use cif_columns::{Sink, Source};
+use cif_columns::Sink;
 use cif_extract::Fault;
-use std::alloc::AllocError;
 use std::io::{ErrorKind, Stderr};
 use std::mem::ManuallyDrop;
 use std::{env, io};
@@ -39,10 +38,13 @@ pub fn run(rt: HostRuntime) -> u8 {
 /// Does what these words ask for, and returns the status to exit with.
 fn run_words(rt: HostRuntime, words: Vec<String>, errors: &mut Sink<Stderr>) -> u8 {
     match task_of(rt.alloc(), words) {
-        Ok(request) => match &request.task {
-            Task::Extract(job) => done(rt, job, &request, errors),
-            Task::Feed(job) => feed_task(rt, job, &request, errors),
-        },
+        Ok(request) => {
+            let done = match &request.task {
+                Task::Extract(job) => extract_task(rt, job, &request, errors),
+                Task::Feed(job) => feed_task(rt, job, &request, errors),
+            };
+            end(&done, errors)
+        }
         Err(fault) => refused(rt, fault, errors),
     }
 }
@@ -69,23 +71,16 @@ fn words_of(rt: HostRuntime) -> io::Result<Vec<String>> {
     Ok(env::args(&rt)?.collect(rt.alloc())?)
 }
 
-/// The input of this name, on the heap, since a small stack has no room for two; `side` says which it is.
-// Inlined, it would keep a copy on the stack of its caller.
-#[inline(never)]
-fn boxed_source<'a>(
-    rt: HostRuntime,
-    side: &'static str,
-    file: Option<&'a str>,
-    detail: Detail,
-) -> Result<Box<Source<ExtractInput<'a>>>, AllocError> {
-    let input = ExtractInput::of(rt, side, file, detail);
-    Ok(Box::new(rt.alloc(), Source::new(input))?)
-}
-
-/// Answers the job on the standard output, and returns the status to exit with.
+/// Answers the job on the standard output, and returns the status to exit with. Memory comes where there is none for its inputs
+/// or its output.
 // Inlined, it would keep its inputs on the stack while a feed is read.
 #[inline(never)]
-fn done(rt: HostRuntime, job: &Job, request: &Request, errors: &mut Sink<Stderr>) -> u8 {
+fn extract_task(
+    rt: HostRuntime,
+    job: &Job,
+    request: &Request,
+    errors: &mut Sink<Stderr>,
+) -> Result<u8, Fault> {
     // Of a job with one input `right` stands for no file, and is never touched.
     let right_file = request.inputs.rest.first().map(String::as_str);
     let (side, right_side) = match right_file {
@@ -95,29 +90,13 @@ fn done(rt: HostRuntime, job: &Job, request: &Request, errors: &mut Sink<Stderr>
     let alloc = rt.alloc();
     let detail = Detail::of(rt, request.verbose);
     let left_file = Some(request.inputs.first.as_str());
-    let Ok(mut left) = boxed_source(rt, side, left_file, detail) else {
-        return end(&Err(Fault::Memory), errors);
-    };
-    let Ok(mut right) = boxed_source(rt, right_side, right_file, detail) else {
-        return end(&Err(Fault::Memory), errors);
-    };
+    let mut left = boxed_source(rt, side, left_file, detail)?;
+    let mut right = boxed_source(rt, right_side, right_file, detail)?;
     let mut written = OutputState::new();
-    let output = Output {
-        writer: rt.stdout(),
-        written: &mut written,
-    };
-    let mut ended = match buffered(alloc, output) {
-        // The process ends after this: the system takes back the memory of all bodies at once.
-        Ok(mut output) => ManuallyDrop::new(run_job(
-            alloc,
-            job,
-            &mut *left,
-            &mut *right,
-            &mut output,
-            errors,
-        )),
-        Err(fault) => return end(&Err(fault), errors),
-    };
+    let mut output = standard_output(rt, &mut written)?;
+    let ended = run_job(alloc, job, &mut *left, &mut *right, &mut output, errors);
+    // The process ends after this: the system takes back the memory of all bodies at once.
+    let mut ended = ManuallyDrop::new(ended);
     if detail.helps() {
         let done_job = DoneJob {
             detail,
@@ -129,5 +108,5 @@ fn done(rt: HostRuntime, job: &Job, request: &Request, errors: &mut Sink<Stderr>
         let ended = &mut *ended;
         done_job.advise(alloc, &ended.answer, &mut ended.kept, errors);
     }
-    ended.status
+    Ok(ended.status)
 }

@@ -298,10 +298,7 @@ fn word_of<'a>(matches: &ArgMatches<'a>, id: &str) -> Option<&'a str>
 fn required_word<'a>(matches: &ArgMatches<'a>, id: &str) -> &'a str
     ensures { result.now ≡ required_word id.now (rows_of (found_of matches.now)) }
 {
-    match word_of(matches, id) {
-        Some(word) => word,
-        None => "",
-    }
+    word_of(matches, id).unwrap_or("")
 }
 
 /// The words under this id, in their order, if there are any.
@@ -316,10 +313,7 @@ fn words_of<'m, 'a>(matches: &'m ArgMatches<'a>, id: &str) -> Option<&'m [&'a st
 fn file_of<'a>(matches: &ArgMatches<'a>) -> &'a str
     ensures { result.now ≡ file_of (rows_of (found_of matches.now)) }
 {
-    match word_of(matches, "FILE") {
-        Some(name) => name,
-        None => "-",
-    }
+    word_of(matches, "FILE").unwrap_or("-")
 }
 
 /// Whether the word stands for the standard input.
@@ -347,10 +341,7 @@ fn date_of(matches: &ArgMatches<'_>, id: &str) -> Result<Option<Day>, JobFault>
         × HasBadDate id.now (rows_of (found_of matches.now))) }
 {
     match word_of(matches, id) {
-        Some(word) => match day_of_word(word) {
-            Some(day) => Ok(Some(day)),
-            None => Err(JobFault::BadDate),
-        },
+        Some(word) => Ok(Some(day_of_word(word).ok_or(JobFault::BadDate)?)),
         None => Ok(None),
     }
 }
@@ -361,10 +352,7 @@ fn day_of(matches: &ArgMatches<'_>) -> Result<Day, JobFault>
     ensures err { IfErr result (λ fault. (fault ≡ JobFault.BadDate)
         × NamesNoDay (required_word (codes "YYMMDD") (rows_of (found_of matches.now)))) }
 {
-    match day_of_word(required_word(matches, "YYMMDD")) {
-        Some(day) => Ok(day),
-        None => Err(JobFault::BadDate),
-    }
+    day_of_word(required_word(matches, "YYMMDD")).ok_or(JobFault::BadDate)
 }
 
 /// The UID that the word UID is.
@@ -373,10 +361,7 @@ fn uid_of(matches: &ArgMatches<'_>) -> Result<Uid, JobFault>
     ensures err { IfErr result (λ fault. (fault ≡ JobFault.BadUid)
         × IsNoUid (required_word (codes "UID") (rows_of (found_of matches.now)))) }
 {
-    match uid_of_word(required_word(matches, "UID")) {
-        Some(uid) => Ok(uid),
-        None => Err(JobFault::BadUid),
-    }
+    uid_of_word(required_word(matches, "UID")).ok_or(JobFault::BadUid)
 }
 
 /// The form that the words name.

@@ -1,10 +1,11 @@
 -- The text of calls that are written one after another, and of the rows of a table that has them.
-use Rattle.cif_views.proofs.Names.{At, BodyLines, Bool, Bor, Call, Field, Format, List, Text, Trimmed, Tsv, Turn, [], ap, append-nil}
-use Rattle.cif_views.proofs.Names.{append_assoc, ap₂, arith, association_names, at_drop_all, at_drop_more, call_text, calls_text, codes}
-use Rattle.cif_views.proofs.Names.{day_names, drop, explanation_heading, false, fields_text, flat_map, get_or, heading_text, if_table}
-use Rattle.cif_views.proofs.Names.{if◌then◌else◌, joined-rows, length, line_of, lines_of_row, map, names_behind, names_line, parts_in, refl}
-use Rattle.cif_views.proofs.Names.{row_and_calls, row_lines, row_start, separator, shown, subst, sym, train_names, true, with_calls}
+use Rattle.cif_views.proofs.Names.{At, BodyLines, Bor, Call, Field, Format, List, Text, Trimmed, Tsv, Turn, [], ap, append-nil}
+use Rattle.cif_views.proofs.Names.{append_assoc, ap₂, arith, at_drop_all, at_drop_more, call_text, calls_text, codes}
+use Rattle.cif_views.proofs.Names.{call_names_if, drop, fields_text, flat_map, get_or, heading_text, if◌then◌else◌}
+use Rattle.cif_views.proofs.Names.{joined-rows, journey_names, length, line_of, lines_of_row, map, names_line, parts_in, refl}
+use Rattle.cif_views.proofs.Names.{row_and_calls, row_lines, row_start, separator, shown, subst, sym, texts, with_calls}
 use Rattle.cif_views.proofs.Names.{with_first, ℕ, ◌++◌, ◌+◌, ◌<◌, ◌∙◌, ◌∷◌, ◌≡◌, ◌≤◌}
+use Rattle.std.specs.List.{join_with_byte}
 use Rattle.cif_canon.proofs.ViewLines.{IsGrowing}
 use Rattle.cif_canon.specs.Fields.{after}
 use Rattle.cif_views.specs.declared.listing.Listing.{Listing}
@@ -104,33 +105,50 @@ with_first-lines listing first field fields b =
     ap (λ (l : List ℕ). row_lines listing l b) (with_first-text listing.format first field fields)
     ∙ row-lines listing (with_first listing.format first (field ∷ fields)) b (with_first-some listing.format first field fields)
 
--- the first lines of tables, by the names of their fields
-day-names : (format : Format) (calls : Bool) → let listing : Listing = record { format = format; calls = calls } in
-    heading_text listing (codes "date\tkind\tuid") (names_behind association_names)
-    ≡ if_table format (names_line (day_names listing))
-day-names Text calls = refl
-day-names Tsv true = refl
-day-names Tsv false = refl
+-- names, a tab before each, and what follows them
+abbrev pub behind_tabs : List (Bor (List ℕ)) → List ℕ
+behind_tabs names = flat_map (λ name. 9 ∷ name.now) names
 
-pub day-heading : (listing : Listing) →
-    heading_text listing (codes "date\tkind\tuid") (names_behind association_names)
-    ≡ if_table listing.format (names_line (day_names listing))
-day-heading listing = day-names listing.format listing.calls
+all_behind_tabs : List (List ℕ) → List ℕ
+all_behind_tabs names = flat_map (λ name. 9 ∷ name) names
 
-train-row-names : (format : Format) (calls : Bool) → let listing : Listing = record { format = format; calls = calls } in
-    heading_text listing (codes "uid\tfirst_date\tlast_date\tdays_run") [] ≡ if_table format (names_line (train_names listing))
-train-row-names Text calls = refl
-train-row-names Tsv true = refl
-train-row-names Tsv false = refl
+more-names : (names : List (Bor (List ℕ))) (rest : List (List ℕ)) (line : List ℕ) → line ≡ all_behind_tabs rest ++ codes "\n" →
+    behind_tabs names ++ line ≡ all_behind_tabs (texts names ++ rest) ++ codes "\n"
+more-names [] rest line is = is
+more-names (name ∷ names) rest line is =
+    append_assoc (9 ∷ name.now) (behind_tabs names) line
+    ∙ ap (λ (l : List ℕ). (9 ∷ name.now) ++ l) (more-names names rest line is)
+    ∙ sym (append_assoc (9 ∷ name.now) (all_behind_tabs (texts names ++ rest)) (codes "\n"))
 
-pub train-heading : (listing : Listing) →
-    heading_text listing (codes "uid\tfirst_date\tlast_date\tdays_run") []
-    ≡ if_table listing.format (names_line (train_names listing))
-train-heading listing = train-row-names listing.format listing.calls
+names-joined : (first : List ℕ) (names : List (List ℕ)) → first ++ all_behind_tabs names ≡ join_with_byte 9 (first ∷ names)
+names-joined first [] = append-nil first
+names-joined first (name ∷ names) = ap (λ (l : List ℕ). first ++ (9 ∷ l)) (names-joined name names)
 
-pub explained-heading : (format : Format) →
-    heading_text (record { format = format; calls = false })
-    (codes "date\tmark\tkind\tstp_indicator\tfirst_date\tlast_date\tdays_run\tuid") (names_behind association_names)
-    ≡ explanation_heading format
-explained-heading Text = refl
-explained-heading Tsv = refl
+line-joined : (first line : List ℕ) (names : List (List ℕ)) → line ≡ all_behind_tabs names ++ codes "\n" →
+    first ++ line ≡ names_line (first ∷ names)
+line-joined first line names is =
+    ap (λ (l : List ℕ). first ++ l) is
+    ∙ sym (append_assoc first (all_behind_tabs names) (codes "\n"))
+    ∙ ap (λ (l : List ℕ). l ++ codes "\n") (names-joined first names)
+
+-- the line of some names
+pub names-line : (first : List ℕ) (names : List (Bor (List ℕ))) →
+    first ++ (behind_tabs names ++ codes "\n") ≡ names_line (first ∷ texts names)
+names-line first names =
+    line-joined first (behind_tabs names ++ codes "\n") (texts names)
+    (more-names names [] (codes "\n") refl
+    ∙ ap (λ (ns : List (List ℕ)). all_behind_tabs ns ++ codes "\n") (append-nil (texts names)))
+
+-- the line of a heading: `journey` and `calls` are the names of a journey and of a call, if calls are listed
+pub heading-line : (listing : Listing) (first : List ℕ) (next journey others calls : List (Bor (List ℕ))) → listing.format ≡ Tsv →
+    texts journey ≡ journey_names → texts calls ≡ call_names_if listing →
+    first ++ (behind_tabs next ++ (behind_tabs journey ++ (behind_tabs others ++ (behind_tabs calls ++ codes "\n"))))
+    ≡ heading_text listing first (texts next) (texts others)
+heading-line listing first next journey others calls table is_journey is_calls =
+    rw (table, sym is_journey, sym is_calls)
+    (line-joined first _ (texts next ++ (texts journey ++ (texts others ++ texts calls)))
+    (more-names next _ _
+    (more-names journey _ _
+    (more-names others _ _
+    (more-names calls [] (codes "\n") refl
+    ∙ ap (λ (ns : List (List ℕ)). all_behind_tabs ns ++ codes "\n") (append-nil (texts calls)))))))

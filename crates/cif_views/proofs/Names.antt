@@ -102,7 +102,7 @@ pub use Rattle.cif_views.specs.Steps.Explanation.{AreMarked, AreMarkedOn, ArePla
 pub use Rattle.cif_views.specs.Steps.Explanation.{IsLike, IsMarkAmong, IsMarkAt, IsMarkOf, IsPlaced, IsRisingBy, Placed, marked_as}
 pub use Rattle.cif_views.specs.Steps.Explanation.{placed_at, placed_cmp, placed_of, unmarked}
 pub use Rattle.cif_views.specs.Steps.PublicRows.{IsJourneyBy, behind_schedule, row_of_step}
-pub use Rattle.cif_views.specs.Steps.Rows.{first_field, heading_text, names_behind, row_and_calls, row_lines}
+pub use Rattle.cif_views.specs.Steps.Rows.{first_field, heading_text, row_and_calls, row_lines, texts}
 pub use Rattle.cif_views.specs.Steps.TableRows.{has_row, journey_columns, journey_rows, row_of_kind, rows_of}
 pub use Rattle.cif_views.specs.Steps.WeekCalendar.{state_in}
 unfoldable pub use Rattle.cif_views.specs.TableText.{table_text}

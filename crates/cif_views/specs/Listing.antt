@@ -81,16 +81,22 @@ abbrev pub if_table : Format → List ℕ → List ℕ
 if_table Text line = []
 if_table Tsv line = line
 
+abbrev pub day_heading : Listing → List ℕ
+day_heading listing = if_table listing.format (names_line (day_names listing))
+
+abbrev pub train_heading : Listing → List ℕ
+train_heading listing = if_table listing.format (names_line (train_names listing))
+
 abbrev pub day_texts : Listing → ℕ → DayTexts
 day_texts listing d = record {
-  heading = if_table listing.format (names_line (day_names listing));
+  heading = day_heading listing;
   association = association_line listing (date_field d);
   train = train_text listing (date_field d);
 }
 
 abbrev pub train_texts : Listing → List ℕ → TrainTexts
 train_texts listing uid = record {
-  heading = if_table listing.format (names_line (train_names listing));
+  heading = train_heading listing;
   schedule = schedule_text listing (uid_field uid);
 }
 

@@ -21,12 +21,33 @@ use crate::columns::{
     ASSOCIATION, ASSOCIATION_HEAD, BASIC, BASIC_HEAD, CALL, CHANGE, Column, EXTRA, JourneyKind,
     Span, TIPLOC_HEAD, call_after, extra_among, kind_of_line, span_in,
 };
+use crate::heading::write_names;
 use crate::table_row::{TableRow, columns_of};
-use cif_canon::writing::{Texts, answer, append};
+use cif_canon::writing::{Texts, answer};
 use cif_canon::{CanonSchedule, Differences, ListedRecord, Shape, Side, Sided};
 use cif_columns::{Line, LineSlice, Sink, Uid, WriteDevice, columns_at, used_columns};
 use cif_extract::{Body, Fault};
 use cif_records::{AssocBody, AssocKey, Kind, Tiploc, kind_of};
+
+/// The fields behind the first.
+const FIELDS: [&str; 16] = [
+    "kind",
+    "tiploc",
+    "uid",
+    "associated_uid",
+    "location",
+    "base_suffix",
+    "associated_suffix",
+    "first_date",
+    "last_date",
+    "days_run",
+    "call",
+    "record",
+    "place",
+    "field",
+    "left",
+    "right",
+];
 
 /// Appends the table of the differences: a line of names, a row for each location and for each record
 /// of one side alone, and for each pair of records a row for each field that differs.
@@ -37,11 +58,7 @@ pub fn write_difference_table<'a, W: WriteDevice>(
     ensures writes { Writes W.contents W.write_errors (difference_table found.now) sink.old sink.new result }
     ensures fault { IfErr result (λ fault. fault ≡ Write) }
 {
-    append(
-        "change\tkind\ttiploc\tuid\tassociated_uid\tlocation\tbase_suffix\tassociated_suffix\
-        \tfirst_date\tlast_date\tdays_run\tcall\trecord\tplace\tfield\tleft\tright\n",
-        sink,
-    );
+    write_names("change", &FIELDS, sink);
     found.list_tiplocs(&DifferenceTable, sink);
     found.list_associations(&DifferenceTable, sink);
     found.list_schedules(&DifferenceTable, sink);

@@ -12,12 +12,13 @@ ghost use Rattle.cif_canon.specs.declared.rows.Format.TheVariants.{Text};
 ghost use Rattle.cif_canon.specs.declared.rows.Shape.TheVariants.{Trimmed};
 ghost use Rattle.cif_views.specs.Listing.{date_field};
 
-use crate::listing::{ASSOCIATION, Listing, heading};
+use crate::heading::{ASSOCIATION, write_heading};
+use crate::listing::Listing;
 use crate::marks::{Applying, ExplainedEntry, Mark, mark_at, records_on};
 use arrayvec::ArrayString;
 use cif_calendar::Entry;
 use cif_canon::rows::{
-    LONGEST_ROW, NO_ASSOCIATION, NO_TRAIN, push_association, push_field, push_fields,
+    ASSOCIATION_FIELDS, JOURNEY_FIELDS, LONGEST_ROW, TRAIN_FIELDS, push_association, push_field, push_fields,
     push_left_out, push_train, row_start, started,
 };
 use cif_canon::writing::{answer, append};
@@ -26,6 +27,17 @@ use cif_columns::{Day, Sink, Uid, WriteDevice};
 use cif_extract::{Extract, Fault, Schedule};
 use cif_records::Association;
 use std::alloc::Global;
+
+/// The fields of a record that applies, behind the date.
+const EXPLAINED: [&str; 7] = [
+    "mark",
+    "kind",
+    "stp_indicator",
+    "first_date",
+    "last_date",
+    "days_run",
+    "uid",
+];
 
 /// Appends why the train runs on the day, or doesn't: a line for each record that applies, with its
 /// mark. First come its associations, of which it is the base or the associated train, by key, and then
@@ -71,8 +83,7 @@ pub fn explain_listing<W: WriteDevice>(
         format,
         calls: false,
     };
-    let first = "date\tmark\tkind\tstp_indicator\tfirst_date\tlast_date\tdays_run\tuid";
-    append(heading(listing, first, ASSOCIATION).as_str(), sink);
+    write_heading(listing, "date", &EXPLAINED, &ASSOCIATION, sink);
     write_explained(format, day, associations.as_slice(), sink);
     write_explained(format, day, trains.as_slice(), sink);
     answer(sink)
@@ -162,7 +173,7 @@ fn push_said_of_association(
                     (Shape::Whole, &key.associated.write()),
                 ],
             );
-            push_left_out(line, format, "\t\t");
+            push_left_out(line, format, 2);
             push_fields(
                 line,
                 format,
@@ -172,7 +183,7 @@ fn push_said_of_association(
                     (Shape::Trimmed, &key.associated_suffix.write()),
                 ],
             );
-            push_left_out(line, format, "\t\t");
+            push_left_out(line, format, 2);
         }
     }
 }
@@ -188,7 +199,7 @@ fn push_said_of_train(line: &mut ArrayString<LONGEST_ROW>, format: Format, sched
         Some(body) => push_train(line, format, &schedule.uid, body),
         None => {
             push_field(line, format, Shape::Whole, &schedule.uid.write());
-            push_left_out(line, format, "\t\t\t\t\t\t\t\t\t");
+            push_left_out(line, format, JOURNEY_FIELDS);
         }
     }
 }
@@ -207,7 +218,7 @@ impl ExplainedEntry for Association {
     fn line(&self, format: Format, day: Day, mark: Mark) -> ArrayString<LONGEST_ROW> {
         let mut line = begun(format, day, mark, b"AA");
         push_terms(&mut line, format, self);
-        push_left_out(&mut line, format, NO_TRAIN);
+        push_left_out(&mut line, format, TRAIN_FIELDS);
         push_said_of_association(&mut line, format, self);
         line.push_str("\n");
         line
@@ -229,7 +240,7 @@ impl ExplainedEntry for Schedule {
         let mut line = begun(format, day, mark, b"BS");
         push_terms(&mut line, format, self);
         push_said_of_train(&mut line, format, self);
-        push_left_out(&mut line, format, NO_ASSOCIATION);
+        push_left_out(&mut line, format, ASSOCIATION_FIELDS);
         line.push_str("\n");
         line
     }

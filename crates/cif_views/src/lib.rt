@@ -9,6 +9,7 @@ mod columns;
 mod difference_table;
 mod explanation;
 mod find_clashes;
+mod heading;
 pub mod laws;
 mod listing;
 mod marks;

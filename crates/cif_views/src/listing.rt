@@ -1,14 +1,15 @@
 //! What runs on a day, and when a train runs, as text or as a table, with or without calls.
-ghost use Rattle.std.specs.Prelude.{◌≡◌, ◌+◌, ◌++◌, ◌≤◌, ℕ, List, IfErr, length};
+ghost use Rattle.std.specs.Prelude.{◌≡◌, ◌+◌, ◌++◌, ◌≤◌, ℕ, List, IfErr};
 ghost use Rattle.arrayvec.specs.ArrayString.{array_string_len};
 ghost use Rattle.cif_canon.specs.Fields.{after, row_start};
 ghost use Rattle.cif_canon.specs.Normalised.{FaultWrites, IfWritten};
 ghost use Rattle.cif_canon.specs.Views.{IsDayFault, IsTrainFault};
 ghost use Rattle.cif_extract.specs.ExtractParts.{extract_parts};
-ghost use Rattle.cif_views.specs.Listing.{IsDayListing, IsTrainListing, association_line, call_names_if, no_call};
-ghost use Rattle.cif_views.specs.Steps.Rows.{first_field, heading_text, names_behind};
+ghost use Rattle.cif_views.specs.Listing.{IsDayListing, IsTrainListing, association_line, no_call};
+ghost use Rattle.cif_views.specs.Steps.Rows.{first_field};
 
 use crate::calls::write_row;
+use crate::heading::{ASSOCIATION, write_heading};
 use arrayvec::ArrayString;
 use cif_canon::rows::{
     LONGEST_ROW, ROW_START, association_row, push_left_out, row_start, schedule_row, train_row,
@@ -31,49 +32,6 @@ pub struct Listing {
     pub calls: bool,
 }
 
-/// The names of the fields of a journey.
-const JOURNEY: &str = "\tidentity\torigin\torigin_suffix\tdeparture\torigin_platform\
-    \tterminus\tterminus_suffix\tarrival\tterminus_platform";
-
-/// The names of the fields of an association.
-pub(crate) const ASSOCIATION: &str = "\tbase_uid\tassociated_uid\tassociation_category\
-    \tdate_indicator\tassociation_location\tbase_suffix\tassociated_suffix\tdiagram_type\
-    \tassociation_type";
-
-/// The names of the fields of a call.
-const CALL: &str = "\tcall\tcall_location\tcall_suffix\tcall_arrival\tcall_departure\
-    \tcall_pass\tcall_public_arrival\tcall_public_departure\tcall_platform\tcall_path\
-    \tcall_line\tcall_activities";
-
-/// The names of a table's fields: the first ones, those of a journey, the others, and those of a call if
-/// calls are listed. Text has none.
-pub(crate) fn heading(listing: Listing, first: &str, others: &str) -> ArrayString<512>
-    requires first { length first.now ≤ 80 }
-    requires others { length others.now ≤ 150 }
-    ensures { result.bytes ≡ heading_text listing first.now others.now }
-{
-    let mut line = ArrayString::new();
-    match listing.format {
-        Format::Text => line,
-        Format::Tsv => {
-            line.push_str(first);
-            line.push_str(JOURNEY);
-            line.push_str(others);
-            line.push_str(call_names(listing));
-            line.push_str("\n");
-            line
-        }
-    }
-}
-
-/// The names of the fields of a call, if calls are listed.
-fn call_names(listing: Listing) -> &'static str
-    ensures names { result.now ≡ names_behind (call_names_if listing) }
-    ensures len { length result.now ≤ 161 }
-{
-    if listing.calls { CALL } else { "" }
-}
-
 /// Appends what runs on the day, as `day_view` does, in this listing. A table begins with the names of
 /// its fields.
 pub fn day_listing<W: WriteDevice>(
@@ -88,12 +46,11 @@ pub fn day_listing<W: WriteDevice>(
         × IfWritten result (IsDayListing listing (extract_parts extract.now) day text) }
     ensures fault { IfErr result (IsDayFault (extract_parts extract.now) day) }
 {
-    let names = heading(listing, "date\tkind\tuid", ASSOCIATION);
     let rows = ListedRows {
         listing,
         first: First::Date(day),
     };
-    write_day(alloc, extract, day, sink, names.as_str(), &rows)
+    write_day(alloc, extract, day, sink, &rows)
 }
 
 /// Appends when the train runs, as `train_view` does, in this listing. A table begins with the names of
@@ -111,12 +68,11 @@ pub fn train_listing<W: WriteDevice>(
         × IfWritten result (IsTrainListing listing form (extract_parts extract.now) uid.now text) }
     ensures fault { IfErr result (IsTrainFault (extract_parts extract.now)) }
 {
-    let names = heading(listing, "uid\tfirst_date\tlast_date\tdays_run", "");
     let rows = ListedRows {
         listing,
         first: First::Train(*uid),
     };
-    write_train(alloc, extract, uid, sink, form, names.as_str(), &rows)
+    write_train(alloc, extract, uid, sink, form, &rows)
 }
 
 /// What the rows of a table begin with.
@@ -148,12 +104,18 @@ impl ListedRows {
 }
 
 impl DayLines for ListedRows {
-    ghost use Rattle.cif_views.specs.Listing.{association_line, train_text};
+    ghost use Rattle.cif_views.specs.Listing.{association_line, day_heading, train_text};
     ghost use Rattle.cif_views.specs.Steps.Rows.{first_field};
+
+    ghost heading = { λ rows. day_heading rows.listing };
 
     ghost association = { λ rows. association_line rows.listing (first_field rows.first) };
 
     ghost train = { λ rows. train_text rows.listing (first_field rows.first) };
+
+    fn write_heading<W: WriteDevice>(&self, sink: &mut Sink<W>) {
+        write_heading(self.listing, "date", &["kind", "uid"], &ASSOCIATION, sink);
+    }
 
     fn write_association<W: WriteDevice>(
         &self,
@@ -171,10 +133,17 @@ impl DayLines for ListedRows {
 }
 
 impl TrainLines for ListedRows {
-    ghost use Rattle.cif_views.specs.Listing.{schedule_text};
+    ghost use Rattle.cif_views.specs.Listing.{schedule_text, train_heading};
     ghost use Rattle.cif_views.specs.Steps.Rows.{first_field};
 
+    ghost heading = { λ rows. train_heading rows.listing };
+
     ghost schedule = { λ rows. schedule_text rows.listing (first_field rows.first) };
+
+    fn write_heading<W: WriteDevice>(&self, sink: &mut Sink<W>) {
+        let dates = ["first_date", "last_date", "days_run"];
+        write_heading(self.listing, "uid", &dates, &[], sink);
+    }
 
     fn write_schedule<W: WriteDevice>(&self, run: &Run, body: &Body, sink: &mut Sink<W>) {
         let row = schedule_row(self.row_start().as_str(), self.listing.format, run, body);
@@ -200,6 +169,6 @@ fn push_no_call(line: &mut ArrayString<LONGEST_ROW>, listing: Listing)
     ensures len { array_string_len line.new ≤ array_string_len line.old + 12 }
 {
     if listing.calls {
-        push_left_out(line, listing.format, "\t\t\t\t\t\t\t\t\t\t\t\t");
+        push_left_out(line, listing.format, 12);
     }
 }

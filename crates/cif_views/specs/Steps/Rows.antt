@@ -1,12 +1,13 @@
 -- The lines of a train, by the text of its row, and the first lines of tables by that of some names. No public clause cites them.
-use Rattle.std.specs.Prelude.{List, ℕ, ◌∷◌, ◌++◌, codes, if◌then◌else◌}
-use Rattle.std.specs.List.{flat_map}
+use Rattle.std.specs.Prelude.{List, ℕ, ◌∷◌, ◌++◌, codes, if◌then◌else◌, map}
+use Rattle.std.specs.Borrow.{Bor}
 use Rattle.cif_extract.specs.Body.{BodyLines}
 use Rattle.cif_canon.specs.Fields.{Field, line_of}
 use Rattle.cif_canon.specs.declared.rows.Format.{Format}
 use Rattle.cif_canon.specs.declared.rows.Format.TheVariants.{Text, Tsv}
 use Rattle.cif_views.specs.Calls.{calls_text}
 use Rattle.cif_views.specs.Listing.{call_names_if, date_field, if_table, journey_names, uid_field}
+use Rattle.cif_views.specs.Tables.{names_line}
 use Rattle.cif_views.specs.declared.listing.First.{First}
 use Rattle.cif_views.specs.declared.listing.First.TheVariants.{Date, Train}
 use Rattle.cif_views.specs.declared.listing.Listing.{Listing}
@@ -20,16 +21,14 @@ row_and_calls Tsv row b = calls_text (λ call. (row ++ codes "\t") ++ line_of Ts
 abbrev pub row_lines : Listing → List ℕ → BodyLines → List ℕ
 row_lines listing row b = if listing.calls then row_and_calls listing.format row b else (row ++ codes "\n")
 
--- names, a tab before each
-abbrev pub names_behind : List (List ℕ) → List ℕ
-names_behind names = flat_map (λ name. 9 ∷ name) names
+-- names, as the code has them
+abbrev pub texts : List (Bor (List ℕ)) → List (List ℕ)
+texts names = map (λ name. name.now) names
 
--- The first line of a table has `first` before the names of a journey, `others` behind them, and then the names of a call if calls are
--- listed.
-abbrev pub heading_text : Listing → List ℕ → List ℕ → List ℕ
-heading_text listing first others =
-    if_table listing.format
-    (first ++ (names_behind journey_names ++ (others ++ (names_behind (call_names_if listing) ++ codes "\n"))))
+-- The first line of a table has these names, those of a journey, the others, and those of a call if calls are listed.
+abbrev pub heading_text : Listing → List ℕ → List (List ℕ) → List (List ℕ) → List ℕ
+heading_text listing first next others =
+    if_table listing.format (names_line (first ∷ (next ++ (journey_names ++ (others ++ call_names_if listing)))))
 
 -- what the rows of a table begin with
 abbrev pub first_field : First → Field

@@ -24,7 +24,7 @@ returns-clause-view g c =
     let x = extract_parts c.args.extract.now in
     let runs = c.in_ok-runs.runs in
     let listed : DayTexts = record {
-      heading = c.args.heading.now;
+      heading = g.L.DayLines.heading c.args.lines.now;
       association = g.L.DayLines.association c.args.lines.now;
       train = g.L.DayLines.train c.args.lines.now;
     } in
@@ -32,7 +32,7 @@ returns-clause-view g c =
     let other = trains-text listed.train x c.args.day runs.schedules.items in (
       listed.heading ++ (one ++ other),
       fault-answered _ _ _ _ _ c.answer.result c.answer.ensures.ok c.answer.ensures.failed c.answer.ensures.fault
-          (both _ _ listed.heading (one ++ other) _ _ _ c.append.ensures
+          (both _ _ listed.heading (one ++ other) _ _ _ c.write_heading.ensures
           (both _ _ one other _ _ _
           (text-is _ _ _ _ _ _ (sliced (listed_on listed.association c.args.day) association_entry c.as_slice.result.now _
           c.as_slice-2.result.now _ c.as_slice.ensures.value c.as_slice-2.ensures.value) c.write_runs.ensures)

@@ -19,11 +19,11 @@ returns-clause-view g c =
     let uid = c.args.uid.now in
     let runs = c.in_ok-runs.runs in
     let listed : TrainTexts =
-    record { heading = c.args.heading.now; schedule = g.L.TrainLines.schedule c.args.lines.now } in
+    record { heading = g.L.TrainLines.heading c.args.lines.now; schedule = g.L.TrainLines.schedule c.args.lines.now } in
     let text : List ℕ = flat_map (run_text (listed_of listed.schedule uid) (schedule_entries x.schedules)) runs.schedules.items in (
       listed.heading ++ text,
       fault-answered _ _ _ _ _ c.answer.result c.answer.ensures.ok c.answer.ensures.failed c.answer.ensures.fault
-          (both _ _ listed.heading text _ _ _ c.append.ensures
+          (both _ _ listed.heading text _ _ _ c.write_heading.ensures
           (text-is _ _ _ _ _ _ (sliced (listed_of listed.schedule uid) schedule_entry c.as_slice.result.now x.schedules
           c.as_slice-2.result.now runs.schedules.items c.as_slice.ensures.value c.as_slice-2.ensures.value) c.write_runs.ensures)),
       written-so c.answer.result _ (train-listed listed x uid c.args.form runs.associations.items runs.schedules.items

@@ -3,7 +3,7 @@ use Rattle.cif_feed.proofs.Names.{All, All-drop, All-take, AreClashDays, List, a
 use Rattle.cif_feed.proofs.Names.{published_by, subst, sym, ℕ, ◌+◌, ◌<◌}
 use Rattle.cif_calendar.proofs.FirstClash.{same_key-cmp}
 use Rattle.cif_feed.proofs.CountedClashes.{counted-none}
-use Rattle.cif_feed.proofs.FoundKeys.{AreFoundUpTo, found-all, found-more, found-nothing, get-none}
+use Rattle.cif_feed.proofs.FoundKeys.{AreFoundUpTo, found-all, found-more, found-nothing, get-none, key-told, rising-days}
 use Rattle.cif_feed.proofs.dropped.find_clash_dates.Goals as goal
 
 pub loop-rest-init : goal.loop-rest-init
@@ -34,10 +34,13 @@ count_of_first_key-requires-clause-rising g c = c.loop-rest.invariant.found.sear
 pub split_at-requires : goal.split_at-requires
 split_at-requires g c = c.count_of_first_key.ensures.count.upto
 
-pub add_key-requires-clause-within : goal.add_key-requires-clause-within
-add_key-requires-clause-within g c =
+pub counted_clash_dates-requires : goal.counted_clash_dates-requires
+counted_clash_dates-requires g c =
     subst (λ (front : List ℕ). All (λ i. i < length c.args.entries.now) front) (sym c.split_at.ensures.front)
     (All-take (λ i. i < length c.args.entries.now) _ _ c.loop-rest.invariant.within)
+
+pub list_key-requires : goal.list_key-requires
+list_key-requires g c = record { rising = rising-days c.in_ok-found.found.items c.in_ok-found.ensures.rising }
 
 pub loop-rest-preserved : goal.loop-rest-preserved
 loop-rest-preserved g c =
@@ -51,7 +54,10 @@ loop-rest-preserved g c =
       found = rw (c.split_at.ensures.back)
           (found-more g.E.Key.Ord.cmp es are g.E.NamedEntry.clash_of g.E.Entry.stands_for c.args.told.now.items
           g.met.E.Key.Ord.total same c.loop-rest.told.items _ _ _ c.loop-rest.rest.now c.loop-rest.invariant.found
-          c.count_of_first_key.result c.count_of_first_key.ensures (rw c.split_at.ensures.front at c.in_ok-add_key.ensures));
+          c.count_of_first_key.result c.count_of_first_key.ensures (λ k at. key-told c.args.holidays.now g.E.Entry.key g.E.Entry.terms
+          g.E.PublishedEntry.published g.met.E.PublishedEntry.own_terms c.args.entries.now c.members.now g.E.Key.Ord.cmp
+          g.E.NamedEntry.clash_of g.E.Entry.stands_for _ _ _ _ _ _ c.index-entries-members.result _ some (within 0 0 some)
+          c.index-entries-members.is c.in_ok-found.ensures c.in_ok-list_key.ensures k at));
     }
 
 pub returns : goal.returns

@@ -5,26 +5,26 @@ use Rattle.cif_feed.proofs.prepare.write_prepared.Goals as goal
 
 pub returns-clause-prepared : goal.returns-clause-prepared
 returns-clause-prepared g c =
-    let h = c.args.holidays.now in
+    let h = c.args.preparation.holidays.now in
     let call = c.append_prepared-answer in
     let read = reads-named h c.args.max_lines g.R.Read.remaining g.R.ReadDevice.read_errors c.args.source.now c.read.new.source
     c.codes.result (Ok c.in_ok-extract.extract) c.codes.ensures c.in_ok-extract.ensures in
-    read_prepared h c.args.drops_clashes c.args.max_lines g.W.Write.contents g.W.WriteDevice.write_errors c.args.sink.now
+    read_prepared h c.args.preparation.drops_clashes c.args.max_lines g.W.Write.contents g.W.WriteDevice.write_errors c.args.sink.now
     call.new.sink _ c.in_ok-extract.extract read.ok call.result call.ensures
 
 pub returns-clause-reads : goal.returns-clause-reads
 returns-clause-reads g c =
-    let h = c.args.holidays.now in
+    let h = c.args.preparation.holidays.now in
     let call = c.append_prepared-answer in
     let read = reads-named h c.args.max_lines g.R.Read.remaining g.R.ReadDevice.read_errors c.args.source.now c.read.new.source
     c.codes.result (Ok c.in_ok-extract.extract) c.codes.ensures c.in_ok-extract.ensures in
     goes-on _ _ _ _ _ _ c.in_ok-extract.extract read call.result
-    (prepares h c.args.drops_clashes c.args.max_lines g.W.Write.contents g.W.WriteDevice.write_errors c.args.sink.now
+    (prepares h c.args.preparation.drops_clashes c.args.max_lines g.W.Write.contents g.W.WriteDevice.write_errors c.args.sink.now
     call.new.sink c.in_ok-extract.extract call.result call.ensures)
 
 pub returns-in_err-extract-clause-reads : goal.returns-in_err-extract-clause-reads
 returns-in_err-extract-clause-reads g c =
-    let h = c.args.holidays.now in
+    let h = c.args.preparation.holidays.now in
     let read = reads-named h c.args.max_lines g.R.Read.remaining g.R.ReadDevice.read_errors c.args.source.now c.read.new.source
     c.codes.result (Err c.in_err-extract.field-0.0) c.codes.ensures c.in_err-extract.ensures in
     let fault = c.in_err-extract.field-0.0 in

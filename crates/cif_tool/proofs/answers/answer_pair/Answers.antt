@@ -9,7 +9,7 @@ use Rattle.cif_tool.proofs.answers.answer_pair.Goals as goal
 
 pub returns-in_err-left : goal.returns-in_err-left
 returns-in_err-left g c =
-    let job = c.args.job.now in
+    let job = c.args.job.compared.now in
     let f = c.in_err-left.field-0.0 in
     let call = c.from_residual in
     nothing-of-both _ _ _ c.args.sink.now call.result f call.ensures.1
@@ -18,7 +18,7 @@ returns-in_err-left g c =
 
 pub returns-in_err-comparison-in-Comparison : goal.returns-in_err-comparison-in-Comparison
 returns-in_err-comparison-in-Comparison g c =
-    let job = c.args.job.now in
+    let job = c.args.job.compared.now in
     let f = c.in_err-comparison-in-Comparison.field-0.0 in
     let call = c.from_residual-in_err-comparison-in-Comparison in
     let refused = rw (c.insert-left.ensures.value, c.insert-right.ensures.value) at c.in_err-comparison-in-Comparison.ensures.fault in
@@ -29,7 +29,7 @@ returns-in_err-comparison-in-Comparison g c =
 
 pub returns-in_ok-comparison-in-Comparison : goal.returns-in_ok-comparison-in-Comparison
 returns-in_ok-comparison-in-Comparison g c =
-    let job = c.args.job.now in
+    let job = c.args.job.compared.now in
     let call = c.map_err-written in
     let told = told-as _ _ _ _ _ _ _ c.write_comparison.result call.result call.ensures.cases c.write_comparison.ensures in
     let made = c.in_ok-comparison-in-Comparison.comparison in
@@ -47,7 +47,7 @@ returns-in_ok-comparison-in-Comparison g c =
 
 pub returns-in_err-found-in-Differences : goal.returns-in_err-found-in-Differences
 returns-in_err-found-in-Differences g c =
-    let job = c.args.job.now in
+    let job = c.args.job.compared.now in
     let f = c.in_err-found-in-Differences.field-0.0 in
     let call = c.from_residual-in_err-found-in-Differences in
     let refused = rw (c.insert-left.ensures.value, c.insert-right.ensures.value) at c.in_err-found-in-Differences.ensures.fault in
@@ -58,7 +58,7 @@ returns-in_err-found-in-Differences g c =
 
 pub returns-in_ok-found-in-Differences : goal.returns-in_ok-found-in-Differences
 returns-in_ok-found-in-Differences g c =
-    let job = c.args.job.now in
+    let job = c.args.job.compared.now in
     let made = c.in_ok-found-in-Differences.found in
     let none = c.is_empty.result in
     let call = c.write_differences-written in

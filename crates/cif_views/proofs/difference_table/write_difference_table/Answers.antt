@@ -14,7 +14,7 @@ returns-clause-writes g c =
     let two = flat_map association_differences (association_lines d) in
     let three = flat_map schedule_differences (schedule_lines d) in
     answered _ _ _ _ _ c.answer.result c.answer.ensures.ok c.answer.ensures.failed
-    (both _ _ (names_line difference_names) (one ++ (two ++ three)) _ _ _ c.append.ensures
+    (both _ _ (names_line difference_names) (one ++ (two ++ three)) _ _ _ c.write_names.ensures
     (both _ _ one (two ++ three) _ _ _
     (text-is _ _ _ _ _ _ (sym (flat_map-map tiploc_row (λ s. record { side = s.side; it = line_of_tiploc s.it }) d.tiplocs))
     c.list_tiplocs.ensures)

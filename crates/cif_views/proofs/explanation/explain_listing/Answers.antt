@@ -3,8 +3,6 @@ use Rattle.cif_views.proofs.Names.{ArePlacedInOrder, Association, IsAssociationO
 use Rattle.cif_views.proofs.Names.{association_terms, both, explained_association_line, explained_train_line, explanation_heading}
 use Rattle.cif_views.proofs.Names.{extract_parts, fault-answered, flat_map, key_cmp, map, nat_cmp, placed_of, schedule_entries}
 use Rattle.cif_views.proofs.Names.{schedule_terms, slice_cmp, subst, sym, written-so, ◌++◌, ◌∙◌}
-use Rattle.cif_canon.proofs.AppendedTexts.{text-is}
-use Rattle.cif_views.proofs.CallTexts.{explained-heading}
 use Rattle.cif_views.proofs.ExplainedTexts.{explanation}
 use Rattle.cif_views.proofs.explanation.explain_listing.Goals as goal
 
@@ -17,8 +15,7 @@ returns-clause-view g c =
     let other = flat_map (explained_train_line c.args.format c.args.day) others.0 in (
       head ++ (one ++ other),
       fault-answered _ _ _ _ _ c.answer.result c.answer.ensures.ok c.answer.ensures.failed c.answer.ensures.fault
-          (both _ _ head (one ++ other) _ _ _ (text-is _ _ _ _ _ _ (c.as_str.ensures.value ∙ c.heading.ensures
-          ∙ explained-heading c.args.format) c.append.ensures)
+          (both _ _ head (one ++ other) _ _ _ c.write_heading.ensures
           (both _ _ one other _ _ _ ones.2 others.2)),
       written-so c.answer.result _ (explanation c.args.format (extract_parts c.args.extract.now) c.args.uid.now c.args.day
           c.in_ok-check_within.ensures.ok c.as_slice.result.now _ ones.0 c.as_slice.ensures.value
