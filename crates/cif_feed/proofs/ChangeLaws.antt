@@ -1,9 +1,10 @@
 -- What changes leave of each key, and in which order.
-use Rattle.cif_feed.proofs.Names.{Action, All, All-head, All-tail, AreAfter, Bool, RecordChange, ChangeParts, HaveLastWord, IsEquivalence, IsTrue}
-use Rattle.cif_feed.proofs.Names.{List, None, Option, Ordering, Some, TellsSame, [], after_all, after_change, ap, append-nil, append_assoc}
-use Rattle.cif_feed.proofs.Names.{changes_of, cond, eq_by_cmp, false, filter, filter-append, filter_agree, is_changed, is_there, key_of}
-use Rattle.cif_feed.proofs.Names.{keyed_record, last_word, not, option_to_list, put_last, put_of, refl, refusal, refusals, same_by}
-use Rattle.cif_feed.proofs.Names.{same_values, sym, true, untouched, with_keys, without_key, ◌&&◌, ◌++◌, ◌||◌, ◌↔◌, ◌∙◌, ◌∷◌, ◌≡◌, ◌≢◌}
+use Rattle.cif_feed.proofs.Names.{Action, All, All-head, All-tail, AreAfter, Bool, ChangeParts, HaveLastWord, IsEquivalence, IsTrue, List}
+use Rattle.cif_feed.proofs.Names.{None, Option, Ordering, RecordChange, Some, TellsSame, [], after_all, after_change, ap, append-nil}
+use Rattle.cif_feed.proofs.Names.{append_assoc, changes_of, cond, eq_by_cmp, false, filter, filter-append, filter_agree, is_changed}
+use Rattle.cif_feed.proofs.Names.{is_there, key_of, keyed_record, last_word, not, option_to_list, put_last, put_of, refl, refusal, refusals}
+use Rattle.cif_feed.proofs.Names.{same_by, same_values, sym, true, untouched, with_keys, without_key, ◌&&◌, ◌++◌, ◌||◌, ◌↔◌, ◌∙◌, ◌∷◌, ◌≡◌}
+use Rattle.cif_feed.proofs.Names.{◌≢◌}
 use Rattle.cif_feed.proofs.ListSteps.{filter-map}
 use Rattle.cif_feed.specs.Changes.{of_key}
 use Rattle.cif_feed.specs.declared.changes.Action.TheVariants.{Deleted, New, Revised}
@@ -126,9 +127,9 @@ module _ {K : Type 0} where
   }
 
   -- what stands for the keys tells it
-  pub told_by_rank : {N : Type 0} (eq : N → N → Bool) (cmp : N → N → Ordering) (rank : K → N) → ((a b : N) → eq a b ≡ eq_by_cmp cmp a b)
+  pub reported_by_rank : {N : Type 0} (eq : N → N → Bool) (cmp : N → N → Ordering) (rank : K → N) → ((a b : N) → eq a b ≡ eq_by_cmp cmp a b)
       → ((a b : K) → IsTrue (eq (rank a) (rank b)) ↔ (a ≡ b)) → TellsSame (same_by cmp rank)
-  told_by_rank eq cmp rank matches same a b = (
+  reported_by_rank eq cmp rank matches same a b = (
     λ is. (same a b).0 (matches (rank a) (rank b) ∙ is),
     λ is. sym (matches (rank a) (rank b)) ∙ (same a b).1 is,
   )

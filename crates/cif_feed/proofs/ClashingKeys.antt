@@ -1,4 +1,4 @@
--- What is told of the keys that clash, and what is cut at their clash days: the extract without clashes.
+-- What is reported of the keys that clash, and what is cut at their clash days: the extract without clashes.
 use Rattle.cif_feed.proofs.Names.{AppliesOnAny, AreAllFound, AreClashDays, AreDropped, AreFound, AssocBody, AssocKey, BodyLines, Clash}
 use Rattle.cif_feed.proofs.Names.{Contains, Dropped, DroppedKey, ExtractParts, Holidays, IsClashDay, IsCountOf, IsCutAt, IsPrepared, List}
 use Rattle.cif_feed.proofs.Names.{Option, Ordering, PublishedAssociation, PublishedExtract, PublishedParts, PublishedSchedule}
@@ -12,7 +12,7 @@ use Rattle.cif_extract.specs.declared.fault.Clash.TheVariants as clash
 use Rattle.cif_calendar.specs.Ranks.{IsNumberOf}
 use Rattle.cif_feed.proofs.CutCounts.{count-map, count-same}
 use Rattle.cif_feed.proofs.PreparedRuns.{closed-associations, closed-schedules, cut-prepared, cut-whole}
-use Rattle.cif_feed.specs.Dropped.{told_as}
+use Rattle.cif_feed.specs.Dropped.{reported_as}
 
 -- what is found in records that are those of an extract, in the window of its header
 found-in : {R K B : Type 0} (h : Holidays) (cmp : K → K → Ordering) (name : K → ℕ → Clash) (stands_for : R → K → Type 0)
@@ -64,13 +64,13 @@ module _ (h : Holidays) (p : PublishedParts) where
     trains-are : (k : List ℕ) → AreClashDays h (published_schedules p.schedules) p.header.first (p.header.last + 1) k (found.2.days k)
     trains-are k = found.2.are.are k
 
-    are_keys : all ≡ map (told_as clash.Association found.1.days) found.1.keys ++ map (told_as clash.Train found.2.days) found.2.keys
+    are_keys : all ≡ map (reported_as clash.Association found.1.days) found.1.keys ++ map (reported_as clash.Train found.2.days) found.2.keys
     are_keys = found.2.added
-        ∙ ap (λ l. l ++ map (told_as clash.Train found.2.days) found.2.keys)
-        (found.1.added ∙ ap (λ l. l ++ map (told_as clash.Association found.1.days) found.1.keys) empty)
+        ∙ ap (λ l. l ++ map (reported_as clash.Train found.2.days) found.2.keys)
+        (found.1.added ∙ ap (λ l. l ++ map (reported_as clash.Association found.1.days) found.1.keys) empty)
 
-    -- they are told
-    pub told-dropped : (n m : ℕ)
+    -- they are reported
+    pub reported-dropped : (n m : ℕ)
         → ((days : AssocKey → List ℕ) → ReadsAssociations days associations → IsCountOf
         (λ (a : PublishedAssociation). AppliesOnAny (Contains (days a.association.key)) h p.header.last (published_association_terms a))
         p.associations n)
@@ -78,7 +78,7 @@ module _ (h : Holidays) (p : PublishedParts) where
         (λ (s : PublishedSchedule). AppliesOnAny (Contains (days s.schedule.uid)) h p.header.last (published_schedule_terms s))
         p.schedules m)
         → (dropped : Dropped) → dropped.keys.items ≡ all → dropped.records ≡ n + m → AreDropped h p dropped
-    told-dropped n m count_associations count_trains dropped keys records = record {
+    reported-dropped n m count_associations count_trains dropped keys records = record {
       associations = found.1.keys;
       association_days = found.1.days;
       of_associations = record { rising = found.1.are.rising; each = found.1.are.each; are = associations-are };

@@ -1,8 +1,8 @@
 -- Keys and their clash days are found one after another, over positions in the order of the keys.
 use Rattle.cif_feed.proofs.Names.{AllPairs, AnyHasKey, AreClashDatesOn, AreClashDays, AreFound, AreOfFirstKey, ArePositionsOf, BTreeMap}
 use Rattle.cif_feed.proofs.Names.{Clash, Contains, Contains-append_left, Contains-first, Contains-get_or, Contains-none, Contains-push}
-use Rattle.cif_feed.proofs.Names.{Contains-push_cases, Contains-rest, CountsAmong, DroppedKey, Equal, Greater, Holidays, IsKeyTold}
-use Rattle.cif_feed.proofs.Names.{IsNonDecreasing, IsRising, IsTold, IsTotalOrder, Less, List, None, Option, Ordering, PublishedTerms}
+use Rattle.cif_feed.proofs.Names.{Contains-push_cases, Contains-rest, CountsAmong, DroppedKey, Equal, Greater, Holidays, IsKeyReported}
+use Rattle.cif_feed.proofs.Names.{IsNonDecreasing, IsReported, IsRising, IsTotalOrder, Less, List, None, Option, Ordering, PublishedTerms}
 use Rattle.cif_feed.proofs.Names.{ReadsDates, RisingDays, Terms, [], all_pairs_push, ap, append-nil, append_assoc, ap₂, arith, cases_lt}
 use Rattle.cif_feed.proofs.Names.{code_list, cond, days_in, days_with, drop, get, get_or, has-key, inl, is_eq, keyed, length, map}
 use Rattle.cif_feed.proofs.Names.{map-append, not_less, published_by, refl, slice_get_within, subst, sym, take, tied_itself, ℕ, ⊎_elim}
@@ -12,24 +12,24 @@ use Rattle.cif_calendar.proofs.KeyTurns.{decided, first-leads, no-entry, one-key
 use Rattle.cif_calendar.proofs.PassedKeys.{HasPassed, key-or-later, later-less, left-before, passed-more, turn}
 use Rattle.cif_calendar.specs.Keys.{of_key}
 use Rattle.cif_feed.proofs.CountedClashes.{counted-days}
-use Rattle.cif_feed.specs.Dropped.{told_as}
+use Rattle.cif_feed.specs.Dropped.{reported_as}
 
--- a key is told by its first position
-pub key-told : {A K B R : Type 0} (h : Holidays) (key : A → K) (terms : A → Terms B) (published : A → PublishedTerms B)
+-- a key is reported by its first position
+pub key-reported : {A K B R : Type 0} (h : Holidays) (key : A → K) (terms : A → Terms B) (published : A → PublishedTerms B)
     → ((x : A) → (published x).terms ≡ terms x) → (xs : List A) (members : List ℕ) (cmp : K → K → Ordering)
     (name : K → ℕ → Clash) (stands_for : R → K → Type 0) (first to : ℕ) (known all : List DroppedKey) (old new : R → Option RisingDays)
     (entry : A) (found : List ℕ) → 0 < length members → get_or members 0 0 < length xs → entry ≡ get_or xs (get_or members 0 0) entry
     → AreClashDatesOn (CountsAmong h published xs members code_list) first to found
-    → IsTold cmp name stands_for (key entry) found known all old new → (k : K) → ArePositionsOf (keyed key terms xs) k members
-    → IsKeyTold cmp name stands_for (AreClashDays h (published_by key published xs) first to) k known all old new
-key-told h key terms published own xs members cmp name stands_for first to known all old new entry found some below is dates told k p =
+    → IsReported cmp name stands_for (key entry) found known all old new → (k : K) → ArePositionsOf (keyed key terms xs) k members
+    → IsKeyReported cmp name stands_for (AreClashDays h (published_by key published xs) first to) k known all old new
+key-reported h key terms published own xs members cmp name stands_for first to known all old new entry found some below is dates reported k p =
     let position = get_or members 0 0 in
     let at = p.found position (Contains-get_or members 0 0 some) in
     let same = one-key (keyed key terms xs) position (key entry) k (has-key key terms xs position entry below is)
     (record { terms = at.0; at = at.1 }) in (
       found,
       counted-days h key terms published own xs k members p first to found dates,
-      subst (λ j. IsTold cmp name stands_for j found known all old new) same told,
+      subst (λ j. IsReported cmp name stands_for j found known all old new) same reported,
     )
 
 -- days that rise don't fall
@@ -181,18 +181,18 @@ module _ {K B : Type 0} (cmp : K → K → Ordering) (es : List (K × Terms B)) 
         ahead = λ k any. other k (after k any) ∙ s.ahead k (left k any);
       }
 
-      -- what is told of the other keys is the same
-      told-same : (name : K → ℕ → Clash) → map (told_as name now) keys ≡ map (told_as name days) keys
-      told-same name = map-agree (told_as name now) (told_as name days) keys (λ j has.
-          ap (λ l. told_as name (λ _. l) j) (other j (λ is. not_less cmp total j run.key is (s.before j run.key has leads))))
+      -- what is reported of the other keys is the same
+      reported-same : (name : K → ℕ → Clash) → map (reported_as name now) keys ≡ map (reported_as name days) keys
+      reported-same name = map-agree (reported_as name now) (reported_as name days) keys (λ j has.
+          ap (λ l. reported_as name (λ _. l) j) (other j (λ is. not_less cmp total j run.key is (s.before j run.key has leads))))
 
-  -- These keys are told behind those that were known, and their days are found for what stands for them.
+  -- These keys are reported behind those that were known, and their days are found for what stands for them.
   module _ {R : Type 0} (name : K → ℕ → Clash) (stands_for : R → K → Type 0) (known : List DroppedKey) where
     pub record AreFoundUpTo (all : List DroppedKey) (found : R → Option RisingDays) (rest : List ℕ) : Type 0 where
       pub keys : List K
       pub days : K → List ℕ
       pub searched : AreSearched keys days rest
-      pub added : all ≡ known ++ map (told_as name days) keys
+      pub added : all ≡ known ++ map (reported_as name days) keys
       pub reads : ReadsDates stands_for days found
 
     pub found-nothing : ((k : K) → ((r : Terms B) → of_key es k r → ⊥) → Are k []) → (rest : List ℕ)
@@ -224,7 +224,7 @@ module _ {K B : Type 0} (cmp : K → K → Ordering) (es : List (K × Terms B)) 
     -- one key more
     found-one : IsTotalOrder cmp → ((j k : K) → cmp j k ≡ Equal → j ≡ k) → (all more : List DroppedKey)
         (old new : R → Option RisingDays) (rest : List ℕ) → AreFoundUpTo all old rest → (n : ℕ) (run : AreOfFirstKey cmp es rest n)
-        → (dates : List ℕ) → Are run.key dates → IsTold cmp name stands_for run.key dates all more old new
+        → (dates : List ℕ) → Are run.key dates → IsReported cmp name stands_for run.key dates all more old new
         → AreFoundUpTo more new (drop n rest)
     found-one total same all more old new rest a n run [] its t =
         let none = t.none refl in record {
@@ -240,19 +240,19 @@ module _ {K B : Type 0} (cmp : K → K → Ordering) (es : List (K × Terms B)) 
           keys = a.keys ++ run.key ∷ [];
           days = days;
           searched = searched-clash total same a.keys a.days rest a.searched n run (d ∷ ds) some its;
-          added = t.told some
+          added = t.reported some
               ∙ ap₂ (λ (xs ys : List DroppedKey). xs ++ ys) a.added
-              (ap (λ l. told_as name (λ _. l) run.key ∷ []) (sym (with-same cmp total same run.key (d ∷ ds) a.days)))
-              ∙ append_assoc known (map (told_as name a.days) a.keys) (told_as name days run.key ∷ [])
-              ∙ ap (λ l. known ++ l) (ap (λ l. l ++ told_as name days run.key ∷ [])
-              (sym (told-same total same a.keys a.days rest a.searched n run (d ∷ ds) some its name))
-              ∙ sym (map-append (told_as name days) a.keys (run.key ∷ [])));
+              (ap (λ l. reported_as name (λ _. l) run.key ∷ []) (sym (with-same cmp total same run.key (d ∷ ds) a.days)))
+              ∙ append_assoc known (map (reported_as name a.days) a.keys) (reported_as name days run.key ∷ [])
+              ∙ ap (λ l. known ++ l) (ap (λ l. l ++ reported_as name days run.key ∷ [])
+              (sym (reported-same total same a.keys a.days rest a.searched n run (d ∷ ds) some its name))
+              ∙ sym (map-append (reported_as name days) a.keys (run.key ∷ [])));
           reads = t.reads some a.days a.reads;
         }
 
     pub found-more : IsTotalOrder cmp → ((j k : K) → cmp j k ≡ Equal → j ≡ k) → (all more : List DroppedKey)
         (old new : R → Option RisingDays) (rest : List ℕ) → AreFoundUpTo all old rest → (n : ℕ) (run : AreOfFirstKey cmp es rest n)
-        → ((k : K) → ArePositionsOf es k (take n rest) → IsKeyTold cmp name stands_for Are k all more old new)
+        → ((k : K) → ArePositionsOf es k (take n rest) → IsKeyReported cmp name stands_for Are k all more old new)
         → AreFoundUpTo more new (drop n rest)
     found-more total same all more old new rest a n run own =
         let (dates, its, t) = own run.key (own-turn total same a.keys a.days rest a.searched n run) in

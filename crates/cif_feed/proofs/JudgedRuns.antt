@@ -3,14 +3,14 @@ use Rattle.cif_feed.proofs.Names.{All, All-contains, All-head, All-map, All-tail
 use Rattle.cif_feed.proofs.Names.{Contains, ContentReader, Err, ExtractParts, HasGiven, HasJudged, HasReadOn, HaveReasons, IfErr, IfOk}
 use Rattle.cif_feed.proofs.Names.{IfSome, IsFinished, IsInOrder, IsJudgedAs, IsJudgedFault, IsJudgedWhole, IsLine, IsLineNumber, IsNextOf}
 use Rattle.cif_feed.proofs.Names.{IsOutOfPlace, IsReadAsJudged, IsReadWhole, IsRefusedLine, IsResultOf, IsSomeAnd, IsTruncated, LineFault}
-use Rattle.cif_feed.proofs.Names.{List, MatchResult, None, NoneHasReason, Ok, Option, Reasons, Refusal, Result, Some, SomeHasReason, Source}
-use Rattle.cif_feed.proofs.Names.{SpellExtract, TellReasons, Unread, [], answers, ap, arith, cond, contents_of, extract_parts, failed_after}
-use Rattle.cif_feed.proofs.Names.{false, first_of, get_or, get_or_default, given_failed, given_too_many, is_printable, judged_all, judging}
-use Rattle.cif_feed.proofs.Names.{kind_in, known_so, length, length-append, line_of, lines_of_parts, list_all, list_any, nat_eq, nat_lt}
-use Rattle.cif_feed.proofs.Names.{nat_tests, of_any, one_spelled, order_refusal, own_reason, place_behind, read_on_both, reader_of}
-use Rattle.cif_feed.proofs.Names.{reasons_of, record_refusal, refl, refusal_of, refuses, source_ended, source_failed, spelled-refused}
-use Rattle.cif_feed.proofs.Names.{strip_carriage_return, stripped_long, subst, sym, take, true, true≢false, unless, unread_of, ℕ, ⊎_elim}
-use Rattle.cif_feed.proofs.Names.{◌++◌, ◌+◌, ◌<◌, ◌||◌, ◌∙◌, ◌∷◌, ◌≡◌, ◌≢◌, ◌≤◌, ◌⊎◌}
+use Rattle.cif_feed.proofs.Names.{List, MatchResult, None, NoneHasReason, Ok, Option, Reasons, Refusal, ReportReasons, Result, Some}
+use Rattle.cif_feed.proofs.Names.{SomeHasReason, Source, SpellExtract, Unread, [], answers, ap, arith, cond, contents_of, extract_parts}
+use Rattle.cif_feed.proofs.Names.{failed_after, false, first_of, get_or, get_or_default, given_failed, given_too_many, is_printable}
+use Rattle.cif_feed.proofs.Names.{judged_all, judging, kind_in, known_so, length, length-append, line_of, lines_of_parts, list_all}
+use Rattle.cif_feed.proofs.Names.{list_any, nat_eq, nat_lt, nat_tests, of_any, one_spelled, order_refusal, own_reason, place_behind}
+use Rattle.cif_feed.proofs.Names.{read_on_both, reader_of, reasons_of, record_refusal, refl, refusal_of, refuses, source_ended}
+use Rattle.cif_feed.proofs.Names.{source_failed, spelled-refused, strip_carriage_return, stripped_long, subst, sym, take, true, true≢false}
+use Rattle.cif_feed.proofs.Names.{unless, unread_of, ℕ, ⊎_elim, ◌++◌, ◌+◌, ◌<◌, ◌||◌, ◌∙◌, ◌∷◌, ◌≡◌, ◌≢◌, ◌≤◌, ◌⊎◌}
 use Rattle.cif_columns.specs.JudgedContents.{IsGiven, MayGoOn, has_overlong, is_overlong, judged_contents, parts_of}
 use Rattle.cif_columns.specs.declared.refusal.LineFault.TheVariants as line_fault
 use Rattle.cif_columns.specs.declared.refusal.Refusal.TheVariants as refusal
@@ -18,7 +18,7 @@ use Rattle.cif_extract.proofs.OrderLaws.{spelled_fine}
 use Rattle.cif_extract.specs.Fault.{of_line_fault}
 use Rattle.cif_extract.specs.declared.fault.Fault.{Fault}
 use Rattle.cif_extract.specs.declared.fault.Fault.TheVariants as fault
-use Rattle.cif_feed.proofs.ToldReasons.{judged_line, own_none, own_of_line, reasons_of_more, refused_number, tell_nothing}
+use Rattle.cif_feed.proofs.ReportedReasons.{judged_line, own_none, own_of_line, reasons_of_more, refused_number, report_nothing}
 use Rattle.cif_feed.specs.declared.judged.Judged.{Judged}
 use Rattle.cif_feed.specs.declared.judged.Judged.TheVariants as judged
 use Rattle.cif_feed.specs.declared.judged.Judging.{Judging}
@@ -88,7 +88,7 @@ module _ (max : ℕ) (bytes : List ℕ) (x : ExtractParts) (spells : BytesSpellW
       → IfErr result (IsJudgedFault max bytes after) → IsReadAsJudged x result
   judged_as after (Ok (judged.Extract extract)) ok err =
       one_spelled bytes (extract_parts extract) x ok.spell.spell spells.spell
-  judged_as after (Ok (judged.Reasons told)) ok err =
+  judged_as after (Ok (judged.Reasons reported)) ok err =
       absurd (none_is (judged_contents bytes) (rw all_judged none_of_spelled) ok.why ok.some)
   judged_as after (Err (fault.Refused line refusal.TooManyLines)) ok err =
       absurd (omega (arith, err.over, ap length all_judged, spells.within))
@@ -118,8 +118,8 @@ line_judged max cs c line old order result is none judged so = at result (so own
         let same = (judged_line c line is).0 in
         let own : own_reason c ≡ None = ap own_reason same ∙ own_line in
         record {
-          told = subst (λ l. TellReasons l old.reasons) (sym (reasons_of_more cs c None own))
-              (tell_nothing (reasons_of cs) old.reasons judged.told);
+          reported = subst (λ l. ReportReasons l old.reasons) (sym (reasons_of_more cs c None own))
+              (report_nothing (reasons_of cs) old.reasons judged.reported);
           order = subst (λ l. IsInOrder max (cs ++ l ∷ []) order) (sym same) h;
         }
 
@@ -132,17 +132,17 @@ as_out_of_place max bytes after line _ other is = is
 
 -- at the end of the input
 module _ (max : ℕ) (cs : List (List ℕ)) (within : length cs ≤ max) (after : Unread) (ended : after.ended ≡ true) where
-  told_whole : (bytes : List ℕ) → IsJudgedWhole max bytes after
-  told_whole bytes = λ not. absurd (true≢false (sym ended ∙ not))
+  reported_whole : (bytes : List ℕ) → IsJudgedWhole max bytes after
+  reported_whole bytes = λ not. absurd (true≢false (sym ended ∙ not))
 
   all_as : (bytes : List ℕ) → AreAll bytes cs → (result : Result Judged Fault) → IsFinished max cs result
       → MatchResult result (IsJudgedAs max bytes after) (IsJudgedFault max bytes after)
-  all_as bytes all (Ok (judged.Reasons told)) is = record {
+  all_as bytes all (Ok (judged.Reasons reported)) is = record {
     within = omega (arith, ap length all.judged_are, within);
     why = is.0.0;
     some = subst (λ l. Contains (reasons_of l) (Some is.0.0)) (sym all.judged_are) is.0.1;
-    tell = subst (λ l. TellReasons (reasons_of l) told) (sym all.judged_are) is.1;
-    whole = told_whole bytes;
+    tell = subst (λ l. ReportReasons (reasons_of l) reported) (sym all.judged_are) is.1;
+    whole = reported_whole bytes;
   }
   all_as bytes all (Ok (judged.Extract x)) is = record {
     none = subst NoneHasReason (sym all.judged_are) is.0;
@@ -196,14 +196,14 @@ module _ {R : Type 0} (remaining : R → Option (List ℕ)) (errors : R → Opti
 pub overlong_ok : (max : ℕ) (cs : List (List ℕ)) (long : List ℕ) → length cs < max → (start after : Option (List ℕ)) (ended : Bool)
     → IfSome start (λ bytes. judged_contents bytes ≡ cs ++ long ∷ [])
     → IfSome start (λ bytes. IsSomeAnd after (IsGiven (λ before. has_overlong before ≡ true) bytes))
-    → (told : Reasons) → SomeHasReason (cs ++ long ∷ []) → TellReasons (reasons_of (cs ++ long ∷ [])) told
-    → IfSome start (λ bytes. HaveReasons max bytes (record { bytes = after; ended = ended }) told)
-overlong_ok max cs long room None after ended is gave told some tell = tt
-overlong_ok max cs long room (Some bytes) after ended is gave told some tell = record {
+    → (reported : Reasons) → SomeHasReason (cs ++ long ∷ []) → ReportReasons (reasons_of (cs ++ long ∷ [])) reported
+    → IfSome start (λ bytes. HaveReasons max bytes (record { bytes = after; ended = ended }) reported)
+overlong_ok max cs long room None after ended is gave reported some tell = tt
+overlong_ok max cs long room (Some bytes) after ended is gave reported some tell = record {
   within = omega (arith, ap length is, length-append cs (long ∷ []), room);
   why = some.0;
   some = subst (λ l. Contains (reasons_of l) (Some some.0)) (sym is) some.1;
-  tell = subst (λ l. TellReasons (reasons_of l) told) (sym is) tell;
+  tell = subst (λ l. ReportReasons (reasons_of l) reported) (sym is) tell;
   whole = λ not. at after gave;
 }
   where

@@ -11,7 +11,7 @@ pub mod FeedRuns
 pub mod SpelledFeeds
 pub mod SaidLines
 pub mod SameDeletions
-pub mod ToldReasons
+pub mod ReportedReasons
 pub mod JudgedRuns
 pub mod WrittenItems
 pub mod CountedClashes

@@ -32,8 +32,7 @@ pub use Rattle.cif_columns.proofs.JudgedContents.{judged_all, judged_all_given, 
 unfoldable pub use Rattle.cif_columns.proofs.Names.{begins_comment, is_comment}
 pub use Rattle.cif_columns.proofs.Names.{All-contains, All-drop, All-push, All-take, All-weaker, AreAllContents, AreContentsToCut}
 pub use Rattle.cif_columns.proofs.Names.{AreContentsToFault, AreContentsToRefusal, ArePrintable, BeginWithoutComment, Contains-append_right}
-pub use Rattle.cif_columns.proofs.Names.{DecideNoContent, FieldValue, GivenDecideContent, HasPassedComment, IsDay, IsFirstContent}
-pub use Rattle.cif_columns.proofs.Names.{IsNextBy}
+pub use Rattle.cif_columns.proofs.Names.{DecideNoContent, FieldValue, GivenDecideContent, HasPassedComment, IsDay, IsFirstContent, IsNextBy}
 pub use Rattle.cif_columns.proofs.Names.{IsNextOf, IsNoComment, RunsOn, StandsInYymmdd, and_parts, bytes_eq-Decides, cases_lt, cond_both}
 pub use Rattle.cif_columns.proofs.Names.{content, date, drop-append-add, drop-take, exactly, false_from_ne_true, false≢true}
 pub use Rattle.cif_columns.proofs.Names.{flat_map-append, get_or_default, indicator, is_whole_from, length-map, length-reverse, line_of}
@@ -142,22 +141,22 @@ pub use Rattle.cif_feed.specs.PublishedParts.{PublishedParts, SayPublished, Spel
 pub use Rattle.cif_feed.specs.PublishedParts.{published_association_terms, published_associations, published_basic_line, published_lines}
 pub use Rattle.cif_feed.specs.PublishedParts.{published_parts, published_schedule_lines, published_schedule_terms, published_schedules}
 pub use Rattle.cif_feed.specs.PublishedParts.{published_text, reading_published}
-unfoldable pub use Rattle.cif_feed.specs.Reasons.{own_reason, reason_line, reasons_text, told_text}
-pub use Rattle.cif_feed.specs.Reasons.{TellReasons, first_for, first_in, is_for, lines_for, lines_in, own_reasons, place_of, reasons_of}
+unfoldable pub use Rattle.cif_feed.specs.Reasons.{own_reason, reason_line, reasons_text, reported_text}
+pub use Rattle.cif_feed.specs.Reasons.{ReportReasons, first_for, first_in, is_for, lines_for, lines_in, own_reasons, place_of, reasons_of}
 pub use Rattle.cif_feed.specs.RecordLines.{is_association, is_basic, is_header, is_note, is_of_tiploc, is_record_line, is_trailer, lines_of}
 pub use Rattle.cif_feed.specs.RecordLines.{notes_may_stand, record_lines}
 pub use Rattle.cif_feed.specs.SpellsFeed.{BytesSpellFeed, FeedParts, SayFeed, SpellFeed, feed_parts}
 pub use Rattle.cif_feed.specs.Steps.Changes.{AreLast, IsDone, SaysAlone, SaysThere, at_keys, is_position, last_from, last_line, same_by}
 pub use Rattle.cif_feed.specs.Steps.Counting.{AreClashDatesOn, AreMerged, CountsAmong, HasCodeAt, code_list}
-pub use Rattle.cif_feed.specs.Steps.Dropping.{AreAllFound, AreFound, IsCutAt, IsKeyTold, IsStopAmong, IsTold, ReadsAssociations, ReadsDates}
-pub use Rattle.cif_feed.specs.Steps.Dropping.{ReadsTrains, days_in, days_with, published_by}
-pub use Rattle.cif_feed.specs.Steps.FeedReading.{HasTakenFeed, IsFeedTaken, IsMarkedTaken, IsNoteTaken, IsOwn, IsRecordTaken}
-pub use Rattle.cif_feed.specs.Steps.FeedReading.{IsStopTaken, read_as}
-pub use Rattle.cif_feed.specs.Steps.FeedReading.{with_passed}
+pub use Rattle.cif_feed.specs.Steps.Dropping.{AreAllFound, AreFound, IsCutAt, IsKeyReported, IsReported, IsStopAmong, ReadsAssociations}
+pub use Rattle.cif_feed.specs.Steps.Dropping.{ReadsDates, ReadsTrains, days_in, days_with, published_by}
+pub use Rattle.cif_feed.specs.Steps.FeedReading.{HasTakenFeed, IsFeedTaken, IsMarkedTaken, IsNoteTaken, IsOwn, IsRecordTaken, IsStopTaken}
+pub use Rattle.cif_feed.specs.Steps.FeedReading.{read_as, with_passed}
 pub use Rattle.cif_feed.specs.Steps.HolidayReading.{HasLineMore, IsDateFault, IsLineFault}
 pub use Rattle.cif_feed.specs.Steps.Judging.{HasJudged, IsFinished, IsInOrder, SomeHasReason}
-pub use Rattle.cif_feed.specs.Steps.Marks.{HasMarks, HaveRoom, IsClosed, header_behind, last_of_association, last_of_schedule, one_if}
-pub use Rattle.cif_feed.specs.Steps.Marks.{is_schedule_mark, is_trailer_mark, mark_of, own_mark, plus_if, with_counts, with_line, with_mark}
+pub use Rattle.cif_feed.specs.Steps.Marks.{HasMarks, HaveRoom, IsClosed, header_behind, is_schedule_mark, is_trailer_mark}
+pub use Rattle.cif_feed.specs.Steps.Marks.{last_of_association, last_of_schedule, mark_of, one_if, own_mark, plus_if, with_counts}
+pub use Rattle.cif_feed.specs.Steps.Marks.{with_line, with_mark}
 pub use Rattle.cif_feed.specs.declared.mark.Mark.{Mark}
 pub use Rattle.cif_feed.specs.Steps.PartsSoFar.{AreAdded, ArePartsBefore, IsAdded, IsFromNext, IsLeftFrom, IsPushed, IsStopOn, MayBegin}
 pub use Rattle.cif_feed.specs.Steps.PartsSoFar.{added_before, before_cut, first_upto, records_on, sooner_of}
@@ -169,7 +168,7 @@ pub use Rattle.cif_feed.specs.UpdateParts.{AssociationKey, BytesSpellUpdate, IsA
 pub use Rattle.cif_feed.specs.UpdateParts.{ScheduleKey, SpellUpdate, UpdateParts, change_by, reading_update, tiploc_changes}
 pub use Rattle.cif_feed.specs.UpdateParts.{tiploc_changes_of, update_parts}
 pub use Rattle.cif_feed.specs.Updated.{AreRefusedLines, IsLineRefused, IsUpdateFault, IsUpdated, IsUpdatedBy, MayBeDone}
-pub use Rattle.cif_feed.specs.Updated.{published_association_key, published_schedule_key, refused_header, told_once, updating}
+pub use Rattle.cif_feed.specs.Updated.{published_association_key, published_schedule_key, refused_header, reported_once, updating}
 unfoldable pub use Rattle.cif_feed.specs.Words.{words_in}
 pub use Rattle.cif_feed.specs.Words.{is_space}
 unfoldable pub use Rattle.cif_feed.specs.WrittenOver.{with_columns}

@@ -5,7 +5,7 @@ use Rattle.cif_feed.proofs.Names.{Option, Prepares, PublishedExtract, Result, Si
 use Rattle.cif_feed.proofs.Names.{goes-on, inl, inr, is_feed_read, known_so, of_any, preparing, reader_of, reading_holidays, refl, refuses}
 use Rattle.cif_feed.proofs.Names.{subst, sym, unread_of, ℕ, ⊎_elim, ◌∙◌, ◌≡◌, ◌⊎◌}
 use Rattle.cif_feed.specs.FeedAnswer.{AreHolidaysGiven, AreHolidaysOf, AreHolidaysRead, FeedAnswers, IsBadHoliday, IsHolidayFeedFault}
-use Rattle.cif_feed.specs.FeedAnswer.{IsPrepareAnswer, IsPrepareFault, IsPreparedInTurn, IsTold, OfHolidays, reading_as_feed}
+use Rattle.cif_feed.specs.FeedAnswer.{IsPrepareAnswer, IsPrepareFault, IsPreparedInTurn, IsReported, OfHolidays, reading_as_feed}
 use Rattle.cif_columns.specs.declared.line_reader.TheConstants.{MAX_LINES}
 use Rattle.std.proofs.Common.{MatchBool}
 use Rattle.cif_columns.specs.Source.{HasFailedToRead}
@@ -35,11 +35,11 @@ bad bytes after Read h = inl tt
 bad bytes after Memory h = inl tt
 
 -- no fault of holidays is one of the writing
-silent : {W A T : Type 0} (contents : W → Option (List ℕ)) (errors : W → Option ℕ) (told : A → T) (P : List ℕ → Option T → Type 0)
-    (old : Sink W) (hf : HolidayFault) → FeedAnswers contents errors told P old old (Err (of_holiday_fault hf))
-silent contents errors told P old (BadHoliday line) = record { text = []; writes = refl; answer = tt }
-silent contents errors told P old Read = record { text = []; writes = refl; answer = tt }
-silent contents errors told P old Memory = record { text = []; writes = refl; answer = tt }
+silent : {W A T : Type 0} (contents : W → Option (List ℕ)) (errors : W → Option ℕ) (reported : A → T) (P : List ℕ → Option T → Type 0)
+    (old : Sink W) (hf : HolidayFault) → FeedAnswers contents errors reported P old old (Err (of_holiday_fault hf))
+silent contents errors reported P old (BadHoliday line) = record { text = []; writes = refl; answer = tt }
+silent contents errors reported P old Read = record { text = []; writes = refl; answer = tt }
+silent contents errors reported P old Memory = record { text = []; writes = refl; answer = tt }
 
 module _ {R : Type 0} (remaining : R → Option (List ℕ)) (errors : R → Option ℕ) where
   pub as-feed : (s t : Source R) (h : Holidays) → IsResultOf remaining errors reading_holidays s t (Ok h) →
@@ -84,13 +84,13 @@ module _ {R : Type 0} (remaining : R → Option (List ℕ)) (errors : R → Opti
       subst (λ g. IsDeviceOrMemory f ⊎ IsBadHoliday g f) (sym same)
       (subst (λ e. IsDeviceOrMemory e ⊎ IsBadHoliday (Some bytes) e) (sym why.1) (bad bytes (unread_of remaining t) why.0 why.2))
 
-  pub unread-answer : {W A T : Type 0} (contents : W → Option (List ℕ)) (write_errors : W → Option ℕ) (told : A → T)
+  pub unread-answer : {W A T : Type 0} (contents : W → Option (List ℕ)) (write_errors : W → Option ℕ) (reported : A → T)
       (P : List ℕ → Option T → Type 0) (old : Sink W) (source after : Option (Source R)) (f : FeedFault) →
-      AreHolidaysRead remaining errors source after (Err f) → FeedAnswers contents write_errors told P old old (Err f)
-  unread-answer contents write_errors told P old None after f read = absurd read.2
-  unread-answer contents write_errors told P old (Some s) after f (t, is, call) =
+      AreHolidaysRead remaining errors source after (Err f) → FeedAnswers contents write_errors reported P old old (Err f)
+  unread-answer contents write_errors reported P old None after f read = absurd read.2
+  unread-answer contents write_errors reported P old (Some s) after f (t, is, call) =
       let why = call.answers in
-      subst (λ e. FeedAnswers contents write_errors told P old old (Err e)) (sym why.1) (silent contents write_errors told P old why.0)
+      subst (λ e. FeedAnswers contents write_errors reported P old old (Err e)) (sym why.1) (silent contents write_errors reported P old why.0)
 
 -- ---- the whole run
 
@@ -111,7 +111,7 @@ module _ {R W : Type 0} (remaining : R → Option (List ℕ)) (errors : R → Op
     (at-first : AreHolidaysRead remaining errors holidays after (Ok first)) (h : Holidays) (same : h ≡ first) (source source_new : Source R)
   where
     abbrev Answer : List ℕ → Option Dropped → Type 0
-    Answer text told = OfHolidays remaining (λ given bytes. IsTold (IsPrepareAnswer drops given bytes text) told) holidays source
+    Answer text reported = OfHolidays remaining (λ given bytes. IsReported (IsPrepareAnswer drops given bytes text) reported) holidays source
 
     -- what the call that prepares owes the sink
     abbrev Written : Sink W → Sink W → Result Dropped FeedFault → Type 0
@@ -129,10 +129,10 @@ module _ {R W : Type 0} (remaining : R → Option (List ℕ)) (errors : R → Op
       prepared = is;
     }
 
-    some-told : (text : List ℕ) →
+    some-reported : (text : List ℕ) →
         IfSome (remaining (reader_of source)) (λ bytes. (t : Dropped) × IsPreparedText h drops MAX_LINES bytes text t) →
         Answer text None
-    some-told text some given bytes are known =
+    some-reported text some given bytes are known =
         let (t, is) = subst (λ o. IfSome o (λ b. (t : Dropped) × IsPreparedText h drops MAX_LINES b text t)) known some in
         (t, prepared text bytes given t are is)
 
@@ -142,7 +142,7 @@ module _ {R W : Type 0} (remaining : R → Option (List ℕ)) (errors : R → Op
       Answers = FeedAnswers contents write_errors (λ d. d) Answer
 
       fails : (old mid : Sink W) (e : FeedFault) → Written old mid (Err e) → Answers old mid (Err e)
-      fails old mid (Extract fault.Write) w = record { text = w.0; writes = w.1; answer = some-told w.0 w.2 }
+      fails old mid (Extract fault.Write) w = record { text = w.0; writes = w.1; answer = some-reported w.0 w.2 }
       fails old mid (Extract _) w = record { text = w.0; writes = w.1; answer = tt }
       fails old mid _ w = record { text = w.0; writes = w.1; answer = tt }
 
@@ -174,7 +174,7 @@ module _ {R W : Type 0} (remaining : R → Option (List ℕ)) (errors : R → Op
           subst (FeedAnswers contents write_errors (λ d. d) Answer old new) (sym (is ∙ ap Err write)) record {
             text = w.0;
             writes = failed;
-            answer = some-told w.0 (known_so (remaining (reader_of source)) _ _ (λ bytes p. (a, p)) w.2);
+            answer = some-reported w.0 (known_so (remaining (reader_of source)) _ _ (λ bytes p. (a, p)) w.2);
           }
 
 module _ {R : Type 0} (remaining : R → Option (List ℕ)) (errors : R → Option ℕ) (source source_new : Source R) (h : Holidays)

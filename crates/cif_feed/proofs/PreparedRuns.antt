@@ -1,11 +1,11 @@
 -- What runs by the prepared records is what runs by the published ones.
-use Rattle.cif_feed.proofs.Names.{All-contains, All-map, Applies, AreClashDays, AreClosed, AreDropped, AreParts, ArePrepared}
-use Rattle.cif_feed.proofs.Names.{Bool, Contains, Contains-append_cases, Contains-append_left, Contains-append_right, Contains-cases}
+use Rattle.cif_feed.proofs.Names.{All-contains, All-map, Applies, AreClashDays, AreClosed, AreDropped, AreParts, ArePrepared, Bool}
+use Rattle.cif_feed.proofs.Names.{Contains, Contains-append_cases, Contains-append_left, Contains-append_right, Contains-cases}
 use Rattle.cif_feed.proofs.Names.{Contains-first, Contains-none, Contains-rest, CountOn, Dropped, ExtractParts, HolidayCode, Holidays}
-use Rattle.cif_feed.proofs.Names.{IsClashDay, IsClear, IsHolidayOf, IsPart, IsPreparedAs, IsStop, IsStopAmong, IsTrue, List, None}
-use Rattle.cif_feed.proofs.Names.{Option, Part, PublishedAssociation, PublishedParts, PublishedSchedule, PublishedTerms, Records, Runs}
-use Rattle.cif_feed.proofs.Names.{SayAsPublished, SayOfDay, SayTheSame, Some, Terms, Wins, [], ap, arith, association_entries}
-use Rattle.cif_feed.proofs.Names.{cases_lt, cond, ended, false, false≢true, get_or, inl, inr, last_day, last_is_day, map, max, part_terms}
+use Rattle.cif_feed.proofs.Names.{IsClashDay, IsClear, IsHolidayOf, IsPart, IsPreparedAs, IsStop, IsStopAmong, IsTrue, List, None, Option}
+use Rattle.cif_feed.proofs.Names.{Part, PublishedAssociation, PublishedParts, PublishedSchedule, PublishedTerms, Records, Runs}
+use Rattle.cif_feed.proofs.Names.{SayAsPublished, SayOfDay, SayTheSame, Some, Terms, Wins, [], ap, arith, association_entries, cases_lt}
+use Rattle.cif_feed.proofs.Names.{cond, ended, false, false≢true, get_or, inl, inr, last_day, last_is_day, map, max, part_terms}
 use Rattle.cif_feed.proofs.Names.{prepared_last, published_associations, published_schedules, refl, schedule_entries, subst, sym, true, ℕ}
 use Rattle.cif_feed.proofs.Names.{⊎_elim, ◌+◌, ◌<◌, ◌↔◌, ◌∙◌, ◌∷◌, ◌≡◌, ◌≤◌, ◌⊎◌}
 use Rattle.cif_columns.specs.Stp.{letter}
@@ -331,12 +331,12 @@ says-published h false p x dropped is =
     }
 says-published h true p x dropped is =
     let day : p.header.last ≤ last_day = (let d = last_is_day p.header in omega arith) in
-    let told : AreDropped h p dropped = is.told in record {
+    let reported : AreDropped h p dropped = is.reported in record {
       header = is.prepared.header;
       associations = λ k d from upto. says-cut h (published_associations p.associations) (closed-associations p.associations)
           p.header.first p.header.last day (association_entries x.associations) k d from upto is.prepared.associations
-          (told.association_days k) (told.of_associations.are k);
+          (reported.association_days k) (reported.of_associations.are k);
       trains = λ k d from upto. says-cut h (published_schedules p.schedules) (closed-schedules p.schedules)
           p.header.first p.header.last day (schedule_entries x.schedules) k d from upto is.prepared.schedules
-          (told.train_days k) (told.of_trains.are k);
+          (reported.train_days k) (reported.of_trains.are k);
     }

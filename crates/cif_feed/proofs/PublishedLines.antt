@@ -167,14 +167,14 @@ module _ (allowed : HolidayCodes) (c : List ℕ) where
       × ((schedule_mark allowed (0, c)).code ≡ code)
   basic_spelled b open_end code s closed may =
       let is : is_open 16 c ≡ open_end = opened (columns 16 21 c) open_end b.last s.1.1.1.1.0 in
-      let told : code_of allowed c ≡ code = code_there code may (columns 29 29 c) s.1.1.1.1.1.1.0 in (
+      let reported : code_of allowed c ≡ code = code_there code may (columns 29 29 c) s.1.1.1.1.1.1.0 in (
         subst (λ t. SpellsBasicBy allowed t c b) (sym (new_there s.1.0)) (
-          subst (λ k. AllStandIn c (put_basic_rows New (is_open 16 c) k (terms_of b) b.detail)) (sym told)
+          subst (λ k. AllStandIn c (put_basic_rows New (is_open 16 c) k (terms_of b) b.detail)) (sym reported)
               (subst (λ v. AllStandIn c (put_basic_rows New v code (terms_of b) b.detail)) (sym is) s),
           subst (λ v. IsClosedAt v b.last) (sym is) closed,
         ),
         read_as_new s.1.0 false (is_open 16 c) ∙ is,
-        read_as_new s.1.0 None (code_of allowed c) ∙ told,
+        read_as_new s.1.0 None (code_of allowed c) ∙ reported,
       )
 
 -- ---- what is written

@@ -1,12 +1,12 @@
 -- An update that was read is done, or a line of it is refused; and updates are done one after another.
-use Rattle.cif_feed.proofs.Names.{AlreadyThere, AreAfter, AreRefused, AreRefusedLines, Bool, BytesSpellPublished, BytesSpellUpdate, RecordChange}
-use Rattle.cif_feed.proofs.Names.{Err, FeedFault, FitsColumns, HandsOn, Header, IfOk, IsDone, IsFailure, IsLineRefused, IsUpdateFault}
+use Rattle.cif_feed.proofs.Names.{AlreadyThere, AreAfter, AreRefused, AreRefusedLines, Bool, BytesSpellPublished, BytesSpellUpdate, Err}
+use Rattle.cif_feed.proofs.Names.{FeedFault, FitsColumns, HandsOn, Header, IfOk, IsDone, IsFailure, IsLineRefused, IsUpdateFault}
 use Rattle.cif_feed.proofs.Names.{IsUpdateOf, IsUpdated, IsUpdatedBy, List, Makes, MatchResult, MayBeDone, NotThere, Ok}
-use Rattle.cif_feed.proofs.Names.{PublishedAssociation, PublishedParts, PublishedSchedule, RefusedLine, Refuses, Result, Some, Tiploc}
-use Rattle.cif_feed.proofs.Names.{Unread, UpdateParts, [], all_codes, ap, append-nil, append_assoc, append_cancel_left, changes_of, cond}
-use Rattle.cif_feed.proofs.Names.{contents_of, false, inr, last_line, length, of_profile, published_lines, published_text, reading_update}
-use Rattle.cif_feed.proofs.Names.{refl, refused_header, same_values, slice_get, subst, sym, told_once, true≢false, update_parts, updating}
-use Rattle.cif_feed.proofs.Names.{with_keys, ℕ, ⊎_elim, ◌++◌, ◌==◌, ◌↔◌, ◌∙◌, ◌∷◌, ◌≡◌, ◌≤◌}
+use Rattle.cif_feed.proofs.Names.{PublishedAssociation, PublishedParts, PublishedSchedule, RecordChange, RefusedLine, Refuses, Result, Some}
+use Rattle.cif_feed.proofs.Names.{Tiploc, Unread, UpdateParts, [], all_codes, ap, append-nil, append_assoc, append_cancel_left, changes_of}
+use Rattle.cif_feed.proofs.Names.{cond, contents_of, false, inr, last_line, length, of_profile, published_lines, published_text}
+use Rattle.cif_feed.proofs.Names.{reading_update, refl, refused_header, reported_once, same_values, slice_get, subst, sym, true≢false}
+use Rattle.cif_feed.proofs.Names.{update_parts, updating, with_keys, ℕ, ⊎_elim, ◌++◌, ◌==◌, ◌↔◌, ◌∙◌, ◌∷◌, ◌≡◌, ◌≤◌}
 use Rattle.cif_feed.proofs.ChangeLaws.{after_all-alike, refusals-alike, same_alike}
 use Rattle.cif_feed.proofs.FittingUpdates.{updated_fits}
 use Rattle.cif_feed.proofs.PublishedTexts.{may_any, published-lines, published-spells, said_fits}
@@ -17,32 +17,32 @@ use Rattle.cif_feed.specs.declared.feed_line.Feed.TheVariants as feed
 use Rattle.cif_feed.specs.declared.update.Outcome.{Outcome}
 use Rattle.cif_feed.specs.declared.update.Update.{Update}
 
--- ---- lines that are told once
+-- ---- lines that are reported once
 
 pub last-append : (p : ℕ) (xs ys : List RefusedLine) → last_line p (xs ++ ys) ≡ last_line (last_line p xs) ys
 last-append p [] ys = refl
 last-append p (x ∷ xs) ys = last-append x.line xs ys
 
-pub told-append : (p : ℕ) (xs ys : List RefusedLine) → told_once p (xs ++ ys) ≡ told_once p xs ++ told_once (last_line p xs) ys
-told-append p [] ys = refl
-told-append p (x ∷ xs) ys =
-    ap (λ l. cond (x.line == p) [] (x ∷ []) ++ l) (told-append x.line xs ys)
-    ∙ sym (append_assoc (cond (x.line == p) [] (x ∷ [])) (told_once x.line xs) (told_once (last_line x.line xs) ys))
+pub reported-append : (p : ℕ) (xs ys : List RefusedLine) → reported_once p (xs ++ ys) ≡ reported_once p xs ++ reported_once (last_line p xs) ys
+reported-append p [] ys = refl
+reported-append p (x ∷ xs) ys =
+    ap (λ l. cond (x.line == p) [] (x ∷ []) ++ l) (reported-append x.line xs ys)
+    ∙ sym (append_assoc (cond (x.line == p) [] (x ∷ [])) (reported_once x.line xs) (reported_once (last_line x.line xs) ys))
 
 -- one line more
-pub told-more : (p : ℕ) (xs : List RefusedLine) (x : RefusedLine)
-    → told_once p (xs ++ x ∷ []) ≡ told_once p xs ++ cond (x.line == last_line p xs) [] (x ∷ [])
-told-more p xs x =
-    told-append p xs (x ∷ []) ∙ ap (λ l. told_once p xs ++ l) (append-nil (cond (x.line == last_line p xs) [] (x ∷ [])))
+pub reported-more : (p : ℕ) (xs : List RefusedLine) (x : RefusedLine)
+    → reported_once p (xs ++ x ∷ []) ≡ reported_once p xs ++ cond (x.line == last_line p xs) [] (x ∷ [])
+reported-more p xs x =
+    reported-append p xs (x ∷ []) ∙ ap (λ l. reported_once p xs ++ l) (append-nil (cond (x.line == last_line p xs) [] (x ∷ [])))
 
 pub last-more : (p : ℕ) (xs : List RefusedLine) (x : RefusedLine) → last_line p (xs ++ x ∷ []) ≡ x.line
 last-more p xs x = last-append p xs (x ∷ [])
 
 -- of three lists
-pub told-three : (xs ys zs : List RefusedLine) → told_once 0 xs ++ (told_once (last_line 0 xs) ys
-    ++ told_once (last_line (last_line 0 xs) ys) zs) ≡ told_once 0 (xs ++ (ys ++ zs))
-told-three xs ys zs =
-    sym (told-append 0 xs (ys ++ zs) ∙ ap (λ l. told_once 0 xs ++ l) (told-append (last_line 0 xs) ys zs))
+pub reported-three : (xs ys zs : List RefusedLine) → reported_once 0 xs ++ (reported_once (last_line 0 xs) ys
+    ++ reported_once (last_line (last_line 0 xs) ys) zs) ≡ reported_once 0 (xs ++ (ys ++ zs))
+reported-three xs ys zs =
+    sym (reported-append 0 xs (ys ++ zs) ∙ ap (λ l. reported_once 0 xs ++ l) (reported-append (last_line 0 xs) ys zs))
 
 -- ---- one update
 
@@ -55,11 +55,11 @@ one_refused key old changes p q a b =
 pub one_list : (u : UpdateParts) (old : PublishedParts) (p q : List RefusedLine) → AreRefusedLines u old p → AreRefusedLines u old q → p ≡ q
 one_list u old p q a b =
     a.are
-    ∙ ap (λ l. refused_header u old ++ told_once 0 (l ++ (a.associations ++ a.schedules)))
+    ∙ ap (λ l. refused_header u old ++ reported_once 0 (l ++ (a.associations ++ a.schedules)))
     (one_refused _ old.tiplocs u.tiplocs a.tiplocs b.tiplocs a.of_tiplocs b.of_tiplocs)
-    ∙ ap (λ l. refused_header u old ++ told_once 0 (b.tiplocs ++ (l ++ a.schedules)))
+    ∙ ap (λ l. refused_header u old ++ reported_once 0 (b.tiplocs ++ (l ++ a.schedules)))
     (one_refused _ old.associations u.associations a.associations b.associations a.of_associations b.of_associations)
-    ∙ ap (λ l. refused_header u old ++ told_once 0 (b.tiplocs ++ (b.associations ++ l)))
+    ∙ ap (λ l. refused_header u old ++ reported_once 0 (b.tiplocs ++ (b.associations ++ l)))
     (one_refused _ old.schedules u.schedules a.schedules b.schedules a.of_schedules b.of_schedules) ∙ sym b.are
 
 module _ (lenient : Bool) (max : ℕ) (old new : PublishedParts) where

@@ -1,13 +1,13 @@
 -- What comes of the sources of `update`, where the bytes that their readers give are known.
 use Rattle.cif_feed.proofs.Names.{AlreadyThere, BadTransaction, Bool, BytesSpellPublished, Err, FeedFault, HasFailed, HasWritten, IfErr}
-use Rattle.cif_feed.proofs.Names.{IfOk, IfSome, IsDeviceOrMemory, IsPublishedOf, IsResultOf, List, MatchResult, NotThere, NotUpdate}
-use Rattle.cif_feed.proofs.Names.{Ok, Option, PublishedExtract, PublishedParts, Result, Sink, Some, Source, Unread, Writes, []}
-use Rattle.cif_feed.proofs.Names.{all_codes, ap, append-nil, append_assoc, failed_second, goes-on, inl, inr, list_any, not}
-use Rattle.cif_feed.proofs.Names.{published_parts, published_text, reader_of, reading_published, refl, subst, sym, unread_of, updating}
-use Rattle.cif_feed.proofs.Names.{written_both, ℕ, ⊎_elim, ◌&&◌, ◌++◌, ◌||◌, ◌∙◌, ◌∷◌, ◌≡◌, ◌⊎◌}
+use Rattle.cif_feed.proofs.Names.{IfOk, IfSome, IsDeviceOrMemory, IsPublishedOf, IsResultOf, List, MatchResult, NotThere, NotUpdate, Ok}
+use Rattle.cif_feed.proofs.Names.{Option, PublishedExtract, PublishedParts, Result, Sink, Some, Source, Unread, Writes, [], all_codes, ap}
+use Rattle.cif_feed.proofs.Names.{append-nil, append_assoc, failed_second, goes-on, inl, inr, list_any, not, published_parts}
+use Rattle.cif_feed.proofs.Names.{published_text, reader_of, reading_published, refl, subst, sym, unread_of, updating, written_both, ℕ}
+use Rattle.cif_feed.proofs.Names.{⊎_elim, ◌&&◌, ◌++◌, ◌||◌, ◌∙◌, ◌∷◌, ◌≡◌, ◌⊎◌}
 use Rattle.cif_feed.specs.Counts.{have_marks}
-use Rattle.cif_feed.specs.FeedAnswer.{AreDoneInTurn, AreGiven, AreUpdatesRead, EndsAs, FeedAnswers, FeedFinishes, IsTold, IsUpdateAnswer}
-use Rattle.cif_feed.specs.FeedAnswer.{IsUpdateFault, OfUpdates, UpdateTold, counts_in, waived_by}
+use Rattle.cif_feed.specs.FeedAnswer.{AreDoneInTurn, AreGiven, AreUpdatesRead, EndsAs, FeedAnswers, FeedFinishes, IsReported}
+use Rattle.cif_feed.specs.FeedAnswer.{IsUpdateAnswer, IsUpdateFault, OfUpdates, UpdateReported, counts_in, waived_by}
 use Rattle.cif_columns.specs.declared.line_reader.TheConstants.{MAX_LINES}
 use Rattle.cif_extract.specs.ReadCall.{ReadCall}
 use Rattle.cif_extract.specs.declared.fault.Fault.TheVariants.{Write}
@@ -147,11 +147,11 @@ listed-further known mid all first later (Err f) one h = tt
 -- ---- the whole run
 
 -- a fault before anything is written
-silent : {W A T : Type 0} (contents : W → Option (List ℕ)) (errors : W → Option ℕ) (told : A → T) (P : List ℕ → Option T → Type 0)
-    (old : Sink W) (f : FeedFault) → IsOfUpdate MAX_LINES f → FeedAnswers contents errors told P old old (Err f)
-silent contents errors told P old (Extract Write) of = absurd of
-silent contents errors told P old (Extract _) of = record { text = []; writes = refl; answer = tt }
-silent contents errors told P old _ of = record { text = []; writes = refl; answer = tt }
+silent : {W A T : Type 0} (contents : W → Option (List ℕ)) (errors : W → Option ℕ) (reported : A → T) (P : List ℕ → Option T → Type 0)
+    (old : Sink W) (f : FeedFault) → IsOfUpdate MAX_LINES f → FeedAnswers contents errors reported P old old (Err f)
+silent contents errors reported P old (Extract Write) of = absurd of
+silent contents errors reported P old (Extract _) of = record { text = []; writes = refl; answer = tt }
+silent contents errors reported P old _ of = record { text = []; writes = refl; answer = tt }
 
 -- a text is written, and then handed on, or neither
 pub finished : {W A : Type 0} (contents : W → Option (List ℕ)) (errors : W → Option ℕ) (text : List ℕ) (old mid new : Sink W)
@@ -169,7 +169,7 @@ finished contents errors text old mid new (Err f) result w h =
     (refl, subst (λ s. HasFailed contents errors text old s) (sym h.1) w)
 
 module _ {R W A : Type 0} (remaining : R → Option (List ℕ)) (errors : R → Option ℕ) (contents : W → Option (List ℕ))
-    (write_errors : W → Option ℕ) (told : A → UpdateTold) (listed : A → List DoneUpdate) (lenient : Bool) (codes : HolidayCodes)
+    (write_errors : W → Option ℕ) (reported : A → UpdateReported) (listed : A → List DoneUpdate) (lenient : Bool) (codes : HolidayCodes)
     (all : codes ≡ all_codes)
     (full full_new : Source R) (extract : PublishedExtract)
     (read : IsResultOf remaining errors (reading_published codes MAX_LINES) full full_new (Ok extract)) (x : PublishedExtract)
@@ -177,11 +177,11 @@ module _ {R W A : Type 0} (remaining : R → Option (List ℕ)) (errors : R → 
   abbrev InTurn : Result (Unit {0}) FeedFault → Type 0
   InTurn = AreDoneInTurn remaining errors lenient (published_parts x) new updates updates_new these
 
-  abbrev Answer : List ℕ → Option UpdateTold → Type 0
-  Answer text told = OfUpdates remaining (λ bytes given. IsTold (IsUpdateAnswer lenient bytes given text) told) full updates
+  abbrev Answer : List ℕ → Option UpdateReported → Type 0
+  Answer text reported = OfUpdates remaining (λ bytes given. IsReported (IsUpdateAnswer lenient bytes given text) reported) full updates
 
-  abbrev told-here : UpdateTold
-  told-here = record {
+  abbrev reported-here : UpdateReported
+  reported-here = record {
     as_prepared = not (have_marks extract.counts) && list_any (λ (u : DoneUpdate). have_marks u.outcome.counts) these;
     waived = waived_by these;
   }
@@ -213,9 +213,9 @@ module _ {R W A : Type 0} (remaining : R → Option (List ℕ)) (errors : R → 
 
   -- an update isn't done
   module _ (f : FeedFault) (turn : InTurn (Err f)) (result : Result A FeedFault) (is : result ≡ Err f) where
-    pub undone-answer : (sink : Sink W) → FeedAnswers contents write_errors told Answer sink sink result
-    undone-answer sink = subst (FeedAnswers contents write_errors told Answer sink sink) (sym is)
-        (silent contents write_errors told Answer sink f
+    pub undone-answer : (sink : Sink W) → FeedAnswers contents write_errors reported Answer sink sink result
+    undone-answer sink = subst (FeedAnswers contents write_errors reported Answer sink sink) (sym is)
+        (silent contents write_errors reported Answer sink f
         (faults-in-turn remaining errors lenient updates updates_new (published_parts x) new these f turn))
 
     pub undone-fault : OfUpdates remaining (λ bytes given. IfErr result (IsUpdateFault lenient bytes given)) full updates
@@ -228,7 +228,7 @@ module _ {R W A : Type 0} (remaining : R → Option (List ℕ)) (errors : R → 
 
   -- all are
   module _ (turn : InTurn (Ok tt)) where
-    written : Answer (published_text new) (Some told-here)
+    written : Answer (published_text new) (Some reported-here)
     written bytes given known are =
         let both = done-in-turn remaining errors lenient updates updates_new (published_parts x) new these given turn are in
         let is = published bytes known in
@@ -249,17 +249,17 @@ module _ {R W A : Type 0} (remaining : R → Option (List ℕ)) (errors : R → 
     Ends old after result = MatchResult result (λ a. HasWritten contents write_errors (published_text new) old after)
         (λ f. (f ≡ Extract Write) × HasFailed contents write_errors (published_text new) old after)
 
-    pub ended-answer : ((a : A) → told a ≡ told-here) → (old after : Sink W) (result : Result A FeedFault) → Ends old after result →
-        FeedAnswers contents write_errors told Answer old after result
+    pub ended-answer : ((a : A) → reported a ≡ reported-here) → (old after : Sink W) (result : Result A FeedFault) → Ends old after result →
+        FeedAnswers contents write_errors reported Answer old after result
     ended-answer is old after (Ok a) w = record {
       text = published_text new;
       writes = w;
       answer = subst (λ t. Answer (published_text new) (Some t)) (sym (is a)) written;
     }
-    ended-answer is old after (Err f) w = subst (λ e. FeedAnswers contents write_errors told Answer old after (Err e)) (sym w.0) record {
+    ended-answer is old after (Err f) w = subst (λ e. FeedAnswers contents write_errors reported Answer old after (Err e)) (sym w.0) record {
       text = published_text new;
       writes = w.1;
-      answer = λ bytes given known are. (told-here, written bytes given known are);
+      answer = λ bytes given known are. (reported-here, written bytes given known are);
     }
 
     pub ended-fault : (old after : Sink W) (result : Result A FeedFault) → Ends old after result →

@@ -1,6 +1,6 @@
--- What is told of the keys that clash.
-use Rattle.std.specs.Prelude.{◌≡◌, ◌↔◌, ℕ, ◌+◌, ◌-◌, ◌<◌, ◌≤◌, List, ◌++◌, AllPairs, Contains, codes, decimal, length, map, slice_index_or}
-use Rattle.std.specs.Prelude.{◌==◌, if◌then◌else◌}
+-- What is reported of the keys that clash.
+use Rattle.std.specs.Prelude.{AllPairs, Contains, List, codes, decimal, if◌then◌else◌, length, map, slice_index_or, ℕ, ◌++◌, ◌+◌, ◌-◌, ◌<◌}
+use Rattle.std.specs.Prelude.{◌==◌, ◌↔◌, ◌≡◌, ◌≤◌}
 use Rattle.std.specs.Ordering.{nat_cmp}
 use Rattle.std.specs.Cmp.Lexicographic.{slice_cmp}
 use Rattle.std.specs.declared.cmp.Ordering.{Ordering}
@@ -32,16 +32,16 @@ pub record AreKeysWithDays {K : Type 0} (cmp : K → K → Ordering) (Are : K �
   pub each : (k : K) → Contains keys k ↔ (0 < length (days k))
   pub are : (k : K) → Are k (days k)
 
--- what is told of a key and its days: the first of them, and how many more there are
-abbrev pub told_as : {K : Type 0} → (K → ℕ → Clash) → (K → List ℕ) → K → DroppedKey
-told_as name days k = record { clash = name k (slice_index_or (days k) 0 0); more = length (days k) - 1 }
+-- what is reported of a key and its days: the first of them, and how many more there are
+abbrev pub reported_as : {K : Type 0} → (K → ℕ → Clash) → (K → List ℕ) → K → DroppedKey
+reported_as name days k = record { clash = name k (slice_index_or (days k) 0 0); more = length (days k) - 1 }
 
 -- so many of the published records apply on a clash day of their key
 abbrev pub IsCountOfClashing : {K B : Type 0} → Holidays → List (K × PublishedTerms B) → ℕ → ℕ → ℕ → Type 0
 IsCountOfClashing {K} {B} h entries first last n =
     IsCountOf (λ (e : K × PublishedTerms B). AppliesOnAny (IsClashDay h entries first (last + 1) e.0) h last e.1) entries n
 
--- What is told of a published extract, with these holidays: each key that has a clash day, associations before trains, with its first clash
+-- What is reported of a published extract, with these holidays: each key that has a clash day, associations before trains, with its first clash
 -- day and how many more it has; and how many records apply on a clash day of their key.
 pub record AreDropped (h : Holidays) (p : PublishedParts) (dropped : Dropped) : Type 0 where
   pub associations : List AssocKey
@@ -53,7 +53,7 @@ pub record AreDropped (h : Holidays) (p : PublishedParts) (dropped : Dropped) : 
   pub of_trains : AreKeysWithDays (slice_cmp nat_cmp)
       (AreClashDays h (published_schedules p.schedules) p.header.first (p.header.last + 1)) trains train_days
   pub keys : dropped.keys.items
-      ≡ map (told_as clash.Association association_days) associations ++ map (told_as clash.Train train_days) trains
+      ≡ map (reported_as clash.Association association_days) associations ++ map (reported_as clash.Train train_days) trains
   pub clashing_associations : ℕ
   pub are_associations : IsCountOfClashing h (published_associations p.associations) p.header.first p.header.last clashing_associations
   pub clashing_trains : ℕ

@@ -1,6 +1,5 @@
--- What `prepare` and `update` answer: a text on the output, and what is told beside it.
-use Rattle.std.specs.Prelude.{◌≡◌, ◌⊎◌, ℕ, ⊤, Bool, false, not, ◌&&◌, List, [], ◌∷◌, ◌++◌, Option, None, Some, IfErr, IfOk}
-use Rattle.std.specs.Prelude.{Result, Ok, Err}
+-- What `prepare` and `update` answer: a text on the output, and what is reported beside it.
+use Rattle.std.specs.Prelude.{Bool, Err, IfErr, IfOk, List, None, Ok, Option, Result, Some, [], false, not, ℕ, ⊤, ◌&&◌, ◌++◌, ◌∷◌, ◌≡◌, ◌⊎◌}
 use Rattle.std.specs.List.{flat_map, list_any}
 use Rattle.cif_columns.specs.Contents.{contents_of}
 use Rattle.cif_columns.specs.Sink.{Writes, writer_of}
@@ -39,24 +38,24 @@ abbrev pub IsHandedOn : {W A E : Type 0} → (W → Type 0) → Sink W → Resul
 IsHandedOn holds_nothing new (Ok done) = holds_nothing (writer_of new)
 IsHandedOn holds_nothing new (Err fault) = ⊤
 
--- P holds of what is told, or of something where that isn't known
-abbrev pub IsTold : {T : Type 0} → (T → Type 0) → Option T → Type 0
-IsTold P (Some told) = P told
-IsTold {T} P None = (told : T) × P told
+-- P holds of what is reported, or of something where that isn't known
+abbrev pub IsReported : {T : Type 0} → (T → Type 0) → Option T → Type 0
+IsReported P (Some reported) = P reported
+IsReported {T} P None = (reported : T) × P reported
 
 -- P holds of what was answered, or, at Write, of an answer of which a prefix was written
 abbrev pub IfFeedAnswered : {A T : Type 0} → (A → T) → (Option T → Type 0) → Result A FeedFault → Type 0
-IfFeedAnswered told P (Ok done) = P (Some (told done))
-IfFeedAnswered told P (Err (Extract Write)) = P None
-IfFeedAnswered told P (Err fault) = ⊤
+IfFeedAnswered reported P (Ok done) = P (Some (reported done))
+IfFeedAnswered reported P (Err (Extract Write)) = P None
+IfFeedAnswered reported P (Err fault) = ⊤
 
 -- What a command owes its sink: the text of its answer, and no byte more; a prefix of it at Write; nothing at another fault. What it tells
 -- beside it belongs to that text.
-pub record FeedAnswers {W A T : Type 0} (contents : W → Option (List ℕ)) (errors : W → Option ℕ) (told : A → T)
+pub record FeedAnswers {W A T : Type 0} (contents : W → Option (List ℕ)) (errors : W → Option ℕ) (reported : A → T)
     (IsAnswer : List ℕ → Option T → Type 0) (old new : Sink W) (result : Result A FeedFault) : Type 0 where
   pub text : List ℕ
   pub writes : FeedWrites contents errors text old new result
-  pub answer : IfFeedAnswered told (IsAnswer text) result
+  pub answer : IfFeedAnswered reported (IsAnswer text) result
 
 -- once what was written is handed on; a failure of the writing is the answer
 abbrev pub FeedFinishes : {W A E : Type 0} → (W → Option (List ℕ)) → (W → Option ℕ) → Result A E → Sink W → Sink W →
@@ -151,17 +150,17 @@ abbrev pub looks_prepared : KeptUpdate → Bool
 looks_prepared kept = read_as_prepared kept.full kept.done.items
 
 -- what `update` tells beside the text: that its full extract looks as if it were prepared, and which lines were waived
-pub record UpdateTold : Type 0 where
+pub record UpdateReported : Type 0 where
   pub as_prepared : Bool
   pub waived : List RefusedLine
 
-abbrev pub told_of : KeptUpdate → UpdateTold
-told_of kept = record { as_prepared = looks_prepared kept; waived = waived_by kept.done.items }
+abbrev pub reported_of : KeptUpdate → UpdateReported
+reported_of kept = record { as_prepared = looks_prepared kept; waived = waived_by kept.done.items }
 
 -- `update` answers the bytes of a full extract and of updates by this text, and tells this
-pub record IsUpdateAnswer (lenient : Bool) (full : List ℕ) (updates : List (List ℕ)) (text : List ℕ) (told : UpdateTold) : Type 0 where
-  pub written : IsWritten lenient MAX_LINES full updates text told.waived
-  pub as_prepared : told.as_prepared ≡ is_as_prepared full updates
+pub record IsUpdateAnswer (lenient : Bool) (full : List ℕ) (updates : List (List ℕ)) (text : List ℕ) (reported : UpdateReported) : Type 0 where
+  pub written : IsWritten lenient MAX_LINES full updates text reported.waived
+  pub as_prepared : reported.as_prepared ≡ is_as_prepared full updates
 
 -- these are the bytes that the readers of the sources give
 abbrev pub AreGiven : {R : Type 0} → (R → Option (List ℕ)) → List (Source R) → List (List ℕ) → Type 0

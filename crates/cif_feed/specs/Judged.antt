@@ -1,5 +1,5 @@
 -- What comes of an input whose lines are judged each by itself.
-use Rattle.std.specs.Prelude.{◌≡◌, ◌<◌, ◌≤◌, ◌+◌, ⊤, ℕ, true, false, List, All, Contains, length, None, Some, IsSomeAnd, Result, Ok, Err}
+use Rattle.std.specs.Prelude.{All, Contains, Err, IsSomeAnd, List, None, Ok, Result, Some, false, length, true, ℕ, ⊤, ◌+◌, ◌<◌, ◌≡◌, ◌≤◌}
 use Rattle.cif_columns.specs.JudgedContents.{IsGiven, MayGoOn, judged_contents}
 use Rattle.cif_columns.specs.Source.{Unread}
 use Rattle.cif_columns.specs.declared.refusal.Refusal.{Refusal}
@@ -10,27 +10,27 @@ use Rattle.cif_extract.specs.ReadCall.{ReadCall, reading}
 use Rattle.cif_extract.specs.ReadFault.{IsOfReading, is_read}
 use Rattle.cif_extract.specs.SpellsExtract.{BytesSpellWithin}
 use Rattle.cif_extract.specs.declared.fault.Fault.{Fault}
-use Rattle.cif_extract.specs.declared.fault.Fault.TheVariants.{Refused, Read, Memory}
-use Rattle.cif_feed.specs.Reasons.{TellReasons, own_reason, reasons_in}
+use Rattle.cif_extract.specs.declared.fault.Fault.TheVariants.{Memory, Read, Refused}
+use Rattle.cif_feed.specs.Reasons.{ReportReasons, own_reason, reasons_in}
 use Rattle.cif_feed.specs.declared.judged.Judged.{Judged}
-use Rattle.cif_feed.specs.declared.judged.Judged.TheVariants.{Reasons, Extract}
-use Rattle.cif_feed.specs.declared.reasons.Reasons.{Reasons as Told}
+use Rattle.cif_feed.specs.declared.judged.Judged.TheVariants.{Extract, Reasons}
+use Rattle.cif_feed.specs.declared.reasons.Reasons.{Reasons as Reported}
 
 -- none of these contents has a reason by itself
 abbrev pub NoneHasReason : List (List ℕ) → Type 0
 NoneHasReason contents = All (λ content. own_reason content ≡ None) contents
 
--- What a source gave of these bytes decides which lines are judged, whatever follows, where `after` is left: it told its end, or there is
+-- What a source gave of these bytes decides which lines are judged, whatever follows, where `after` is left: it reported its end, or there is
 -- one too many among them, or one that is overlong.
 abbrev pub IsJudgedWhole : ℕ → List ℕ → Unread → Type 0
 IsJudgedWhole max bytes after = after.ended ≡ false → IsSomeAnd after.bytes (IsGiven (λ before. ¬ MayGoOn max before) bytes)
 
--- some of the lines have reasons, and this is told of them
-pub record HaveReasons (max : ℕ) (bytes : List ℕ) (after : Unread) (told : Told) : Type 0 where
+-- some of the lines have reasons, and this is reported of them
+pub record HaveReasons (max : ℕ) (bytes : List ℕ) (after : Unread) (reported : Reported) : Type 0 where
   pub within : length (judged_contents bytes) ≤ max
   pub why : Refusal
   pub some : Contains (reasons_in bytes) (Some why)
-  pub tell : TellReasons (reasons_in bytes) told
+  pub tell : ReportReasons (reasons_in bytes) reported
   pub whole : IsJudgedWhole max bytes after
 
 -- none has, and the lines spell this extract
@@ -40,7 +40,7 @@ pub record HaveNone (max : ℕ) (bytes : List ℕ) (x : ExtractParts) : Type 0 w
 
 -- what is answered of these bytes, where `after` is left
 abbrev pub IsJudgedAs : ℕ → List ℕ → Unread → Judged → Type 0
-IsJudgedAs max bytes after (Reasons told) = HaveReasons max bytes after told
+IsJudgedAs max bytes after (Reasons reported) = HaveReasons max bytes after reported
 IsJudgedAs max bytes after (Extract x) = HaveNone max bytes (extract_parts x)
 
 -- a line is one too many, whatever reasons there are
@@ -66,7 +66,7 @@ IsJudgedFault max bytes after _ = ⊥
 -- what is answered where the bytes spell an extract of these parts: it, unless the source fails or memory runs out
 abbrev pub IsReadAsJudged : ExtractParts → Result Judged Fault → Type 0
 IsReadAsJudged x (Ok (Extract extract)) = extract_parts extract ≡ x
-IsReadAsJudged x (Ok (Reasons told)) = ⊥
+IsReadAsJudged x (Ok (Reasons reported)) = ⊥
 IsReadAsJudged x (Err Read) = Unit {0}
 IsReadAsJudged x (Err Memory) = Unit {0}
 IsReadAsJudged x (Err _) = ⊥
@@ -74,7 +74,7 @@ IsReadAsJudged x (Err _) = ⊥
 -- an extract is answered at the end of an input, and reasons where the first lines have some
 abbrev pub IsAtEnd : Judged → Type 0
 IsAtEnd (Extract x) = ⊤
-IsAtEnd (Reasons told) = ⊥
+IsAtEnd (Reasons reported) = ⊥
 
 -- judging each line by itself, where `after` is left
 abbrev pub judging : ℕ → Unread → ReadCall Judged Fault

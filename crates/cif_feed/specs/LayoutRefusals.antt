@@ -1,6 +1,6 @@
 -- The first reason to refuse a line of a feed as a record: its fields in the order of their columns, as the layouts of this profile have
 -- them, and what feeds have otherwise.
-use Rattle.std.specs.Prelude.{ℕ, ◌||◌, List, [], ◌∷◌, Option, None, Some, codes, is_some, if◌then◌else◌}
+use Rattle.std.specs.Prelude.{List, None, Option, Some, [], codes, if◌then◌else◌, is_some, ℕ, ◌||◌, ◌∷◌}
 use Rattle.cif_columns.specs.Field.{columns}
 use Rattle.cif_columns.specs.declared.refusal.Refusal.{Refusal}
 use Rattle.cif_columns.specs.declared.refusal.Refusal.TheVariants.{BankHoliday, NotFull}
@@ -8,7 +8,7 @@ use Rattle.cif_records.specs.Checks.{are, date_refusal, dates_refusal, days_refu
 use Rattle.cif_records.specs.Header.{header_refusal_by}
 use Rattle.cif_records.specs.Record.{refusal_as}
 use Rattle.cif_records.specs.declared.record.Kind.{Kind}
-use Rattle.cif_records.specs.declared.record.Kind.TheVariants.{Hd, Ti, Ta, Td, Aa, Bs}
+use Rattle.cif_records.specs.declared.record.Kind.TheVariants.{Aa, Bs, Hd, Ta, Td, Ti}
 use Rattle.cif_feed.specs.FeedLine.{code_of, indicator_of, transaction_at}
 use Rattle.cif_feed.specs.declared.feed_line.Feed.{Feed}
 use Rattle.cif_feed.specs.declared.feed_line.Feed.TheVariants.{Update}
@@ -26,7 +26,7 @@ holiday_code_refusal allowed line = unless (are (columns 29 29 line) (codes " ")
 
 -- ---- AA and BS, by their transaction, column 3
 
--- Without one it is NotFull, which is told as BadTransaction of an update. Of a deletion the first date and the letter are read. Else AA:
+-- Without one it is NotFull, which is reported as BadTransaction of an update. Of a deletion the first date and the letter are read. Else AA:
 -- BadDate and DatesReversed (columns 16 to 27), BadDays (columns 28 to 34), BadStp (column 80)
 abbrev pub association_refusal_by : Option Transaction → List ℕ → Option Refusal
 association_refusal_by None line = Some NotFull
@@ -50,7 +50,7 @@ basic_refusal_by allowed (Some put) line = first_of (
 
 -- ---- any line
 
--- By its kind: HD without the update indicator of the feed is NotFull, which is told as NotUpdate of an update; TA and TD of an update are
+-- By its kind: HD without the update indicator of the feed is NotFull, which is reported as NotUpdate of an update; TA and TD of an update are
 -- read as TI, of which nothing is refused; all other lines are as in an extract of this profile.
 abbrev pub feed_refusal_as : Feed → HolidayCodes → Option Kind → List ℕ → Option Refusal
 feed_refusal_as feed allowed (Some Hd) line = header_refusal_by (indicator_of feed) line

@@ -1,13 +1,13 @@
 -- The reasons to refuse lines, each judged by itself.
-use Rattle.std.specs.Prelude.{◌≡◌, ℕ, ◌+◌, ◌-◌, ◌<◌, ◌==◌, Bool, false, List, [], ◌∷◌, ◌++◌, Option, None, Some, codes, decimal, filter}
-use Rattle.std.specs.Prelude.{length, map, slice_index, if◌then◌else◌}
+use Rattle.std.specs.Prelude.{Bool, List, None, Option, Some, [], codes, decimal, false, filter, if◌then◌else◌, length, map, slice_index, ℕ}
+use Rattle.std.specs.Prelude.{◌++◌, ◌+◌, ◌-◌, ◌<◌, ◌==◌, ◌∷◌, ◌≡◌}
 use Rattle.std.specs.List.{flat_map, list_all, position_or_len}
 use Rattle.cif_columns.specs.FirstLine.{is_printable}
 use Rattle.cif_columns.specs.JudgedContents.{judged_contents}
 use Rattle.cif_columns.specs.Refusal.{name_of, number_of}
 use Rattle.cif_columns.specs.declared.refusal.Refusal.{Refusal}
-use Rattle.cif_columns.specs.declared.refusal.Refusal.TheVariants.{BadLength, BadByte, UnknownRecord, NotFull, BadDate, OpenEnd}
-use Rattle.cif_columns.specs.declared.refusal.Refusal.TheVariants.{DatesReversed, BadDays, BankHoliday, BadStp, BadTime}
+use Rattle.cif_columns.specs.declared.refusal.Refusal.TheVariants.{BadByte, BadDate, BadDays, BadLength, BadStp, BadTime, BankHoliday}
+use Rattle.cif_columns.specs.declared.refusal.Refusal.TheVariants.{DatesReversed, NotFull, OpenEnd, UnknownRecord}
 use Rattle.cif_records.specs.Checks.{first_of, unless}
 use Rattle.cif_records.specs.Record.{record_refusal}
 use Rattle.cif_feed.specs.declared.reasons.Reasons.{Reasons}
@@ -78,10 +78,10 @@ abbrev pub first_with : ℕ → ℕ → ℕ → ℕ
 first_with lines first line = if lines == 0 then line else first
 
 -- they say this of these reasons
-pub record TellReasons (reasons : List (Option Refusal)) (r : Reasons) : Type 0 where
+pub record ReportReasons (reasons : List (Option Refusal)) (r : Reasons) : Type 0 where
   pub lines : (why : Refusal) → lines_in r why ≡ lines_for why reasons
   pub first : (why : Refusal) → 0 < lines_for why reasons → first_in r why ≡ first_for why reasons
 
 -- the lines that they are written as
-unfoldable pub told_text : Reasons → List ℕ
-told_text r = flat_map (λ (why : Refusal). reason_line why (lines_in r why) (first_in r why)) own_reasons
+unfoldable pub reported_text : Reasons → List ℕ
+reported_text r = flat_map (λ (why : Refusal). reason_line why (lines_in r why) (first_in r why)) own_reasons

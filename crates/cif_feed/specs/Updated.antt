@@ -1,5 +1,5 @@
 -- What an update does to a published extract.
-use Rattle.std.specs.Prelude.{◌≡◌, ◌⊎◌, ℕ, ◌==◌, Bool, true, false, List, [], ◌∷◌, ◌++◌, Some, slice_get, if◌then◌else◌}
+use Rattle.std.specs.Prelude.{Bool, List, Some, [], false, if◌then◌else◌, slice_get, true, ℕ, ◌++◌, ◌==◌, ◌∷◌, ◌≡◌, ◌⊎◌}
 use Rattle.cif_columns.specs.Contents.{contents_of}
 use Rattle.cif_columns.specs.Source.{Unread}
 use Rattle.cif_extract.specs.ReadCall.{ReadCall, reading}
@@ -17,7 +17,7 @@ use Rattle.cif_feed.specs.declared.changes.Unfit.{Unfit}
 use Rattle.cif_feed.specs.declared.changes.Unfit.TheVariants as unfit
 use Rattle.cif_feed.specs.declared.feed_line.Feed.TheVariants.{Update}
 use Rattle.cif_feed.specs.declared.feed_fault.FeedFault.{FeedFault}
-use Rattle.cif_feed.specs.declared.feed_fault.FeedFault.TheVariants.{NotThere, AlreadyThere, OutOfSequence}
+use Rattle.cif_feed.specs.declared.feed_fault.FeedFault.TheVariants.{AlreadyThere, NotThere, OutOfSequence}
 use Rattle.cif_feed.specs.declared.published_extract.PublishedAssociation.{PublishedAssociation}
 use Rattle.cif_feed.specs.declared.published_extract.PublishedSchedule.{PublishedSchedule}
 use Rattle.cif_feed.specs.declared.update.Outcome.{Outcome}
@@ -38,9 +38,9 @@ pub record IsUpdated (u : UpdateParts) (old new : PublishedParts) : Type 0 where
   pub schedules : AreAfter published_schedule_key old.schedules u.schedules new.schedules
 
 -- each of the refused lines once, under its first refusal; those of one line stand together
-abbrev pub told_once : ℕ → List RefusedLine → List RefusedLine
-told_once previous [] = []
-told_once previous (r ∷ refused) = (if r.line == previous then [] else r ∷ []) ++ told_once r.line refused
+abbrev pub reported_once : ℕ → List RefusedLine → List RefusedLine
+reported_once previous [] = []
+reported_once previous (r ∷ refused) = (if r.line == previous then [] else r ∷ []) ++ reported_once r.line refused
 
 -- the line of the header is refused, if the update doesn't follow the extract
 abbrev pub refused_header : UpdateParts → PublishedParts → List RefusedLine
@@ -55,7 +55,7 @@ pub record AreRefusedLines (u : UpdateParts) (old : PublishedParts) (lines : Lis
   pub of_associations : AreRefused published_association_key old.associations u.associations associations
   pub schedules : List RefusedLine
   pub of_schedules : AreRefused published_schedule_key old.schedules u.schedules schedules
-  pub are : lines ≡ refused_header u old ++ told_once 0 (tiplocs ++ (associations ++ schedules))
+  pub are : lines ≡ refused_header u old ++ reported_once 0 (tiplocs ++ (associations ++ schedules))
 
 -- the fault of a line that may not be done
 abbrev pub fault_at : ℕ → Unfit → FeedFault

@@ -1,5 +1,5 @@
 -- What comes of preparing what a source gives, and writing it.
-use Rattle.std.specs.Prelude.{◌≡◌, ℕ, ⊤, Bool, true, false, List, [], Option, Result, Ok, Err, IsSomeAnd}
+use Rattle.std.specs.Prelude.{Bool, Err, IsSomeAnd, List, Ok, Option, Result, [], false, true, ℕ, ⊤, ◌≡◌}
 use Rattle.cif_columns.specs.Sink.{HasFailed, HasWritten}
 use Rattle.cif_columns.specs.Source.{Unread}
 use Rattle.cif_columns.specs.declared.sink.Sink.{Sink}
@@ -7,7 +7,7 @@ use Rattle.cif_extract.specs.ExtractParts.{ExtractParts}
 use Rattle.cif_extract.specs.ReadCall.{ReadCall, reading}
 use Rattle.cif_extract.specs.SpellsExtract.{BytesSpell}
 use Rattle.cif_extract.specs.Texts.{extract_text}
-use Rattle.cif_extract.specs.declared.fault.Fault.TheVariants.{Write, Memory}
+use Rattle.cif_extract.specs.declared.fault.Fault.TheVariants.{Memory, Write}
 use Rattle.cif_feed.specs.Dropped.{AreDropped}
 use Rattle.cif_feed.specs.FeedFault.{IsFailure, IsFeedFault, IsOfFeed, is_feed_read}
 use Rattle.cif_feed.specs.PreparedParts.{IsPrepared}
@@ -24,15 +24,15 @@ use Rattle.cif_feed.specs.declared.published_extract.PublishedExtract.{Published
 abbrev pub codes_named : Holidays → HolidayCodes
 codes_named h = record { bank = h.bank.is_named; edinburgh = h.edinburgh.is_named; glasgow = h.glasgow.is_named }
 
--- what is told of the keys that clash, if that is asked for; else nothing
+-- what is reported of the keys that clash, if that is asked for; else nothing
 abbrev pub AreDroppedIf : Bool → Holidays → PublishedParts → Dropped → Type 0
 AreDroppedIf true h p dropped = AreDropped h p dropped
 AreDroppedIf false h p dropped = (dropped.keys.items ≡ []) × (dropped.records ≡ 0)
 
--- the extract is the prepared one of a published extract, with these holidays, and this is told of the keys that clash
+-- the extract is the prepared one of a published extract, with these holidays, and this is reported of the keys that clash
 pub record IsPreparedAs (h : Holidays) (drops : Bool) (p : PublishedParts) (x : ExtractParts) (dropped : Dropped) : Type 0 where
   pub prepared : IsPrepared h drops p x
-  pub told : AreDroppedIf drops h p dropped
+  pub reported : AreDroppedIf drops h p dropped
 
 -- what a call that prepares this published extract owes its sink: the text of the prepared one at Ok, a prefix of it at Write, and nothing
 -- where memory runs out
@@ -46,7 +46,7 @@ WritesPrepared contents errors h drops p old new (Err (Extract Memory)) = new �
 WritesPrepared contents errors h drops p old new (Err fault) = ⊥
 
 -- The bytes spell a published extract whose holiday codes the holidays name, in at most max contents. This is the text of its prepared
--- extract, which spells that as an extract of this profile; and this is told of the keys that clash.
+-- extract, which spells that as an extract of this profile; and this is reported of the keys that clash.
 pub record IsPreparedText (h : Holidays) (drops : Bool) (max : ℕ) (bytes text : List ℕ) (dropped : Dropped) : Type 0 where
   pub published : PublishedParts
   pub spelled : BytesSpellPublished (codes_named h) max bytes published

@@ -3,7 +3,7 @@ ghost use Rattle.std.specs.Prelude.{◌≡◌, ◌+◌, [], IfOk};
 ghost use Rattle.std.specs.BTreeMap.{get};
 ghost use Rattle.std.specs.List.Sorted.{IsNonDecreasing};
 ghost use Rattle.cif_feed.specs.Dropped.{AreClashDays, dropped_text};
-ghost use Rattle.cif_feed.specs.Steps.Dropping.{AreFound, IsTold, published_by};
+ghost use Rattle.cif_feed.specs.Steps.Dropping.{AreFound, IsReported, published_by};
 
 use crate::Holidays;
 use crate::counting::counted_clash_dates;
@@ -81,11 +81,11 @@ pub(crate) fn find_clash_dates<E: PublishedEntry>(
     entries: &[E],
     holidays: &Holidays,
     window: &Window,
-    told: &mut Vec<DroppedKey>,
+    reported: &mut Vec<DroppedKey>,
 ) -> Result<ClashDates<E::Rank>, AllocError>
     ensures { IfOk result (λ dates. AreFound E.Key.cmp E.clash_of E.stands_for
         (AreClashDays holidays.now (published_by E.key E.published entries.now) window.now.first (window.now.last + 1))
-        told.old.items told.new.items (get E.Rank.cmp dates)) }
+        reported.old.items reported.new.items (get E.Rank.cmp dates)) }
 {
     let positions = positions_by_key(alloc, entries)?;
     let mut dates = BTreeMap::new(alloc);
@@ -93,7 +93,7 @@ pub(crate) fn find_clash_dates<E: PublishedEntry>(
     while !rest.is_empty() {
         let (members, later) = rest.split_at(count_of_first_key(entries, rest));
         let found = counted_clash_dates(alloc, entries, members, holidays, window)?;
-        list_key(&entries[members[0]], found, &mut dates, told)?;
+        list_key(&entries[members[0]], found, &mut dates, reported)?;
         rest = later;
     }
     Ok(dates)
@@ -104,16 +104,16 @@ fn list_key<E: NamedEntry>(
     entry: &E,
     found: Vec<Day>,
     dates: &mut ClashDates<E::Rank>,
-    told: &mut Vec<DroppedKey>,
+    reported: &mut Vec<DroppedKey>,
 ) -> Result<(), AllocError>
     requires rising { IsNonDecreasing found.items }
-    ensures { IfOk result (λ _. IsTold E.Key.cmp E.clash_of E.stands_for (E.key entry.now) found.items
-        told.old.items told.new.items (get E.Rank.cmp dates.old) (get E.Rank.cmp dates.new)) }
+    ensures { IfOk result (λ _. IsReported E.Key.cmp E.clash_of E.stands_for (E.key entry.now) found.items
+        reported.old.items reported.new.items (get E.Rank.cmp dates.old) (get E.Rank.cmp dates.new)) }
 {
     let Some(first) = found.first() else {
         return Ok(());
     };
-    told.push(DroppedKey {
+    reported.push(DroppedKey {
         clash: entry.clash_on(*first),
         more: found.len() - 1,
     })?;

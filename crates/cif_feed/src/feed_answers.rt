@@ -6,8 +6,8 @@ ghost use Rattle.cif_feed.specs.Counts.{have_marks};
 ghost use Rattle.cif_feed.specs.declared.feed_answers.DoneUpdate.{DoneUpdate};
 ghost use Rattle.cif_feed.specs.PublishedParts.{published_parts};
 ghost use Rattle.cif_feed.specs.FeedAnswer.{AreDoneInTurn, AreHolidaysRead, AreUpdatesRead, FeedAnswers, FeedFinishes, IsHandedOn};
-ghost use Rattle.cif_feed.specs.FeedAnswer.{IsOneDone, IsPrepareAnswer, IsPrepareFault, IsPreparedInTurn, IsTold, IsUpdateAnswer};
-ghost use Rattle.cif_feed.specs.FeedAnswer.{IsUpdateFault, OfHolidays, OfUpdates, looks_prepared, told_of};
+ghost use Rattle.cif_feed.specs.FeedAnswer.{IsOneDone, IsPrepareAnswer, IsPrepareFault, IsPreparedInTurn, IsReported, IsUpdateAnswer};
+ghost use Rattle.cif_feed.specs.FeedAnswer.{IsUpdateFault, OfHolidays, OfUpdates, looks_prepared, reported_of};
 
 use crate::dropped::Dropped;
 use crate::feed_fault::FeedFault;
@@ -114,8 +114,8 @@ pub fn answer_update<R: ReadDevice, W: WriteDevice>(
     lenient: bool,
     kept: &mut KeptUpdate,
 ) -> Result<(), FeedFault>
-    ensures answer { FeedAnswers W.contents W.write_errors (λ _. told_of kept.new)
-        (λ text told. OfUpdates R.remaining (λ bytes given. IsTold (IsUpdateAnswer lenient bytes given text) told)
+    ensures answer { FeedAnswers W.contents W.write_errors (λ _. reported_of kept.new)
+        (λ text reported. OfUpdates R.remaining (λ bytes given. IsReported (IsUpdateAnswer lenient bytes given text) reported)
         full.old updates.old) sink.old sink.new result }
     ensures fault { OfUpdates R.remaining (λ bytes given. IfErr result (IsUpdateFault lenient bytes given))
         full.old updates.old }
@@ -152,7 +152,7 @@ pub fn answer_prepare<R: ReadDevice, W: WriteDevice>(
     kept: &mut KeptPrepare,
 ) -> Result<Dropped, FeedFault>
     ensures answer { FeedAnswers W.contents W.write_errors (λ dropped. dropped)
-        (λ text told. OfHolidays R.remaining (λ given bytes. IsTold (IsPrepareAnswer drop_clashes given bytes text) told)
+        (λ text reported. OfHolidays R.remaining (λ given bytes. IsReported (IsPrepareAnswer drop_clashes given bytes text) reported)
         holidays.old source.old) sink.old sink.new result }
     ensures fault { OfHolidays R.remaining (λ given bytes. IfErr result (IsPrepareFault given bytes))
         holidays.old source.old }

@@ -161,9 +161,9 @@ impl PublishedExtract {
         &self,
         alloc: Global,
         holidays: &Holidays,
-        told: &mut Vec<DroppedKey>,
+        reported: &mut Vec<DroppedKey>,
     ) -> Result<(ClashDates<AssocKey>, ClashDates<u64>), AllocError>
-        ensures { IfOk result (λ dates. AreAllFound holidays.now (published_parts self.now) told.old.items told.new.items
+        ensures { IfOk result (λ dates. AreAllFound holidays.now (published_parts self.now) reported.old.items reported.new.items
             (get key_cmp dates.0) (get nat_cmp dates.1)) }
     {
         let window = Window::of(&self.header);
@@ -172,10 +172,10 @@ impl PublishedExtract {
             self.associations.as_slice(),
             holidays,
             &window,
-            told,
+            reported,
         )?;
         let schedules = self.schedules.as_slice();
-        let trains = find_clash_dates(alloc, schedules, holidays, &window, told)?;
+        let trains = find_clash_dates(alloc, schedules, holidays, &window, reported)?;
         Ok((associations, trains))
     }
 

@@ -7,8 +7,8 @@ ghost use Rattle.cif_columns.specs.declared.line_reader.TheConstants.{MAX_LINES}
 ghost use Rattle.cif_columns.specs.declared.refusal.Refusal.{Refusal};
 ghost use Rattle.cif_columns.specs.declared.refusal.Refusal.TheVariants.{OutOfOrder, TooManyLines};
 ghost use Rattle.cif_extract.specs.FirstRefusal.{refusal_of};
-ghost use Rattle.cif_feed.specs.Reasons.{TellReasons, first_in, lines_in, own_reason, reason_line};
-ghost use Rattle.cif_feed.specs.Reasons.{first_with, lines_word, place_of, told_text};
+ghost use Rattle.cif_feed.specs.Reasons.{ReportReasons, first_in, lines_in, own_reason, reason_line};
+ghost use Rattle.cif_feed.specs.Reasons.{first_with, lines_word, place_of, reported_text};
 ghost use Rattle.cif_records.specs.Record.{record_refusal};
 
 use arrayvec::ArrayString;
@@ -50,7 +50,7 @@ pub struct Reasons {
 impl Reasons {
     /// No line has a reason.
     pub(crate) fn new() -> Reasons
-        ensures { TellReasons [] result }
+        ensures { ReportReasons [] result }
     {
         Reasons {
             lines: [0; REFUSALS],
@@ -75,10 +75,10 @@ impl Reasons {
     /// Counts one line more, of this number, that has this reason.
     pub(crate) fn count(&mut self, why: Refusal, line: u64)
         requires line { line ≤ MAX_LINES }
-        requires told { (reasons : List (Option Refusal)) × TellReasons reasons self.old
+        requires reported { (reasons : List (Option Refusal)) × ReportReasons reasons self.old
             × (line ≡ length reasons + 1) }
-        ensures { (reasons : List (Option Refusal)) → TellReasons reasons self.old
-            → line ≡ length reasons + 1 → TellReasons (reasons ++ Some why ∷ []) self.new }
+        ensures { (reasons : List (Option Refusal)) → ReportReasons reasons self.old
+            → line ≡ length reasons + 1 → ReportReasons (reasons ++ Some why ∷ []) self.new }
     {
         let place = place_of(why);
         let lines = self.lines[place];
@@ -89,7 +89,7 @@ impl Reasons {
     /// Appends a line for each reason that a line has, in the order of their numbers, as `OpenEnd: 1
     /// line, first at line 6`. It takes no memory.
     pub fn write<W: WriteDevice>(&self, sink: &mut Sink<W>) -> Result<(), WriteFault>
-        ensures { Writes W.contents W.write_errors (told_text self.now) sink.old sink.new result }
+        ensures { Writes W.contents W.write_errors (reported_text self.now) sink.old sink.new result }
     {
         sink.write_all(self.text().as_str().as_bytes())
     }
@@ -104,9 +104,9 @@ impl Reasons {
     {}
 
     /// The lines of all reasons.
-    #[tactic(auto, unfolding(crate::specs::Reasons::told_text))]
+    #[tactic(auto, unfolding(crate::specs::Reasons::reported_text))]
     fn text(&self) -> ArrayString<LONGEST_REASONS>
-        ensures { result.bytes ≡ told_text self.now }
+        ensures { result.bytes ≡ reported_text self.now }
     {
         self.text_of(&OWN_REASONS)
     }

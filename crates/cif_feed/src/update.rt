@@ -6,7 +6,7 @@ ghost use Rattle.cif_feed.specs.PublishedParts.{published_parts};
 ghost use Rattle.cif_feed.specs.SpellsFeed.{feed_parts};
 ghost use Rattle.cif_feed.specs.Steps.Marks.{HasMarks};
 ghost use Rattle.cif_feed.specs.UpdateParts.{change_by, tiploc_changes, tiploc_changes_by};
-ghost use Rattle.cif_feed.specs.Updated.{told_once};
+ghost use Rattle.cif_feed.specs.Updated.{reported_once};
 ghost use Rattle.cif_feed.specs.Sequence.{current_reference, follows, last_reference};
 ghost use Rattle.cif_feed.specs.declared.changes.Unfit.TheVariants as unfit;
 ghost use Rattle.cif_feed.specs.Steps.Changes.{IsDone, last_line};
@@ -117,9 +117,9 @@ impl PublishedExtract {
         let of_tiplocs = apply(alloc, &mut self.tiplocs, tiplocs)?;
         let of_associations = apply(alloc, &mut self.associations, associations)?;
         let of_schedules = apply(alloc, &mut self.schedules, schedules)?;
-        let last = tell_once(&mut refused, 0, of_tiplocs.as_slice())?;
-        let last = tell_once(&mut refused, last, of_associations.as_slice())?;
-        tell_once(&mut refused, last, of_schedules.as_slice())?;
+        let last = report_once(&mut refused, 0, of_tiplocs.as_slice())?;
+        let last = report_once(&mut refused, last, of_associations.as_slice())?;
+        report_once(&mut refused, last, of_schedules.as_slice())?;
         Ok(refused)
     }
 
@@ -226,18 +226,18 @@ fn answer_of(
 
 /// Appends the lines, but for one that stands behind another of the same number, as this one was. Gives the
 /// number of the last.
-fn tell_once(
-    told: &mut Vec<RefusedLine>,
+fn report_once(
+    reported: &mut Vec<RefusedLine>,
     previous: u64,
     refused: &[RefusedLine],
 ) -> Result<u64, AllocError>
-    ensures told { IfOk result (λ _. told.new.items ≡ told.old.items ++ told_once previous refused.now) }
+    ensures reported { IfOk result (λ _. reported.new.items ≡ reported.old.items ++ reported_once previous refused.now) }
     ensures last { IfOk result (λ last. last ≡ last_line previous refused.now) }
 {
     let mut last = previous;
     for line in refused {
         if line.line != last {
-            told.push(*line)?;
+            reported.push(*line)?;
         }
         last = line.line;
     }

@@ -65,7 +65,7 @@ module _ (h : Holidays) (p : PublishedParts) (x : ExtractParts) (dropped : Dropp
       runs-whole h (published_associations p.associations) (association_entries x.associations) p.header.first p.header.last k d from upto
       ((says-published h false p x dropped is).associations k d from upto) o
   association-runs true is k o =
-      let told : AreDropped h p dropped = is.told in
+      let told : AreDropped h p dropped = is.reported in
       runs-cut h (published_associations p.associations) (association_entries x.associations) p.header.first p.header.last k d from upto
       ((says-published h true p x dropped is).associations k d from upto) (told.association_days k) (told.of_associations.are k) o
 
@@ -75,7 +75,7 @@ module _ (h : Holidays) (p : PublishedParts) (x : ExtractParts) (dropped : Dropp
       runs-whole h (published_schedules p.schedules) (schedule_entries x.schedules) p.header.first p.header.last k d from upto
       ((says-published h false p x dropped is).trains k d from upto) o
   train-runs true is k o =
-      let told : AreDropped h p dropped = is.told in
+      let told : AreDropped h p dropped = is.reported in
       runs-cut h (published_schedules p.schedules) (schedule_entries x.schedules) p.header.first p.header.last k d from upto
       ((says-published h true p x dropped is).trains k d from upto) (told.train_days k) (told.of_trains.are k) o
 

@@ -1,11 +1,10 @@
 -- What a command owes its sink, by the calls that it makes.
 use Rattle.cif_tool.proofs.Names.{Answers, AreAnswered, Err, Fault, FaultWrites, Finishes, HasFailed, HasWritten, IfAnswered, IfErr, IfOk}
 use Rattle.cif_tool.proofs.Names.{IfOk-weaker, IfWritten, IsAnswered, IsErrAnd, IsHandedOn, IsOfCheck, IsOfNormalise, IsOfReadNarrowed}
-use Rattle.cif_tool.proofs.Names.{IsOfReading}
-use Rattle.cif_tool.proofs.Names.{IsResultOf, IsResultOfBoth, List, MAX_LINES}
-use Rattle.cif_tool.proofs.Names.{Makes, MatchResult, OfBoth, OfInput, Ok, Option, ReadCall, Refuses, Result, Sink, Source, Unread, Writes}
-use Rattle.cif_tool.proofs.Names.{[], answering, ap, append-nil, at-fault, err_from_is_err_and, failed_second, false, goes-on, hands-on}
-use Rattle.cif_tool.proofs.Names.{is_read, reading_extract, refl, subst, sym, written_both, ℕ, ◌∙◌, ◌≡◌, ◌≢◌}
+use Rattle.cif_tool.proofs.Names.{IsOfReading, IsResultOf, IsResultOfBoth, List, MAX_LINES, Makes, MatchResult, OfBoth, OfInput, Ok, Option}
+use Rattle.cif_tool.proofs.Names.{ReadCall, Refuses, Result, Sink, Source, Unread, Writes, [], answering, ap, append-nil, at-fault}
+use Rattle.cif_tool.proofs.Names.{err_from_is_err_and, failed_second, false, goes-on, hands-on, is_read, reading_extract, refl, subst, sym}
+use Rattle.cif_tool.proofs.Names.{written_both, ℕ, ◌∙◌, ◌≡◌, ◌≢◌}
 use Rattle.cif_extract.specs.declared.extract.Extract.{Extract}
 use Rattle.cif_extract.specs.declared.fault.Fault.TheVariants as fault
 
@@ -123,14 +122,14 @@ module _ {W : Type 0} (contents : W → Option (List ℕ)) (errors : W → Optio
     handed A (Ok done) mid new result w p h = flushed mid new result w h.0 h.1 h.2 p
     handed A (Err f) mid new result w p h = subst (λ s. Answers contents errors P old s result) (sym h.1) (fails A mid result f h.0 w p)
 
-  -- a failure to write, told as a fault
-  pub told-as : (A E : Type 0) (text : List ℕ) (old new : Sink W) (written : Result A E) (told : Result A Fault) →
-      MatchResult written (λ x. told ≡ Ok x) (λ e. IsErrAnd told (λ f. f ≡ fault.Write)) → Writes contents errors text old new written →
-      Writes contents errors text old new told × IfErr told (λ f. f ≡ fault.Write)
-  told-as A E text old new (Ok x) told is h =
+  -- a failure to write, reported as a fault
+  pub reported-as : (A E : Type 0) (text : List ℕ) (old new : Sink W) (written : Result A E) (reported : Result A Fault) →
+      MatchResult written (λ x. reported ≡ Ok x) (λ e. IsErrAnd reported (λ f. f ≡ fault.Write)) → Writes contents errors text old new written →
+      Writes contents errors text old new reported × IfErr reported (λ f. f ≡ fault.Write)
+  reported-as A E text old new (Ok x) reported is h =
       subst (λ r. Writes contents errors text old new r × IfErr r (λ f. f ≡ fault.Write)) (sym is) (h, tt)
-  told-as A E text old new (Err e) told is h =
-      let (f, at, write) = err_from_is_err_and told is in
+  reported-as A E text old new (Err e) reported is h =
+      let (f, at, write) = err_from_is_err_and reported is in
       subst (λ r. Writes contents errors text old new r × IfErr r (λ f. f ≡ fault.Write)) (sym at) (h, write)
 
   -- a failure to write, or to hand on

@@ -1,12 +1,12 @@
 -- What `check --all` answers, by what its calls answer: of bytes that are known.
-use Rattle.cif_tool.proofs.Names.{IsOfNormalise}
 use Rattle.cif_tool.proofs.Names.{Asked, CanonParts, CanonicalJob, Err, ExtractParts, Fault, Form, HasCanon, HaveReasons, IfErr, IfOk}
-use Rattle.cif_tool.proofs.Names.{IfSome, IsCheckAllAnswer, IsCheckAllFault, IsJudgedFault, IsNormaliseFault, List, MAX_LINES, Makes}
-use Rattle.cif_tool.proofs.Names.{MatchResult, Ok, Option, Refuses, Result, Unread, answering_all, canon-blamed, counts_line, extract_parts}
-use Rattle.cif_tool.proofs.Names.{false, inl, inr, is-normalised, is_read, judging, known_so, of-canon, refl, told_text, ℕ, ◌≡◌, ◌≢◌}
+use Rattle.cif_tool.proofs.Names.{IfSome, IsCheckAllAnswer, IsCheckAllFault, IsJudgedFault, IsNormaliseFault, IsOfNormalise, List}
+use Rattle.cif_tool.proofs.Names.{MAX_LINES, Makes, MatchResult, Ok, Option, Refuses, Result, Unread, answering_all, canon-blamed}
+use Rattle.cif_tool.proofs.Names.{counts_line, extract_parts, false, inl, inr, is-normalised, is_read, judging, known_so, of-canon, refl}
+use Rattle.cif_tool.proofs.Names.{reported_text, ℕ, ◌≡◌, ◌≢◌}
 use Rattle.cif_extract.specs.declared.extract.Extract.{Extract}
 use Rattle.cif_extract.specs.declared.fault.Fault.TheVariants as fault
-use Rattle.cif_feed.proofs.ToldReasons.{told_as}
+use Rattle.cif_feed.proofs.ReportedReasons.{reported_as}
 use Rattle.cif_feed.specs.Judged.{HaveNone}
 use Rattle.cif_feed.specs.declared.judged.Judged.{Judged}
 use Rattle.cif_feed.specs.declared.judged.Judged.TheVariants as judged
@@ -16,14 +16,14 @@ use Rattle.cif_feed.specs.declared.reasons.Reasons.{Reasons}
 
 module _ (start : Option (List ℕ)) (job : CanonicalJob) where
   -- reasons
-  pub reasons_answer : (after : Unread) (told : Reasons) → IfSome start (λ bytes. HaveReasons MAX_LINES bytes after told)
-      → IfSome start (λ bytes. IsCheckAllAnswer job bytes (told_text told) 3)
-  reasons_answer after told h =
+  pub reasons_answer : (after : Unread) (reported : Reasons) → IfSome start (λ bytes. HaveReasons MAX_LINES bytes after reported)
+      → IfSome start (λ bytes. IsCheckAllAnswer job bytes (reported_text reported) 3)
+  reasons_answer after reported h =
       known_so start _ _ (λ bytes is. inl (record {
         within = is.within;
         why = is.why;
         some = is.some;
-        text_is = told_as _ told is.tell;
+        text_is = reported_as _ reported is.tell;
         status_is = refl;
       })) h
 
@@ -60,10 +60,10 @@ module _ (asked : Asked) (after : Unread) where
       (Refuses (judging MAX_LINES after) (answering_all asked) judged)
 
   -- reasons are written, with a status that says so
-  pub reasons-written : (told : Reasons) (result : Result ℕ Fault) → IfOk result (λ status. status ≡ 3)
-      → IfErr result (λ f. f ≡ fault.Write) → Ends (judged.Reasons told) result
-  reasons-written told (Ok status) is write = record { answer = λ bytes h. tt; whole = λ none. absurd (cc) }
-  reasons-written told (Err f) is write = rw write (record { fault = λ bytes rest h. tt; answers = tt; other = refl })
+  pub reasons-written : (reported : Reasons) (result : Result ℕ Fault) → IfOk result (λ status. status ≡ 3)
+      → IfErr result (λ f. f ≡ fault.Write) → Ends (judged.Reasons reported) result
+  reasons-written reported (Ok status) is write = record { answer = λ bytes h. tt; whole = λ none. absurd (cc) }
+  reasons-written reported (Err f) is write = rw write (record { fault = λ bytes rest h. tt; answers = tt; other = refl })
 
   module _ (x : Extract) where
     -- counts are

@@ -14,8 +14,8 @@ pub use Rattle.cif_feed.proofs.Names.{HasWritten, HaveReasons, IfOk-weaker, IsDe
 pub use Rattle.cif_feed.proofs.Names.{IsPreparedText, IsPublishedOf, IsResultOf, Makes, Prepares, PublishedParts, Refuses, Sink, Source}
 pub use Rattle.cif_feed.proofs.Names.{StandsInYymmdd, Unread, Writes, all_codes, at_drop_more, codes_named, contents_of, extract_parts}
 pub use Rattle.cif_feed.proofs.Names.{failed_second, flat_map-append, goes-on, hands-on, is_feed_read, judging, known_so, of_any, preparing}
-pub use Rattle.cif_feed.proofs.Names.{published_parts, published_text, reader_of, reading_holidays, reading_published, refuses, told_text}
-pub use Rattle.cif_feed.proofs.Names.{unread_of, updating, written_both}
+pub use Rattle.cif_feed.proofs.Names.{published_parts, published_text, reader_of, reading_holidays, reading_published, refuses}
+pub use Rattle.cif_feed.proofs.Names.{reported_text, unread_of, updating, written_both}
 pub use Rattle.cif_feed.specs.FeedAnswer.{IsHandedOn}
 pub use Rattle.cif_feed.specs.declared.feed_fault.FeedFault.{FeedFault}
 pub use Rattle.cif_feed.specs.declared.feed_fault.FeedFault.TheVariants.{AlreadyThere, BadTransaction, NotThere, NotUpdate, OutOfSequence}
@@ -36,10 +36,10 @@ pub use Rattle.cif_views.specs.WeekCalendar.{IsWeekCalendarFault}
 pub use Rattle.cif_tool.specs.Answer.{Answers, AreAnswered, AreComparedAs, CalendarJob, CanonicalJob, CompareJob, DayJob, ExplainJob}
 pub use Rattle.cif_tool.specs.Answer.{Finishes, IfAnswered, IsAnswered, IsCalendarAnswer, IsCanonicalAnswer, IsCheckAllAnswer}
 pub use Rattle.cif_tool.specs.Answer.{IsCheckAllFault, IsClashesAnswer, IsClashlessRefusal, IsCompareAnswer, IsDayAnswer, IsDayRefusal}
-pub use Rattle.cif_tool.specs.Answer.{IsDiffAnswer, IsExplainAnswer, IsExplainRefusal, IsListedStatus, IsTrainAnswer, OfBoth}
-pub use Rattle.cif_tool.specs.Answer.{OfInput, TrainJob, answering, answering_all, canonical_text, differences_in}
+pub use Rattle.cif_tool.specs.Answer.{IsDiffAnswer, IsExplainAnswer, IsExplainRefusal, IsListedStatus, IsTrainAnswer, OfBoth, OfInput}
+pub use Rattle.cif_tool.specs.Answer.{TrainJob, answering, answering_all, canonical_text, differences_in}
 unfoldable pub use Rattle.cif_tool.specs.CommandLine.{chosen, cif, faults_of}
 pub use Rattle.cif_tool.specs.CommandLine.{IsCommand, Parts, argument, given, program, subcommands, taken, taking, with_subcommands}
 pub use Rattle.cif_tool.specs.JobFault.{Explains, IsFaultAt, NamesNoDay, status_of, text_of}
-pub use Rattle.cif_tool.specs.Status.{TellsFault, listed_status, outcome_of}
+pub use Rattle.cif_tool.specs.Status.{ReportsFault, listed_status, outcome_of}
 pub use Rattle.cif_tool.specs.declared.command_line.Argument.TheVariants.{Verbose}

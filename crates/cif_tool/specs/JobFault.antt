@@ -1,6 +1,6 @@
 -- Why the words of a call ask for nothing.
-use Rattle.std.specs.Prelude.{◌≡◌, ◌≢◌, ◌⊎◌, ◌<◌, ℕ, List, [], ◌∷◌, Option, Some, None, ⊤, IfErr, IfOk, IsSomeAnd}
-use Rattle.std.specs.Prelude.{Result, Ok, Err, codes, string_bytes, if◌then◌else◌}
+use Rattle.std.specs.Prelude.{Err, IfErr, IfOk, IsSomeAnd, List, None, Ok, Option, Result, Some, [], codes, if◌then◌else◌, string_bytes, ℕ}
+use Rattle.std.specs.Prelude.{⊤, ◌<◌, ◌∷◌, ◌≡◌, ◌≢◌, ◌⊎◌}
 use Rattle.std.specs.Str.{bytes_eq}
 use Rattle.clap.specs.Words.{IsAmong, Row, Text, first_of}
 use Rattle.clap.specs.declared.error.ErrorKind.{ErrorKind}
@@ -14,14 +14,14 @@ use Rattle.cif_extract.specs.declared.fault.Fault.{Fault}
 use Rattle.cif_extract.specs.declared.fault.Fault.TheVariants.{Write}
 use Rattle.cif_feed.specs.FeedAnswer.{IsHandedOn}
 use Rattle.cif_tool.specs.CommandLine.{AreChoices, chosen, faults_of, subcommands}
-use Rattle.cif_tool.specs.Job.{IsTaskChosen, inputs_of, standard_inputs, required_word}
-use Rattle.cif_tool.specs.Status.{TellsFault, end_status}
+use Rattle.cif_tool.specs.Job.{IsTaskChosen, inputs_of, required_word, standard_inputs}
+use Rattle.cif_tool.specs.Status.{ReportsFault, end_status}
 use Rattle.cif_tool.specs.declared.command_line.Argument.{Argument}
 use Rattle.cif_tool.specs.declared.command_line.Choices.{Choices}
 use Rattle.cif_tool.specs.declared.job.JobFault.{JobFault}
 use Rattle.cif_tool.specs.declared.job.Inputs.{Inputs}
-use Rattle.cif_tool.specs.declared.job.Inputs.TheVariants.{LeftAndRight, HolidaysAndFile, Extracts}
-use Rattle.cif_tool.specs.declared.job.JobFault.TheVariants.{Usage, NoCommand, BadDate, BadUid, StandardInputTwice, Memory}
+use Rattle.cif_tool.specs.declared.job.Inputs.TheVariants.{Extracts, HolidaysAndFile, LeftAndRight}
+use Rattle.cif_tool.specs.declared.job.JobFault.TheVariants.{BadDate, BadUid, Memory, NoCommand, StandardInputTwice, Usage}
 use Rattle.cif_tool.specs.declared.job.Task.{Task}
 
 -- six digits YYMMDD that name a day aren't the word
@@ -134,8 +134,8 @@ pub record IsShown {O E : Type 0} (contents : O → Option (List ℕ)) (write_er
 -- The text went to the errors, as far as it could be written, and nothing to the output.
 pub record IsReported {O E : Type 0} (contents : E → Option (List ℕ)) (write_errors : E → Option ℕ) (text : Text)
     (output output_new : Sink O) (errors errors_new : Sink E) : Type 0 where
-  pub told : Result (Unit {0}) WriteFault
-  pub writes : Writes contents write_errors text errors errors_new told
+  pub reported : Result (Unit {0}) WriteFault
+  pub writes : Writes contents write_errors text errors errors_new reported
   pub silent : output_new ≡ output
 
 -- What an explanation of a fault owes the two sinks: help and the version go to the output, and all else to the errors. At Write the
@@ -159,5 +159,5 @@ pub record IsExplained {O E : Type 0} (contents : O → Option (List ℕ)) (writ
   pub between : Sink E
   pub explains : Explains contents write_errors error_contents error_errors fault output output_new errors between explained
   pub handed_on : status_of fault ≡ 0 → IsHandedOn holds_nothing output_new explained
-  pub line : TellsFault error_contents error_errors explained between errors_new
+  pub line : ReportsFault error_contents error_errors explained between errors_new
   pub status_is : status ≡ end_status explained

@@ -3,4 +3,4 @@ pub mod CommandLine
 pub mod Job
 pub mod JobFault
 pub mod Status
-pub mod Told
+pub mod Reported

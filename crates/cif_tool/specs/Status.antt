@@ -1,14 +1,14 @@
 -- The statuses that the program exits with, and what it tells of a fault.
-use Rattle.std.specs.Prelude.{◌≡◌, ℕ, Bool, true, false, List, Option, Result, Ok, Err}
+use Rattle.std.specs.Prelude.{Bool, Err, List, Ok, Option, Result, false, true, ℕ, ◌≡◌}
 use Rattle.cif_columns.specs.Sink.{Writes}
 use Rattle.cif_columns.specs.declared.sink.Sink.{Sink}
 use Rattle.cif_columns.specs.declared.sink.WriteFault.{WriteFault}
 use Rattle.cif_extract.specs.declared.fault.Fault.{Fault}
-use Rattle.cif_extract.specs.declared.fault.Fault.TheVariants.{Refused, Ambiguous, WindowsDiffer, OutsideWindow, WindowReversed, Read}
-use Rattle.cif_extract.specs.declared.fault.Fault.TheVariants.{Write, Memory}
+use Rattle.cif_extract.specs.declared.fault.Fault.TheVariants.{Ambiguous, Memory, OutsideWindow, Read, Refused, WindowReversed}
+use Rattle.cif_extract.specs.declared.fault.Fault.TheVariants.{WindowsDiffer, Write}
 use Rattle.cif_canon.specs.Report.{fault_line}
 use Rattle.cif_canon.specs.declared.comparison.Comparison.{Comparison}
-use Rattle.cif_canon.specs.declared.comparison.Comparison.TheVariants.{Same, Tiploc, Association, Train}
+use Rattle.cif_canon.specs.declared.comparison.Comparison.TheVariants.{Association, Same, Tiploc, Train}
 
 -- a refusal of the input is 3; a failed device, and memory that ran out, is 4
 abbrev pub status_of : Fault → ℕ
@@ -39,7 +39,7 @@ end_status (Ok status) = status
 end_status (Err fault) = status_of fault
 
 -- what an answer owes the sink of faults: the line of its fault, as far as it could be written, and else nothing
-abbrev pub TellsFault : {W : Type 0} → (W → Option (List ℕ)) → (W → Option ℕ) → Result ℕ Fault → Sink W → Sink W → Type 0
-TellsFault contents errors (Ok status) old new = new ≡ old
-TellsFault contents errors (Err fault) old new = (told : Result (Unit {0}) WriteFault) × Writes contents errors (fault_line fault) old
-    new told
+abbrev pub ReportsFault : {W : Type 0} → (W → Option (List ℕ)) → (W → Option ℕ) → Result ℕ Fault → Sink W → Sink W → Type 0
+ReportsFault contents errors (Ok status) old new = new ≡ old
+ReportsFault contents errors (Err fault) old new = (reported : Result (Unit {0}) WriteFault) × Writes contents errors (fault_line fault) old
+    new reported

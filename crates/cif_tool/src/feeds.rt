@@ -1,5 +1,5 @@
 //! From a call that reads published extracts to its status: its inputs are opened here, and `--verbose` says more.
-//! What is read, done, written and told is said by the clauses of the functions that are called.
+//! What is read, done, written and reported is said by the clauses of the functions that are called.
 use crate::devices::{ExtractInput, OutputState, boxed_source, source_of, standard_output};
 use crate::job::{FeedJob, InputNames, PrepareJob, Request, UpdateJob};
 use crate::line_advice::Reader;
@@ -61,14 +61,7 @@ fn prepare(
     let mut source = boxed_source(rt, "", Some(file.as_str()), detail)?;
     let mut written = OutputState::new();
     let mut output = standard_output(rt, &mut written)?;
-    let ended = run_prepare(
-        alloc,
-        job,
-        &mut holidays,
-        &mut *source,
-        &mut output,
-        errors,
-    );
+    let ended = run_prepare(alloc, job, &mut holidays, &mut *source, &mut output, errors);
     // The process ends after this: the system takes back the memory of all bodies at once.
     let ended = ManuallyDrop::new(ended);
     if detail.helps() {

@@ -141,7 +141,7 @@ impl ExtractInput<'_> {
                 _ => {}
             }
         }
-        let mut told = "";
+        let mut reported = "";
         for why in [
             Refusal::OpenEnd,
             Refusal::BadLength,
@@ -149,10 +149,10 @@ impl ExtractInput<'_> {
             Refusal::BankHoliday,
         ] {
             if let Some(command) = self.command_for_first(message.alloc, reasons, why) {
-                if command != told {
+                if command != reported {
                     message.line(command);
                 }
-                told = command;
+                reported = command;
             }
         }
     }

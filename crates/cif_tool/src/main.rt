@@ -15,9 +15,9 @@ mod line_again;
 mod message;
 mod program;
 mod refused_columns;
+mod reported;
 mod run;
 mod status;
-mod told;
 mod word_advice;
 mod words;
 

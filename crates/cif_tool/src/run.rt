@@ -2,16 +2,16 @@
 ghost use Rattle.std.specs.Prelude.{◌≡◌, IfErr};
 ghost use Rattle.cif_canon.specs.Appended.{IsAppended};
 ghost use Rattle.cif_feed.specs.FeedAnswer.{AreUpdatesRead, FeedAnswers, IsHandedOn, IsPrepareAnswer, IsPrepareFault, IsPreparedInTurn};
-ghost use Rattle.cif_feed.specs.FeedAnswer.{IsTold, IsUpdateAnswer, IsUpdateFault, OfHolidays, OfUpdates, told_of};
+ghost use Rattle.cif_feed.specs.FeedAnswer.{IsReported, IsUpdateAnswer, IsUpdateFault, OfHolidays, OfUpdates, reported_of};
 ghost use Rattle.cif_tool.specs.Answer.{Answers, IsJobAnswer, IsJobResult};
 ghost use Rattle.cif_tool.specs.JobFault.{IsExplained};
-ghost use Rattle.cif_tool.specs.Status.{TellsFault, end_status};
-ghost use Rattle.cif_tool.specs.Told.{told_by_prepare, told_by_update, told_status};
+ghost use Rattle.cif_tool.specs.Status.{ReportsFault, end_status};
+ghost use Rattle.cif_tool.specs.Reported.{reported_by_prepare, reported_by_update, reported_status};
 
 use crate::answers::{Kept, answer};
 use crate::job::{Job, JobFault, PrepareJob, UpdateJob};
+use crate::reported::{end_prepare, end_update};
 use crate::status::end;
-use crate::told::{end_prepare, end_update};
 use cif_columns::{ReadDevice, Sink, Source, WriteDevice};
 use cif_extract::Fault;
 use cif_feed::{Dropped, FeedFault, KeptPrepare, KeptUpdate, answer_prepare, answer_update};
@@ -43,7 +43,7 @@ pub fn run_job<R: ReadDevice, W: WriteDevice, E: WriteDevice>(
     ensures reads { IsJobResult R.remaining R.read_errors job.now
         source.old source.new right.old right.new result.answer }
     ensures handed_on { IsHandedOn W.holds_nothing sink.new result.answer }
-    ensures line { TellsFault E.contents E.write_errors result.answer errors.old errors.new }
+    ensures line { ReportsFault E.contents E.write_errors result.answer errors.old errors.new }
     ensures status { result.status ≡ end_status result.answer }
 {
     let mut kept = Kept {
@@ -71,16 +71,16 @@ pub fn run_prepare<R: ReadDevice, W: WriteDevice, E: WriteDevice>(
     errors: &mut Sink<E>,
 ) -> Ended<Result<Dropped, FeedFault>, KeptPrepare>
     ensures answer { FeedAnswers W.contents W.write_errors (λ dropped. dropped)
-        (λ text told. OfHolidays R.remaining
-        (λ given bytes. IsTold (IsPrepareAnswer job.now.drop_clashes given bytes text) told)
+        (λ text reported. OfHolidays R.remaining
+        (λ given bytes. IsReported (IsPrepareAnswer job.now.drop_clashes given bytes text) reported)
         holidays.old source.old) sink.old sink.new result.answer }
     ensures fault { OfHolidays R.remaining (λ given bytes. IfErr result.answer (IsPrepareFault given bytes))
         holidays.old source.old }
     ensures reads { IsPreparedInTurn R.remaining R.read_errors
         holidays.old holidays.new source.old source.new result.answer }
     ensures handed_on { IsHandedOn W.holds_nothing sink.new result.answer }
-    ensures told { IsAppended E.contents E.write_errors (told_by_prepare result.answer) errors.old errors.new }
-    ensures status { result.status ≡ told_status result.answer }
+    ensures reported { IsAppended E.contents E.write_errors (reported_by_prepare result.answer) errors.old errors.new }
+    ensures status { result.status ≡ reported_status result.answer }
 {
     let mut kept = KeptPrepare {
         extract: None,
@@ -105,18 +105,18 @@ pub fn run_update<R: ReadDevice, W: WriteDevice, E: WriteDevice>(
     sink: &mut Sink<W>,
     errors: &mut Sink<E>,
 ) -> Ended<Result<(), FeedFault>, KeptUpdate>
-    ensures answer { FeedAnswers W.contents W.write_errors (λ _. told_of result.kept)
-        (λ text told. OfUpdates R.remaining
-        (λ bytes given. IsTold (IsUpdateAnswer job.now.lenient bytes given text) told)
+    ensures answer { FeedAnswers W.contents W.write_errors (λ _. reported_of result.kept)
+        (λ text reported. OfUpdates R.remaining
+        (λ bytes given. IsReported (IsUpdateAnswer job.now.lenient bytes given text) reported)
         full.old updates.old) sink.old sink.new result.answer }
     ensures fault { OfUpdates R.remaining
         (λ bytes given. IfErr result.answer (IsUpdateFault job.now.lenient bytes given)) full.old updates.old }
     ensures reads { AreUpdatesRead R.remaining R.read_errors (λ _. result.kept.done.items) job.now.lenient
         full.old full.new updates.old updates.new result.answer }
     ensures handed_on { IsHandedOn W.holds_nothing sink.new result.answer }
-    ensures told { IsAppended E.contents E.write_errors (told_by_update result.answer result.kept)
+    ensures reported { IsAppended E.contents E.write_errors (reported_by_update result.answer result.kept)
         errors.old errors.new }
-    ensures status { result.status ≡ told_status result.answer }
+    ensures status { result.status ≡ reported_status result.answer }
 {
     let mut kept = KeptUpdate {
         extract: None,

@@ -1,6 +1,6 @@
 //! The statuses that the program exits with.
 ghost use Rattle.std.specs.Prelude.{◌≡◌};
-ghost use Rattle.cif_tool.specs.Status.{TellsFault, end_status, listed_status, outcome_of, status_of};
+ghost use Rattle.cif_tool.specs.Status.{ReportsFault, end_status, listed_status, outcome_of, status_of};
 
 use cif_canon::{Comparison, report};
 use cif_columns::{Sink, WriteDevice};
@@ -59,7 +59,7 @@ pub fn listed(is_empty: bool) -> u8
 /// changes no status.
 pub fn end<W: WriteDevice>(answer: &Result<u8, Fault>, errors: &mut Sink<W>) -> u8
     ensures status { result ≡ end_status answer.now }
-    ensures line { TellsFault W.contents W.write_errors answer.now errors.old errors.new }
+    ensures line { ReportsFault W.contents W.write_errors answer.now errors.old errors.new }
 {
     match answer {
         Ok(status) => *status,

@@ -1,5 +1,5 @@
 -- The clash days of keys, by what stands for the keys.
-use Rattle.std.specs.Prelude.{◌≡◌, ◌⊎◌, ℕ, ◌+◌, ◌<◌, List, [], ◌∷◌, ◌++◌, Option, None, Some, Contains, length, map, if◌then◌else◌}
+use Rattle.std.specs.Prelude.{Contains, List, None, Option, Some, [], if◌then◌else◌, length, map, ℕ, ◌++◌, ◌+◌, ◌<◌, ◌∷◌, ◌≡◌, ◌⊎◌}
 use Rattle.std.specs.Ordering.{is_eq, nat_cmp}
 use Rattle.std.specs.Cmp.Lexicographic.{slice_cmp}
 use Rattle.std.specs.declared.cmp.Ordering.{Ordering}
@@ -10,7 +10,7 @@ use Rattle.cif_extract.specs.declared.fault.Clash.{Clash}
 use Rattle.cif_extract.specs.declared.fault.Clash.TheVariants as clash
 use Rattle.cif_records.specs.AssocKey.{key_cmp}
 use Rattle.cif_records.specs.declared.association.AssocKey.{AssocKey}
-use Rattle.cif_feed.specs.Dropped.{AreClashDays, AreKeysWithDays, told_as}
+use Rattle.cif_feed.specs.Dropped.{AreClashDays, AreKeysWithDays, reported_as}
 use Rattle.cif_feed.specs.Prepared.{ArePrepared}
 use Rattle.cif_feed.specs.Published.{IsHolidayOf, PublishedTerms}
 use Rattle.cif_feed.specs.PublishedParts.{PublishedParts, published_associations, published_schedules}
@@ -32,27 +32,27 @@ ReadsDates {R} {K} stands_for days found = (r : R) (k : K) → stands_for r k �
 abbrev pub days_with : {K : Type 0} → (K → K → Ordering) → K → List ℕ → (K → List ℕ) → K → List ℕ
 days_with cmp k found days j = if is_eq (cmp k j) then found else days j
 
--- The key with its days, if it has one, is told behind those that were known, and its days are found for what stands for it.
-pub record IsTold {R K : Type 0} (cmp : K → K → Ordering) (name : K → ℕ → Clash) (stands_for : R → K → Type 0) (k : K) (found : List ℕ)
+-- The key with its days, if it has one, is reported behind those that were known, and its days are found for what stands for it.
+pub record IsReported {R K : Type 0} (cmp : K → K → Ordering) (name : K → ℕ → Clash) (stands_for : R → K → Type 0) (k : K) (found : List ℕ)
     (known all : List DroppedKey) (old new : R → Option RisingDays) : Type 0 where
   pub none : found ≡ [] → (all ≡ known) × ((r : R) → new r ≡ old r)
-  pub told : 0 < length found → all ≡ known ++ told_as name (λ _. found) k ∷ []
+  pub reported : 0 < length found → all ≡ known ++ reported_as name (λ _. found) k ∷ []
   pub reads : 0 < length found → (days : K → List ℕ) → ReadsDates stands_for days old
       → ReadsDates stands_for (days_with cmp k found days) new
 
--- key k is told with its days, if it has one
-abbrev pub IsKeyTold : {R K : Type 0} → (K → K → Ordering) → (K → ℕ → Clash) → (R → K → Type 0) → (K → List ℕ → Type 0) → K
+-- key k is reported with its days, if it has one
+abbrev pub IsKeyReported : {R K : Type 0} → (K → K → Ordering) → (K → ℕ → Clash) → (R → K → Type 0) → (K → List ℕ → Type 0) → K
     → List DroppedKey → List DroppedKey → (R → Option RisingDays) → (R → Option RisingDays) → Type 0
-IsKeyTold cmp name stands_for Are k known all old new =
-    (found : List ℕ) × Are k found × IsTold cmp name stands_for k found known all old new
+IsKeyReported cmp name stands_for Are k known all old new =
+    (found : List ℕ) × Are k found × IsReported cmp name stands_for k found known all old new
 
--- Behind what was known the keys that have a day are told, and their days are found for what stands for the keys.
+-- Behind what was known the keys that have a day are reported, and their days are found for what stands for the keys.
 pub record AreFound {R K : Type 0} (cmp : K → K → Ordering) (name : K → ℕ → Clash) (stands_for : R → K → Type 0)
     (Are : K → List ℕ → Type 0) (known all : List DroppedKey) (found : R → Option RisingDays) : Type 0 where
   pub keys : List K
   pub days : K → List ℕ
   pub are : AreKeysWithDays cmp Are keys days
-  pub added : all ≡ known ++ map (told_as name days) keys
+  pub added : all ≡ known ++ map (reported_as name days) keys
   pub reads : ReadsDates stands_for days found
 
 -- the days of associations, and of trains, by what stands for their keys
@@ -66,7 +66,7 @@ ReadsTrains days found = ReadsDates IsNumberOf days found
 abbrev pub published_by : {A K B : Type 0} → (A → K) → (A → PublishedTerms B) → List A → List (K × PublishedTerms B)
 published_by key published entries = map (λ e. (key e, published e)) entries
 
--- the clash days of the keys of a published extract are found, and the keys are told behind those that were known
+-- the clash days of the keys of a published extract are found, and the keys are reported behind those that were known
 abbrev pub AreAllFound : Holidays → PublishedParts → List DroppedKey → List DroppedKey → (AssocKey → Option RisingDays)
     → (ℕ → Option RisingDays) → Type 0
 AreAllFound h p known all associations trains = (between : List DroppedKey)

@@ -1,5 +1,5 @@
 -- What the judging of lines has come to, content by content.
-use Rattle.std.specs.Prelude.{◌≢◌, ◌⊎◌, ℕ, List, Contains, Some, Result, Ok, Err}
+use Rattle.std.specs.Prelude.{Contains, Err, List, Ok, Result, Some, ℕ, ◌≢◌, ◌⊎◌}
 use Rattle.cif_columns.specs.declared.refusal.Refusal.{Refusal}
 use Rattle.cif_columns.specs.declared.refusal.Refusal.TheVariants.{OutOfOrder, TooManyLines}
 use Rattle.cif_extract.specs.ExtractParts.{extract_parts}
@@ -11,7 +11,7 @@ use Rattle.cif_extract.specs.Taken.{HasTaken}
 use Rattle.cif_extract.specs.declared.fault.Fault.{Fault}
 use Rattle.cif_extract.specs.declared.fault.Fault.TheVariants.{Refused}
 use Rattle.cif_feed.specs.Judged.{NoneHasReason}
-use Rattle.cif_feed.specs.Reasons.{TellReasons, reasons_of}
+use Rattle.cif_feed.specs.Reasons.{ReportReasons, reasons_of}
 use Rattle.cif_feed.specs.declared.judged.Judged.{Judged}
 use Rattle.cif_feed.specs.declared.judged.Judged.TheVariants as judged
 use Rattle.cif_feed.specs.declared.judged.Judging.{Judging}
@@ -31,12 +31,12 @@ IsInOrder max contents order.Refused = SomeHasReason contents
 
 -- these contents are judged
 pub record HasJudged (max : ℕ) (contents : List (List ℕ)) (j : Judging) : Type 0 where
-  pub told : TellReasons (reasons_of contents) j.reasons
+  pub reported : ReportReasons (reasons_of contents) j.reasons
   pub order : IsInOrder max contents j.order
 
 -- what is answered where these are all contents
 abbrev pub IsFinished : ℕ → List (List ℕ) → Result Judged Fault → Type 0
-IsFinished max contents (Ok (judged.Reasons told)) = SomeHasReason contents × TellReasons (reasons_of contents) told
+IsFinished max contents (Ok (judged.Reasons reported)) = SomeHasReason contents × ReportReasons (reasons_of contents) reported
 IsFinished max contents (Ok (judged.Extract x)) = NoneHasReason contents × SpellExtract contents (extract_parts x)
 IsFinished max contents (Err (Refused line why)) =
     NoneHasReason contents × (IsRefusedLine max contents line why ⊎ IsTruncated max contents line why) × (why ≢ TooManyLines)

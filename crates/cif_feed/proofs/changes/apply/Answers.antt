@@ -1,7 +1,7 @@
 -- What is untouched, and then what is put last.
 use Rattle.cif_feed.proofs.Names.{AreLast, SaysThere, ap, at_keys, changes_of, eq_by_cmp_equiv, get, is_some, map, not, on_equiv, put_last}
 use Rattle.cif_feed.proofs.Names.{refusals, reverse, reverse-reverse, same_by, subst, sym, untouched, with_keys, ◌++◌, ◌∙◌, ◌≡◌}
-use Rattle.cif_feed.proofs.ChangeLaws.{after_all-untouched, told_by_rank}
+use Rattle.cif_feed.proofs.ChangeLaws.{after_all-untouched, reported_by_rank}
 use Rattle.cif_feed.proofs.ChangeSteps.{last-some, untouched-keys}
 use Rattle.cif_feed.proofs.changes.apply.Goals as goal
 
@@ -27,7 +27,7 @@ returns-clause-records g c =
     records) in
     record {
       same = same;
-      tells = told_by_rank g.R.Rank.PartialEq.eq cmp rank g.met.R.Rank.Ord.matches_eq g.met.R.Keyed.same_key;
+      tells = reported_by_rank g.R.Rank.PartialEq.eq cmp rank g.met.R.Rank.Ord.matches_eq g.met.R.Keyed.same_key;
       after = c.in_ok-put_last.ensures (subst (λ l. AreLast same (changes_of key l) known) (sym back) last)
           ∙ ap (λ l. with_keys key c.take_out.new.records.items ++ put_last same (changes_of key l)) back
           ∙ ap (λ l. l ++ put_last same changes) taken ∙ sym (after_all-untouched same (with_keys key records) changes);
@@ -48,7 +48,7 @@ returns-clause-refused g c =
     (c.in_ok-there.ensures.there changes last) in
     record {
       same = same;
-      tells = told_by_rank g.R.Rank.PartialEq.eq cmp rank g.met.R.Rank.Ord.matches_eq g.met.R.Keyed.same_key;
+      tells = reported_by_rank g.R.Rank.PartialEq.eq cmp rank g.met.R.Rank.Ord.matches_eq g.met.R.Keyed.same_key;
       are = subst (λ l. c.in_ok-refused.refused.items ≡ refusals same records (changes_of key l)) c.as_slice-3.ensures.value
           (c.in_ok-refused.ensures records
           (subst (λ l. SaysThere same records (changes_of key l) found) (sym c.as_slice-3.ensures.value) there));

@@ -29,7 +29,7 @@ loop-change-preserved g c = λ records start.
     ∙ ap (λ (o : Option Bool). unwrap_or o false) (sym c.get.ensures.value)
     ∙ ap (λ (o : Option Bool). unwrap_or o false) (sym c.copied.ensures)
     ∙ sym c.unwrap_or-is_there.ensures) in
-    let told : refusals same records (changes_of key (take (at + 1) xs))
+    let reported : refusals same records (changes_of key (take (at + 1) xs))
     ≡ c.loop-change.refused.items
     ++ cond c.may_be_applied.result [] (record { line = change.line; why = why_unfit c.unwrap_or-is_there.result } ∷ []) =
     (ap (refusals same records) more ∙ refusals-more same laws records done change
@@ -52,12 +52,12 @@ loop-change-preserved g c = λ records start.
         | then-not-may_be_applied+in_ok-push w ↦ rw (w.refused-is, w.in_ok-push.ensures.items, w.why_unfit.ensures)
             (ap (λ (b : Bool). c.loop-change.refused.items ++ cond b []
             (record { line = change.line; why = why_unfit c.unwrap_or-is_there.result } ∷ []))
-            (sym w.if-not-may_be_applied.true) ∙ sym told)
+            (sym w.if-not-may_be_applied.true) ∙ sym reported)
         | else-not-may_be_applied w ↦ rw w.refused-is
             (sym (append-nil c.loop-change.refused.items)
             ∙ ap (λ (b : Bool). c.loop-change.refused.items ++ cond b []
             (record { line = change.line; why = why_unfit c.unwrap_or-is_there.result } ∷ []))
-            (sym w.if-not-may_be_applied.false) ∙ sym told)
+            (sym w.if-not-may_be_applied.false) ∙ sym reported)
       ],
     )
 

@@ -3,7 +3,7 @@ use Rattle.cif_feed.proofs.Names.{All, All-drop, All-take, AreClashDays, List, a
 use Rattle.cif_feed.proofs.Names.{published_by, subst, sym, ℕ, ◌+◌, ◌<◌}
 use Rattle.cif_calendar.proofs.FirstClash.{same_key-cmp}
 use Rattle.cif_feed.proofs.CountedClashes.{counted-none}
-use Rattle.cif_feed.proofs.FoundKeys.{AreFoundUpTo, found-all, found-more, found-nothing, get-none, key-told, rising-days}
+use Rattle.cif_feed.proofs.FoundKeys.{AreFoundUpTo, found-all, found-more, found-nothing, get-none, key-reported, rising-days}
 use Rattle.cif_feed.proofs.dropped.find_clash_dates.Goals as goal
 
 pub loop-rest-init : goal.loop-rest-init
@@ -14,10 +14,10 @@ loop-rest-init g c =
       within = subst (λ (rest : List ℕ). All (λ i. i < length c.args.entries.now) rest) (sym c.as_slice-rest.ensures.value)
           (all-within g.E.Entry.key g.E.Entry.terms c.args.entries.now c.in_ok-positions.positions.items c.in_ok-positions.ensures.within);
       found = subst (λ (rest : List ℕ). AreFoundUpTo g.E.Key.Ord.cmp es are g.E.NamedEntry.clash_of
-          g.E.Entry.stands_for c.args.told.now.items c.args.told.now.items
+          g.E.Entry.stands_for c.args.reported.now.items c.args.reported.now.items
           (get g.E.Rank.Ord.cmp c.new-dates.result) rest) (sym c.as_slice-rest.ensures.value)
           (found-nothing g.E.Key.Ord.cmp es are g.E.NamedEntry.clash_of g.E.Entry.stands_for
-          c.args.told.now.items
+          c.args.reported.now.items
           (λ k none. counted-none c.args.holidays.now g.E.Entry.key g.E.Entry.terms g.E.PublishedEntry.published
           g.met.E.PublishedEntry.own_terms c.args.entries.now k none c.args.window.now.first (c.args.window.now.last + 1))
           c.in_ok-positions.positions.items c.in_ok-positions.ensures.whole c.in_ok-positions.ensures.rising
@@ -52,9 +52,9 @@ loop-rest-preserved g c =
       within = subst (λ (rest : List ℕ). All (λ i. i < length c.args.entries.now) rest) (sym c.split_at.ensures.back)
           (All-drop (λ i. i < length c.args.entries.now) c.count_of_first_key.result c.loop-rest.rest.now c.loop-rest.invariant.within);
       found = rw (c.split_at.ensures.back)
-          (found-more g.E.Key.Ord.cmp es are g.E.NamedEntry.clash_of g.E.Entry.stands_for c.args.told.now.items
-          g.met.E.Key.Ord.total same c.loop-rest.told.items _ _ _ c.loop-rest.rest.now c.loop-rest.invariant.found
-          c.count_of_first_key.result c.count_of_first_key.ensures (λ k at. key-told c.args.holidays.now g.E.Entry.key g.E.Entry.terms
+          (found-more g.E.Key.Ord.cmp es are g.E.NamedEntry.clash_of g.E.Entry.stands_for c.args.reported.now.items
+          g.met.E.Key.Ord.total same c.loop-rest.reported.items _ _ _ c.loop-rest.rest.now c.loop-rest.invariant.found
+          c.count_of_first_key.result c.count_of_first_key.ensures (λ k at. key-reported c.args.holidays.now g.E.Entry.key g.E.Entry.terms
           g.E.PublishedEntry.published g.met.E.PublishedEntry.own_terms c.args.entries.now c.members.now g.E.Key.Ord.cmp
           g.E.NamedEntry.clash_of g.E.Entry.stands_for _ _ _ _ _ _ c.index-entries-members.result _ some (within 0 0 some)
           c.index-entries-members.is c.in_ok-found.ensures c.in_ok-list_key.ensures k at));
@@ -65,8 +65,8 @@ returns g c =
     let es = keyed g.E.Entry.key g.E.Entry.terms c.args.entries.now in
     let are = AreClashDays c.args.holidays.now (published_by g.E.Entry.key g.E.PublishedEntry.published c.args.entries.now)
     c.args.window.now.first (c.args.window.now.last + 1) in
-    found-all g.E.Key.Ord.cmp es are g.E.NamedEntry.clash_of g.E.Entry.stands_for c.args.told.now.items
-    c.loop-rest.told.items (get g.E.Rank.Ord.cmp c.loop-rest.dates)
+    found-all g.E.Key.Ord.cmp es are g.E.NamedEntry.clash_of g.E.Entry.stands_for c.args.reported.now.items
+    c.loop-rest.reported.items (get g.E.Rank.Ord.cmp c.loop-rest.dates)
     (subst (λ (rest : List ℕ). AreFoundUpTo g.E.Key.Ord.cmp es are g.E.NamedEntry.clash_of
-    g.E.Entry.stands_for c.args.told.now.items c.loop-rest.told.items (get g.E.Rank.Ord.cmp c.loop-rest.dates) rest)
+    g.E.Entry.stands_for c.args.reported.now.items c.loop-rest.reported.items (get g.E.Rank.Ord.cmp c.loop-rest.dates) rest)
     (nil_from_length c.loop-rest.rest.now (eqb-true _ _ (sym c.loop-rest-test.ensures))) c.loop-rest.invariant.found)

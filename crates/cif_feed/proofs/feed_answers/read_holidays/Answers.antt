@@ -1,4 +1,4 @@
--- The source of holidays is read, and a fault is told as one of feeds.
+-- The source of holidays is read, and a fault is reported as one of feeds.
 use Rattle.cif_feed.proofs.Names.{refl}
 use Rattle.cif_extract.proofs.ReadCalls.{at-fault}
 use Rattle.cif_feed.proofs.PreparedRead.{as-feed, fault-as-feed}

@@ -11,5 +11,5 @@ returns c = λ bytes text h drops max dropped p x is read written.
       subst (λ q. SayAsPublished h drops q x) same_p
           (subst (SayAsPublished h drops is.published) same_x
           (says-published h drops is.published is.prepared dropped is.is)),
-      subst (λ q. AreDroppedIf drops h q dropped) same_p is.is.told,
+      subst (λ q. AreDroppedIf drops h q dropped) same_p is.is.reported,
     )

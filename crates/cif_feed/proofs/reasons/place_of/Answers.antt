@@ -1,6 +1,6 @@
 -- A refusal's number is from 1 to 14.
 use Rattle.cif_feed.proofs.Names.{arith}
-use Rattle.cif_feed.proofs.ToldReasons.{number_within}
+use Rattle.cif_feed.proofs.ReportedReasons.{number_within}
 use Rattle.cif_feed.proofs.reasons.place_of.Goals as goal
 
 pub overflow_sub-result : goal.overflow_sub-result

@@ -1,8 +1,8 @@
 -- Of known bytes: where lines have reasons their text is named (`reasons_answer`), else that of the counts, or the fault of counting.
-use Rattle.cif_tool.proofs.Names.{IsOfReading, MAX_LINES, counts_line, extract_parts, goes-on, hands-either, hands-on, refl, subst}
-use Rattle.cif_tool.proofs.Names.{told_text, unread_of}
+use Rattle.cif_tool.proofs.Names.{IsOfReading, MAX_LINES, counts_line, extract_parts, goes-on, hands-either, hands-on, refl, reported_text}
+use Rattle.cif_tool.proofs.Names.{subst, unread_of}
 use Rattle.cif_feed.specs.declared.judged.Judged.TheVariants.{Extract, Reasons}
-use Rattle.cif_tool.proofs.Answered.{handed-text, may-read, nothing-of-input, only-fails, status-is, told-as}
+use Rattle.cif_tool.proofs.Answered.{handed-text, may-read, nothing-of-input, only-fails, reported-as, status-is}
 use Rattle.cif_tool.proofs.CheckedLines.{counts-not, counts-silent, counts-written, counts_answer, judged_fault, reasons-written}
 use Rattle.cif_tool.proofs.CheckedLines.{reasons_answer}
 use Rattle.cif_tool.proofs.answers.answer_check_all.Goals as goal
@@ -22,16 +22,16 @@ returns-in-Reasons g c =
     let asked = c.args.job.now.asked in
     let after = unread_of g.R.Read.remaining c.read.new.source in
     let call = c.map_err-written in
-    let told = told-as _ _ _ _ _ _ _ c.write.result call.result call.ensures.cases c.write.ensures in
+    let reported = reported-as _ _ _ _ _ _ _ c.write.result call.result call.ensures.cases c.write.ensures in
     let reasons = c.in-Reasons.reasons in
     record {
-      answer = handed-text _ _ _ _ (told_text reasons) 3 _ 3 call.result c.write.new.sink c.finish.new.sink c.finish.result refl told.0
-          told.1 (reasons_answer (g.R.Read.remaining c.args.source.now.reader) c.args.job.now after reasons
+      answer = handed-text _ _ _ _ (reported_text reasons) 3 _ 3 call.result c.write.new.sink c.finish.new.sink c.finish.result refl reported.0
+          reported.1 (reasons_answer (g.R.Read.remaining c.args.source.now.reader) c.args.job.now after reasons
           (rw c.in-Reasons.is at c.in_ok-reasons.ensures.ok)) c.finish.ensures.finishes;
       reads = goes-on _ _ _ _ _ _ (Reasons reasons) (rw c.in-Reasons.is at c.in_ok-reasons.ensures) c.finish.result
           (reasons-written asked after reasons c.finish.result
           (status-is _ _ _ 3 call.result c.write.new.sink c.finish.new.sink c.finish.result c.finish.ensures.finishes)
-          (only-fails _ _ _ _ 3 call.result c.write.new.sink c.finish.new.sink c.finish.result told.1 refl c.finish.ensures.finishes));
+          (only-fails _ _ _ _ 3 call.result c.write.new.sink c.finish.new.sink c.finish.result reported.1 refl c.finish.ensures.finishes));
       handed_on = c.finish.ensures.handed_on;
     }
 

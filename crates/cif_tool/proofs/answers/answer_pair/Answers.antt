@@ -1,9 +1,9 @@
--- A fault after both are read is told by `compared`, and the text by `compare-answer` or `diff-answer`, of the extracts that were
+-- A fault after both are read is reported by `compared`, and the text by `compare-answer` or `diff-answer`, of the extracts that were
 -- read, which are kept.
 use Rattle.cif_tool.proofs.Names.{IsCompareFault, IsOfReadNarrowed, MAX_LINES, comparison_line, differences_in, extract_parts, hands, inl}
 use Rattle.cif_tool.proofs.Names.{inr, listed_status, outcome_of, refl, subst}
 use Rattle.cif_canon.proofs.ReadPairs.{pair-may}
-use Rattle.cif_tool.proofs.Answered.{handed-text, nothing-of-both, only-fails, told-as}
+use Rattle.cif_tool.proofs.Answered.{handed-text, nothing-of-both, only-fails, reported-as}
 use Rattle.cif_tool.proofs.KnownAnswers.{compare-answer, compared, diff-answer, uncompared}
 use Rattle.cif_tool.proofs.answers.answer_pair.Goals as goal
 
@@ -31,16 +31,16 @@ pub returns-in_ok-comparison-in-Comparison : goal.returns-in_ok-comparison-in-Co
 returns-in_ok-comparison-in-Comparison g c =
     let job = c.args.job.compared.now in
     let call = c.map_err-written in
-    let told = told-as _ _ _ _ _ _ _ c.write_comparison.result call.result call.ensures.cases c.write_comparison.ensures in
+    let reported = reported-as _ _ _ _ _ _ _ c.write_comparison.result call.result call.ensures.cases c.write_comparison.ensures in
     let made = c.in_ok-comparison-in-Comparison.comparison in
     rw c.in-Comparison.is record {
       answer = handed-text _ _ _ _ (comparison_line made) (outcome_of made) _ c.outcome.result call.result c.write_comparison.new.sink
-          c.finish.new.sink c.finish.result c.outcome.ensures told.0 told.1
+          c.finish.new.sink c.finish.result c.outcome.ensures reported.0 reported.1
           (compare-answer _ _ _ _ _ _ c.in_ok-left.left c.in_ok-left.right job c.in_ok-left.ensures made
           (rw (c.insert-left.ensures.value, c.insert-right.ensures.value) at c.in_ok-comparison-in-Comparison.ensures.ok))
           c.finish.ensures.finishes;
       reads = compared _ _ _ _ _ _ c.in_ok-left.left c.in_ok-left.right job.asked job.common c.in_ok-left.ensures c.finish.result
-          (only-fails _ _ _ _ c.outcome.result call.result c.write_comparison.new.sink c.finish.new.sink c.finish.result told.1
+          (only-fails _ _ _ _ c.outcome.result call.result c.write_comparison.new.sink c.finish.new.sink c.finish.result reported.1
           (inr refl) c.finish.ensures.finishes);
       handed_on = c.finish.ensures.handed_on;
     }

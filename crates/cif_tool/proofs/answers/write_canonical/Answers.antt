@@ -1,9 +1,9 @@
--- A failure to write the counts is told as Write.
-use Rattle.cif_tool.proofs.Answered.{told-as}
+-- A failure to write the counts is reported as Write.
+use Rattle.cif_tool.proofs.Answered.{reported-as}
 use Rattle.cif_tool.proofs.answers.write_canonical.Goals as goal
 
 pub returns-in-Counts : goal.returns-in-Counts
 returns-in-Counts g c =
     let call = c.map_err in
-    let told = told-as _ _ _ _ _ _ _ c.write_counts.result call.result call.ensures.cases c.write_counts.ensures in
-    rw c.in-Counts.is record { writes = rw c.counts.ensures at told.0; fault = told.1 }
+    let reported = reported-as _ _ _ _ _ _ _ c.write_counts.result call.result call.ensures.cases c.write_counts.ensures in
+    rw c.in-Counts.is record { writes = rw c.counts.ensures at reported.0; fault = reported.1 }

@@ -3,7 +3,7 @@ use Rattle.cif_feed.proofs.Names.{AreJudgedAndRest, BadLength, [], ap, arith, co
 use Rattle.cif_feed.proofs.Names.{inl, inr, judged_all_given, length, line_of, no_contents, of_any, read_nothing, read_on_both, refl}
 use Rattle.cif_feed.proofs.Names.{source_ended, sym, ⊎_elim, ◌++◌, ◌+◌, ◌<◌, ◌∙◌, ◌∷◌, ◌≡◌, ◌≤◌}
 use Rattle.cif_feed.proofs.JudgedRuns.{comes-finished, comes-line_fault, comes-memory, overlong_ok}
-use Rattle.cif_feed.proofs.ToldReasons.{own_of_long, some_has_here}
+use Rattle.cif_feed.proofs.ReportedReasons.{own_of_long, some_has_here}
 use Rattle.cif_feed.proofs.judged.Judged.read.Goals as goal
 
 pub loop-contents-init : goal.loop-contents-init
@@ -49,7 +49,7 @@ returns-in-Ok-Overlong g c =
     record {
       ok = overlong_ok c.args.max_lines cs long room (g.R.Read.remaining c.args.source.now.reader)
           (g.R.Read.remaining c.next.new.source.reader) (source_ended c.next.new.source) is gave c.refuse.new.self.reasons
-          (some_has_here cs long BadLength own) now.told;
+          (some_has_here cs long BadLength own) now.reported;
       fault = of_any _ _ (λ bytes. tt);
       answers = tt;
       source = (

@@ -1,6 +1,6 @@
 -- A line that is taken leaves the order as it should be (`none_refused_more`); one that isn't is the first out of order (`refused_here`).
 use Rattle.cif_feed.proofs.Names.{Err, Ok, Refused, arith, length, own_are, own_layouts, progress_of, taken_behind, ◌<◌}
-use Rattle.cif_feed.proofs.ToldReasons.{none_has_more, none_refused_more, refused_here, some_has_more}
+use Rattle.cif_feed.proofs.ReportedReasons.{none_has_more, none_refused_more, refused_here, some_has_more}
 use Rattle.cif_feed.proofs.judged.Order.take.Goals as goal
 
 pub take-requires : goal.take-requires

@@ -12,4 +12,4 @@ pub returns : goal.returns
 returns c =
     subst (λ (b : Bool). IsPreparedAs c.args.holidays.now b (published_parts c.args.self.now) c.in_ok-prepared.prepared c.none.result)
     (sym c.if-drops_clashes.false)
-    (record { prepared = c.in_ok-prepared.ensures; told = (c.none.ensures.keys, c.none.ensures.records) })
+    (record { prepared = c.in_ok-prepared.ensures; reported = (c.none.ensures.keys, c.none.ensures.records) })

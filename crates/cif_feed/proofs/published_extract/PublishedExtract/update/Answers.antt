@@ -1,6 +1,7 @@
 -- Each kind of records is changed by itself.
-use Rattle.cif_feed.proofs.Names.{ap, append_assoc, last_line, published_parts, refl, refused_header, told_once, update_parts, ◌++◌, ◌∙◌}
-use Rattle.cif_feed.proofs.UpdatesInTurn.{told-three}
+use Rattle.cif_feed.proofs.Names.{ap, append_assoc, last_line, published_parts, refl, refused_header, reported_once, update_parts, ◌++◌}
+use Rattle.cif_feed.proofs.Names.{◌∙◌}
+use Rattle.cif_feed.proofs.UpdatesInTurn.{reported-three}
 use Rattle.cif_feed.proofs.published_extract.PublishedExtract.update.Goals as goal
 
 pub returns-clause-updated : goal.returns-clause-updated
@@ -25,17 +26,17 @@ returns-clause-refused c =
       schedules = ss;
       of_schedules = c.in_ok-of_schedules.ensures.refused;
       are = rw (
-        c.in_ok-tell_once.ensures.told,
-        c.in_ok-last-2.ensures.told,
+        c.in_ok-report_once.ensures.reported,
+        c.in_ok-last-2.ensures.reported,
         c.in_ok-last-2.ensures.last,
-        c.in_ok-last.ensures.told,
+        c.in_ok-last.ensures.reported,
         c.in_ok-last.ensures.last,
         c.in_ok-refused.ensures,
         c.as_slice.ensures.value,
         c.as_slice-2.ensures.value,
         c.as_slice-3.ensures.value,
       )
-          (append_assoc (first ++ told_once 0 ts) (told_once (last_line 0 ts) aas) (told_once (last_line (last_line 0 ts) aas) ss)
-          ∙ append_assoc first (told_once 0 ts) (told_once (last_line 0 ts) aas ++ told_once (last_line (last_line 0 ts) aas) ss)
-          ∙ ap (λ l. first ++ l) (told-three ts aas ss));
+          (append_assoc (first ++ reported_once 0 ts) (reported_once (last_line 0 ts) aas) (reported_once (last_line (last_line 0 ts) aas) ss)
+          ∙ append_assoc first (reported_once 0 ts) (reported_once (last_line 0 ts) aas ++ reported_once (last_line (last_line 0 ts) aas) ss)
+          ∙ ap (λ l. first ++ l) (reported-three ts aas ss));
     }

@@ -1,4 +1,4 @@
--- The update that was read is done, or its first line that may not be done is told (`updates`); or memory runs out.
+-- The update that was read is done, or its first line that may not be done is reported (`updates`); or memory runs out.
 use Rattle.cif_extract.specs.declared.fault.Fault.TheVariants.{Memory}
 use Rattle.cif_feed.proofs.Names.{Extract, goes-on, hands-on, published_parts, refl}
 use Rattle.cif_extract.proofs.ReadCalls.{hands-either}

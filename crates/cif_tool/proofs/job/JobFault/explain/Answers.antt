@@ -25,7 +25,7 @@ returns-else-status-eq-DONE-clause-answer g c =
       c.status-status.ensures,
       λ zero. absurd (c.if-status-eq-DONE.false (c.status-status.ensures ∙ zero)),
       λ some. record {
-        told = c.write_all-else-status-eq-DONE.result;
+        reported = c.write_all-else-status-eq-DONE.result;
         writes = subst (λ (t : List ℕ). Writes g.E.Write.contents g.E.WriteDevice.write_errors t c.args.errors.now
             c.write_all-else-status-eq-DONE.new.self c.write_all-else-status-eq-DONE.result) is c.write_all-else-status-eq-DONE.ensures;
         silent = refl;

@@ -1,14 +1,14 @@
--- The reasons of lines, each by itself, and what is told of them.
+-- The reasons of lines, each by itself, and what is reported of them.
 use Rattle.cif_feed.proofs.Names.{All-append, All-cons, All-nil, BadByte, BadLength, Bool, Contains, Contains-append_left, Contains-push}
 use Rattle.cif_feed.proofs.Names.{Err, IsLine, IsRefusedLine, Kind, List, None, NoneHasReason, NoneRefused, Ok, Option, OutOfOrder, Reasons}
-use Rattle.cif_feed.proofs.Names.{Refusal, Some, SomeHasReason, TellReasons, TooManyLines, [], ap, arith, cond, eq-eqb, eqb-true, false}
+use Rattle.cif_feed.proofs.Names.{Refusal, ReportReasons, Some, SomeHasReason, TooManyLines, [], ap, arith, cond, eq-eqb, eqb-true, false}
 use Rattle.cif_feed.proofs.Names.{false≢true, filter, filter-append, first_for, first_in, first_of, flat_map, get_or, get_or-set_other}
 use Rattle.cif_feed.proofs.Names.{get_or-set_same, is_for, is_printable, kind_in, length, length-append, line_of, lines_for, lines_in}
 use Rattle.cif_feed.proofs.Names.{list_all, map-append, may_stand, nat_eq, nat_lt, nat_tests, ne_eqb, none_refused-more, not, or_none}
 use Rattle.cif_feed.proofs.Names.{order_refusal, own_layouts, own_reason, own_reasons, place_behind, place_of, position_or_len}
 use Rattle.cif_feed.proofs.Names.{position_or_len_push, printable_fact, printable_true, reason_line, reasons_of, reasons_text}
-use Rattle.cif_feed.proofs.Names.{record_refusal, refl, refusal_behind, refusal_of, set, subst, sym, told_text, true, unless, ℕ, ◌++◌, ◌+◌}
-use Rattle.cif_feed.proofs.Names.{◌-◌, ◌<◌, ◌∙◌, ◌∷◌, ◌≡◌, ◌≢◌, ◌≤◌}
+use Rattle.cif_feed.proofs.Names.{record_refusal, refl, refusal_behind, refusal_of, reported_text, set, subst, sym, true, unless, ℕ, ◌++◌}
+use Rattle.cif_feed.proofs.Names.{◌+◌, ◌-◌, ◌<◌, ◌∙◌, ◌∷◌, ◌≡◌, ◌≢◌, ◌≤◌}
 use Rattle.std.proofs.lemmas.List.Filters.{length-filter_both}
 use Rattle.cif_columns.specs.Refusal.{number_of}
 use Rattle.cif_columns.specs.declared.refusal.Refusal.TheVariants as refusal
@@ -209,19 +209,19 @@ module _ {A : Type 0} (p : A → Bool) where
 -- ---- a line more
 
 -- without a reason
-pub tell_nothing : (reasons : List (Option Refusal)) (r : Reasons) → TellReasons reasons r → TellReasons (reasons ++ None ∷ []) r
-tell_nothing reasons r told = record {
-  lines = λ why. told.lines why ∙ sym (same why);
+pub report_nothing : (reasons : List (Option Refusal)) (r : Reasons) → ReportReasons reasons r → ReportReasons (reasons ++ None ∷ []) r
+report_nothing reasons r reported = record {
+  lines = λ why. reported.lines why ∙ sym (same why);
   first = λ why some.
       let before : 0 < lines_for why reasons = omega (arith, some, same why) in
-      told.first why before ∙ ap (λ n. n + 1) (sym (first_kept (is_for why) reasons None before));
+      reported.first why before ∙ ap (λ n. n + 1) (sym (first_kept (is_for why) reasons None before));
 }
   where
     same : (why : Refusal) → lines_for why (reasons ++ None ∷ []) ≡ lines_for why reasons
     same why = omega (arith, count_push (is_for why) reasons None)
 
 -- with this one
-module _ (reasons : List (Option Refusal)) (why : Refusal) (line : ℕ) (old new : Reasons) (told : TellReasons reasons old)
+module _ (reasons : List (Option Refusal)) (why : Refusal) (line : ℕ) (old new : Reasons) (reported : ReportReasons reasons old)
     (numbered : line ≡ length reasons + 1) (lines_are : new.lines ≡ set old.lines (place_of why) (lines_in old why + 1))
     (first_are : new.first ≡ set old.first (place_of why) (cond (nat_eq (lines_in old why) 0) line (first_in old why)))
     (long_lines : length old.lines ≡ 14) (long_first : length old.first ≡ 14) where
@@ -235,7 +235,7 @@ module _ (reasons : List (Option Refusal)) (why : Refusal) (line : ℕ) (old new
       let below : place_of why < length old.lines = omega (arith, within, long_lines) in
       ap (λ l. get_or l (place_of other) 0) lines_are ∙ ap (λ n. get_or (set old.lines (place_of why) (lines_in old why + 1)) n 0) here
       ∙ get_or-set_same old.lines (place_of why) (lines_in old why + 1) 0 below
-      ∙ ap (λ n. get_or old.lines n 0 + 1) (sym here) ∙ ap (λ n. n + 1) (told.lines other)
+      ∙ ap (λ n. get_or old.lines n 0 + 1) (sym here) ∙ ap (λ n. n + 1) (reported.lines other)
       ∙ sym (count_push (is_for other) reasons (Some why)
       ∙ ap (λ b. lines_for other reasons + cond b 1 0) (eq-eqb (number_of why) (number_of other) same))
 
@@ -247,7 +247,7 @@ module _ (reasons : List (Option Refusal)) (why : Refusal) (line : ℕ) (old new
       ∙ ap (λ n. get_or (set old.first (place_of why) (cond (nat_eq (lines_in old why) 0) line (first_in old why))) n 0) here
       ∙ get_or-set_same old.first (place_of why) (cond (nat_eq (lines_in old why) 0) line (first_in old why)) 0 below
       ∙ ap (λ n. cond (nat_eq (get_or old.lines n 0) 0) line (get_or old.first n 0)) (sym here)
-      ∙ ap (λ n. cond (nat_eq n 0) line (first_in old other)) (told.lines other) ∙ at (nat_eq (lines_for other reasons) 0) refl
+      ∙ ap (λ n. cond (nat_eq n 0) line (first_in old other)) (reported.lines other) ∙ at (nat_eq (lines_for other reasons) 0) refl
     where
       passes : is_for other (Some why) ≡ true
       passes = eq-eqb (number_of why) (number_of other) same
@@ -259,7 +259,7 @@ module _ (reasons : List (Option Refusal)) (why : Refusal) (line : ℕ) (old new
           numbered ∙ ap (λ n. n + 1) (sym (first_here (is_for other) reasons (Some why) none passes))
       at false e =
           let some : 0 < lines_for other reasons = grind (arith, nat_tests) in
-          told.first other some ∙ ap (λ n. n + 1) (sym (first_kept (is_for other) reasons (Some why) some))
+          reported.first other some ∙ ap (λ n. n + 1) (sym (first_kept (is_for other) reasons (Some why) some))
 
   -- and of others
   other_place : (other : Refusal) → number_of why ≢ number_of other → place_of other ≢ place_of why
@@ -268,7 +268,7 @@ module _ (reasons : List (Option Refusal)) (why : Refusal) (line : ℕ) (old new
   other_lines : (other : Refusal) → number_of why ≢ number_of other → lines_in new other ≡ lines_for other (reasons ++ Some why ∷ [])
   other_lines other ne =
       ap (λ l. get_or l (place_of other) 0) lines_are
-      ∙ get_or-set_other old.lines (place_of why) (place_of other) (lines_in old why + 1) 0 (other_place other ne) ∙ told.lines other
+      ∙ get_or-set_other old.lines (place_of why) (place_of other) (lines_in old why + 1) 0 (other_place other ne) ∙ reported.lines other
       ∙ sym (count_push (is_for other) reasons (Some why)
       ∙ ap (λ b. lines_for other reasons + cond b 1 0) (ne_eqb (number_of why) (number_of other) ne) ∙ omega arith)
 
@@ -280,10 +280,10 @@ module _ (reasons : List (Option Refusal)) (why : Refusal) (line : ℕ) (old new
       let before : 0 < lines_for other reasons = omega (arith, some, same) in
       ap (λ l. get_or l (place_of other) 0) first_are
       ∙ get_or-set_other old.first (place_of why) (place_of other) (cond (nat_eq (lines_in old why) 0) line (first_in old why)) 0
-      (other_place other ne) ∙ told.first other before ∙ ap (λ n. n + 1) (sym (first_kept (is_for other) reasons (Some why) before))
+      (other_place other ne) ∙ reported.first other before ∙ ap (λ n. n + 1) (sym (first_kept (is_for other) reasons (Some why) before))
 
-  pub tell_more : TellReasons (reasons ++ Some why ∷ []) new
-  tell_more = record {
+  pub report_more : ReportReasons (reasons ++ Some why ∷ []) new
+  report_more = record {
     lines = λ other. lines_by other (nat_eq (number_of why) (number_of other)) refl;
     first = λ other some. first_by other some (nat_eq (number_of why) (number_of other)) refl;
   }
@@ -321,10 +321,10 @@ same_line why lines first other same = at (nat_eq lines 0) refl
         ap (reason_line why lines) (same some)
 
 -- they are written as these reasons are
-pub told_as : (reasons : List (Option Refusal)) (r : Reasons) → TellReasons reasons r → told_text r ≡ reasons_text reasons
-unfolding told_text reasons_text
-told_as reasons r told =
+pub reported_as : (reasons : List (Option Refusal)) (r : Reasons) → ReportReasons reasons r → reported_text r ≡ reasons_text reasons
+unfolding reported_text reasons_text
+reported_as reasons r reported =
     flat_map_same (λ (why : Refusal). reason_line why (lines_in r why) (first_in r why))
     (λ (why : Refusal). reason_line why (lines_for why reasons) (first_for why reasons)) (λ why.
-    ap (λ n. reason_line why n (first_in r why)) (told.lines why)
-    ∙ same_line why (lines_for why reasons) (first_in r why) (first_for why reasons) (told.first why)) own_reasons
+    ap (λ n. reason_line why n (first_in r why)) (reported.lines why)
+    ∙ same_line why (lines_for why reasons) (first_in r why) (first_for why reasons) (reported.first why)) own_reasons

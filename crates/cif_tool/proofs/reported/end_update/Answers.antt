@@ -2,11 +2,11 @@
 use Rattle.cif_tool.proofs.Names.{ap, ◌∙◌}
 use Rattle.std.specs.List.{flat_map}
 use Rattle.cif_canon.proofs.AppendedTexts.{both, text-is}
-use Rattle.cif_tool.specs.Told.{prepared_line, waived_lines}
-use Rattle.cif_tool.proofs.told.end_update.Goals as goal
+use Rattle.cif_tool.specs.Reported.{prepared_line, waived_lines}
+use Rattle.cif_tool.proofs.reported.end_update.Goals as goal
 
-pub returns-in-Ok-clause-told : goal.returns-in-Ok-clause-told
-returns-in-Ok-clause-told g c =
+pub returns-in-Ok-clause-reported : goal.returns-in-Ok-clause-reported
+returns-in-Ok-clause-reported g c =
     rw c.in-Ok.is
     (both g.W.Write.contents g.W.WriteDevice.write_errors _ _ _ _ _
     (text-is g.W.Write.contents g.W.WriteDevice.write_errors _ _ _ _

@@ -1,8 +1,8 @@
 //! What `prepare` and `update` say on standard error of their answer, and the status that they end with.
 ghost use Rattle.std.specs.Prelude.{◌≡◌};
 ghost use Rattle.cif_canon.specs.Appended.{IsAppended};
-ghost use Rattle.cif_tool.specs.Told.{dropped_line, feed_status_of, prepared_line, refused_line, waived_line};
-ghost use Rattle.cif_tool.specs.Told.{told_by_prepare, told_by_update, told_status};
+ghost use Rattle.cif_tool.specs.Reported.{dropped_line, feed_status_of, prepared_line, refused_line, waived_line};
+ghost use Rattle.cif_tool.specs.Reported.{reported_by_prepare, reported_by_update, reported_status};
 
 use crate::status::{DONE, REFUSED, status};
 use arrayvec::ArrayString;
@@ -13,8 +13,8 @@ use cif_feed::{DoneUpdate, Dropped, DroppedKey, FeedFault, KeptUpdate, RefusedLi
 /// Reports the answer of `prepare`, or why there is none, and gives the status that the program exits
 /// with. That it can't be written changes no status.
 pub fn end_prepare<W: WriteDevice>(answer: &Result<Dropped, FeedFault>, errors: &mut Sink<W>) -> u8
-    ensures status { result ≡ told_status answer.now }
-    ensures told { IsAppended W.contents W.write_errors (told_by_prepare answer.now) errors.old errors.new }
+    ensures status { result ≡ reported_status answer.now }
+    ensures reported { IsAppended W.contents W.write_errors (reported_by_prepare answer.now) errors.old errors.new }
 {
     match answer {
         Ok(dropped) => {
@@ -32,8 +32,8 @@ pub fn end_update<W: WriteDevice>(
     kept: &KeptUpdate,
     errors: &mut Sink<W>,
 ) -> u8
-    ensures status { result ≡ told_status answer.now }
-    ensures told { IsAppended W.contents W.write_errors (told_by_update answer.now kept.now) errors.old errors.new }
+    ensures status { result ≡ reported_status answer.now }
+    ensures reported { IsAppended W.contents W.write_errors (reported_by_update answer.now kept.now) errors.old errors.new }
 {
     match answer {
         Ok(()) => {
@@ -48,7 +48,7 @@ pub fn end_update<W: WriteDevice>(
 /// Says why there is no answer, and gives its status.
 fn refuse<W: WriteDevice>(fault: &FeedFault, errors: &mut Sink<W>) -> u8
     ensures status { result ≡ feed_status_of fault.now }
-    ensures told { IsAppended W.contents W.write_errors (refused_line fault.now) errors.old errors.new }
+    ensures reported { IsAppended W.contents W.write_errors (refused_line fault.now) errors.old errors.new }
 {
     append(refused_line(fault).as_str(), errors);
     feed_status(fault)
@@ -71,7 +71,7 @@ const LONGEST_LINE: usize = 80;
 const LONGEST_DROPPED: usize = 110;
 
 /// The line that names a fault.
-#[tactic(auto, unfolding(crate::specs::Told::refused_line))]
+#[tactic(auto, unfolding(crate::specs::Reported::refused_line))]
 fn refused_line(fault: &FeedFault) -> ArrayString<LONGEST_LINE>
     ensures { result.bytes ≡ refused_line fault.now }
 {
@@ -83,7 +83,7 @@ fn refused_line(fault: &FeedFault) -> ArrayString<LONGEST_LINE>
 }
 
 /// The line of one that was waived.
-#[tactic(auto, unfolding(crate::specs::Told::waived_line))]
+#[tactic(auto, unfolding(crate::specs::Reported::waived_line))]
 fn waived_line(refused: &RefusedLine) -> ArrayString<LONGEST_LINE>
     ensures { result.bytes ≡ waived_line refused.now }
 {
@@ -95,7 +95,7 @@ fn waived_line(refused: &RefusedLine) -> ArrayString<LONGEST_LINE>
 }
 
 /// The line of a key of which nothing runs on some dates.
-#[tactic(auto, unfolding(crate::specs::Told::dropped_line))]
+#[tactic(auto, unfolding(crate::specs::Reported::dropped_line))]
 fn dropped_line(key: &DroppedKey) -> ArrayString<LONGEST_DROPPED>
     ensures { result.bytes ≡ dropped_line key.now }
 {
@@ -107,7 +107,7 @@ fn dropped_line(key: &DroppedKey) -> ArrayString<LONGEST_DROPPED>
 }
 
 /// The line that says that FULL looks prepared, if it does.
-#[tactic(auto, unfolding(crate::specs::Told::prepared_line))]
+#[tactic(auto, unfolding(crate::specs::Reported::prepared_line))]
 fn prepared_line(looks_prepared: bool) -> ArrayString<LONGEST_LINE>
     ensures { result.bytes ≡ prepared_line looks_prepared }
 {
@@ -122,7 +122,7 @@ fn prepared_line(looks_prepared: bool) -> ArrayString<LONGEST_LINE>
 struct DroppedLines;
 
 impl Texts<DroppedKey> for DroppedLines {
-    ghost use Rattle.cif_tool.specs.Told.{dropped_line};
+    ghost use Rattle.cif_tool.specs.Reported.{dropped_line};
 
     ghost text = { λ _ key. dropped_line key };
 
@@ -135,7 +135,7 @@ impl Texts<DroppedKey> for DroppedLines {
 struct WaivedLines;
 
 impl Texts<DoneUpdate> for WaivedLines {
-    ghost use Rattle.cif_tool.specs.Told.{waived_lines};
+    ghost use Rattle.cif_tool.specs.Reported.{waived_lines};
 
     ghost text = { λ _ update. waived_lines update };
 
@@ -145,7 +145,7 @@ impl Texts<DoneUpdate> for WaivedLines {
 }
 
 impl Texts<RefusedLine> for WaivedLines {
-    ghost use Rattle.cif_tool.specs.Told.{waived_line};
+    ghost use Rattle.cif_tool.specs.Reported.{waived_line};
 
     ghost text = { λ _ line. waived_line line };
 

@@ -1,5 +1,5 @@
 -- What `prepare` and `update` say on standard error of their answer, and the status that they end with.
-use Rattle.std.specs.Prelude.{ℕ, Bool, List, [], ◌++◌, codes, Result, Ok, Err, if◌then◌else◌}
+use Rattle.std.specs.Prelude.{Bool, Err, List, Ok, Result, [], codes, if◌then◌else◌, ℕ, ◌++◌}
 use Rattle.std.specs.List.{flat_map}
 use Rattle.cif_feed.specs.Dropped.{dropped_text}
 use Rattle.cif_feed.specs.FeedAnswer.{looks_prepared}
@@ -31,18 +31,18 @@ unfoldable pub refused_line : FeedFault → List ℕ
 refused_line fault = codes "cif: " ++ fault_text fault ++ codes "\n"
 
 -- what `prepare` says of its answer: of a fault its line, and nothing else
-abbrev pub told_by_prepare : Result Dropped FeedFault → List ℕ
-told_by_prepare (Ok dropped) = flat_map dropped_line dropped.keys.items
-told_by_prepare (Err fault) = refused_line fault
+abbrev pub reported_by_prepare : Result Dropped FeedFault → List ℕ
+reported_by_prepare (Ok dropped) = flat_map dropped_line dropped.keys.items
+reported_by_prepare (Err fault) = refused_line fault
 
 -- the line that says that FULL looks prepared, if it does
 unfoldable pub prepared_line : Bool → List ℕ
 prepared_line looks = if looks then codes "cif: FULL has no open end and no holiday code, as if it were prepared\n" else []
 
 -- what `update` says of its answer, where it has left this
-abbrev pub told_by_update : Result (Unit {0}) FeedFault → KeptUpdate → List ℕ
-told_by_update (Ok done) kept = prepared_line (looks_prepared kept) ++ flat_map waived_lines kept.done.items
-told_by_update (Err fault) kept = refused_line fault
+abbrev pub reported_by_update : Result (Unit {0}) FeedFault → KeptUpdate → List ℕ
+reported_by_update (Ok done) kept = prepared_line (looks_prepared kept) ++ flat_map waived_lines kept.done.items
+reported_by_update (Err fault) kept = refused_line fault
 
 -- the status of a fault: that of an extract of this profile has its own, and each other is a refusal
 abbrev pub feed_status_of : FeedFault → ℕ
@@ -50,6 +50,6 @@ feed_status_of (Extract fault) = status_of fault
 feed_status_of fault = 3
 
 -- the status that an answer ends with
-abbrev pub told_status : {A : Type 0} → Result A FeedFault → ℕ
-told_status (Ok done) = 0
-told_status (Err fault) = feed_status_of fault
+abbrev pub reported_status : {A : Type 0} → Result A FeedFault → ℕ
+reported_status (Ok done) = 0
+reported_status (Err fault) = feed_status_of fault
