@@ -61,9 +61,9 @@ pub fn write_prepared<R: ReadDevice, W: WriteDevice>(
     ensures prepared { (text : List ℕ)
         × FeedWrites W.contents W.write_errors text sink.old sink.new result
         × IfSome (R.remaining (reader_of source.old)) (λ bytes.
-        Prepares preparation.holidays.now preparation.drops_clashes max_lines bytes text result) }
+        Prepares preparation.entry.holidays.now preparation.entry.drops_clashes max_lines bytes text result) }
     ensures reads { IsResultOf R.remaining R.read_errors
-        (preparing preparation.holidays.now max_lines kept.new) source.old source.new result }
+        (preparing preparation.entry.holidays.now max_lines kept.new) source.old source.new result }
 {
     let codes = preparation.holidays.codes();
     let extract = PublishedExtract::read(alloc, source, max_lines, codes)?;
@@ -98,7 +98,7 @@ impl PublishedExtract {
         preparation: Preparation<'_>,
         sink: &mut Sink<W>,
     ) -> Result<Dropped, FeedFault>
-        ensures { WritesPrepared W.contents W.write_errors preparation.holidays.now preparation.drops_clashes
+        ensures { WritesPrepared W.contents W.write_errors preparation.entry.holidays.now preparation.entry.drops_clashes
             (published_parts self.now) sink.old sink.new result }
     {
         let (prepared, dropped) = self.prepare_if(alloc, preparation)?;
@@ -112,7 +112,7 @@ impl PublishedExtract {
         alloc: Global,
         preparation: Preparation<'_>,
     ) -> Result<(Prepared<'a>, Dropped), AllocError>
-        ensures { IfOk result (λ done. IsPreparedAs preparation.holidays.now preparation.drops_clashes
+        ensures { IfOk result (λ done. IsPreparedAs preparation.entry.holidays.now preparation.entry.drops_clashes
             (published_parts self.now) done.0 done.1) }
     {
         if preparation.drops_clashes {

@@ -138,7 +138,8 @@ pub fn answer_pair<R: ReadDevice, W: WriteDevice>(
     kept: &mut Kept,
 ) -> Result<u8, Fault>
     ensures { AreAnswered R.remaining R.read_errors W.contents W.write_errors W.holds_nothing
-        (IsPairAnswer job.output job.compared.now) (AreComparedAs job.compared.now.asked job.compared.now.common)
+        (IsPairAnswer job.entry.output job.entry.compared.now)
+        (AreComparedAs job.entry.compared.now.asked job.entry.compared.now.common)
         left.old left.new right.old right.new sink.old sink.new result }
 {
     let compared = job.compared;

@@ -1,10 +1,10 @@
 -- The text of calls that are written one after another, and of the rows of a table that has them.
 use Rattle.cif_views.proofs.Names.{At, BodyLines, Bor, Call, Field, Format, List, Text, Trimmed, Tsv, Turn, [], ap, append-nil}
-use Rattle.cif_views.proofs.Names.{append_assoc, ap₂, arith, at_drop_all, at_drop_more, call_text, calls_text, codes}
-use Rattle.cif_views.proofs.Names.{call_names_if, drop, fields_text, flat_map, get_or, heading_text, if◌then◌else◌}
+use Rattle.cif_views.proofs.Names.{append_assoc, ap₂, arith, at_drop_all, at_drop_more, call_names_if, call_text, calls_text, codes, drop}
+use Rattle.cif_views.proofs.Names.{fields_text, flat_map, flat_map-append, flat_map-map, get_or, heading_text, if_table, if◌then◌else◌}
 use Rattle.cif_views.proofs.Names.{joined-rows, journey_names, length, line_of, lines_of_row, map, names_line, parts_in, refl}
-use Rattle.cif_views.proofs.Names.{row_and_calls, row_lines, row_start, separator, shown, subst, sym, texts, with_calls}
-use Rattle.cif_views.proofs.Names.{with_first, ℕ, ◌++◌, ◌+◌, ◌<◌, ◌∙◌, ◌∷◌, ◌≡◌, ◌≤◌}
+use Rattle.cif_views.proofs.Names.{row_and_calls, row_lines, row_start, separator, shown, subst, sym, texts, with_calls, with_first, ℕ}
+use Rattle.cif_views.proofs.Names.{◌++◌, ◌+◌, ◌<◌, ◌∙◌, ◌∷◌, ◌≡◌, ◌≤◌}
 use Rattle.std.specs.List.{join_with_byte}
 use Rattle.cif_canon.proofs.ViewLines.{IsGrowing}
 use Rattle.cif_canon.specs.Fields.{after}
@@ -105,50 +105,44 @@ with_first-lines listing first field fields b =
     ap (λ (l : List ℕ). row_lines listing l b) (with_first-text listing.format first field fields)
     ∙ row-lines listing (with_first listing.format first (field ∷ fields)) b (with_first-some listing.format first field fields)
 
--- names, a tab before each, and what follows them
-abbrev pub behind_tabs : List (Bor (List ℕ)) → List ℕ
-behind_tabs names = flat_map (λ name. 9 ∷ name.now) names
+-- names, a tab before each
+abbrev behind_tabs : List (List ℕ) → List ℕ
+behind_tabs names = flat_map (λ name. 9 ∷ name) names
 
-all_behind_tabs : List (List ℕ) → List ℕ
-all_behind_tabs names = flat_map (λ name. 9 ∷ name) names
+pub names-text : (names : List (Bor (List ℕ))) → flat_map (λ name. 9 ∷ name.now) names ≡ behind_tabs (texts names)
+names-text names = sym (flat_map-map (λ name. 9 ∷ name) (λ (name : Bor (List ℕ)). name.now) names)
 
-more-names : (names : List (Bor (List ℕ))) (rest : List (List ℕ)) (line : List ℕ) → line ≡ all_behind_tabs rest ++ codes "\n" →
-    behind_tabs names ++ line ≡ all_behind_tabs (texts names ++ rest) ++ codes "\n"
-more-names [] rest line is = is
-more-names (name ∷ names) rest line is =
-    append_assoc (9 ∷ name.now) (behind_tabs names) line
-    ∙ ap (λ (l : List ℕ). (9 ∷ name.now) ++ l) (more-names names rest line is)
-    ∙ sym (append_assoc (9 ∷ name.now) (all_behind_tabs (texts names ++ rest)) (codes "\n"))
+-- and others behind them
+more-names : (names others : List (List ℕ)) (text line : List ℕ) → text ≡ behind_tabs names → line ≡ behind_tabs others ++ codes "\n" →
+    text ++ line ≡ behind_tabs (names ++ others) ++ codes "\n"
+more-names names others text line these those =
+    ap₂ (λ (a b : List ℕ). a ++ b) these those
+    ∙ sym (append_assoc (behind_tabs names) (behind_tabs others) (codes "\n"))
+    ∙ ap (λ (l : List ℕ). l ++ codes "\n") (sym (flat_map-append (λ name. 9 ∷ name) names others))
 
-names-joined : (first : List ℕ) (names : List (List ℕ)) → first ++ all_behind_tabs names ≡ join_with_byte 9 (first ∷ names)
+names-joined : (first : List ℕ) (names : List (List ℕ)) → first ++ behind_tabs names ≡ join_with_byte 9 (first ∷ names)
 names-joined first [] = append-nil first
 names-joined first (name ∷ names) = ap (λ (l : List ℕ). first ++ (9 ∷ l)) (names-joined name names)
 
-line-joined : (first line : List ℕ) (names : List (List ℕ)) → line ≡ all_behind_tabs names ++ codes "\n" →
+-- the line of some names
+line-joined : (first line : List ℕ) (names : List (List ℕ)) → line ≡ behind_tabs names ++ codes "\n" →
     first ++ line ≡ names_line (first ∷ names)
 line-joined first line names is =
     ap (λ (l : List ℕ). first ++ l) is
-    ∙ sym (append_assoc first (all_behind_tabs names) (codes "\n"))
+    ∙ sym (append_assoc first (behind_tabs names) (codes "\n"))
     ∙ ap (λ (l : List ℕ). l ++ codes "\n") (names-joined first names)
 
--- the line of some names
-pub names-line : (first : List ℕ) (names : List (Bor (List ℕ))) →
-    first ++ (behind_tabs names ++ codes "\n") ≡ names_line (first ∷ texts names)
-names-line first names =
-    line-joined first (behind_tabs names ++ codes "\n") (texts names)
-    (more-names names [] (codes "\n") refl
-    ∙ ap (λ (ns : List (List ℕ)). all_behind_tabs ns ++ codes "\n") (append-nil (texts names)))
+pub names-line : (first text : List ℕ) (names : List (List ℕ)) → text ≡ behind_tabs names →
+    first ++ (text ++ codes "\n") ≡ names_line (first ∷ names)
+names-line first text names is = line-joined first _ names (ap (λ (l : List ℕ). l ++ codes "\n") is)
 
--- the line of a heading: `journey` and `calls` are the names of a journey and of a call, if calls are listed
-pub heading-line : (listing : Listing) (first : List ℕ) (next journey others calls : List (Bor (List ℕ))) → listing.format ≡ Tsv →
-    texts journey ≡ journey_names → texts calls ≡ call_names_if listing →
-    first ++ (behind_tabs next ++ (behind_tabs journey ++ (behind_tabs others ++ (behind_tabs calls ++ codes "\n"))))
-    ≡ heading_text listing first (texts next) (texts others)
-heading-line listing first next journey others calls table is_journey is_calls =
-    rw (table, sym is_journey, sym is_calls)
-    (line-joined first _ (texts next ++ (texts journey ++ (texts others ++ texts calls)))
-    (more-names next _ _
-    (more-names journey _ _
-    (more-names others _ _
-    (more-names calls [] (codes "\n") refl
-    ∙ ap (λ (ns : List (List ℕ)). all_behind_tabs ns ++ codes "\n") (append-nil (texts calls)))))))
+-- the line of a heading
+pub heading-line : (listing : Listing) (first a b c d : List ℕ) (next others calls : List (List ℕ)) → listing.format ≡ Tsv →
+    a ≡ behind_tabs next → b ≡ behind_tabs journey_names → c ≡ behind_tabs others → d ≡ behind_tabs calls →
+    calls ≡ call_names_if listing → first ++ (a ++ (b ++ (c ++ (d ++ codes "\n")))) ≡ heading_text listing first next others
+heading-line listing first a b c d next others calls table is_a is_b is_c is_d is =
+    line-joined first _ (next ++ (journey_names ++ (others ++ calls)))
+    (more-names next _ a _ is_a
+    (more-names journey_names _ b _ is_b (more-names others _ c _ is_c (ap (λ (l : List ℕ). l ++ codes "\n") is_d))))
+    ∙ ap (λ (names : List (List ℕ)). names_line (first ∷ (next ++ (journey_names ++ (others ++ names))))) is
+    ∙ sym (ap (λ (f : Format). if_table f (names_line (first ∷ (next ++ (journey_names ++ (others ++ call_names_if listing)))))) table)

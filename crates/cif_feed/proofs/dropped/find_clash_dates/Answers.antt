@@ -1,6 +1,6 @@
 -- Key by key (`FoundKeys`): the first run of positions is all of a key, whose clash dates are found.
-use Rattle.cif_feed.proofs.Names.{All, All-drop, All-take, AreClashDays, List, all-within, eqb-true, get, keyed, length, nil_from_length}
-use Rattle.cif_feed.proofs.Names.{published_by, subst, sym, ℕ, ◌+◌, ◌<◌}
+use Rattle.cif_feed.proofs.Names.{All, All-drop, All-take, AreClashDays, List, all-within, arith, eqb-true, get, keyed, length}
+use Rattle.cif_feed.proofs.Names.{nil_from_length, published_by, subst, sym, ℕ, ◌+◌, ◌<◌}
 use Rattle.cif_calendar.proofs.FirstClash.{same_key-cmp}
 use Rattle.cif_feed.proofs.CountedClashes.{counted-none}
 use Rattle.cif_feed.proofs.FoundKeys.{AreFoundUpTo, found-all, found-more, found-nothing, get-none, key-reported, rising-days}
@@ -48,16 +48,21 @@ loop-rest-preserved g c =
     let are = AreClashDays c.args.holidays.now (published_by g.E.Entry.key g.E.PublishedEntry.published c.args.entries.now)
     c.args.window.now.first (c.args.window.now.last + 1) in
     let same = same_key-cmp g.E.Key.PartialEq.eq g.E.Key.Ord.cmp g.met.E.Key.Ord.matches_eq g.met.E.Entry.same_key in
+    let some : 0 < length c.split_at.result.0.now = omega (arith, c.split_at.ensures.front_len, c.count_of_first_key.ensures.some) in
+    let within : All (λ i. i < length c.args.entries.now) c.split_at.result.0.now =
+    subst (λ (front : List ℕ). All (λ i. i < length c.args.entries.now) front) (sym c.split_at.ensures.front)
+    (All-take (λ i. i < length c.args.entries.now) _ _ c.loop-rest.invariant.within) in
+    let of_key = key-reported c.args.holidays.now g.E.Entry.key g.E.Entry.terms g.E.PublishedEntry.published
+    g.met.E.PublishedEntry.own_terms c.args.entries.now c.split_at.result.0.now g.E.Key.Ord.cmp g.E.NamedEntry.clash_of
+    g.E.Entry.stands_for _ _ _ _ _ _ c.index-entries-members.result _ some (within 0 0 some) c.index-entries-members.is
+    c.in_ok-found.ensures c.in_ok-list_key.ensures in
     record {
       within = subst (λ (rest : List ℕ). All (λ i. i < length c.args.entries.now) rest) (sym c.split_at.ensures.back)
           (All-drop (λ i. i < length c.args.entries.now) c.count_of_first_key.result c.loop-rest.rest.now c.loop-rest.invariant.within);
       found = rw (c.split_at.ensures.back)
           (found-more g.E.Key.Ord.cmp es are g.E.NamedEntry.clash_of g.E.Entry.stands_for c.args.reported.now.items
           g.met.E.Key.Ord.total same c.loop-rest.reported.items _ _ _ c.loop-rest.rest.now c.loop-rest.invariant.found
-          c.count_of_first_key.result c.count_of_first_key.ensures (λ k at. key-reported c.args.holidays.now g.E.Entry.key g.E.Entry.terms
-          g.E.PublishedEntry.published g.met.E.PublishedEntry.own_terms c.args.entries.now c.members.now g.E.Key.Ord.cmp
-          g.E.NamedEntry.clash_of g.E.Entry.stands_for _ _ _ _ _ _ c.index-entries-members.result _ some (within 0 0 some)
-          c.index-entries-members.is c.in_ok-found.ensures c.in_ok-list_key.ensures k at));
+          c.count_of_first_key.result c.count_of_first_key.ensures (rw c.split_at.ensures.front at of_key));
     }
 
 pub returns : goal.returns

@@ -8,7 +8,7 @@ returns-clause-prepared g c =
     let h = c.args.preparation.holidays.now in
     let call = c.append_prepared-answer in
     let read = reads-named h c.args.max_lines g.R.Read.remaining g.R.ReadDevice.read_errors c.args.source.now c.read.new.source
-    c.codes.result (Ok c.in_ok-extract.extract) c.codes.ensures c.in_ok-extract.ensures in
+    c.codes-codes.result (Ok c.in_ok-extract.extract) c.codes-codes.ensures c.in_ok-extract.ensures in
     read_prepared h c.args.preparation.drops_clashes c.args.max_lines g.W.Write.contents g.W.WriteDevice.write_errors c.args.sink.now
     call.new.sink _ c.in_ok-extract.extract read.ok call.result call.ensures
 
@@ -17,7 +17,7 @@ returns-clause-reads g c =
     let h = c.args.preparation.holidays.now in
     let call = c.append_prepared-answer in
     let read = reads-named h c.args.max_lines g.R.Read.remaining g.R.ReadDevice.read_errors c.args.source.now c.read.new.source
-    c.codes.result (Ok c.in_ok-extract.extract) c.codes.ensures c.in_ok-extract.ensures in
+    c.codes-codes.result (Ok c.in_ok-extract.extract) c.codes-codes.ensures c.in_ok-extract.ensures in
     goes-on _ _ _ _ _ _ c.in_ok-extract.extract read call.result
     (prepares h c.args.preparation.drops_clashes c.args.max_lines g.W.Write.contents g.W.WriteDevice.write_errors c.args.sink.now
     call.new.sink c.in_ok-extract.extract call.result call.ensures)
@@ -26,6 +26,6 @@ pub returns-in_err-extract-clause-reads : goal.returns-in_err-extract-clause-rea
 returns-in_err-extract-clause-reads g c =
     let h = c.args.preparation.holidays.now in
     let read = reads-named h c.args.max_lines g.R.Read.remaining g.R.ReadDevice.read_errors c.args.source.now c.read.new.source
-    c.codes.result (Err c.in_err-extract.field-0.0) c.codes.ensures c.in_err-extract.ensures in
+    c.codes-codes.result (Err c.in_err-extract.field-0.0) c.codes-codes.ensures c.in_err-extract.ensures in
     let fault = c.in_err-extract.field-0.0 in
     hands-on _ _ _ _ _ _ fault (reads-preparing h c.args.max_lines c.args.kept.now fault) read _ c.from_residual.ensures.1

@@ -1,6 +1,6 @@
 -- What the line does to the published association.
 use Rattle.cif_feed.proofs.Names.{AssocKey, ap, change_by, ◌∙◌}
-use Rattle.cif_feed.proofs.update.ChangeTuple3AssocKeyDayStpPublishedAssociationFromLine.from_line.Goals as goal
+use Rattle.cif_feed.proofs.update.RecordChangeTuple3AssocKeyDayStpPublishedAssociationFromLine.from_line.Goals as goal
 
 pub returns : goal.returns
 returns c = record {
