@@ -301,8 +301,10 @@ pub(crate) fn buffered<W: WriteDevice + Drop>(
     alloc: Global,
     output: W,
 ) -> Result<ManuallyDrop<Sink<BufWriter<W>>>, Fault> {
-    let output = BufWriter::with_capacity(alloc, OUTPUT_BUFFER, output)?;
-    Ok(ManuallyDrop::new(Sink::new(output)))
+    match BufWriter::with_capacity(alloc, OUTPUT_BUFFER, output) {
+        Ok(output) => Ok(ManuallyDrop::new(Sink::new(output))),
+        Err(_) => Err(Fault::Memory),
+    }
 }
 
 /// The standard output, gathered, of which `written` says what became of it.

@@ -1,6 +1,6 @@
 -- Where no field of a pair has a row, what stands in the columns of all its fields is the same.
-use Rattle.cif_views.proofs.Names.{AllStandIn, Bool, Column, Field, FieldValue, IsLine, IsTrue, JourneyKind, List, Place, Row, StandsIn}
-use Rattle.cif_views.proofs.Names.{TableFields, Trimmed, Tsv, [], and_parts, ap, ap₂, arith, bytes_decides, codes, columns, cond}
+use Rattle.cif_views.proofs.Names.{AllStandIn, Bool, Column, Field, FieldPlace, FieldValue, IsLine, IsTrue, JourneyKind, List, Row}
+use Rattle.cif_views.proofs.Names.{StandsIn, TableFields, Trimmed, Tsv, [], and_parts, ap, ap₂, arith, bytes_decides, codes, columns, cond}
 use Rattle.cif_views.proofs.Names.{differing_row, differing_rows, drop, drop-drop, drop-take, eqb-true, false, false≢true, field_in}
 use Rattle.cif_views.proofs.Names.{field_row, fields_in, fields_text, flat_map, get_or, if◌then◌else◌, leb-true, length, length-append}
 use Rattle.cif_views.proofs.Names.{length-columns, length-take-le, line_of, long_date, map, nat_eq, nat_le, nat_lt, or_cases, pointwise}
@@ -10,7 +10,7 @@ use Rattle.cif_columns.proofs.KeptLines.{trimmed as widened, used_few}
 use Rattle.cif_canon.specs.Fields.{after}
 use Rattle.cif_views.specs.DifferenceTable.{text}
 use Rattle.cif_views.specs.Steps.Columns.{shown_at}
-use Rattle.cif_views.specs.declared.columns.Place.TheVariants as place
+use Rattle.cif_views.specs.declared.columns.FieldPlace.TheVariants as place
 
 -- ---- rows
 
@@ -97,15 +97,16 @@ same-date : (a b : List ℕ) → long_date a ≡ long_date b → digits_at 0 1 2
 same-date a b same = sym (long-digits a) ∙ ap (λ (l : List ℕ). digits_at 0 1 3 4 6 7 (drop 2 l)) same ∙ long-digits b
 
 -- a date has six columns
-abbrev pub is_six : Place → ℕ → ℕ → Bool
+abbrev pub is_six : FieldPlace → ℕ → ℕ → Bool
 is_six (place.Date _ _) from to = nat_eq to (from + 5)
 is_six (place.DayFirst _ _) from to = nat_eq to (from + 5)
 is_six _ from to = true
 
 -- as many columns of a field are the same where they are shown as the same
-same-shown : (at : Place) (from to : ℕ) (a b : List ℕ) → length a ≡ to + 1 - from → length b ≡ to + 1 - from →
+same-shown : (at : FieldPlace) (from to : ℕ) (a b : List ℕ) → length a ≡ to + 1 - from → length b ≡ to + 1 - from →
     IsTrue (is_six at from to) → shown Tsv (shown_at at a) ≡ shown Tsv (shown_at at b) → a ≡ b
 same-shown (place.Text _ _) from to a b p q six same = same-columns a b (p ∙ sym q) same
+same-shown place.Nowhere from to a b p q six same = same-columns a b (p ∙ sym q) same
 same-shown (place.Call _ _ _) from to a b p q six same = same-columns a b (p ∙ sym q) same
 same-shown (place.Whole _ _) from to a b p q six same = same
 same-shown (place.Date _ _) from to a b p q six same =

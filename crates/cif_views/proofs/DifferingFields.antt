@@ -1,6 +1,6 @@
 -- The rows of fields that differ.
-use Rattle.cif_views.proofs.Names.{Bool, Bor, Change, Column, Field, IsTrue, JourneyKind, List, Other, Place, Stop, TableFields, Tsv, Whole}
-use Rattle.cif_views.proofs.Names.{[], and_parts, ap, append-nil, append_assoc, ap₂, are_texts, arith, both-after, bytes_decides}
+use Rattle.cif_views.proofs.Names.{Bool, Bor, Change, Column, Field, FieldPlace, IsTrue, JourneyKind, List, Other, Stop, TableFields, Tsv}
+use Rattle.cif_views.proofs.Names.{Whole, [], and_parts, ap, append-nil, append_assoc, ap₂, are_texts, arith, both-after, bytes_decides}
 use Rattle.cif_views.proofs.Names.{call_columns, change_columns, column, columns, cond, count_of_calls, differing_rows, drop, false}
 use Rattle.cif_views.proofs.Names.{false≢true, field_in, field_row, fields_in, find, flat_map, get_or, if◌then◌else◌, in_journey, is_call}
 use Rattle.cif_views.proofs.Names.{is_change, is_identity, is_span, is_text, is_text_place, is_within, journey_kind, kind_of_line, kinds}
@@ -13,12 +13,13 @@ use Rattle.cif_views.proofs.TableRows.{behind-row, call-fields, within-span}
 use Rattle.cif_views.specs.DifferenceTable.{text}
 use Rattle.cif_views.specs.Steps.Columns.{shown_at}
 use Rattle.cif_views.specs.declared.columns.JourneyKind.TheVariants.{Origin, Terminus}
-use Rattle.cif_views.specs.declared.columns.Place.TheVariants as place
+use Rattle.cif_views.specs.declared.columns.FieldPlace.TheVariants as place
 
 -- ---- one field
 
-pub text-shown : (at : Place) → IsTrue (is_text_place at) → (there : List ℕ) → shown Tsv (shown_at at there) ≡ trimmed there
+pub text-shown : (at : FieldPlace) → IsTrue (is_text_place at) → (there : List ℕ) → shown Tsv (shown_at at there) ≡ trimmed there
 text-shown (place.Text _ _) is there = refl
+text-shown place.Nowhere is there = refl
 text-shown (place.Call _ _ _) is there = refl
 text-shown (place.Whole _ _) is there = absurd (false≢true is)
 text-shown (place.Date _ _) is there = absurd (false≢true is)
@@ -61,7 +62,7 @@ module _ (it : Column) (is : IsTrue (is_text it)) where
         ap₂ (λ (a b : List ℕ). row_behind begun (text it.0 ∷ (Whole, a) ∷ (Whole, b) ∷ [])) shown-one shown-other
         ∙ ap (λ (b : Bool). if b then [] else row_behind begun fields) (tested answer told false is)
 
-pub text-at : (given : List (Bor (List ℕ) × Place)) → IsTrue (are_texts (named given)) → (i : ℕ) (none : Bor (List ℕ) × Place) →
+pub text-at : (given : List (Bor (List ℕ) × FieldPlace)) → IsTrue (are_texts (named given)) → (i : ℕ) (none : Bor (List ℕ) × FieldPlace) →
     i < length given → IsTrue (is_text (column (get_or given i none)))
 text-at [] all i none below = absurd (omega (arith, below))
 text-at (c ∷ given) all zero none below = (and_parts (is_text (column c)) (are_texts (named given)) all).0

@@ -116,7 +116,7 @@ pub use Rattle.cif_views.specs.WeekCalendar.{IsRunningLetter, IsShown, IsWeekCal
 pub use Rattle.cif_views.specs.WeekCalendar.{monday_columns, space, week_line, weeks_between}
 pub use Rattle.cif_views.specs.declared.columns.JourneyKind.{JourneyKind}
 pub use Rattle.cif_views.specs.declared.columns.JourneyKind.TheVariants.{Change, Other, Stop}
-pub use Rattle.cif_views.specs.declared.columns.Place.{Place}
+pub use Rattle.cif_views.specs.declared.columns.FieldPlace.{FieldPlace}
 pub use Rattle.cif_views.specs.declared.marks.Mark.{Mark}
 pub use Rattle.cif_views.specs.declared.public_calls.CallTimes.{CallTimes}
 pub use Rattle.cif_views.specs.declared.public_calls.Journey.{Journey}

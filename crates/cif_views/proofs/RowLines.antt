@@ -1,19 +1,19 @@
 -- The text of rows tells their cells, in which there is no tab and no line feed, and these tell the plain lines.
 use Rattle.cif_views.proofs.Names.{All, All-cons, All-drop, All-head, All-nil, All-tail, All-take, AllFit, ArePrintable, Bool, Column}
-use Rattle.cif_views.proofs.Names.{IsLine, IsPrintable, IsTrue, JourneyKind, List, Other, Place, Row, TableFields, Tsv, [], and_parts, ap}
-use Rattle.cif_views.proofs.Names.{append_assoc, ap₂, are_within, arith, bytes_decides, codes, columns, decimal, decimal_is_IsNumeral, drop}
-use Rattle.cif_views.proofs.Names.{drop_at, eqb-true, false, false≢true, fields_in, flat_map, is_span, is_whole_from, is_within, leb-true}
-use Rattle.cif_views.proofs.Names.{length, length-append, length-columns, length-map, line-plain_line, map, nat_eq, nat_le, or_cases}
-use Rattle.cif_views.proofs.Names.{plain_columns, plain_line, pointwise, printable-date, refl, row_fields, row_line, shown, span_in, subst}
-use Rattle.cif_views.proofs.Names.{suc, sym, take, take-append_seam, true, used, width_of, yymmdd_from, zero, ℕ, ⊎_elim, ◌&&◌, ◌++◌, ◌+◌}
-use Rattle.cif_views.proofs.Names.{◌-◌, ◌<◌, ◌^◌, ◌||◌, ◌∙◌, ◌∷◌, ◌≡◌}
+use Rattle.cif_views.proofs.Names.{FieldPlace, IsLine, IsPrintable, IsTrue, JourneyKind, List, Other, Row, TableFields, Tsv, [], and_parts}
+use Rattle.cif_views.proofs.Names.{ap, append_assoc, ap₂, are_within, arith, bytes_decides, codes, columns, decimal, decimal_is_IsNumeral}
+use Rattle.cif_views.proofs.Names.{drop, drop_at, eqb-true, false, false≢true, fields_in, flat_map, is_span, is_whole_from, is_within}
+use Rattle.cif_views.proofs.Names.{leb-true, length, length-append, length-columns, length-map, line-plain_line, map, nat_eq, nat_le}
+use Rattle.cif_views.proofs.Names.{or_cases, plain_columns, plain_line, pointwise, printable-date, refl, row_fields, row_line, shown}
+use Rattle.cif_views.proofs.Names.{span_in, subst, suc, sym, take, take-append_seam, true, used, width_of, yymmdd_from, zero, ℕ, ⊎_elim}
+use Rattle.cif_views.proofs.Names.{◌&&◌, ◌++◌, ◌+◌, ◌-◌, ◌<◌, ◌^◌, ◌||◌, ◌∙◌, ◌∷◌, ◌≡◌}
 use Rattle.std.proofs.lemmas.Str.Parse.{digit_from_value}
 use Rattle.std.specs.List.{join_with_byte}
 use Rattle.std.specs.Str.Parse.{AllDigits}
 use Rattle.cif_columns.proofs.Parts.{length-plain_columns, whole-first}
 use Rattle.cif_views.proofs.DifferingCells.{covered, is_among}
 use Rattle.cif_views.specs.Steps.Columns.{shown_at}
-use Rattle.cif_views.specs.declared.columns.Place.TheVariants as place
+use Rattle.cif_views.specs.declared.columns.FieldPlace.TheVariants as place
 
 -- ---- a text, cut at bytes that no cell has
 
@@ -123,9 +123,10 @@ module _ (line : List ℕ) (is : IsLine line) where
       let last = eqb-true to (from + 5) six in
       length-columns from to line is (leb-true 1 from begin) (omega (arith, last)) (leb-true to 80 end) ∙ omega (arith, last)
 
-  cell : (kind : JourneyKind) (at : Place) → IsTrue (is_within at) → (there : List ℕ) →
+  cell : (kind : JourneyKind) (at : FieldPlace) → IsTrue (is_within at) → (there : List ℕ) →
       there ≡ columns (span_in kind at).0 (span_in kind at).1 line → ArePrintable there → ArePrintable (shown Tsv (shown_at at there))
   cell kind (place.Text _ _) within there e all = All-take IsPrintable (used there) there all
+  cell kind place.Nowhere within there e all = All-take IsPrintable (used there) there all
   cell kind (place.Call _ _ _) within there e all = All-take IsPrintable (used there) there all
   cell kind (place.Whole _ _) within there e all = all
   cell kind (place.Date from to) within there e all = printable-date there (ap length e ∙ six-columns from to within) all

@@ -1,6 +1,6 @@
 -- The rows of tables, as they are made field by field.
-use Rattle.cif_views.proofs.Names.{Bool, Bor, Calls, Change, Changes, Column, ExtractLines, Field, IsTrue, JourneyKind, List, Numbered}
-use Rattle.cif_views.proofs.Names.{Other, Place, Public, ScheduleLines, Schedules, Stop, Table, Tsv, [], and_parts, ap, append-nil}
+use Rattle.cif_views.proofs.Names.{Bool, Bor, Calls, Change, Changes, Column, ExtractLines, Field, FieldPlace, IsTrue, JourneyKind, List}
+use Rattle.cif_views.proofs.Names.{Numbered, Other, Public, ScheduleLines, Schedules, Stop, Table, Tsv, [], and_parts, ap, append-nil}
 use Rattle.cif_views.proofs.Names.{append_assoc, are_within, arith, at_drop_all, both-after, call_columns, call_fields, change_columns}
 use Rattle.cif_views.proofs.Names.{change_fields, codes, cond, drop, enumerate_from, false, fields_in, filter, flat_map, in_table, inl, inr}
 use Rattle.cif_views.proofs.Names.{is_call, is_change, is_short, is_span, is_within, journey_rows, kind_of_line, length, length-append}
@@ -14,7 +14,7 @@ use Rattle.cif_canon.proofs.ViewLines.{joined}
 use Rattle.cif_canon.specs.Fields.{after}
 use Rattle.cif_canon.specs.declared.rows.Shape.{Shape}
 use Rattle.cif_views.specs.declared.columns.JourneyKind.TheVariants.{Origin, Terminus}
-use Rattle.cif_views.specs.declared.columns.Place.TheVariants as place
+use Rattle.cif_views.specs.declared.columns.FieldPlace.TheVariants as place
 
 -- fields with a tab before each are a row without the first tab
 pub row-text : (first : Field) (fields : List Field) → drop 1 (after Tsv (first ∷ fields)) ++ codes "\n" ≡ line_of Tsv (first ∷ fields)
@@ -75,7 +75,7 @@ heading-row none one two three a b c heading empty p q r is =
     let h3 = more-pushed _ _ _ _ (name_fields c) h2 r in
     behind-tab three heading (ap (λ (l : List ℕ). l ++ codes "\n") h3.text ∙ is)
 
-pub columns-row : (kind : JourneyKind) (given : List (Bor (List ℕ) × Place)) (line row : List ℕ) → 0 < length given →
+pub columns-row : (kind : JourneyKind) (given : List (Bor (List ℕ) × FieldPlace)) (line row : List ℕ) → 0 < length given →
     HasPushed [] row (fields_in kind (named given) line) →
     (drop 1 row ++ codes "\n" ≡ line_of Tsv (fields_in kind (named given) line)) × (0 < length row)
 columns-row kind [] line row some h = absurd (omega (arith, some))
@@ -128,7 +128,7 @@ pub record IsGrowing (kind : JourneyKind) (line whole : List ℕ) (most : ℕ) (
   pub room : length row + room_for left ≤ most
   pub within : are_within left ≡ true
 
-module _ (kind : JourneyKind) (line whole : List ℕ) (most : ℕ) (xs : List (Bor (List ℕ) × Place)) (i : ℕ) where
+module _ (kind : JourneyKind) (line whole : List ℕ) (most : ℕ) (xs : List (Bor (List ℕ) × FieldPlace)) (i : ℕ) where
   -- no column is left
   pub all-columns : length xs ≤ i → (row : List ℕ) → IsGrowing kind line whole most row (named (drop i xs)) →
       (row ≡ whole) × (length row ≤ most)
@@ -141,11 +141,12 @@ module _ (kind : JourneyKind) (line whole : List ℕ) (most : ℕ) (xs : List (B
 short-span : (span : ℕ × ℕ) → IsTrue (is_short span) → IsTrue (is_span span)
 short-span span short = (and_parts (is_span span) _ short).0
 
-pub within-span : (kind : JourneyKind) (at : Place) → IsTrue (is_within at) → IsTrue (is_span (span_in kind at))
+pub within-span : (kind : JourneyKind) (at : FieldPlace) → IsTrue (is_within at) → IsTrue (is_span (span_in kind at))
 within-span kind (place.Text first last) within = within
 within-span kind (place.Whole first last) within = within
 within-span kind (place.Date first last) within = (and_parts (is_span (first, last)) _ within).0
 within-span kind (place.DayFirst first last) within = (and_parts (is_span (first, last)) _ within).0
+within-span kind place.Nowhere within = refl
 within-span Origin (place.Call o s t) within = short-span o (and_parts (is_short o) _ within).0
 within-span Stop (place.Call o s t) within = short-span s (and_parts (is_short s) (is_short t) (and_parts (is_short o) _ within).1).0
 within-span Terminus (place.Call o s t) within = short-span t (and_parts (is_short s) (is_short t) (and_parts (is_short o) _ within).1).1

@@ -22,13 +22,13 @@ pub(crate) enum JourneyKind {
 }
 
 /// Columns of a line, from one to another, which are counted from 1.
-pub(crate) type Span = (usize, usize);
+pub(crate) type ColumnRange = (usize, usize);
 
 /// No columns.
-const NOWHERE: Span = (1, 0);
+const NO_COLUMNS: ColumnRange = (1, 0);
 
 /// An empty field.
-const NOTHING: Column = ("", Text(1, 0));
+const NOTHING: Column = ("", Nowhere);
 
 /// The location of TI.
 const LOCATION: Column = ("tiploc", Text(3, 9));
@@ -64,11 +64,11 @@ const RUNS_TO: Column = ("last_date", Date(16, 21));
 const RUNS_ON: Column = ("days_run", Text(22, 28));
 
 /// The names of the numbers that rows of calls and of changes begin with; no columns have them.
-pub(crate) const NUMBERS: [Column; 2] = [("schedule", Text(1, 0)), ("call", Text(1, 0))];
+pub(crate) const NUMBERS: [Column; 2] = [("schedule", Nowhere), ("call", Nowhere)];
 
 /// Where a field stands in a line, and how a table shows it.
 #[derive(Clone, Copy)]
-pub(crate) enum Place {
+pub(crate) enum FieldPlace {
     /// Without the spaces at its end.
     Text(usize, usize),
     /// As it stands.
@@ -77,14 +77,16 @@ pub(crate) enum Place {
     Date(usize, usize),
     /// As a date YYYY-MM-DD: six digits DDMMYY.
     DayFirst(usize, usize),
+    /// In no columns.
+    Nowhere,
     /// Without the spaces at its end: where it stands in LO, in LI and in LT.
-    Call(Span, Span, Span),
+    Call(ColumnRange, ColumnRange, ColumnRange),
 }
 
-use self::Place::{Call, Date, DayFirst, Text, Whole};
+use self::FieldPlace::{Call, Date, DayFirst, Nowhere, Text, Whole};
 
 /// A field: its name, and where it stands.
-pub(crate) type Column = (&'static str, Place);
+pub(crate) type Column = (&'static str, FieldPlace);
 
 /// The columns of HD.
 pub(crate) const HEADER: [Column; 9] = [
@@ -169,28 +171,28 @@ pub(crate) const CALL: [Column; 15] = [
     ("record", Text(1, 2)),
     ("location", Text(3, 9)),
     ("suffix", Text(10, 10)),
-    ("arrival", Call(NOWHERE, (11, 15), (11, 15))),
-    ("departure", Call((11, 15), (16, 20), NOWHERE)),
-    ("pass", Call(NOWHERE, (21, 25), NOWHERE)),
-    ("public_arrival", Call(NOWHERE, (26, 29), (16, 19))),
-    ("public_departure", Call((16, 19), (30, 33), NOWHERE)),
+    ("arrival", Call(NO_COLUMNS, (11, 15), (11, 15))),
+    ("departure", Call((11, 15), (16, 20), NO_COLUMNS)),
+    ("pass", Call(NO_COLUMNS, (21, 25), NO_COLUMNS)),
+    ("public_arrival", Call(NO_COLUMNS, (26, 29), (16, 19))),
+    ("public_departure", Call((16, 19), (30, 33), NO_COLUMNS)),
     ("platform", Call((20, 22), (34, 36), (20, 22))),
-    ("line", Call((23, 25), (37, 39), NOWHERE)),
-    ("path", Call(NOWHERE, (40, 42), (23, 25))),
+    ("line", Call((23, 25), (37, 39), NO_COLUMNS)),
+    ("path", Call(NO_COLUMNS, (40, 42), (23, 25))),
     ("activities", Call((30, 41), (43, 54), (26, 37))),
-    ("engineering", Call((26, 27), (55, 56), NOWHERE)),
-    ("pathing", Call((28, 29), (57, 58), NOWHERE)),
-    ("performance", Call((42, 43), (59, 60), NOWHERE)),
+    ("engineering", Call((26, 27), (55, 56), NO_COLUMNS)),
+    ("pathing", Call((28, 29), (57, 58), NO_COLUMNS)),
+    ("performance", Call((42, 43), (59, 60), NO_COLUMNS)),
 ];
 
 /// The columns of a public call. Its times, and whether riders may get off and on, stand in no columns.
 pub(crate) const PUBLIC: [Column; 6] = [
     ("location", Text(3, 9)),
     ("platform", Call((20, 22), (34, 36), (20, 22))),
-    ("arrival", Text(1, 0)),
-    ("departure", Text(1, 0)),
-    ("set_down", Text(1, 0)),
-    ("pick_up", Text(1, 0)),
+    ("arrival", Nowhere),
+    ("departure", Nowhere),
+    ("set_down", Nowhere),
+    ("pick_up", Nowhere),
 ];
 
 /// The columns of CR.
@@ -243,17 +245,18 @@ pub(crate) const BASIC_HEAD: [Column; 9] = [
 
 /// The columns of the field in a line of this kind.
 #[inline(always)]
-pub(crate) fn span_in(kind: JourneyKind, place: &Place) -> Span
+pub(crate) fn span_in(kind: JourneyKind, place: &FieldPlace) -> ColumnRange
     ensures { result ≡ span_in kind place.now }
 {
     match place {
         Text(first, last) | Whole(first, last) => (*first, *last),
         Date(first, last) | DayFirst(first, last) => (*first, *last),
+        Nowhere => NO_COLUMNS,
         Call(origin, stop, terminus) => match kind {
             JourneyKind::Origin => *origin,
             JourneyKind::Stop => *stop,
             JourneyKind::Terminus => *terminus,
-            JourneyKind::Change | JourneyKind::Other => NOWHERE,
+            JourneyKind::Change | JourneyKind::Other => NO_COLUMNS,
         },
     }
 }

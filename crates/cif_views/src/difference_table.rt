@@ -18,8 +18,8 @@ ghost use Rattle.cif_views.specs.Steps.DifferenceRows.{own_columns, place_behind
 ghost use Rattle.cif_views.specs.declared.columns.JourneyKind.TheVariants.{Other};
 
 use crate::columns::{
-    ASSOCIATION, ASSOCIATION_HEAD, BASIC, BASIC_HEAD, CALL, CHANGE, Column, EXTRA, JourneyKind,
-    Span, TIPLOC_HEAD, call_after, extra_among, kind_of_line, span_in,
+    ASSOCIATION, ASSOCIATION_HEAD, BASIC, BASIC_HEAD, CALL, CHANGE, Column, ColumnRange, EXTRA,
+    JourneyKind, TIPLOC_HEAD, call_after, extra_among, kind_of_line, span_in,
 };
 use crate::heading::write_names;
 use crate::table_row::{TableRow, columns_of};
@@ -260,7 +260,7 @@ fn write_field<W: WriteDevice>(
 }
 
 /// What stands in these columns, up to the last that is no space.
-fn text_of(line: &Line, span: Span) -> &[u8]
+fn text_of(line: &Line, span: ColumnRange) -> &[u8]
     requires { IsTrue (is_span span) }
     ensures text { result.now ≡ trimmed (columns span.0 span.1 line.now) }
     ensures len { length result.now ≤ 80 }

@@ -18,8 +18,8 @@ use crate::marks::{Applying, ExplainedEntry, Mark, mark_at, records_on};
 use arrayvec::ArrayString;
 use cif_calendar::Entry;
 use cif_canon::rows::{
-    ASSOCIATION_FIELDS, JOURNEY_FIELDS, LONGEST_ROW, TRAIN_FIELDS, push_association, push_field, push_fields,
-    push_left_out, push_train, row_start, started,
+    ASSOCIATION_FIELDS, JOURNEY_FIELDS, LONGEST_ROW, TRAIN_FIELDS, push_association, push_field,
+    push_fields, push_left_out, push_train, row_start, started,
 };
 use cif_canon::writing::{answer, append};
 use cif_canon::{Format, Shape, check_within};

@@ -68,11 +68,7 @@ impl Texts<&'static str> for Names {
 }
 
 /// Appends the line of these names.
-pub(crate) fn write_names<W: WriteDevice>(
-    first: &str,
-    others: &[&'static str],
-    sink: &mut Sink<W>,
-)
+pub(crate) fn write_names<W: WriteDevice>(first: &str, others: &[&'static str], sink: &mut Sink<W>)
     ensures { IsAppended W.contents W.write_errors (names_line (first.now ∷ texts others.now)) sink.old sink.new }
 {
     append(first, sink);

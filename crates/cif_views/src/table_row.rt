@@ -9,7 +9,7 @@ ghost use Rattle.cif_views.specs.Steps.Columns.{name_fields, named, room_for, ro
 ghost use Rattle.cif_views.specs.DifferenceTable.{text};
 ghost use Rattle.cif_views.specs.Tables.{number, yymmdd_from};
 
-use crate::columns::{Column, JourneyKind, Place, Span, span_in};
+use crate::columns::{Column, ColumnRange, FieldPlace, JourneyKind, span_in};
 use cif_canon::Shape;
 use cif_canon::rows::long_date;
 use cif_columns::{Line, Sink, WriteDevice, used_columns};
@@ -135,7 +135,7 @@ impl TableRow {
 
     /// Appends a tab and the field that has this place in a line of this kind.
     #[inline(always)]
-    pub(crate) fn push_field(&mut self, place: &Place, kind: JourneyKind, line: &Line)
+    pub(crate) fn push_field(&mut self, place: &FieldPlace, kind: JourneyKind, line: &Line)
         requires within { IsTrue (is_within place.now) }
         requires room { length self.old + room_of place.now ≤ ROOM }
         ensures text { self.new ≡ self.old ++ after Tsv (field_in kind line.now place.now ∷ []) }
@@ -143,18 +143,19 @@ impl TableRow {
     {
         let columns = columns_of(line, span_in(kind, place));
         match place {
-            Place::Text(_, _) => self.push(Shape::Trimmed, columns),
-            Place::Call(_, _, _) => self.push(Shape::Trimmed, columns),
-            Place::Whole(_, _) => self.push_shaped(Shape::Whole, columns),
-            Place::Date(_, _) => self.push_shaped(Shape::Date, columns),
-            Place::DayFirst(_, _) => self.push_shaped(Shape::Date, &year_first(columns)),
+            FieldPlace::Nowhere => self.push(Shape::Trimmed, columns),
+            FieldPlace::Text(_, _) => self.push(Shape::Trimmed, columns),
+            FieldPlace::Call(_, _, _) => self.push(Shape::Trimmed, columns),
+            FieldPlace::Whole(_, _) => self.push_shaped(Shape::Whole, columns),
+            FieldPlace::Date(_, _) => self.push_shaped(Shape::Date, columns),
+            FieldPlace::DayFirst(_, _) => self.push_shaped(Shape::Date, &year_first(columns)),
         }
     }
 
     /// `push_field` of a copy of the line.
     // So the compiler knows that no byte of the line is one of the row.
     #[inline(always)]
-    pub(crate) fn push_of_copy(&mut self, place: &Place, kind: JourneyKind, line: Line)
+    pub(crate) fn push_of_copy(&mut self, place: &FieldPlace, kind: JourneyKind, line: Line)
         requires within { IsTrue (is_within place.now) }
         requires room { length self.old + room_of place.now ≤ ROOM }
         ensures text { self.new ≡ self.old ++ after Tsv (field_in kind line place.now ∷ []) }
@@ -227,7 +228,7 @@ impl TableRow {
 
 /// These columns of the line.
 #[inline(always)]
-pub(crate) fn columns_of(line: &Line, span: Span) -> &[u8]
+pub(crate) fn columns_of(line: &Line, span: ColumnRange) -> &[u8]
     requires { IsTrue (is_span span) }
     ensures columns { result.now ≡ columns span.0 span.1 line.now }
     ensures len { length result.now ≡ span.1 + 1 - span.0 }

@@ -1,5 +1,5 @@
 -- The fields of lines by the columns of the tables. No public clause cites them.
-use Rattle.std.specs.Prelude.{◌≡◌, ⊤, ℕ, ◌+◌, ◌-◌, Bool, true, ◌&&◌, List, [], ◌∷◌, ◌++◌, codes, drop, length, map, nat_eq, nat_le}
+use Rattle.std.specs.Prelude.{Bool, List, [], codes, drop, length, map, nat_eq, nat_le, true, ℕ, ⊤, ◌&&◌, ◌++◌, ◌+◌, ◌-◌, ◌∷◌, ◌≡◌}
 use Rattle.std.specs.Borrow.{Bor}
 use Rattle.cif_columns.specs.Field.{columns}
 use Rattle.cif_canon.specs.Fields.{Field, after}
@@ -8,20 +8,20 @@ use Rattle.cif_canon.specs.declared.rows.Shape.{Shape}
 use Rattle.cif_canon.specs.declared.rows.Shape.TheVariants as shape
 use Rattle.cif_views.specs.DifferenceTable.{text}
 use Rattle.cif_views.specs.Tables.{yymmdd_from}
-use Rattle.cif_views.specs.declared.columns.Place.{Place}
-use Rattle.cif_views.specs.declared.columns.Place.TheVariants.{Call, Date, DayFirst, Text, Whole}
+use Rattle.cif_views.specs.declared.columns.FieldPlace.{FieldPlace}
+use Rattle.cif_views.specs.declared.columns.FieldPlace.TheVariants.{Call, Date, DayFirst, Nowhere, Text, Whole}
 use Rattle.cif_views.specs.declared.columns.TheConstants.{ASSOCIATION, BASIC, CALL, CHANGE, EXTRA}
 use Rattle.cif_views.specs.declared.columns.JourneyKind.{JourneyKind}
 use Rattle.cif_views.specs.declared.columns.JourneyKind.TheVariants.{Change, Origin, Other, Stop, Terminus}
 
 -- a field of a table: its name, and its place; and fields as the code has them
 abbrev pub Column : Type 0
-Column = List ℕ × Place
+Column = List ℕ × FieldPlace
 
-abbrev pub column : Bor (List ℕ) × Place → Column
+abbrev pub column : Bor (List ℕ) × FieldPlace → Column
 column given = (given.0.now, given.1)
 
-abbrev pub named : List (Bor (List ℕ) × Place) → List Column
+abbrev pub named : List (Bor (List ℕ) × FieldPlace) → List Column
 named given = map column given
 
 -- those that a clause or a proof names
@@ -51,21 +51,23 @@ span_of_call Terminus origin stop terminus = terminus
 span_of_call Change origin stop terminus = (1, 0)
 span_of_call Other origin stop terminus = (1, 0)
 
-abbrev pub span_in : JourneyKind → Place → ℕ × ℕ
+abbrev pub span_in : JourneyKind → FieldPlace → ℕ × ℕ
 span_in kind (Text first last) = (first, last)
 span_in kind (Whole first last) = (first, last)
 span_in kind (Date first last) = (first, last)
 span_in kind (DayFirst first last) = (first, last)
+span_in kind Nowhere = (1, 0)
 span_in kind (Call origin stop terminus) = span_of_call kind origin stop terminus
 
-abbrev pub shown_at : Place → List ℕ → Field
+abbrev pub shown_at : FieldPlace → List ℕ → Field
 shown_at (Text _ _) there = (shape.Trimmed, there)
 shown_at (Whole _ _) there = (shape.Whole, there)
 shown_at (Date _ _) there = (shape.Date, there)
 shown_at (DayFirst _ _) there = (shape.Date, yymmdd_from there)
+shown_at Nowhere there = (shape.Trimmed, there)
 shown_at (Call _ _ _) there = (shape.Trimmed, there)
 
-abbrev pub field_in : JourneyKind → List ℕ → Place → Field
+abbrev pub field_in : JourneyKind → List ℕ → FieldPlace → Field
 field_in kind line place = let span = span_in kind place in shown_at place (columns span.0 span.1 line)
 
 abbrev pub fields_in : JourneyKind → List Column → List ℕ → List Field
@@ -87,11 +89,12 @@ is_span span = nat_le 1 span.0 && (nat_le span.0 (span.1 + 1) && nat_le span.1 8
 abbrev pub is_short : ℕ × ℕ → Bool
 is_short span = is_span span && nat_le span.1 (span.0 + 11)
 
-abbrev pub is_within : Place → Bool
+abbrev pub is_within : FieldPlace → Bool
 is_within (Text first last) = is_span (first, last)
 is_within (Whole first last) = is_span (first, last)
 is_within (Date first last) = is_span (first, last) && nat_eq last (first + 5)
 is_within (DayFirst first last) = is_span (first, last) && nat_eq last (first + 5)
+is_within Nowhere = true
 is_within (Call origin stop terminus) = is_short origin && (is_short stop && is_short terminus)
 
 abbrev pub are_within : List Column → Bool
@@ -99,11 +102,12 @@ are_within [] = true
 are_within (c ∷ columns) = is_within c.1 && are_within columns
 
 -- how many bytes a place takes in a row at most, with its tab; and a name
-abbrev pub room_of : Place → ℕ
+abbrev pub room_of : FieldPlace → ℕ
 room_of (Text first last) = last + 1 - first + 1
 room_of (Whole first last) = last + 1 - first + 1
 room_of (Date _ _) = 11
 room_of (DayFirst _ _) = 11
+room_of Nowhere = 1
 room_of (Call _ _ _) = 13
 
 abbrev pub room_for : List Column → ℕ
