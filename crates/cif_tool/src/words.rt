@@ -341,7 +341,10 @@ fn date_of(matches: &ArgMatches<'_>, id: &str) -> Result<Option<Day>, JobFault>
         × HasBadDate id.now (rows_of (found_of matches.now))) }
 {
     match word_of(matches, id) {
-        Some(word) => Ok(Some(day_of_word(word).ok_or(JobFault::BadDate)?)),
+        Some(word) => match day_of_word(word) {
+            Some(day) => Ok(Some(day)),
+            None => Err(JobFault::BadDate),
+        },
         None => Ok(None),
     }
 }
@@ -352,7 +355,10 @@ fn day_of(matches: &ArgMatches<'_>) -> Result<Day, JobFault>
     ensures err { IfErr result (λ fault. (fault ≡ JobFault.BadDate)
         × NamesNoDay (required_word (codes "YYMMDD") (rows_of (found_of matches.now)))) }
 {
-    day_of_word(required_word(matches, "YYMMDD")).ok_or(JobFault::BadDate)
+    match day_of_word(required_word(matches, "YYMMDD")) {
+        Some(day) => Ok(day),
+        None => Err(JobFault::BadDate),
+    }
 }
 
 /// The UID that the word UID is.
@@ -361,7 +367,10 @@ fn uid_of(matches: &ArgMatches<'_>) -> Result<Uid, JobFault>
     ensures err { IfErr result (λ fault. (fault ≡ JobFault.BadUid)
         × IsNoUid (required_word (codes "UID") (rows_of (found_of matches.now)))) }
 {
-    uid_of_word(required_word(matches, "UID")).ok_or(JobFault::BadUid)
+    match uid_of_word(required_word(matches, "UID")) {
+        Some(uid) => Ok(uid),
+        None => Err(JobFault::BadUid),
+    }
 }
 
 /// The form that the words name.
