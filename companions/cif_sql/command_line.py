@@ -9,6 +9,7 @@ import stat
 import sys
 from contextlib import ExitStack
 from datetime import datetime, timezone
+from functools import partial
 from pathlib import Path
 from typing import ContextManager, Optional, Sequence
 
@@ -26,7 +27,7 @@ from cif_shared.tables import Extract, open_extract
 from .background import in_background
 from .loading import Source, UserFiles, load
 from .postgres import PostgresScript, check_schema
-from .sqlite_file import check_age, check_place, new_database
+from .sqlite_file import Parts, check_age, check_place, join_parts, new_part
 
 PROGRAM = "cif-sql"
 
@@ -122,11 +123,13 @@ def make_file(asked: argparse.Namespace, progress: Progress) -> int:
         if not asked.force:
             check_age(place, extract.header())
         source = source_of(extract, asked.extract)
-        with new_files() as files, file_beside(place) as tables:
+        with new_files() as files, file_beside(place) as longest, file_beside(place) as others:
             path = files.reserve(place)
-            with in_background(lambda: new_database(tables, path, place)) as database:
-                load(extract, source, given, database, progress)
+            parts = [partial(new_part, part, place) for part in (longest, others)]
+            with in_background(parts) as databases:
+                load(extract, source, given, Parts(*databases), progress)
                 progress.show("building indexes")
+            join_parts(longest, others, path, place)
             # it may have become another one meanwhile
             check_place(place)
             if not asked.force:
