@@ -6,7 +6,7 @@ from contextlib import ExitStack
 from datetime import timedelta
 from itertools import accumulate
 from operator import itemgetter
-from typing import IO, Dict, Iterator, List, Mapping, NamedTuple, Tuple
+from typing import IO, Callable, Dict, Iterator, List, Mapping, NamedTuple, Tuple
 
 from cif_shared.csv_files import Key
 from cif_shared.dates import Window
@@ -293,17 +293,21 @@ def load_trains(
 
 
 def load(
-    extract: Extract, source: Source, given: UserFiles, database: Database, progress: Progress
+    extract: Extract,
+    source: Callable[[], Source],
+    given: UserFiles,
+    database: Database,
+    progress: Progress,
 ) -> None:
-    """Fills all tables of a database."""
+    """Fills all tables of a database. The source is asked for at the end."""
     progress.show("reading trains and associations")
     header = extract.header()
     window = Window(header.first_date, header.last_date)
-    about = [*header, extracted_at(header), *source]
-    names = (*Header._fields, "extracted_at", *Source._fields)
-    database.fill("extract", names, rows_of([about]))
     tiplocs = extract.rows("tiplocs", TiplocRow)
     load_places(database, tiplocs, Places(tiplocs, given.places))
     associations = extract.rows("associations", AssociationRow)
     database.fill("associations", AssociationRow._fields, rows_of(associations))
     load_dates(database, window, load_trains(database, window, extract, given, progress))
+    about = [*header, extracted_at(header), *source()]
+    names = (*Header._fields, "extracted_at", *Source._fields)
+    database.fill("extract", names, rows_of([about]))

@@ -148,4 +148,6 @@ def join_parts(longest: Path, others: Path, path: Path, place: Path) -> None:
             connection.execute(f"INSERT INTO main.{name} SELECT * FROM others.{name}")
         connection.execute("COMMIT")
         connection.executescript(sql("seconds") + sql("views"))
+        # so many rows of each index say how many are alike; older releases of SQLite read all
+        connection.execute("PRAGMA analysis_limit = 10000")
         connection.execute("ANALYZE main")
