@@ -4,6 +4,7 @@ from __future__ import annotations
 from contextlib import contextmanager
 from dataclasses import dataclass
 from itertools import groupby
+from operator import attrgetter
 from pathlib import Path
 from typing import (
     IO,
@@ -163,20 +164,20 @@ def variants_of(
 ) -> List[Variant]:
     """The public trains of one UID, those that differ in nothing but dates as one."""
     found: Dict[object, Variant] = {}
-    for schedule, calls in trains:
-        if schedule.about is None:
+    for train in trains:
+        if train.about is None:
             continue
-        rows = tuple(calls.rows())
-        numbers = tuple(calls.numbers())
-        at_spots = [stops.read(row) for row in stops.take(schedule.number)]
-        key = (schedule.about, numbers, rows, tuple(at_spots))
+        rows = tuple(train.calls.rows())
+        numbers = tuple(train.calls.numbers())
+        at_spots = [stops.read(row) for row in stops.take(train.calls.schedule)]
+        key = (train.about, numbers, rows, tuple(at_spots))
         variant = found.get(key)
         if variant is None:
             places = stops_at(spots, at_spots, numbers)
-            variant = found[key] = Variant(schedule.about, numbers, rows, places)
-        variant.dates |= schedule.dates
+            variant = found[key] = Variant(train.about, numbers, rows, places)
+        variant.dates |= train.dates
         if with_records:
-            variant.records.append(RunsAs(schedule.dates, schedule.record))
+            variant.records.append(RunsAs(train.dates, train.record))
     return list(found.values())
 
 
@@ -195,10 +196,6 @@ class LeftOutCounts(NamedTuple):
         if self.trains:
             lines.insert(0, f"trains left out: they aren't for riders: {self.trains}")
         return lines
-
-
-def uid_of(train: PublicTrain) -> str:
-    return train.schedule.uid
 
 
 class Conversion:
@@ -226,12 +223,12 @@ class Conversion:
     def write_plain(self, uid: str, trains: Iterable[PublicTrain]) -> None:
         """Writes the trips of a train without associations."""
         trips = TripsOfUid(uid)
-        for schedule, calls in trains:
-            if schedule.about is not None:
-                trip = trips.add(schedule.about, calls.rows())
-                trip.dates |= schedule.dates
+        for train in trains:
+            if train.about is not None:
+                trip = trips.add(train.about, train.calls.rows())
+                trip.dates |= train.dates
                 if self.records is not None:
-                    trip.records.append(schedule.record)
+                    trip.records.append(train.record)
         self.write(trips)
 
     def read_trains(self, extract: Extract, progress: Progress) -> Dict[str, List[Variant]]:
@@ -241,12 +238,12 @@ class Conversion:
         count = self.timetable.schedules.count
         with extract.table("public") as table:
             found = self.timetable.trains(table, self.wishes.types)
-            for uid, group in groupby(found, key=uid_of):
-                trains = list(group)
-                for schedule, _ in trains:
-                    if schedule.about is None:
-                        self.not_for_riders += count_of(schedule.dates)
-                progress.show_share("reading calls", int(trains[-1].schedule.number), count)
+            for cell, group in groupby(found, key=attrgetter("uid")):
+                uid, trains = cell.decode(), list(group)
+                for train in trains:
+                    if train.about is None:
+                        self.not_for_riders += count_of(train.dates)
+                progress.show_share("reading calls", int(trains[-1].calls.schedule), count)
                 if stops and uid in self.timetable.spots:
                     with_records = self.records is not None
                     of_uid = variants_of(trains, self.timetable.spots[uid], stops, with_records)
@@ -325,7 +322,6 @@ def convert(
                 links, left_out = conversion.write_linked(variants)
             if not routes.rows:
                 raise Refused(f"{extract.path} has no public train in its window")
-            trip_files.flush()
             progress.show("writing the other files")
             feed.copy_file(archive, "trips", trips)
             feed.write_services(archive, services)

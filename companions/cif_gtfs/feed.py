@@ -9,7 +9,7 @@ from contextlib import contextmanager
 from itertools import islice
 from typing import IO, Dict, Iterable, Iterator, List, Mapping, NamedTuple, Sequence, Tuple, Union
 
-from cif_shared.csv_files import Key
+from cif_shared.csv_files import Key, csv_cell
 from cif_shared.dates import WEEKDAYS
 from cif_shared.files import BLOCK, scratch_file
 from cif_shared.tables import Header
@@ -108,24 +108,18 @@ class TripFiles:
         self.routes = routes
         self.services = services
         self.trips, self.stop_times = files
-        self.rows: List[Row] = []
 
     def write(self, trips: Iterable[Trip]) -> None:
         for trip in trips:
             self.stop_times.write(self.stop_time_rows(trip))
-            self.rows.append(self.trip_row(trip))
-        if len(self.rows) >= ROWS:
-            self.flush()
+            self.trips.write(self.trip_row(trip))
 
-    def flush(self) -> None:
-        self.trips.write(csv_of(self.rows))
-        self.rows.clear()
-
-    def trip_row(self, trip: Trip) -> Row:
-        shown = self.routes.shown(trip.about.operator, trip.about.route_type, trip.ends)
-        service = self.services.id_of(trip.dates)
-        about = (shown.headsign, trip.about.identity, shown.direction)
-        return (shown.route, service, trip.id.decode(), *about, trip.block.decode())
+    def trip_row(self, trip: Trip) -> bytes:
+        identity, operator, route_type = trip.about
+        route, headsign, direction = self.routes.shown(operator, route_type, trip.ends)
+        service = self.services.id_of(trip.dates).encode()
+        about = (headsign, csv_cell(identity), direction)
+        return b"%s,%s,%s,%s,%s,%d,%s\n" % (route, service, trip.id, *about, trip.block)
 
     def stop_time_rows(self, trip: Trip) -> bytes:
         stops = self.stops.ids

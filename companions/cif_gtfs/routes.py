@@ -3,7 +3,7 @@ from __future__ import annotations
 
 from typing import Dict, List, Mapping, NamedTuple, Set, Tuple
 
-from cif_shared.csv_files import Key
+from cif_shared.csv_files import Key, csv_cell
 from cif_shared.operators import OperatorRow, operator_name
 
 from .stops import Stops, coded
@@ -31,11 +31,11 @@ class AgencyRow(NamedTuple):
 
 
 class Shown(NamedTuple):
-    """How a trip is shown: its route, which way it goes, and where to."""
+    """How a trip is shown: its route, where to and which way it goes, as trips.txt has them."""
 
-    route: str
+    route: bytes
+    headsign: bytes
     direction: int
-    headsign: str
 
 
 class Ends(NamedTuple):
@@ -45,7 +45,7 @@ class Ends(NamedTuple):
     last: bytes
 
 
-RouteKey = Tuple[str, int, Ends]
+RouteKey = Tuple[bytes, int, Ends]
 
 
 class Routes:
@@ -58,12 +58,13 @@ class Routes:
         self.rows: Dict[str, RouteRow] = {}
         self.operators: Set[str] = set()
 
-    def shown(self, operator: str, route_type: int, ends: Ends) -> Shown:
+    def shown(self, operator: bytes, route_type: int, ends: Ends) -> Shown:
         """How a trip is shown whose train goes from one location to another."""
         key = (operator, route_type, ends)
-        if key not in self.known:
-            self.known[key] = self.new(*key)
-        return self.known[key]
+        found = self.known.get(key)
+        if found is None:
+            found = self.known[key] = self.new(operator.decode(), route_type, ends)
+        return found
 
     def new(self, operator: str, route_type: int, ends: Ends) -> Shown:
         """Direction 0 is from the end whose id comes first."""
@@ -76,7 +77,7 @@ class Routes:
             names = {first: first_name, last: last_name}
             name = f"{names[low]} - {names[high]}"
             self.rows[route] = RouteRow(route, agency, name, route_type)
-        return Shown(route, int(first != low), last_name)
+        return Shown(route.encode(), csv_cell(last_name.encode()), int(first != low))
 
     def end(self, location: bytes) -> Tuple[str, str]:
         """The id and the name of the station or stop where a train ends."""

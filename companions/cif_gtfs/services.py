@@ -34,15 +34,19 @@ class Services:
     def __init__(self, window: Window) -> None:
         self.window = window
         self.texts = [f"{day:%Y%m%d}" for day in window.days]
+        # what stands behind the id of a service for each date
+        self.added = [f",{text},1\n" for text in self.texts]
+        self.removed = [f",{text},2\n" for text in self.texts]
         self.ids: Dict[Dates, str] = {}
         self.dates: Dict[str, Dates] = {}
 
     def id_of(self, dates: Dates) -> str:
-        if dates not in self.ids:
+        found = self.ids.get(dates)
+        if found is None:
             found = self.ids[dates] = self.new_id(dates)
             if self.dates.setdefault(found, dates) != dates:
                 raise Refused(f"two services have the id {found}")
-        return self.ids[dates]
+        return found
 
     def new_id(self, dates: Dates) -> str:
         """A short hash of the dates, the same in each window that has them."""
@@ -69,8 +73,6 @@ class Services:
             usual = self.usual(dates)
             span = f"{self.texts[usual.first]},{self.texts[usual.last]}"
             calendar = f"{service},{','.join(map(str, usual.runs))},{span}\n" if usual.dates else ""
-            added = numbers_of(dates & ~usual.dates)
-            removed = numbers_of(usual.dates & ~dates)
-            exceptions = [f"{service},{self.texts[number]},1\n" for number in added]
-            exceptions += [f"{service},{self.texts[number]},2\n" for number in removed]
-            yield ServiceRows(calendar, "".join(exceptions))
+            added = [self.added[number] for number in numbers_of(dates & ~usual.dates)]
+            removed = [self.removed[number] for number in numbers_of(usual.dates & ~dates)]
+            yield ServiceRows(calendar, service.join(["", *added, *removed]))

@@ -14,12 +14,12 @@ from cif_shared.places import NO_COORDINATES, Places, Tiploc
 NO_TIPLOC = "_"
 STOP = 0
 STATION = 1
+OTHER = re.compile(r"[^A-Za-z0-9 ]")
 
 
 def coded(text: str) -> str:
     """The text as a part of an id: letters, digits, `_` for a space, and `%XX` for all else."""
-    plain = re.sub(r"[^A-Za-z0-9 ]", lambda other: f"%{ord(other[0]):02X}", text)
-    return plain.replace(" ", "_")
+    return OTHER.sub(lambda other: f"%{ord(other[0]):02X}", text).replace(" ", "_")
 
 
 def stop_id(name: str) -> str:

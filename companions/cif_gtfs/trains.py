@@ -43,17 +43,14 @@ class Sort(NamedTuple):
 
 
 class About(NamedTuple):
-    """What a trip shows of its train besides the calls, and the same as a text."""
+    """What a trip shows of its train besides the calls."""
 
-    identity: str
-    operator: str
+    identity: bytes
+    operator: bytes
     route_type: int
-    text: bytes
 
-
-def about_of(identity: bytes, operator: bytes, route_type: int) -> About:
-    text = b"%s\t%s\t%d\n" % (identity, operator, route_type)
-    return About(identity.decode(), operator.decode(), route_type, text)
+    def text(self) -> bytes:
+        return b"%s\t%s\t%d\n" % self
 
 
 def kind_of(sort: Sort) -> Kind:
@@ -72,20 +69,20 @@ def kind_of(sort: Sort) -> Kind:
     return Kind.SLEEPER if sleeps else Kind.RAIL
 
 
-class Schedule(NamedTuple):
-    """A schedule: its number, when it runs, and what its train is, or None if that isn't for
-    riders."""
+class PublicTrain(NamedTuple):
+    """A schedule with two public calls or more: when it runs, what its train is, or None if that
+    isn't for riders, and its calls."""
 
-    number: bytes
-    uid: str
+    uid: bytes
     dates: Dates
     about: Optional[About]
     # first and last date, days run, and the retail service id, as they stand
-    record: Tuple[bytes, bytes, bytes, bytes]
+    record: Tuple[bytes, ...]
+    calls: Calls
 
 
 FIELDS = (
-    "schedule uid first_date last_date days_run reserved_a identity operator_code"
+    "uid first_date last_date days_run reserved_a identity operator_code"
     " status category sleepers".split()
 )
 
@@ -104,23 +101,16 @@ class ScheduleReader:
         sort = Sort(status.decode(), category.decode(), sleepers.decode())
         return self.types[kind_of(sort)] if is_for_riders(sort.status, sort.category) else None
 
-    def read(self, line: bytes) -> Schedule:
-        cells = self.cells_at(line.rstrip(b"\n").split(b"\t"))
-        number, uid, first, last, days_run, retail, identity, operator, *fields = cells
-        sort = tuple(fields)
+    def read(self, line: bytes, calls: Calls) -> PublicTrain:
+        cells = self.cells_at(line[:-1].split(b"\t"))
+        uid, first, last, days_run, _, identity, operator = cells[:7]
+        sort = cells[7:]
         if sort not in self.known:
             self.known[sort] = self.route_type(*sort)
         route_type = self.known[sort]
-        about = None if route_type is None else about_of(identity, operator, route_type)
+        about = None if route_type is None else About(identity, operator, route_type)
         dates = self.window.dates(first, last, days_run)
-        return Schedule(number, uid.decode(), dates, about, (first, last, days_run, retail))
-
-
-class PublicTrain(NamedTuple):
-    """A schedule with two public calls or more."""
-
-    schedule: Schedule
-    calls: Calls
+        return PublicTrain(uid, dates, about, cells[1:5], calls)
 
 
 def public_trains(
@@ -135,4 +125,4 @@ def public_trains(
         while line and not line.startswith(start):
             line = next(lines, b"")
         if calls.text.count(b"\n") > 1:
-            yield PublicTrain(reader.read(line), calls)
+            yield reader.read(line, calls)

@@ -25,12 +25,14 @@ class Trip:
 
     __slots__ = tuple("id about rows mark ends dates block days_later records".split())
 
-    def __init__(self, trip_id: bytes, about: About, rows: Sequence[bytes], mark: bytes) -> None:
+    def __init__(
+        self, trip_id: bytes, about: About, rows: Sequence[bytes], mark: bytes, ends: Ends
+    ) -> None:
         self.id = trip_id
         self.about = about
         self.rows = rows
         self.mark = mark
-        self.ends = Ends(b"", b"")
+        self.ends = ends
         self.dates: Dates = 0
         # the id of the first part of its train, if that is cut, and how many days later than the
         # service the train runs
@@ -57,12 +59,10 @@ class TripsOfUid:
     ) -> Trip:
         """The trip of a train that has these rows, and other ends if it is a part of a train. A mark
         tells those of compositions from others."""
-        trip_id = self.id_of(about.text + b"".join(rows) + mark)
+        trip_id = self.id_of(b"".join((about.text(), *rows, mark)))
         trip = self.trips.get(trip_id)
         if trip is None:
-            trip = Trip(trip_id, about, rows, mark)
-            trip.ends = ends or ends_of(rows)
-            self.trips[trip_id] = trip
+            trip = self.trips[trip_id] = Trip(trip_id, about, rows, mark, ends or ends_of(rows))
         elif (trip.about, trip.mark) != (about, mark) or trip.rows != rows:
             raise Refused(f"two trips of the train {self.uid} have the id {trip_id.decode()}")
         return trip
@@ -114,7 +114,7 @@ class LinkedTrain(NamedTuple):
     def text(self) -> bytes:
         """What tells it from other trains."""
         rows = b"|\n".join(b"".join(part.rows) for part in self.parts)
-        return self.variant.about.text + b"%d\n" % self.days + rows
+        return self.variant.about.text() + b"%d\n" % self.days + rows
 
     def section(self, start: int, stop: int) -> List[bytes]:
         """The rows from one place to another, and of those that aren't public only these two."""

@@ -215,6 +215,15 @@ class Reader(Generic[Row]):
         self.line_of.setdefault(key, line)
 
 
+# What a cell is quoted for.
+SPECIAL = re.compile(b'[,"\n]')
+
+
+def csv_cell(text: bytes) -> bytes:
+    """A text as a cell of a row."""
+    return b'"%s"' % text.replace(b'"', b'""') if SPECIAL.search(text) else text
+
+
 def shown(cell: str) -> str:
     """A cell as it is reported: on one line."""
     return f"`{CONTROL.sub('?', cell)}`"

@@ -9,7 +9,7 @@ from .tables import Table
 
 # The rows of a schedule, and what each has after its number and that of the call.
 ROWS_OF_SCHEDULE = re.compile(rb"^([0-9]+)\t.*\n(?:\1\t.*\n)*", re.MULTILINE)
-ROW = re.compile(rb"^[0-9]+\t[0-9]+\t(.*\n)", re.MULTILINE)
+ROW = re.compile(rb"\t[0-9]+\t(.*\n)")
 NUMBER = re.compile(rb"^[0-9]+\t([0-9]+)", re.MULTILINE)
 
 

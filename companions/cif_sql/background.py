@@ -1,11 +1,11 @@
-"""A database that is filled by a process of its own, while the next rows are read."""
+"""Databases that are filled by processes of their own, while the next rows are read."""
 from __future__ import annotations
 
 import signal
 from contextlib import contextmanager
 from multiprocessing import get_context
 from multiprocessing.connection import Connection
-from typing import Callable, ContextManager, Iterator, Optional, Sequence
+from typing import Callable, ContextManager, Iterator, List, Optional, Sequence
 
 from cif_shared.endings import Ending, Failed
 from cif_shared.running import INTERRUPTS
@@ -28,14 +28,17 @@ class Background(Database):
         try:
             self.process.send((table, names, rows))
         except OSError:
-            self.finish()
+            self.wait()
 
     def finish(self) -> None:
-        """Waits until the database is complete, or raises what ended the process early."""
+        """Says that all rows are there. What ended the process early is told by `wait`."""
         try:
             self.process.send(None)
         except OSError:
             pass
+
+    def wait(self) -> None:
+        """Waits until the database is complete, or raises what ended the process early."""
         ending = self.ending()
         if ending is not None:
             raise ending
@@ -50,12 +53,13 @@ class Background(Database):
         return ending
 
 
-def fill_all(opened: Opened, ours: Connection, others: Connection) -> None:
-    """What the process does: it fills the database with what comes, until that ends. An interrupt
-    is for the other process, which then ends without saying that it is done."""
+def fill_all(opened: Opened, ours: Connection, others: Sequence[Connection]) -> None:
+    """What a process does: it fills a database with what comes, until that ends. An interrupt is
+    for the process that sends, which then ends without saying that all is there."""
     for number in INTERRUPTS:
         signal.signal(number, signal.SIG_IGN)
-    others.close()
+    for other in others:
+        other.close()
     ending: Optional[Ending] = None
     try:
         with opened() as database:
@@ -73,17 +77,28 @@ def fill_all(opened: Opened, ours: Connection, others: Connection) -> None:
 
 
 @contextmanager
-def in_background(opened: Opened) -> Iterator[Background]:
-    """A database that another process opens and fills. It is complete when the block ends; if the
-    block fails, nobody writes into it any more."""
-    ours, others = PROCESSES.Pipe()
-    process = PROCESSES.Process(target=fill_all, args=(opened, others, ours))
-    process.start()
-    others.close()
+def in_background(databases: Sequence[Opened]) -> Iterator[List[Background]]:
+    """Databases, each of which another process opens and fills. They are complete when the block
+    ends; if the block fails, nobody writes into them any more."""
+    pipes = [PROCESSES.Pipe() for _ in databases]
+    ends = {end for pipe in pipes for end in pipe}
+    processes = [
+        PROCESSES.Process(target=fill_all, args=(opened, other, ends - {other}))
+        for opened, (_, other) in zip(databases, pipes)
+    ]
+    for process in processes:
+        process.start()
+    for _, other in pipes:
+        other.close()
     try:
-        database = Background(ours)
-        yield database
-        database.finish()
+        filled = [Background(ours) for ours, _ in pipes]
+        yield filled
+        for database in filled:
+            database.finish()
+        for database in filled:
+            database.wait()
     finally:
-        ours.close()
-        process.join()
+        for ours, _ in pipes:
+            ours.close()
+        for process in processes:
+            process.join()

@@ -7,10 +7,12 @@ import hashlib
 import os
 import stat
 import sys
-from contextlib import ExitStack
+from concurrent.futures import ThreadPoolExecutor
+from contextlib import ExitStack, contextmanager
 from datetime import datetime, timezone
+from functools import partial
 from pathlib import Path
-from typing import ContextManager, Optional, Sequence
+from typing import Callable, ContextManager, Iterator, Optional, Sequence
 
 from cif_shared.arguments import add_cif, add_help, add_names, add_window, new_parser
 from cif_shared.cif import Cif, find_cif
@@ -26,7 +28,7 @@ from cif_shared.tables import Extract, open_extract
 from .background import in_background
 from .loading import Source, UserFiles, load
 from .postgres import PostgresScript, check_schema
-from .sqlite_file import check_age, check_place, new_database
+from .sqlite_file import Parts, check_age, check_place, join_parts, new_part
 
 PROGRAM = "cif-sql"
 
@@ -97,10 +99,16 @@ def digest_of(path: Path) -> str:
     return digest.hexdigest()
 
 
-def source_of(extract: Extract, name: str) -> Source:
+@contextmanager
+def reading_source(extract: Extract, name: str) -> Iterator[Callable[[], Source]]:
+    """What tells the source of an extract, whose digest is made meanwhile by a thread."""
     now = datetime.now(timezone.utc).isoformat(timespec="seconds")
     shown = CONTROL.sub("?", os.fsencode(name).decode(errors="replace"))
-    return Source(shown, digest_of(extract.path), version_of(extract.cif), now)
+    version = version_of(extract.cif)
+    with ThreadPoolExecutor(1) as threads:
+        digest = threads.submit(digest_of, extract.path)
+        yield lambda: Source(shown, digest.result(), version, now)
+        extract.check_state()
 
 
 def given_files(asked: argparse.Namespace) -> UserFiles:
@@ -121,12 +129,15 @@ def make_file(asked: argparse.Namespace, progress: Progress) -> int:
     with open_asked(asked) as extract:
         if not asked.force:
             check_age(place, extract.header())
-        source = source_of(extract, asked.extract)
-        with new_files() as files, file_beside(place) as tables:
+        with new_files() as files, file_beside(place) as longest, file_beside(place) as others:
             path = files.reserve(place)
-            with in_background(lambda: new_database(tables, path, place)) as database:
-                load(extract, source, given, database, progress)
+            parts = [partial(new_part, part, place) for part in (longest, others)]
+            # no thread is there yet when the processes start
+            with in_background(parts) as databases:
+                with reading_source(extract, asked.extract) as source:
+                    load(extract, source, given, Parts(*databases), progress)
                 progress.show("building indexes")
+            join_parts(longest, others, path, place)
             # it may have become another one meanwhile
             check_place(place)
             if not asked.force:
@@ -143,7 +154,8 @@ def write_script(asked: argparse.Namespace, progress: Progress) -> int:
     given = given_files(asked)
     with open_asked(asked) as extract, ExitStack() as stack:
         script = PostgresScript(stack)
-        load(extract, source_of(extract, asked.extract), given, script, progress)
+        with reading_source(extract, asked.extract) as source:
+            load(extract, source, given, script, progress)
         progress.show("writing the script")
         script.write(sys.stdout.buffer, schema, extract.header(), asked.force)
     return SUCCESS

@@ -6,7 +6,7 @@ from contextlib import ExitStack
 from datetime import timedelta
 from itertools import accumulate
 from operator import itemgetter
-from typing import IO, Dict, Iterator, List, Mapping, NamedTuple, Tuple
+from typing import IO, Callable, Dict, Iterator, List, Mapping, NamedTuple, Tuple
 
 from cif_shared.csv_files import Key
 from cif_shared.dates import Window
@@ -78,25 +78,27 @@ class TrainsPerDay:
     def __init__(self, window: Window) -> None:
         self.window = window
         self.numbers = {day.isoformat(): number for number, day in enumerate(window.days)}
-        # for each weekday and date, how many more trains run than a day before
-        self.changes: Dict[Tuple[str, int], List[List[int]]] = {}
+        # by weekdays, for each date, how many trains begin to run less those that have ended
+        self.changes: Dict[Tuple[str, int], Dict[str, List[int]]] = {}
 
     def add(self, key: Tuple[str, int], first: str, last: str, days_run: str) -> None:
-        if key not in self.changes:
-            self.changes[key] = [[0] * (len(self.window.days) + 1) for _ in range(7)]
-        start, end = self.numbers[first], self.numbers[last] + 1
-        for changes, runs in zip(self.changes[key], days_run):
-            if runs == "1":
-                changes[start] += 1
-                changes[end] -= 1
+        by_days_run = self.changes.setdefault(key, {})
+        if days_run not in by_days_run:
+            by_days_run[days_run] = [0] * (len(self.window.days) + 1)
+        changes = by_days_run[days_run]
+        changes[self.numbers[first]] += 1
+        changes[self.numbers[last] + 1] -= 1
 
     def rows(self) -> Iterator[Row]:
-        for (operator, passenger), changes in self.changes.items():
-            counts = [list(accumulate(each)) for each in changes]
-            for number, day in enumerate(self.window.days):
-                trains = counts[day.weekday()][number]
-                if trains:
-                    yield (day.isoformat(), operator, passenger, trains)
+        for (operator, passenger), by_days_run in self.changes.items():
+            trains = [0] * len(self.window.days)
+            for days_run, changes in by_days_run.items():
+                for number, (day, count) in enumerate(zip(self.window.days, accumulate(changes))):
+                    if days_run[day.weekday()] == "1":
+                        trains[number] += count
+            for day, count in zip(self.window.days, trains):
+                if count:
+                    yield (day.isoformat(), operator, passenger, count)
 
 
 # ---- journeys
@@ -144,20 +146,23 @@ def with_number(number: int, text: bytes) -> bytes:
     return start + text[:-1].replace(b"\n", b"\n" + start) + b"\n" if text else b""
 
 
-MOMENT = re.compile(rb"(?<=\t)([0-9]{2,}):([0-9]{2}):([0-9]{2})(?=\t)")
+# A moment between tabs, of which the second can be the first of the next one.
+MOMENT = re.compile(rb"\t([0-9]{2,}:[0-9]{2}:[0-9]{2})(?=\t)")
 
 
 class Moments(Dict[bytes, bytes]):
-    """The seconds of each moment HH:MM:SS that is met. Hours may go on past 24."""
+    """The seconds of each moment HH:MM:SS that is met, after a tab. Hours may go on past 24."""
 
     def __missing__(self, moment: bytes) -> bytes:
         hours, minutes, seconds = (int(part) for part in moment.split(b":"))
-        self[moment] = b"%d" % (hours * 3600 + minutes * 60 + seconds)
+        self[moment] = b"\t%d" % (hours * 3600 + minutes * 60 + seconds)
         return self[moment]
 
     def in_seconds(self, text: bytes) -> bytes:
         """A text with all its moments in seconds."""
-        return MOMENT.sub(lambda found: self[found[0]], text)
+        parts = MOMENT.split(text)
+        parts[1::2] = map(self.__getitem__, parts[1::2])
+        return b"".join(parts)
 
     def midnights(self) -> int:
         """How many midnights are before the last moment."""
@@ -288,17 +293,21 @@ def load_trains(
 
 
 def load(
-    extract: Extract, source: Source, given: UserFiles, database: Database, progress: Progress
+    extract: Extract,
+    source: Callable[[], Source],
+    given: UserFiles,
+    database: Database,
+    progress: Progress,
 ) -> None:
-    """Fills all tables of a database."""
+    """Fills all tables of a database. The source is asked for at the end."""
     progress.show("reading trains and associations")
     header = extract.header()
     window = Window(header.first_date, header.last_date)
-    about = [*header, extracted_at(header), *source]
-    names = (*Header._fields, "extracted_at", *Source._fields)
-    database.fill("extract", names, rows_of([about]))
     tiplocs = extract.rows("tiplocs", TiplocRow)
     load_places(database, tiplocs, Places(tiplocs, given.places))
     associations = extract.rows("associations", AssociationRow)
     database.fill("associations", AssociationRow._fields, rows_of(associations))
     load_dates(database, window, load_trains(database, window, extract, given, progress))
+    about = [*header, extracted_at(header), *source()]
+    names = (*Header._fields, "extracted_at", *Source._fields)
+    database.fill("extract", names, rows_of([about]))

@@ -53,7 +53,8 @@ class PostgresScript(Database):
 
         add(sql("begin") + sql("check") + sql("create"))
         # only SQLite has tables without numbers of rows, and makes columns of others as they are read
-        add(sql("tables").replace(" WITHOUT ROWID", "").replace(" VIRTUAL", " STORED"))
+        add(sql("tables").replace(" WITHOUT ROWID", ""))
+        add(sql("seconds").replace(" VIRTUAL", " STORED"))
         for table, copied in self.tables.items():
             add(f"COPY {table} ({', '.join(copied.names)}) FROM STDIN (NULL '');\n")
             copied.file.seek(0)

@@ -19,11 +19,14 @@ APPLICATION = 0x63696631
 MAGIC = b"SQLite format 3\0"
 PLACE = slice(68, 72)
 
-# A value of a row. This is much faster than to look for empty ones in Python.
-CELL = "nullif(?, '')"
+# An empty cell. SQLite keeps NULL for what is not a number, and Python hands it on faster than None, for which it looks for an adapter.
+EMPTY = float("nan")
 # Several rows are added by one statement, since each statement costs as much as some rows. Older releases of SQLite take 999 values.
-MOST_ROWS = 8
+MOST_ROWS = 32
 MOST_CELLS = 999
+
+# The table that takes as long as all others.
+LONGEST = "calls"
 
 # The moment of an extract, then its window. One without a moment is older than all others.
 Age = Tuple[str, str, str]
@@ -81,10 +84,10 @@ class SqliteFile(Database):
         self.connection = connection
 
     def fill(self, table: str, names: Sequence[str], rows: bytes) -> None:
-        cells = rows.decode().replace("\n", "\t").split("\t")
+        cells = [cell or EMPTY for cell in rows.decode().replace("\n", "\t").split("\t")]
         cells.pop()
         width = len(names)
-        row = f"({', '.join([CELL] * width)})"
+        row = f"({', '.join('?' * width)})"
         start = f"INSERT INTO {table} ({', '.join(names)}) VALUES "
         most = min(MOST_ROWS, MOST_CELLS // width)
         rest = len(cells) - len(cells) % (width * most)
@@ -95,30 +98,56 @@ class SqliteFile(Database):
 
 
 @contextmanager
-def opened(path: Path) -> Iterator[sqlite3.Connection]:
-    """A connection to a new file. Nobody reads it before it is complete, and if the run fails it is
-    removed, so it needs no journal."""
-    with closing(sqlite3.connect(str(path), isolation_level=None)) as connection:
-        connection.execute("PRAGMA journal_mode = OFF")
-        connection.execute("PRAGMA synchronous = OFF")
-        yield connection
+def opened(path: Path, place: Path) -> Iterator[sqlite3.Connection]:
+    """A connection to a new file, which is for a place. Nobody reads it before it is complete, and
+    if the run fails it is removed, so it needs no journal."""
+    try:
+        with closing(sqlite3.connect(str(path), isolation_level=None)) as connection:
+            connection.execute("PRAGMA journal_mode = OFF")
+            connection.execute("PRAGMA synchronous = OFF")
+            yield connection
+    except sqlite3.OperationalError as problem:
+        raise Failed(f"{place}: {problem}") from None
+
+
+class Parts(Database):
+    """A database in two parts, of which one has the longest table, and the other one the others."""
+
+    def __init__(self, longest: Database, others: Database) -> None:
+        self.longest = longest
+        self.others = others
+
+    def fill(self, table: str, names: Sequence[str], rows: bytes) -> None:
+        part = self.longest if table == LONGEST else self.others
+        part.fill(table, names, rows)
 
 
 @contextmanager
-def new_database(tables: Path, path: Path, place: Path) -> Iterator[SqliteFile]:
-    """A database in an empty file, which is for a place. First its tables are filled in another
-    file. From there they are copied with all pages full, and then its indexes and views are made.
-    """
-    try:
-        with opened(tables) as connection:
-            connection.execute(f"PRAGMA application_id = {APPLICATION}")
-            connection.executescript(sql("tables"))
-            connection.execute("BEGIN")
-            yield SqliteFile(connection)
-            connection.execute("COMMIT")
-            connection.execute("VACUUM INTO ?", (str(path),))
-        with opened(path) as connection:
-            connection.executescript(sql("indexes") + sql("views"))
-            connection.execute("ANALYZE")
-    except sqlite3.OperationalError as problem:
-        raise Failed(f"{place}: {problem}") from None
+def new_part(part: Path, place: Path) -> Iterator[SqliteFile]:
+    """A part of a database, in an empty file. Its indexes are made once it is filled."""
+    with opened(part, place) as connection:
+        connection.executescript(sql("tables"))
+        connection.execute("BEGIN")
+        yield SqliteFile(connection)
+        connection.execute("COMMIT")
+        connection.executescript(sql("indexes"))
+
+
+def join_parts(longest: Path, others: Path, path: Path, place: Path) -> None:
+    """Makes a database of its parts, in an empty file. SQLite copies what is defined alike as it is,
+    and fills all pages."""
+    with opened(longest, place) as connection:
+        connection.execute("VACUUM INTO ?", (str(path),))
+    with opened(path, place) as connection:
+        connection.execute(f"PRAGMA application_id = {APPLICATION}")
+        tables = "SELECT name FROM main.sqlite_master WHERE type = 'table'"
+        names = {name for (name,) in connection.execute(tables)} - {LONGEST}
+        connection.execute("ATTACH ? AS others", (str(others),))
+        connection.execute("BEGIN")
+        for name in sorted(names):
+            connection.execute(f"INSERT INTO main.{name} SELECT * FROM others.{name}")
+        connection.execute("COMMIT")
+        connection.executescript(sql("seconds") + sql("views"))
+        # so many rows of each index say how many are alike; older releases of SQLite read all
+        connection.execute("PRAGMA analysis_limit = 10000")
+        connection.execute("ANALYZE main")

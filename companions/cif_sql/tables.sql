@@ -65,15 +65,6 @@ CREATE TABLE calls (
     engineering text,
     pathing text,
     performance text,
-    arrival_seconds integer GENERATED ALWAYS AS (
-        CAST(substr(arrival, 1, 2) AS integer) * 3600 + CAST(substr(arrival, 3, 2) AS integer) * 60 + (length(arrival) - 4) * 30
-    ) VIRTUAL,
-    departure_seconds integer GENERATED ALWAYS AS (
-        CAST(substr(departure, 1, 2) AS integer) * 3600 + CAST(substr(departure, 3, 2) AS integer) * 60 + (length(departure) - 4) * 30
-    ) VIRTUAL,
-    pass_seconds integer GENERATED ALWAYS AS (
-        CAST(substr(pass, 1, 2) AS integer) * 3600 + CAST(substr(pass, 3, 2) AS integer) * 60 + (length(pass) - 4) * 30
-    ) VIRTUAL,
     PRIMARY KEY (journey, number)
 ) WITHOUT ROWID;
 
@@ -87,14 +78,6 @@ CREATE TABLE public_calls (
     departure_seconds integer NOT NULL,
     set_down integer NOT NULL,
     pick_up integer NOT NULL,
-    arrival text GENERATED ALWAYS AS (
-        CASE WHEN arrival_seconds < 36000 THEN '0' ELSE '' END || CAST(arrival_seconds / 3600 AS text) || ':' ||
-        substr(CAST(100 + arrival_seconds % 3600 / 60 AS text), 2) || ':' || substr(CAST(100 + arrival_seconds % 60 AS text), 2)
-    ) VIRTUAL,
-    departure text GENERATED ALWAYS AS (
-        CASE WHEN departure_seconds < 36000 THEN '0' ELSE '' END || CAST(departure_seconds / 3600 AS text) || ':' ||
-        substr(CAST(100 + departure_seconds % 3600 / 60 AS text), 2) || ':' || substr(CAST(100 + departure_seconds % 60 AS text), 2)
-    ) VIRTUAL,
     PRIMARY KEY (journey, number)
 ) WITHOUT ROWID;
 

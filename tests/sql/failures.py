@@ -26,6 +26,8 @@ NO_MOMENT = ("0401262130", "9999999999")
 # The extract of a database, and how many trains run on all dates.
 TRAINS = "SELECT current_reference, count(*) FROM extract, runs GROUP BY 1"
 KILLS = 12
+# The processes that write a database.
+WRITERS = 2
 
 
 def left(maker: Maker) -> List[str]:
@@ -205,8 +207,8 @@ def check_signals(counts: Counts, maker: Maker, special: Path) -> None:
     (maker.folder / "failing-cif").unlink()
 
 
-def check_writer(counts: Counts, maker: Maker, special: Path) -> None:
-    """If the process that writes the database is killed, the run fails, and nothing is left."""
+def check_writers(counts: Counts, maker: Maker, special: Path) -> None:
+    """If a process that writes the database is killed, the run fails, and nothing is left."""
     failing = failing_cif(maker, "calls", "touch reached; sleep 1; exit 0")
     before = {path.name: path.read_bytes() for path in maker.folder.iterdir()}
     words: List[Word] = [
@@ -218,30 +220,34 @@ def check_writer(counts: Counts, maker: Maker, special: Path) -> None:
         "kept.db",
         special,
     ]
-    with subprocess.Popen(words, cwd=maker.folder, stderr=subprocess.PIPE, text=True) as process:
-        while not (maker.folder / "reached").exists():
-            time.sleep(0.05)
-        children = (
-            Path(f"/proc/{process.pid}/task/{process.pid}/children").read_text("ascii").split()
-        )
-        writers = [
-            int(child)
-            for child in children
-            if b"/cif-sql\0" in Path(f"/proc/{child}/cmdline").read_bytes()
-        ]
-        counts.same("processes that write", 1, len(writers))
-        os.kill(writers[0], signal.SIGKILL)
-        _, printed = process.communicate()
-    (maker.folder / "reached").unlink()
-    want = (4, "cif-sql: the process that writes the database ended early\n")
-    counts.same("the writer is killed", want, (process.returncode, printed))
-    after = {path.name: path.read_bytes() for path in maker.folder.iterdir()}
-    counts.test("the writer is killed, what is left", before == after, sorted(after))
+    for killed in range(WRITERS):
+        with subprocess.Popen(
+            words, cwd=maker.folder, stderr=subprocess.PIPE, text=True
+        ) as process:
+            while not (maker.folder / "reached").exists():
+                time.sleep(0.05)
+            children = (
+                Path(f"/proc/{process.pid}/task/{process.pid}/children").read_text("ascii").split()
+            )
+            writers = [
+                int(child)
+                for child in children
+                if b"/cif-sql\0" in Path(f"/proc/{child}/cmdline").read_bytes()
+            ]
+            counts.same("processes that write", WRITERS, len(writers))
+            os.kill(writers[killed], signal.SIGKILL)
+            _, printed = process.communicate()
+        (maker.folder / "reached").unlink()
+        name = f"writer {killed} is killed"
+        want = (4, "cif-sql: the process that writes the database ended early\n")
+        counts.same(name, want, (process.returncode, printed))
+        after = {path.name: path.read_bytes() for path in maker.folder.iterdir()}
+        counts.test(f"{name}, what is left", before == after, sorted(after))
     (maker.folder / "failing-cif").unlink()
 
 
 def check_kills(counts: Counts, maker: Maker, special: Path) -> None:
-    """Killed at any moment, with the process that writes, it leaves the old database or the new one, whole."""
+    """Killed at any moment, with the processes that write, it leaves the old database or the new one, whole."""
     first = changed(maker, special, "first.cif", ("DFTEST1", "DFTESTA"))
     extracts = {"DFTESTA": first, "DFTEST1": special}
     words: List[Word] = [COMPANIONS / "cif-sql", "--cif", maker.cif, "--force", "-o", "kept.db"]
@@ -310,6 +316,6 @@ def check(counts: Counts, maker: Maker, special: Path) -> None:
     check_replacement(counts, maker, special)
     check_failures(counts, maker, special)
     check_signals(counts, maker, special)
-    check_writer(counts, maker, special)
+    check_writers(counts, maker, special)
     check_kills(counts, maker, special)
     check_readers(counts, maker, special)
