@@ -165,10 +165,7 @@ impl Stop {
             × (plain_line (stop_table r) ≡ columns.now) }
     {
         // Of other kinds this spares the test.
-        if columns[0] != b'L' || columns[1] != b'I' {
-            return false;
-        }
-        PLAIN.passes_columns(columns)
+        columns.first_chunk() == Some(b"LI") && PLAIN.passes_columns(columns)
     }
 
     /// The plain line: spare columns are spaces, texts stand at the left, and activity codes are
