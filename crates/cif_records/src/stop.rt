@@ -165,7 +165,10 @@ impl Stop {
             × (plain_line (stop_table r) ≡ columns.now) }
     {
         // Of other kinds this spares the test.
-        columns.first_chunk() == Some(b"LI") && PLAIN.passes_columns(columns)
+        if columns.first_chunk() != Some(b"LI") {
+            return false;
+        }
+        PLAIN.passes_columns(columns)
     }
 
     /// The plain line: spare columns are spaces, texts stand at the left, and activity codes are
