@@ -41,23 +41,21 @@ pub fn read_extract<R: ReadDevice>(
     let mut reading = Reading::new(alloc);
     let mut line = Line::blank();
     loop {
-        if let Some(columns) = lines.columns_ahead()
-            && reading.goes_on_plainly(columns)
-        {
-            let Ok(()) = reading.take_plain_stop(columns) else {
-                return Err(Fault::Memory);
-            };
-            lines.pass_line();
-            continue;
-        }
-        if let Some(columns) = lines.columns_ahead()
-            && let Some(kind) = reading.goes_further_plainly(columns)
-        {
-            let Ok(()) = reading.take_plain_further(kind, columns) else {
-                return Err(Fault::Memory);
-            };
-            lines.pass_line();
-            continue;
+        if let Some(columns) = lines.columns_ahead() {
+            if reading.goes_on_plainly(columns) {
+                let Ok(()) = reading.take_plain_stop(columns) else {
+                    return Err(Fault::Memory);
+                };
+                lines.pass_line();
+                continue;
+            }
+            if let Some(kind) = reading.goes_further_plainly(columns) {
+                let Ok(()) = reading.take_plain_further(kind, columns) else {
+                    return Err(Fault::Memory);
+                };
+                lines.pass_line();
+                continue;
+            }
         }
         match lines.read_line(source, &mut line) {
             Ok(true) => match reading.take(alloc, &line) {
