@@ -165,7 +165,7 @@ impl Stop {
             × (plain_line (stop_table r) ≡ columns.now) }
     {
         // Of other kinds this spares the test.
-        if columns.first_chunk() != Some(b"LI") {
+        if columns[0] != b'L' || columns[1] != b'I' {
             return false;
         }
         PLAIN.passes_columns(columns)
