@@ -59,12 +59,14 @@ impl Lines {
         requires { ArePrintable columns.now }
         ensures { OnOk result (self.new ≡ self.old ++ columns.now ∷ []) }
     {
+        // The compiler can tell that a copy doesn't lie where it is kept.
+        let columns = *columns;
         self.kept.reserve(LINE_TEXT_WIDTH)?;
-        let count = used_in_line(columns);
+        let count = used_in_line(&columns);
         self.kept.push_reserved(count);
         let end = self.kept.as_slice().len() + usize::from(count);
         // To copy all columns takes less time than a copy whose size depends on them.
-        let _ = self.kept.extend_from_slice(columns);
+        let _ = self.kept.extend_from_slice(&columns);
         self.kept.truncate(end);
         Ok(())
     }
@@ -150,14 +152,15 @@ fn used_up_to(columns: &[u8], i: usize, count: usize) -> usize
 /// The greatest byte of each column that is used, and then spaces for those that aren't.
 static MOST: [[u8; LINE_WIDTH]; 2] = [[b'~'; LINE_WIDTH], [b' '; LINE_WIDTH]];
 
-/// Makes this the text of the line that has the first `count` columns, and then spaces.
+/// The text of the line that has the first `count` columns, and then spaces.
 // No branch depends on the count, so that the compiler can take sixteen columns at a time.
 #[inline(always)]
-fn widen(columns: &[u8; LINE_WIDTH], count: u8, text: &mut [u8; LINE_TEXT_WIDTH])
+fn widened(columns: &[u8; LINE_WIDTH], count: u8) -> [u8; LINE_TEXT_WIDTH]
     requires count { count ≤ 80 }
     requires printable { ArePrintable (take count columns.now) }
-    ensures { text.new ≡ wide (take count columns.now) ++ 10 ∷ [] }
+    ensures { result ≡ wide (take count columns.now) ++ 10 ∷ [] }
 {
+    let mut text = [b' '; LINE_TEXT_WIDTH];
     let (_, most) = MOST
         .as_flattened()
         .split_at(LINE_WIDTH - usize::from(count));
@@ -165,6 +168,7 @@ fn widen(columns: &[u8; LINE_WIDTH], count: u8, text: &mut [u8; LINE_TEXT_WIDTH]
         text[i] = columns[i].min(most[i]).max(b' ');
     }
     text[LINE_WIDTH] = b'\n';
+    text
 }
 
 /// Lines of `Lines`, from one of them to the last. A clause sees the list of them.
@@ -208,8 +212,7 @@ impl<'a> LineSlice<'a> {
         ensures { result ≡ slice_index_or self.now 0 [] }
     {
         self.are_lines();
-        let mut text = [b'\n'; LINE_TEXT_WIDTH];
-        self.put_first(&mut text);
+        let text = self.first_text();
         Line::of_printable(array_of(&text[..LINE_WIDTH]))
     }
 
@@ -238,18 +241,18 @@ impl<'a> LineSlice<'a> {
         last.first()
     }
 
-    /// Makes this the text of the first line: its columns and a line feed.
+    /// The text of the first line: its columns and a line feed.
     #[inline(always)]
-    fn put_first(&self, text: &mut [u8; LINE_TEXT_WIDTH])
+    fn first_text(&self) -> [u8; LINE_TEXT_WIDTH]
         requires { 0 < length self.now }
-        ensures { text.new ≡ slice_index_or self.now 0 [] ++ 10 ∷ [] }
+        ensures { result ≡ slice_index_or self.now 0 [] ++ 10 ∷ [] }
     {
         let count = self.kept[0];
         let (_, columns) = self.kept.split_at(1);
         match columns.first_chunk::<LINE_WIDTH>() {
-            Some(columns) => widen(columns, count, text),
+            Some(columns) => widened(columns, count),
             // The last lines of all.
-            None => widen(&left_justified(columns), count, text),
+            None => widened(&left_justified(columns), count),
         }
     }
 
@@ -334,12 +337,14 @@ impl LineTexts {
         ensures { self.new.1 ++ lines_text result ≡ lines_text lines.entry }
     {
         let mut lines = lines;
-        self.count = 1;
-        while self.count < ROOM && !lines.is_empty() {
-            lines.put_first(&mut self.texts[self.count]);
-            self.count += 1;
+        let mut count = 1;
+        while count < ROOM && !lines.is_empty() {
+            let text = lines.first_text();
             lines = lines.rest();
+            self.texts[count] = text;
+            count += 1;
         }
+        self.count = count;
         lines
     }
 

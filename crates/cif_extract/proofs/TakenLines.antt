@@ -1,5 +1,5 @@
 -- What a line that is taken comes to, by its kind.
-use Rattle.cif_extract.proofs.Names.{AllStandIn, Err, GoesOnPlainly, IsFurther, IsJudged, IsKeepable, IsKept, IsPlainOf, IsTaken, Kind, Li}
+use Rattle.cif_extract.proofs.Names.{AllStandIn, Err, GoesOnPlainly, IsFurther, IsFurtherPlainly, IsJudged, IsKeepable, IsKept, IsPlainOf, IsTaken, Kind, Li}
 use Rattle.cif_extract.proofs.Names.{List, Lt, None, Ok, Option, Place, Progress, Record, Refusal, Result, Some, SpellsRecord, TakeFault}
 use Rattle.cif_extract.proofs.Names.{Terminus, UnlessMemory, UnlessRefused, [], after_further, ap, first_of, keeping, kind_in, may_stand}
 use Rattle.cif_extract.proofs.Names.{no_refusal, order_refusal, own_layouts, plain_line, record_refusal, record_table, refl, refusal-kind}
@@ -91,6 +91,16 @@ plain_stop p after line h is = (
     stepped =
         ap (λ l. record p { lines = with_kept p.opened p.lines l }) (sym h.plain)
         ∙ ap (λ q. record p { place = q; lines = kept p.opened p.lines r }) h.here
+
+-- a plain line of a BX, or of a location or a change of a journey but its last, where one may stand
+pub plain_further : (p after : Progress) (line : List ℕ) (kind : Kind) → IsFurtherPlainly p.place line kind
+    → after ≡ keeping (record p { place = after_further p.place kind }) line
+    → IsTaken (refusal_at own_layouts p.place line) line p (Ok tt) after
+plain_further p after line kind h is =
+    subst (λ refusal. IsTaken refusal line p (Ok tt) after)
+    (sym (refusal_of_record p.place line kind h.plain.kind_there h.allowed))
+    (taken_further p line kind after (Ok tt) h.plain.kind_there (subst IsFurther (sym h.plain.kind_there) h.further)
+    (kept_plain line line (record p { place = after_further p.place kind }) after (Ok tt) (h.plain.fine, h.plain.of) is))
 
 -- a record of this kind is a last location
 pub is_terminus : (r : Record) → record_kind r ≡ Lt → (t : Terminus) × (r ≡ of.Terminus t)

@@ -18,8 +18,8 @@ use crate::place::Place;
 use crate::{Body, Extract, Fault, Schedule};
 use cif_columns::{LINE_WIDTH, Line, LineReader, Lines, ReadDevice, Refusal, Source};
 use cif_records::{
-    Association, BasicTerms, Detail, Header, Kind, Stop, Tiploc, Trailer, is_plain_line, kind_of,
-    plain_line_of,
+    Association, BasicTerms, Detail, Header, Kind, Stop, Tiploc, Trailer, are_plain, is_plain_line,
+    kind_of, plain_line_of,
 };
 use std::alloc::Global;
 
@@ -41,14 +41,21 @@ pub fn read_extract<R: ReadDevice>(
     let mut reading = Reading::new(alloc);
     let mut line = Line::blank();
     loop {
-        if let Some(columns) = lines.columns_ahead()
-            && reading.goes_on_plainly(columns)
-        {
-            let Ok(()) = reading.take_plain_stop(columns) else {
-                return Err(Fault::Memory);
-            };
-            lines.pass_line();
-            continue;
+        if let Some(columns) = lines.columns_ahead() {
+            if reading.goes_on_plainly(columns) {
+                let Ok(()) = reading.take_plain_stop(columns) else {
+                    return Err(Fault::Memory);
+                };
+                lines.pass_line();
+                continue;
+            }
+            if let Some(kind) = reading.goes_further_plainly(columns) {
+                let Ok(()) = reading.take_plain_further(kind, columns) else {
+                    return Err(Fault::Memory);
+                };
+                lines.pass_line();
+                continue;
+            }
         }
         match lines.read_line(source, &mut line) {
             Ok(true) => match reading.take(alloc, &line) {
@@ -79,7 +86,7 @@ impl Reading {
     ghost use Rattle.cif_extract.specs.Body.{KeepSomeBody};
     ghost use Rattle.cif_extract.specs.Grammar.{AreExtract};
     ghost use Rattle.cif_extract.specs.OrderOfRecords.{may_stand};
-    ghost use Rattle.cif_extract.specs.Steps.Reading.{HasRead, IsClosed, IsFurther, IsKeepable, IsKept, IsTaken, GoesOnPlainly, keeping};
+    ghost use Rattle.cif_extract.specs.Steps.Reading.{HasRead, IsClosed, IsFurther, IsFurtherPlainly, IsKeepable, IsKept, IsTaken, GoesOnPlainly, keeping};
     ghost use Rattle.cif_extract.specs.Steps.Reading.{no_progress, progress_of, step, UnlessMemory};
     ghost use Rattle.cif_extract.specs.Layouts.{own_layouts};
     ghost use Rattle.cif_extract.specs.Taken.{refusal_at};
@@ -184,6 +191,46 @@ impl Reading {
         ensures { UnlessMemory (IsTaken (refusal_at own_layouts self.old.place columns.now)
             columns.now (progress_of self.old) (Ok tt) (progress_of self.new)) result }
     {
+        self.keep_columns(columns)
+    }
+
+    /// The kind of the BX, LO or CR whose plain line these columns are, where one may stand.
+    pub fn goes_further_plainly(&self, columns: &[u8; LINE_WIDTH]) -> Option<Kind>
+        ensures { IfSome result (IsFurtherPlainly self.now.place columns.now) }
+    {
+        match columns {
+            [b'L', b'O', ..] => self.further_plainly(Kind::Lo, columns),
+            [b'B', b'X', ..] => self.further_plainly(Kind::Bx, columns),
+            [b'C', b'R', ..] => self.further_plainly(Kind::Cr, columns),
+            _ => None,
+        }
+    }
+
+    /// The kind, if these columns are a plain line of it, where one may stand.
+    #[inline(always)]
+    fn further_plainly(&self, kind: Kind, columns: &[u8; LINE_WIDTH]) -> Option<Kind>
+        requires { IsFurther (Some kind) }
+        ensures { IfSome result (IsFurtherPlainly self.now.place columns.now) }
+    {
+        if self.allows(kind) && are_plain(kind, columns) {
+            Some(kind)
+        } else {
+            None
+        }
+    }
+
+    /// Takes the line of such columns, as `take` does. It is kept from where it was read.
+    #[inline(always)]
+    pub fn take_plain_further(
+        &mut self,
+        kind: Kind,
+        columns: &[u8; LINE_WIDTH],
+    ) -> Result<(), TakeFault>
+        requires { IsFurtherPlainly self.old.place columns.now kind }
+        ensures { UnlessMemory (IsTaken (refusal_at own_layouts self.old.place columns.now)
+            columns.now (progress_of self.old) (Ok tt) (progress_of self.new)) result }
+    {
+        self.place = self.place.after_further(kind);
         self.keep_columns(columns)
     }
 

@@ -1,8 +1,16 @@
 -- A line that passes the test of its kind.
-use Rattle.cif_records.proofs.Names.{IsJudged, IsPlainLineOf, IsPlainOf, List, Ok, Record, record_refusal, record_table, sym, ℕ}
-use Rattle.cif_records.proofs.Records.{no_refusal}
+use Rattle.cif_records.proofs.Names.{IsLine, IsPlainLineOf, Kind, List, Some, ap, record_table, sym, ℕ, ◌∙◌, ◌≡◌}
+use Rattle.cif_records.proofs.Records.{kind_of, kind_there, no_refusal}
+use Rattle.cif_records.specs.Record.{IsPlainAs}
+use Rattle.cif_records.specs.declared.record.Record.{Record}
 
 -- a line that is the plain line of a record, which no line spells that is refused
-pub plain_of : (line : List ℕ) (r : Record) → IsPlainLineOf (record_table r) line
-    → IsJudged (record_refusal line) (IsPlainOf Record record_table line) (Ok line)
-plain_of line r plain = (no_refusal line r plain.0, record { value = r; stands = plain.0; same = sym plain.1; again = plain.0 })
+pub plain_as : (kind : Kind) (line : List ℕ) (r : Record) → kind ≡ kind_of r → IsLine line → IsPlainLineOf (record_table r) line
+    → IsPlainAs kind line
+plain_as kind line r is is_line plain =
+    record {
+      is_line = is_line;
+      kind_there = kind_there line r plain.0 ∙ ap Some (sym is);
+      fine = no_refusal line r plain.0;
+      of = record { value = r; stands = plain.0; same = sym plain.1; again = plain.0 };
+    }

@@ -1,6 +1,7 @@
 -- Records of any kind: their columns, when a line spells one, its plain line, and the first reason to refuse a line as one.
 use Rattle.std.specs.Prelude.{◌≡◌, ℕ, List, Option, Some, None}
 use Rattle.cif_columns.specs.Field.{AllStandIn, Row, plain_line}
+use Rattle.cif_columns.specs.Line.{IsLine}
 use Rattle.cif_columns.specs.declared.refusal.Refusal.{Refusal}
 use Rattle.cif_columns.specs.declared.refusal.Refusal.TheVariants.{UnknownRecord, NotFull}
 use Rattle.cif_records.specs.Association.{association_refusal, association_table}
@@ -63,3 +64,10 @@ refusal_as (Some Zz) line = trailer_refusal line
 -- the first reason to refuse a line as a record, by the kind that it names
 unfoldable pub record_refusal : List ℕ → Option Refusal
 record_refusal line = refusal_as (kind_in line) line
+
+-- the line is the plain line of a record of this kind, and spells it
+pub record IsPlainAs (kind : Kind) (line : List ℕ) : Type 0 where
+  pub is_line : IsLine line
+  pub kind_there : kind_in line ≡ Some kind
+  pub fine : record_refusal line ≡ None
+  pub of : IsPlainOf Record record_table line line

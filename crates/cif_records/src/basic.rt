@@ -173,6 +173,8 @@ impl BasicTerms {
 
     /// Puts the plain columns of a basic schedule with these terms on an empty line, and columns 30 to 78
     /// of the line `detail` as they stand.
+    // Inlined, it is known how many columns there are.
+    #[inline(always)]
     fn put_rows(&self, detail: &Line, line: &mut LineBuilder)
         requires { line.old ≡ [] }
         ensures columns { (d : Option Detail) → columns 30 78 detail.now ≡ plain_line (detail_rows d)

@@ -135,10 +135,19 @@ impl Detail {
     {
         let alone = columns_alone(line);
         if PLAIN.passes(&alone) {
-            alone
-        } else {
-            Detail::read(line).write()
+            return alone;
         }
+        Detail::plain_line_of(line)
+    }
+
+    /// The same, for any columns.
+    // Few details come here: the others needn't clear the room for one.
+    #[inline(never)]
+    fn plain_line_of(line: &Line) -> Line
+        ensures plain { result ≡ plain_line (detail_table (detail_in line.now)) }
+        ensures again { AllStandIn result (detail_table (detail_in line.now)) }
+    {
+        Detail::read(line).write()
     }
 }
 

@@ -24,7 +24,9 @@ pub use extra::Extra;
 pub use header::Header;
 pub use layout::{DateRange, dates_at, field_or};
 pub use origin::Origin;
-pub use record::{Kind, Record, is_plain_line, kind_of, plain_line_of, read_record, write_record};
+pub use record::{
+    Kind, Record, are_plain, is_plain_line, kind_of, plain_line_of, read_record, write_record,
+};
 pub use stop::Stop;
 pub use terminus::Terminus;
 pub use tiploc::Tiploc;

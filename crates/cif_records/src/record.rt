@@ -4,7 +4,7 @@ ghost use Rattle.cif_columns.specs.Field.{columns, plain_line};
 ghost use Rattle.cif_columns.specs.Line.{IsLine};
 ghost use Rattle.cif_records.specs.Checks.{IsJudged};
 ghost use Rattle.cif_records.specs.Kind.{identity, is_identity, kind_in};
-ghost use Rattle.cif_records.specs.Record.{IsPlainOf, SpellsRecord, record_refusal, record_table, refusal_as};
+ghost use Rattle.cif_records.specs.Record.{IsPlainAs, IsPlainOf, SpellsRecord, record_refusal, record_table, refusal_as};
 ghost use Rattle.cif_records.specs.declared.record.Kind.{Kind};
 ghost use Rattle.cif_records.specs.declared.record.Record.{Record};
 
@@ -12,7 +12,7 @@ use crate::{
     Association, Basic, Change, Extra, Header, Origin, Stop, Terminus, Tiploc, Trailer, change,
     extra, layout, origin, stop, terminus,
 };
-use cif_columns::{Line, Refusal, columns_at};
+use cif_columns::{LINE_WIDTH, Line, Refusal, columns_at};
 use std::fmt;
 
 /// The kinds of record of the CIF End User Specification that this profile knows, by the
@@ -214,12 +214,20 @@ pub fn is_plain_line(kind: Kind, line: &Line) -> bool
     ensures { IsTrue result → IsJudged (record_refusal line.now)
         (IsPlainOf Record record_table line.now) (Ok line.now) }
 {
+    are_plain(kind, line.bytes())
+}
+
+/// What `is_plain_line` tells of columns that may be no line, or that of another kind.
+#[inline(always)]
+pub fn are_plain(kind: Kind, columns: &[u8; LINE_WIDTH]) -> bool
+    ensures { IsTrue result → IsPlainAs kind columns.now }
+{
     match kind {
-        Kind::Li => stop::PLAIN.passes(line),
-        Kind::Cr => change::PLAIN.passes(line),
-        Kind::Lt => terminus::PLAIN.passes(line),
-        Kind::Lo => origin::PLAIN.passes(line),
-        Kind::Bx => extra::PLAIN.passes(line),
+        Kind::Li => stop::PLAIN.passes_columns(columns),
+        Kind::Cr => change::PLAIN.passes_columns(columns),
+        Kind::Lt => terminus::PLAIN.passes_columns(columns),
+        Kind::Lo => origin::PLAIN.passes_columns(columns),
+        Kind::Bx => extra::PLAIN.passes_columns(columns),
         // There are few lines of these, or their fields are read anyway, so they have no test.
         _ => false,
     }

@@ -9,7 +9,7 @@ use Rattle.cif_extract.specs.BodyParts.{extra_records}
 use Rattle.cif_extract.specs.Call.{call_record}
 use Rattle.cif_extract.specs.ExtractParts.{ExtractParts}
 use Rattle.cif_extract.specs.Grammar.{AreExtract, AreSchedules, HasTerms, records_before_trailer}
-use Rattle.cif_extract.specs.OrderOfRecords.{after_extra}
+use Rattle.cif_extract.specs.OrderOfRecords.{after_extra, may_stand}
 use Rattle.cif_extract.specs.declared.call.Call.{Call}
 use Rattle.cif_extract.specs.declared.fault.Fault.{Fault}
 use Rattle.cif_extract.specs.declared.fault.Fault.TheVariants as fault
@@ -22,7 +22,7 @@ use Rattle.cif_extract.specs.declared.reading.TakeFault.TheVariants as untaken
 use Rattle.cif_records.specs.Basic.{terms_of}
 use Rattle.cif_records.specs.Bodies.{has_body}
 use Rattle.cif_records.specs.Detail.{detail_table}
-use Rattle.cif_records.specs.Record.{record_table, SpellsRecord}
+use Rattle.cif_records.specs.Record.{IsPlainAs, record_table, SpellsRecord}
 use Rattle.cif_records.specs.Stop.{SpellsStop, stop_table}
 use Rattle.cif_records.specs.declared.stop.Stop.{Stop}
 use Rattle.cif_records.specs.declared.association.Association.{Association}
@@ -181,6 +181,12 @@ IsFurther (Some Lo) = Unit {0}
 IsFurther (Some Li) = Unit {0}
 IsFurther (Some Cr) = Unit {0}
 IsFurther _ = ⊥
+
+-- The line is the plain line of such a record, and one of its kind may stand at this place.
+pub record IsFurtherPlainly (place : Place) (line : List ℕ) (kind : Kind) : Type 0 where
+  pub further : IsFurther (Some kind)
+  pub allowed : may_stand place kind ≡ true
+  pub plain : IsPlainAs kind line
 
 -- A BS of a letter with a body and these further records of its schedule have come. Their lines are kept.
 pub record IsOpened (p : Progress) (earlier : List Schedule) (b : Basic) (further : List Record) : Type 0 where

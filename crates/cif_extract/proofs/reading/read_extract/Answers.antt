@@ -9,8 +9,8 @@ use Rattle.cif_extract.proofs.ReadingRuns.{HasCome, come_more, come_none, comes-
 use Rattle.cif_extract.proofs.ReadingRuns.{refused_here, refused_reason}
 use Rattle.cif_extract.proofs.reading.read_extract.Goals as goal
 
-pub loop-columns-preserved-in-loop-columns : goal.loop-columns-preserved-in-loop-columns
-loop-columns-preserved-in-loop-columns g c =
+pub loop-columns-preserved-then-goes_on_plainly : goal.loop-columns-preserved-then-goes_on_plainly
+loop-columns-preserved-then-goes_on_plainly g c =
     let (ls, so_far, come, read_on) = c.loop-columns.invariant in
     let columns = c.in-Some.columns.now in
     let plain = c.if-goes_on_plainly.ensures refl in
@@ -24,6 +24,24 @@ loop-columns-preserved-in-loop-columns g c =
           next.limit_now more,
       come_more c.args.max_lines ls columns plain.is_line room (progress_of c.loop-columns.reading) come
           (progress_of c.take_plain_stop.new.self) c.in-Ok.ensures,
+      read_on,
+    )
+
+pub loop-columns-preserved-in-Some-goes_further_plainly : goal.loop-columns-preserved-in-Some-goes_further_plainly
+loop-columns-preserved-in-Some-goes_further_plainly g c =
+    let (ls, so_far, come, read_on) = c.loop-columns.invariant in
+    let columns = c.in-Some.columns.now in
+    let plain = c.in-Some-goes_further_plainly.ensures.plain in
+    let next = next_passed g.R.Read.remaining g.R.ReadDevice.read_errors (Of 82) c.loop-columns.lines c.pass_line-in-Some-goes_further_plainly.new.self
+    c.loop-columns.source columns c.in-Some.ensures plain.is_line.printable c.pass_line-in-Some-goes_further_plainly.ensures in
+    let more : given c.pass_line-in-Some-goes_further_plainly.new.self ≡ given c.loop-columns.lines + 1 = next.counted in
+    let room : length ls < c.args.max_lines =
+    omega (arith, more, so_far.counted, so_far.same_limit, next.limit_now, c.pass_line-in-Some-goes_further_plainly.new.self.counted) in (
+      ls ++ columns ∷ [],
+      reading_line g.R.Read.remaining _ _ _ _ ls so_far c.pass_line-in-Some-goes_further_plainly.new.self c.loop-columns.source columns next.answer next.past_now
+          next.limit_now more,
+      come_more c.args.max_lines ls columns plain.is_line room (progress_of c.loop-columns.reading) come
+          (progress_of c.take_plain_further.new.self) c.in-Ok-take_plain_further.ensures,
       read_on,
     )
 
@@ -67,8 +85,8 @@ loop-columns-smaller g c =
     let more : given c.read_line.new.self ≡ given c.loop-columns.lines + 1 = next.counted in
     omega (arith, more, next.limit_now, c.read_line.new.self.counted)
 
-pub returns-in_default : goal.returns-in_default
-returns-in_default g c = comes-memory _ _ c.args.max_lines _ _ c.loop-columns.invariant.3
+pub returns-in_default-take_plain_stop : goal.returns-in_default-take_plain_stop
+returns-in_default-take_plain_stop g c = comes-memory _ _ c.args.max_lines _ _ c.loop-columns.invariant.3
 
 pub returns-in-Err-take : goal.returns-in-Err-take
 returns-in-Err-take g c =

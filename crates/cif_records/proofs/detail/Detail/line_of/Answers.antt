@@ -16,9 +16,3 @@ returns-then-passes-clause-again c =
     let passed = c.passes.ensures.plain c.if-passes.true (detail_table (detail_in alone)) refl refl in
     let same = detail_alone c.args.line.now alone c.columns_alone-alone.ensures.columns c.columns_alone-alone.ensures.line.width in
     subst (λ d. AllStandIn alone (detail_table d)) same passed.0
-
-pub returns-else-passes-clause-plain : goal.returns-else-passes-clause-plain
-returns-else-passes-clause-plain c = c.write.ensures.plain ∙ ap (λ d. plain_line (detail_table d)) c.read.ensures.exact
-
-pub returns-else-passes-clause-again : goal.returns-else-passes-clause-again
-returns-else-passes-clause-again c = subst (λ d. AllStandIn c.write.result (detail_table d)) c.read.ensures.exact c.write.ensures.again
