@@ -8,19 +8,23 @@ use Rattle.cif_calendar.specs.Entries.{association_entries, schedule_entries}
 use Rattle.cif_calendar.specs.Keys.{of_key}
 use Rattle.cif_calendar.specs.Runs.{Runs}
 use Rattle.cif_calendar.specs.Terms.{Terms}
-use Rattle.cif_extract.specs.Body.{BodyLines}
 use Rattle.cif_extract.specs.ExtractParts.{ExtractParts}
 use Rattle.cif_feed.proofs.PreparedRuns.{in-list, says-published}
 use Rattle.cif_feed.specs.Dropped.{AreClashDays, AreDropped}
 use Rattle.cif_feed.specs.PreparedDays.{SayOfDay}
 use Rattle.cif_feed.specs.Published.{CountOn, IsClashDay, PublishedTerms}
 use Rattle.cif_feed.specs.PublishedParts.{PublishedParts, published_associations, published_schedules}
-use Rattle.cif_feed.specs.WrittenPrepared.{IsPreparedAs}
+use Rattle.cif_feed.specs.WrittenPrepared.{AreDroppedIf, IsPreparedAs}
 use Rattle.cif_feed.specs.declared.dropped.Dropped.{Dropped}
 use Rattle.cif_feed.specs.declared.holidays.Holidays.{Holidays}
-use Rattle.cif_records.specs.declared.association.AssocBody.{AssocBody}
 use Rattle.cif_records.specs.declared.association.AssocKey.{AssocKey}
 use Rattle.cif_laws.specs.PublishedFeed.{FeedRuns}
+
+-- What is prepared says of key k on day d what the feed says, and is clear where that is, or where clashes are dropped.
+pub record SaysAsFeed {K B : Type 0} (h : Holidays) (drops : Bool) (entries : List (K × PublishedTerms B)) (prepared : List (K × Terms B))
+    (k : K) (d : ℕ) : Type 0 where
+  pub runs : (o : Option B) → Runs (of_key prepared k) d o ↔ FeedRuns drops h entries k d o
+  pub clear : IsClear (of_key prepared k) d ↔ (drops ≡ false → IsClear (CountOn h entries k d) d)
 
 module _ {K B : Type 0} (h : Holidays) (entries : List (K × PublishedTerms B)) (prepared : List (K × Terms B)) (first last : ℕ) (k : K)
     (d : ℕ) (from : first ≤ d) (upto : d ≤ last) where
@@ -28,13 +32,6 @@ module _ {K B : Type 0} (h : Holidays) (entries : List (K × PublishedTerms B)) 
   nothing : ((r : Terms B) → of_key prepared k r → ¬ Applies r d) → (o : Option B) → Runs (of_key prepared k) d o ↔ (o ≡ None)
   nothing none None = (λ runs. refl, λ is. record { cancelled = λ r wins. absurd (none r wins.listed wins.applies) })
   nothing none (Some b) = (λ runs. absurd (none runs.winner runs.wins.listed runs.wins.applies), λ is. cc)
-
-  runs-whole : SayOfDay h false entries prepared first (last + 1) k d → (o : Option B)
-      → Runs (of_key prepared k) d o ↔ FeedRuns false h entries k d o
-  runs-whole says o = (says.same (λ both. false≢true both.0)).runs o
-
-  clear-whole : SayOfDay h false entries prepared first (last + 1) k d → IsClear (of_key prepared k) d ↔ IsClear (CountOn h entries k d) d
-  clear-whole says = (says.same (λ both. false≢true both.0)).clear
 
   module _ (says : SayOfDay h true entries prepared first (last + 1) k d) (days : List ℕ)
       (all : AreClashDays h entries first (last + 1) k days) (o : Option B) where
@@ -57,49 +54,33 @@ module _ {K B : Type 0} (h : Holidays) (entries : List (K × PublishedTerms B)) 
         (λ lacks. at-clear (λ clash. lacks ((all.are d).1 (record { from = from; before = omega arith; clash = clash }))))
         (in-list d days)
 
+  -- Of the clash days nothing has to be known where clashes stay.
+  says-as-feed : (drops : Bool) → SayOfDay h drops entries prepared first (last + 1) k d
+      → (drops ≡ true → (days : List ℕ) × AreClashDays h entries first (last + 1) k days) → SaysAsFeed h drops entries prepared k d
+  says-as-feed false says known =
+      let same = says.same (λ both. false≢true both.0) in
+      record { runs = same.runs; clear = (λ c no. same.clear.0 c, λ c. same.clear.1 (c refl)) }
+  says-as-feed true says known =
+      let (days, all) = known refl in
+      record { runs = runs-cut says days all; clear = (λ c no. absurd (false≢true (sym no)), λ c. says.clear refl) }
+
+-- what is reported of the keys, where clashes are dropped
+reported : (drops : Bool) (h : Holidays) (p : PublishedParts) (dropped : Dropped) → AreDroppedIf drops h p dropped → drops ≡ true
+    → AreDropped h p dropped
+reported true h p dropped are same = are
+reported false h p dropped are same = absurd (false≢true same)
+
 module _ (h : Holidays) (p : PublishedParts) (x : ExtractParts) (dropped : Dropped) (d : ℕ) (from : p.header.first ≤ d)
-    (upto : d ≤ p.header.last) where
-  pub association-runs : (drops : Bool) → IsPreparedAs h drops p x dropped → (k : AssocKey) (o : Option AssocBody)
-      → Runs (of_key (association_entries x.associations) k) d o ↔ FeedRuns drops h (published_associations p.associations) k d o
-  association-runs false is k o =
-      runs-whole h (published_associations p.associations) (association_entries x.associations) p.header.first p.header.last k d from upto
-      ((says-published h false p x dropped is).associations k d from upto) o
-  association-runs true is k o =
-      let told : AreDropped h p dropped = is.reported in
-      runs-cut h (published_associations p.associations) (association_entries x.associations) p.header.first p.header.last k d from upto
-      ((says-published h true p x dropped is).associations k d from upto) (told.association_days k) (told.of_associations.are k) o
+    (upto : d ≤ p.header.last) (drops : Bool) (is : IsPreparedAs h drops p x dropped) where
+  pub associations-say : (k : AssocKey)
+      → SaysAsFeed h drops (published_associations p.associations) (association_entries x.associations) k d
+  associations-say k =
+      says-as-feed h (published_associations p.associations) (association_entries x.associations) p.header.first p.header.last k d from upto
+      drops ((says-published h drops p x dropped is).associations k d from upto)
+      (λ same. let t = reported drops h p dropped is.reported same in (t.association_days k, t.of_associations.are k))
 
-  pub train-runs : (drops : Bool) → IsPreparedAs h drops p x dropped → (k : List ℕ) (o : Option BodyLines)
-      → Runs (of_key (schedule_entries x.schedules) k) d o ↔ FeedRuns drops h (published_schedules p.schedules) k d o
-  train-runs false is k o =
-      runs-whole h (published_schedules p.schedules) (schedule_entries x.schedules) p.header.first p.header.last k d from upto
-      ((says-published h false p x dropped is).trains k d from upto) o
-  train-runs true is k o =
-      let told : AreDropped h p dropped = is.reported in
-      runs-cut h (published_schedules p.schedules) (schedule_entries x.schedules) p.header.first p.header.last k d from upto
-      ((says-published h true p x dropped is).trains k d from upto) (told.train_days k) (told.of_trains.are k) o
-
-  -- what is prepared is clear where the feed is, or where clashes are dropped
-  pub association-clear : (drops : Bool) → IsPreparedAs h drops p x dropped → (k : AssocKey)
-      → IsClear (of_key (association_entries x.associations) k) d
-      ↔ (drops ≡ false → IsClear (CountOn h (published_associations p.associations) k d) d)
-  association-clear false is k =
-      let clear = clear-whole h (published_associations p.associations) (association_entries x.associations) p.header.first
-      p.header.last k d from upto ((says-published h false p x dropped is).associations k d from upto) in
-      (λ c no. clear.0 c, λ c. clear.1 (c refl))
-  association-clear true is k = (
-    λ c no. absurd (false≢true (sym no)),
-    λ c. ((says-published h true p x dropped is).associations k d from upto).clear refl,
-  )
-
-  pub train-clear : (drops : Bool) → IsPreparedAs h drops p x dropped → (k : List ℕ)
-      → IsClear (of_key (schedule_entries x.schedules) k) d
-      ↔ (drops ≡ false → IsClear (CountOn h (published_schedules p.schedules) k d) d)
-  train-clear false is k =
-      let clear = clear-whole h (published_schedules p.schedules) (schedule_entries x.schedules) p.header.first p.header.last k d from
-      upto ((says-published h false p x dropped is).trains k d from upto) in
-      (λ c no. clear.0 c, λ c. clear.1 (c refl))
-  train-clear true is k = (
-    λ c no. absurd (false≢true (sym no)),
-    λ c. ((says-published h true p x dropped is).trains k d from upto).clear refl,
-  )
+  pub trains-say : (k : List ℕ) → SaysAsFeed h drops (published_schedules p.schedules) (schedule_entries x.schedules) k d
+  trains-say k =
+      says-as-feed h (published_schedules p.schedules) (schedule_entries x.schedules) p.header.first p.header.last k d from upto drops
+      ((says-published h drops p x dropped is).trains k d from upto)
+      (λ same. let t = reported drops h p dropped is.reported same in (t.train_days k, t.of_trains.are k))

@@ -12,5 +12,13 @@ pub mod ClearFeeds
 pub mod MarkedLines
 pub mod SideExtracts
 pub mod ToldByText
+pub mod AlikeEntries
+pub mod OneRecord
+pub mod FormsOfTexts
+pub mod TestedFits
+pub mod ExampleDays
 pub mod ExampleParts
 pub mod ExampleMeaning
+pub mod ExampleHolidays
+pub mod ExampleSchedules
+pub mod ExampleFeed

@@ -1,31 +1,27 @@
 -- There is a header with each window that lies in a header's own.
-use Rattle.cif_columns.proofs.Names.{All-append}
-use Rattle.std.proofs.Common.{List, ap, arith, length, refl, ℕ, ◌%◌, ◌++◌, ◌<◌, ◌∙◌, ◌≡◌, ◌≤◌}
+use Rattle.cif_columns.proofs.Names.{All-append, All-drop, All-take, date, yymmdd_of}
+use Rattle.std.proofs.Common.{List, ap, arith, drop, length, refl, take, ℕ, ◌++◌, ◌∙◌, ◌≡◌, ◌≤◌}
 use borrow.Rule.Slice.PartMut.{put_mid}
 use Rattle.cif_columns.proofs.DayColumns.{ddmmyy_in-stands}
-use Rattle.cif_columns.proofs.DayDigits.{counted, stands-ddmmyy_of}
-use Rattle.cif_columns.proofs.Names.{days_in_month_bounds, pos, two_digits}
-use Rattle.cif_columns.proofs.Times.{digits_printable}
+use Rattle.cif_columns.proofs.DayDigits.{stands-ddmmyy_of}
+use Rattle.cif_columns.proofs.PlainLines.{printable-plain_columns}
 use Rattle.cif_columns.specs.Day.{IsDay, ddmmyy_in}
-use Rattle.cif_columns.specs.DayDigits.{date_of, ddmmyy_of}
+use Rattle.cif_columns.specs.DayDigits.{ddmmyy_of}
 use Rattle.cif_columns.specs.Line.{ArePrintable, IsPrintable}
 use Rattle.cif_records.proofs.Windows.{are_printable, kept-first, kept-front, kept-indicator, kept-last, still_wide, written}
 use Rattle.cif_records.specs.HeaderColumns.{with_window}
 use Rattle.cif_records.specs.declared.header.Header.{Header}
 
-ddmmyy_printable : (n : ℕ) → ArePrintable (ddmmyy_of n)
-unfolding ddmmyy_of
-ddmmyy_printable n =
-    let d = date_of n in
-    let c = counted n in
-    let bound = days_in_month_bounds (pos d.year) d.month in
-    let month = c.month_in.1 in
-    let day = c.day_in.1 in
-    All-append IsPrintable (two_digits d.day ++ two_digits d.month) (two_digits (d.year % 100))
-    (All-append IsPrintable (two_digits d.day) (two_digits d.month)
-    (digits_printable d.day (let z : d.day < 100 = omega (arith, day, bound.0) in z))
-    (digits_printable d.month (let z : d.month < 100 = omega (arith, month) in z)))
-    (digits_printable (d.year % 100) (let z : d.year % 100 < 100 = omega arith in z))
+-- its digits are those in the order year, month, day
+ddmmyy_printable : (n : ℕ) → IsDay n → ArePrintable (ddmmyy_of n)
+unfolding ddmmyy_of yymmdd_of
+ddmmyy_printable n is_day =
+    let digits = yymmdd_of n in
+    let all : ArePrintable digits = printable-plain_columns 6 (date n) (refl, is_day) in
+    let day = All-drop IsPrintable 4 digits all in
+    let month = All-drop IsPrintable 2 (take 4 digits) (All-take IsPrintable 4 digits all) in
+    All-append IsPrintable (drop 4 digits ++ drop 2 (take 4 digits)) (take 2 digits)
+    (All-append IsPrintable (drop 4 digits) (drop 2 (take 4 digits)) day month) (All-take IsPrintable 2 digits all)
 
 ddmmyy_width : (n : ℕ) → length (ddmmyy_of n) ≡ 6
 unfolding ddmmyy_of
@@ -54,7 +50,8 @@ module _ (h : Header) (first last : ℕ) (in_order : first ≤ last) (is_day : I
         first = first;
         last = last;
         wide = still_wide h.columns f l h.wide f_wide l_wide;
-        printable = are_printable h.columns f l h.wide f_wide l_wide h.printable (ddmmyy_printable first) (ddmmyy_printable last);
+        printable = are_printable h.columns f l h.wide f_wide l_wide h.printable (ddmmyy_printable first first-is)
+            (ddmmyy_printable last is_day);
         full = kept-indicator put h.columns (kept-front h.columns f l h.wide f_wide l_wide) ∙ h.full;
         first_stands = ap ddmmyy_in (kept-first h.columns f l h.wide f_wide l_wide)
             ∙ ddmmyy_in-stands f first (stands-ddmmyy_of first first-is);

@@ -3,7 +3,7 @@ use Rattle.std.proofs.Common.{All, Bool, Contains, List, Option, ap, false, filt
 use Rattle.std.proofs.Common.{ℕ, ⊎_elim, ◌↔◌, ◌≡◌}
 use Rattle.std.proofs.Common.{◌∙◌, ◌≢◌}
 use Rattle.cif_calendar.proofs.Sets.{IsClash-same, Runs-same}
-use Rattle.cif_calendar.specs.Terms.{SameRecords}
+use Rattle.cif_calendar.specs.Terms.{SameRecords, Terms}
 use Rattle.cif_canon.proofs.ChosenRecords.{chosen, chosen-from}
 use Rattle.cif_feed.proofs.ChangeLaws.{have_last_word}
 use Rattle.cif_feed.proofs.ListSteps.{Contains-from_map, Contains-map}
@@ -38,49 +38,32 @@ module _ {K R : Type 0} (key : R → K) (old : List R) (changes : List (RecordCh
 
 -- ---- what a feed says, where the same records count
 
-module _ {K B : Type 0} (h : Holidays) (xs ys : List (K × PublishedTerms B)) (k : K) (d : ℕ)
-    (to : (t : PublishedTerms B) → Contains xs (k, t) → Contains ys (k, t))
-    (back : (t : PublishedTerms B) → Contains ys (k, t) → Contains xs (k, t)) where
-  same-count : SameRecords (CountOn h xs k d) (CountOn h ys k d)
-  same-count = record {
-    same = λ r. (
-      λ c. record {
-        open_end = c.open_end;
-        code = c.code;
-        listed = to (record { terms = r; open_end = c.open_end; code = c.code }) c.listed;
-        no_holiday = c.no_holiday;
-      },
-      λ c. record {
-        open_end = c.open_end;
-        code = c.code;
-        listed = back (record { terms = r; open_end = c.open_end; code = c.code }) c.listed;
-        no_holiday = c.no_holiday;
-      },
-    );
+module _ {K B : Type 0} (h : Holidays) (k : K) (d : ℕ) where
+  count-also : (xs ys : List (K × PublishedTerms B)) → ((t : PublishedTerms B) → Contains xs (k, t) → Contains ys (k, t)) → (r : Terms B)
+      → CountOn h xs k d r → CountOn h ys k d r
+  count-also xs ys to r c = record {
+    open_end = c.open_end;
+    code = c.code;
+    listed = to (record { terms = r; open_end = c.open_end; code = c.code }) c.listed;
+    no_holiday = c.no_holiday;
   }
 
-  same-back : SameRecords (CountOn h ys k d) (CountOn h xs k d)
-  same-back = record { same = λ r. ((same-count.same r).1, (same-count.same r).0) }
+  same-count : (xs ys : List (K × PublishedTerms B)) → ((t : PublishedTerms B) → Contains xs (k, t) → Contains ys (k, t))
+      → ((t : PublishedTerms B) → Contains ys (k, t) → Contains xs (k, t)) → SameRecords (CountOn h xs k d) (CountOn h ys k d)
+  same-count xs ys to back = record { same = λ r. (count-also xs ys to r, count-also ys xs back r) }
 
-  pub same-feed : (drops : Bool) (o : Option B) → FeedRuns drops h xs k d o ↔ FeedRuns drops h ys k d o
-  same-feed false o = (
-    Runs-same (CountOn h xs k d) (CountOn h ys k d) same-count d o,
-    Runs-same (CountOn h ys k d) (CountOn h xs k d) same-back d o,
-  )
-  same-feed true o = (
-    ⊎_elim
-        (λ none. inl (IsClash-same (CountOn h xs k d) (CountOn h ys k d) same-count d none.0, none.1))
-        (λ runs. inr (
-          λ clash. runs.0 (IsClash-same (CountOn h ys k d) (CountOn h xs k d) same-back d clash),
-          Runs-same (CountOn h xs k d) (CountOn h ys k d) same-count d o runs.1,
-        )),
-    ⊎_elim
-        (λ none. inl (IsClash-same (CountOn h ys k d) (CountOn h xs k d) same-back d none.0, none.1))
-        (λ runs. inr (
-          λ clash. runs.0 (IsClash-same (CountOn h xs k d) (CountOn h ys k d) same-count d clash),
-          Runs-same (CountOn h ys k d) (CountOn h xs k d) same-back d o runs.1,
-        )),
-  )
+  -- what the one says, the other does
+  feed-also : (xs ys : List (K × PublishedTerms B)) → SameRecords (CountOn h xs k d) (CountOn h ys k d)
+      → SameRecords (CountOn h ys k d) (CountOn h xs k d) → (drops : Bool) (o : Option B)
+      → FeedRuns drops h xs k d o → FeedRuns drops h ys k d o
+  feed-also xs ys to back false o runs = Runs-same (CountOn h xs k d) (CountOn h ys k d) to d o runs
+  feed-also xs ys to back true o runs = ⊎_elim
+      (λ none. inl (IsClash-same (CountOn h xs k d) (CountOn h ys k d) to d none.0, none.1))
+      (λ clear. inr (
+        λ clash. clear.0 (IsClash-same (CountOn h ys k d) (CountOn h xs k d) back d clash),
+        Runs-same (CountOn h xs k d) (CountOn h ys k d) to d o clear.1,
+      ))
+      runs
 
 -- ---- an update
 
@@ -92,20 +75,21 @@ module _ {K J R B : Type 0} (key : R → K) (part : K → J) (terms : R → Publ
   others : (r : R) → part (key r) ≡ j → All (λ c. key_of key c.action ≢ key r) changes
   others r own = λ i c below e. none i c below (ap part e ∙ own)
 
-  entry-after : (t : PublishedTerms B) → Contains (map entry old) (j, t) → Contains (map entry new) (j, t)
-  entry-after t has =
-      let (r, there, is) = Contains-from_map entry old (j, t) has in
+  -- what is put in place of the others keeps an entry of the key
+  entry-kept : (xs ys : List R) → ((r : R) → All (λ c. key_of key c.action ≢ key r) changes → Contains xs r → Contains ys r)
+      → (t : PublishedTerms B) → Contains (map entry xs) (j, t) → Contains (map entry ys) (j, t)
+  entry-kept xs ys kept t has =
+      let (r, there, is) = Contains-from_map entry xs (j, t) has in
       let own = others r (ap (λ (v : J × PublishedTerms B). v.0) is) in
-      subst (λ z. Contains (map entry new) z) is
-      (Contains-map entry new r (there-after key old changes new are (key r) own r refl there))
-
-  entry-before : (t : PublishedTerms B) → Contains (map entry new) (j, t) → Contains (map entry old) (j, t)
-  entry-before t has =
-      let (r, there, is) = Contains-from_map entry new (j, t) has in
-      let own = others r (ap (λ (v : J × PublishedTerms B). v.0) is) in
-      subst (λ z. Contains (map entry old) z) is
-      (Contains-map entry old r (there-before key old changes new are (key r) own r refl there))
+      subst (λ z. Contains (map entry ys) z) is (Contains-map entry ys r (kept r own there))
 
   pub key-alone : (h : Holidays) (drops : Bool) (d : ℕ) (o : Option B)
       → FeedRuns drops h (map entry old) j d o ↔ FeedRuns drops h (map entry new) j d o
-  key-alone h drops d o = same-feed h (map entry old) (map entry new) j d entry-after entry-before drops o
+  key-alone h drops d o =
+      let after = entry-kept old new (λ r none. there-after key old changes new are (key r) none r refl) in
+      let before = entry-kept new old (λ r none. there-before key old changes new are (key r) none r refl) in
+      let to = same-count h j d (map entry old) (map entry new) after before in
+      let back = same-count h j d (map entry new) (map entry old) before after in (
+        feed-also h j d (map entry old) (map entry new) to back drops o,
+        feed-also h j d (map entry new) (map entry old) back to drops o,
+      )

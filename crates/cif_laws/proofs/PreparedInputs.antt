@@ -17,7 +17,7 @@ use Rattle.cif_feed.specs.declared.holidays.Holidays.{Holidays}
 use Rattle.cif_records.proofs.Headers.{last_is_day}
 use Rattle.cif_records.specs.declared.header.Header.{Header}
 use Rattle.cif_weeks.specs.Window.{IsWithin, Window, window_from}
-use Rattle.cif_laws.proofs.FeedMeaning.{association-clear, association-runs, train-clear, train-runs}
+use Rattle.cif_laws.proofs.FeedMeaning.{associations-say, trains-say}
 use Rattle.cif_laws.proofs.NarrowedHeaders.{windowed-header}
 use Rattle.cif_laws.specs.Feeds.{IsFeedAccepted, SaysWhatFeedSays, columns_asked}
 use Rattle.cif_laws.specs.PublishedFeed.{AssociationRuns, TrainRuns, feed_of}
@@ -80,10 +80,10 @@ module _ {h : Holidays} {drops : Bool} {limit : ℕ} {bytes text : List ℕ} {dr
       );
       associations = λ k d o within. let w = in-window d within in
           subst (λ xs. Runs (of_key (association_entries xs) k) d o ↔ AssociationRuns (feed_of a) k d o) (sym associations-of)
-          (association-runs h a.published a.prepared dropped d w.from w.upto drops a.is k o);
+          ((associations-say h a.published a.prepared dropped d w.from w.upto drops a.is k).runs o);
       trains = λ k d o within. let w = in-window d within in
           subst (λ xs. Runs (of_key (schedule_entries xs) k) d o ↔ TrainRuns (feed_of a) k d o) (sym schedules-of)
-          (train-runs h a.published a.prepared dropped d w.from w.upto drops a.is k o);
+          ((trains-say h a.published a.prepared dropped d w.from w.upto drops a.is k).runs o);
     }
 
   -- ---- what is accepted
@@ -100,12 +100,12 @@ module _ {h : Holidays} {drops : Bool} {limit : ℕ} {bytes text : List ℕ} {dr
             n.in_order;
         associations = λ no k d within. let w = in-window whole x spelled n d within in
             let own = subst (λ (v : Window). IsWithin v d) (sym window) within in
-            (association-clear h a.published a.prepared dropped d w.from w.upto drops a.is k).0
+            (associations-say h a.published a.prepared dropped d w.from w.upto drops a.is k).clear.0
             (subst (λ xs. IsClear (of_key (association_entries xs) k) d) (associations-of whole x spelled n)
             ((acc.clear.associations.key k).clear d own.from own.upto)) no;
         schedules = λ no k d within. let w = in-window whole x spelled n d within in
             let own = subst (λ (v : Window). IsWithin v d) (sym window) within in
-            (train-clear h a.published a.prepared dropped d w.from w.upto drops a.is k).0
+            (trains-say h a.published a.prepared dropped d w.from w.upto drops a.is k).clear.0
             (subst (λ xs. IsClear (of_key (schedule_entries xs) k) d) (schedules-of whole x spelled n)
             ((acc.clear.schedules.key k).clear d own.from own.upto)) no;
       }
@@ -127,8 +127,10 @@ module _ {h : Holidays} {drops : Bool} {limit : ℕ} {bytes text : List ℕ} {dr
         associations = a.prepared.associations;
         schedules = a.prepared.schedules;
       } in
-      let within-asked : (d : ℕ) → k.first ≤ d → d ≤ k.last → IsWithin (window_asked asked header) d =
-      λ d from upto. subst (λ (v : Window). IsWithin v d) window (record { from = from; upto = upto }) in (
+      let within : (d : ℕ) → k.first ≤ d → d ≤ k.last → IsWithin (window_asked asked header) d × IsWithin (header_window header) d =
+      λ d from upto.
+      let has = subst (λ (v : Window). IsWithin v d) window (record { from = from; upto = upto }) in
+      (has, asked-within asked header f.within d has) in (
         x,
         record {
           spelled = record {
@@ -147,20 +149,15 @@ module _ {h : Holidays} {drops : Bool} {limit : ℕ} {bytes text : List ℕ} {dr
           clear = record {
             associations = record {
               key = λ key. record {
-                clear = λ d from upto.
-                    let within = within-asked d from upto in
-                    let w = asked-within asked header f.within d within in
-                    (association-clear h a.published a.prepared dropped d w.from w.upto drops a.is key).1
-                    (λ no. f.associations no key d within);
+                clear = λ d from upto. let (has, w) = within d from upto in
+                    (associations-say h a.published a.prepared dropped d w.from w.upto drops a.is key).clear.1
+                    (λ no. f.associations no key d has);
               };
             };
             schedules = record {
               key = λ key. record {
-                clear = λ d from upto.
-                    let within = within-asked d from upto in
-                    let w = asked-within asked header f.within d within in
-                    (train-clear h a.published a.prepared dropped d w.from w.upto drops a.is key).1
-                    (λ no. f.schedules no key d within);
+                clear = λ d from upto. let (has, w) = within d from upto in
+                    (trains-say h a.published a.prepared dropped d w.from w.upto drops a.is key).clear.1 (λ no. f.schedules no key d has);
               };
             };
           };

@@ -1,28 +1,32 @@
 //! Laws of published feeds: what becomes of one that `prepare` writes, and `normalise`, `compare` and `diff` read.
-ghost use Rattle.std.specs.Prelude.{◌≡◌, ◌≢◌, ◌↔◌, ◌≤◌, ℕ, All, Bool, List, Option};
+ghost use Rattle.std.specs.Prelude.{◌≡◌, ◌≢◌, ◌↔◌, ◌≤◌, ℕ, All, Bool, List, Option, false};
 ghost use Rattle.cif_canon.specs.Accepted.{IsAcceptedWithin};
-ghost use Rattle.cif_canon.specs.Asked.{header_window, window_asked};
+ghost use Rattle.cif_canon.specs.Asked.{header_window, nothing_asked, window_asked};
 ghost use Rattle.cif_canon.specs.Comparison.{AreCompared};
 ghost use Rattle.cif_canon.specs.Differences.{AreDifferences, DifferencesParts};
 ghost use Rattle.cif_canon.specs.NormalForm.{IsNormalFormOf, after_first_line};
 ghost use Rattle.cif_canon.specs.Pair.{SpellPair};
 ghost use Rattle.cif_canon.specs.declared.asked.Asked.{Asked};
 ghost use Rattle.cif_canon.specs.declared.comparison.Comparison.{Comparison};
+ghost use Rattle.cif_columns.specs.declared.line_reader.TheConstants.{MAX_LINES};
 ghost use Rattle.cif_extract.specs.Body.{BodyLines};
 ghost use Rattle.cif_extract.specs.ExtractParts.{ExtractParts};
 ghost use Rattle.cif_feed.specs.Changes.{key_of};
+ghost use Rattle.cif_feed.specs.HolidayText.{SpellHolidays};
 ghost use Rattle.cif_feed.specs.PublishedParts.{PublishedParts, published_associations, published_schedules};
 ghost use Rattle.cif_feed.specs.UpdateParts.{UpdateParts};
 ghost use Rattle.cif_feed.specs.Updated.{IsUpdated, published_association_key, published_schedule_key};
 ghost use Rattle.cif_feed.specs.WrittenPrepared.{IsPreparedText};
 ghost use Rattle.cif_feed.specs.declared.dropped.Dropped.{Dropped};
 ghost use Rattle.cif_feed.specs.declared.holidays.Holidays.{Holidays};
+ghost use Rattle.cif_laws.specs.Examples.{example_feed, example_holidays, example_prepared, example_prepared_canonical};
 ghost use Rattle.cif_laws.specs.FeedDifferences.{AreFeedDifferences, IsFeedComparison};
 ghost use Rattle.cif_laws.specs.Feeds.{FeedsAgree, FeedsSayTheSame, IsFeedAccepted, SaysWhatFeedSays, columns_asked};
 ghost use Rattle.cif_laws.specs.PublishedFeed.{FeedRuns, feed_of};
 ghost use Rattle.cif_records.specs.declared.association.AssocBody.{AssocBody};
 ghost use Rattle.cif_records.specs.declared.association.AssocKey.{AssocKey};
 ghost use Rattle.cif_weeks.specs.declared.form.Form.{Form};
+ghost use Rattle.cif_weeks.specs.declared.form.Form.TheVariants.{Two};
 
 /// What is prepared of a feed is accepted for the dates that are asked for exactly if it isn't too long, the
 /// dates lie in its window, and, unless clashes are dropped, none is in the window that is asked for.
@@ -98,4 +102,12 @@ pub fn updates_leave_other_keys_alone()
         → All (λ c. (key_of published_schedule_key c.action).0 ≢ uid) u.schedules
         → FeedRuns drops h (published_schedules old.schedules) uid d o
         ↔ FeedRuns drops h (published_schedules new.schedules) uid d o }
+{}
+
+/// A feed with a holiday, the text of the holidays, what `prepare` writes of them, and its canonical bytes: what the
+/// definitions ask for is met by real bytes.
+pub fn a_feed_has_its_prepared_bytes()
+    ensures prepared { (h : Holidays) × (dropped : Dropped) × SpellHolidays example_holidays h
+        × IsPreparedText h false MAX_LINES example_feed example_prepared dropped }
+    ensures canonical { IsNormalFormOf Two nothing_asked example_prepared example_prepared_canonical }
 {}
