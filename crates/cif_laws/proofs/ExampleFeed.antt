@@ -128,7 +128,7 @@ example-is-prepared = record {
       (published-spells (codes_named example-days) example-published published-fits may MAX_LINES
       (let five : 5 ≤ MAX_LINES = omega arith in five));
   prepared = example-parts;
-  is = record { prepared = is-prepared; told = (refl, refl) };
+  is = record { prepared = is-prepared; reported = (refl, refl) };
   text_is = prepared-text;
   spells = subst (λ bytes. BytesSpell bytes example-parts) (sym prepared-text) (text-spells example-parts parts-fit);
 }
