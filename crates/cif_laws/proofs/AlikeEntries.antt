@@ -65,7 +65,7 @@ module _ {K B : Type 0} (d : ℕ) where
   there [] e has on = absurd (Contains-none e has)
   there (first ∷ entries) e has on = ⊎_elim
       (λ is. or_left (applies_on d first.1) (some_on entries)
-          (tested-applies d first.1 (subst (λ (v : K × Terms B). Applies v.1 d) (sym is) on)))
+      (tested-applies d first.1 (subst (λ (v : K × Terms B). Applies v.1 d) (sym is) on)))
       (λ later. or_right (applies_on d first.1) (some_on entries) (there entries e later on))
       (Contains-cases first entries e has)
 

@@ -63,7 +63,7 @@ const RUNS_TO: Column = ("last_date", Date(16, 21));
 
 const RUNS_ON: Column = ("days_run", Text(22, 28));
 
-/// The names of the numbers that rows of calls and of changes begin with; no columns have them.
+/// The names of the numbers that rows of calls and of changes begin with.
 pub(crate) const NUMBERS: [Column; 2] = [("schedule", Nowhere), ("call", Nowhere)];
 
 /// Where a field stands in a line, and how a table shows it.
@@ -185,10 +185,10 @@ pub(crate) const CALL: [Column; 15] = [
     ("performance", Call((42, 43), (59, 60), NO_COLUMNS)),
 ];
 
-/// The columns of a public call. Its times, and whether riders may get off and on, stand in no columns.
+/// The names of the fields of a public call, of which each is made by a function of its own.
 pub(crate) const PUBLIC: [Column; 6] = [
-    ("location", Text(3, 9)),
-    ("platform", Call((20, 22), (34, 36), (20, 22))),
+    ("location", Nowhere),
+    ("platform", Nowhere),
     ("arrival", Nowhere),
     ("departure", Nowhere),
     ("set_down", Nowhere),
