@@ -93,11 +93,12 @@ fn add_unprepared(
     let reader = Reader::Feeds {
         has_holidays: holidays.is_some(),
     };
-    let input = match holidays {
-        Some(holidays) if !extract.is_touched() => holidays,
-        _ => extract,
-    };
-    input.add_feed_fault(fault, reader, written, message);
+    match holidays {
+        Some(holidays) if !extract.is_touched() => {
+            holidays.add_feed_fault(fault, reader, written, message);
+        }
+        _ => extract.add_feed_fault(fault, reader, written, message),
+    }
 }
 
 /// Adds what was read of the extract that was prepared, and how many of its records were cut: by holidays, and by
