@@ -170,7 +170,8 @@ def check_failures(counts: Counts, maker: Maker, special: Path) -> None:
 def check_signals(counts: Counts, maker: Maker, special: Path) -> None:
     """Interrupted, it leaves nothing; killed, it leaves the old database."""
     old = (maker.folder / "kept.db").read_bytes()
-    failing = failing_cif(maker, "calls", "touch reached; exec sleep 60")
+    # it ends by itself: a signal that comes just before a read is seen behind it
+    failing = failing_cif(maker, "calls", "touch reached; exec sleep 20")
     before, reached = left(maker), maker.folder / "reached"
     words: List[Word] = [
         COMPANIONS / "cif-sql",
