@@ -42,6 +42,9 @@ COMMANDS |= {command: 13 for command in OF_FEEDS}
 HAS_TABLES = True
 COMMANDS |= {"table": 14, "calendar": 7} if HAS_TABLES else {}
 
+# Of more bytes of standard input, whether the first lines are still known at the end depends on the reads.
+ALWAYS_KEPT = 32_768
+
 FORMATS, NO_FORMATS = (None, None, "text", "tsv", "tsv", "tsv"), ("csv", "TSV", "", "tsv ")
 NO_TABLES = ("stops", "Calls", "call", "", "schedules ")
 FORMS = (None, None, "1", "1", "2")
@@ -322,4 +325,11 @@ def some_case(rng: Random, commands: List[str], options: bool, odds: Odds) -> Ca
     timetable = some_timetable(rng, clashes)
     job = some_job(rng, command, timetable, options, odds)
     inputs, sound = some_inputs(rng, job, timetable, odds)
+    if (
+        job.all
+        and job.verbose
+        and job.files in ((), ("-",))
+        and len(inputs[0] or b"") > ALWAYS_KEPT
+    ):
+        job = job._replace(files=("extract.cif",))
     return Case(job, inputs, timetable if sound else None)
