@@ -6,7 +6,7 @@ import shutil
 import stat
 import sys
 import tempfile
-from contextlib import contextmanager
+from contextlib import ExitStack, contextmanager
 from operator import itemgetter
 from pathlib import Path
 from typing import IO, Callable, Collection, Iterator, List, Mapping, NamedTuple, Optional
@@ -166,6 +166,11 @@ class Extract:
         # a file with the records before the schedules, of which alone small tables are made
         self.head: Optional[Path] = None
 
+    @property
+    def word(self) -> str:
+        """The path as an argument. `-` would be standard input."""
+        return "./-" if str(self.path) == "-" else str(self.path)
+
     def check_state(self) -> None:
         if state_of(self.path) != self.state:
             raise Failed(f"{self.path} has changed while it was read")
@@ -174,7 +179,7 @@ class Extract:
     def table(self, name: str) -> Iterator[Table]:
         """A table as it comes."""
         words = ["table", *self.words, name]
-        words += ["-"] if self.copied else ["--", str(self.path)]
+        words += ["-"] if self.copied else ["--", self.word]
         with open(self.path if self.copied else os.devnull, "rb") as stdin:
             try:
                 with self.cif.output(words, stdin) as lines:
@@ -236,30 +241,31 @@ def with_head(extract: Extract) -> Iterator[Extract]:
         yield extract
 
 
+def is_stream(name: str) -> bool:
+    """Whether an extract can be read once alone: standard input, `-`, a pipe, or what is open already,
+    as `/dev/stdin` is, whose name means another file to another program."""
+    if name == "-":
+        return True
+    mode = os.stat(name).st_mode
+    if not (stat.S_ISREG(mode) or stat.S_ISFIFO(mode)):
+        raise Misused(f"{name} has to be a file, a pipe, or - for standard input")
+    return stat.S_ISFIFO(mode) or os.path.abspath(name).startswith(("/dev/", "/proc/"))
+
+
 @contextmanager
 def open_extract(
     cif: Cif, name: str, first: Optional[str] = None, last: Optional[str] = None
 ) -> Iterator[Extract]:
-    """The extract in a file. Standard input, `-`, or a pipe is copied first, since an extract is
-    read several times."""
+    """The extract in a file. A stream is copied first, since an extract is read several times."""
     words = [*(("--from", first) if first is not None else ())]
     words += [*(("--to", last) if last is not None else ())]
-    if name == "-":
-        with copy_of(sys.stdin.buffer) as path:
-            with with_head(Extract(cif, path, words, copied=True)) as extract:
-                yield extract
-        return
-    mode = os.stat(name).st_mode
-    if not (stat.S_ISREG(mode) or stat.S_ISFIFO(mode)):
-        raise Misused(f"{name} has to be a file, a pipe, or - for standard input")
-    with open(name, "rb") as file:
-        if stat.S_ISREG(mode):
-            with with_head(Extract(cif, Path(name), words)) as extract:
-                yield extract
-        else:
-            with copy_of(file) as path:
-                with with_head(Extract(cif, path, words, copied=True)) as extract:
-                    yield extract
+    with ExitStack() as stack:
+        copied = is_stream(name)
+        path = Path(name)
+        if copied:
+            source = sys.stdin.buffer if name == "-" else stack.enter_context(open(name, "rb"))
+            path = stack.enter_context(copy_of(source))
+        yield stack.enter_context(with_head(Extract(cif, path, words, copied)))
 
 
 @contextmanager
