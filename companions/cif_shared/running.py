@@ -67,10 +67,9 @@ def run(program: str, work: Callable[[Progress], int]) -> int:
     """The status of a run: that of its work, or of what ended it, which is printed."""
     progress = Progress()
     catch_interrupts()
+    text = ""
     try:
         status = work(progress)
-        progress.clear()
-        return status
     except Ending as ending:
         text = ending.text(program)
         status = ending.status
@@ -91,7 +90,8 @@ def run(program: str, work: Callable[[Progress], int]) -> int:
         signal.signal(number, signal.SIG_IGN)
     try:
         progress.clear()
-        print(text, file=sys.stderr, flush=True)
+        if text:
+            print(text, file=sys.stderr, flush=True)
     except OSError:
         # nobody can be told, and what is left in the buffer goes nowhere
         os.dup2(os.open(os.devnull, os.O_WRONLY), sys.stderr.fileno())

@@ -125,7 +125,10 @@ def check_streams(counts: Counts, maker: Maker, special: Path) -> None:
             for number in numbers:
                 os.close(number)
 
-        done = subprocess.run([*call, *words], cwd=maker.folder, preexec_fn=close, check=False)
+        silent = subprocess.DEVNULL
+        done = subprocess.run(
+            [*call, *words], cwd=maker.folder, stderr=silent, preexec_fn=close, check=False
+        )
         counts.same(name, status, done.returncode)
         made = maker.folder / "made.db"
         counts.same(f"{name}, the database", "made.db" in words and not status, made.exists())
