@@ -101,6 +101,12 @@ def in_background(databases: Sequence[Opened]) -> Iterator[List[Background]]:
             database.finish()
         for database in filled:
             database.wait()
+    except BaseException:
+        # what they write goes nowhere, and an index takes long
+        for process in processes:
+            if process.pid is not None:
+                process.kill()
+        raise
     finally:
         for end in ends:
             end.close()

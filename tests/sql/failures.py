@@ -307,8 +307,19 @@ def check_signals(counts: Counts, maker: Maker, special: Path) -> None:
     (maker.folder / "failing-cif").unlink()
 
 
+def writers_of(process: subprocess.Popen[str]) -> List[int]:
+    """The processes that write the database of a run."""
+    children = Path(f"/proc/{process.pid}/task/{process.pid}/children").read_text("ascii").split()
+    return [
+        int(child)
+        for child in children
+        if b"/cif-sql\0" in Path(f"/proc/{child}/cmdline").read_bytes()
+    ]
+
+
 def check_writers(counts: Counts, maker: Maker, special: Path) -> None:
-    """If a process that writes the database is killed, the run fails, and nothing is left."""
+    """If a process that writes the database is killed, the run fails, and nothing is left. An
+    interrupt doesn't wait for one that is busy."""
     failing = failing_cif(maker, "calls", "touch reached; sleep 1; exit 0")
     before = {path.name: path.read_bytes() for path in maker.folder.iterdir()}
     words: List[Word] = [
@@ -320,29 +331,29 @@ def check_writers(counts: Counts, maker: Maker, special: Path) -> None:
         "kept.db",
         special,
     ]
-    for killed in range(WRITERS):
-        with subprocess.Popen(
-            words, cwd=maker.folder, stderr=subprocess.PIPE, text=True
-        ) as process:
-            while not (maker.folder / "reached").exists():
-                time.sleep(0.05)
-            children = (
-                Path(f"/proc/{process.pid}/task/{process.pid}/children").read_text("ascii").split()
-            )
-            writers = [
-                int(child)
-                for child in children
-                if b"/cif-sql\0" in Path(f"/proc/{child}/cmdline").read_bytes()
-            ]
-            counts.same("processes that write", WRITERS, len(writers))
-            os.kill(writers[killed], signal.SIGKILL)
-            _, printed = process.communicate()
-        (maker.folder / "reached").unlink()
-        name = f"writer {killed} is killed"
-        want = (4, "cif-sql: the process that writes the database ended early\n")
-        counts.same(name, want, (process.returncode, printed))
-        after = {path.name: path.read_bytes() for path in maker.folder.iterdir()}
-        counts.test(f"{name}, what is left", before == after, sorted(after))
+    killed = "the process that writes the database ended early"
+    for number, told in (signal.SIGKILL, killed), (signal.SIGSTOP, "interrupted by SIGTERM"):
+        for writer in range(WRITERS):
+            with subprocess.Popen(
+                words, cwd=maker.folder, stderr=subprocess.PIPE, text=True
+            ) as process:
+                while not (maker.folder / "reached").exists():
+                    time.sleep(0.05)
+                writers = writers_of(process)
+                counts.same("processes that write", WRITERS, len(writers))
+                os.kill(writers[writer], number)
+                if number == signal.SIGSTOP:
+                    process.send_signal(signal.SIGTERM)
+                try:
+                    _, printed = process.communicate(timeout=30)
+                except subprocess.TimeoutExpired:
+                    os.kill(writers[writer], signal.SIGCONT)
+                    printed = "nothing for 30 seconds"
+            (maker.folder / "reached").unlink()
+            name = f"writer {writer} gets {signal.Signals(number).name}"
+            counts.same(name, (4, f"cif-sql: {told}\n"), (process.returncode, printed))
+            after = {path.name: path.read_bytes() for path in maker.folder.iterdir()}
+            counts.test(f"{name}, what is left", before == after, sorted(after))
     (maker.folder / "failing-cif").unlink()
 
 
