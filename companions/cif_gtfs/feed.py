@@ -115,9 +115,9 @@ class TripFiles:
             self.trips.write(self.trip_row(trip))
 
     def trip_row(self, trip: Trip) -> bytes:
-        identity, operator, route_type = trip.about
+        identity, operator, route_type = trip.about.split(b"\t")
         route, headsign, direction = self.routes.shown(operator, route_type, trip.ends)
-        service = self.services.id_of(trip.dates).encode()
+        service = self.services.id_of(trip.dates)
         about = (headsign, csv_cell(identity), direction)
         return b"%s,%s,%s,%s,%s,%d,%s\n" % (route, service, trip.id, *about, trip.block)
 

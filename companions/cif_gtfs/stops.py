@@ -19,6 +19,8 @@ OTHER = re.compile(r"[^A-Za-z0-9 ]")
 
 def coded(text: str) -> str:
     """The text as a part of an id: letters, digits, `_` for a space, and `%XX` for all else."""
+    if text.isascii() and text.isalnum():
+        return text
     return OTHER.sub(lambda other: f"%{ord(other[0]):02X}", text).replace(" ", "_")
 
 

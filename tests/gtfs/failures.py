@@ -17,7 +17,6 @@ from pathlib import Path
 from typing import DefaultDict, Dict, FrozenSet, List, Optional, Set, Tuple
 
 from cif_gtfs import trips
-from cif_gtfs.trains import About
 from cif_shared.endings import Refused
 from cif_shared.tables import rows_with
 
@@ -554,7 +553,7 @@ def check_again(counts: Counts, maker: Maker, special: Path) -> None:
 
 def check_collision(counts: Counts) -> None:
     """Two trips of a train with one id are refused, which needs shorter ids than there are."""
-    about, found = About(b"1A01", b"SN", 2), trips.TripsOfUid(" 00001")
+    about, found = b"1A01\tSN\t2\n", trips.TripsOfUid(" 00001")
     length, trips.ID_BYTES = trips.ID_BYTES, 1
     try:
         for number in range(300):
