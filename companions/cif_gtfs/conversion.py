@@ -226,17 +226,16 @@ class Conversion:
             rows = feed.trip_record_rows(trips.trips.values(), trips.uid)
             self.records.write(feed.csv_of(rows))
 
-    def write_plain(self, uid: str, trains: Iterable[PublicTrain]) -> None:
+    def write_plain(self, uid: str, trains: Sequence[PublicTrain]) -> None:
         """Writes the trips of a train without associations."""
         trips = TripsOfUid(uid)
-        # many schedules differ from others in nothing but dates
+        # of several schedules some mostly differ in nothing but dates
         known: Dict[bytes, Trip] = {}
-        for _, dates, about, record, _, text in trains:
-            rows = rows_of(text)
-            content = about + b"".join(rows)
+        for _, dates, about, record, schedule, text in trains:
+            content = about + numbered(schedule, text) if len(trains) > 1 else b""
             trip = known.get(content)
             if trip is None:
-                trip = known[content] = trips.add(about, rows)
+                trip = known[content] = trips.add(about, rows_of(text))
             trip.dates |= dates
             if self.records is not None:
                 trip.records.append(record)
