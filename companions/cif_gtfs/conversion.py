@@ -3,6 +3,7 @@ from __future__ import annotations
 
 from contextlib import ExitStack, contextmanager
 from dataclasses import dataclass
+from functools import lru_cache
 from itertools import groupby
 from operator import itemgetter
 from pathlib import Path
@@ -32,14 +33,14 @@ from cif_shared.schedules import numbered, numbers_of, rows_of
 from cif_shared.tables import AssociationRow, Extract, Header, Table, TiplocRow, rows_with
 
 from . import feed
-from .associations import CATEGORIES, Association, LeftOut, Reason, Role, associations_of
+from .associations import CATEGORIES, ROLES, Association, LeftOut, Reason, associations_of
 from .associations import by_uid, decide_all
 from .calls import RunsAs, Spot, Stop, Variant, stops_at
 from .compositions import compositions_of, groups_of, linked_dates
 from .routes import Routes
 from .services import Services
 from .stops import Stops
-from .trains import Kind, PublicTrain, ScheduleReader
+from .trains import KNOWN, Kind, PublicTrain, ScheduleReader
 from .trips import Assembly, Link, Trip, TripsOfUid, add_records
 from .user_files import InterchangeRow, LinkRow
 
@@ -112,7 +113,7 @@ def spots_of(associations: List[Association]) -> Dict[str, Set[Spot]]:
     found: Dict[str, Set[Spot]] = {}
     for association in associations:
         if association.terms.category in CATEGORIES:
-            for role in Role:
+            for role in ROLES:
                 found.setdefault(association.uid(role), set()).add(association.spots[role])
     return found
 
@@ -132,7 +133,7 @@ def read_timetable(extract: Extract, given: Mapping[Key, PlaceRow]) -> Iterator[
 
 class StopRows(NamedTuple):
     """Of each schedule with associations the calls at their locations, by its number, as rows of
-    `calls`, and what reads these."""
+    `calls` without this, and what reads these."""
 
     rows: Dict[bytes, List[bytes]]
     read: Callable[[bytes], Stop]
@@ -164,8 +165,10 @@ def read_stops(extract: Extract, timetable: Timetable) -> Optional[StopRows]:
         wanted = {own: locations[uids[number]] for own, number in numbers.items()}
         table = stack.enter_context((part or extract).table("calls"))
         for row in rows_with(table.lines, table.names.index("location"), wanted):
-            found.setdefault(numbers[row[: row.index(b"\t")]], []).append(row)
-    return StopRows(found, table.reader(Stop))
+            number, _, call = row.partition(b"\t")
+            found.setdefault(numbers[number], []).append(call)
+    read = table.reader(Stop)
+    return StopRows(found, lru_cache(maxsize=KNOWN)(lambda call: read(b"\t" + call)))
 
 
 def variants_of(

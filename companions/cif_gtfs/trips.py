@@ -8,7 +8,7 @@ from typing import Tuple
 from cif_shared.dates import Dates, moved
 from cif_shared.endings import Refused
 
-from .associations import DIVIDE, JOIN, Role
+from .associations import DIVIDE, JOIN, ROLES, Role
 from .calls import RunsAs, Variant, arriving, days_later, is_for_nobody, leaving, location_of, met
 from .compositions import Composition, Edge, Node
 from .routes import Ends
@@ -130,7 +130,7 @@ def held_by(composition: Composition) -> Dict[Node, List[Held]]:
     """The associations of each train."""
     found: Dict[Node, List[Held]] = {node: [] for node in composition.variants}
     for edge in composition.edges:
-        for role in Role:
+        for role in ROLES:
             node = edge.node(role)
             place = composition.variants[node].place[edge.association.spots[role]]
             found[node].append(Held(edge, role, place))
