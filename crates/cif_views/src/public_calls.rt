@@ -139,13 +139,8 @@ fn working(line: &Line, first: usize) -> Option<TimeOfDay>
     requires within { first ≤ 76 }
     ensures { result ≡ working (columns_from first 5 line.now) }
 {
-    let columns = columns_at::<5>(line, first);
-    // Most are blank, and need no second look.
-    if columns[0] == b' ' {
-        return None;
-    }
-    let time = WorkTime::read(&columns)?;
-    Some(TimeOfDay::new(time.seconds()?))
+    let seconds = WorkTime::seconds_in(&columns_at(line, first))?;
+    Some(TimeOfDay::new(seconds))
 }
 
 /// The public time in the four columns from `first` on, if it is one.
@@ -156,11 +151,11 @@ fn advertised(line: &Line, first: usize) -> Option<TimeOfDay>
 {
     let columns = columns_at::<4>(line, first);
     // Most are no time, and need no second look.
-    if columns[0] == b' ' || columns == *b"0000" {
+    if columns == *b"0000" {
         return None;
     }
-    let time = PublicTime::read(&columns)?;
-    Some(TimeOfDay::new(time.seconds()?))
+    let seconds = PublicTime::seconds_in(&columns)?;
+    Some(TimeOfDay::new(seconds))
 }
 
 /// What the activities of a call say of riders.
