@@ -12,7 +12,7 @@ ghost use Rattle.cif_views.specs.Tables.{number, yymmdd_from};
 use crate::columns::{Column, ColumnRange, FieldPlace, JourneyKind, span_in};
 use cif_canon::Shape;
 use cif_canon::rows::long_date;
-use cif_columns::{Line, Sink, WriteDevice, used_columns};
+use cif_columns::{Line, Sink, WriteDevice, digits_of, used_columns};
 use itoa::Buffer;
 use std::marker::Model;
 
@@ -106,6 +106,20 @@ impl TableRow {
             self.push(Shape::Whole, &[b'0' + count as u8]);
             return;
         }
+        if count < 100 {
+            self.push(Shape::Whole, &digits_of(count as u8));
+            return;
+        }
+        self.push_long_number(count);
+    }
+
+    /// Appends a tab and a number of any length.
+    #[inline(never)]
+    fn push_long_number(&mut self, count: usize)
+        requires room { length self.old + 41 ≤ ROOM }
+        ensures text { self.new ≡ self.old ++ after Tsv (number count ∷ []) }
+        ensures len { length self.new ≤ length self.old + 41 }
+    {
         self.push(Shape::Whole, Buffer::new().format(count).as_bytes());
     }
 
