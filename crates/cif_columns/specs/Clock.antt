@@ -22,6 +22,11 @@ is_clock a b c d =
 abbrev pub is_blank : List ℕ → Bool
 is_blank columns = list_all (λ c. c == 32) columns
 
+-- a number that is below the limit
+abbrev pub below : ℕ → Option ℕ → Option ℕ
+below limit (Some n) = if nat_lt n limit then Some n else None
+below limit None = None
+
 -- the seconds from midnight to this hour and minute
 abbrev pub seconds_to : Option ℕ → Option ℕ → Option ℕ
 seconds_to (Some hour) (Some minute) = if nat_lt hour 24 && nat_lt minute 60 then Some (hour * 3600 + minute * 60) else None

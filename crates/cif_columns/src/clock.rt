@@ -1,8 +1,9 @@
 //! Working times and public times: an hour and a minute, or blank columns.
 ghost use Rattle.std.specs.Prelude.{◌≡◌, ◌<◌, ◌≤◌, ℕ, List, Some, IfSome, length};
-ghost use Rattle.cif_columns.specs.Clock.{is_clock, is_blank as all_spaces, seconds_to};
+ghost use Rattle.cif_columns.specs.Clock.{below, is_clock, is_blank as all_spaces, seconds_to};
 ghost use Rattle.cif_columns.specs.Digits.{number_in};
 ghost use Rattle.cif_columns.specs.Line.{ArePrintable};
+ghost use Rattle.std.specs.Option.{option_and_then};
 ghost use Rattle.cif_columns.specs.PublicTime.{is_public_time as is_public};
 ghost use Rattle.cif_columns.specs.WorkTime.{is_work_time as is_working};
 
@@ -11,16 +12,35 @@ use crate::line::debug;
 use std::fmt;
 use std::marker::Model;
 
+/// What the digits of 00 come to, taken for numbers.
+const ZEROS: u32 = 528;
+
 /// The seconds from midnight to `HHMM`; `None` where these aren't the digits of an hour and a minute.
 fn seconds_to(a: u8, b: u8, c: u8, d: u8) -> Option<u32>
     ensures bound { IfSome result (λ seconds. seconds ≤ 86340) }
     ensures exact { result ≡ seconds_to (number_in a b) (number_in c d) }
 {
-    match (number_of(a, b), number_of(c, d)) {
-        (Some(hour), Some(minute)) if hour < 24 && minute < 60 => {
-            Some(hour as u32 * 3_600 + minute as u32 * 60)
-        }
-        _ => None,
+    let hour = number_below(24, a, b)?;
+    let minute = number_below(60, c, d)?;
+    Some(hour * 3_600 + minute * 60)
+}
+
+/// The number that two digits write, if it is below the limit.
+// The first is a digit if the second is, and the number is none too great.
+#[inline(always)]
+fn number_below(limit: u32, tens: u8, ones: u8) -> Option<u32>
+    requires { limit ≤ 100 }
+    ensures bound { IfSome result (λ n. n < limit) }
+    ensures exact { result ≡ below limit (number_in tens ones) }
+{
+    if !ones.is_ascii_digit() {
+        return None;
+    }
+    let number = u32::from(tens) * 10 + u32::from(ones);
+    if ZEROS <= number && number < ZEROS + limit {
+        Some(number - ZEROS)
+    } else {
+        None
     }
 }
 
@@ -105,14 +125,18 @@ impl WorkTime {
         self.columns
     }
 
-    /// The seconds from midnight to the time; `None` where the columns are blank.
-    pub fn seconds(&self) -> Option<u32>
+    /// The seconds from midnight to the time in these columns; `None` where they are blank, or none.
+    pub fn seconds_in(columns: &[u8; 5]) -> Option<u32>
         ensures bound { IfSome result (λ seconds. seconds < 86400) }
-        ensures exact { result ≡ work_seconds self.now }
+        ensures exact { result ≡ option_and_then work_seconds (work_time_in columns.now) }
     {
-        let [a, b, c, d, half] = self.columns;
+        let [a, b, c, d, half] = *columns;
         let seconds = seconds_to(a, b, c, d)?;
-        Some(if half == b'H' { seconds + 30 } else { seconds })
+        match half {
+            b' ' => Some(seconds),
+            b'H' => Some(seconds + 30),
+            _ => None,
+        }
     }
 
     /// The same time.
@@ -186,13 +210,13 @@ impl PublicTime {
         self.columns
     }
 
-    /// The seconds from midnight to the time; `None` where the columns are blank or `0000`, which stands for
-    /// no time.
-    pub fn seconds(&self) -> Option<u32>
+    /// The seconds from midnight to the time in these columns; `None` where they are blank, none, or `0000`,
+    /// which stands for no time.
+    pub fn seconds_in(columns: &[u8; 4]) -> Option<u32>
         ensures bound { IfSome result (λ seconds. seconds < 86400) }
-        ensures exact { result ≡ public_seconds self.now }
+        ensures exact { result ≡ option_and_then public_seconds (public_time_in columns.now) }
     {
-        let [a, b, c, d] = self.columns;
+        let [a, b, c, d] = *columns;
         match seconds_to(a, b, c, d) {
             Some(0) => None,
             seconds => seconds,

@@ -92,8 +92,16 @@ fn is_out_of_range(columns: &[u8; LINE_WIDTH], test: &PlainTest, i: usize) -> bo
     requires { i < 80 }
     ensures { result ≡ false ↔ IsInRange test.now columns.now i }
 {
-    let b = columns[i];
-    ((b < test.least[i]) | (b > test.most[i])) & (b != test.also[i])
+    is_beyond(columns[i], test.least[i], test.most[i]) & (columns[i] != test.also[i])
+}
+
+/// Whether the byte is less than the least, or greater than the most.
+// Where these two are constants, one comparison is left.
+#[inline(always)]
+fn is_beyond(b: u8, least: u8, most: u8) -> bool
+    ensures { result ≡ false ↔ (least ≤ b × b ≤ most) }
+{
+    (b.wrapping_sub(least) > most.wrapping_sub(least)) | (least > most)
 }
 
 /// Whether the column is a space that asks for one in the next column, where none is.

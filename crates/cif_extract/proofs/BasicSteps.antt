@@ -1,12 +1,12 @@
 -- What a BS comes to, and an LT.
-use Rattle.cif_extract.proofs.Names.{AllStandIn, Basic, BasicTerms, Detail, Err, IsClosed, IsKeepable, IsTaken, List, None, Ok, Option}
-use Rattle.cif_extract.proofs.Names.{Progress, Refusal, Result, Schedule, Some, SpellsRecord, TakeFault, Terminus, [], ap, closed}
+use Rattle.cif_extract.proofs.Names.{AllStandIn, Basic, BasicTerms, Detail, IsClosed, IsKeepable, List, None, Option}
+use Rattle.cif_extract.proofs.Names.{Progress, Result, Schedule, Some, TakeFault, Terminus, UnlessMemory, [], ap, closed}
 use Rattle.cif_extract.proofs.Names.{detail_table, false, has_body, is_some, plain_line, schedule_of, step, subst, sym, terms_of, ℕ, ◌++◌}
 use Rattle.cif_extract.proofs.Names.{◌∙◌, ◌∷◌, ◌≡◌}
 use Rattle.cif_records.specs.declared.record.Record.TheVariants as of
+use Rattle.cif_extract.proofs.TakenLines.{memory_so}
 use Rattle.cif_extract.specs.Steps.Reading.{begun, kept}
 use Rattle.cif_extract.specs.declared.place.Place.TheVariants as at
-use Rattle.cif_extract.specs.declared.reading.TakeFault.TheVariants as untaken
 
 module _ (p : Progress) (b : Basic) (t : BasicTerms) (terms : t ≡ terms_of b) where
   pub begun_none : (d : Option Detail) (e : is_some d ≡ has_body b.letter) → d ≡ None → (s : Schedule) →
@@ -45,11 +45,7 @@ module _ (before now : Progress) (t : Terminus) (is : now ≡ record before { li
   terminus_none = terminus None
 
   -- and closing the schedule is the step
-  pub closing : (o : BasicTerms) (after : Progress) (refusal : Option Refusal) (line : List ℕ) (result : Result Unit TakeFault) →
-      now.opened ≡ Some o →
-      IsClosed (record now { place = at.Schedules; opened = None }) o result after → refusal ≡ None → SpellsRecord line (of.Terminus t) →
-      IsKeepable (of.Terminus t) → IsTaken refusal line before result after
-  closing o after refusal line (Ok done) some closed fine spells keepable =
-      (fine, (of.Terminus t, spells, keepable, closed ∙ terminus (Some o) some))
-  closing o after refusal line (Err (untaken.Refused why)) some closed fine spells keepable = absurd closed
-  closing o after refusal line (Err untaken.Memory) some closed fine spells keepable = tt
+  pub closing : (o : BasicTerms) (after : Progress) (result : Result Unit TakeFault) → now.opened ≡ Some o →
+      IsClosed (record now { place = at.Schedules; opened = None }) o result after →
+      UnlessMemory (after ≡ step before (of.Terminus t)) result
+  closing o after result some = memory_so None (λ closed. closed ∙ terminus (Some o) some) result

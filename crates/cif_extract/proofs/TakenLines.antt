@@ -1,13 +1,15 @@
 -- What a line that is taken comes to, by its kind.
-use Rattle.cif_extract.proofs.Names.{AllStandIn, Err, GoesOnPlainly, IsFurther, IsFurtherPlainly, IsJudged, IsKeepable, IsKept, IsPlainOf, IsTaken, Kind, Li}
+use Rattle.cif_extract.proofs.Names.{AllStandIn, Err, GoesOnPlainly, HasLast, HasRead, IsFurther, IsFurtherPlainly, IsJudged, IsKeepable}
+use Rattle.cif_extract.proofs.Names.{IsKept, IsPlainOf, IsTaken, Kind, Li}
 use Rattle.cif_extract.proofs.Names.{List, Lt, None, Ok, Option, Place, Progress, Record, Refusal, Result, Some, SpellsRecord, TakeFault}
 use Rattle.cif_extract.proofs.Names.{Terminus, UnlessMemory, UnlessRefused, [], after_further, ap, first_of, keeping, kind_in, may_stand}
 use Rattle.cif_extract.proofs.Names.{no_refusal, order_refusal, own_layouts, plain_line, record_refusal, record_table, refl, refusal-kind}
-use Rattle.cif_extract.proofs.Names.{refusal_as, refusal_at, step, subst, sym, true, with_kept, ℕ, ◌∙◌, ◌∷◌, ◌≡◌}
+use Rattle.cif_extract.proofs.Names.{refusal_as, refusal_at, step, subst, sym, true, with_kept, ℕ, ◌∙◌, ◌∷◌, ◌≡◌, ◌≢◌}
 use Rattle.cif_records.proofs.Records.{kind_of as record_kind, kind_there as spelled_kind}
 use Rattle.cif_records.specs.declared.record.Record.TheVariants as of
 use Rattle.cif_extract.proofs.FirstRefusals.{or_none}
 use Rattle.cif_extract.specs.Steps.Reading.{kept}
+use Rattle.cif_extract.specs.declared.place.Place.TheVariants as at
 use Rattle.cif_extract.specs.declared.reading.TakeFault.TheVariants as untaken
 
 -- where a kind may stand, a line of it is refused for its fields alone
@@ -93,16 +95,44 @@ plain_stop p after line h is = (
         ∙ ap (λ q. record p { place = q; lines = kept p.opened p.lines r }) h.here
 
 -- a plain line of a BX, or of a location or a change of a journey but its last, where one may stand
-pub plain_further : (p after : Progress) (line : List ℕ) (kind : Kind) → IsFurtherPlainly p.place line kind
+pub plain_further : (p after : Progress) (line : List ℕ) (kind : Kind) → IsFurtherPlainly p.place line kind → kind ≢ Lt
     → after ≡ keeping (record p { place = after_further p.place kind }) line
     → IsTaken (refusal_at own_layouts p.place line) line p (Ok tt) after
-plain_further p after line kind h is =
+plain_further p after line kind h other is =
     subst (λ refusal. IsTaken refusal line p (Ok tt) after)
     (sym (refusal_of_record p.place line kind h.plain.kind_there h.allowed))
-    (taken_further p line kind after (Ok tt) h.plain.kind_there (subst IsFurther (sym h.plain.kind_there) h.further)
+    (taken_further p line kind after (Ok tt) h.plain.kind_there (subst IsFurther (sym h.plain.kind_there) (h.further other))
     (kept_plain line line (record p { place = after_further p.place kind }) after (Ok tt) (h.plain.fine, h.plain.of) is))
 
 -- a record of this kind is a last location
 pub is_terminus : (r : Record) → record_kind r ≡ Lt → (t : Terminus) × (r ≡ of.Terminus t)
 is_terminus (of.Terminus x) h = (x, refl)
 is_terminus _ h = absurd (cc)
+
+-- an LT stands in a journey
+pub journey_where : (place : Place) → may_stand place Lt ≡ true → place ≡ at.Journey
+journey_where at.Journey h = refl
+journey_where _ h = absurd (cc)
+
+-- the line of one, which is kept
+pub has_last : (p after : Progress) (line : List ℕ) (records : List Record) → HasRead records p → p.place ≡ at.Journey →
+    kind_in line ≡ Some Lt → (r : Record) → SpellsRecord line r → AllStandIn (plain_line (record_table r)) (record_table r) →
+    after ≡ record p { lines = kept p.opened p.lines r } → HasLast p line after
+has_last p after line records read here lt r spells again is =
+    let (t, same) = is_terminus r (kind_here line r Lt spells lt) in
+    record {
+      records = records;
+      read = read;
+      here = here;
+      last = t;
+      spelled = rw same at spells;
+      again = rw same at again;
+      is = rw same at is;
+    }
+
+-- a plain line of one, where it may stand
+pub plain_last : (p after : Progress) (line : List ℕ) (records : List Record) → HasRead records p → IsFurtherPlainly p.place line Lt →
+    after ≡ keeping p line → HasLast p line after
+plain_last p after line records read h is =
+    let (fine, (r, spells, again, now)) = kept_plain line line p after (Ok tt) (h.plain.fine, h.plain.of) is in
+    has_last p after line records read (journey_where p.place h.allowed) h.plain.kind_there r spells again now

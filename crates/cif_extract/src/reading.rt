@@ -1,5 +1,5 @@
 //! Reading a whole extract, line by line.
-ghost use Rattle.std.specs.Prelude.{◌≡◌, ◌≢◌, ◌≤◌, ◌+◌, ◌^◌, ◌<◌, ◌++◌, ◌∷◌, [], List, Some, Ok, true, IfOk, IfErr, IfNone, IfSome, IsTrue};
+ghost use Rattle.std.specs.Prelude.{◌≡◌, ◌≢◌, ◌≤◌, ◌+◌, ◌^◌, ◌<◌, ◌++◌, ◌∷◌, [], List, Some, Ok, true, IfOk, IfErr, IfNone, IfSome, IsTrue, ℕ};
 ghost use Rattle.cif_columns.specs.Line.{ArePrintable, IsLine};
 ghost use Rattle.cif_columns.specs.declared.line_reader.TheConstants.{MAX_LINES};
 ghost use Rattle.cif_extract.specs.ExtractParts.{extract_parts};
@@ -50,7 +50,7 @@ pub fn read_extract<R: ReadDevice>(
                 continue;
             }
             if let Some(kind) = reading.goes_further_plainly(columns) {
-                let Ok(()) = reading.take_plain_further(kind, columns) else {
+                let Ok(()) = reading.take_plain_further(alloc, kind, columns) else {
                     return Err(Fault::Memory);
                 };
                 lines.pass_line();
@@ -86,7 +86,8 @@ impl Reading {
     ghost use Rattle.cif_extract.specs.Body.{KeepSomeBody};
     ghost use Rattle.cif_extract.specs.Grammar.{AreExtract};
     ghost use Rattle.cif_extract.specs.OrderOfRecords.{may_stand};
-    ghost use Rattle.cif_extract.specs.Steps.Reading.{HasRead, IsClosed, IsFurther, IsFurtherPlainly, IsKeepable, IsKept, IsTaken, GoesOnPlainly, keeping};
+    ghost use Rattle.cif_extract.specs.Steps.Reading.{HasLast, HasRead, IsClosed, IsFurther, IsFurtherPlainly, IsKeepable, IsKept, IsStep};
+    ghost use Rattle.cif_extract.specs.Steps.Reading.{GoesOnPlainly, IsTaken, Progress, keeping};
     ghost use Rattle.cif_extract.specs.Steps.Reading.{no_progress, progress_of, step, UnlessMemory};
     ghost use Rattle.cif_extract.specs.Layouts.{own_layouts};
     ghost use Rattle.cif_extract.specs.Taken.{refusal_at};
@@ -180,7 +181,7 @@ impl Reading {
     pub fn goes_on_plainly(&self, columns: &[u8; LINE_WIDTH]) -> bool
         ensures { IsTrue result → GoesOnPlainly self.now.place columns.now }
     {
-        matches!(self.place, Place::Journey) && Stop::are_plain(columns)
+        Stop::are_plain(columns) && matches!(self.place, Place::Journey)
     }
 
     /// Takes the line of such columns, as `take` does. Nearly three in four lines are such, and are kept from
@@ -194,7 +195,7 @@ impl Reading {
         self.keep_columns(columns)
     }
 
-    /// The kind of the BX, LO or CR whose plain line these columns are, where one may stand.
+    /// The kind of the BX, LO, CR or LT whose plain line these columns are, where one may stand.
     pub fn goes_further_plainly(&self, columns: &[u8; LINE_WIDTH]) -> Option<Kind>
         ensures { IfSome result (IsFurtherPlainly self.now.place columns.now) }
     {
@@ -202,6 +203,7 @@ impl Reading {
             [b'L', b'O', ..] => self.further_plainly(Kind::Lo, columns),
             [b'B', b'X', ..] => self.further_plainly(Kind::Bx, columns),
             [b'C', b'R', ..] => self.further_plainly(Kind::Cr, columns),
+            [b'L', b'T', ..] => self.further_plainly(Kind::Lt, columns),
             _ => None,
         }
     }
@@ -209,7 +211,7 @@ impl Reading {
     /// The kind, if these columns are a plain line of it, where one may stand.
     #[inline(always)]
     fn further_plainly(&self, kind: Kind, columns: &[u8; LINE_WIDTH]) -> Option<Kind>
-        requires { IsFurther (Some kind) }
+        requires { kind ≢ Kind.Lt → IsFurther (Some kind) }
         ensures { IfSome result (IsFurtherPlainly self.now.place columns.now) }
     {
         if self.allows(kind) && are_plain(kind, columns) {
@@ -223,15 +225,25 @@ impl Reading {
     #[inline(always)]
     pub fn take_plain_further(
         &mut self,
+        alloc: Global,
         kind: Kind,
         columns: &[u8; LINE_WIDTH],
     ) -> Result<(), TakeFault>
-        requires { IsFurtherPlainly self.old.place columns.now kind }
+        requires plain { IsFurtherPlainly self.old.place columns.now kind }
+        requires read { (records : List Record) × HasRead records (progress_of self.old) }
         ensures { UnlessMemory (IsTaken (refusal_at own_layouts self.old.place columns.now)
             columns.now (progress_of self.old) (Ok tt) (progress_of self.new)) result }
     {
-        self.place = self.place.after_further(kind);
-        self.keep_columns(columns)
+        match kind {
+            Kind::Lt => {
+                self.keep_columns(columns)?;
+                self.end_schedule(alloc)
+            }
+            _ => {
+                self.place = self.place.after_further(kind);
+                self.keep_columns(columns)
+            }
+        }
     }
 
     /// The extract, where these are all lines, so many.
@@ -357,6 +369,16 @@ impl Reading {
             (progress_of self.new) }
     {
         self.keep(Kind::Lt, line)?;
+        self.end_schedule(alloc)
+    }
+
+    /// Ends the schedule whose last line is kept.
+    #[inline(never)]
+    fn end_schedule(&mut self, alloc: Global) -> Result<(), TakeFault>
+        requires { (before : Progress) × (line : List ℕ) × HasLast before line (progress_of self.old) }
+        ensures { (before : Progress) (line : List ℕ) → HasLast before line (progress_of self.old)
+            → UnlessMemory (IsStep before line (progress_of self.new)) result }
+    {
         self.place = Place::Schedules;
         match self.opened.take() {
             Some(terms) => self.close(alloc, terms),
@@ -365,7 +387,6 @@ impl Reading {
     }
 
     /// Ends the schedule of these terms, whose body's lines are kept.
-    #[inline(never)]
     fn close(&mut self, alloc: Global, terms: BasicTerms) -> Result<(), TakeFault>
         requires lines { KeepSomeBody self.old.lines }
         requires runs { true ≡ has_body terms.letter }

@@ -6,6 +6,7 @@ pub mod DifferingFields
 mod ExplainedMarks
 mod ExplainedTexts
 mod Explaining
+mod GatheredRows
 pub mod Moments
 mod OneDifference
 mod PairedBodies

@@ -2,11 +2,11 @@
 use Rattle.cif_views.proofs.Names.{Bool, Bor, Calls, Change, Changes, Column, ExtractLines, Field, FieldPlace, IsTrue, JourneyKind, List}
 use Rattle.cif_views.proofs.Names.{Numbered, Other, Public, ScheduleLines, Schedules, Stop, Table, Tsv, [], and_parts, ap, append-nil}
 use Rattle.cif_views.proofs.Names.{append_assoc, are_within, arith, at_drop_all, both-after, call_columns, call_fields, change_columns}
-use Rattle.cif_views.proofs.Names.{change_fields, codes, cond, drop, enumerate_from, false, fields_in, filter, flat_map, in_table, inl, inr}
-use Rattle.cif_views.proofs.Names.{is_call, is_change, is_short, is_span, is_within, journey_rows, kind_of_line, length, length-append}
+use Rattle.cif_views.proofs.Names.{change_fields, codes, cond, drop, enumerate_from, false, fields_in, filter, flat_map, has_row, in_table, inl, inr}
+use Rattle.cif_views.proofs.Names.{is_call, is_change, is_short, is_span, is_within, journey_columns, journey_rows, kind_of_line, length, length-append}
 use Rattle.cif_views.proofs.Names.{length-set, length-take-le, line_of, name_fields, named, nat_tests, number, numbered_from}
 use Rattle.cif_views.proofs.Names.{own_call_fields, refl, room_for, row_behind, row_fields, row_line, row_of_kind, rows_of, schedule_rows}
-use Rattle.cif_views.proofs.Names.{slice_index_or, slice_set, span_in, subst, sym, table_rows, take, take-append-add, take-append_seam}
+use Rattle.cif_views.proofs.Names.{slice_index_or, slice_set, span_in, subst, sym, table_rows, take, take-append-add}
 use Rattle.cif_views.proofs.Names.{take-take, take_more_set, true, ℕ, ◌++◌, ◌+◌, ◌<◌, ◌==◌, ◌∙◌, ◌∷◌, ◌≡◌, ◌≤◌, ◌⊎◌}
 use borrow.Rule.Slice.PartMut.{put_mid}
 use Rattle.std.proofs.lemmas.Slice.{take-put_mid}
@@ -86,41 +86,25 @@ columns-row kind (c ∷ given) line row some h =
 pub no-shorter : (old new : List ℕ) (fields : List Field) → HasPushed old new fields → length old ≤ length new
 no-shorter old new fields h = let long = ap length h.text ∙ length-append old (after Tsv fields) in omega (arith, long)
 
--- what has been appended is written behind the old row, and cut off again
-pub record IsBehind (old new : List ℕ) (fields : List Field) (n : ℕ) : Type 0 where
-  pub some : 0 < length old → 0 < length new
-  pub begun : n ≤ length new
-  pub text : drop 1 new ++ codes "\n" ≡ row_behind old fields
-  pub same : take n new ≡ old
-
-pub behind : (old new : List ℕ) (fields : List Field) (n : ℕ) → new ≡ old ++ after Tsv fields → n ≡ length old →
-    IsBehind old new fields n
-behind old new fields n e is =
-    let long = no-shorter old new fields (record { text = e }) in record {
-      some = λ first. omega (arith, long, first);
-      begun = omega (arith, long, is);
-      text = ap (λ (l : List ℕ). drop 1 l ++ codes "\n") e;
-      same = ap (λ k. take k new) is ∙ ap (take (length old)) e ∙ take-append_seam old (after Tsv fields);
-    }
-
--- the bytes of a row with a tab and columns behind them, of which so many count
-pub row-more : (bytes columns copied : List ℕ) (len count k : ℕ) → len < length bytes → copied ≡ columns → count ≤ length columns →
-    take (len + 1 + count) (put_mid (len + 1) k (slice_set bytes len 9) copied) ≡ take len bytes ++ (9 ∷ take count columns)
-row-more bytes columns copied len count k below same some =
-    let base = slice_set bytes len 9 in
-    let wide = length-set bytes len 9 in
-    let front : List ℕ = take len bytes ++ (9 ∷ []) in
+-- the bytes of a row with a byte and columns behind them, of which so many count
+pub row-more : (tab : ℕ) (bytes columns copied : List ℕ) (len count k : ℕ) → len < length bytes → copied ≡ columns →
+    count ≤ length columns →
+    take (len + 1 + count) (put_mid (len + 1) k (slice_set bytes len tab) copied) ≡ take len bytes ++ (tab ∷ take count columns)
+row-more tab bytes columns copied len count k below same some =
+    let base = slice_set bytes len tab in
+    let wide = length-set bytes len tab in
+    let front : List ℕ = take len bytes ++ (tab ∷ []) in
     let kept = length-take-le len bytes (omega (arith, below)) in
-    let long = length-append (take len bytes) (9 ∷ []) in
+    let long = length-append (take len bytes) (tab ∷ []) in
     let few = ap length same in
     let all = take-put_mid (len + 1) k base copied (len + 1 + length copied) refl (omega (arith, below, wide)) in
     let number : len + 1 + count ≡ length front + count = omega (arith, kept, long) in
     sym (take-take (len + 1 + count) (len + 1 + length copied) (put_mid (len + 1) k base copied) (omega (arith, some, few)))
-    ∙ ap (take (len + 1 + count)) (all ∙ ap (λ (l : List ℕ). l ++ copied) (take_more_set bytes len 9 below))
+    ∙ ap (take (len + 1 + count)) (all ∙ ap (λ (l : List ℕ). l ++ copied) (take_more_set bytes len tab below))
     ∙ ap (λ n. take n (front ++ copied)) number
     ∙ take-append-add front copied count
-    ∙ append_assoc (take len bytes) (9 ∷ []) (take count copied)
-    ∙ ap (λ (cs : List ℕ). take len bytes ++ (9 ∷ take count cs)) same
+    ∙ append_assoc (take len bytes) (tab ∷ []) (take count copied)
+    ∙ ap (λ (cs : List ℕ). take len bytes ++ (tab ∷ take count cs)) same
 
 -- with the fields of the columns that are left, the row is whole, and no longer than it may be
 pub record IsGrowing (kind : JourneyKind) (line whole : List ℕ) (most : ℕ) (row : List ℕ) (left : List Column) : Type 0 where
@@ -243,3 +227,11 @@ numbered-row true begun p is =
 numbered-row false begun p is =
     ap (λ (l : List ℕ). cond (is_change (kind_of_line p.line)) l [])
     (behind-row begun (number p.schedule) [] (number p.call ∷ fields_in (kind_of_line p.line) change_columns p.line) is)
+
+-- a table has a row of a line, or none
+pub own-row : (calls has : Bool) (begun : List ℕ) (call : ℕ) (kind there : JourneyKind) (line : List ℕ) → has ≡ has_row calls kind →
+    kind ≡ there →
+    cond has (row_behind begun (number call ∷ fields_in kind (journey_columns calls) line)) [] ≡ row_of_kind calls begun call there line
+own-row calls has begun call kind there line is kind_is =
+    ap (λ h. cond h (row_behind begun (number call ∷ fields_in kind (journey_columns calls) line)) []) is
+    ∙ ap (λ k. row_of_kind calls begun call k line) kind_is

@@ -4,6 +4,7 @@ pub mod Clashes
 pub mod Explanation
 pub mod Columns
 pub mod DifferenceRows
+pub mod GatheredRows
 pub mod PublicCalls
 pub mod PublicRows
 pub mod Rows

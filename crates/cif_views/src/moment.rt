@@ -139,7 +139,7 @@ impl Moment {
     pub(crate) fn push_to(self, row: &mut TableRow)
         requires from { midnight ≤ self }
         requires early { self < DAY * 2 ^ 100 }
-        requires room { length row.old + 48 ≤ 320 }
+        requires room { length row.old + 48 ≤ 768 }
         ensures text { row.new ≡ row.old ++ (9 ∷ time_text (self - midnight)) }
         ensures len { length row.new ≤ length row.old + 48 }
     {
@@ -157,7 +157,7 @@ impl Moment {
     fn push_later(self, row: &mut TableRow)
         requires from { midnight ≤ self }
         requires early { self < DAY * 2 ^ 100 }
-        requires room { length row.old + 48 ≤ 320 }
+        requires room { length row.old + 48 ≤ 768 }
         ensures text { row.new ≡ row.old ++ (9 ∷ time_text (self - midnight)) }
         ensures len { length row.new ≤ length row.old + 48 }
     {

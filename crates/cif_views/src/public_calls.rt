@@ -1,5 +1,5 @@
 //! The public calls of a schedule, as rows of a table.
-ghost use Rattle.std.specs.Prelude.{◌≡◌, ◌<◌, ◌≤◌, ◌+◌, ◌^◌, ◌++◌, ◌∷◌, [], ℕ, IfSome, length};
+ghost use Rattle.std.specs.Prelude.{◌≡◌, ◌<◌, ◌≤◌, ◌+◌, ◌^◌, ◌++◌, ◌∷◌, [], ℕ, IfSome, List, cond, length};
 ghost use Rattle.cif_columns.specs.Activities.{codes_in};
 ghost use Rattle.std.specs.List.{flat_map};
 ghost use Rattle.cif_columns.specs.Field.{columns_from};
@@ -10,8 +10,9 @@ ghost use Rattle.cif_views.specs.Moments.{IsBy, IsOnTheWay};
 ghost use Rattle.cif_views.specs.PublicCalls.{advertised, answer_of, pick_up, platform_in, public_fields, riders_in, riders_of};
 ghost use Rattle.cif_views.specs.PublicCalls.{said_by, set_down, times_in, times_of, working};
 ghost use Rattle.cif_views.specs.Steps.PublicCalls.{at_first, public_from, reached_moment, shown_at, stay, step, step_at};
+ghost use Rattle.cif_views.specs.Steps.GatheredRows.{AreRows, IsGathered};
 ghost use Rattle.cif_views.specs.Steps.PublicRows.{IsJourneyBy, IsStayBy, IsToShow, behind_schedule, joined, row_of_step, shown_in};
-ghost use Rattle.cif_views.specs.Tables.{kind_of_line, numbered_from, row_line};
+ghost use Rattle.cif_views.specs.Tables.{is_call, kind_of_line, numbered_from, row_line};
 
 use crate::columns::{JourneyKind, call_after, kind_of_line};
 use crate::moment::{Moment, TimeOfDay};
@@ -139,13 +140,8 @@ fn working(line: &Line, first: usize) -> Option<TimeOfDay>
     requires within { first ≤ 76 }
     ensures { result ≡ working (columns_from first 5 line.now) }
 {
-    let columns = columns_at::<5>(line, first);
-    // Most are blank, and need no second look.
-    if columns[0] == b' ' {
-        return None;
-    }
-    let time = WorkTime::read(&columns)?;
-    Some(TimeOfDay::new(time.seconds()?))
+    let seconds = WorkTime::seconds_in(&columns_at(line, first))?;
+    Some(TimeOfDay::new(seconds))
 }
 
 /// The public time in the four columns from `first` on, if it is one.
@@ -156,11 +152,11 @@ fn advertised(line: &Line, first: usize) -> Option<TimeOfDay>
 {
     let columns = columns_at::<4>(line, first);
     // Most are no time, and need no second look.
-    if columns[0] == b' ' || columns == *b"0000" {
+    if columns == *b"0000" {
         return None;
     }
-    let time = PublicTime::read(&columns)?;
-    Some(TimeOfDay::new(time.seconds()?))
+    let seconds = PublicTime::seconds_in(&columns)?;
+    Some(TimeOfDay::new(seconds))
 }
 
 /// What the activities of a call say of riders.
@@ -221,7 +217,8 @@ impl Riders {
     }
 
     /// What the activities in these columns say. Two spaces say nothing.
-    // Few calls have more than two.
+    // Few calls have more than two. Not inlined, so that the line stays where it is.
+    #[inline(never)]
     fn in_columns(columns: &[u8; 12]) -> Riders
         ensures { result ≡ said_by (codes_in columns.now) }
     {
@@ -330,12 +327,12 @@ fn push_public_call(
     riders: &Riders,
     shown: &Shown,
 )
-    requires room { length row.old ≤ 41 }
+    requires room { length row.old + 261 ≤ 768 }
     requires times { times.now ≡ times_of line.now }
     requires riders { riders.now ≡ riders_of line.now }
     requires shown { IsToShow shown.now }
     ensures text { row.new ≡ row.old ++ after Tsv (behind_schedule call line.now shown.now) }
-    ensures len { length row.new ≤ 300 }
+    ensures len { length row.new ≤ length row.old + 260 }
 {
     let (set_down, pick_up) = answers_of(riders, times);
     row.push_number(call);
@@ -346,39 +343,41 @@ fn push_public_call(
     row.push(Shape::Whole, &[set_down, b'\t', pick_up]);
 }
 
-/// Appends the row of the line, which is of this kind, if it is a public call. The journey goes on behind it.
+/// Appends the row of the line, which is of this kind, behind those that wait, if it is a public call. The journey
+/// goes on behind it, and the number of the next call is returned.
 fn write_step<W: WriteDevice>(
     journey: &mut Journey,
     row: &mut TableRow,
+    begun: usize,
     call: usize,
-    kind: JourneyKind,
     line: &Line,
     sink: &mut Sink<W>,
-)
+) -> usize
     requires by { (n : ℕ) × (n ≤ 2 ^ 64) × IsJourneyBy n journey.old }
-    requires begun { 0 < length row.old }
-    requires room { length row.old ≤ 41 }
-    requires kind { kind ≡ kind_of_line line.now }
-    ensures text { IsAppended W.contents W.write_errors
-        (row_of_step row.old call line.now (step_at journey.old line.now).1) sink.old sink.new }
+    requires rows { AreRows begun row.old }
+    requires call { call ≤ 2 ^ 63 }
+    ensures text { (begin text : List ℕ) (s : Sink W) → begun ≡ length begin
+        → IsGathered W.contents W.write_errors begin text s sink.old row.old
+        → IsGathered W.contents W.write_errors begin
+        (text ++ row_of_step begin call line.now (step_at journey.old line.now).1) s sink.new row.new }
+    ensures rows { AreRows begun row.new }
     ensures journey { journey.new ≡ (step_at journey.old line.now).0 }
     ensures by { (n : ℕ) → IsJourneyBy n journey.old → IsJourneyBy (n + 2) journey.new }
-    ensures same { row.new ≡ row.old }
+    ensures next { result ≡ cond (is_call (kind_of_line line.now)) (call + 1) call }
 {
+    let kind = kind_of_line(line);
+    let next = call_after(call, kind);
     let times = CallTimes::of(kind, line);
-    match journey.step(&times, kind, line) {
-        Some((shown, riders)) => {
-            let begun = row.len();
-            push_public_call(row, call, line, &times, &riders, &shown);
-            row.write_and_keep(begun, sink);
-        }
-        None => {}
+    if let Some((shown, riders)) = journey.step(&times, kind, line) {
+        row.next_row(begun, sink);
+        push_public_call(row, call, line, &times, &riders, &shown);
     }
+    next
 }
 
 /// Appends the platform of a call.
 fn push_platform(row: &mut TableRow, kind: JourneyKind, line: &Line)
-    requires { length row.old ≤ 150 }
+    requires { length row.old + 4 ≤ 768 }
     ensures text { row.new ≡ row.old ++ after Tsv (platform_in kind line.now ∷ []) }
     ensures len { length row.new ≤ length row.old + 4 }
 {
@@ -400,6 +399,7 @@ pub(crate) fn write_public_calls<W: WriteDevice>(
 {
     let mut row = TableRow::new();
     row.push_number(schedule);
+    let begun = row.len();
     let mut journey = Journey {
         left: None,
         shown: Moment::on_date(TimeOfDay::new(0)),
@@ -408,10 +408,8 @@ pub(crate) fn write_public_calls<W: WriteDevice>(
     let mut lines = lines;
     lines.are_few();
     while !lines.is_empty() {
-        let line = lines.first();
-        let kind = kind_of_line(&line);
-        write_step(&mut journey, &mut row, call, kind, &line, sink);
-        call = call_after(call, kind);
+        call = write_step(&mut journey, &mut row, begun, call, &lines.first(), sink);
         lines = lines.rest();
     }
+    row.write_rows(begun, sink);
 }

@@ -2,22 +2,26 @@
 ghost use Rattle.std.specs.Prelude.{◌≡◌, ◌<◌, ◌≤◌, ◌+◌, ◌-◌, ◌++◌, ◌∷◌, [], IsTrue, List, codes, drop, length, replicate, take, ℕ};
 ghost use Rattle.cif_columns.specs.Field.{columns};
 ghost use Rattle.cif_canon.specs.Appended.{IsAppended};
-ghost use Rattle.cif_canon.specs.Fields.{Field, after, in_table, nothing, width_of};
+ghost use Rattle.cif_canon.specs.Fields.{after, in_table, nothing, width_of};
 ghost use Rattle.cif_canon.specs.declared.rows.Format.TheVariants.{Tsv};
 ghost use Rattle.cif_views.specs.Steps.Columns.{IsOfShape, are_within, field_in, fields_in, is_span, is_within};
-ghost use Rattle.cif_views.specs.Steps.Columns.{name_fields, named, room_for, room_for_names, room_of, row_behind};
+ghost use Rattle.cif_views.specs.Steps.Columns.{name_fields, named, room_for, room_for_names, room_of};
+ghost use Rattle.cif_views.specs.Steps.GatheredRows.{AreRows, IsBegun, IsGathered};
 ghost use Rattle.cif_views.specs.DifferenceTable.{text};
 ghost use Rattle.cif_views.specs.Tables.{number, yymmdd_from};
 
 use crate::columns::{Column, ColumnRange, FieldPlace, JourneyKind, span_in};
 use cif_canon::Shape;
 use cif_canon::rows::long_date;
-use cif_columns::{Line, Sink, WriteDevice, used_columns};
+use cif_columns::{Line, Sink, WriteDevice, digits_of, used_columns};
 use itoa::Buffer;
 use std::marker::Model;
 
-/// The bytes of the longest row: two whole lines behind all else that the row of a difference has.
-const ROOM: usize = 320;
+/// The bytes of a row, or of some that wait to be written together: none has more than 320.
+const ROOM: usize = 768;
+
+/// With more bytes than so many, rows that wait have no room for one more.
+const FULL: usize = 466;
 
 /// The fields of a row so far, a tab before each. A clause sees their text.
 #[derive(Drop)]
@@ -33,7 +37,7 @@ impl Model for TableRow {
 
     ghost view = { λ r. take r.len r.bytes };
 
-    ghost invariant = { λ r. r.len ≤ 320 };
+    ghost invariant = { λ r. r.len ≤ 768 };
 }
 
 impl TableRow {
@@ -47,16 +51,16 @@ impl TableRow {
         }
     }
 
-    /// Appends a tab and the first `count` of these columns.
+    /// Appends a byte, as a tab, and the first `count` of these columns.
     // To copy all columns takes less time than a copy whose size depends on them.
     #[inline(always)]
-    fn push_columns(&mut self, columns: &[u8], count: usize)
+    fn push_columns(&mut self, separator: u8, columns: &[u8], count: usize)
         requires count { count ≤ length columns.now }
         requires room { length self.old + length columns.now + 1 ≤ ROOM }
-        ensures { self.new ≡ self.old ++ (9 ∷ take count columns.now) }
+        ensures { self.new ≡ self.old ++ (separator ∷ take count columns.now) }
     {
         let start = self.len + 1;
-        self.bytes[self.len] = b'\t';
+        self.bytes[self.len] = separator;
         self.bytes[start..start + columns.len()].copy_from_slice(columns);
         self.len = start + count;
     }
@@ -70,9 +74,9 @@ impl TableRow {
         ensures len { length self.new ≤ length self.old + width_of shape columns.now + 1 }
     {
         match shape {
-            Shape::Trimmed => self.push_columns(columns, used_columns(columns)),
-            Shape::Whole => self.push_columns(columns, columns.len()),
-            Shape::Date => self.push_columns(&long_date(columns), 10),
+            Shape::Trimmed => self.push_columns(b'\t', columns, used_columns(columns)),
+            Shape::Whole => self.push_columns(b'\t', columns, columns.len()),
+            Shape::Date => self.push_columns(b'\t', &long_date(columns), 10),
         }
     }
 
@@ -106,6 +110,20 @@ impl TableRow {
             self.push(Shape::Whole, &[b'0' + count as u8]);
             return;
         }
+        if count < 100 {
+            self.push(Shape::Whole, &digits_of(count as u8));
+            return;
+        }
+        self.push_long_number(count);
+    }
+
+    /// Appends a tab and a number of any length.
+    #[inline(never)]
+    fn push_long_number(&mut self, count: usize)
+        requires room { length self.old + 41 ≤ ROOM }
+        ensures text { self.new ≡ self.old ++ after Tsv (number count ∷ []) }
+        ensures len { length self.new ≤ length self.old + 41 }
+    {
         self.push(Shape::Whole, Buffer::new().format(count).as_bytes());
     }
 
@@ -212,17 +230,61 @@ impl TableRow {
         let _ = sink.write_all(&self.bytes[1..self.len + 1]);
     }
 
-    /// Writes the row as `write` does, and then keeps only its first `begun` bytes.
-    pub(crate) fn write_and_keep<W: WriteDevice>(&mut self, begun: usize, sink: &mut Sink<W>)
-        requires some { 0 < begun }
-        requires begun { begun ≤ length self.old }
-        requires room { length self.old + 1 ≤ ROOM }
-        ensures text { (row : List ℕ) (fields : List Field) → self.old ≡ row ++ after Tsv fields → begun ≡ length row
-            → IsAppended W.contents W.write_errors (row_behind row fields) sink.old sink.new }
-        ensures same { (row : List ℕ) (fields : List Field) → self.old ≡ row ++ after Tsv fields → begun ≡ length row → self.new ≡ row }
+    /// Begins a row with the first `begun` bytes, with which all rows here begin. The rows before it wait, if there
+    /// is room for one more, with a line feed in place of its first tab; else they are written.
+    #[inline(always)]
+    pub(crate) fn next_row<W: WriteDevice>(&mut self, begun: usize, sink: &mut Sink<W>)
+        requires { AreRows begun self.old }
+        ensures text { (row text : List ℕ) (s : Sink W) → begun ≡ length row
+            → IsGathered W.contents W.write_errors row text s sink.old self.old
+            → IsBegun W.contents W.write_errors row text s sink.new self.new }
+        ensures begun { begun ≤ length self.new }
+        ensures room { length self.new + 261 ≤ ROOM }
+    {
+        if self.len() == begun {
+            return;
+        }
+        if self.len() > FULL {
+            self.write_and_keep(begun, sink);
+            return;
+        }
+        let first = first_columns(&self.bytes);
+        self.push_columns(b'\n', &first, begun - 1);
+    }
+
+    /// Writes what waits, and keeps only its first `begun` bytes.
+    #[cold]
+    #[inline(never)]
+    fn write_and_keep<W: WriteDevice>(&mut self, begun: usize, sink: &mut Sink<W>)
+        requires { AreRows begun self.old }
+        ensures text { IsAppended W.contents W.write_errors (drop 1 self.old ++ codes "\n") sink.old sink.new }
+        ensures kept { self.new ≡ take begun self.old }
     {
         self.write(sink);
         self.truncate(begun);
+    }
+
+    /// Writes the rows that wait, which all begin with the first `begun` bytes.
+    pub(crate) fn write_rows<W: WriteDevice>(&mut self, begun: usize, sink: &mut Sink<W>)
+        requires { AreRows begun self.old }
+        ensures { (row text : List ℕ) (s : Sink W) → begun ≡ length row
+            → IsGathered W.contents W.write_errors row text s sink.old self.old
+            → IsAppended W.contents W.write_errors text s sink.new }
+    {
+        if self.len() > begun {
+            self.write(sink);
+        }
+    }
+}
+
+/// The columns behind the first tab.
+fn first_columns(bytes: &[u8; ROOM]) -> [u8; 40]
+    ensures { result ≡ take 40 (drop 1 bytes.now) }
+{
+    let (_, behind) = bytes.split_at(1);
+    match behind.first_chunk() {
+        Some(first) => *first,
+        None => unreachable!(),
     }
 }
 

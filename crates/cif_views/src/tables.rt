@@ -1,5 +1,5 @@
 //! Tables of a whole canonical extract.
-ghost use Rattle.std.specs.Prelude.{◌≡◌, ◌<◌, ◌≤◌, ◌+◌, ◌++◌, ◌∷◌, IfErr, IsTrue, codes, length, map};
+ghost use Rattle.std.specs.Prelude.{◌≡◌, ◌<◌, ◌≤◌, ◌+◌, ◌^◌, ◌++◌, ◌∷◌, IfErr, IsTrue, List, codes, cond, length, map, ℕ};
 ghost use Rattle.std.specs.List.{flat_map};
 ghost use Rattle.cif_columns.specs.Sink.{Writes};
 ghost use Rattle.cif_extract.specs.declared.fault.Fault.TheVariants.{Write};
@@ -8,8 +8,9 @@ ghost use Rattle.cif_canon.specs.Fields.{after, line_of};
 ghost use Rattle.cif_canon.specs.Lines.{line_of_tiploc, schedule_plain};
 ghost use Rattle.cif_canon.specs.declared.rows.Format.TheVariants.{Tsv};
 ghost use Rattle.cif_views.specs.Steps.Columns.{are_within, call_columns, fields_in, name_fields, named, room_for, room_for_names};
+ghost use Rattle.cif_views.specs.Steps.GatheredRows.{AreRows, IsGathered};
 ghost use Rattle.cif_views.specs.Steps.TableRows.{call_kind, has_row, journey_columns, journey_rows, row_of_kind};
-ghost use Rattle.cif_views.specs.Tables.{number, numbered_schedule, row_line, schedule_fields, tiploc_fields};
+ghost use Rattle.cif_views.specs.Tables.{is_call, kind_of_line, number, numbered_schedule, row_line, schedule_fields, tiploc_fields};
 ghost use Rattle.cif_views.specs.TableText.{table_heading, table_text};
 ghost use Rattle.cif_views.specs.declared.columns.JourneyKind.TheVariants.{Other};
 
@@ -171,16 +172,15 @@ fn write_journey<W: WriteDevice>(
 {
     let mut row = TableRow::new();
     row.push_number(schedule);
+    let begun = row.len();
     let mut call = 1;
     let mut lines = lines;
     lines.are_few();
     while !lines.is_empty() {
-        let line = lines.first();
-        let kind = kind_of_line(&line);
-        write_numbered(calls, &mut row, call, kind, &line, sink);
-        call = call_after(call, kind);
+        call = write_numbered(calls, &mut row, begun, call, &lines.first(), sink);
         lines = lines.rest();
     }
+    row.write_rows(begun, sink);
 }
 
 /// Whether the table of the calls, or else that of the changes, has a row of a line of this kind.
@@ -194,33 +194,39 @@ fn has_row(calls: bool, kind: JourneyKind) -> bool
     }
 }
 
-/// Appends the row of a line behind what it begins with, if the table has one of it.
+/// Appends the row of a line behind those that wait, if the table has one of it, and returns the number of the next
+/// call.
 fn write_numbered<W: WriteDevice>(
     calls: bool,
     row: &mut TableRow,
+    begun: usize,
     call: usize,
-    kind: JourneyKind,
     line: &Line,
     sink: &mut Sink<W>,
-)
-    requires begun { 0 < length row.old }
-    requires room { length row.old ≤ 41 }
-    ensures text { IsAppended W.contents W.write_errors (row_of_kind calls row.old call kind line.now) sink.old sink.new }
-    ensures same { row.new ≡ row.old }
+) -> usize
+    requires call { call ≤ 2 ^ 63 }
+    requires rows { AreRows begun row.old }
+    ensures text { (begin text : List ℕ) (s : Sink W) → begun ≡ length begin
+        → IsGathered W.contents W.write_errors begin text s sink.old row.old
+        → IsGathered W.contents W.write_errors begin
+        (text ++ row_of_kind calls begin call (kind_of_line line.now) line.now) s sink.new row.new }
+    ensures rows { AreRows begun row.new }
+    ensures next { result ≡ cond (is_call (kind_of_line line.now)) (call + 1) call }
 {
-    if !has_row(calls, kind) {
-        return;
+    let kind = kind_of_line(line);
+    let next = call_after(call, kind);
+    if has_row(calls, kind) {
+        row.next_row(begun, sink);
+        push_numbered(calls, row, call, kind, line);
     }
-    let begun = row.len();
-    push_numbered(calls, row, call, kind, line);
-    row.write_and_keep(begun, sink);
+    next
 }
 
 /// Appends the number of a call, and the fields of a call or of a change.
 fn push_numbered(calls: bool, row: &mut TableRow, call: usize, kind: JourneyKind, line: &Line)
-    requires room { length row.old ≤ 41 }
+    requires room { length row.old + 261 ≤ 768 }
     ensures text { row.new ≡ row.old ++ after Tsv (number call ∷ fields_in kind (journey_columns calls) line.now) }
-    ensures len { length row.new ≤ 300 }
+    ensures len { length row.new ≤ length row.old + 260 }
 {
     row.push_number(call);
     match (calls, kind) {
@@ -249,9 +255,9 @@ fn call_kind(number: usize) -> JourneyKind
 /// Appends the fields of a call of the kind with this number.
 // Nearly all rows are such. The compiler makes a function for each kind, and so knows which columns are copied.
 fn push_call<const KIND: usize>(row: &mut TableRow, line: &Line)
-    requires { length row.old ≤ 82 }
+    requires { length row.old + 219 ≤ 768 }
     ensures text { row.new ≡ row.old ++ after Tsv (fields_in (call_kind KIND) call_columns line.now) }
-    ensures len { length row.new ≤ 300 }
+    ensures len { length row.new ≤ length row.old + 219 }
 {
     let kind = call_kind(KIND);
     row.push_of_copy(&CALL[0].1, kind, *line);

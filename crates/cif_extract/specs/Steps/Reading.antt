@@ -1,5 +1,5 @@
 -- What a reading has come to, for the contracts of the reader's own steps. Of public functions only those of `Reading` cite it.
-use Rattle.std.specs.Prelude.{◌≡◌, refl, ◌⊎◌, ℕ, Bool, List, [], ◌∷◌, ◌++◌, Option, None, Some, Result, Ok, Err, IfSome, is_some}
+use Rattle.std.specs.Prelude.{◌≡◌, ◌≢◌, refl, ◌⊎◌, ℕ, Bool, List, [], ◌∷◌, ◌++◌, Option, None, Some, Result, Ok, Err, IfSome, is_some}
 use Rattle.std.specs.Prelude.{map, true, false}
 use Rattle.cif_columns.specs.Field.{AllStandIn, plain_line}
 use Rattle.cif_columns.specs.Line.{IsLine}
@@ -32,10 +32,11 @@ use Rattle.cif_records.specs.declared.detail.Detail.{Detail}
 use Rattle.cif_records.specs.declared.extra.Extra.{Extra}
 use Rattle.cif_records.specs.declared.header.Header.{Header}
 use Rattle.cif_records.specs.declared.record.Kind.{Kind}
-use Rattle.cif_records.specs.declared.record.Kind.TheVariants.{Bx, Lo, Li, Cr}
+use Rattle.cif_records.specs.declared.record.Kind.TheVariants.{Bx, Lo, Li, Cr, Lt}
 use Rattle.cif_records.specs.declared.origin.Origin.{Origin}
 use Rattle.cif_records.specs.declared.record.Record.{Record}
 use Rattle.cif_records.specs.declared.record.Record.TheVariants as of
+use Rattle.cif_records.specs.declared.terminus.Terminus.{Terminus}
 use Rattle.cif_records.specs.declared.tiploc.Tiploc.{Tiploc}
 
 -- the fields of a reading, its vectors as lists
@@ -147,10 +148,16 @@ UnlessRefused refusal P (Ok done) = (refusal ≡ None) × P
 UnlessRefused refusal P (Err (untaken.Refused why)) = refusal ≡ Some why
 UnlessRefused refusal P (Err untaken.Memory) = Unit {0}
 
--- taking a line comes to one step more with the record that it spells, by any layouts and by those of this profile
+-- one step more with the record that a line spells, by any layouts and by those of this profile
+abbrev pub IsStepAs : (Record → Type 0) → Progress → Progress → Type 0
+IsStepAs spells before after = (r : Record) × spells r × IsKeepable r × (after ≡ step before r)
+
+abbrev pub IsStep : Progress → List ℕ → Progress → Type 0
+IsStep before line = IsStepAs (SpellsRecord line) before
+
+-- taking a line comes to such a step
 abbrev pub IsTakenAs : Option Refusal → (Record → Type 0) → Progress → Result Unit TakeFault → Progress → Type 0
-IsTakenAs refusal spells before result after =
-    UnlessRefused refusal ((r : Record) × spells r × IsKeepable r × (after ≡ step before r)) result
+IsTakenAs refusal spells before result after = UnlessRefused refusal (IsStepAs spells before after) result
 
 abbrev pub IsTaken : Option Refusal → List ℕ → Progress → Result Unit TakeFault → Progress → Type 0
 IsTaken refusal line = IsTakenAs refusal (SpellsRecord line)
@@ -182,9 +189,9 @@ IsFurther (Some Li) = Unit {0}
 IsFurther (Some Cr) = Unit {0}
 IsFurther _ = ⊥
 
--- The line is the plain line of such a record, and one of its kind may stand at this place.
+-- The line is the plain line of such a record, or of an LT, and one of its kind may stand at this place.
 pub record IsFurtherPlainly (place : Place) (line : List ℕ) (kind : Kind) : Type 0 where
-  pub further : IsFurther (Some kind)
+  pub further : kind ≢ Lt → IsFurther (Some kind)
   pub allowed : may_stand place kind ≡ true
   pub plain : IsPlainAs kind line
 
@@ -266,6 +273,16 @@ HasReadAt _ records p = IsWithin records p
 
 abbrev pub HasRead : List Record → Progress → Type 0
 HasRead records p = HasReadAt p.place records p
+
+-- The line of a journey's last location has come, behind these records, and is kept.
+pub record HasLast (before : Progress) (line : List ℕ) (p : Progress) : Type 0 where
+  pub records : List Record
+  pub read : HasRead records before
+  pub here : before.place ≡ at.Journey
+  pub last : Terminus
+  pub spelled : SpellsRecord line (of.Terminus last)
+  pub again : IsKeepable (of.Terminus last)
+  pub is : p ≡ record before { lines = kept before.opened before.lines (of.Terminus last) }
 
 -- before the first line
 abbrev pub no_progress : Progress

@@ -76,6 +76,10 @@ take-requires g c = let (ls, so_far, come, read_on) = c.loop-columns.invariant i
 pub take_plain_stop-requires : goal.take_plain_stop-requires
 take_plain_stop-requires g c = c.if-goes_on_plainly.ensures refl
 
+pub take_plain_further-requires-clause-read : goal.take_plain_further-requires-clause-read
+take_plain_further-requires-clause-read g c =
+    let (ls, so_far, come, read_on) = c.loop-columns.invariant in (come.taken.records, come.taken.read)
+
 pub pass_line-requires : goal.pass_line-requires
 pass_line-requires g c = (c.in-Some.columns.now, c.in-Some.ensures)
 

@@ -1,26 +1,42 @@
 -- One line more is written (`one-line`), and where no line is left the text is whole (`none-left`).
-use Rattle.cif_views.proofs.Names.{ap, arith, both, is_call, length, length-drop, row_of_step, step_at, ◌++◌, ◌+◌, ◌∙◌}
+use Rattle.cif_views.proofs.Names.{Tsv, [], ap, arith, is_call, kind_of_line, length, length-drop, number, refl, row_of_step, rules, step_at}
+use Rattle.cif_views.proofs.Names.{◌++◌, ◌+◌, ◌∙◌, ◌∷◌}
 use Rattle.cif_canon.proofs.AppendedTexts.{text-is}
+use Rattle.cif_canon.specs.Fields.{after}
+use Rattle.cif_views.proofs.GatheredRows.{none-yet, rows-begin}
 use Rattle.cif_views.proofs.PublicRows.{none-left, one-line}
-use Rattle.cif_views.proofs.TableRows.{first-and-rest, next-call, no-lines, some-lines}
+use Rattle.cif_views.proofs.TableRows.{begun-row, first-and-rest, more-pushed, next-call, no-lines, some-lines}
 use Rattle.cif_views.proofs.public_calls.write_public_calls.Goals as goal
+
+pub loop-lines-init : goal.loop-lines-init
+loop-lines-init g c =
+    let row = (more-pushed _ _ _ _ (number c.args.schedule ∷ []) (begun-row _ c.new-row.ensures) c.push_number.ensures.text).text in (
+      [],
+      none-yet _ _ _ _ _ row,
+      search rules,
+      rows-begin _ c.args.schedule _ c.len-begun.ensures row
+          (let empty = ap length c.new-row.ensures in omega (arith, empty, c.push_number.ensures.len)),
+      c.len-begun.ensures ∙ ap length row,
+      search rules,
+      omega arith,
+    )
 
 pub loop-lines-preserved : goal.loop-lines-preserved
 loop-lines-preserved g c =
-    let (text, written, left, begun, (n, by, few), calls) = c.loop-lines.invariant in
+    let (text, gathered, left, rows, begun, (n, by, few), calls) = c.loop-lines.invariant in
     let lines = c.loop-lines.lines in
-    let line = c.first-line.result in
-    let kind = c.kind_of_line-kind.result in
+    let line = c.first.result in
     let some = some-lines lines _ c.is_empty.ensures c.loop-lines-test.true in
-    let is = first-and-rest lines line c.rest-lines.result some c.first-line.ensures c.rest-lines.ensures in
+    let is = first-and-rest lines line c.rest-lines.result some c.first.ensures c.rest-lines.ensures in
     let long = ap length is in (
-      text ++ row_of_step c.loop-lines.row c.loop-lines.call line (step_at c.loop-lines.journey line).1,
-      both _ _ text _ _ _ _ written c.write_step.ensures.text,
-      one-line c.args.schedule _ text c.loop-lines.row c.loop-lines.journey _ kind c.loop-lines.call _ lines line _ is begun
-          c.kind_of_line-kind.ensures c.write_step.ensures.journey c.call_after-call.ensures left,
-      c.write_step.ensures.same ∙ begun,
-      (n + 2, c.write_step.ensures.by n by, omega (arith, long, few)),
-      next-call (is_call kind) c.loop-lines.call _ _ lines _ line is c.call_after-call.ensures calls,
+      text ++ row_of_step (after Tsv (number c.args.schedule ∷ [])) c.loop-lines.call line (step_at c.loop-lines.journey line).1,
+      c.write_step-call.ensures.text _ text _ begun gathered,
+      one-line c.args.schedule _ text _ c.loop-lines.journey _ _ c.loop-lines.call _ lines line _ is refl refl
+          c.write_step-call.ensures.journey c.write_step-call.ensures.next left,
+      c.write_step-call.ensures.rows,
+      begun,
+      (n + 2, c.write_step-call.ensures.by n by, omega (arith, long, few)),
+      next-call (is_call (kind_of_line line)) c.loop-lines.call _ _ lines _ line is c.write_step-call.ensures.next calls,
     )
 
 pub loop-lines-smaller : goal.loop-lines-smaller
@@ -30,7 +46,7 @@ loop-lines-smaller g c =
 
 pub returns : goal.returns
 returns g c =
-    let (text, written, left, _, _, _) = c.loop-lines.invariant in
+    let (text, gathered, left, _, begun, _, _) = c.loop-lines.invariant in
     let lines = c.loop-lines.lines in
     let none = no-lines lines _ c.is_empty.ensures c.loop-lines-test.false in
-    text-is _ _ _ _ _ _ (none-left c.args.schedule _ text _ _ lines none left) written
+    text-is _ _ _ _ _ _ (none-left c.args.schedule _ text _ _ lines none left) (c.write_rows.ensures _ text _ begun gathered)

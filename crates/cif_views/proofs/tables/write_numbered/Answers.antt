@@ -1,23 +1,27 @@
--- The table has a row of the line, and its fields go behind the number of the schedule, which the row begins with (`behind`).
-use Rattle.cif_views.proofs.Names.{[], ap, cond, fields_in, journey_columns, number, row_behind, ◌∷◌}
-use Rattle.cif_canon.proofs.AppendedTexts.{text-is}
-use Rattle.cif_views.proofs.TableRows.{behind}
+-- The table has a row of the line, whose fields go behind what the row begins with (`pushed`), or it has none.
+use Rattle.cif_views.proofs.Names.{Field, List, ap, append-nil, arith, fields_in, journey_columns, number, sym, ◌++◌, ◌∙◌, ◌∷◌}
+use Rattle.cif_views.proofs.GatheredRows.{gathered-is, pushed, rows-more}
+use Rattle.cif_views.proofs.TableRows.{own-row}
 use Rattle.cif_views.proofs.tables.write_numbered.Goals as goal
 
-pub write_and_keep-requires-clause-begun : goal.write_and_keep-requires-clause-begun
-write_and_keep-requires-clause-begun g c =
-    let fields = number c.args.call ∷ fields_in c.args.kind (journey_columns c.args.calls) c.args.line.now in
-    (behind c.args.row.now _ fields c.len-begun.result c.push_numbered.ensures.text c.len-begun.ensures).begun
+pub returns-then-has_row-clause-text : goal.returns-then-has_row-clause-text
+returns-then-has_row-clause-text g c = λ begin text s long h.
+    let fields : List Field =
+    number c.args.call ∷ fields_in c.kind_of_line-kind.result (journey_columns c.args.calls) c.args.line.now in
+    gathered-is _ _ begin s _ _ _ _
+    (ap (λ own. text ++ own)
+    (own-row c.args.calls _ begin c.args.call _ _ c.args.line.now c.if-has_row.ensures c.kind_of_line-kind.ensures))
+    (pushed _ _ begin text s _ _ _ fields (omega arith) (c.next_row.ensures.text begin text s long h) c.push_numbered.ensures.text)
 
-pub returns-clause-text : goal.returns-clause-text
-returns-clause-text g c =
-    let fields = number c.args.call ∷ fields_in c.args.kind (journey_columns c.args.calls) c.args.line.now in
-    text-is _ _ _ _ _ _
-    (ap (λ has. cond has (row_behind c.args.row.now fields) []) c.if-not-has_row.ensures)
-    (c.write_and_keep.ensures.text c.args.row.now fields c.push_numbered.ensures.text c.len-begun.ensures)
+pub returns-then-has_row-clause-rows : goal.returns-then-has_row-clause-rows
+returns-then-has_row-clause-rows g c =
+    let fields : List Field =
+    number c.args.call ∷ fields_in c.kind_of_line-kind.result (journey_columns c.args.calls) c.args.line.now in
+    rows-more c.args.begun _ c.next_row.new.self _ fields c.requires.rows c.next_row.ensures.begun c.next_row.ensures.room
+    c.push_numbered.ensures.text c.push_numbered.ensures.len
 
-pub returns-clause-same : goal.returns-clause-same
-returns-clause-same g c =
-    c.write_and_keep.ensures.same c.args.row.now
-    (number c.args.call ∷ fields_in c.args.kind (journey_columns c.args.calls) c.args.line.now) c.push_numbered.ensures.text
-    c.len-begun.ensures
+pub returns-else-has_row-clause-text : goal.returns-else-has_row-clause-text
+returns-else-has_row-clause-text g c = λ begin text s long h.
+    gathered-is _ _ begin s _ _ _ _
+    (sym (append-nil text) ∙ ap (λ own. text ++ own)
+    (own-row c.args.calls _ begin c.args.call _ _ c.args.line.now c.if-has_row.ensures c.kind_of_line-kind.ensures)) h
