@@ -24,11 +24,14 @@ PASSENGER = ("", "P")
 LONGEST_WAIT = 6 * HOUR
 
 
-class Role(Enum):
+class Role(str, Enum):
     """Which of the two trains of an association."""
 
     BASE = "base"
     ASSOCIATED = "associated"
+
+
+ROLES = tuple(Role)
 
 
 class Reason(Enum):
@@ -71,7 +74,7 @@ class Association:
         self.dates: Dates = 0
         self.shown: Dates = 0
         self.days_later = DAYS_LATER.get(terms.indicator, 0)
-        self.spots = {role: self.spot(role) for role in Role}
+        self.spots = {role: self.spot(role) for role in ROLES}
 
     def spot(self, role: Role) -> Spot:
         """Where a train of this role has to stop, and which call that has to be."""
@@ -123,7 +126,7 @@ def by_uid(associations: Iterable[Association]) -> Dict[str, List[Held]]:
     found: Dict[str, List[Held]] = {}
     for association in associations:
         if association.shown:
-            for role in Role:
+            for role in ROLES:
                 found.setdefault(association.uid(role), []).append((association, role))
     return found
 

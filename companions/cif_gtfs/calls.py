@@ -11,7 +11,6 @@ from typing import Dict, Iterable, List, NamedTuple, Optional, Sequence, Set
 
 from cif_shared.dates import Dates
 
-from .routes import Ends
 from .trains import About
 
 HOUR = 3600
@@ -55,6 +54,10 @@ def seconds_of(text: bytes) -> int:
 
 def written(moment: int) -> bytes:
     return b"%02d:%02d:%02d" % (moment // HOUR, moment // 60 % 60, moment % 60)
+
+
+def location_of(row: bytes) -> bytes:
+    return row[: row.index(b"\t")]
 
 
 def times_of(row: bytes) -> Times:
@@ -169,7 +172,7 @@ class Variant:
         # the places of the first and of the last public call
         self.first = self.numbers.index(self.first_public)
         self.last = self.numbers.index(self.last_public)
-        self.ends = Ends(*(self.rows[at].split(b"\t", 1)[0] for at in (self.first, self.last)))
+        self.ends = (location_of(self.rows[self.first]), location_of(self.rows[self.last]))
 
     def insert(self, stops: Dict[int, Stop]) -> None:
         """Adds the stops that aren't public: first those after the first public call, in order, and

@@ -10,7 +10,7 @@ from typing import Dict, FrozenSet, Iterator, List, Mapping, NamedTuple, Sequenc
 
 from cif_shared.dates import Dates, count_of, moved
 
-from .associations import Association, Held, LeftOut, Reason, Role, by_uid
+from .associations import ROLES, Association, Held, LeftOut, Reason, Role, by_uid
 from .calls import Variant
 
 
@@ -67,7 +67,7 @@ def split(group: Group, node: Node, of_uid: OfUid) -> List[Group]:
             if not linked or edge in each.edges:
                 found.append(each)
                 continue
-            nodes = each.nodes | {edge.node(other) for other in Role}
+            nodes = each.nodes | {edge.node(other) for other in ROLES}
             found.append(Group(linked, nodes, each.edges | {edge}))
             if linked != each.dates:
                 found.append(each._replace(dates=each.dates & ~shown))

@@ -1,10 +1,11 @@
 """From an extract to a feed."""
 from __future__ import annotations
 
-from contextlib import contextmanager
+from contextlib import ExitStack, contextmanager
 from dataclasses import dataclass
+from functools import lru_cache
 from itertools import groupby
-from operator import attrgetter
+from operator import itemgetter
 from pathlib import Path
 from typing import (
     IO,
@@ -22,24 +23,25 @@ from typing import (
 from typing import Tuple
 
 from cif_shared.csv_files import Key
-from cif_shared.dates import Dates, Window, count_of
+from cif_shared.dates import Dates, Window
 from cif_shared.endings import Refused
 from cif_shared.files import BLOCK, NewFiles, new_files, scratch_file
 from cif_shared.operators import OperatorRow
 from cif_shared.places import PlaceRow, Places
 from cif_shared.progress import Progress
+from cif_shared.schedules import numbered, numbers_of, rows_of
 from cif_shared.tables import AssociationRow, Extract, Header, Table, TiplocRow, rows_with
 
 from . import feed
-from .associations import CATEGORIES, Association, LeftOut, Reason, Role, associations_of
+from .associations import CATEGORIES, ROLES, Association, LeftOut, Reason, associations_of
 from .associations import by_uid, decide_all
 from .calls import RunsAs, Spot, Stop, Variant, stops_at
 from .compositions import compositions_of, groups_of, linked_dates
 from .routes import Routes
 from .services import Services
 from .stops import Stops
-from .trains import Kind, PublicTrain, ScheduleReader, public_trains
-from .trips import Assembly, Link, TripsOfUid, add_records
+from .trains import KNOWN, Kind, PublicTrain, ScheduleReader
+from .trips import Assembly, Link, Trip, TripsOfUid, add_records
 from .user_files import InterchangeRow, LinkRow
 
 
@@ -106,16 +108,12 @@ class Timetable:
     # of each train with associations, where it has to stop for these
     spots: Dict[str, Set[Spot]]
 
-    def trains(self, table: Table, types: Mapping[Kind, int]) -> Iterator[PublicTrain]:
-        reader = ScheduleReader(self.schedules.names, self.window, types)
-        return public_trains(self.schedules.lines(), reader, table)
-
 
 def spots_of(associations: List[Association]) -> Dict[str, Set[Spot]]:
     found: Dict[str, Set[Spot]] = {}
     for association in associations:
         if association.terms.category in CATEGORIES:
-            for role in Role:
+            for role in ROLES:
                 found.setdefault(association.uid(role), set()).add(association.spots[role])
     return found
 
@@ -135,13 +133,18 @@ def read_timetable(extract: Extract, given: Mapping[Key, PlaceRow]) -> Iterator[
 
 class StopRows(NamedTuple):
     """Of each schedule with associations the calls at their locations, by its number, as rows of
-    `calls`, and what reads these."""
+    `calls` without this, and what reads these."""
 
     rows: Dict[bytes, List[bytes]]
     read: Callable[[bytes], Stop]
 
     def take(self, schedule: bytes) -> List[bytes]:
         return self.rows.pop(schedule, [])
+
+
+# Where the schedules with associations are fewer than one in so many, their calls are read of an
+# extract of these trains alone.
+FEW = 4
 
 
 def read_stops(extract: Extract, timetable: Timetable) -> Optional[StopRows]:
@@ -151,12 +154,21 @@ def read_stops(extract: Extract, timetable: Timetable) -> Optional[StopRows]:
     locations = {
         uid: {spot.location.encode() for spot in spots} for uid, spots in timetable.spots.items()
     }
-    wanted = {number: locations[uid] for number, uid in uids.items()}
-    with extract.table("calls") as table:
-        found: Dict[bytes, List[bytes]] = {}
+    found: Dict[bytes, List[bytes]] = {}
+    with ExitStack() as stack:
+        part = None
+        if FEW * len(uids) < timetable.schedules.count:
+            names = {uid.encode() for uid in uids.values()}
+            part = stack.enter_context(extract.part(names))
+        # the numbers of the schedules by those that they have where their calls are read
+        numbers = {b"%d" % own if part else number: number for own, number in enumerate(uids, 1)}
+        wanted = {own: locations[uids[number]] for own, number in numbers.items()}
+        table = stack.enter_context((part or extract).table("calls"))
         for row in rows_with(table.lines, table.names.index("location"), wanted):
-            found.setdefault(row[: row.index(b"\t")], []).append(row)
-        return StopRows(found, table.reader(Stop))
+            number, _, call = row.partition(b"\t")
+            found.setdefault(numbers[number], []).append(call)
+    read = table.reader(Stop)
+    return StopRows(found, lru_cache(maxsize=KNOWN)(lambda call: read(b"\t" + call)))
 
 
 def variants_of(
@@ -164,20 +176,17 @@ def variants_of(
 ) -> List[Variant]:
     """The public trains of one UID, those that differ in nothing but dates as one."""
     found: Dict[object, Variant] = {}
-    for train in trains:
-        if train.about is None:
-            continue
-        rows = tuple(train.calls.rows())
-        numbers = tuple(train.calls.numbers())
-        at_spots = [stops.read(row) for row in stops.take(train.calls.schedule)]
-        key = (train.about, numbers, rows, tuple(at_spots))
+    for _, dates, about, record, schedule, text in trains:
+        at_spots = [stops.read(row) for row in stops.take(schedule)]
+        key = (about, numbered(schedule, text), *at_spots)
         variant = found.get(key)
         if variant is None:
+            numbers = numbers_of(text)
             places = stops_at(spots, at_spots, numbers)
-            variant = found[key] = Variant(train.about, numbers, rows, places)
-        variant.dates |= train.dates
+            variant = found[key] = Variant(about, numbers, rows_of(text), places)
+        variant.dates |= dates
         if with_records:
-            variant.records.append(RunsAs(train.dates, train.record))
+            variant.records.append(RunsAs(dates, record))
     return list(found.values())
 
 
@@ -212,7 +221,7 @@ class Conversion:
         self.wishes = wishes
         self.files = files
         self.records = records
-        self.not_for_riders = 0
+        self.reader = ScheduleReader(timetable.schedules.names, timetable.window, wishes.types)
 
     def write(self, trips: TripsOfUid) -> None:
         self.files.write(trips.trips.values())
@@ -220,15 +229,19 @@ class Conversion:
             rows = feed.trip_record_rows(trips.trips.values(), trips.uid)
             self.records.write(feed.csv_of(rows))
 
-    def write_plain(self, uid: str, trains: Iterable[PublicTrain]) -> None:
+    def write_plain(self, uid: str, trains: Sequence[PublicTrain]) -> None:
         """Writes the trips of a train without associations."""
         trips = TripsOfUid(uid)
-        for train in trains:
-            if train.about is not None:
-                trip = trips.add(train.about, train.calls.rows())
-                trip.dates |= train.dates
-                if self.records is not None:
-                    trip.records.append(train.record)
+        # of several schedules some mostly differ in nothing but dates
+        known: Dict[bytes, Trip] = {}
+        for _, dates, about, record, schedule, text in trains:
+            content = about + numbered(schedule, text) if len(trains) > 1 else b""
+            trip = known.get(content)
+            if trip is None:
+                trip = known[content] = trips.add(about, rows_of(text))
+            trip.dates |= dates
+            if self.records is not None:
+                trip.records.append(record)
         self.write(trips)
 
     def read_trains(self, extract: Extract, progress: Progress) -> Dict[str, List[Variant]]:
@@ -237,13 +250,10 @@ class Conversion:
         stops = read_stops(extract, self.timetable)
         count = self.timetable.schedules.count
         with extract.table("public") as table:
-            found = self.timetable.trains(table, self.wishes.types)
-            for cell, group in groupby(found, key=attrgetter("uid")):
+            found = self.reader.public_trains(self.timetable.schedules.lines(), table)
+            for cell, group in groupby(found, key=itemgetter(0)):
                 uid, trains = cell.decode(), list(group)
-                for train in trains:
-                    if train.about is None:
-                        self.not_for_riders += count_of(train.dates)
-                progress.show_share("reading calls", int(trains[-1].calls.schedule), count)
+                progress.show_share("reading calls", int(trains[-1][4]), count)
                 if stops and uid in self.timetable.spots:
                     with_records = self.records is not None
                     of_uid = variants_of(trains, self.timetable.spots[uid], stops, with_records)
@@ -335,4 +345,4 @@ def convert(
             feed.write_file(archive, "feed_info", [about])
         wanted = wanted_rows(stops)
         write_wanted(wanted, outputs.wanted, files)
-    return Outcome(len(wanted), LeftOutCounts(conversion.not_for_riders, left_out))
+    return Outcome(len(wanted), LeftOutCounts(conversion.reader.not_for_riders, left_out))

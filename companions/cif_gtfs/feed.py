@@ -115,9 +115,9 @@ class TripFiles:
             self.trips.write(self.trip_row(trip))
 
     def trip_row(self, trip: Trip) -> bytes:
-        identity, operator, route_type = trip.about
+        identity, operator, route_type = trip.about.split(b"\t")
         route, headsign, direction = self.routes.shown(operator, route_type, trip.ends)
-        service = self.services.id_of(trip.dates).encode()
+        service = self.services.id_of(trip.dates)
         about = (headsign, csv_cell(identity), direction)
         return b"%s,%s,%s,%s,%s,%d,%s\n" % (route, service, trip.id, *about, trip.block)
 
@@ -128,7 +128,7 @@ class TripFiles:
         pieces: List[bytes] = []
         for sequence, row in zip(SEQUENCE, trip.rows):
             location, platform, times = row.split(b"\t", 2)
-            pieces += (trip.id, sequence, stops[location, platform], b",", times)
+            pieces += (trip.id, sequence, stops[location][platform], b",", times)
         # times, set down and pick up stand in the order of the heading
         return b"".join(pieces).replace(b"\t", b",")
 
@@ -154,7 +154,7 @@ def transfer_rows(
     rows = []
     for one, other in links:
         ends = (one.rows[-1].split(b"\t", 2), other.rows[0].split(b"\t", 2))
-        end, begin = (stops.ids[location, platform].decode() for location, platform, _ in ends)
+        end, begin = (stops.ids[location][platform].decode() for location, platform, _ in ends)
         rows.append(TransferRow(end, begin, one.id.decode(), other.id.decode(), STAY_SEATED, None))
     rows.sort(key=lambda row: (row.from_stop, row.from_trip, row.to_stop, row.to_trip))
     stations = {station.code: station.id for station in stops.stations()}

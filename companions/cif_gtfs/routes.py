@@ -38,14 +38,9 @@ class Shown(NamedTuple):
     direction: int
 
 
-class Ends(NamedTuple):
-    """The locations between which a train goes."""
-
-    first: bytes
-    last: bytes
-
-
-RouteKey = Tuple[bytes, int, Ends]
+# The locations between which a train goes.
+Ends = Tuple[bytes, bytes]
+RouteKey = Tuple[bytes, bytes, Ends]
 
 
 class Routes:
@@ -58,12 +53,12 @@ class Routes:
         self.rows: Dict[str, RouteRow] = {}
         self.operators: Set[str] = set()
 
-    def shown(self, operator: bytes, route_type: int, ends: Ends) -> Shown:
+    def shown(self, operator: bytes, route_type: bytes, ends: Ends) -> Shown:
         """How a trip is shown whose train goes from one location to another."""
         key = (operator, route_type, ends)
         found = self.known.get(key)
         if found is None:
-            found = self.known[key] = self.new(operator.decode(), route_type, ends)
+            found = self.known[key] = self.new(operator.decode(), int(route_type), ends)
         return found
 
     def new(self, operator: str, route_type: int, ends: Ends) -> Shown:

@@ -37,22 +37,22 @@ class Services:
         # what stands behind the id of a service for each date
         self.added = [f",{text},1\n" for text in self.texts]
         self.removed = [f",{text},2\n" for text in self.texts]
-        self.ids: Dict[Dates, str] = {}
-        self.dates: Dict[str, Dates] = {}
+        self.ids: Dict[Dates, bytes] = {}
+        self.dates: Dict[bytes, Dates] = {}
 
-    def id_of(self, dates: Dates) -> str:
+    def id_of(self, dates: Dates) -> bytes:
         found = self.ids.get(dates)
         if found is None:
             found = self.ids[dates] = self.new_id(dates)
             if self.dates.setdefault(found, dates) != dates:
-                raise Refused(f"two services have the id {found}")
+                raise Refused(f"two services have the id {found.decode()}")
         return found
 
-    def new_id(self, dates: Dates) -> str:
+    def new_id(self, dates: Dates) -> bytes:
         """A short hash of the dates, the same in each window that has them."""
         first = (dates & -dates).bit_length() - 1
         content = f"{self.texts[first]} {dates >> first:x}"
-        return blake2b(content.encode(), digest_size=ID_BYTES).hexdigest()
+        return blake2b(content.encode(), digest_size=ID_BYTES).hexdigest().encode()
 
     def usual(self, dates: Dates) -> Usual:
         first = (dates & -dates).bit_length() - 1
@@ -61,15 +61,19 @@ class Services:
         runs: List[int] = []
         usual = 0
         for weekday in self.window.weekdays:
-            runs.append(int(2 * count_of(dates & weekday) > count_of(span & weekday)))
-            usual |= span & weekday if runs[-1] else 0
+            own = dates & weekday
+            there = span & weekday if own else 0
+            runs.append(int(2 * count_of(own) > count_of(there)))
+            if runs[-1]:
+                usual |= there
         return Usual(first, last, runs, usual)
 
     def rows(self) -> Iterator[ServiceRows]:
         """The rows of each service: exceptions are dates that are added (1) and dates that are
         taken away (2). A service without a usual weekday has only the former. They are texts, as
         there are many."""
-        for dates, service in self.ids.items():
+        for dates, name in self.ids.items():
+            service = name.decode()
             usual = self.usual(dates)
             span = f"{self.texts[usual.first]},{self.texts[usual.last]}"
             calendar = f"{service},{','.join(map(str, usual.runs))},{span}\n" if usual.dates else ""

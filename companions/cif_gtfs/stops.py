@@ -6,7 +6,7 @@ without a CRS code is a stop by itself, whatever its platforms.
 from __future__ import annotations
 
 import re
-from typing import Dict, List, NamedTuple, Optional, Tuple
+from typing import Dict, List, NamedTuple, Optional
 
 from cif_shared.places import NO_COORDINATES, Places, Tiploc
 
@@ -19,6 +19,8 @@ OTHER = re.compile(r"[^A-Za-z0-9 ]")
 
 def coded(text: str) -> str:
     """The text as a part of an id: letters, digits, `_` for a space, and `%XX` for all else."""
+    if text.isascii() and text.isalnum():
+        return text
     return OTHER.sub(lambda other: f"%{ord(other[0]):02X}", text).replace(" ", "_")
 
 
@@ -43,23 +45,32 @@ class StopRow(NamedTuple):
     platform: str
 
 
-Place = Tuple[bytes, bytes]
+class PlatformIds(Dict[bytes, bytes]):
+    """The stop id of each platform of a location, made when it is asked for first."""
+
+    def __init__(self, places: Places, name: str) -> None:
+        super().__init__()
+        self.name = name
+        self.has_platforms = bool(places.tiploc(name).crs)
+
+    def __missing__(self, platform: bytes) -> bytes:
+        found = stop_id(self.name)
+        if platform and self.has_platforms:
+            found = f"{found}/{coded(platform.decode())}"
+        self[platform] = found.encode()
+        return self[platform]
 
 
-class StopIds(Dict[Place, bytes]):
-    """The stop id of each location and platform, made when it is asked for first."""
+class StopIds(Dict[bytes, PlatformIds]):
+    """The stop ids of each location by its platforms: ids[location][platform]."""
 
     def __init__(self, places: Places) -> None:
         super().__init__()
         self.places = places
 
-    def __missing__(self, place: Place) -> bytes:
-        name, platform = (text.decode() for text in place)
-        found = stop_id(name)
-        if platform and self.places.tiploc(name).crs:
-            found = f"{found}/{coded(platform)}"
-        self[place] = found.encode()
-        return self[place]
+    def __missing__(self, location: bytes) -> PlatformIds:
+        self[location] = PlatformIds(self.places, location.decode())
+        return self[location]
 
 
 class Stops:
@@ -76,9 +87,7 @@ class Stops:
 
     def used(self) -> List[Tiploc]:
         """The TIPLOCs that have a stop, rising."""
-        return [
-            self.places.tiploc(name) for name in sorted({name.decode() for name, _ in self.ids})
-        ]
+        return [self.places.tiploc(name) for name in sorted({name.decode() for name in self.ids})]
 
     def without_coordinates(self) -> List[Tiploc]:
         """The TIPLOCs in use that have no coordinates, nor their stations."""
@@ -98,8 +107,7 @@ class Stops:
         """The stations in use, rising by CRS code."""
         return [self.station(crs) for crs in sorted({tiploc.crs for tiploc in self.used()} - {""})]
 
-    def stop(self, place: Place, stop: bytes) -> StopRow:
-        location, platform = (text.decode() for text in place)
+    def stop(self, location: str, platform: str, stop: bytes) -> StopRow:
         tiploc = self.places.tiploc(location)
         latitude, longitude = self.places.coordinates(location)
         name = tiploc.given_name or self.places.station_name(location)
@@ -110,5 +118,9 @@ class Stops:
     def rows(self) -> List[StopRow]:
         """The rows of stops.txt: stations, and then the stops that calls have."""
         # a TIPLOC without a CRS code has one stop for all its platforms
-        stops = {self.stop(place, stop) for place, stop in self.ids.items()}
+        stops = {
+            self.stop(location.decode(), platform.decode(), stop)
+            for location, of_platforms in self.ids.items()
+            for platform, stop in of_platforms.items()
+        }
         return self.stations() + sorted(stops, key=lambda stop: stop.id)

@@ -2,12 +2,13 @@
 from __future__ import annotations
 
 from enum import Enum
+from functools import lru_cache
 from operator import itemgetter
 from typing import Dict, Iterable, Iterator, List, Mapping, NamedTuple, Optional, Tuple
 
-from cif_shared.dates import Dates, Window
+from cif_shared.dates import Dates, Window, count_of
 from cif_shared.riders import is_for_riders
-from cif_shared.schedules import Calls, calls_by_schedule
+from cif_shared.schedules import calls_by_schedule
 from cif_shared.tables import Table
 
 
@@ -42,15 +43,9 @@ class Sort(NamedTuple):
     sleepers: str
 
 
-class About(NamedTuple):
-    """What a trip shows of its train besides the calls."""
-
-    identity: bytes
-    operator: bytes
-    route_type: int
-
-    def text(self) -> bytes:
-        return b"%s\t%s\t%d\n" % self
+# What a trip shows of its train besides the calls, as ids are made of it: the identity, the operator
+# and the route type, with tabs between them and a line feed after them.
+About = bytes
 
 
 def kind_of(sort: Sort) -> Kind:
@@ -69,60 +64,64 @@ def kind_of(sort: Sort) -> Kind:
     return Kind.SLEEPER if sleeps else Kind.RAIL
 
 
-class PublicTrain(NamedTuple):
-    """A schedule with two public calls or more: when it runs, what its train is, or None if that
-    isn't for riders, and its calls."""
+# First and last date, days run, and the retail service id of a schedule, as they stand.
+Record = Tuple[bytes, bytes, bytes, bytes]
+# A schedule for riders with two public calls or more: its UID, when it runs, what its train is, its
+# record, its number, and its rows of `public`.
+PublicTrain = Tuple[bytes, Dates, About, Record, bytes, bytes]
 
-    uid: bytes
-    dates: Dates
-    about: Optional[About]
-    # first and last date, days run, and the retail service id, as they stand
-    record: Tuple[bytes, ...]
-    calls: Calls
-
-
-FIELDS = (
-    "uid first_date last_date days_run reserved_a identity operator_code"
-    " status category sleepers".split()
-)
+# The first fields of `schedules`, and of the others those that are read here.
+FIRST = "schedule uid first_date last_date days_run".split()
+FIELDS = "reserved_a identity operator_code status category sleepers".split()
+# The schedules of a train often differ in nothing but dates.
+KNOWN = 64
+NO_CALLS = (b"", b"")
 
 
 class ScheduleReader:
     """Reads rows of `schedules`."""
 
     def __init__(self, names: List[str], window: Window, types: Mapping[Kind, int]) -> None:
-        self.cells_at = itemgetter(*(names.index(name) for name in FIELDS))
+        assert names[: len(FIRST)] == FIRST, "a table of schedules begins with their dates"
+        others = names[len(FIRST) :]
+        self.cells_at = itemgetter(*(others.index(name) for name in FIELDS))
         self.window = window
         self.types = types
+        # on how many dates a train isn't for riders
+        self.not_for_riders = 0
         # the route type of each sort, or None if it isn't for riders
-        self.known: Dict[Tuple[bytes, ...], Optional[int]] = {}
+        self.known: Dict[Tuple[bytes, ...], Optional[bytes]] = {}
+        self.others = lru_cache(maxsize=KNOWN)(self.read_others)
 
-    def route_type(self, status: bytes, category: bytes, sleepers: bytes) -> Optional[int]:
+    def route_type(self, status: bytes, category: bytes, sleepers: bytes) -> Optional[bytes]:
         sort = Sort(status.decode(), category.decode(), sleepers.decode())
-        return self.types[kind_of(sort)] if is_for_riders(sort.status, sort.category) else None
+        is_shown = is_for_riders(sort.status, sort.category)
+        return b"%d" % self.types[kind_of(sort)] if is_shown else None
 
-    def read(self, line: bytes, calls: Calls) -> PublicTrain:
-        cells = self.cells_at(line[:-1].split(b"\t"))
-        uid, first, last, days_run, _, identity, operator = cells[:7]
-        sort = cells[7:]
+    def read_others(self, text: bytes) -> Tuple[bytes, Optional[About]]:
+        """The retail service id, and what the train is, of the fields after the first ones."""
+        cells = self.cells_at(text.rstrip(b"\n").split(b"\t"))
+        sort = cells[3:]
         if sort not in self.known:
             self.known[sort] = self.route_type(*sort)
         route_type = self.known[sort]
-        about = None if route_type is None else About(identity, operator, route_type)
-        dates = self.window.dates(first, last, days_run)
-        return PublicTrain(uid, dates, about, cells[1:5], calls)
+        if route_type is None:
+            return cells[0], None
+        return cells[0], b"%s\t%s\t%s\n" % (cells[1], cells[2], route_type)
 
-
-def public_trains(
-    schedules: Iterable[bytes], reader: ScheduleReader, table: Table
-) -> Iterator[PublicTrain]:
-    """Each schedule with two public calls or more, in the order of the extract. The lines are those
-    of `schedules`."""
-    lines = iter(schedules)
-    for calls in calls_by_schedule(table):
-        start = calls.schedule + b"\t"
-        line = next(lines, b"")
-        while line and not line.startswith(start):
-            line = next(lines, b"")
-        if calls.text.count(b"\n") > 1:
-            yield reader.read(line, calls)
+    def public_trains(self, schedules: Iterable[bytes], table: Table) -> Iterator[PublicTrain]:
+        """Each public train, in the order of the extract. The lines are those of `schedules`."""
+        dates_of = self.window.dates
+        calls = calls_by_schedule(table)
+        number, text = next(calls, NO_CALLS)
+        for line in schedules:
+            schedule, uid, first, last, days_run, others = line.split(b"\t", 5)
+            if schedule == number:
+                if text.find(b"\n") < len(text) - 1:
+                    retail, about = self.others(others)
+                    dates = dates_of(first, last, days_run)
+                    if about is None:
+                        self.not_for_riders += count_of(dates)
+                    else:
+                        yield uid, dates, about, (first, last, days_run, retail), number, text
+                number, text = next(calls, NO_CALLS)

@@ -8,8 +8,8 @@ from typing import Tuple
 from cif_shared.dates import Dates, moved
 from cif_shared.endings import Refused
 
-from .associations import DIVIDE, JOIN, Role
-from .calls import RunsAs, Variant, arriving, days_later, is_for_nobody, leaving, met
+from .associations import DIVIDE, JOIN, ROLES, Role
+from .calls import RunsAs, Variant, arriving, days_later, is_for_nobody, leaving, location_of, met
 from .compositions import Composition, Edge, Node
 from .routes import Ends
 from .stops import coded
@@ -43,7 +43,7 @@ class Trip:
 
 def ends_of(rows: Sequence[bytes]) -> Ends:
     """The locations of the first and of the last call."""
-    return Ends(rows[0].split(b"\t", 1)[0], rows[-1].split(b"\t", 1)[0])
+    return location_of(rows[0]), location_of(rows[-1])
 
 
 class TripsOfUid:
@@ -59,7 +59,7 @@ class TripsOfUid:
     ) -> Trip:
         """The trip of a train that has these rows, and other ends if it is a part of a train. A mark
         tells those of compositions from others."""
-        trip_id = self.id_of(b"".join((about.text(), *rows, mark)))
+        trip_id = self.id_of(b"".join((about, *rows, mark)))
         trip = self.trips.get(trip_id)
         if trip is None:
             trip = self.trips[trip_id] = Trip(trip_id, about, rows, mark, ends or ends_of(rows))
@@ -114,7 +114,7 @@ class LinkedTrain(NamedTuple):
     def text(self) -> bytes:
         """What tells it from other trains."""
         rows = b"|\n".join(b"".join(part.rows) for part in self.parts)
-        return self.variant.about.text() + b"%d\n" % self.days + rows
+        return self.variant.about + b"%d\n" % self.days + rows
 
     def section(self, start: int, stop: int) -> List[bytes]:
         """The rows from one place to another, and of those that aren't public only these two."""
@@ -130,7 +130,7 @@ def held_by(composition: Composition) -> Dict[Node, List[Held]]:
     """The associations of each train."""
     found: Dict[Node, List[Held]] = {node: [] for node in composition.variants}
     for edge in composition.edges:
-        for role in Role:
+        for role in ROLES:
             node = edge.node(role)
             place = composition.variants[node].place[edge.association.spots[role]]
             found[node].append(Held(edge, role, place))

@@ -2,12 +2,12 @@
 from __future__ import annotations
 
 import csv
-import sys
+import io
 from typing import Callable, Dict, List, Optional, Sequence
 
 from cif_shared.arguments import add_help, new_parser
 from cif_shared.endings import SUCCESS
-from cif_shared.running import run
+from cif_shared.running import run, standard_output
 
 from . import alf, msn, naptan
 from .public_file import Row
@@ -31,7 +31,10 @@ KINDS: Dict[str, Callable[[str], List[Row]]] = {
 
 
 def write(rows: List[Row]) -> int:
-    csv.writer(sys.stdout, lineterminator="\n").writerows(rows)
+    with standard_output() as output, io.TextIOWrapper(
+        output, encoding="utf-8", newline=""
+    ) as text:
+        csv.writer(text, lineterminator="\n").writerows(rows)
     return SUCCESS
 
 

@@ -4,7 +4,7 @@ from __future__ import annotations
 
 import csv
 import re
-from typing import Dict, List, NamedTuple, Tuple
+from typing import Dict, Iterator, List, NamedTuple, Tuple
 
 from cif_shared.csv_files import Mistake, degrees
 
@@ -31,28 +31,38 @@ class Station(NamedTuple):
     grid: str
 
 
+def rows_of(path: str) -> Iterator[Tuple[int, List[str]]]:
+    """The rows, each with the number of its last line."""
+    rows = csv.reader((line.text for line in lines_of(path)), strict=True)
+    try:
+        for cells in rows:
+            yield rows.line_num, cells
+    except csv.Error as problem:
+        raise refusal(path, rows.line_num, f"this is no CSV: {problem}") from None
+
+
 def places(path: str) -> List[Row]:
     """The places of the railway stations."""
-    rows = csv.reader(line.text for line in lines_of(path))
-    names: List[str] = next(rows, [])
+    rows = rows_of(path)
+    names: List[str] = next((cells for _, cells in rows), [])
     for name in NEEDED:
         if names.count(name) != 1:
             raise refusal(path, 1, f"the field {name} is missing or double")
     code_at = names.index(NEEDED[0])
     found: Dict[str, Row] = {}
-    for cells in rows:
+    for line, cells in rows:
         if len(cells) <= code_at or not cells[code_at].startswith(RAILWAY):
             continue
         if len(cells) != len(names):
             mistake = f"{len(cells)} fields, and the first line has {len(names)}"
-            raise refusal(path, rows.line_num, mistake)
+            raise refusal(path, line, mistake)
         given = dict(zip(names, cells))
         station = Station(*(given.get(name, "").strip() for name in (*NEEDED, *FURTHER)))
         tiploc = station.code[len(RAILWAY) :]
         name = station.name
         if name.endswith(END_OF_NAME):
             name = name[: -len(END_OF_NAME)]
-        coordinates = coordinates_of(path, rows.line_num, station)
+        coordinates = coordinates_of(path, line, station)
         found.setdefault(tiploc, (tiploc, name, *coordinates))
     return [PLACES, *(found[tiploc] for tiploc in sorted(found))]
 

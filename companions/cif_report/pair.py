@@ -58,7 +58,7 @@ class Pair(NamedTuple):
 def difference_of(cif: Cif, old: Extract, new: Extract, asked: Asked) -> Iterator[IO[bytes]]:
     """What `cif diff` writes. Of the files that are copies one is its standard input."""
     copied = next((each.path for each in (old, new) if each.copied), None)
-    names = ["-" if each.path == copied else str(each.path) for each in (old, new)]
+    names = ["-" if each.path == copied else each.word for each in (old, new)]
     words = ["diff", "--common", *asked.words(), "--", *names]
     with open(copied or os.devnull, "rb") as stdin:
         with cif.output(words, stdin, (SUCCESS, DIFFERENT)) as lines:

@@ -118,7 +118,7 @@ def changes_for_script(train: Train) -> str:
 
 
 def change_words(report: Report, change: Change) -> Markup:
-    texts = "; ".join(phrase.text for phrase in change.phrases)
+    texts = "; ".join(dict.fromkeys(phrase.text for phrase in change.phrases))
     when = report.calendar.words(change.dates)
     if change.phrases[0].text == GONE_FOR_GOOD:
         when = f"(it ran {when})"

@@ -2,12 +2,36 @@
 from __future__ import annotations
 
 import argparse
+import sys
+from typing import IO, Optional
 
 from . import VERSION
+from .endings import SUCCESS
+from .running import open_streams, run, standard_output
+
+
+class Parser(argparse.ArgumentParser):
+    """Reads arguments. If the help or the version can't be written, the run ends as any other."""
+
+    def _print_message(self, message: str, file: Optional[IO[str]] = None) -> None:
+        if file is not sys.stdout:
+            super()._print_message(message, file)
+            return
+
+        def write(_: object) -> int:
+            with standard_output() as output:
+                output.write(message.encode())
+            return SUCCESS
+
+        status = run(self.prog, write)
+        if status != SUCCESS:
+            sys.exit(status)
 
 
 def new_parser(program: str, about: str, epilog: str = "") -> argparse.ArgumentParser:
-    return argparse.ArgumentParser(
+    """The parser of a program that starts."""
+    open_streams()
+    return Parser(
         program,
         description=about,
         epilog=epilog,

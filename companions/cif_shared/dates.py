@@ -5,7 +5,7 @@ A set of dates is a number: bit 0 is the first date of the window, bit 1 the nex
 from __future__ import annotations
 
 from datetime import date, timedelta
-from typing import Callable, Dict, Iterator, List
+from typing import Callable, Dict, List
 
 Dates = int
 
@@ -20,12 +20,15 @@ def ones_of(number: int) -> int:
 count_of: Callable[[Dates], int] = getattr(int, "bit_count", ones_of)
 
 
-def numbers_of(dates: Dates) -> Iterator[int]:
-    """The numbers of the dates in a set, rising."""
+def numbers_of(dates: Dates) -> List[int]:
+    """The numbers of the dates in a set, rising. The last ones are taken first, which makes the
+    number that is left smaller."""
+    found: List[int] = []
     while dates:
-        lowest = dates & -dates
-        yield lowest.bit_length() - 1
-        dates ^= lowest
+        found.append(dates.bit_length() - 1)
+        dates ^= 1 << found[-1]
+    found.reverse()
+    return found
 
 
 def moved(dates: Dates, days: int) -> Dates:

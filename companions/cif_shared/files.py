@@ -42,13 +42,6 @@ def scratch_file() -> Iterator[IO[bytes]]:
             yield scratch
 
 
-@contextmanager
-def file_beside(place: Path) -> Iterator[Path]:
-    """An empty temporary file in the folder of a place, for whoever opens it by its name."""
-    with tempfile.NamedTemporaryFile(dir=place.parent, prefix=f".{place.name}.") as file:
-        yield Path(file.name)
-
-
 def output_path(text: str) -> Path:
     """The place of an output: that of a regular file, or where there is nothing yet. A link is
     followed."""
@@ -71,21 +64,36 @@ def mode_for(path: Path) -> int:
     return 0o666 & ~mask
 
 
+def file_beside(place: Path) -> Path:
+    """The path of a new file in the folder of a place."""
+    descriptor, name = tempfile.mkstemp(dir=place.parent, prefix=f".{place.name}.")
+    os.close(descriptor)
+    return Path(name)
+
+
 class NewFiles:
     """New files, each written beside its place."""
 
     def __init__(self) -> None:
         self.written: List[Tuple[Path, Path]] = []
+        self.temporary: List[Path] = []
         self.unwanted: List[Path] = []
         self.opened: List[IO[bytes]] = []
 
     def reserve(self, place: Path) -> Path:
         """The path of a new file that is empty, for whoever opens it by its name."""
-        descriptor, name = tempfile.mkstemp(dir=place.parent, prefix=f".{place.name}.")
-        self.written.append((Path(name), place))
-        os.fchmod(descriptor, mode_for(place))
-        os.close(descriptor)
-        return Path(name)
+        mode = mode_for(place)
+        with interrupts_waiting():
+            path = file_beside(place)
+            self.written.append((path, place))
+        path.chmod(mode)
+        return path
+
+    def beside(self, place: Path) -> Path:
+        """The path of a file that is empty, likewise, and that is removed at the end."""
+        with interrupts_waiting():
+            self.temporary.append(file_beside(place))
+        return self.temporary[-1]
 
     def create(self, place: Path) -> IO[bytes]:
         """A new file to write into."""
@@ -107,14 +115,14 @@ class NewFiles:
         with interrupts_waiting():
             for path, place in self.written:
                 os.replace(path, place)
-            for place in self.unwanted:
-                if place.exists():
-                    place.unlink()
+            for path in self.unwanted + self.temporary:
+                if path.exists():
+                    path.unlink()
 
     def discard(self) -> None:
         """Leaves nothing of what isn't in its place."""
         with interrupts_waiting():
-            for path, _ in self.written:
+            for path in [path for path, _ in self.written] + self.temporary:
                 if path.exists():
                     path.unlink()
 

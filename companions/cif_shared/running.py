@@ -1,12 +1,13 @@
-"""The frame of a run: interrupts, whatever ends it, and its status."""
+"""The frame of a run: standard streams, interrupts, whatever ends it, and its status."""
 from __future__ import annotations
 
 import os
 import signal
 import sys
 import traceback
+from contextlib import contextmanager
 from types import FrameType
-from typing import Callable, Optional
+from typing import IO, Callable, Iterator, Optional
 
 from .endings import FAILED, Ending, Failed
 from .progress import Progress
@@ -14,8 +15,38 @@ from .progress import Progress
 INTERRUPTS = (signal.SIGINT, signal.SIGTERM, signal.SIGHUP)
 
 
+def open_streams() -> None:
+    """Opens those standard streams that are closed, so that no other file gets their numbers. They
+    can't be read or written, but a report goes nowhere. Each one gets the least number that is free.
+    """
+    if sys.stdin is None:
+        sys.stdin = open(os.open(os.devnull, os.O_WRONLY), encoding="utf-8")
+    if sys.stdout is None:
+        sys.stdout = open(os.open(os.devnull, os.O_RDONLY), "w", encoding="utf-8")
+    if sys.stderr is None:
+        sys.stderr = open(os.open(os.devnull, os.O_WRONLY), "w", encoding="utf-8")
+
+
+@contextmanager
+def standard_output() -> Iterator[IO[bytes]]:
+    """Standard output, which has all that is written when the block ends. `sys.stdout` may be
+    unbuffered, and then drops the rest of what is written in part."""
+    with open(sys.stdout.fileno(), "wb", closefd=False) as output:
+        yield output
+
+
+def nothing(_number: int, _frame: Optional[FrameType]) -> None:
+    """Does nothing. Where Python itself ignores a signal, it reports one that has just come."""
+
+
+def ignore_interrupts() -> None:
+    for number in INTERRUPTS:
+        signal.signal(number, nothing)
+
+
 def interrupt(number: int, _frame: Optional[FrameType]) -> None:
-    """Ends the run."""
+    """Ends the run. A further interrupt would come between what cleans up, so it is ignored."""
+    ignore_interrupts()
     raise Failed(f"interrupted by {signal.Signals(number).name}")
 
 
@@ -36,17 +67,13 @@ def run(program: str, work: Callable[[Progress], int]) -> int:
     """The status of a run: that of its work, or of what ended it, which is printed."""
     progress = Progress()
     catch_interrupts()
+    text = ""
     try:
         status = work(progress)
-        progress.clear()
-        sys.stdout.flush()
-        return status
     except Ending as ending:
         text = ending.text(program)
         status = ending.status
     except BrokenPipeError:
-        # nobody reads on, so what is left in the buffer goes nowhere
-        os.dup2(os.open(os.devnull, os.O_WRONLY), sys.stdout.fileno())
         text = f"{program}: standard output can't be written: nobody reads it"
         status = FAILED
     except OSError as problem:
@@ -59,6 +86,13 @@ def run(program: str, work: Callable[[Progress], int]) -> int:
         # Python's own status, 1, may mean something else
         text = f"{traceback.format_exc()}{program}: this is a fault of {program}, or its cif is another program"
         status = FAILED
-    progress.clear()
-    print(text, file=sys.stderr)
+    for number in INTERRUPTS:
+        signal.signal(number, signal.SIG_IGN)
+    try:
+        progress.clear()
+        if text:
+            print(text, file=sys.stderr, flush=True)
+    except OSError:
+        # nobody can be told, and what is left in the buffer goes nowhere
+        os.dup2(os.open(os.devnull, os.O_WRONLY), sys.stderr.fileno())
     return status

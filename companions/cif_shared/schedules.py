@@ -2,45 +2,57 @@
 from __future__ import annotations
 
 import re
-from typing import Iterator, List, NamedTuple
+from itertools import chain
+from typing import Iterator, List, Tuple
 
 from .files import BLOCK
 from .tables import Table
 
-# The rows of a schedule, and what each has after its number and that of the call.
-ROWS_OF_SCHEDULE = re.compile(rb"^([0-9]+)\t.*\n(?:\1\t.*\n)*", re.MULTILINE)
+# The number of a schedule, and its rows as they stand.
+Calls = Tuple[bytes, bytes]
+
+# The rows of a schedule, before the number of another one, and what a row of calls has after its
+# number and that of the call.
+ROWS_OF_SCHEDULE = re.compile(rb"([0-9]+)\t.*\n(?:\1\t.*\n)*(?=(?!\1\t)[0-9]+\t)")
 ROW = re.compile(rb"\t[0-9]+\t(.*\n)")
 NUMBER = re.compile(rb"^[0-9]+\t([0-9]+)", re.MULTILINE)
+# Where the rows of a schedule end in most cases.
+NEAR = 4096
+# Stands for another schedule after the last one.
+END = b"0\t"
 
 
-class Calls(NamedTuple):
-    """The calls of a schedule: its number, and its rows as they stand."""
+def numbered(schedule: bytes, text: bytes) -> bytes:
+    """The rows of a schedule from the number of the call on."""
+    start = schedule + b"\t"
+    return text[len(start) :].replace(b"\n" + start, b"\n")
 
-    schedule: bytes
-    text: bytes
 
-    def numbered(self) -> bytes:
-        """The rows from the number of the call on."""
-        start = self.schedule + b"\t"
-        return self.text[len(start) :].replace(b"\n" + start, b"\n")
+def rows_of(text: bytes) -> List[bytes]:
+    """The rows from the location on."""
+    return ROW.findall(text)
 
-    def rows(self) -> List[bytes]:
-        """The rows from the location on."""
-        return ROW.findall(self.text)
 
-    def numbers(self) -> List[int]:
-        return [int(number) for number in NUMBER.findall(self.text)]
+def numbers_of(text: bytes) -> List[int]:
+    """The numbers of the calls."""
+    return list(map(int, NUMBER.findall(text)))
 
 
 def calls_by_schedule(table: Table) -> Iterator[Calls]:
     """The rows of a table of calls, schedule by schedule, cut from blocks. The last ones of a block
-    may go on in the next."""
+    may go on in the next. The next schedule mostly has the next number, which is looked for first,
+    since that takes less time than looking at each row."""
     rest = b""
-    for block in iter(lambda: table.lines.read(BLOCK), b""):
+    for block in chain(iter(lambda: table.lines.read(BLOCK), b""), (END,)):
         text = rest + block
-        groups = list(ROWS_OF_SCHEDULE.finditer(text))
-        for found in groups[:-1]:
-            yield Calls(found[1], found[0])
-        rest = text[groups[-1].start() :] if groups else text
-    for found in ROWS_OF_SCHEDULE.finditer(rest):
-        yield Calls(found[1], found[0])
+        at = 0
+        found = ROWS_OF_SCHEDULE.match(text)
+        while found:
+            schedule, end = found[1], found.end()
+            while end:
+                yield schedule, text[at:end]
+                at = end
+                schedule = text[at : text.find(b"\t", at)]
+                end = text.find(b"\n%d\t" % (int(schedule) + 1), at, at + NEAR) + 1
+            found = ROWS_OF_SCHEDULE.match(text, at)
+        rest = text[at:]

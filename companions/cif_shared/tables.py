@@ -2,11 +2,12 @@
 from __future__ import annotations
 
 import os
+import re
 import shutil
 import stat
 import sys
 import tempfile
-from contextlib import contextmanager
+from contextlib import ExitStack, contextmanager
 from operator import itemgetter
 from pathlib import Path
 from typing import IO, Callable, Collection, Iterator, List, Mapping, NamedTuple, Optional
@@ -166,6 +167,11 @@ class Extract:
         # a file with the records before the schedules, of which alone small tables are made
         self.head: Optional[Path] = None
 
+    @property
+    def word(self) -> str:
+        """The path as an argument. `-` would be standard input."""
+        return "./-" if str(self.path) == "-" else str(self.path)
+
     def check_state(self) -> None:
         if state_of(self.path) != self.state:
             raise Failed(f"{self.path} has changed while it was read")
@@ -174,13 +180,26 @@ class Extract:
     def table(self, name: str) -> Iterator[Table]:
         """A table as it comes."""
         words = ["table", *self.words, name]
-        words += ["-"] if self.copied else ["--", str(self.path)]
+        words += ["-"] if self.copied else ["--", self.word]
         with open(self.path if self.copied else os.devnull, "rb") as stdin:
             try:
                 with self.cif.output(words, stdin) as lines:
                     yield heading_of(lines)
             finally:
                 self.check_state()
+
+    @contextmanager
+    def part(self, uids: Collection[bytes]) -> Iterator[Optional[Extract]]:
+        """An extract of some trains alone, since no other record says what runs of these. There is
+        none if not all lines have one length."""
+        with tempfile.NamedTemporaryFile() as file:
+            descriptor = os.dup(file.fileno())
+            with open(self.path, "rb") as whole, reporting(
+                descriptor, tempfile.gettempdir()
+            ) as part:
+                found = write_part(whole, uids, part)
+            self.check_state()
+            yield Extract(self.cif, Path(file.name), self.words) if found else None
 
     def rows(self, name: str, kind: Type[Row]) -> List[Row]:
         """All rows of a table of header, places or associations. Nothing of these depends on the
@@ -223,6 +242,37 @@ def write_head(extract: IO[bytes], head: IO[bytes]) -> bool:
     return False
 
 
+# Of the records of an extract only a schedule has this second letter.
+SECOND = re.compile(b"S")
+
+
+def write_part(
+    extract: IO[bytes], uids: Collection[bytes], part: IO[bytes], size: int = BLOCK
+) -> bool:
+    """Writes an extract that is accepted with no schedules but those of some trains. It looks at
+    one column of all lines at once, since looking at each line takes far longer. Returns whether
+    all lines have one length, as this needs."""
+    width = len(extract.readline(LONGEST))
+    extract.seek(0)
+    lines = max(size // width, 1)
+    is_wanted = True
+    for block in iter(lambda: extract.read(lines * width), b""):
+        if len(block) % width or block[width - 1 :: width].strip(b"\n"):
+            return False
+        at = 0
+        for found in SECOND.finditer(block[1::width]):
+            start = found.start() * width
+            if is_wanted:
+                part.write(block[at:start])
+            at = start
+            is_wanted = block[start + 3 : start + 9] in uids
+        if is_wanted:
+            part.write(block[at:])
+    if not is_wanted:
+        part.write(TRAILER)
+    return True
+
+
 @contextmanager
 def with_head(extract: Extract) -> Iterator[Extract]:
     """The extract with a file of what stands before its schedules."""
@@ -236,30 +286,31 @@ def with_head(extract: Extract) -> Iterator[Extract]:
         yield extract
 
 
+def is_stream(name: str) -> bool:
+    """Whether an extract can be read once alone: standard input, `-`, a pipe, or what is open already,
+    as `/dev/stdin` is, whose name means another file to another program."""
+    if name == "-":
+        return True
+    mode = os.stat(name).st_mode
+    if not (stat.S_ISREG(mode) or stat.S_ISFIFO(mode)):
+        raise Misused(f"{name} has to be a file, a pipe, or - for standard input")
+    return stat.S_ISFIFO(mode) or os.path.abspath(name).startswith(("/dev/", "/proc/"))
+
+
 @contextmanager
 def open_extract(
     cif: Cif, name: str, first: Optional[str] = None, last: Optional[str] = None
 ) -> Iterator[Extract]:
-    """The extract in a file. Standard input, `-`, or a pipe is copied first, since an extract is
-    read several times."""
+    """The extract in a file. A stream is copied first, since an extract is read several times."""
     words = [*(("--from", first) if first is not None else ())]
     words += [*(("--to", last) if last is not None else ())]
-    if name == "-":
-        with copy_of(sys.stdin.buffer) as path:
-            with with_head(Extract(cif, path, words, copied=True)) as extract:
-                yield extract
-        return
-    mode = os.stat(name).st_mode
-    if not (stat.S_ISREG(mode) or stat.S_ISFIFO(mode)):
-        raise Misused(f"{name} has to be a file, a pipe, or - for standard input")
-    with open(name, "rb") as file:
-        if stat.S_ISREG(mode):
-            with with_head(Extract(cif, Path(name), words)) as extract:
-                yield extract
-        else:
-            with copy_of(file) as path:
-                with with_head(Extract(cif, path, words, copied=True)) as extract:
-                    yield extract
+    with ExitStack() as stack:
+        copied = is_stream(name)
+        path = Path(name)
+        if copied:
+            source = sys.stdin.buffer if name == "-" else stack.enter_context(open(name, "rb"))
+            path = stack.enter_context(copy_of(source))
+        yield stack.enter_context(with_head(Extract(cif, path, words, copied)))
 
 
 @contextmanager

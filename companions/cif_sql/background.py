@@ -1,14 +1,14 @@
 """Databases that are filled by processes of their own, while the next rows are read."""
 from __future__ import annotations
 
-import signal
 from contextlib import contextmanager
 from multiprocessing import get_context
 from multiprocessing.connection import Connection
 from typing import Callable, ContextManager, Iterator, List, Optional, Sequence
 
 from cif_shared.endings import Ending, Failed
-from cif_shared.running import INTERRUPTS
+from cif_shared.files import interrupts_waiting
+from cif_shared.running import ignore_interrupts
 
 from .schema import Database
 
@@ -56,8 +56,7 @@ class Background(Database):
 def fill_all(opened: Opened, ours: Connection, others: Sequence[Connection]) -> None:
     """What a process does: it fills a database with what comes, until that ends. An interrupt is
     for the process that sends, which then ends without saying that all is there."""
-    for number in INTERRUPTS:
-        signal.signal(number, signal.SIG_IGN)
+    ignore_interrupts()
     for other in others:
         other.close()
     ending: Optional[Ending] = None
@@ -73,7 +72,11 @@ def fill_all(opened: Opened, ours: Connection, others: Sequence[Connection]) -> 
         ending = Failed("memory ran out")
     except EOFError:
         return
-    ours.send(ending)
+    try:
+        ours.send(ending)
+    except OSError:
+        # nobody waits any more
+        pass
 
 
 @contextmanager
@@ -86,19 +89,27 @@ def in_background(databases: Sequence[Opened]) -> Iterator[List[Background]]:
         PROCESSES.Process(target=fill_all, args=(opened, other, ends - {other}))
         for opened, (_, other) in zip(databases, pipes)
     ]
-    for process in processes:
-        process.start()
-    for _, other in pipes:
-        other.close()
     try:
+        with interrupts_waiting():
+            for process in processes:
+                process.start()
+        for _, other in pipes:
+            other.close()
         filled = [Background(ours) for ours, _ in pipes]
         yield filled
         for database in filled:
             database.finish()
         for database in filled:
             database.wait()
-    finally:
-        for ours, _ in pipes:
-            ours.close()
+    except BaseException:
+        # what they write goes nowhere, and an index takes long
         for process in processes:
-            process.join()
+            if process.pid is not None:
+                process.kill()
+        raise
+    finally:
+        for end in ends:
+            end.close()
+        for process in processes:
+            if process.pid is not None:
+                process.join()

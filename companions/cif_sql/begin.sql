@@ -2,3 +2,9 @@
 \set ON_ERROR_STOP on
 SET client_encoding = 'UTF8';
 SET client_min_messages = warning;
+-- Another script that fills the schema is waited for, since either would fill the tables of the other. The lock ends with psql.
+DO $wait$
+BEGIN
+    PERFORM pg_advisory_lock(hashtext('cif-sql'), hashtext('@SCHEMA@'));
+END
+$wait$;

@@ -5,8 +5,6 @@ import argparse
 import gc
 import hashlib
 import os
-import stat
-import sys
 from concurrent.futures import ThreadPoolExecutor
 from contextlib import ExitStack, contextmanager
 from datetime import datetime, timezone
@@ -18,12 +16,12 @@ from cif_shared.arguments import add_cif, add_help, add_names, add_window, new_p
 from cif_shared.cif import Cif, find_cif
 from cif_shared.csv_files import CONTROL, read_file
 from cif_shared.endings import SUCCESS, Misused
-from cif_shared.files import BLOCK, file_beside, new_files, output_path
+from cif_shared.files import BLOCK, new_files, output_path
 from cif_shared.operators import read_operators
 from cif_shared.places import PLACES
 from cif_shared.progress import Progress
-from cif_shared.running import run
-from cif_shared.tables import Extract, open_extract
+from cif_shared.running import run, standard_output
+from cif_shared.tables import Extract, is_stream, open_extract
 
 from .background import in_background
 from .loading import Source, UserFiles, load
@@ -75,7 +73,7 @@ def place_of(asked: argparse.Namespace) -> Path:
     """The place of the database. One in the place of an input is refused."""
     name = asked.output
     if name is None:
-        if asked.extract == "-" or stat.S_ISFIFO(os.stat(asked.extract).st_mode):
+        if is_stream(asked.extract):
             raise Misused("the extract has no name: -o says which database to write")
         name = os.path.splitext(asked.extract)[0] + ".db"
     place = output_path(name)
@@ -129,8 +127,8 @@ def make_file(asked: argparse.Namespace, progress: Progress) -> int:
     with open_asked(asked) as extract:
         if not asked.force:
             check_age(place, extract.header())
-        with new_files() as files, file_beside(place) as longest, file_beside(place) as others:
-            path = files.reserve(place)
+        with new_files() as files:
+            path, longest, others = files.reserve(place), files.beside(place), files.beside(place)
             parts = [partial(new_part, part, place) for part in (longest, others)]
             # no thread is there yet when the processes start
             with in_background(parts) as databases:
@@ -157,7 +155,8 @@ def write_script(asked: argparse.Namespace, progress: Progress) -> int:
         with reading_source(extract, asked.extract) as source:
             load(extract, source, given, script, progress)
         progress.show("writing the script")
-        script.write(sys.stdout.buffer, schema, extract.header(), asked.force)
+        with standard_output() as output:
+            script.write(output, schema, extract.header(), asked.force)
     return SUCCESS
 
 

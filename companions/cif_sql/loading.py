@@ -16,7 +16,7 @@ from cif_shared.operators import OperatorRow, operator_name
 from cif_shared.places import PlaceRow, Places
 from cif_shared.progress import Progress
 from cif_shared.riders import is_for_riders
-from cif_shared.schedules import calls_by_schedule
+from cif_shared.schedules import calls_by_schedule, numbered
 from cif_shared.tables import AssociationRow, Extract, Header, Table, TiplocRow
 
 from .schema import Database, Filler, Row, rows_of
@@ -133,9 +133,9 @@ class Follower:
 
     def take(self, schedule: bytes) -> bytes:
         """The rows of a schedule without its number, or nothing."""
-        if self.next is None or self.next.schedule != schedule:
+        if self.next is None or self.next[0] != schedule:
             return b""
-        text = self.next.numbered()
+        text = numbered(*self.next)
         self.next = next(self.groups, None)
         return text
 
@@ -277,13 +277,13 @@ def load_trains(
         with extract.table("calls") as calls:
             journeys = Journeys(database, calls.names, public.names, changes.names)
             riders, en_route = Follower(public.table()), Follower(changes.table())
-            for row, group in zip(spooled_schedules.table().lines, calls_by_schedule(calls)):
-                number = group.schedule
+            rows = spooled_schedules.table().lines
+            for row, (number, text) in zip(rows, calls_by_schedule(calls)):
                 assert row.startswith(number + b"\t"), "each schedule has calls"
                 line = row.decode().rstrip("\n")
                 cells = line.split("\t")
-                taken = riders.take(number), en_route.take(number)
-                schedules.add(line, cells, journeys.journey(cells[1], group.numbered(), *taken))
+                parts = numbered(number, text), riders.take(number), en_route.take(number)
+                schedules.add(line, cells, journeys.journey(cells[1], *parts))
                 progress.show_share("loading trains", int(number), count)
     journeys.flush()
     schedules.schedules.flush()

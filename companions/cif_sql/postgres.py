@@ -63,4 +63,3 @@ class PostgresScript(Database):
         add(sql("indexes") + sql("cluster") + sql("views"))
         add("".join(f"ANALYZE {table};\n" for table in self.tables))
         add("BEGIN;\n" + sql("check") + sql("finish"))
-        output.flush()

@@ -5,6 +5,7 @@ import gzip
 import io
 import os
 import pty
+import random
 import shutil
 import signal
 import stat
@@ -17,13 +18,18 @@ from pathlib import Path
 from typing import DefaultDict, Dict, FrozenSet, List, Optional, Set, Tuple
 
 from cif_gtfs import trips
-from cif_gtfs.trains import About
 from cif_shared.endings import Refused
-from cif_shared.tables import rows_with
+from cif_shared.tables import rows_with, write_part
 
+from . import generated
 from .by_hand import uids_of
 from .checks import COMPANIONS, TOP, Counts, Maker, Word
 from .feeds import Feed, Shown, active_services
+
+# A generated extract, and how many of its associations stay.
+SEED = 1
+SCHEDULES = 600
+ASSOCIATIONS = 12
 
 # A file of each kind, with what is told of it.
 BAD_FILES = {
@@ -554,7 +560,7 @@ def check_again(counts: Counts, maker: Maker, special: Path) -> None:
 
 def check_collision(counts: Counts) -> None:
     """Two trips of a train with one id are refused, which needs shorter ids than there are."""
-    about, found = About(b"1A01", b"SN", 2), trips.TripsOfUid(" 00001")
+    about, found = b"1A01\tSN\t2\n", trips.TripsOfUid(" 00001")
     length, trips.ID_BYTES = trips.ID_BYTES, 1
     try:
         for number in range(300):
@@ -602,6 +608,54 @@ def check_blocks(counts: Counts) -> None:
             )
 
 
+def padded(*lines: str) -> List[bytes]:
+    return [line.ljust(80).encode() + b"\n" for line in lines]
+
+
+def check_part(counts: Counts) -> None:
+    """An extract of some trains has what stands before the schedules, their lines and the end."""
+    head = padded("HDTPS", "TIBSALPHA", "AANA00001")
+    schedules = [
+        padded(f"BSN{uid}", *["LOSSS", *["LISSS"] * calls, "LTSSS"])
+        for uid, calls in (
+            ("A00001", 3),
+            ("B00002", 0),
+            ("A00001", 1),
+            ("      ", 2),
+            ("C00003", 9),
+        )
+    ]
+    end = padded("ZZ")
+    lines = [*head, *(line for schedule in schedules for line in schedule), *end]
+    for uids in (b"A00001", b"C00003"), (b"      ",), (b"B00002", b"C00003"), (b"BSN   ",), ():
+        wanted = [schedule for schedule in schedules if schedule[0][3:9] in uids]
+        want = [*head, *(line for schedule in wanted for line in schedule), *end]
+        for size in (1, 81, 100, 300, 1000, 10**6):
+            part = io.BytesIO()
+            found = write_part(io.BytesIO(b"".join(lines)), uids, part, size)
+            got = part.getvalue().splitlines(keepends=True)
+            counts.same(f"the part of {uids} in blocks of {size}", (True, want), (found, got))
+        for number, line in enumerate(lines):
+            other = [*lines[:number], line[:-1] + b"\r\n", *lines[number + 1 :]]
+            found = write_part(io.BytesIO(b"".join(other)), uids, io.BytesIO(), 300)
+            counts.same(f"line {number} has another length", False, found)
+
+
+def check_few(counts: Counts, maker: Maker) -> None:
+    """Where few trains have associations their calls are read by themselves, and the feed is that
+    of the same extract with lines of two lengths, of which all calls are read."""
+    lines = generated.extract(random.Random(SEED), SCHEDULES).splitlines(keepends=True)
+    associations = [line for line in lines if line.startswith(b"AA")]
+    left_out = set(associations[ASSOCIATIONS:])
+    few, whole = maker.folder / "few.cif", maker.folder / "whole.cif"
+    few.write_bytes(b"".join(line for line in lines if line not in left_out))
+    whole.write_bytes(few.read_bytes().replace(b"\n", b"\r\n", 1))
+    (got, feed), (want, wanted) = maker.feed(few), maker.feed(whole)
+    counts.test("a feed of few associations", feed == wanted)
+    counts.test("it has linked trips", feed["transfers"].count("\n") > 1, feed["transfers"])
+    counts.same("what a feed of few associations leaves out", want.stderr, got.stderr)
+
+
 def check(counts: Counts, maker: Maker, special: Path) -> None:
     folder = maker.folder / "failures"
     folder.mkdir()
@@ -624,3 +678,5 @@ def check(counts: Counts, maker: Maker, special: Path) -> None:
     check_again(counts, maker, special)
     check_collision(counts)
     check_blocks(counts)
+    check_part(counts)
+    check_few(counts, maker)

@@ -96,6 +96,14 @@ BAD = {
         ),
         (NAPTAN + "9100HOVE,,Hove\n", "line 10: 3 fields, and the first line has 10"),
         (
+            NAPTAN + '0100BRP1,,"A stop,,,,,,,\n9100HOVE,,Hove,,,,,,,RLY\n',
+            "line 11: this is no CSV: unexpected end of data",
+        ),
+        (
+            NAPTAN + '0100BRP1,,"A stop,,,,,,,\n' + "0100BRP2,,A stop,,,,,,,\n" * 6000,
+            "line 5709: this is no CSV: field larger than field limit (131072)",
+        ),
+        (
             NAPTAN + "9100HOVE,,Hove,,,1,east,,,RLY\n",
             "line 10: Northing `east` isn't a number of metres",
         ),

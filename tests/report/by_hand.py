@@ -335,6 +335,8 @@ def check_words(counts: Counts, maker: Maker) -> None:
     ]
     page = maker.page(old, write(maker, "after.cif", extract(trains)))
     [train] = page.trains()
+    words = [" ".join(each) for group in page.groups for each in group.words]
+    counts.same("another UID and identity, in words", ["Renumbered on Mondays to Fridays"], words)
     counts.same("another UID, the train", "A00001", train.uid)
     counts.test("another UID, in words", "UID B00001 for A00001" in train.text, train.text)
     counts.test("another identity, in words", "9Z99 for 1A01" in train.text, train.text)

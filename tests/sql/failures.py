@@ -11,7 +11,7 @@ import threading
 import time
 from contextlib import closing
 from pathlib import Path
-from typing import Callable, List, Optional, Set, Tuple, Union
+from typing import Callable, Dict, List, Optional, Set, Tuple, Union
 
 from gtfs.checks import COMPANIONS, Counts, Word
 from gtfs.failures import FAILING
@@ -84,6 +84,101 @@ def check_names(counts: Counts, maker: Maker, special: Path) -> None:
     rows = sqlite_rows(maker.folder / "piped.db", "SELECT date FROM days ORDER BY date")
     counts.same("a part of the window", [("2026-01-07",), ("2026-01-08",)], rows)
     (maker.folder / "piped.db").unlink()
+
+
+def check_streams(counts: Counts, maker: Maker, special: Path) -> None:
+    """What is read and written where standard streams are closed, or files, or full."""
+    copy = maker.folder / "-"
+    copy.write_bytes(special.read_bytes())
+    call: List[Word] = [COMPANIONS / "cif-sql", "--cif", maker.cif]
+    read: Dict[str, List[Word]] = {
+        "a file called -": ["-o", "made.db", "./-"],
+        "standard input from a file": ["-o", "made.db", "/dev/stdin"],
+    }
+    for name, words in read.items():
+        with open(special, "rb") as stdin:
+            done = subprocess.run(
+                [*call, *words], cwd=maker.folder, stdin=stdin, capture_output=True, check=False
+            )
+        counts.same(name, (0, b""), (done.returncode, done.stderr))
+        found = sqlite_rows(maker.folder / "made.db", TRAINS)
+        counts.same(f"{name}, trains", [("DFTEST1", "20")], found)
+        (maker.folder / "made.db").unlink()
+    with open(special, "rb") as stdin:
+        unnamed = subprocess.run(
+            [*call, "/dev/stdin"], cwd=maker.folder, stdin=stdin, capture_output=True, check=False
+        )
+    counts.same("standard input from a file, without -o", 2, unnamed.returncode)
+    copy.unlink()
+    closed: Dict[str, Tuple[int, Tuple[int, ...], List[Word]]] = {
+        "standard input is closed": (0, (0,), ["-o", "made.db", special]),
+        "standard output is closed": (0, (1,), ["-o", "made.db", special]),
+        "standard error is closed": (0, (2,), ["-o", "made.db", special]),
+        "all is closed": (0, (0, 1, 2), ["-o", "made.db", special]),
+        "standard input is closed, and read": (4, (0,), ["-o", "made.db", "-"]),
+        "standard output is closed, and written": (4, (1,), ["--postgres", special]),
+        "standard error is closed, and written": (4, (2,), ["-o", "made.db", "missing.cif"]),
+    }
+    for name, (status, numbers, words) in closed.items():
+
+        def close(numbers: Tuple[int, ...] = numbers) -> None:
+            for number in numbers:
+                os.close(number)
+
+        silent = subprocess.DEVNULL
+        done = subprocess.run(
+            [*call, *words], cwd=maker.folder, stderr=silent, preexec_fn=close, check=False
+        )
+        counts.same(name, status, done.returncode)
+        made = maker.folder / "made.db"
+        counts.same(f"{name}, the database", "made.db" in words and not status, made.exists())
+        made.unlink(missing_ok=True)
+
+
+def check_output(counts: Counts, maker: Maker, special: Path) -> None:
+    """Output that can't be written, also where Python is asked to buffer nothing."""
+    call: List[Word] = [COMPANIONS / "cif-sql", "--cif", maker.cif]
+    whole = len(maker.run("--postgres", special).stdout)
+
+    def little_space() -> None:
+        resource.setrlimit(resource.RLIMIT_FSIZE, (whole - 1, whole - 1))
+
+    for unbuffered in "", "1":
+        environment = {**os.environ, "PYTHONUNBUFFERED": unbuffered}
+        asked: List[List[Word]] = [["--postgres", special], ["--help"], ["--version"]]
+        for words in asked:
+            with open("/dev/full", "wb") as full:
+                done = subprocess.run(
+                    [*call, *words],
+                    stdout=full,
+                    stderr=subprocess.PIPE,
+                    env=environment,
+                    check=False,
+                )
+            want = (4, b"cif-sql: No space left on device\n")
+            counts.same(
+                f"a full device, {words[0]}{unbuffered}", want, (done.returncode, done.stderr)
+            )
+        cut = maker.folder / "cut.sql"
+        with open(cut, "wb") as file:
+            done = subprocess.run(
+                [*call, "--postgres", special],
+                stdout=file,
+                stderr=subprocess.PIPE,
+                env=environment,
+                preexec_fn=little_space,
+                check=False,
+            )
+        want = (4, b"cif-sql: File too large\n")
+        counts.same(
+            f"space for all but a byte of a script{unbuffered}",
+            want,
+            (done.returncode, done.stderr),
+        )
+        cut.unlink()
+        with open("/dev/full", "wb") as full:
+            done = subprocess.run([*call, "missing.cif"], stderr=full, env=environment, check=False)
+        counts.same(f"standard error is full{unbuffered}", 4, done.returncode)
 
 
 def check_user_files(counts: Counts, maker: Maker, special: Path) -> None:
@@ -182,7 +277,10 @@ def check_signals(counts: Counts, maker: Maker, special: Path) -> None:
         "kept.db",
         special,
     ]
-    for number in signal.SIGTERM, signal.SIGINT, signal.SIGKILL:
+    term, hup, kill = signal.SIGTERM, signal.SIGHUP, signal.SIGKILL
+    # two at once are those of somebody impatient, or of a terminal that closes
+    for numbers in (term,), (signal.SIGINT,), (hup,), (term, hup), (hup, signal.SIGINT), (kill,):
+        number = numbers[-1]
         process = subprocess.Popen(
             words, cwd=maker.folder, stderr=subprocess.PIPE, start_new_session=True
         )
@@ -191,12 +289,13 @@ def check_signals(counts: Counts, maker: Maker, special: Path) -> None:
                 break
             time.sleep(0.05)
         reached.unlink()
-        process.send_signal(number)
-        process.wait(timeout=30)
-        assert process.stderr is not None
-        process.stderr.close()
-        name = signal.Signals(number).name
+        for each in numbers:
+            process.send_signal(each)
+        _, printed = process.communicate(timeout=30)
+        name = " and ".join(signal.Signals(each).name for each in numbers)
         status = -number if number == signal.SIGKILL else 4
+        if number != signal.SIGKILL:
+            counts.test(f"stopped by {name}, reported", len(printed.splitlines()) == 1, printed)
         counts.same(f"stopped by {name}", status, process.returncode)
         counts.test(
             f"stopped by {name}, the database", (maker.folder / "kept.db").read_bytes() == old
@@ -208,8 +307,19 @@ def check_signals(counts: Counts, maker: Maker, special: Path) -> None:
     (maker.folder / "failing-cif").unlink()
 
 
+def writers_of(process: subprocess.Popen[str]) -> List[int]:
+    """The processes that write the database of a run."""
+    children = Path(f"/proc/{process.pid}/task/{process.pid}/children").read_text("ascii").split()
+    return [
+        int(child)
+        for child in children
+        if b"/cif-sql\0" in Path(f"/proc/{child}/cmdline").read_bytes()
+    ]
+
+
 def check_writers(counts: Counts, maker: Maker, special: Path) -> None:
-    """If a process that writes the database is killed, the run fails, and nothing is left."""
+    """If a process that writes the database is killed, the run fails, and nothing is left. An
+    interrupt doesn't wait for one that is busy."""
     failing = failing_cif(maker, "calls", "touch reached; sleep 1; exit 0")
     before = {path.name: path.read_bytes() for path in maker.folder.iterdir()}
     words: List[Word] = [
@@ -221,29 +331,29 @@ def check_writers(counts: Counts, maker: Maker, special: Path) -> None:
         "kept.db",
         special,
     ]
-    for killed in range(WRITERS):
-        with subprocess.Popen(
-            words, cwd=maker.folder, stderr=subprocess.PIPE, text=True
-        ) as process:
-            while not (maker.folder / "reached").exists():
-                time.sleep(0.05)
-            children = (
-                Path(f"/proc/{process.pid}/task/{process.pid}/children").read_text("ascii").split()
-            )
-            writers = [
-                int(child)
-                for child in children
-                if b"/cif-sql\0" in Path(f"/proc/{child}/cmdline").read_bytes()
-            ]
-            counts.same("processes that write", WRITERS, len(writers))
-            os.kill(writers[killed], signal.SIGKILL)
-            _, printed = process.communicate()
-        (maker.folder / "reached").unlink()
-        name = f"writer {killed} is killed"
-        want = (4, "cif-sql: the process that writes the database ended early\n")
-        counts.same(name, want, (process.returncode, printed))
-        after = {path.name: path.read_bytes() for path in maker.folder.iterdir()}
-        counts.test(f"{name}, what is left", before == after, sorted(after))
+    killed = "the process that writes the database ended early"
+    for number, told in (signal.SIGKILL, killed), (signal.SIGSTOP, "interrupted by SIGTERM"):
+        for writer in range(WRITERS):
+            with subprocess.Popen(
+                words, cwd=maker.folder, stderr=subprocess.PIPE, text=True
+            ) as process:
+                while not (maker.folder / "reached").exists():
+                    time.sleep(0.05)
+                writers = writers_of(process)
+                counts.same("processes that write", WRITERS, len(writers))
+                os.kill(writers[writer], number)
+                if number == signal.SIGSTOP:
+                    process.send_signal(signal.SIGTERM)
+                try:
+                    _, printed = process.communicate(timeout=30)
+                except subprocess.TimeoutExpired:
+                    os.kill(writers[writer], signal.SIGCONT)
+                    printed = "nothing for 30 seconds"
+            (maker.folder / "reached").unlink()
+            name = f"writer {writer} gets {signal.Signals(number).name}"
+            counts.same(name, (4, f"cif-sql: {told}\n"), (process.returncode, printed))
+            after = {path.name: path.read_bytes() for path in maker.folder.iterdir()}
+            counts.test(f"{name}, what is left", before == after, sorted(after))
     (maker.folder / "failing-cif").unlink()
 
 
@@ -313,6 +423,8 @@ def check(counts: Counts, maker: Maker, special: Path) -> None:
     maker = Maker(maker.cif, folder)
     special = special.rename(folder / special.name)
     check_names(counts, maker, special)
+    check_streams(counts, maker, special)
+    check_output(counts, maker, special)
     check_user_files(counts, maker, special)
     check_replacement(counts, maker, special)
     check_failures(counts, maker, special)

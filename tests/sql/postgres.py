@@ -6,9 +6,9 @@ import subprocess
 import threading
 import time
 from pathlib import Path
-from typing import List, Optional, Tuple
+from typing import Dict, List, Optional, Tuple
 
-from gtfs.checks import COMPANIONS, Counts, Word
+from gtfs.checks import Counts, Word
 
 from . import by_hand, checks
 from .checks import Maker
@@ -108,10 +108,6 @@ def check_misuse(counts: Counts, maker: Maker, special: Path) -> None:
     done = failing.run("--postgres", special)
     counts.same("cif fails, nothing is written", (4, "", "cif: Memory\n"), ended(done))
     (maker.folder / "failing-cif").unlink()
-    call: List[Word] = [COMPANIONS / "cif-sql", "--cif", maker.cif, "--postgres", special]
-    with open("/dev/full", "wb") as full:
-        written = subprocess.run(call, stdout=full, stderr=subprocess.PIPE, check=False)
-    counts.same("a full device", 4, written.returncode)
 
 
 def check_readers(counts: Counts, maker: Maker, special: Path) -> None:
@@ -157,6 +153,59 @@ def check_transactions(counts: Counts, maker: Maker, special: Path) -> None:
     )
 
 
+def check_together(counts: Counts, maker: Maker, special: Path) -> None:
+    """Of two scripts for one schema the second waits for the first."""
+    script = script_of(maker, special)
+    cuts = {
+        "first": (script.index("COPY trains_per_day"), 2.0),
+        "second": (script.index("COPY journeys"), 3.0),
+    }
+    ends: Dict[str, Tuple[int, str]] = {}
+
+    def run(name: str) -> None:
+        cut, seconds = cuts[name]
+        with subprocess.Popen(
+            PSQL, stdin=subprocess.PIPE, stderr=subprocess.PIPE, text=True
+        ) as process:
+            assert process.stdin is not None and process.stderr is not None
+            process.stdin.write(script[:cut])
+            process.stdin.flush()
+            time.sleep(seconds)
+            process.stdin.write(script[cut:])
+            process.stdin.close()
+            printed = process.stderr.read()
+        ends[name] = (process.returncode, printed)
+
+    threads = [threading.Thread(target=run, args=(name,)) for name in cuts]
+    for thread in threads:
+        thread.start()
+        time.sleep(1)
+    for thread in threads:
+        thread.join()
+    counts.same("two scripts at once", {"first": (0, ""), "second": (0, "")}, ends)
+    counts.same("the trains after both", [("20",)], rows_of("SELECT count(*) FROM runs"))
+
+
+def check_privileges(counts: Counts, maker: Maker, special: Path) -> None:
+    """Who may read the schema may read the one that takes its place."""
+    query = (
+        "SELECT relname, relacl FROM pg_class WHERE relnamespace = 'cif'::regnamespace AND relacl IS NOT NULL"
+        " UNION SELECT 'cif', nspacl FROM pg_namespace WHERE nspname = 'cif' ORDER BY 1"
+    )
+    psql(
+        "-c",
+        "DROP ROLE IF EXISTS reader; CREATE ROLE reader; GRANT USAGE ON SCHEMA cif TO reader;"
+        "GRANT SELECT ON ALL TABLES IN SCHEMA cif TO reader; GRANT SELECT ON runs TO PUBLIC;"
+        "GRANT UPDATE ON days TO reader WITH GRANT OPTION",
+    )
+    before = rows_of(query)
+    counts.same("tables and views that reader may read", 18, len(before))
+    counts.same("a script where a role reads", (0, "", ""), ended(load(maker, special)))
+    counts.same("privileges", before, rows_of(query))
+    found = psql("-A", "-t", "-c", "SET ROLE reader; SELECT count(*) FROM cif.runs")
+    counts.same("what the role reads", (0, "20\n", ""), ended(found))
+
+
 def check_words(counts: Counts) -> None:
     """No table or column has a word of PostgreSQL's for its name."""
     query = (
@@ -179,6 +228,8 @@ def check(counts: Counts, maker: Maker, special: Path) -> None:
     check_misuse(counts, maker, special)
     check_readers(counts, maker, special)
     check_transactions(counts, maker, special)
+    check_together(counts, maker, special)
+    check_privileges(counts, maker, special)
     for path in maker.folder.glob("*.cif"):
         if path.name in ("earlier.cif", "first.cif"):
             path.unlink()
