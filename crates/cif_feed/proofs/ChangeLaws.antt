@@ -177,7 +177,8 @@ module _ {K R : Type 0} (key : R → K) (same : K → K → Bool) (tells : Tells
   same_records = same_values (λ (r : R). (key r, r)) (λ x y e. ap (λ (v : K × R). v.1) e)
 
   -- changes of other keys
-  others : (cs : List (RecordChange K R)) (b : List (K × R)) → All (λ d. key_of key d.action ≢ k) cs → last_word same b (changes_of key cs) k ≡ b
+  others : (cs : List (RecordChange K R)) (b : List (K × R)) → All (λ d. key_of key d.action ≢ k) cs →
+      last_word same b (changes_of key cs) k ≡ b
   others [] b none = refl
   others (c ∷ cs) b none =
       ap (λ v. last_word same (cond v (keyed_record (key_of key c.action) (put_of c.action)) b) (changes_of key cs) k)

@@ -1,6 +1,6 @@
 -- The changes of an update, one after another.
-use Rattle.cif_feed.proofs.Names.{AreLast, Bool, RecordChange, ChangeParts, IsEquivalence, List, None, Option, SaysAlone, SaysThere, Some, []}
-use Rattle.cif_feed.proofs.Names.{after_all, after_change, ap, append-nil, append_assoc, arith, changes_of, cond, drop, eq-eqb, false}
+use Rattle.cif_feed.proofs.Names.{AreLast, Bool, ChangeParts, IsEquivalence, List, None, Option, RecordChange, SaysAlone, SaysThere, Some}
+use Rattle.cif_feed.proofs.Names.{[], after_all, after_change, ap, append-nil, append_assoc, arith, changes_of, cond, drop, eq-eqb, false}
 use Rattle.cif_feed.proofs.Names.{filter, filter_agree, get_or, get_or-map, is_changed, is_position, is_some, is_there, items_where_true}
 use Rattle.cif_feed.proofs.Names.{keyed_record, last_from, length, length-map, length-take, list_any, list_any-append, list_any_at, map}
 use Rattle.cif_feed.proofs.Names.{map-append, map_more, nat_tests, not, option_or, option_to_list, or-false, or-true, or_none, put_last}

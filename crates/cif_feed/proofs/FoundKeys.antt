@@ -22,7 +22,8 @@ pub key-reported : {A K B R : Type 0} (h : Holidays) (key : A → K) (terms : A 
     → AreClashDatesOn (CountsAmong h published xs members code_list) first to found
     → IsReported cmp name stands_for (key entry) found known all old new → (k : K) → ArePositionsOf (keyed key terms xs) k members
     → IsKeyReported cmp name stands_for (AreClashDays h (published_by key published xs) first to) k known all old new
-key-reported h key terms published own xs members cmp name stands_for first to known all old new entry found some below is dates reported k p =
+key-reported h key terms published own xs members cmp name stands_for first to known all old new entry found some below is dates reported
+    k p =
     let position = get_or members 0 0 in
     let at = p.found position (Contains-get_or members 0 0 some) in
     let same = one-key (keyed key terms xs) position (key entry) k (has-key key terms xs position entry below is)

@@ -90,7 +90,8 @@ module _ {R : Type 0} (remaining : R → Option (List ℕ)) (errors : R → Opti
   unread-answer contents write_errors reported P old None after f read = absurd read.2
   unread-answer contents write_errors reported P old (Some s) after f (t, is, call) =
       let why = call.answers in
-      subst (λ e. FeedAnswers contents write_errors reported P old old (Err e)) (sym why.1) (silent contents write_errors reported P old why.0)
+      subst (λ e. FeedAnswers contents write_errors reported P old old (Err e)) (sym why.1)
+      (silent contents write_errors reported P old why.0)
 
 -- ---- the whole run
 
@@ -111,7 +112,8 @@ module _ {R W : Type 0} (remaining : R → Option (List ℕ)) (errors : R → Op
     (at-first : AreHolidaysRead remaining errors holidays after (Ok first)) (h : Holidays) (same : h ≡ first) (source source_new : Source R)
   where
     abbrev Answer : List ℕ → Option Dropped → Type 0
-    Answer text reported = OfHolidays remaining (λ given bytes. IsReported (IsPrepareAnswer drops given bytes text) reported) holidays source
+    Answer text reported =
+        OfHolidays remaining (λ given bytes. IsReported (IsPrepareAnswer drops given bytes text) reported) holidays source
 
     -- what the call that prepares owes the sink
     abbrev Written : Sink W → Sink W → Result Dropped FeedFault → Type 0

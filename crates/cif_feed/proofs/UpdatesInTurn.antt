@@ -23,7 +23,8 @@ pub last-append : (p : ℕ) (xs ys : List RefusedLine) → last_line p (xs ++ ys
 last-append p [] ys = refl
 last-append p (x ∷ xs) ys = last-append x.line xs ys
 
-pub reported-append : (p : ℕ) (xs ys : List RefusedLine) → reported_once p (xs ++ ys) ≡ reported_once p xs ++ reported_once (last_line p xs) ys
+pub reported-append : (p : ℕ) (xs ys : List RefusedLine) →
+    reported_once p (xs ++ ys) ≡ reported_once p xs ++ reported_once (last_line p xs) ys
 reported-append p [] ys = refl
 reported-append p (x ∷ xs) ys =
     ap (λ l. cond (x.line == p) [] (x ∷ []) ++ l) (reported-append x.line xs ys)

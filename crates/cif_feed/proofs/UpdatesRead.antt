@@ -256,7 +256,8 @@ module _ {R W A : Type 0} (remaining : R → Option (List ℕ)) (errors : R → 
       writes = w;
       answer = subst (λ t. Answer (published_text new) (Some t)) (sym (is a)) written;
     }
-    ended-answer is old after (Err f) w = subst (λ e. FeedAnswers contents write_errors reported Answer old after (Err e)) (sym w.0) record {
+    ended-answer is old after (Err f) w =
+        subst (λ e. FeedAnswers contents write_errors reported Answer old after (Err e)) (sym w.0) record {
       text = published_text new;
       writes = w.1;
       answer = λ bytes given known are. (reported-here, written bytes given known are);

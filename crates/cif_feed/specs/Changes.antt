@@ -133,13 +133,15 @@ pub record AreOfKey {K R : Type 0} (key : R → K) (records : List R) (k : K) (i
 
 -- What the new records have of a key: what the last change of this key puts, or nothing, if that is a deletion; and what the old ones
 -- have, if no change is of this key.
-pub record HaveLastWord {K R : Type 0} (key : R → K) (old : List R) (changes : List (RecordChange K R)) (new : List R) (k : K) : Type 0 where
+pub record HaveLastWord {K R : Type 0} (key : R → K) (old : List R) (changes : List (RecordChange K R)) (new : List R) (k : K)
+    : Type 0 where
   pub last : (before after : List (RecordChange K R)) (c : RecordChange K R) → changes ≡ before ++ c ∷ after → key_of key c.action ≡ k
       → All (λ d. key_of key d.action ≢ k) after → AreOfKey key new k (option_to_list (put_of c.action))
   pub kept : All (λ c. key_of key c.action ≢ k) changes → (items : List R) → AreOfKey key old k items → AreOfKey key new k items
 
 -- these are the changes that may not be done, each after those before it
-pub record AreRefused {K R : Type 0} (key : R → K) (old : List R) (changes : List (RecordChange K R)) (refused : List RefusedLine) : Type 0 where
+pub record AreRefused {K R : Type 0} (key : R → K) (old : List R) (changes : List (RecordChange K R)) (refused : List RefusedLine)
+    : Type 0 where
   pub same : K → K → Bool
   pub tells : TellsSame same
   pub are : refused ≡ refusals same (with_keys key old) (changes_of key changes)

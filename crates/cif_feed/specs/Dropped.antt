@@ -41,8 +41,8 @@ abbrev pub IsCountOfClashing : {K B : Type 0} → Holidays → List (K × Publis
 IsCountOfClashing {K} {B} h entries first last n =
     IsCountOf (λ (e : K × PublishedTerms B). AppliesOnAny (IsClashDay h entries first (last + 1) e.0) h last e.1) entries n
 
--- What is reported of a published extract, with these holidays: each key that has a clash day, associations before trains, with its first clash
--- day and how many more it has; and how many records apply on a clash day of their key.
+-- What is reported of a published extract, with these holidays: each key that has a clash day, associations before trains, with its first
+-- clash day and how many more it has; and how many records apply on a clash day of their key.
 pub record AreDropped (h : Holidays) (p : PublishedParts) (dropped : Dropped) : Type 0 where
   pub associations : List AssocKey
   pub association_days : AssocKey → List ℕ

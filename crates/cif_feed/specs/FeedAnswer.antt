@@ -49,7 +49,7 @@ IfFeedAnswered reported P (Ok done) = P (Some (reported done))
 IfFeedAnswered reported P (Err (Extract Write)) = P None
 IfFeedAnswered reported P (Err fault) = ⊤
 
--- What a command owes its sink: the text of its answer, and no byte more; a prefix of it at Write; nothing at another fault. What it tells
+-- What a command owes its sink: the text of its answer, and no byte more; a prefix of it at Write; nothing at another fault. What it reports
 -- beside it belongs to that text.
 pub record FeedAnswers {W A T : Type 0} (contents : W → Option (List ℕ)) (errors : W → Option ℕ) (reported : A → T)
     (IsAnswer : List ℕ → Option T → Type 0) (old new : Sink W) (result : Result A FeedFault) : Type 0 where
@@ -81,7 +81,7 @@ abbrev pub AreHolidaysOf : Option (List ℕ) → Holidays → Type 0
 AreHolidaysOf None h = (code : HolidayCode) → ¬ Names h code
 AreHolidaysOf (Some bytes) h = SpellHolidays bytes h
 
--- `prepare` answers these bytes of holidays and of a published extract by the text of its prepared extract, and tells what was dropped
+-- `prepare` answers these bytes of holidays and of a published extract by the text of its prepared extract, and reports what was dropped
 pub record IsPrepareAnswer (drops : Bool) (given : Option (List ℕ)) (bytes text : List ℕ) (dropped : Dropped) : Type 0 where
   pub holidays : Holidays
   pub spelled : AreHolidaysOf given holidays
@@ -149,7 +149,7 @@ read_as_prepared (Some full) done = not (have_marks full.counts) && list_any (λ
 abbrev pub looks_prepared : KeptUpdate → Bool
 looks_prepared kept = read_as_prepared kept.full kept.done.items
 
--- what `update` tells beside the text: that its full extract looks as if it were prepared, and which lines were waived
+-- what `update` reports beside the text: that its full extract looks as if it were prepared, and which lines were waived
 pub record UpdateReported : Type 0 where
   pub as_prepared : Bool
   pub waived : List RefusedLine
@@ -157,8 +157,9 @@ pub record UpdateReported : Type 0 where
 abbrev pub reported_of : KeptUpdate → UpdateReported
 reported_of kept = record { as_prepared = looks_prepared kept; waived = waived_by kept.done.items }
 
--- `update` answers the bytes of a full extract and of updates by this text, and tells this
-pub record IsUpdateAnswer (lenient : Bool) (full : List ℕ) (updates : List (List ℕ)) (text : List ℕ) (reported : UpdateReported) : Type 0 where
+-- `update` answers the bytes of a full extract and of updates by this text, and reports this
+pub record IsUpdateAnswer (lenient : Bool) (full : List ℕ) (updates : List (List ℕ)) (text : List ℕ) (reported : UpdateReported)
+    : Type 0 where
   pub written : IsWritten lenient MAX_LINES full updates text reported.waived
   pub as_prepared : reported.as_prepared ≡ is_as_prepared full updates
 

@@ -20,8 +20,8 @@ use Rattle.cif_feed.specs.declared.reasons.Reasons.{Reasons as Reported}
 abbrev pub NoneHasReason : List (List ℕ) → Type 0
 NoneHasReason contents = All (λ content. own_reason content ≡ None) contents
 
--- What a source gave of these bytes decides which lines are judged, whatever follows, where `after` is left: it reported its end, or there is
--- one too many among them, or one that is overlong.
+-- What a source gave of these bytes decides which lines are judged, whatever follows, where `after` is left: it reported its end, or
+-- there is one too many among them, or one that is overlong.
 abbrev pub IsJudgedWhole : ℕ → List ℕ → Unread → Type 0
 IsJudgedWhole max bytes after = after.ended ≡ false → IsSomeAnd after.bytes (IsGiven (λ before. ¬ MayGoOn max before) bytes)
 

@@ -26,8 +26,8 @@ holiday_code_refusal allowed line = unless (are (columns 29 29 line) (codes " ")
 
 -- ---- AA and BS, by their transaction, column 3
 
--- Without one it is NotFull, which is reported as BadTransaction of an update. Of a deletion the first date and the letter are read. Else AA:
--- BadDate and DatesReversed (columns 16 to 27), BadDays (columns 28 to 34), BadStp (column 80)
+-- Without one it is NotFull, which is reported as BadTransaction of an update. Of a deletion the first date and the letter are read.
+-- Else AA: BadDate and DatesReversed (columns 16 to 27), BadDays (columns 28 to 34), BadStp (column 80)
 abbrev pub association_refusal_by : Option Transaction → List ℕ → Option Refusal
 association_refusal_by None line = Some NotFull
 association_refusal_by (Some Deleted) line = first_of (date_refusal (columns 16 21 line) ∷ letter_refusal line ∷ [])
@@ -50,8 +50,8 @@ basic_refusal_by allowed (Some put) line = first_of (
 
 -- ---- any line
 
--- By its kind: HD without the update indicator of the feed is NotFull, which is reported as NotUpdate of an update; TA and TD of an update are
--- read as TI, of which nothing is refused; all other lines are as in an extract of this profile.
+-- By its kind: HD without the update indicator of the feed is NotFull, which is reported as NotUpdate of an update; TA and TD of an update
+-- are read as TI, of which nothing is refused; all other lines are as in an extract of this profile.
 abbrev pub feed_refusal_as : Feed → HolidayCodes → Option Kind → List ℕ → Option Refusal
 feed_refusal_as feed allowed (Some Hd) line = header_refusal_by (indicator_of feed) line
 feed_refusal_as feed allowed (Some Aa) line = association_refusal_by (transaction_at feed line) line

@@ -124,8 +124,8 @@ module _ {W : Type 0} (contents : W → Option (List ℕ)) (errors : W → Optio
 
   -- a failure to write, reported as a fault
   pub reported-as : (A E : Type 0) (text : List ℕ) (old new : Sink W) (written : Result A E) (reported : Result A Fault) →
-      MatchResult written (λ x. reported ≡ Ok x) (λ e. IsErrAnd reported (λ f. f ≡ fault.Write)) → Writes contents errors text old new written →
-      Writes contents errors text old new reported × IfErr reported (λ f. f ≡ fault.Write)
+      MatchResult written (λ x. reported ≡ Ok x) (λ e. IsErrAnd reported (λ f. f ≡ fault.Write)) →
+      Writes contents errors text old new written → Writes contents errors text old new reported × IfErr reported (λ f. f ≡ fault.Write)
   reported-as A E text old new (Ok x) reported is h =
       subst (λ r. Writes contents errors text old new r × IfErr r (λ f. f ≡ fault.Write)) (sym is) (h, tt)
   reported-as A E text old new (Err e) reported is h =

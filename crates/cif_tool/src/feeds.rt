@@ -1,11 +1,10 @@
 //! From a call that reads published extracts to its status: its inputs are opened here, and `--verbose` says more.
-//! What is read, done, written and reported is said by the clauses of the functions that are called.
+//! The clauses of what is called here say what is read, done, written and reported.
 use crate::devices::{ExtractInput, OutputState, boxed_source, source_of, standard_output};
 use crate::job::{FeedJob, InputNames, PrepareJob, Request, UpdateJob};
 use crate::line_advice::Reader;
 use crate::message::{Detail, Message};
 use crate::run::{run_prepare, run_update};
-use crate::status::DONE;
 use cif_columns::{Sink, Source};
 use cif_extract::Fault;
 use cif_feed::{
@@ -131,21 +130,19 @@ const FROM_UPDATE: &str = "FULL has to be what was published, or what cif update
 
 const IN_THEIR_ORDER: &str = "updates stand in their order, the oldest first";
 
-/// The full extract, and the updates.
+/// The updates, all inputs but the first.
 // Inlined, it would keep copies of inputs on the stack of its caller.
 #[inline(never)]
-fn sources_of<'a>(
+fn updates_of<'a>(
     rt: HostRuntime,
     inputs: &'a InputNames,
     detail: Detail,
 ) -> Result<Vec<Source<ExtractInput<'a>>>, AllocError> {
-    let mut sources = Vec::new(rt.alloc());
-    let full = Some(inputs.first.as_str());
-    sources.push(source_of(rt, "FULL", full, detail))?;
+    let mut updates = Vec::new(rt.alloc());
     for name in &inputs.rest {
-        sources.push(source_of(rt, "UPDATE", Some(name.as_str()), detail))?;
+        updates.push(source_of(rt, "UPDATE", Some(name.as_str()), detail))?;
     }
-    Ok(sources)
+    Ok(updates)
 }
 
 /// Writes what the updates make of the full extract, the first input.
@@ -158,26 +155,31 @@ fn update(
 ) -> Result<u8, Fault> {
     let alloc = rt.alloc();
     let detail = Detail::of(rt, request.verbose);
-    let mut sources = sources_of(rt, &request.inputs, detail)?;
-    let Some((full, updates)) = sources.split_first_mut() else {
-        return Ok(DONE);
-    };
+    let file = Some(request.inputs.first.as_str());
+    let mut full = boxed_source(rt, "FULL", file, detail)?;
+    let mut updates = updates_of(rt, &request.inputs, detail)?;
     let mut written = OutputState::new();
     let mut output = standard_output(rt, &mut written)?;
-    let ended = run_update(alloc, job, full, updates, &mut output, errors);
+    let ended = run_update(
+        alloc,
+        job,
+        &mut *full,
+        updates.as_mut_slice(),
+        &mut output,
+        errors,
+    );
     // The process ends after this: the system takes back the memory of all bodies at once.
     let ended = ManuallyDrop::new(ended);
     if detail.helps() {
         let mut message = Message::new(alloc);
         match &ended.answer {
             Ok(()) if detail == Detail::Help => {}
-            Ok(()) => add_updated(sources.as_slice(), &ended.kept, &mut message),
+            Ok(()) => add_updated(full.reader(), updates.as_slice(), &ended.kept, &mut message),
             Err(fault) => {
-                if let Some(input) = last_touched(sources.as_slice()) {
-                    add_undone(input, fault, &ended.kept, &written, &mut message);
-                    if sources.len() > 2 && matches!(fault, FeedFault::OutOfSequence { line: _ }) {
-                        message.line(IN_THEIR_ORDER);
-                    }
+                let input = last_touched(full.reader(), updates.as_slice());
+                add_undone(input, fault, &ended.kept, &written, &mut message);
+                if updates.len() > 1 && matches!(fault, FeedFault::OutOfSequence { line: _ }) {
+                    message.line(IN_THEIR_ORDER);
                 }
             }
         }
@@ -211,27 +213,32 @@ fn add_undone(
     }
 }
 
-/// The input that was read last, if one was.
-fn last_touched<'s, 'a>(sources: &'s [Source<ExtractInput<'a>>]) -> Option<&'s ExtractInput<'a>> {
-    let mut last = None;
-    for source in sources {
-        if source.reader().is_touched() {
-            last = Some(source.reader());
+/// The input that was read last: the full extract, or an update.
+fn last_touched<'s, 'a>(
+    full: &'s ExtractInput<'a>,
+    updates: &'s [Source<ExtractInput<'a>>],
+) -> &'s ExtractInput<'a> {
+    let mut last = full;
+    for update in updates {
+        if update.reader().is_touched() {
+            last = update.reader();
         }
     }
     last
 }
 
 /// Adds what was read of the full extract, and what each update did.
-fn add_updated(sources: &[Source<ExtractInput<'_>>], kept: &KeptUpdate, message: &mut Message) {
-    if let Some((full, updates)) = sources.split_first()
-        && let Some(read) = &kept.full
-    {
-        let input = full.reader();
-        input.add_window(&read.header, message);
-        message.line(format_args!("{input}: {read}"));
+fn add_updated(
+    full: &ExtractInput<'_>,
+    updates: &[Source<ExtractInput<'_>>],
+    kept: &KeptUpdate,
+    message: &mut Message,
+) {
+    if let Some(read) = &kept.full {
+        full.add_window(&read.header, message);
+        message.line(format_args!("{full}: {read}"));
         if kept.looks_prepared() {
-            message.line(format_args!("{input}: {FROM_UPDATE}"));
+            message.line(format_args!("{full}: {FROM_UPDATE}"));
         }
         for (update, done) in updates.iter().zip(&kept.done) {
             add_done(update.reader(), done, message);

@@ -84,8 +84,8 @@ impl ExtractInput<'_> {
         Some(line)
     }
 
-    /// Adds which records of the clash's key clash in this extract; whether any do. The extract loses those of
-    /// other keys.
+    /// Adds which records of the clash's key clash in this extract, and says whether any do. The extract is left
+    /// with the records of this key alone.
     pub(crate) fn add_records(
         &self,
         clash: &Clash,

@@ -4,9 +4,9 @@ ghost use Rattle.std.specs.Prelude.{MatchOption, String, codes, false, map, opti
 ghost use Rattle.clap.specs.Words.{all_of, first_of, found_of, kind_of, rows_of, subcommand_rows_of};
 ghost use Rattle.cif_columns.specs.Day.{StandsInYymmdd};
 ghost use Rattle.cif_tool.specs.CommandLine.{feed_subcommands};
-ghost use Rattle.cif_tool.specs.Job.{AreCanonicalWords, AreComparedWords, Asks, IsAskedBy, IsRequestChosen, IsChosen, IsDateOf, IsTaskChosen};
-ghost use Rattle.cif_tool.specs.Job.{IsUidWord, file_of, form_of, format_of, has_flag, inputs_of, is_standard, listing_of, names_of};
-ghost use Rattle.cif_tool.specs.Job.{required_word, standard_inputs, table_of};
+ghost use Rattle.cif_tool.specs.Job.{AreCanonicalWords, AreComparedWords, Asks, IsAskedBy, IsChosen, IsDateOf, IsRequestChosen};
+ghost use Rattle.cif_tool.specs.Job.{IsTaskChosen, IsUidWord, file_of, form_of, format_of, has_flag, inputs_of, is_standard, listing_of};
+ghost use Rattle.cif_tool.specs.Job.{names_of, required_word, standard_inputs, table_of};
 ghost use Rattle.cif_tool.specs.JobFault.{HasBadDate, HasBadWindow, IsAskedFor, IsEnteredFault};
 ghost use Rattle.cif_tool.specs.JobFault.{IsFaultOf, IsNoUid, IsNoneOf, NamesNoDay, several_of};
 

@@ -25,8 +25,8 @@ returns-in-Reasons g c =
     let reported = reported-as _ _ _ _ _ _ _ c.write.result call.result call.ensures.cases c.write.ensures in
     let reasons = c.in-Reasons.reasons in
     record {
-      answer = handed-text _ _ _ _ (reported_text reasons) 3 _ 3 call.result c.write.new.sink c.finish.new.sink c.finish.result refl reported.0
-          reported.1 (reasons_answer (g.R.Read.remaining c.args.source.now.reader) c.args.job.now after reasons
+      answer = handed-text _ _ _ _ (reported_text reasons) 3 _ 3 call.result c.write.new.sink c.finish.new.sink c.finish.result refl
+          reported.0 reported.1 (reasons_answer (g.R.Read.remaining c.args.source.now.reader) c.args.job.now after reasons
           (rw c.in-Reasons.is at c.in_ok-reasons.ensures.ok)) c.finish.ensures.finishes;
       reads = goes-on _ _ _ _ _ _ (Reasons reasons) (rw c.in-Reasons.is at c.in_ok-reasons.ensures) c.finish.result
           (reasons-written asked after reasons c.finish.result

@@ -10,6 +10,6 @@ returns-then-preparation c =
 
 pub returns : goal.returns
 returns c =
-    subst (λ (b : Bool). IsPreparedAs c.args.preparation.holidays.now b (published_parts c.args.self.now) c.in_ok-prepared.prepared c.none.result)
-    (sym c.if-preparation.false)
+    subst (λ (b : Bool). IsPreparedAs c.args.preparation.holidays.now b (published_parts c.args.self.now) c.in_ok-prepared.prepared
+    c.none.result) (sym c.if-preparation.false)
     (record { prepared = c.in_ok-prepared.ensures; reported = (c.none.ensures.keys, c.none.ensures.records) })

@@ -36,7 +36,9 @@ returns-clause-refused c =
         c.as_slice-2.ensures.value,
         c.as_slice-3.ensures.value,
       )
-          (append_assoc (first ++ reported_once 0 ts) (reported_once (last_line 0 ts) aas) (reported_once (last_line (last_line 0 ts) aas) ss)
-          ∙ append_assoc first (reported_once 0 ts) (reported_once (last_line 0 ts) aas ++ reported_once (last_line (last_line 0 ts) aas) ss)
+          (append_assoc (first ++ reported_once 0 ts) (reported_once (last_line 0 ts) aas)
+          (reported_once (last_line (last_line 0 ts) aas) ss)
+          ∙ append_assoc first (reported_once 0 ts)
+          (reported_once (last_line 0 ts) aas ++ reported_once (last_line (last_line 0 ts) aas) ss)
           ∙ ap (λ l. first ++ l) (reported-three ts aas ss));
     }
