@@ -61,10 +61,10 @@ pub use Rattle.cif_extract.specs.OrderOfRecords.{place_behind_by}
 pub use Rattle.cif_extract.specs.ReadCall.{IsOwed, IsReadWhole, IsResultOf, IsResultOfBoth, ReadCall}
 pub use Rattle.cif_extract.specs.ReadFault.{IsReadAs, IsReadFault, reading_extract}
 pub use Rattle.cif_extract.specs.SpellsExtract.{BytesSpell, BytesSpellWithin, SpellAll, SpellAllBy, SpellExtract, SpellExtractBy}
-pub use Rattle.cif_extract.specs.Steps.Reading.{GoesOnPlainly, HasLast, HasOwn, HasRead, HasReadAt, IsCancelled, IsClosed, IsFurther, IsFurtherPlainly, IsKeepable}
-pub use Rattle.cif_extract.specs.Steps.Reading.{IsKept, IsOpened, IsTaken, IsTakenAs, IsWhole, IsWithin, Progress, UnlessMemory}
-pub use Rattle.cif_extract.specs.Steps.Reading.{UnlessRefused, begun_journey, closed, fault_at_line, keeping, no_progress}
-pub use Rattle.cif_extract.specs.Steps.Reading.{parts_with_header, progress_of, schedule_of, step, with_kept, with_schedule}
+pub use Rattle.cif_extract.specs.Steps.Reading.{GoesOnPlainly, HasLast, HasOwn, HasRead, HasReadAt, IsCancelled, IsClosed, IsFurther}
+pub use Rattle.cif_extract.specs.Steps.Reading.{IsFurtherPlainly, IsKeepable, IsKept, IsOpened, IsTaken, IsTakenAs, IsWhole, IsWithin}
+pub use Rattle.cif_extract.specs.Steps.Reading.{Progress, UnlessMemory, UnlessRefused, begun_journey, closed, fault_at_line, keeping}
+pub use Rattle.cif_extract.specs.Steps.Reading.{no_progress, parts_with_header, progress_of, schedule_of, step, with_kept, with_schedule}
 pub use Rattle.cif_extract.specs.Taken.{HasTaken, IsNoTrailer, IsTakenBehind, refusal_at, refusal_behind}
 unfoldable pub use Rattle.cif_extract.specs.Texts.{schedule_lines}
 pub use Rattle.cif_extract.specs.Texts.{FitsColumns, ScheduleFits, extract_lines, extract_text, further_lines, plain_lines_of}

@@ -1,10 +1,10 @@
 -- What a line that is taken comes to, by its kind.
 use Rattle.cif_extract.proofs.Names.{AllStandIn, Err, GoesOnPlainly, HasLast, HasRead, IsFurther, IsFurtherPlainly, IsJudged, IsKeepable}
-use Rattle.cif_extract.proofs.Names.{IsKept, IsPlainOf, IsTaken, Kind, Li}
-use Rattle.cif_extract.proofs.Names.{List, Lt, None, Ok, Option, Place, Progress, Record, Refusal, Result, Some, SpellsRecord, TakeFault}
-use Rattle.cif_extract.proofs.Names.{Terminus, UnlessMemory, UnlessRefused, [], after_further, ap, first_of, keeping, kind_in, may_stand}
-use Rattle.cif_extract.proofs.Names.{no_refusal, order_refusal, own_layouts, plain_line, record_refusal, record_table, refl, refusal-kind}
-use Rattle.cif_extract.proofs.Names.{refusal_as, refusal_at, step, subst, sym, true, with_kept, ℕ, ◌∙◌, ◌∷◌, ◌≡◌, ◌≢◌}
+use Rattle.cif_extract.proofs.Names.{IsKept, IsPlainOf, IsTaken, Kind, Li, List, Lt, None, Ok, Option, Place, Progress, Record, Refusal}
+use Rattle.cif_extract.proofs.Names.{Result, Some, SpellsRecord, TakeFault, Terminus, UnlessMemory, UnlessRefused, [], after_further, ap}
+use Rattle.cif_extract.proofs.Names.{first_of, keeping, kind_in, may_stand, no_refusal, order_refusal, own_layouts, plain_line}
+use Rattle.cif_extract.proofs.Names.{record_refusal, record_table, refl, refusal-kind, refusal_as, refusal_at, step, subst, sym, true}
+use Rattle.cif_extract.proofs.Names.{with_kept, ℕ, ◌∙◌, ◌∷◌, ◌≡◌, ◌≢◌}
 use Rattle.cif_records.proofs.Records.{kind_of as record_kind, kind_there as spelled_kind}
 use Rattle.cif_records.specs.declared.record.Record.TheVariants as of
 use Rattle.cif_extract.proofs.FirstRefusals.{or_none}

@@ -64,7 +64,8 @@ module _ (h : Holidays) (p : PublishedParts) where
     trains-are : (k : List ℕ) → AreClashDays h (published_schedules p.schedules) p.header.first (p.header.last + 1) k (found.2.days k)
     trains-are k = found.2.are.are k
 
-    are_keys : all ≡ map (reported_as clash.Association found.1.days) found.1.keys ++ map (reported_as clash.Train found.2.days) found.2.keys
+    are_keys : all ≡ map (reported_as clash.Association found.1.days) found.1.keys
+        ++ map (reported_as clash.Train found.2.days) found.2.keys
     are_keys = found.2.added
         ∙ ap (λ l. l ++ map (reported_as clash.Train found.2.days) found.2.keys)
         (found.1.added ∙ ap (λ l. l ++ map (reported_as clash.Association found.1.days) found.1.keys) empty)

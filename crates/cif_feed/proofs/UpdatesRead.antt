@@ -258,10 +258,10 @@ module _ {R W A : Type 0} (remaining : R → Option (List ℕ)) (errors : R → 
     }
     ended-answer is old after (Err f) w =
         subst (λ e. FeedAnswers contents write_errors reported Answer old after (Err e)) (sym w.0) record {
-      text = published_text new;
-      writes = w.1;
-      answer = λ bytes given known are. (reported-here, written bytes given known are);
-    }
+          text = published_text new;
+          writes = w.1;
+          answer = λ bytes given known are. (reported-here, written bytes given known are);
+        }
 
     pub ended-fault : (old after : Sink W) (result : Result A FeedFault) → Ends old after result →
         OfUpdates remaining (λ bytes given. IfErr result (IsUpdateFault lenient bytes given)) full updates

@@ -49,8 +49,8 @@ IfFeedAnswered reported P (Ok done) = P (Some (reported done))
 IfFeedAnswered reported P (Err (Extract Write)) = P None
 IfFeedAnswered reported P (Err fault) = ⊤
 
--- What a command owes its sink: the text of its answer, and no byte more; a prefix of it at Write; nothing at another fault. What it reports
--- beside it belongs to that text.
+-- What a command owes its sink: the text of its answer, and no byte more; a prefix of it at Write; nothing at another fault. What it
+-- reports beside it belongs to that text.
 pub record FeedAnswers {W A T : Type 0} (contents : W → Option (List ℕ)) (errors : W → Option ℕ) (reported : A → T)
     (IsAnswer : List ℕ → Option T → Type 0) (old new : Sink W) (result : Result A FeedFault) : Type 0 where
   pub text : List ℕ

@@ -2,11 +2,11 @@
 use Rattle.cif_views.proofs.Names.{Bool, Bor, Calls, Change, Changes, Column, ExtractLines, Field, FieldPlace, IsTrue, JourneyKind, List}
 use Rattle.cif_views.proofs.Names.{Numbered, Other, Public, ScheduleLines, Schedules, Stop, Table, Tsv, [], and_parts, ap, append-nil}
 use Rattle.cif_views.proofs.Names.{append_assoc, are_within, arith, at_drop_all, both-after, call_columns, call_fields, change_columns}
-use Rattle.cif_views.proofs.Names.{change_fields, codes, cond, drop, enumerate_from, false, fields_in, filter, flat_map, has_row, in_table, inl, inr}
-use Rattle.cif_views.proofs.Names.{is_call, is_change, is_short, is_span, is_within, journey_columns, journey_rows, kind_of_line, length, length-append}
-use Rattle.cif_views.proofs.Names.{length-set, length-take-le, line_of, name_fields, named, nat_tests, number, numbered_from}
-use Rattle.cif_views.proofs.Names.{own_call_fields, refl, room_for, row_behind, row_fields, row_line, row_of_kind, rows_of, schedule_rows}
-use Rattle.cif_views.proofs.Names.{slice_index_or, slice_set, span_in, subst, sym, table_rows, take, take-append-add}
+use Rattle.cif_views.proofs.Names.{change_fields, codes, cond, drop, enumerate_from, false, fields_in, filter, flat_map, has_row, in_table}
+use Rattle.cif_views.proofs.Names.{inl, inr, is_call, is_change, is_short, is_span, is_within, journey_columns, journey_rows, kind_of_line}
+use Rattle.cif_views.proofs.Names.{length, length-append, length-set, length-take-le, line_of, name_fields, named, nat_tests, number}
+use Rattle.cif_views.proofs.Names.{numbered_from, own_call_fields, refl, room_for, row_behind, row_fields, row_line, row_of_kind, rows_of}
+use Rattle.cif_views.proofs.Names.{schedule_rows, slice_index_or, slice_set, span_in, subst, sym, table_rows, take, take-append-add}
 use Rattle.cif_views.proofs.Names.{take-take, take_more_set, true, ℕ, ◌++◌, ◌+◌, ◌<◌, ◌==◌, ◌∙◌, ◌∷◌, ◌≡◌, ◌≤◌, ◌⊎◌}
 use borrow.Rule.Slice.PartMut.{put_mid}
 use Rattle.std.proofs.lemmas.Slice.{take-put_mid}

@@ -32,13 +32,14 @@ loop-columns-preserved-in-Some-goes_further_plainly g c =
     let (ls, so_far, come, read_on) = c.loop-columns.invariant in
     let columns = c.in-Some.columns.now in
     let plain = c.in-Some-goes_further_plainly.ensures.plain in
-    let next = next_passed g.R.Read.remaining g.R.ReadDevice.read_errors (Of 82) c.loop-columns.lines c.pass_line-in-Some-goes_further_plainly.new.self
-    c.loop-columns.source columns c.in-Some.ensures plain.is_line.printable c.pass_line-in-Some-goes_further_plainly.ensures in
-    let more : given c.pass_line-in-Some-goes_further_plainly.new.self ≡ given c.loop-columns.lines + 1 = next.counted in
+    let passed = c.pass_line-in-Some-goes_further_plainly in
+    let next = next_passed g.R.Read.remaining g.R.ReadDevice.read_errors (Of 82) c.loop-columns.lines passed.new.self
+    c.loop-columns.source columns c.in-Some.ensures plain.is_line.printable passed.ensures in
+    let more : given passed.new.self ≡ given c.loop-columns.lines + 1 = next.counted in
     let room : length ls < c.args.max_lines =
-    omega (arith, more, so_far.counted, so_far.same_limit, next.limit_now, c.pass_line-in-Some-goes_further_plainly.new.self.counted) in (
+    omega (arith, more, so_far.counted, so_far.same_limit, next.limit_now, passed.new.self.counted) in (
       ls ++ columns ∷ [],
-      reading_line g.R.Read.remaining _ _ _ _ ls so_far c.pass_line-in-Some-goes_further_plainly.new.self c.loop-columns.source columns next.answer next.past_now
+      reading_line g.R.Read.remaining _ _ _ _ ls so_far passed.new.self c.loop-columns.source columns next.answer next.past_now
           next.limit_now more,
       come_more c.args.max_lines ls columns plain.is_line room (progress_of c.loop-columns.reading) come
           (progress_of c.take_plain_further.new.self) c.in-Ok-take_plain_further.ensures,

@@ -1,6 +1,6 @@
 -- One line more is written (`one-line`), and where no line is left the text is whole (`none-left`).
-use Rattle.cif_views.proofs.Names.{Tsv, [], ap, arith, is_call, kind_of_line, length, length-drop, number, refl, row_of_step, rules, step_at}
-use Rattle.cif_views.proofs.Names.{◌++◌, ◌+◌, ◌∙◌, ◌∷◌}
+use Rattle.cif_views.proofs.Names.{Tsv, [], ap, arith, is_call, kind_of_line, length, length-drop, number, refl, row_of_step, rules}
+use Rattle.cif_views.proofs.Names.{step_at, ◌++◌, ◌+◌, ◌∙◌, ◌∷◌}
 use Rattle.cif_canon.proofs.AppendedTexts.{text-is}
 use Rattle.cif_canon.specs.Fields.{after}
 use Rattle.cif_views.proofs.GatheredRows.{none-yet, rows-begin}
