@@ -6,7 +6,6 @@ mod answers;
 mod command_line;
 mod devices;
 mod feed_advice;
-mod feeds;
 mod help;
 mod input_advice;
 mod job;

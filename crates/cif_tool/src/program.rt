@@ -1,16 +1,19 @@
 //! From the words of the process to its status. No clause says what is done here: the rows of `tests/`
 //! show it on the built program.
 use crate::advice::DoneJob;
-use crate::devices::{OutputState, boxed_source, buffered, standard_output};
-use crate::feeds::feed_task;
-use crate::job::{Job, JobFault, Request, Task};
+use crate::devices::{
+    ExtractInput, OutputState, boxed_source, buffered, source_of, standard_output,
+};
+use crate::feed_advice::{DonePrepareJob, DoneUpdateJob};
+use crate::job::{FeedJob, InputNames, Job, JobFault, PrepareJob, Request, Task, UpdateJob};
 use crate::message::Detail;
-use crate::run::{run_fault, run_job};
+use crate::run::{run_fault, run_job, run_prepare, run_update};
 use crate::status::{USAGE_ERROR, end};
 use crate::word_advice::advise_on_word;
 use crate::words::task_of;
-use cif_columns::Sink;
+use cif_columns::{Sink, Source};
 use cif_extract::Fault;
+use std::alloc::AllocError;
 use std::io::{ErrorKind, Stderr};
 use std::mem::ManuallyDrop;
 use std::{env, io};
@@ -40,8 +43,9 @@ fn run_words(rt: HostRuntime, words: Vec<String>, errors: &mut Sink<Stderr>) -> 
     match task_of(rt.alloc(), words) {
         Ok(request) => {
             let done = match &request.task {
-                Task::Extract(job) => extract_task(rt, job, &request, errors),
-                Task::Feed(job) => feed_task(rt, job, &request, errors),
+                Task::Extract(job) => answer_job(rt, job, &request, errors),
+                Task::Feed(FeedJob::Prepare(job)) => prepare(rt, job, &request, errors),
+                Task::Feed(FeedJob::Update(job)) => update(rt, job, &request, errors),
             };
             end(&done, errors)
         }
@@ -75,7 +79,7 @@ fn words_of(rt: HostRuntime) -> io::Result<Vec<String>> {
 /// or its output.
 // Inlined, it would keep its inputs on the stack while a feed is read.
 #[inline(never)]
-fn extract_task(
+fn answer_job(
     rt: HostRuntime,
     job: &Job,
     request: &Request,
@@ -109,4 +113,102 @@ fn extract_task(
         done_job.advise(alloc, &ended.answer, &mut ended.kept, errors);
     }
     Ok(ended.status)
+}
+
+/// Writes the prepared extract of the last input, with the holidays of the one before it, if there is one, and returns the
+/// status to exit with. Memory comes as in `answer_job`.
+// Inlined, it would keep its inputs on the stack beside those of `update`.
+#[inline(never)]
+fn prepare(
+    rt: HostRuntime,
+    job: &PrepareJob,
+    request: &Request,
+    errors: &mut Sink<Stderr>,
+) -> Result<u8, Fault> {
+    let alloc = rt.alloc();
+    let detail = Detail::of(rt, request.verbose);
+    let mut holidays = source_of_holidays(rt, &request.inputs, detail);
+    let file = request.inputs.rest.first().unwrap_or(&request.inputs.first);
+    let mut source = boxed_source(rt, "", Some(file.as_str()), detail)?;
+    let mut written = OutputState::new();
+    let mut output = standard_output(rt, &mut written)?;
+    let ended = run_prepare(alloc, job, &mut holidays, &mut *source, &mut output, errors);
+    // The process ends after this: the system takes back the memory of all bodies at once.
+    let ended = ManuallyDrop::new(ended);
+    if detail.helps() {
+        let done_job = DonePrepareJob {
+            detail,
+            job,
+            written: &written,
+            holidays: holidays.as_ref().map(Source::reader),
+            extract: source.reader(),
+        };
+        done_job.advise(alloc, &ended.answer, &ended.kept, errors);
+    }
+    Ok(ended.status)
+}
+
+/// The holidays, the input before the extract, if there is one.
+#[inline(never)]
+fn source_of_holidays<'a>(
+    rt: HostRuntime,
+    inputs: &'a InputNames,
+    detail: Detail,
+) -> Option<Source<ExtractInput<'a>>> {
+    inputs.rest.first()?;
+    let file = Some(inputs.first.as_str());
+    Some(source_of(rt, "holidays", file, detail))
+}
+
+/// Writes what the updates make of the full extract, the first input, and returns the status to exit with. Memory comes as in
+/// `answer_job`.
+#[inline(never)]
+fn update(
+    rt: HostRuntime,
+    job: &UpdateJob,
+    request: &Request,
+    errors: &mut Sink<Stderr>,
+) -> Result<u8, Fault> {
+    let alloc = rt.alloc();
+    let detail = Detail::of(rt, request.verbose);
+    let file = Some(request.inputs.first.as_str());
+    let mut full = boxed_source(rt, "FULL", file, detail)?;
+    let mut updates = updates_of(rt, &request.inputs, detail)?;
+    let mut written = OutputState::new();
+    let mut output = standard_output(rt, &mut written)?;
+    let ended = run_update(
+        alloc,
+        job,
+        &mut *full,
+        updates.as_mut_slice(),
+        &mut output,
+        errors,
+    );
+    // The process ends after this: the system takes back the memory of all bodies at once.
+    let ended = ManuallyDrop::new(ended);
+    if detail.helps() {
+        let done_job = DoneUpdateJob {
+            detail,
+            written: &written,
+            full: full.reader(),
+            updates: updates.as_slice(),
+        };
+        done_job.advise(alloc, &ended.answer, &ended.kept, errors);
+    }
+    Ok(ended.status)
+}
+
+/// The updates, all inputs but the first.
+// Inlined, it would keep copies of inputs on the stack of its caller.
+#[inline(never)]
+fn updates_of<'a>(
+    rt: HostRuntime,
+    inputs: &'a InputNames,
+    detail: Detail,
+) -> Result<Vec<Source<ExtractInput<'a>>>, AllocError> {
+    let mut updates = Vec::new(rt.alloc());
+    for name in &inputs.rest {
+        updates.push(source_of(rt, "UPDATE", Some(name.as_str()), detail))?;
+    }
+    Ok(updates)
 }
