@@ -221,6 +221,9 @@ SPECIAL = re.compile(b'[,"\n]')
 
 def csv_cell(text: bytes) -> bytes:
     """A text as a cell of a row."""
+    # most are plain, which is seen faster so
+    if text.isalnum():
+        return text
     return b'"%s"' % text.replace(b'"', b'""') if SPECIAL.search(text) else text
 
 

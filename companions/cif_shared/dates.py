@@ -20,13 +20,20 @@ def ones_of(number: int) -> int:
 count_of: Callable[[Dates], int] = getattr(int, "bit_count", ones_of)
 
 
+# Each date alone, which takes longer to make each time.
+SINGLE: List[Dates] = []
+
+
 def numbers_of(dates: Dates) -> List[int]:
     """The numbers of the dates in a set, rising. The last ones are taken first, which makes the
     number that is left smaller."""
+    while len(SINGLE) < dates.bit_length():
+        SINGLE.append(1 << len(SINGLE))
     found: List[int] = []
     while dates:
-        found.append(dates.bit_length() - 1)
-        dates ^= 1 << found[-1]
+        number = dates.bit_length() - 1
+        found.append(number)
+        dates ^= SINGLE[number]
     found.reverse()
     return found
 
@@ -53,6 +60,9 @@ class Window:
         self.weekdays: List[Dates] = [0] * 7
         for number, day in enumerate(self.days):
             self.weekdays[day.weekday()] |= 1 << number
+        # all dates up to the one of a text, and all before it
+        self.up_to = {text: (2 << number) - 1 for text, number in self.numbers.items()}
+        self.before = {text: (1 << number) - 1 for text, number in self.numbers.items()}
         self.of_days_run: Dict[bytes, Dates] = {}
 
     def dates(self, first: bytes, last: bytes, days_run: bytes) -> Dates:
@@ -61,4 +71,4 @@ class Window:
         if runs is None:
             weekdays = zip(self.weekdays, days_run.decode())
             runs = self.of_days_run[days_run] = sum(dates for dates, bit in weekdays if bit == "1")
-        return ((2 << self.numbers[last]) - (1 << self.numbers[first])) & runs
+        return (self.up_to[last] - self.before[first]) & runs

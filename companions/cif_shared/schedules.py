@@ -48,11 +48,18 @@ def calls_by_schedule(table: Table) -> Iterator[Calls]:
         at = 0
         found = ROWS_OF_SCHEDULE.match(text)
         while found:
-            schedule, end = found[1], found.end()
+            yield found[1], text[at : found.end()]
+            at = found.end()
+            schedule = text[at : text.find(b"\t", at)]
+            number = int(schedule) + 1
+            following = b"\n%d\t" % number
+            end = text.find(following, at, at + NEAR) + 1
             while end:
                 yield schedule, text[at:end]
                 at = end
-                schedule = text[at : text.find(b"\t", at)]
-                end = text.find(b"\n%d\t" % (int(schedule) + 1), at, at + NEAR) + 1
+                schedule = following[1:-1]
+                number += 1
+                following = b"\n%d\t" % number
+                end = text.find(following, at, at + NEAR) + 1
             found = ROWS_OF_SCHEDULE.match(text, at)
         rest = text[at:]
