@@ -11,7 +11,7 @@ from typing import Dict, Iterable, List, NamedTuple, Optional, Sequence, Set
 
 from cif_shared.dates import Dates
 
-from .trains import About
+from .trains import About, Record
 
 HOUR = 3600
 DAY = 86400
@@ -57,7 +57,7 @@ def written(moment: int) -> bytes:
 
 
 def location_of(row: bytes) -> bytes:
-    return row[: row.index(b"\t")]
+    return row.partition(b"\t")[0]
 
 
 def times_of(row: bytes) -> Times:
@@ -203,7 +203,7 @@ class RunsAs(NamedTuple):
     """The dates of a variant that are those of a schedule, and this as it stands."""
 
     dates: Dates
-    record: Sequence[bytes]
+    record: Record
 
 
 def stops_at(

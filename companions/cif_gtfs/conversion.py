@@ -4,12 +4,11 @@ from __future__ import annotations
 from contextlib import ExitStack, contextmanager
 from dataclasses import dataclass
 from functools import lru_cache
-from itertools import groupby
-from operator import itemgetter
 from pathlib import Path
 from typing import (
     IO,
     Callable,
+    Collection,
     Dict,
     Iterable,
     Iterator,
@@ -40,8 +39,8 @@ from .compositions import compositions_of, groups_of, linked_dates
 from .routes import Routes
 from .services import Services
 from .stops import Stops
-from .trains import KNOWN, Kind, PublicTrain, ScheduleReader
-from .trips import Assembly, Link, Trip, TripsOfUid, add_records
+from .trains import Kind, PublicTrain, Record, ScheduleReader
+from .trips import Assembly, Link, TripsOfUid, add_records, plain_trips
 from .user_files import InterchangeRow, LinkRow
 
 
@@ -89,12 +88,6 @@ class Schedules:
         self.file.seek(0)
         return self.file
 
-    def numbers_of(self, uids: Iterable[str]) -> Dict[bytes, str]:
-        """The UIDs of the schedules of these, by their numbers."""
-        wanted = {uid.encode(): uid for uid in uids}
-        cells = (line.split(b"\t", 2) for line in self.lines())
-        return {number: wanted[uid] for number, uid, _ in cells if uid in wanted}
-
 
 @dataclass
 class Timetable:
@@ -131,53 +124,77 @@ def read_timetable(extract: Extract, given: Mapping[Key, PlaceRow]) -> Iterator[
         yield Timetable(header, window, places, associations, schedules, spots_of(associations))
 
 
-class StopRows(NamedTuple):
-    """Of each schedule with associations the calls at their locations, by its number, as rows of
-    `calls` without this, and what reads these."""
+# Which of the schedules of an extract one is: its UID, first and last date and days run, as they stand
+# in its row. On each date at most one of a UID runs.
+ScheduleKey = bytes
 
-    rows: Dict[bytes, List[bytes]]
+
+def keys_of(lines: Iterable[bytes], uids: Collection[bytes]) -> Iterator[Tuple[bytes, ScheduleKey]]:
+    """The number of each schedule of some UIDs, and which one it is. The lines are those of `schedules`."""
+    for line in lines:
+        number, uid, others = line.split(b"\t", 2)
+        if uid in uids:
+            yield number, b"\t".join((uid, *others.split(b"\t", 3)[:3]))
+
+
+class StopRows(NamedTuple):
+    """Of each schedule with associations the calls at their locations, as rows of `calls` without
+    the number of the schedule, and what reads these."""
+
+    rows: Dict[ScheduleKey, List[bytes]]
     read: Callable[[bytes], Stop]
 
-    def take(self, schedule: bytes) -> List[bytes]:
+    def take(self, schedule: ScheduleKey) -> List[bytes]:
         return self.rows.pop(schedule, [])
 
 
-# Where the schedules with associations are fewer than one in so many, their calls are read of an
-# extract of these trains alone.
-FEW = 4
+# The schedules of a train often call at the same times.
+KNOWN = 64
+# Where there are more schedules than so many for each train with associations, the calls of these
+# trains are read of an extract of them alone.
+MANY = 10
 
 
 def read_stops(extract: Extract, timetable: Timetable) -> Optional[StopRows]:
-    uids = timetable.schedules.numbers_of(timetable.spots)
-    if not uids:
-        return None
+    """The calls where associations may be. There are none if no schedule has associations."""
     locations = {
-        uid: {spot.location.encode() for spot in spots} for uid, spots in timetable.spots.items()
+        uid.encode(): {spot.location.encode() for spot in spots}
+        for uid, spots in timetable.spots.items()
     }
-    found: Dict[bytes, List[bytes]] = {}
+    if not locations:
+        return None
+    found: Dict[ScheduleKey, List[bytes]] = {}
     with ExitStack() as stack:
         part = None
-        if FEW * len(uids) < timetable.schedules.count:
-            names = {uid.encode() for uid in uids.values()}
-            part = stack.enter_context(extract.part(names))
-        # the numbers of the schedules by those that they have where their calls are read
-        numbers = {b"%d" % own if part else number: number for own, number in enumerate(uids, 1)}
-        wanted = {own: locations[uids[number]] for own, number in numbers.items()}
+        if MANY * len(locations) < timetable.schedules.count:
+            part = stack.enter_context(extract.part(locations))
+        if part:
+            with part.table("schedules") as schedules:
+                keys = dict(keys_of(schedules.lines, locations))
+        else:
+            keys = dict(keys_of(timetable.schedules.lines(), locations))
+        if not keys:
+            return None
+        wanted = {number: locations[key[: key.index(b"\t")]] for number, key in keys.items()}
         table = stack.enter_context((part or extract).table("calls"))
         for row in rows_with(table.lines, table.names.index("location"), wanted):
             number, _, call = row.partition(b"\t")
-            found.setdefault(numbers[number], []).append(call)
+            found.setdefault(keys[number], []).append(call)
     read = table.reader(Stop)
     return StopRows(found, lru_cache(maxsize=KNOWN)(lambda call: read(b"\t" + call)))
 
 
 def variants_of(
-    trains: Iterable[PublicTrain], spots: Set[Spot], stops: StopRows, with_records: bool
+    uid: bytes,
+    trains: Iterable[PublicTrain],
+    spots: Set[Spot],
+    stops: StopRows,
+    with_records: bool,
 ) -> List[Variant]:
     """The public trains of one UID, those that differ in nothing but dates as one."""
     found: Dict[object, Variant] = {}
-    for _, dates, about, record, schedule, text in trains:
-        at_spots = [stops.read(row) for row in stops.take(schedule)]
+    for dates, about, record, schedule, text in trains:
+        at_spots = [stops.read(row) for row in stops.take(b"\t".join((uid, *record[:3])))]
         key = (about, numbered(schedule, text), *at_spots)
         variant = found.get(key)
         if variant is None:
@@ -226,23 +243,23 @@ class Conversion:
     def write(self, trips: TripsOfUid) -> None:
         self.files.write(trips.trips.values())
         if self.records is not None:
-            rows = feed.trip_record_rows(trips.trips.values(), trips.uid)
-            self.records.write(feed.csv_of(rows))
+            for trip in trips.trips.values():
+                self.write_records(trip.id, trips.uid, trip.days_later, trip.records)
 
-    def write_plain(self, uid: str, trains: Sequence[PublicTrain]) -> None:
+    def write_plain(self, uid: str, trains: Iterable[PublicTrain]) -> None:
         """Writes the trips of a train without associations."""
-        trips = TripsOfUid(uid)
-        # of several schedules some mostly differ in nothing but dates
-        known: Dict[bytes, Trip] = {}
-        for _, dates, about, record, schedule, text in trains:
-            content = about + numbered(schedule, text) if len(trains) > 1 else b""
-            trip = known.get(content)
-            if trip is None:
-                trip = known[content] = trips.add(about, rows_of(text))
-            trip.dates |= dates
-            if self.records is not None:
-                trip.records.append(record)
-        self.write(trips)
+        trips = plain_trips(uid, trains)
+        self.files.write_plain(trips)
+        if self.records is not None:
+            for trip_id, trip in trips.items():
+                self.write_records(trip_id, uid, 0, trip.records)
+
+    def write_records(
+        self, trip_id: bytes, uid: str, days_later: int, records: Iterable[Record]
+    ) -> None:
+        assert self.records is not None
+        rows = feed.trip_record_rows(trip_id, uid, days_later, records)
+        self.records.write(feed.csv_of(rows))
 
     def read_trains(self, extract: Extract, progress: Progress) -> Dict[str, List[Variant]]:
         """Writes the trips of all trains without associations. Returns the others."""
@@ -251,13 +268,14 @@ class Conversion:
         count = self.timetable.schedules.count
         with extract.table("public") as table:
             found = self.reader.public_trains(self.timetable.schedules.lines(), table)
-            for cell, group in groupby(found, key=itemgetter(0)):
-                uid, trains = cell.decode(), list(group)
-                progress.show_share("reading calls", int(trains[-1][4]), count)
+            for cell, trains in found:
+                uid = cell.decode()
+                if progress.visible:
+                    progress.show_share("reading calls", int(trains[-1][3]), count)
                 if stops and uid in self.timetable.spots:
                     with_records = self.records is not None
-                    of_uid = variants_of(trains, self.timetable.spots[uid], stops, with_records)
-                    variants[uid] = of_uid
+                    spots = self.timetable.spots[uid]
+                    variants[uid] = variants_of(cell, trains, spots, stops, with_records)
                 else:
                     self.write_plain(uid, trains)
         return variants

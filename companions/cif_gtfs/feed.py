@@ -10,14 +10,15 @@ from itertools import islice
 from typing import IO, Dict, Iterable, Iterator, List, Mapping, NamedTuple, Sequence, Tuple, Union
 
 from cif_shared.csv_files import Key, csv_cell
-from cif_shared.dates import WEEKDAYS
+from cif_shared.dates import WEEKDAYS, Dates
 from cif_shared.files import BLOCK, scratch_file
 from cif_shared.tables import Header
 
-from .routes import Routes
+from .routes import Ends, Routes
 from .services import Services
 from .stops import Stops
-from .trips import Link, Trip
+from .trains import About, Record
+from .trips import Link, PlainTrip, Trip, ends_of
 from .user_files import InterchangeRow, LinkRow
 
 # The address of an operator whose own isn't known.
@@ -94,8 +95,8 @@ def write_services(archive: zipfile.ZipFile, services: Services) -> None:
         copy_file(archive, "calendar", calendar)
 
 
-# What stands before the stop in the rows of a trip.
-SEQUENCE = [b",%d," % number for number in range(1, 1000)]
+# What stands behind the trip in its rows.
+SEQUENCE = [b",%d" % number for number in range(1, 1000)]
 
 
 class TripFiles:
@@ -111,26 +112,38 @@ class TripFiles:
 
     def write(self, trips: Iterable[Trip]) -> None:
         for trip in trips:
-            self.stop_times.write(self.stop_time_rows(trip))
-            self.trips.write(self.trip_row(trip))
+            self.write_stop_times(trip.id, trip.rows)
+            self.write_row(trip.id, trip.about, trip.ends, trip.dates, trip.block)
 
-    def trip_row(self, trip: Trip) -> bytes:
-        identity, operator, route_type = trip.about.split(b"\t")
-        route, headsign, direction = self.routes.shown(operator, route_type, trip.ends)
-        service = self.services.id_of(trip.dates)
-        about = (headsign, csv_cell(identity), direction)
-        return b"%s,%s,%s,%s,%s,%d,%s\n" % (route, service, trip.id, *about, trip.block)
+    def write_plain(self, trips: Mapping[bytes, PlainTrip]) -> None:
+        for trip_id, trip in trips.items():
+            self.write_stop_times(trip_id, trip.rows)
+            self.write_row(trip_id, trip.about, ends_of(trip.rows), trip.dates)
 
-    def stop_time_rows(self, trip: Trip) -> bytes:
-        stops = self.stops.ids
-        while len(SEQUENCE) < len(trip.rows):
-            SEQUENCE.append(b",%d," % (len(SEQUENCE) + 1))
-        pieces: List[bytes] = []
-        for sequence, row in zip(SEQUENCE, trip.rows):
+    def write_row(
+        self, trip_id: bytes, about: About, ends: Ends, dates: Dates, block: bytes = b""
+    ) -> None:
+        identity, _, operator_and_type = about.partition(b"\t")
+        route, headsign, direction = self.routes.shown(operator_and_type, ends)
+        service = self.services.id_of(dates)
+        cells = (route, service, trip_id, headsign, csv_cell(identity), direction, block)
+        self.trips.write(b",".join(cells) + b"\n")
+
+    def write_stop_times(self, trip_id: bytes, rows: Sequence[bytes]) -> None:
+        ids = self.stops.ids
+        while len(SEQUENCE) < len(rows):
+            SEQUENCE.append(b",%d" % (len(SEQUENCE) + 1))
+        # the trip stands before each piece
+        pieces = [b""]
+        for sequence, row in zip(SEQUENCE, rows):
             location, platform, times = row.split(b"\t", 2)
-            pieces += (trip.id, sequence, stops[location][platform], b",", times)
+            try:
+                stop = ids[location][platform]
+            except KeyError:
+                stop = self.stops.new_id(location, platform)
+            pieces.append(b",".join((sequence, stop, times)))
         # times, set down and pick up stand in the order of the heading
-        return b"".join(pieces).replace(b"\t", b",")
+        self.stop_times.write(trip_id.join(pieces).replace(b"\t", b","))
 
 
 class TransferRow(NamedTuple):
@@ -186,9 +199,10 @@ def feed_info_row(header: Header, publisher: Publisher) -> Row:
 TRIP_RECORDS = "trip_id uid first_date last_date days_run days_later retail_service_id".split()
 
 
-def trip_record_rows(trips: Iterable[Trip], uid: str) -> Iterator[Row]:
-    """The schedules that trips are made of, for whoever matches trains of real time."""
-    for trip in trips:
-        for record in trip.records:
-            first, last, days_run, retail = (cell.decode() for cell in record)
-            yield (trip.id.decode(), uid, first, last, days_run, trip.days_later, retail)
+def trip_record_rows(
+    trip_id: bytes, uid: str, days_later: int, records: Iterable[Record]
+) -> Iterator[Row]:
+    """The schedules that a trip is made of, for whoever matches trains of real time."""
+    for record in records:
+        first, last, days_run, retail = (cell.decode() for cell in record)
+        yield (trip_id.decode(), uid, first, last, days_run, days_later, retail)

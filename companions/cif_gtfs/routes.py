@@ -35,12 +35,13 @@ class Shown(NamedTuple):
 
     route: bytes
     headsign: bytes
-    direction: int
+    direction: bytes
 
 
 # The locations between which a train goes.
 Ends = Tuple[bytes, bytes]
-RouteKey = Tuple[bytes, bytes, Ends]
+# The operator and the route type of a train as they stand in what trips show, and its ends.
+RouteKey = Tuple[bytes, Ends]
 
 
 class Routes:
@@ -53,11 +54,12 @@ class Routes:
         self.rows: Dict[str, RouteRow] = {}
         self.operators: Set[str] = set()
 
-    def shown(self, operator: bytes, route_type: bytes, ends: Ends) -> Shown:
+    def shown(self, operator_and_type: bytes, ends: Ends) -> Shown:
         """How a trip is shown whose train goes from one location to another."""
-        key = (operator, route_type, ends)
+        key = (operator_and_type, ends)
         found = self.known.get(key)
         if found is None:
+            operator, _, route_type = operator_and_type.partition(b"\t")
             found = self.known[key] = self.new(operator.decode(), int(route_type), ends)
         return found
 
@@ -72,7 +74,7 @@ class Routes:
             names = {first: first_name, last: last_name}
             name = f"{names[low]} - {names[high]}"
             self.rows[route] = RouteRow(route, agency, name, route_type)
-        return Shown(route.encode(), csv_cell(last_name.encode()), int(first != low))
+        return Shown(route.encode(), csv_cell(last_name.encode()), b"%d" % (first != low))
 
     def end(self, location: bytes) -> Tuple[str, str]:
         """The id and the name of the station or stop where a train ends."""

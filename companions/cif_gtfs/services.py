@@ -2,7 +2,8 @@
 from __future__ import annotations
 
 from hashlib import blake2b
-from typing import Dict, Iterator, List, NamedTuple
+from itertools import accumulate
+from typing import Dict, Iterator, NamedTuple, Tuple
 
 from cif_shared.dates import Dates, Window, between, count_of, numbers_of
 from cif_shared.endings import Refused
@@ -11,13 +12,25 @@ from cif_shared.endings import Refused
 ID_BYTES = 5
 
 
+# The dates of a week that begins with the first one.
+WEEK: Dates = 0b1111111
+
+
+class Weekdays(NamedTuple):
+    """Some weekdays as calendar.txt has them, and all dates of the window that are of these."""
+
+    text: str
+    dates: Dates
+
+
 class Usual(NamedTuple):
-    """The usual dates of a service: the numbers of its first and last date, the weekdays, Monday
-    first, of which more than half between these are its, and all dates of these weekdays there."""
+    """The usual dates of a service: the numbers of its first and last date, the weekdays of which
+    more than half between these are its, as calendar.txt has them, and all dates of these weekdays
+    there."""
 
     first: int
     last: int
-    runs: List[int]
+    weekdays: str
     dates: Dates
 
 
@@ -39,6 +52,15 @@ class Services:
         self.removed = [f",{text},2\n" for text in self.texts]
         self.ids: Dict[Dates, bytes] = {}
         self.dates: Dict[bytes, Dates] = {}
+        # of each weekday, Monday first, its dates, and how many of them are before each number
+        numbers = range(len(window.days))
+        self.weekdays = [
+            (of_weekday, [0, *accumulate(of_weekday >> number & 1 for number in numbers)])
+            for of_weekday in window.weekdays
+        ]
+        # the weekdays of a week by the day with which it begins, and those that are marked
+        self.of_week: Dict[Tuple[int, Dates], Weekdays] = {}
+        self.marked: Dict[Tuple[bool, ...], Weekdays] = {}
 
     def id_of(self, dates: Dates) -> bytes:
         found = self.ids.get(dates)
@@ -54,19 +76,37 @@ class Services:
         content = f"{self.texts[first]} {dates >> first:x}"
         return blake2b(content.encode(), digest_size=ID_BYTES).hexdigest().encode()
 
+    def weekdays_marked(self, marks: Tuple[bool, ...]) -> Weekdays:
+        """The weekdays that are marked, Monday first."""
+        found = self.marked.get(marks)
+        if found is None:
+            text = ",".join(str(int(mark)) for mark in marks)
+            dates = sum(dates for (dates, _), mark in zip(self.weekdays, marks) if mark)
+            found = self.marked[marks] = Weekdays(text, dates)
+        return found
+
+    def weekdays_of(self, first: int, week: Dates) -> Weekdays:
+        """The weekdays of a week that begins with a date."""
+        key = (first % 7, week)
+        found = self.of_week.get(key)
+        if found is None:
+            marks = [bool(week << first & of_weekday) for of_weekday, _ in self.weekdays]
+            found = self.of_week[key] = self.weekdays_marked(tuple(marks))
+        return found
+
     def usual(self, dates: Dates) -> Usual:
         first = (dates & -dates).bit_length() - 1
         last = dates.bit_length() - 1
         span = between(first, last)
-        runs: List[int] = []
-        usual = 0
-        for weekday in self.window.weekdays:
-            own = dates & weekday
-            there = span & weekday if own else 0
-            runs.append(int(2 * count_of(own) > count_of(there)))
-            if runs[-1]:
-                usual |= there
-        return Usual(first, last, runs, usual)
+        # most services have the weekdays of their first week to the end
+        weekdays = self.weekdays_of(first, dates >> first & WEEK)
+        if span & weekdays.dates != dates:
+            marks = [
+                2 * count_of(dates & of_weekday) > before[last + 1] - before[first]
+                for of_weekday, before in self.weekdays
+            ]
+            weekdays = self.weekdays_marked(tuple(marks))
+        return Usual(first, last, weekdays.text, span & weekdays.dates)
 
     def rows(self) -> Iterator[ServiceRows]:
         """The rows of each service: exceptions are dates that are added (1) and dates that are
@@ -76,7 +116,10 @@ class Services:
             service = name.decode()
             usual = self.usual(dates)
             span = f"{self.texts[usual.first]},{self.texts[usual.last]}"
-            calendar = f"{service},{','.join(map(str, usual.runs))},{span}\n" if usual.dates else ""
-            added = [self.added[number] for number in numbers_of(dates & ~usual.dates)]
-            removed = [self.removed[number] for number in numbers_of(usual.dates & ~dates)]
-            yield ServiceRows(calendar, service.join(["", *added, *removed]))
+            calendar = f"{service},{usual.weekdays},{span}\n" if usual.dates else ""
+            exceptions = ""
+            if usual.dates != dates:
+                added = map(self.added.__getitem__, numbers_of(dates & ~usual.dates))
+                removed = map(self.removed.__getitem__, numbers_of(usual.dates & ~dates))
+                exceptions = service.join(["", *added, *removed])
+            yield ServiceRows(calendar, exceptions)

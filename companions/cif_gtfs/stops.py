@@ -45,40 +45,21 @@ class StopRow(NamedTuple):
     platform: str
 
 
-class PlatformIds(Dict[bytes, bytes]):
-    """The stop id of each platform of a location, made when it is asked for first."""
-
-    def __init__(self, places: Places, name: str) -> None:
-        super().__init__()
-        self.name = name
-        self.has_platforms = bool(places.tiploc(name).crs)
-
-    def __missing__(self, platform: bytes) -> bytes:
-        found = stop_id(self.name)
-        if platform and self.has_platforms:
-            found = f"{found}/{coded(platform.decode())}"
-        self[platform] = found.encode()
-        return self[platform]
-
-
-class StopIds(Dict[bytes, PlatformIds]):
-    """The stop ids of each location by its platforms: ids[location][platform]."""
-
-    def __init__(self, places: Places) -> None:
-        super().__init__()
-        self.places = places
-
-    def __missing__(self, location: bytes) -> PlatformIds:
-        self[location] = PlatformIds(self.places, location.decode())
-        return self[location]
-
-
 class Stops:
-    """The stops of a feed. `ids` has those that were asked for."""
+    """The stops of a feed. `ids` has those that were asked for, by location and platform."""
 
     def __init__(self, places: Places) -> None:
         self.places = places
-        self.ids = StopIds(places)
+        # plain ones, as Python looks into a subclass of `dict` far slower
+        self.ids: Dict[bytes, Dict[bytes, bytes]] = {}
+
+    def new_id(self, location: bytes, platform: bytes) -> bytes:
+        """The id of a stop that `ids` hasn't got."""
+        name = location.decode()
+        found = stop_id(name)
+        if self.places.tiploc(name).crs and platform:
+            found = f"{found}/{coded(platform.decode())}"
+        return self.ids.setdefault(location, {}).setdefault(platform, found.encode())
 
     def end_of(self, name: str) -> str:
         """The id of the station of a TIPLOC, or of the stop that it is by itself."""

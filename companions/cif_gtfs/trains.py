@@ -2,7 +2,6 @@
 from __future__ import annotations
 
 from enum import Enum
-from functools import lru_cache
 from operator import itemgetter
 from typing import Dict, Iterable, Iterator, List, Mapping, NamedTuple, Optional, Tuple
 
@@ -66,15 +65,14 @@ def kind_of(sort: Sort) -> Kind:
 
 # First and last date, days run, and the retail service id of a schedule, as they stand.
 Record = Tuple[bytes, bytes, bytes, bytes]
-# A schedule for riders with two public calls or more: its UID, when it runs, what its train is, its
-# record, its number, and its rows of `public`.
-PublicTrain = Tuple[bytes, Dates, About, Record, bytes, bytes]
+# A schedule for riders with two public calls or more: when it runs, what its train is, its record, its
+# number, and its rows of `public`.
+PublicTrain = Tuple[Dates, About, Record, bytes, bytes]
 
 # The first fields of `schedules`, and of the others those that are read here.
 FIRST = "schedule uid first_date last_date days_run".split()
-FIELDS = "reserved_a identity operator_code status category sleepers".split()
-# The schedules of a train often differ in nothing but dates.
-KNOWN = 64
+SHOWN = "reserved_a identity operator_code".split()
+SORT = Sort._fields
 NO_CALLS = (b"", b"")
 
 
@@ -84,44 +82,61 @@ class ScheduleReader:
     def __init__(self, names: List[str], window: Window, types: Mapping[Kind, int]) -> None:
         assert names[: len(FIRST)] == FIRST, "a table of schedules begins with their dates"
         others = names[len(FIRST) :]
-        self.cells_at = itemgetter(*(others.index(name) for name in FIELDS))
+        self.shown_at = itemgetter(*map(others.index, SHOWN))
+        self.sort_at = itemgetter(*map(others.index, SORT))
         self.window = window
         self.types = types
         # on how many dates a train isn't for riders
         self.not_for_riders = 0
-        # the route type of each sort, or None if it isn't for riders
+        # the route type of each sort and a line feed, or None if it isn't for riders
         self.known: Dict[Tuple[bytes, ...], Optional[bytes]] = {}
-        self.others = lru_cache(maxsize=KNOWN)(self.read_others)
 
     def route_type(self, status: bytes, category: bytes, sleepers: bytes) -> Optional[bytes]:
         sort = Sort(status.decode(), category.decode(), sleepers.decode())
         is_shown = is_for_riders(sort.status, sort.category)
-        return b"%d" % self.types[kind_of(sort)] if is_shown else None
+        return b"%d\n" % self.types[kind_of(sort)] if is_shown else None
 
     def read_others(self, text: bytes) -> Tuple[bytes, Optional[About]]:
         """The retail service id, and what the train is, of the fields after the first ones."""
-        cells = self.cells_at(text.rstrip(b"\n").split(b"\t"))
-        sort = cells[3:]
+        cells = text.rstrip(b"\n").split(b"\t")
+        retail, identity, operator = self.shown_at(cells)
+        sort = self.sort_at(cells)
         if sort not in self.known:
             self.known[sort] = self.route_type(*sort)
         route_type = self.known[sort]
         if route_type is None:
-            return cells[0], None
-        return cells[0], b"%s\t%s\t%s\n" % (cells[1], cells[2], route_type)
+            return retail, None
+        return retail, b"\t".join((identity, operator, route_type))
 
-    def public_trains(self, schedules: Iterable[bytes], table: Table) -> Iterator[PublicTrain]:
-        """Each public train, in the order of the extract. The lines are those of `schedules`."""
+    def public_trains(
+        self, schedules: Iterable[bytes], table: Table
+    ) -> Iterator[Tuple[bytes, List[PublicTrain]]]:
+        """The public trains of each UID that has one, in the order of the extract. The lines are those
+        of `schedules`."""
         dates_of = self.window.dates
         calls = calls_by_schedule(table)
         number, text = next(calls, NO_CALLS)
+        known = retail = of_uid = b""
+        about: Optional[About] = None
+        trains: List[PublicTrain] = []
         for line in schedules:
             schedule, uid, first, last, days_run, others = line.split(b"\t", 5)
-            if schedule == number:
-                if text.find(b"\n") < len(text) - 1:
-                    retail, about = self.others(others)
-                    dates = dates_of(first, last, days_run)
-                    if about is None:
-                        self.not_for_riders += count_of(dates)
-                    else:
-                        yield uid, dates, about, (first, last, days_run, retail), number, text
-                number, text = next(calls, NO_CALLS)
+            if schedule != number:
+                continue
+            if text.find(b"\n") < len(text) - 1:
+                # the schedules of a train often differ in nothing but dates
+                if others != known:
+                    known = others
+                    retail, about = self.read_others(others)
+                dates = dates_of(first, last, days_run)
+                if about is None:
+                    self.not_for_riders += count_of(dates)
+                else:
+                    if uid != of_uid:
+                        if trains:
+                            yield of_uid, trains
+                        of_uid, trains = uid, []
+                    trains.append((dates, about, (first, last, days_run, retail), number, text))
+            number, text = next(calls, NO_CALLS)
+        if trains:
+            yield of_uid, trains

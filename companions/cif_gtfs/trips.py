@@ -7,13 +7,14 @@ from typing import Tuple
 
 from cif_shared.dates import Dates, moved
 from cif_shared.endings import Refused
+from cif_shared.schedules import rows_of
 
 from .associations import DIVIDE, JOIN, ROLES, Role
 from .calls import RunsAs, Variant, arriving, days_later, is_for_nobody, leaving, location_of, met
 from .compositions import Composition, Edge, Node
 from .routes import Ends
 from .stops import coded
-from .trains import About
+from .trains import About, PublicTrain, Record
 
 # A hash in an id has twice as many digits.
 ID_BYTES = 5
@@ -38,12 +39,22 @@ class Trip:
         # service the train runs
         self.block = b""
         self.days_later = 0
-        self.records: List[Sequence[bytes]] = []
+        self.records: List[Record] = []
 
 
 def ends_of(rows: Sequence[bytes]) -> Ends:
     """The locations of the first and of the last call."""
     return location_of(rows[0]), location_of(rows[-1])
+
+
+def id_of(name: str, content: bytes) -> bytes:
+    """The UID as a part of an id, and a short hash, the same in each window."""
+    digest = blake2b(content, digest_size=ID_BYTES).hexdigest()
+    return f"{name}-{digest}".encode()
+
+
+def refused(uid: str, trip_id: bytes) -> Refused:
+    return Refused(f"two trips of the train {uid} have the id {trip_id.decode()}")
 
 
 class TripsOfUid:
@@ -59,12 +70,12 @@ class TripsOfUid:
     ) -> Trip:
         """The trip of a train that has these rows, and other ends if it is a part of a train. A mark
         tells those of compositions from others."""
-        trip_id = self.id_of(b"".join((about, *rows, mark)))
+        trip_id = id_of(self.name, b"".join((about, *rows, mark)))
         trip = self.trips.get(trip_id)
         if trip is None:
             trip = self.trips[trip_id] = Trip(trip_id, about, rows, mark, ends or ends_of(rows))
         elif (trip.about, trip.mark) != (about, mark) or trip.rows != rows:
-            raise Refused(f"two trips of the train {self.uid} have the id {trip_id.decode()}")
+            raise refused(self.uid, trip_id)
         return trip
 
     def in_order(self) -> TripsOfUid:
@@ -72,17 +83,47 @@ class TripsOfUid:
         self.trips = dict(sorted(self.trips.items()))
         return self
 
-    def id_of(self, content: bytes) -> bytes:
-        """The UID and a short hash, the same in each window."""
-        digest = blake2b(content, digest_size=ID_BYTES).hexdigest()
-        return f"{self.name}-{digest}".encode()
-
 
 def add_records(trip: Trip, records: Sequence[RunsAs], dates: Dates) -> None:
     """Adds the schedules that a train is on some dates."""
     trip.records += [
         each.record for each in records if each.dates & dates and each.record not in trip.records
     ]
+
+
+# ---- trains without associations
+
+
+class PlainTrip:
+    """A trip of a train without associations. Most trips are such, and are written at once."""
+
+    __slots__ = ("about", "rows", "dates", "records")
+
+    def __init__(self, about: About, rows: Sequence[bytes]) -> None:
+        self.about = about
+        self.rows = rows
+        self.dates: Dates = 0
+        self.records: List[Record] = []
+
+
+def plain_trips(uid: str, trains: Iterable[PublicTrain]) -> Dict[bytes, PlainTrip]:
+    """The trips of one UID by their ids. Schedules that differ in nothing but dates are one."""
+    name = coded(uid)
+    trips: Dict[bytes, PlainTrip] = {}
+    known: Dict[bytes, PlainTrip] = {}
+    for dates, about, record, _, text in trains:
+        rows = rows_of(text)
+        content = about + b"".join(rows)
+        trip = known.get(content)
+        if trip is None:
+            trip = known[content] = PlainTrip(about, rows)
+            trip_id = id_of(name, content)
+            if trip_id in trips:
+                raise refused(uid, trip_id)
+            trips[trip_id] = trip
+        trip.dates |= dates
+        trip.records.append(record)
+    return trips
 
 
 # ---- trains that are linked

@@ -15,7 +15,7 @@ import zipfile
 from collections import defaultdict
 from datetime import date, timedelta
 from pathlib import Path
-from typing import DefaultDict, Dict, FrozenSet, List, Optional, Set, Tuple
+from typing import Callable, DefaultDict, Dict, FrozenSet, List, Optional, Set, Tuple
 
 from cif_gtfs import trips
 from cif_shared.endings import Refused
@@ -558,24 +558,39 @@ def check_again(counts: Counts, maker: Maker, special: Path) -> None:
     counts.test("the same bytes again", zips[0] == zips[1])
 
 
+def check_refused(counts: Counts, name: str, add: Callable[[], object]) -> None:
+    """Two trips of the train  00001 with one id are refused."""
+    try:
+        add()
+        counts.test(name, False, "they are taken")
+    except Refused as refused_trip:
+        told = refused_trip.lines[0].startswith("two trips of the train  00001 have the id _00001-")
+        counts.test(name, told, refused_trip.lines)
+
+
 def check_collision(counts: Counts) -> None:
     """Two trips of a train with one id are refused, which needs shorter ids than there are."""
     about, found = b"1A01\tSN\t2\n", trips.TripsOfUid(" 00001")
+    rows = [
+        [
+            b"ALPHA\t%d\t09:00:00\t09:00:00\t1\t0\n" % number,
+            b"BETA\t1\t10:00:00\t10:00:00\t0\t1\n",
+        ]
+        for number in range(300)
+    ]
+    record = (b"2026-01-05", b"2026-01-05", b"1000000", b"")
+    texts = [b"7\t1\t%s7\t2\t%s" % (first, last) for first, last in rows]
+    trains = [(1, about, record, b"7", text) for text in texts]
     length, trips.ID_BYTES = trips.ID_BYTES, 1
     try:
-        for number in range(300):
-            rows = [
-                b"ALPHA\t%d\t09:00:00\t09:00:00\t1\t0\n" % number,
-                b"BETA\t1\t10:00:00\t10:00:00\t0\t1\n",
-            ]
-            found.add(about, rows)
-        counts.test("two trips with one id", False, "they are taken")
-    except Refused as refused_trip:
-        told = refused_trip.lines[0].startswith("two trips of the train  00001 have the id _00001-")
-        counts.test("two trips with one id", told, refused_trip.lines)
+        check_refused(counts, "one id", lambda: [found.add(about, of_train) for of_train in rows])
+        check_refused(counts, "one id, plain", lambda: trips.plain_trips(" 00001", trains))
     finally:
         trips.ID_BYTES = length
     counts.test("the length of ids", length >= 5, length)
+    again = (2, about, record, b"7", texts[0])
+    equal = trips.plain_trips(" 00001", [*trains[:2], again])
+    counts.same("equal trips are one", [3, 1], [trip.dates for trip in equal.values()])
 
 
 def check_blocks(counts: Counts) -> None:
