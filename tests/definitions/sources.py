@@ -80,8 +80,9 @@ def imported(text: str) -> Imports:
         return {alias or path.rsplit(".", 1)[-1]: (path, None)}
     names: Imports = {}
     for part in match.group(2).split(","):
-        name, _, alias = part.strip().partition(" as ")
-        names[alias.strip() or name.strip()] = (match.group(1), name.strip())
+        inner, _, alias = part.strip().partition(" as ")
+        path, _, name = f"{match.group(1)}.{inner.strip()}".rpartition(".")
+        names[alias.strip() or name] = (path, name)
     return names
 
 

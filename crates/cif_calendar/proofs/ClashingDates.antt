@@ -1,8 +1,8 @@
 -- The days with a clash, one after another.
 use Rattle.cif_calendar.proofs.Names.{AddsIfDisputed, AreClashDates, Contains, Contains-append_left, Contains-get_or, Contains-push}
-use Rattle.cif_calendar.proofs.Names.{Contains-push_cases, Disputed, IsChosen, IsClash, IsClashBetween, IsClear, Leader, List, Nobody}
-use Rattle.cif_calendar.proofs.Names.{Records, Standing, Stands, Terms, [], all_pairs_push, ap, arith, cases_lt, get_or, get_or_default}
-use Rattle.cif_calendar.proofs.Names.{length, refl, same_Some, slice_get, subst, sym, ℕ, ⊎_elim, ◌++◌, ◌+◌, ◌<◌, ◌∙◌, ◌∷◌, ◌≡◌, ◌≤◌}
+use Rattle.cif_calendar.proofs.Names.{Contains-push_cases, Disputed, IsClash, IsClashBetween, IsClear, Leader, List, Nobody, Records}
+use Rattle.cif_calendar.proofs.Names.{Standing, Stands, Terms, [], all_pairs_push, arith, cases_lt, get_or, refl, subst, sym, ℕ, ⊎_elim}
+use Rattle.cif_calendar.proofs.Names.{◌++◌, ◌+◌, ◌<◌, ◌∙◌, ◌∷◌, ◌≡◌, ◌≤◌}
 
 -- ---- one day
 
@@ -72,32 +72,3 @@ module _ {B : Type 0} (records : Records B) (first to : ℕ) (days : List ℕ) (
   dates-more xs members up Nobody stands more is = rw is (dates-none (to + 1) (omega arith)
       (λ d from below. let at : to ≡ d = omega arith in
       subst (IsClear records) at (undisputed xs members records to Nobody (λ j e. cc) stands)))
-
--- at first there are none
-pub dates-start : {B : Type 0} (records : Records B) (first : ℕ) → AreClashDates records first first []
-dates-start records first = record {
-  rising = λ i j d less below. absurd (omega arith);
-  are = λ d. (
-    λ has. absurd (let below : has.0 < 0 = has.1 in omega arith),
-    λ is. absurd (let from = is.from in let before = is.before in omega arith),
-  );
-  clear = λ d from before lacks. absurd (omega arith);
-}
-
--- one member alone has no clash
-pub dates-alone : {B : Type 0} (xs : List (Terms B)) (members : List ℕ) (first to : ℕ) → length members < 2 → first ≤ to
-    → AreClashDates (IsChosen xs members) first to []
-dates-alone {B} xs members first to few up =
-    dates-none (IsChosen xs members) first first [] (dates-start (IsChosen xs members) first) to up
-    (λ d from below. record {
-      agree = λ r s r_wins s_wins.
-          let one = r_wins.listed in
-          let other = s_wins.listed in
-          let same : one.position ≡ other.position =
-          (let (i, i_below, i_is) = one.member in
-          let (j, j_below, j_is) = other.member in
-          let at : j ≡ i = omega arith in
-          sym i_is ∙ sym (get_or_default members i 0 one.position i_below) ∙ ap (λ n. get_or members n 0) (sym at)
-          ∙ get_or_default members j 0 other.position j_below ∙ j_is) in
-          ap (λ (t : Terms B). t.body) (same_Some r s (sym one.at ∙ ap (slice_get xs) same ∙ other.at));
-    })

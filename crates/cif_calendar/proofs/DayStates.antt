@@ -1,7 +1,7 @@
 -- What stands on the days of one stretch after another.
 use Rattle.cif_calendar.proofs.Names.{AreDayStates, AreStretches, IsDayState, IsStretch, List, Records, SameRecords, Stretch, Terms, []}
 use Rattle.cif_calendar.proofs.Names.{arith, cases_lt, drop, drop_more, get_or, get_or-append_seam, get_or_append_left, length}
-use Rattle.cif_calendar.proofs.Names.{length-append, refl, subst, sym, ℕ, ⊎_elim, ◌++◌, ◌+◌, ◌<◌, ◌∷◌, ◌≡◌, ◌≤◌}
+use Rattle.cif_calendar.proofs.Names.{length-append, subst, sym, ℕ, ⊎_elim, ◌++◌, ◌+◌, ◌<◌, ◌∷◌, ◌≡◌, ◌≤◌}
 use Rattle.cif_calendar.proofs.Sets.{IsClash-same, IsClear-same, Wins-same}
 use Rattle.cif_calendar.specs.declared.day_state.DayState.{DayState}
 use Rattle.cif_calendar.specs.declared.day_state.DayState.TheVariants as state
@@ -54,10 +54,6 @@ pub record IsMadeOf {B S : Type 0} (P : ℕ → List S → Type 0) (xs : List (T
   pub ahead : AreStretches xs members members (last + 1) to (last + 1) ss
 
 module _ {B S : Type 0} (P : ℕ → List S → Type 0) (xs : List (Terms B)) (members : List ℕ) (last : ℕ) where
-  pub made-none : (from : ℕ) → P from [] → (ss : List Stretch) → AreStretches xs members members (last + 1) from (last + 1) ss
-      → IsMadeOf P xs members last from ss []
-  made-none from none ss ahead = record { to = from; so_far = none; next = λ _. refl; ahead = ahead }
-
   pub made-all : (first : ℕ) (ss : List Stretch) (made : List S) → IsMadeOf P xs members last first ss made → ss ≡ [] → P (last + 1) made
   made-all first ss made a none =
       let end : a.to ≡ last + 1 = rw none at a.ahead in
@@ -84,7 +80,3 @@ module _ {B S : Type 0} (P : ℕ → List S → Type 0) (xs : List (Terms B)) (m
       next = λ upto. is (omega arith);
       ahead = both.1;
     }
-
--- no state stands before the first day
-pub states-none : {B : Type 0} (records : Records B) (first : ℕ) → AreDayStates records first first []
-states-none records first = record { many = omega arith; each = λ i below. absurd (omega arith) }

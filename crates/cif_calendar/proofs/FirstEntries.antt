@@ -2,8 +2,7 @@
 use Rattle.cif_calendar.proofs.Names.{All, AnyHasKey, AreFrom, Bool, Contains-get_or, Equal, Greater, HasKey, IsFirstOfBoth, IsRising}
 use Rattle.cif_calendar.proofs.Names.{IsTotalOrder, Less, List, Ordering, Terms, arith, false, get_or, inl, inr, is_gt, is_lt, keyed}
 use Rattle.cif_calendar.proofs.Names.{length, refl, subst, sym, true, ℕ, ◌<◌, ◌∙◌, ◌≡◌, ◌≤◌}
-use Rattle.cif_calendar.proofs.KeyPositions.{has-key, not_gt}
-use Rattle.cif_calendar.proofs.KeyTurns.{from-first, from-lower}
+use Rattle.cif_calendar.proofs.{KeyPositions.has-key, KeyPositions.not_gt, KeyTurns.from-first, KeyTurns.from-lower}
 
 -- the first position is one of an entry
 pub leading-within : (n : ℕ) (rest : List ℕ) (i : ℕ) → All (λ i. i < n) rest → 0 < length rest → ((d : ℕ) → i ≡ get_or rest 0 d) → i < n

@@ -6,11 +6,8 @@ use Rattle.cif_calendar.proofs.Names.{List, Memory, Option, Ordering, Some, Term
 use Rattle.cif_calendar.proofs.Names.{inr, keyed, length, map, map-append, of_key, option_map, refl, slice_get_within, subst, sym, take, ℕ}
 use Rattle.cif_calendar.proofs.Names.{⊎_elim, ◌++◌, ◌<◌, ◌∙◌, ◌∷◌, ◌≡◌}
 use Rattle.cif_calendar.proofs.KeyTurns.{decided, first-leads, no-entry, rising-after}
-use Rattle.cif_calendar.proofs.NoEntries.{none-clear}
+use Rattle.cif_calendar.proofs.{NoEntries.none-clear, Positions.positions-records, RisingLists.Contains-none, Sets.IsFirstClash-same}
 use Rattle.cif_calendar.proofs.PassedKeys.{HasPassed, key-or-later, later-less, left-before, passed-more, turn}
-use Rattle.cif_calendar.proofs.Positions.{positions-records}
-use Rattle.cif_calendar.proofs.RisingLists.{Contains-none}
-use Rattle.cif_calendar.proofs.Sets.{IsFirstClash-same}
 use Rattle.cif_calendar.specs.Clashes.{AreClashes, TellClashes, told}
 
 module _ {K B : Type 0} (cmp : K → K → Ordering) (es : List (K × Terms B)) (first last : ℕ) where

@@ -4,8 +4,7 @@ use Rattle.cif_calendar.proofs.Names.{Equal, Greater, HasKey, IsCountOfKey, IsNo
 use Rattle.cif_calendar.proofs.Names.{alike_right, ap, arith, cases_lt, drop, false, get_or, get_or-drop, get_or_default, inl, inr, is_gt}
 use Rattle.cif_calendar.proofs.Names.{length, length-drop, length-take-le, of_key, refl, same_Some, slice_get_within, subst, suc, sym, take}
 use Rattle.cif_calendar.proofs.Names.{take-append-drop, tied_itself, true≢false, zero, ℕ, ⊎_elim, ◌+◌, ◌-◌, ◌<◌, ◌∙◌, ◌≡◌, ◌≤◌, ◌⊎◌}
-use Rattle.cif_calendar.proofs.Positions.{at-contains}
-use Rattle.cif_calendar.proofs.RisingLists.{not_less}
+use Rattle.cif_calendar.proofs.{Positions.at-contains, RisingLists.not_less}
 
 -- a position has one key
 pub one-key : {K B : Type 0} (es : List (K × Terms B)) (i : ℕ) (j k : K) → HasKey es i j → HasKey es i k → j ≡ k

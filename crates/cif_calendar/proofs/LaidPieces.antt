@@ -6,8 +6,7 @@ use Rattle.cif_calendar.proofs.Names.{Some, SomeIff, Stretch, Terms, Tiles, [], 
 use Rattle.cif_calendar.proofs.Names.{length, length-append, refl, source_at, subst, sym, unwrap_or, ℕ, ⊎_elim, ◌*◌, ◌++◌, ◌+◌, ◌<◌, ◌∙◌}
 use Rattle.cif_calendar.proofs.Names.{◌∷◌, ◌≡◌, ◌≤◌, ◌⊎◌}
 use Rattle.cif_calendar.proofs.FewPieces.{left, left-le, left-next}
-use Rattle.cif_calendar.proofs.FirstClash.{IsFirstClash-unique, first_clash-clear}
-use Rattle.cif_calendar.proofs.Meaning.{Runs-from_source}
+use Rattle.cif_calendar.proofs.{FirstClash.IsFirstClash-unique, FirstClash.first_clash-clear, Meaning.Runs-from_source}
 use Rattle.cif_calendar.proofs.PieceLists.{IsInPiece, source_at-piece, tiles-find, tiles-from, tiles-push}
 
 -- the next day, where there is one

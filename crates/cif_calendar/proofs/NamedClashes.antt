@@ -2,8 +2,7 @@
 use Rattle.cif_calendar.proofs.Names.{HasKey, KeyClash, List, Some, Terms, [], ap, append-nil, append_assoc, flat_map, flat_map-append}
 use Rattle.cif_calendar.proofs.Names.{get_or, length, map, named, named_if, option_map, sym, take, take_all, take_more, ℕ, ◌++◌, ◌+◌, ◌<◌}
 use Rattle.cif_calendar.proofs.Names.{◌∙◌, ◌∷◌, ◌≡◌, ◌≤◌}
-use Rattle.std.proofs.lemmas.List.Concat.{flat_map_single}
-use Rattle.std.proofs.lemmas.List.Folds.{flat_map-map}
+use Rattle.std.proofs.{lemmas.List.Concat.flat_map_single, lemmas.List.Folds.flat_map-map}
 use Rattle.cif_extract.specs.declared.fault.Clash.{Clash}
 use Rattle.cif_calendar.specs.Clashes.{told}
 

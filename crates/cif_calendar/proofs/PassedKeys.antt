@@ -2,8 +2,7 @@
 use Rattle.cif_calendar.proofs.Names.{All-contains, AnyHasKey, ArePositionsOf, Contains, Contains-append_cases, Contains-append_right}
 use Rattle.cif_calendar.proofs.Names.{HasKey, IsCountOfKey, IsTotalOrder, Less, List, Ordering, Terms, drop, inl, inr, refl, subst, sym}
 use Rattle.cif_calendar.proofs.Names.{take, take-append-drop, ℕ, ⊎_elim, ◌≡◌, ◌⊎◌}
-use Rattle.cif_calendar.proofs.KeyTurns.{one-key}
-use Rattle.cif_calendar.proofs.RisingLists.{not_less}
+use Rattle.cif_calendar.proofs.{KeyTurns.one-key, RisingLists.not_less}
 
 module _ {K B : Type 0} (cmp : K → K → Ordering) where
   -- an entry is at the rest, or its key is before all that are left

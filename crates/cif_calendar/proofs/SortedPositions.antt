@@ -1,9 +1,8 @@
 -- Positions that are sorted by what stands for the keys of their entries rise.
-use Rattle.cif_calendar.proofs.Names.{All, All-nil, All-permutation, All-push, All-same, AreAllByKey, AreRanked, Bool, Contains}
+use Rattle.cif_calendar.proofs.Names.{All, All-permutation, All-push, All-same, AreAllByKey, AreRanked, Bool, Contains}
 use Rattle.cif_calendar.proofs.Names.{Contains-permutation, HasKey, IsPermutation, IsPermutation-map, IsRising, IsSortedBy, IsTotalOrder}
 use Rattle.cif_calendar.proofs.Names.{List, Ordering, Terms, [], ap, arith, get_or-map, is_gt, is_lt, length, length-map, map, map-append}
-use Rattle.cif_calendar.proofs.Names.{range_with_len, ranks_by, refl, sorted_far, subst, suc, sym, zero, ℕ, ◌++◌, ◌+◌, ◌<◌, ◌∙◌, ◌∷◌, ◌≡◌}
-use Rattle.cif_calendar.proofs.Names.{◌≤◌}
+use Rattle.cif_calendar.proofs.Names.{range_with_len, ranks_by, sorted_far, subst, suc, sym, zero, ℕ, ◌++◌, ◌+◌, ◌<◌, ◌∙◌, ◌∷◌, ◌≡◌, ◌≤◌}
 use Rattle.cif_calendar.proofs.KeyPositions.{not_gt, range-whole, range-within}
 
 range-more : (a n b : ℕ) → a + n ≡ b → range_with_len a (n + 1) ≡ range_with_len a n ++ b ∷ []
@@ -19,9 +18,6 @@ module _ {K B R : Type 0} (stands_for : R → K → Type 0) (entries : List (K �
   -- the first of the pair stands for the key of the entry at the second
   abbrev Stands : R × ℕ → Type 0
   Stands p = (k : K) → HasKey entries p.1 k → stands_for p.0 k
-
-  pub ranked-none : AreRanked stands_for entries 0 []
-  ranked-none = record { positions = refl; ranks = All-nil _ }
 
   pub ranked-more : (n : ℕ) (ranked : List (R × ℕ)) (r : R) → AreRanked stands_for entries n ranked
       → ((k : K) → HasKey entries n k → stands_for r k) → AreRanked stands_for entries (n + 1) (ranked ++ (r, n) ∷ [])

@@ -1,9 +1,9 @@
 -- Stretches one after another, and those of two sets of members together.
-use Rattle.cif_calendar.proofs.Names.{Applies, AreBehind, AreBelow, AreStretches, Bool, ChangesOn, IsChosen, IsJoint, IsPart}
-use Rattle.cif_calendar.proofs.Names.{IsStretch, IsUnbroken, Leader, List, LooksAt, Nobody, Records, Some, Standing, Stands, Stretch, Terms}
-use Rattle.cif_calendar.proofs.Names.{[], ap, arith, false, get_or, inl, inr, is_le, length, nat_cmp, ord_min, refl, replicate, rules}
-use Rattle.cif_calendar.proofs.Names.{slice_get, slice_get-get_or, subst, sym, true, weekday_of, ℕ, ⊎_elim, ◌++◌, ◌+◌, ◌-◌, ◌<◌, ◌∙◌, ◌∷◌}
-use Rattle.cif_calendar.proofs.Names.{◌≡◌, ◌≤◌, ◌⊎◌}
+use Rattle.cif_calendar.proofs.Names.{Applies, AreBehind, AreBelow, AreStretches, Bool, ChangesOn, IsChosen, IsJoint, IsPart, IsStretch}
+use Rattle.cif_calendar.proofs.Names.{IsUnbroken, Leader, List, LooksAt, Nobody, Records, Some, Standing, Stands, Stretch, Terms, [], ap}
+use Rattle.cif_calendar.proofs.Names.{arith, false, get_or, inl, inr, is_le, length, nat_cmp, ord_min, refl, replicate, rules, slice_get}
+use Rattle.cif_calendar.proofs.Names.{slice_get-get_or, subst, sym, true, weekday_of, ℕ, ⊎_elim, ◌++◌, ◌+◌, ◌-◌, ◌<◌, ◌∙◌, ◌∷◌, ◌≡◌, ◌≤◌}
+use Rattle.cif_calendar.proofs.Names.{◌⊎◌}
 use Rattle.cif_calendar.proofs.Standings.{below-same, stands-more, stands-none, stands-skip}
 use Rattle.cif_calendar.proofs.Winning.{IsUnion, chosen-one, chosen-union, one-chosen, union-swap}
 
@@ -146,12 +146,6 @@ module _ {B : Type 0} (xs : List (Terms B)) (members looked : List ℕ) (end : �
       AreStretches xs members looked end from to ss → AreStretches xs members looked end from next (ss ++ s ∷ [])
   stretches-push from to next [] s is more e = (subst (λ n. IsStretch xs members looked end n s) (sym e) more, sym is)
   stretches-push from to next (t ∷ ts) s is more h = (h.0, stretches-push (t.last + 1) to next ts s is more h.1)
-
-  -- the first of some stretches
-  pub first-below : (from to : ℕ) (ss : List Stretch) (s : Stretch) → 0 < length ss → s ≡ get_or ss 0 s →
-      AreStretches xs members looked end from to ss → AreBelow (length members) s.standings
-  first-below from to [] s some is h = absurd (omega arith)
-  first-below from to (t ∷ ss) s some is h = rw is h.0.below
 
   -- a stretch from a later day on
   stretch-later : (first day : ℕ) (s : Stretch) → first ≤ day → day ≤ s.last → IsStretch xs members looked end first s →

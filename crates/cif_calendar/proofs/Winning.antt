@@ -1,10 +1,9 @@
 -- Members that are looked at together: who wins, and who leads.
-use Rattle.cif_calendar.proofs.Names.{Applies, AreLawful, C, Combines, Contains-append_cases, Contains-append_left, Contains-append_right}
-use Rattle.cif_calendar.proofs.Names.{Contains-get_or, Disputed, IsChosen, IsClear, IsDisputed, IsNone, IsRank, IsSome, IsWinnerAt, Leader}
-use Rattle.cif_calendar.proofs.Names.{Leads, List, Nobody, NoneApplies, NothingRuns, Option, P, Records, Some, Standing, Stands, StandsAt}
-use Rattle.cif_calendar.proofs.Names.{Stp, Terms, Wins, [], ap, arith, body_at, get_or, inl, inr, length, letter, map, option_and_then}
-use Rattle.cif_calendar.proofs.Names.{option_map, precedence, refl, same_Some, slice_get, slice_get-get_or, slice_get-map, slice_get_read}
-use Rattle.cif_calendar.proofs.Names.{subst, sym, ℕ, ⊎_elim, ◌++◌, ◌<◌, ◌∙◌, ◌∷◌, ◌≡◌, ◌≤◌, ◌⊎◌}
+use Rattle.cif_calendar.proofs.Names.{Applies, C, Combines, Contains-append_cases, Contains-append_left, Contains-append_right, Disputed}
+use Rattle.cif_calendar.proofs.Names.{IsChosen, IsDisputed, IsRank, Leader, Leads, List, Nobody, NoneApplies, Option, P, Records, Some}
+use Rattle.cif_calendar.proofs.Names.{Standing, Stands, StandsAt, Stp, Terms, Wins, [], ap, arith, body_at, get_or, inl, inr, length}
+use Rattle.cif_calendar.proofs.Names.{letter, map, option_and_then, option_map, precedence, refl, same_Some, slice_get, slice_get-map}
+use Rattle.cif_calendar.proofs.Names.{slice_get_read, subst, sym, ℕ, ⊎_elim, ◌++◌, ◌<◌, ◌∙◌, ◌∷◌, ◌≡◌, ◌≤◌, ◌⊎◌}
 use Rattle.cif_columns.specs.declared.stp.Stp.TheVariants.{N, O}
 use Rattle.cif_calendar.proofs.Elements.{Contains-cases, Contains-first}
 
@@ -237,30 +236,4 @@ module _ {B : Type 0} (xs : List (Terms B)) (members : List ℕ) where
     r,
     record { position = i; member = member; at = at },
     record { wins = one-wins xs i r at d on; undisputed = λ s w. ap (λ (q : Terms B). q.body) (one-chosen xs i r at s w.listed) },
-  )
-
-  -- a leader's body is that of all winners
-  leads-clear : (records : Records B) (d : ℕ) (t : Terms B) → Leads records d t → IsClear records d
-  leads-clear records d t leads = record { agree = λ r s v w. sym (leads.undisputed r v) ∙ leads.undisputed s w }
-
-  -- so nothing runs where a leader has no body
-  pub idle-leader : (records : Records B) (d k : ℕ) (t : Terms B) → AreLawful records → StandsAt xs members k t → IsNone t.body →
-      Stands xs members records d (Leader k) → IsClear records d × NothingRuns records d
-  idle-leader records d k t lawful at none (s, is, leads) = let same = sym (body-at k t at) ∙ body-at k s is in (
-    leads-clear records d s leads,
-    record { cancelled = λ r w. (lawful.cancelled r w.listed).0 (subst IsNone (same ∙ leads.undisputed r w) none) },
-  )
-
-  -- and else the leader's position is a source
-  pub winner-at : (d k : ℕ) (t : Terms B) → k < length members → StandsAt xs members k t → IsSome t.body → Stands xs members
-      (IsChosen xs members) d (Leader k) → IsClear (IsChosen xs members) d × IsWinnerAt xs members d (get_or members k 0)
-  winner-at d k t below at some (s, is, leads) = (
-    leads-clear (IsChosen xs members) d s leads,
-    record {
-      member = Contains-get_or members k 0 below;
-      winner = s;
-      at = rw (same_Some (get_or members k 0) is.position (sym (slice_get-get_or members k 0 below) ∙ is.member)) is.at;
-      wins = leads.wins;
-      runs = subst IsSome (sym (body-at k t at) ∙ body-at k s is) some;
-    },
   )

@@ -1,12 +1,9 @@
 -- All clashes of an extract.
 use Rattle.std.specs.Prelude.{◌≡◌, ℕ, List, ◌++◌, map}
-use Rattle.std.specs.Ordering.{nat_cmp}
-use Rattle.std.specs.Cmp.Lexicographic.{slice_cmp}
-use Rattle.cif_calendar.specs.Clashes.{AreClashes}
-use Rattle.cif_calendar.specs.Entries.{association_entries, schedule_entries}
+use Rattle.std.specs.{Cmp.Lexicographic.slice_cmp, Ordering.nat_cmp}
+use Rattle.cif_calendar.specs.{Clashes.AreClashes, Entries.association_entries, Entries.schedule_entries}
 use Rattle.cif_extract.specs.ExtractParts.{ExtractParts}
-use Rattle.cif_extract.specs.declared.fault.Clash.{Clash}
-use Rattle.cif_extract.specs.declared.fault.Clash.TheVariants.{Association, Train}
+use Rattle.cif_extract.specs.declared.{fault.Clash.Clash, fault.Clash.TheVariants.Association, fault.Clash.TheVariants.Train}
 use Rattle.cif_records.specs.AssocKey.{key_cmp}
 use Rattle.cif_records.specs.declared.association.AssocKey.{AssocKey}
 

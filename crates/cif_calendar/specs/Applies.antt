@@ -1,8 +1,7 @@
 -- On which days a record applies.
 use Rattle.std.specs.Prelude.{ℕ, ◌≤◌, Bool, List}
-use Rattle.cif_columns.specs.DaysRun.{RunsOn}
+use Rattle.cif_columns.specs.{Day.weekday_of, DaysRun.RunsOn}
 use Rattle.cif_calendar.specs.Terms.{Terms}
-use Rattle.cif_columns.specs.Day.{weekday_of}
 
 -- Day d is one of the dates from `first` to `last`, both included, where the weekday is in the mask.
 pub record IsAmongDates (first last : ℕ) (days : List Bool) (d : ℕ) : Type 0 where

@@ -1,9 +1,7 @@
 -- The positions of entries in the order of their keys, one key after another.
-use Rattle.std.specs.Prelude.{◌≡◌, ◌⊎◌, ℕ, ◌<◌, ◌≤◌, List, Option, Some, None, All, AllPairs, Contains, slice_get, length}
-use Rattle.std.specs.Prelude.{take, drop, false}
-use Rattle.std.specs.Ordering.{is_gt}
-use Rattle.std.specs.declared.cmp.Ordering.{Ordering}
-use Rattle.std.specs.declared.cmp.Ordering.TheVariants.{Less}
+use Rattle.std.specs.Prelude.{All, AllPairs, Contains, List, None, Option, Some, drop, false, length, slice_get, take, ℕ, ◌<◌, ◌≡◌, ◌≤◌}
+use Rattle.std.specs.Prelude.{◌⊎◌}
+use Rattle.std.specs.{Ordering.is_gt, declared.cmp.Ordering.Ordering, declared.cmp.Ordering.TheVariants.Less}
 use Rattle.cif_calendar.specs.Terms.{Terms}
 
 -- at this position stands an entry of key k

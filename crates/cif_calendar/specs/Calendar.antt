@@ -1,13 +1,10 @@
 -- What a calendar says, and why there is none.
 use Rattle.std.specs.Prelude.{◌≡◌, ℕ, ◌+◌, ◌*◌, ◌≤◌, ◌⊎◌, List, length, All, Option, ◌↔◌, Result, Err, IfErr, IfOk}
-use Rattle.cif_calendar.specs.Terms.{Terms, Records}
-use Rattle.cif_calendar.specs.Clash.{IsClearFrom, IsFirstClash}
-use Rattle.cif_calendar.specs.Runs.{Runs}
+use Rattle.cif_calendar.specs.{Clash.IsClearFrom, Clash.IsFirstClash, Runs.Runs, Terms.Records, Terms.Terms}
 use Rattle.cif_calendar.specs.Source.{IsChosen, IsSource, body_at}
 use Rattle.cif_calendar.specs.Pieces.{IsPiece, IsBoundary, BeginsPiece, Tiles, source_at}
-use Rattle.cif_calendar.specs.declared.key_calendar.CalendarFault.{CalendarFault}
-use Rattle.cif_calendar.specs.declared.key_calendar.CalendarFault.TheVariants.{Ambiguous, Memory}
-use Rattle.cif_calendar.specs.declared.key_calendar.Piece.{Piece}
+use Rattle.cif_calendar.specs.declared.{key_calendar.CalendarFault.CalendarFault, key_calendar.CalendarFault.TheVariants.Ambiguous}
+use Rattle.cif_calendar.specs.declared.{key_calendar.CalendarFault.TheVariants.Memory, key_calendar.Piece.Piece}
 
 -- a calendar's window, from its first to its last day, and its pieces
 pub record CalendarParts : Type 0 where

@@ -1,7 +1,6 @@
 -- Whether the winners of a day agree.
 use Rattle.std.specs.Prelude.{◌≡◌, ◌≢◌, ℕ, ◌≤◌, ◌<◌}
-use Rattle.cif_calendar.specs.Terms.{Terms, Records}
-use Rattle.cif_calendar.specs.Wins.{Wins}
+use Rattle.cif_calendar.specs.{Terms.Records, Terms.Terms, Wins.Wins}
 
 -- On day d all winners have the same body, or none of them has one.
 pub record IsClear {B : Type 0} (records : Records B) (d : ℕ) : Type 0 where

@@ -1,7 +1,6 @@
 -- The days of a window on which winners differ.
 use Rattle.std.specs.Prelude.{ℕ, ◌<◌, ◌≤◌, List, AllPairs, Contains, ◌↔◌}
-use Rattle.cif_calendar.specs.Clash.{IsClash, IsClear}
-use Rattle.cif_calendar.specs.Terms.{Records}
+use Rattle.cif_calendar.specs.{Clash.IsClash, Clash.IsClear, Terms.Records}
 
 -- day d is one of those from `first` to the one before `to`, and has a clash
 pub record IsClashBetween {B : Type 0} (records : Records B) (first to d : ℕ) : Type 0 where

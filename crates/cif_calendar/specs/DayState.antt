@@ -1,10 +1,7 @@
 -- What stands on a day, by the records of a key.
 use Rattle.std.specs.Prelude.{◌≡◌, ℕ, ◌+◌, ◌<◌, List, length, slice_index_or}
 use Rattle.cif_columns.specs.declared.stp.Stp.{Stp}
-use Rattle.cif_calendar.specs.Applies.{Applies}
-use Rattle.cif_calendar.specs.Clash.{IsClash, IsClear}
-use Rattle.cif_calendar.specs.Terms.{Records, Terms}
-use Rattle.cif_calendar.specs.Wins.{Wins}
+use Rattle.cif_calendar.specs.{Applies.Applies, Clash.IsClash, Clash.IsClear, Terms.Records, Terms.Terms, Wins.Wins}
 use Rattle.cif_calendar.specs.declared.day_state.DayState.{DayState}
 use Rattle.cif_calendar.specs.declared.day_state.DayState.TheVariants as state
 

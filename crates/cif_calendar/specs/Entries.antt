@@ -3,9 +3,7 @@ use Rattle.std.specs.Prelude.{ℕ, List, map}
 use Rattle.cif_calendar.specs.Terms.{Terms}
 use Rattle.cif_extract.specs.Body.{BodyLines}
 use Rattle.cif_extract.specs.declared.extract.Schedule.{Schedule}
-use Rattle.cif_records.specs.declared.association.AssocBody.{AssocBody}
-use Rattle.cif_records.specs.declared.association.AssocKey.{AssocKey}
-use Rattle.cif_records.specs.declared.association.Association.{Association}
+use Rattle.cif_records.specs.declared.{association.AssocBody.AssocBody, association.AssocKey.AssocKey, association.Association.Association}
 
 abbrev pub association_terms : Association → Terms AssocBody
 association_terms a = record { first = a.first; last = a.last; days = a.days; letter = a.letter; body = a.body }

@@ -1,9 +1,7 @@
 -- Records with keys: a list of pairs of a key and the terms of one of its records.
 use Rattle.std.specs.Prelude.{◌≡◌, ℕ, List, map, Some, Contains, slice_get}
-use Rattle.std.specs.declared.cmp.Ordering.{Ordering}
-use Rattle.std.specs.declared.cmp.Ordering.TheVariants.{Less}
-use Rattle.cif_calendar.specs.Terms.{Terms}
-use Rattle.cif_calendar.specs.Clash.{IsClearFrom, IsFirstClash}
+use Rattle.std.specs.declared.{cmp.Ordering.Ordering, cmp.Ordering.TheVariants.Less}
+use Rattle.cif_calendar.specs.{Clash.IsClearFrom, Clash.IsFirstClash, Terms.Terms}
 
 -- each of the entries as its key and its terms
 abbrev pub keyed : {E K B : Type 0} → (E → K) → (E → Terms B) → List E → List (K × Terms B)

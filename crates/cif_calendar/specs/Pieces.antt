@@ -1,9 +1,7 @@
 -- Stretches of days on which what runs goes by the weekday alone.
 use Rattle.std.specs.Prelude.{◌≡◌, ℕ, ◌+◌, ◌<◌, ◌≤◌, List, [], ◌∷◌, Option, None, nat_le, if◌then◌else◌, slice_index_or, Contains, ◌⊎◌}
 use Rattle.cif_columns.specs.Day.{weekday_of}
-use Rattle.cif_calendar.specs.Terms.{Terms, Records}
-use Rattle.cif_calendar.specs.Clash.{IsClearFrom}
-use Rattle.cif_calendar.specs.Source.{IsChosen, IsSource}
+use Rattle.cif_calendar.specs.{Clash.IsClearFrom, Source.IsChosen, Source.IsSource, Terms.Records, Terms.Terms}
 use Rattle.cif_calendar.specs.declared.key_calendar.Piece.{Piece}
 
 -- No record begins after day `first` and up to day `last`, or ends from `first` on and before `last`. So on two days between

@@ -2,8 +2,7 @@
 use Rattle.std.specs.Prelude.{◌≡◌, ℕ, ◌+◌, ◌*◌, List, [], ◌∷◌, All, map}
 use Rattle.std.specs.List.{range_with_len}
 use Rattle.cif_columns.specs.Uid.{IsUid}
-use Rattle.cif_calendar.specs.Terms.{Terms}
-use Rattle.cif_calendar.specs.ByKey.{HasKey}
+use Rattle.cif_calendar.specs.{ByKey.HasKey, Terms.Terms}
 
 -- the pairs are the positions of the first n entries, each behind what stands for its key
 pub record AreRanked {K B R : Type 0} (stands_for : R → K → Type 0) (entries : List (K × Terms B)) (n : ℕ) (ranked : List (R × ℕ))

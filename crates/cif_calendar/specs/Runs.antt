@@ -1,8 +1,7 @@
 -- What runs on a day.
 use Rattle.std.specs.Prelude.{◌≡◌, ℕ, Option, Some, None}
 use Rattle.cif_columns.specs.declared.stp.Stp.TheVariants.{C}
-use Rattle.cif_calendar.specs.Terms.{Terms, Records}
-use Rattle.cif_calendar.specs.Wins.{Wins}
+use Rattle.cif_calendar.specs.{Terms.Records, Terms.Terms, Wins.Wins}
 
 -- On day d body b runs: a winner has it.
 pub record BodyRuns {B : Type 0} (records : Records B) (d : ℕ) (b : B) : Type 0 where

@@ -1,9 +1,7 @@
 -- The records at some positions of a list, and the position of a winner among them.
 use Rattle.std.specs.Prelude.{◌≡◌, ℕ, List, Option, Some, None, IsSome, Contains, slice_get}
 use Rattle.std.specs.Option.{option_and_then}
-use Rattle.cif_calendar.specs.Terms.{Terms}
-use Rattle.cif_calendar.specs.Wins.{Wins}
-use Rattle.cif_calendar.specs.Runs.{NothingRuns}
+use Rattle.cif_calendar.specs.{Runs.NothingRuns, Terms.Terms, Wins.Wins}
 
 -- the records of xs at the members' positions
 pub record IsChosen {B : Type 0} (xs : List (Terms B)) (members : List ℕ) (r : Terms B) : Type 0 where

@@ -1,7 +1,6 @@
 -- What the rules read of a record, and sets of records.
 use Rattle.std.specs.Prelude.{◌≡◌, ℕ, ◌^◌, ◌<◌, Bool, List, Option, IsNone, length, ◌↔◌}
-use Rattle.cif_columns.specs.declared.stp.Stp.{Stp}
-use Rattle.cif_columns.specs.declared.stp.Stp.TheVariants.{C}
+use Rattle.cif_columns.specs.declared.{stp.Stp.Stp, stp.Stp.TheVariants.C}
 
 -- The terms of one record: its first and last day, its mask, its letter, and what runs. B is the type of bodies.
 pub record Terms (B : Type 0) : Type 0 where

@@ -1,8 +1,7 @@
 -- Which records win on a day.
 use Rattle.std.specs.Prelude.{ℕ, ◌≤◌}
 use Rattle.cif_columns.specs.Stp.{letter}
-use Rattle.cif_calendar.specs.Terms.{Terms, Records}
-use Rattle.cif_calendar.specs.Applies.{Applies}
+use Rattle.cif_calendar.specs.{Applies.Applies, Terms.Records, Terms.Terms}
 
 -- A record's precedence, the least first: that of its letter, in the alphabet's order C, N, O, P.
 abbrev pub precedence : {B : Type 0} → Terms B → ℕ

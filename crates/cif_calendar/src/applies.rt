@@ -1,7 +1,6 @@
 //! A window of dates, when a record applies, and which of those that apply win.
 ghost use Rattle.std.specs.Prelude.{◌≡◌, ◌≤◌, ◌↔◌, IsTrue};
-ghost use Rattle.cif_calendar.specs.Applies.{IsAmongDates};
-ghost use Rattle.cif_calendar.specs.Wins.{precedence};
+ghost use Rattle.cif_calendar.specs.{Applies.IsAmongDates, Wins.precedence};
 
 use crate::entry::Entry;
 use cif_columns::{Day, DaysRun};

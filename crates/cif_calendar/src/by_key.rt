@@ -1,8 +1,7 @@
 //! The positions of entries in the order of their keys.
 ghost use Rattle.std.specs.Prelude.{◌≡◌, ◌<◌, All, IfOk, length};
-ghost use Rattle.cif_calendar.specs.Keys.{ArePositionsOf, keyed};
+ghost use Rattle.cif_calendar.specs.{Keys.ArePositionsOf, Keys.keyed, Ranks.AreRanked};
 ghost use Rattle.cif_calendar.specs.ByKey.{AreAllByKey, AreFrom, AreOfFirstKey, IsFirstKey};
-ghost use Rattle.cif_calendar.specs.Ranks.{AreRanked};
 ghost use Rattle.cif_calendar.specs.ByKey.{IsCountOfKey, IsFirstOfBoth, IsFirstOrNone, IsRising};
 
 use crate::entry::Entry;

@@ -1,7 +1,6 @@
 //! The dates of a window on which winners differ.
 ghost use Rattle.std.specs.Prelude.{◌≡◌, ◌<◌, ◌≤◌, ◌+◌, ℕ, All, IfOk, IsTrue, length, map, slice_index_or};
-ghost use Rattle.cif_calendar.specs.ClashDates.{AreClashDates};
-ghost use Rattle.cif_calendar.specs.Source.{IsChosen};
+ghost use Rattle.cif_calendar.specs.{ClashDates.AreClashDates, Source.IsChosen};
 ghost use Rattle.cif_calendar.specs.Steps.Stretches.{AddsIfDisputed, AreStretchesOf, IsStretch};
 ghost use Rattle.cif_calendar.specs.declared.standing.Standing.TheVariants.{Disputed, Nobody};
 

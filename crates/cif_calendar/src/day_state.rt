@@ -1,9 +1,7 @@
 //! What stands on each date of a window.
 ghost use Rattle.std.specs.Prelude.{◌+◌, ◌<◌, ℕ, All, IfOk, length, map};
-ghost use Rattle.cif_calendar.specs.DayState.{AreDayStates, IsDayState};
-ghost use Rattle.cif_calendar.specs.Source.{IsChosen};
-ghost use Rattle.cif_calendar.specs.Steps.Standing.{IsBelow, Stands};
-ghost use Rattle.cif_calendar.specs.Steps.Stretches.{AreStretchesOf, IsStretch};
+ghost use Rattle.cif_calendar.specs.{DayState.AreDayStates, DayState.IsDayState, Source.IsChosen, Steps.Standing.IsBelow};
+ghost use Rattle.cif_calendar.specs.{Steps.Standing.Stands, Steps.Stretches.AreStretchesOf, Steps.Stretches.IsStretch};
 
 use crate::applies::Window;
 use crate::entry::Entry;

@@ -3,8 +3,7 @@
 ghost use Rattle.std.specs.Prelude.{◌≡◌, ◌≤◌, ◌↔◌, IsTrue, IsNone};
 ghost use Rattle.std.specs.Option.{option_copied};
 ghost use Rattle.cif_columns.specs.declared.stp.Stp.TheVariants.{C};
-ghost use Rattle.cif_calendar.specs.Ranks.{IsNumberOf};
-ghost use Rattle.cif_calendar.specs.Terms.{Terms};
+ghost use Rattle.cif_calendar.specs.{Ranks.IsNumberOf, Terms.Terms};
 
 use cif_columns::{Day, DaysRun, Stp, Uid};
 use cif_extract::{Body, Schedule};
@@ -85,12 +84,9 @@ impl Entry for Association {
 
     type Body = AssocBody;
 
-    ghost use Rattle.std.proofs.Common.{rules};
-    ghost use Rattle.std.proofs.lemmas.Grind.{common_steps};
+    ghost use Rattle.std.proofs.{Common.rules, lemmas.Grind.common_steps};
     ghost use Rattle.cif_records.specs.AssocKey.{key_cmp};
-    ghost use Rattle.cif_calendar.specs.Entries.{association_terms};
-    ghost use Rattle.cif_calendar.specs.Laws.Bodied.{cancelled-from_bodied};
-    ghost use Rattle.cif_calendar.specs.Laws.Ranks.{order_of_keys};
+    ghost use Rattle.cif_calendar.specs.{Entries.association_terms, Laws.Bodied.cancelled-from_bodied, Laws.Ranks.order_of_keys};
     ghost use Rattle.std.specs.Cmp.Lexicographic.{pointwise_decides, bytes_decides};
 
     ghost key = { λ a. a.key };
@@ -146,12 +142,9 @@ impl Entry for Schedule {
 
     type Body = Body;
 
-    ghost use Rattle.std.proofs.Common.{rules};
-    ghost use Rattle.std.proofs.lemmas.Grind.{common_steps};
-    ghost use Rattle.cif_calendar.specs.Entries.{schedule_terms};
-    ghost use Rattle.cif_calendar.specs.Ranks.{IsNumberOf};
-    ghost use Rattle.cif_calendar.specs.Laws.Bodied.{cancelled-from_bodied};
-    ghost use Rattle.cif_calendar.specs.Laws.Ranks.{order_of_numbers};
+    ghost use Rattle.std.proofs.{Common.rules, lemmas.Grind.common_steps};
+    ghost use Rattle.cif_calendar.specs.{Entries.schedule_terms, Laws.Bodied.cancelled-from_bodied, Laws.Ranks.order_of_numbers};
+    ghost use Rattle.cif_calendar.specs.{Ranks.IsNumberOf};
     ghost use Rattle.std.specs.Cmp.Lexicographic.{bytes_decides, pointwise_decides};
 
     ghost key = { λ s. s.uid };

@@ -29,8 +29,7 @@ pub struct Calendar {
 }
 
 impl Model for Calendar {
-    ghost use Rattle.cif_calendar.specs.Calendar.{CalendarParts};
-    ghost use Rattle.cif_calendar.specs.Pieces.{Tiles};
+    ghost use Rattle.cif_calendar.specs.{Calendar.CalendarParts, Pieces.Tiles};
     ghost use Rattle.std.specs.Prelude.{◌+◌};
 
     ghost Value = { CalendarParts };

@@ -1,14 +1,13 @@
 //! The keys that have a clash in a window.
 ghost use Rattle.std.specs.Prelude.{◌<◌, All, IfOk, OnOk, length};
-ghost use Rattle.cif_calendar.specs.Clashes.{TellClashes};
-ghost use Rattle.cif_calendar.specs.Keys.{ArePositionsOf, keyed};
-ghost use Rattle.cif_calendar.specs.Steps.Clashes.{IsAddedOfKey, IsFaultAdded};
+ghost use Rattle.cif_calendar.specs.{Clashes.TellClashes, Keys.ArePositionsOf, Keys.keyed, Steps.Clashes.IsAddedOfKey};
+ghost use Rattle.cif_calendar.specs.{Steps.Clashes.IsFaultAdded};
 
 use crate::applies::Window;
 use crate::by_key::{count_of_first_key, positions_by_key};
 use crate::entry::Entry;
 use crate::key_calendar::CalendarFault;
-use crate::pieces::calendar;
+use crate::stretch::calendar;
 use cif_columns::Day;
 use std::alloc::{AllocError, Global};
 

@@ -10,7 +10,6 @@ mod key_calendar;
 mod key_clashes;
 pub mod laws;
 mod named_clashes;
-mod pieces;
 mod standing;
 mod stretch;
 
@@ -22,4 +21,4 @@ pub use entry::{Entry, same_body, uid_number};
 pub use key_calendar::{Calendar, CalendarFault, Piece};
 pub use key_clashes::{KeyClash, clashing_keys};
 pub use named_clashes::{NamedEntry, add_named};
-pub use pieces::calendar;
+pub use stretch::calendar;

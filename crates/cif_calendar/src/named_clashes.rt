@@ -1,7 +1,6 @@
 //! Clashes by the names of their keys.
 ghost use Rattle.std.specs.Prelude.{◌≡◌, ◌<◌, ◌++◌, ℕ, All, IfOk, List, Some, length, map};
-ghost use Rattle.cif_calendar.specs.Clashes.{told};
-ghost use Rattle.cif_calendar.specs.Keys.{keyed};
+ghost use Rattle.cif_calendar.specs.{Clashes.told, Keys.keyed};
 
 use crate::entry::Entry;
 use crate::key_clashes::KeyClash;

@@ -5,12 +5,9 @@
 //! which fall.
 
 ghost use Rattle.std.specs.Prelude.{◌≡◌, ◌<◌, ◌^◌, ◌↔◌, ◌⊎◌, ℕ, All, Some, None, length, IsTrue, MatchResult, slice_index_or};
-ghost use Rattle.cif_calendar.specs.Clash.{IsClash, IsClear};
-ghost use Rattle.cif_calendar.specs.Source.{IsChosen, IsSource};
+ghost use Rattle.cif_calendar.specs.{Clash.IsClash, Clash.IsClear, Source.IsChosen, Source.IsSource, Terms.AreLawful};
 ghost use Rattle.cif_calendar.specs.Steps.Standing.{AreAlike, AreBelow, Combines, HaveOneBody, IsBelow, IsRank, LooksAt, Stands, StandsAt};
-ghost use Rattle.cif_calendar.specs.Terms.{AreLawful};
-ghost use Rattle.cif_calendar.specs.declared.key_calendar.CalendarFault.TheVariants.{Ambiguous};
-ghost use Rattle.cif_calendar.specs.declared.standing.Standing.TheVariants.{Nobody};
+ghost use Rattle.cif_calendar.specs.declared.{key_calendar.CalendarFault.TheVariants.Ambiguous, standing.Standing.TheVariants.Nobody};
 
 use crate::applies::precedence;
 use crate::entry::{Entry, same_body};

@@ -7,9 +7,8 @@ use Rattle.cif_canon.proofs.Names.{false≢true, inl, inr, is_eq, is_side, key_c
 use Rattle.cif_canon.proofs.Names.{ordering_then, pointwise, pointwise_decides, refl, rules, same_Some, same_key-cmp, slice_cmp, subst, sym}
 use Rattle.cif_canon.proofs.Names.{texts_ties, true≢false, ℕ, ⊎_elim, ◌&&◌, ◌↔◌, ◌∙◌, ◌∷◌, ◌≡◌, ◌⊎◌}
 use Rattle.std.specs.Prelude.{⊤}
-use Rattle.cif_canon.proofs.MergedSides.{pairs-head, pairs-tail}
-use Rattle.cif_canon.proofs.PairedRecords.{keys-decided, pair-decided}
-use Rattle.cif_canon.proofs.Unique.{keys-total}
+use Rattle.cif_canon.proofs.{MergedSides.pairs-head, MergedSides.pairs-tail, PairedRecords.keys-decided, PairedRecords.pair-decided}
+use Rattle.cif_canon.proofs.{Unique.keys-total}
 
 left≢right : Left ≡ Right → ⊥
 left≢right e = true≢false (ap (is_side Left) e)

@@ -5,8 +5,7 @@ use Rattle.cif_canon.proofs.Names.{IsStrictlySortedBy-dedup, Less, List, Orderin
 use Rattle.cif_canon.proofs.Names.{nat_list_cmp_total, on_texts_equal, on_total, pointwise, same_tiploc, slice_cmp, subst, sym, texts_ties}
 use Rattle.cif_canon.proofs.Names.{◌∷◌, ◌≡◌}
 use Rattle.std.proofs.lemmas.List.Filters.{dedup_is}
-use Rattle.std.specs.List.Retain.{DiffersFromLast, IsFiltered}
-use Rattle.std.specs.List.Sorted.{IsStrictlySortedBy}
+use Rattle.std.specs.{List.Retain.DiffersFromLast, List.Retain.IsFiltered, List.Sorted.IsStrictlySortedBy}
 
 -- what is sorted strictly rises strictly
 all-from : {X : Type 0} (P : X → Type 0) (xs : List X) → AllByRecursion P xs → All P xs

@@ -4,9 +4,8 @@ use Rattle.cif_canon.proofs.Names.{IsRunOf, IsTrue, IsWithin, Left, List, None, 
 use Rattle.cif_canon.proofs.Names.{Terms, Two, ap, at_side, body_on, false, false≢true, inl, inr, key-clear, key-runs, keyed, map, of_key}
 use Rattle.cif_canon.proofs.Names.{refl, same_Some, subst, sym, true, window_from, window_of, ℕ, ◌↔◌, ◌∙◌, ◌≡◌, ◌≢◌, ◌⊎◌}
 use Rattle.cif_weeks.specs.Runs.{IsRunOf as IsCalendarRun}
-use Rattle.cif_canon.proofs.FoundRecords.{AreOfKey, AreOnlyOfKey}
+use Rattle.cif_canon.proofs.{FoundRecords.AreOfKey, FoundRecords.AreOnlyOfKey, MergedSides.by-side, MergedSides.other}
 use Rattle.cif_canon.proofs.KeyRecords.{key-run, runs-as, window-is}
-use Rattle.cif_canon.proofs.MergedSides.{by-side, other}
 
 -- two bodies, or none, are the same or they aren't
 module _ {B : Type 0} (eq : B → B → Bool) (law : (a b : B) → IsTrue (eq a b) ↔ (a ≡ b)) where

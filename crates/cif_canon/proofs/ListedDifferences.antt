@@ -8,9 +8,8 @@ use Rattle.cif_canon.proofs.Names.{inl, inr, key_cmp, keyed, length, nat_cmp, of
 use Rattle.cif_canon.proofs.Names.{sided_records, slice_cmp, slice_get, slice_get_within, subst, sym, tight, within-entries, ⊎_elim, ◌<◌}
 use Rattle.cif_canon.proofs.Names.{◌↔◌, ◌∙◌, ◌∷◌, ◌≡◌, ◌≤◌, ◌⊎◌}
 use Rattle.cif_canon.proofs.DifferentTiplocs.{has-or-not, no-tiploc, with_side}
-use Rattle.cif_canon.proofs.FoundRecords.{no-member}
+use Rattle.cif_canon.proofs.{FoundRecords.no-member, SidedTexts.have-sided_records, SidedTexts.records-of_runs}
 use Rattle.cif_canon.proofs.MergedSides.{at_side-made, from-side, side-member}
-use Rattle.cif_canon.proofs.SidedTexts.{have-sided_records, records-of_runs}
 
 -- ---- one kind of record
 

@@ -3,8 +3,7 @@ use Rattle.cif_canon.proofs.Names.{AllPairs, AreAppendedRuns, AreMerging, AreRis
 use Rattle.cif_canon.proofs.Names.{Contains-get_or, Contains-none, Contains-push_cases, Contains-rest, Decides, HasMovedOf, IsFirstSide}
 use Rattle.cif_canon.proofs.Names.{Left, List, None, Right, Run, RunComesBefore, Side, Sided, Some, [], all_pairs_push, ap, append-nil}
 use Rattle.cif_canon.proofs.Names.{append_assoc, arith, at_side, cond_both, eq-or-lt_of_le, false, get_or, if◌then◌else◌, inl, inr, is_side}
-use Rattle.cif_canon.proofs.Names.{length, of_side, refl, subst, suc, sym, true, true≢false, zero, ⊎_elim, ◌++◌, ◌+◌, ◌<◌, ◌∙◌, ◌∷◌, ◌≡◌}
-use Rattle.cif_canon.proofs.Names.{◌≤◌}
+use Rattle.cif_canon.proofs.Names.{of_side, refl, subst, suc, sym, true, true≢false, zero, ⊎_elim, ◌++◌, ◌+◌, ◌<◌, ◌∙◌, ◌∷◌, ◌≡◌, ◌≤◌}
 
 -- ---- lists with sides
 
@@ -183,22 +182,6 @@ module _ (lefts rights : List Run) (old : List (Sided Run)) where
         rw same (merging-more Left moved.item l' r (rw moved.items_are at first) (rw moved.items_are at m) moved.new_is)
     moved-of Right l r l' r' first (moved, same) m =
         rw same (merging-more Right moved.item r' l (rw moved.items_are at first) (rw moved.items_are at m) moved.new_is)
-
--- the side of the first run has one
-pub side-there : (side : Side) (l r : List Run) → IsFirstSide l r (Some side) → 0 < length (at_side l r side)
-side-there Left [] [] h = absurd h
-side-there Left [] (y ∷ r) h = absurd h
-side-there Left (x ∷ l) r h = omega arith
-side-there Right [] [] h = absurd h
-side-there Right (x ∷ l) [] h = absurd h
-side-there Right [] (y ∷ r) h = omega arith
-side-there Right (x ∷ l) (y ∷ r) h = omega arith
-
--- what has moved is left no more
-pub moved-smaller : {T : Type 0} (side : Side) (l r l' r' : List T) (old new : List (Sided T)) → HasMovedOf side l r l' r' old new →
-    length l' + length r' < length l + length r
-moved-smaller Left l r l' r' old new (moved, same) = rw (same, moved.items_are) (omega arith)
-moved-smaller Right l r l' r' old new (moved, same) = rw (same, moved.items_are) (omega arith)
 
 pub nothing-first : (l r : List Run) → IsFirstSide l r None → (l ≡ []) × (r ≡ [])
 nothing-first [] [] h = (refl, refl)

@@ -1,9 +1,8 @@
 -- Records by pairs: the first one is listed by itself, or with the next one if they are a pair.
-use Rattle.cif_canon.proofs.Names.{ArePair, Bool, Decides, Decides-and, Decides-eqb, IsTrue, Left, List, Listed, None, Option}
-use Rattle.cif_canon.proofs.Names.{Ordering, Permanent, Right, Run, Sided, Some, Terms, [], ap, are_pair, arith, at_side, by_pairs}
-use Rattle.cif_canon.proofs.Names.{drop, false, get_or, if◌then◌else◌, is_eq, length, length-drop, pointwise_decides, record_at, refl}
-use Rattle.cif_canon.proofs.Names.{same_from_decides, sided_records, sym, take, take_all, true, with_record, ◌-◌, ◌<◌, ◌↔◌, ◌∙◌, ◌∷◌}
-use Rattle.cif_canon.proofs.Names.{◌≡◌}
+use Rattle.cif_canon.proofs.Names.{ArePair, Bool, Decides, Decides-and, Decides-eqb, IsTrue, Left, List, Listed, None, Option, Ordering}
+use Rattle.cif_canon.proofs.Names.{Permanent, Right, Run, Sided, Some, Terms, [], ap, are_pair, arith, at_side, by_pairs, drop, false}
+use Rattle.cif_canon.proofs.Names.{get_or, if◌then◌else◌, is_eq, length, length-drop, pointwise_decides, record_at, refl, same_from_decides}
+use Rattle.cif_canon.proofs.Names.{sided_records, sym, take, take_all, true, with_record, ◌-◌, ◌<◌, ◌↔◌, ◌∙◌, ◌∷◌, ◌≡◌}
 use Rattle.std.specs.Cmp.{booleans_Decides}
 use Rattle.cif_canon.proofs.MergedSides.{side-decided}
 use Rattle.cif_canon.specs.Steps.ByPairs.{IsFirstListed, IsListedFirst}

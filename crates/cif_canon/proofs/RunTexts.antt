@@ -1,8 +1,8 @@
 -- What is written of a run is the text of its record.
-use Rattle.cif_canon.proofs.Names.{BodyLines, HasRecord, IsRunOf, List, None, Option, Permanent, Run, Schedule, Some, Terms, ap, arith}
-use Rattle.cif_canon.proofs.Names.{get_or, length, length-map, map, option_and_then, option_and_then_some, option_map, record_at, record_of}
-use Rattle.cif_canon.proofs.Names.{refl, run_text, same_Some, schedule_entries, schedule_entry, slice_get, slice_get_read, slice_get_within}
-use Rattle.cif_canon.proofs.Names.{subst, sym, terms_at, text_if, ℕ, ◌<◌, ◌∙◌, ◌≡◌, ◌≤◌}
+use Rattle.cif_canon.proofs.Names.{BodyLines, HasRecord, IsRunOf, List, None, Permanent, Run, Schedule, Some, Terms, ap, arith, get_or}
+use Rattle.cif_canon.proofs.Names.{length, length-map, map, option_and_then, option_and_then_some, option_map, record_at, record_of, refl}
+use Rattle.cif_canon.proofs.Names.{run_text, schedule_entries, schedule_entry, slice_get, slice_get_read, slice_get_within, sym, terms_at}
+use Rattle.cif_canon.proofs.Names.{text_if, ℕ, ◌<◌, ◌∙◌, ◌≡◌}
 use Rattle.cif_canon.specs.Steps.Texts.{body_at}
 
 -- the record of a run whose source is an entry with a body
@@ -44,16 +44,6 @@ has-body {X} {K} {B} entry xs run x h is none =
     ∙ ap (option_map (λ b. ((entry x).0, record_of run b))) none in
     let it = h.is in
     cc
-
--- a run with a record doesn't end before it begins
-pub dates-in_order : {K B : Type 0} (entries : List (K × Terms B)) (run : Run) → HasRecord entries run → run.first ≤ run.last
-dates-in_order {K} {B} entries run h =
-    option_and_then_some (λ (e : K × Terms B). option_map (λ b. (e.0, record_of run b)) e.1.body) (slice_get entries run.source) h.it h.is
-    (λ e at is. of-body e.0 e.1.body is)
-  where
-    of-body : (k : K) (o : Option B) → option_map (λ b. (k, record_of run b)) o ≡ Some h.it → run.first ≤ run.last
-    of-body k None e = absurd (cc)
-    of-body k (Some b) e = subst (λ (it : K × Permanent B). it.1.first ≤ it.1.last) (sym (same_Some _ _ e)) h.in_order
 
 -- the body of the schedule that stands at a position
 pub body-of : (schedules : List Schedule) (n : ℕ) (s : Schedule) → n < length schedules → s ≡ get_or schedules n s →

@@ -1,8 +1,8 @@
 -- The records of runs with their sides, and their text.
 use Rattle.cif_canon.proofs.Names.{All, All-cons, All-head, All-nil, All-tail, AllZip, AreNone, AssocBody, AssocKey, BodyLines, Bool}
-use Rattle.cif_canon.proofs.Names.{HasSidedRecord, IsSidedRunOf, IsTrue, List, None, Option, Permanent, Run, Side, Sided, Some}
-use Rattle.cif_canon.proofs.Names.{Terms, Tiploc, [], ap, at_side, flat_map, length, nil_from_length, record_at, refl}
-use Rattle.cif_canon.proofs.Names.{sided_records, sided_run_text, sym, text_if, with_record, ℕ, ◌++◌, ◌↔◌, ◌∙◌, ◌∷◌, ◌≡◌, ◌≤◌}
+use Rattle.cif_canon.proofs.Names.{HasSidedRecord, IsSidedRunOf, IsTrue, List, None, Option, Permanent, Run, Side, Sided, Some, Terms}
+use Rattle.cif_canon.proofs.Names.{Tiploc, [], ap, at_side, flat_map, length, nil_from_length, record_at, refl, sided_records}
+use Rattle.cif_canon.proofs.Names.{sided_run_text, sym, text_if, with_record, ℕ, ◌++◌, ◌↔◌, ◌∙◌, ◌∷◌, ◌≡◌, ◌≤◌}
 use Rattle.cif_canon.proofs.RunTexts.{record-of_run}
 
 module _ {K B : Type 0} (xs ys : List (K × Terms B)) where

@@ -4,8 +4,7 @@ use Rattle.cif_canon.proofs.Names.{IsOneWay, IsTotalOrder, Less, List, Ordering,
 use Rattle.cif_canon.proofs.Names.{association_entries, header_window, key_cmp, less_one_way, nat_cmp, nat_list_cmp_total, on_total}
 use Rattle.cif_canon.proofs.Names.{permanent_entries, same_extract_parts, same_header, same_members, schedule_entries, slice_cmp, subst}
 use Rattle.cif_canon.proofs.Names.{sym, then_total, ◌∙◌, ◌≡◌}
-use Rattle.cif_weeks.proofs.PermanentEntries.{same-meaning}
-use Rattle.cif_weeks.proofs.UniqueByKey.{unique_same}
+use Rattle.cif_weeks.proofs.{PermanentEntries.same-meaning, UniqueByKey.unique_same}
 use Rattle.cif_canon.proofs.SameExtracts.{one-window, same-associations, same-schedules}
 
 module _ {K B : Type 0} (cmp : K → K → Ordering) (total : IsTotalOrder cmp) (form : Form) (window : Window) where

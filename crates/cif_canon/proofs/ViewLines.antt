@@ -2,13 +2,10 @@
 use Rattle.cif_canon.proofs.Names.{All-cons, All-from_recursion, All-replicate, AreFields, ArePrintable, Bool, Bor, Field, IsPrintable}
 use Rattle.cif_canon.proofs.Names.{List, Trimmed, [], after, ap, append-nil, append_assoc, arith, century, codes, drop, false, fields_text}
 use Rattle.cif_canon.proofs.Names.{flat_map-append, get_or, if◌then◌else◌, length, line_of, long_date, map, nat_lt, refl, replicate}
-use Rattle.cif_canon.proofs.Names.{row_start, separator, shown, subst, suc, sym, true, width, width_of, with_first, zero, ℕ, ◌++◌, ◌+◌, ◌<◌}
-use Rattle.cif_canon.proofs.Names.{◌∙◌, ◌∷◌, ◌≡◌, ◌≤◌}
-use Rattle.std.proofs.lemmas.List.{at_drop_all, at_drop_more}
-use Rattle.cif_canon.specs.Fields.{nothing}
-use Rattle.cif_canon.specs.declared.rows.Format.{Format}
-use Rattle.cif_canon.specs.declared.rows.Format.TheVariants.{Text, Tsv}
-use Rattle.cif_canon.specs.declared.rows.Shape.{Shape}
+use Rattle.cif_canon.proofs.Names.{row_start, separator, shown, subst, sym, true, width, width_of, with_first, ℕ, ◌++◌, ◌+◌, ◌<◌, ◌∙◌, ◌∷◌}
+use Rattle.cif_canon.proofs.Names.{◌≡◌, ◌≤◌}
+use Rattle.std.proofs.lemmas.List.{at_drop_more}
+use Rattle.cif_canon.specs.declared.{rows.Format.Format, rows.Format.TheVariants.Text, rows.Format.TheVariants.Tsv, rows.Shape.Shape}
 
 module _ (format : Format) where
   -- fields behind fields
@@ -17,15 +14,6 @@ module _ (format : Format) where
   both-after start some more =
       append_assoc start (after format some) (after format more)
       ∙ ap (λ (l : List ℕ). start ++ l) (sym (flat_map-append (λ field. separator format ∷ shown format field) some more))
-
-  -- three groups, and four
-  pub three-after : (start : List ℕ) (a b c : List Field) →
-      ((start ++ after format a) ++ after format b) ++ after format c ≡ start ++ after format (a ++ (b ++ c))
-  three-after start a b c = both-after (start ++ after format a) b c ∙ both-after start a (b ++ c)
-
-  pub four-after : (start : List ℕ) (a b c d : List Field) →
-      (((start ++ after format a) ++ after format b) ++ after format c) ++ after format d ≡ start ++ after format (a ++ (b ++ (c ++ d)))
-  four-after start a b c d = three-after (start ++ after format a) b c d ∙ both-after start a (b ++ (c ++ d))
 
   -- a field, and two groups
   pub field-after : (start : List ℕ) (field : Field) (a b : List Field) →
@@ -135,14 +123,6 @@ module _ (format : Format) (whole : List ℕ) (most : ℕ) (xs : List GivenField
           room = omega (arith, room, upto);
           fields = here.fields.1;
         }
-
-  -- no field is left
-  pub all-pushed : length xs ≤ i → (line : List ℕ) (size : ℕ) → IsGrowing format whole most line size (fields-from i) →
-      (line ≡ whole) × (size ≤ most)
-  all-pushed past line size is =
-      let end = subst (IsGrowing format whole most line size) (at_drop_all (map field_of) xs i past) is in
-      let room = end.room in
-      (sym (append-nil line) ∙ end.text, omega (arith, room))
 
 -- a field that can be shown, before others
 pub one-more : {A B : Type 0} → A → B → A × B

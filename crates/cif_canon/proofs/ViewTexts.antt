@@ -2,10 +2,9 @@
 use Rattle.cif_canon.proofs.Names.{All, AreCanonicalRecords, AssocBody, AssocKey, BodyLines, DayTexts, Err, ExtractParts, Fault, Form}
 use Rattle.cif_canon.proofs.Names.{HasRecord, IfWritten, IsDayListed, IsTrainListed, IsWithin, List, Ok, Ordering, Permanent, Result, Run}
 use Rattle.cif_canon.proofs.Names.{Terms, TrainTexts, Window, Write, ap, applies_on, association_entries, canonical-dated, flat_map}
-use Rattle.cif_canon.proofs.Names.{header_window, key_cmp, listed_of, listed_on, map, nat_cmp, nat_eq, nat_list_cmp_total}
-use Rattle.cif_canon.proofs.Names.{pointwise, run_text, schedule_entries, slice_cmp, ℕ, ◌++◌, ◌∙◌, ◌≡◌}
-use Rattle.cif_canon.proofs.CanonTexts.{have-records, texts-of_runs}
-use Rattle.cif_canon.proofs.ChosenRecords.{chosen-text}
+use Rattle.cif_canon.proofs.Names.{header_window, key_cmp, listed_of, listed_on, map, nat_cmp, nat_eq, nat_list_cmp_total, pointwise}
+use Rattle.cif_canon.proofs.Names.{run_text, schedule_entries, slice_cmp, ℕ, ◌++◌, ◌∙◌, ◌≡◌}
+use Rattle.cif_canon.proofs.{CanonTexts.have-records, CanonTexts.texts-of_runs, ChosenRecords.chosen-text}
 use Rattle.cif_canon.proofs.RunningRecords.{applying, bodied, own, own-are, own-rising, running}
 
 -- an answer that a text was written, or a prefix of it

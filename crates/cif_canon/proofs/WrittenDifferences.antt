@@ -3,8 +3,7 @@ use Rattle.cif_canon.proofs.Names.{IsAppended, List, Option, Run, Schedule, Side
 use Rattle.cif_canon.proofs.Names.{marked_association, marked_schedule, marked_tiploc, schedule_entries, sided_records, sided_run_text, ℕ}
 use Rattle.cif_canon.proofs.Names.{◌++◌}
 use Rattle.cif_records.specs.declared.association.Association.{Association}
-use Rattle.cif_canon.proofs.AppendedTexts.{both, text-is}
-use Rattle.cif_canon.proofs.SidedTexts.{sided-text}
+use Rattle.cif_canon.proofs.{AppendedTexts.both, AppendedTexts.text-is, SidedTexts.sided-text}
 
 -- the text of runs of associations, of schedules
 abbrev pub associations_text : List Association → List Association → List (Sided Run) → List ℕ

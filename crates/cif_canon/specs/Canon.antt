@@ -2,14 +2,10 @@
 use Rattle.std.specs.Prelude.{◌≡◌, ℕ, List}
 use Rattle.cif_extract.specs.ExtractParts.{ExtractParts}
 use Rattle.cif_weeks.specs.declared.form.Form.{Form}
-use Rattle.cif_canon.specs.Accepted.{IsClearExtract}
-use Rattle.cif_canon.specs.Asked.{IsNarrowed}
-use Rattle.cif_canon.specs.Canonical.{IsCanonicalOf}
-use Rattle.cif_canon.specs.Counts.{counts_of}
-use Rattle.cif_canon.specs.Lines.{ExtractLines, lines_of}
+use Rattle.cif_canon.specs.{Accepted.IsClearExtract, Asked.IsNarrowed, Canonical.IsCanonicalOf, Counts.counts_of, Lines.ExtractLines}
+use Rattle.cif_canon.specs.{Lines.lines_of}
 use Rattle.cif_canon.specs.NormalForm.{IsNormalFormAgain, IsReachedFromForms, IsUnique}
-use Rattle.cif_canon.specs.declared.asked.Asked.{Asked}
-use Rattle.cif_canon.specs.declared.canonical_form.Counts.{Counts}
+use Rattle.cif_canon.specs.declared.{asked.Asked.Asked, canonical_form.Counts.Counts}
 
 -- what a contract sees of it: its text, its lines by kind, and how many records it has
 pub record CanonParts : Type 0 where

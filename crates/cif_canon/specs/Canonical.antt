@@ -1,21 +1,13 @@
 -- The canonical form of an extract.
 use Rattle.std.specs.Prelude.{◌≡◌, ℕ, List, AllPairs}
-use Rattle.std.specs.Ordering.{nat_cmp}
-use Rattle.std.specs.Cmp.Lexicographic.{slice_cmp}
-use Rattle.std.specs.declared.cmp.Ordering.{Ordering}
-use Rattle.std.specs.declared.cmp.Ordering.TheVariants.{Less}
-use Rattle.cif_calendar.specs.Terms.{Terms}
-use Rattle.cif_extract.specs.ExtractParts.{ExtractParts}
-use Rattle.cif_extract.specs.SpellsExtract.{BytesSpell}
-use Rattle.cif_extract.specs.Texts.{extract_text}
+use Rattle.std.specs.{Cmp.Lexicographic.slice_cmp, Ordering.nat_cmp}
+use Rattle.std.specs.declared.{cmp.Ordering.Ordering, cmp.Ordering.TheVariants.Less}
+use Rattle.cif_calendar.specs.{Entries.association_entries, Entries.schedule_entries, Terms.Terms}
+use Rattle.cif_extract.specs.{ExtractParts.ExtractParts, SpellsExtract.BytesSpell, Texts.extract_text}
 use Rattle.cif_records.specs.AssocKey.{key_cmp}
-use Rattle.cif_weeks.specs.Canonical.{AreCanonical}
-use Rattle.cif_weeks.specs.Permanent.{Permanent, permanent_entries}
-use Rattle.cif_weeks.specs.Window.{Window}
+use Rattle.cif_weeks.specs.{Canonical.AreCanonical, Permanent.Permanent, Permanent.permanent_entries, Window.Window}
 use Rattle.cif_weeks.specs.declared.form.Form.{Form}
-use Rattle.cif_canon.specs.Asked.{header_window}
-use Rattle.cif_calendar.specs.Entries.{association_entries, schedule_entries}
-use Rattle.cif_canon.specs.Meaning.{SameMeaning}
+use Rattle.cif_canon.specs.{Asked.header_window, Meaning.SameMeaning}
 
 -- The entries are permanent records alone, and rise strictly by key and then first day, so that no two have one key and one first day;
 -- those of each key have the form.

@@ -1,37 +1,21 @@
 -- What only one of two extracts says, as canonical records of each side, and the text of it.
-use Rattle.std.specs.Prelude.{◌≡◌, ◌↔◌, ◌⊎◌, ℕ, Bool, true, false, List, [], ◌∷◌, ◌++◌, Option, Some, None, AllPairs, Contains}
-use Rattle.std.specs.Prelude.{codes, map, if◌then◌else◌}
-use Rattle.std.specs.List.{flat_map}
-use Rattle.std.specs.Ordering.{nat_cmp}
-use Rattle.std.specs.Cmp.Lexicographic.{slice_cmp}
-use Rattle.std.specs.declared.cmp.Ordering.{Ordering}
-use Rattle.std.specs.declared.cmp.Ordering.TheVariants.{Less}
-use Rattle.cif_calendar.specs.Entries.{association_entries, schedule_entries}
-use Rattle.cif_calendar.specs.Keys.{of_key}
+use Rattle.std.specs.Prelude.{AllPairs, Bool, Contains, List, None, Option, Some, [], codes, false, if◌then◌else◌, map, true, ℕ, ◌++◌, ◌↔◌}
+use Rattle.std.specs.Prelude.{◌∷◌, ◌≡◌, ◌⊎◌}
+use Rattle.std.specs.{Cmp.Lexicographic.slice_cmp, List.flat_map, Ordering.nat_cmp}
+use Rattle.std.specs.declared.{cmp.Ordering.Ordering, cmp.Ordering.TheVariants.Less}
+use Rattle.cif_calendar.specs.{Entries.association_entries, Entries.schedule_entries, Keys.of_key, Terms.Terms}
 use Rattle.cif_calendar.specs.Runs.{BodyRuns, NothingRuns, Runs}
-use Rattle.cif_calendar.specs.Terms.{Terms}
-use Rattle.cif_columns.specs.Contents.{lines_text}
-use Rattle.cif_columns.specs.Field.{plain_line}
+use Rattle.cif_columns.specs.{Contents.lines_text, Field.plain_line}
 use Rattle.cif_columns.specs.declared.stp.Stp.TheVariants.{P}
-use Rattle.cif_extract.specs.Body.{BodyLines}
-use Rattle.cif_extract.specs.ExtractParts.{ExtractParts}
-use Rattle.cif_extract.specs.Texts.{schedule_lines}
-use Rattle.cif_records.specs.AssocKey.{key_cmp}
-use Rattle.cif_records.specs.Association.{association_rows}
-use Rattle.cif_records.specs.Tiploc.{tiploc_table}
-use Rattle.cif_records.specs.declared.association.AssocBody.{AssocBody}
-use Rattle.cif_records.specs.declared.association.AssocKey.{AssocKey}
-use Rattle.cif_records.specs.declared.tiploc.Tiploc.{Tiploc}
-use Rattle.cif_weeks.specs.Canonical.{AreCanonical, Precedes}
-use Rattle.cif_weeks.specs.Permanent.{Permanent}
-use Rattle.cif_weeks.specs.WhatRuns.{HasBody}
-use Rattle.cif_weeks.specs.Window.{Window, IsWithin}
+use Rattle.cif_extract.specs.{Body.BodyLines, ExtractParts.ExtractParts, Texts.schedule_lines}
+use Rattle.cif_records.specs.{AssocKey.key_cmp, Association.association_rows, Tiploc.tiploc_table}
+use Rattle.cif_records.specs.declared.{association.AssocBody.AssocBody, association.AssocKey.AssocKey, tiploc.Tiploc.Tiploc}
+use Rattle.cif_weeks.specs.{Canonical.AreCanonical, Canonical.Precedes, Permanent.Permanent, WhatRuns.HasBody, Window.IsWithin}
+use Rattle.cif_weeks.specs.{Window.Window}
 use Rattle.cif_weeks.specs.declared.form.Form.TheVariants.{Two}
-use Rattle.cif_canon.specs.Accepted.{IsClearExtract}
-use Rattle.cif_canon.specs.Asked.{header_window}
-use Rattle.cif_canon.specs.declared.listed_differences.Side.{Side}
-use Rattle.cif_canon.specs.declared.listed_differences.Side.TheVariants.{Left, Right}
-use Rattle.cif_canon.specs.declared.listed_differences.Sided.{Sided}
+use Rattle.cif_canon.specs.{Accepted.IsClearExtract, Asked.header_window}
+use Rattle.cif_canon.specs.declared.{listed_differences.Side.Side, listed_differences.Side.TheVariants.Left}
+use Rattle.cif_canon.specs.declared.{listed_differences.Side.TheVariants.Right, listed_differences.Sided.Sided}
 
 -- ---- what only one side says
 

@@ -1,12 +1,9 @@
 -- Fields, and the lines that they make: of text, or of a table whose fields have tabs between them.
-use Rattle.std.specs.Prelude.{◌≡◌, ⊤, ℕ, ◌+◌, List, [], ◌∷◌, ◌++◌, length, map, codes, nat_lt, replicate, slice_index_or, take}
-use Rattle.std.specs.Prelude.{if◌then◌else◌}
+use Rattle.std.specs.Prelude.{List, [], codes, if◌then◌else◌, length, map, nat_lt, replicate, slice_index_or, take, ℕ, ⊤, ◌++◌, ◌+◌, ◌∷◌}
+use Rattle.std.specs.Prelude.{◌≡◌}
 use Rattle.std.specs.List.{flat_map, join_with_byte}
-use Rattle.cif_columns.specs.Line.{ArePrintable}
-use Rattle.cif_columns.specs.Lines.{used}
-use Rattle.cif_canon.specs.declared.rows.Format.{Format}
-use Rattle.cif_canon.specs.declared.rows.Format.TheVariants.{Text, Tsv}
-use Rattle.cif_canon.specs.declared.rows.Shape.{Shape}
+use Rattle.cif_columns.specs.{Line.ArePrintable, Lines.used}
+use Rattle.cif_canon.specs.declared.{rows.Format.Format, rows.Format.TheVariants.Text, rows.Format.TheVariants.Tsv, rows.Shape.Shape}
 use Rattle.cif_canon.specs.declared.rows.Shape.TheVariants.{Date, Trimmed, Whole}
 
 -- a field: its columns, and how a table shows them

@@ -2,16 +2,11 @@
 use Rattle.std.specs.Prelude.{ℕ, List, Some, map}
 use Rattle.cif_columns.specs.Field.{plain_line}
 use Rattle.cif_columns.specs.declared.stp.Stp.TheVariants.{P}
-use Rattle.cif_extract.specs.Body.{BodyLines, detail_of}
-use Rattle.cif_extract.specs.ExtractParts.{ExtractParts}
-use Rattle.cif_extract.specs.Texts.{further_lines, rows_on}
+use Rattle.cif_extract.specs.{Body.BodyLines, Body.detail_of, ExtractParts.ExtractParts, Texts.further_lines, Texts.rows_on}
 pub use Rattle.cif_extract.specs.Texts.{line_of_association, line_of_tiploc}
 use Rattle.cif_extract.specs.declared.extract.Schedule.{Schedule}
-use Rattle.cif_records.specs.Association.{association_rows}
-use Rattle.cif_records.specs.Basic.{basic_rows}
-use Rattle.cif_records.specs.Header.{header_table}
-use Rattle.cif_records.specs.declared.association.AssocBody.{AssocBody}
-use Rattle.cif_records.specs.declared.association.AssocKey.{AssocKey}
+use Rattle.cif_records.specs.{Association.association_rows, Basic.basic_rows, Header.header_table}
+use Rattle.cif_records.specs.declared.{association.AssocBody.AssocBody, association.AssocKey.AssocKey}
 use Rattle.cif_weeks.specs.Permanent.{Permanent}
 
 -- the lines of a schedule: its BS, and those that follow it, which are its BX if there is one and its journey

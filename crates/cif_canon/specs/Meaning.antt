@@ -1,11 +1,10 @@
 -- What an extract says.
 use Rattle.std.specs.Prelude.{◌≡◌, ◌↔◌, Contains}
-use Rattle.cif_calendar.specs.Meaning.{EntriesSayTheSame}
+use Rattle.cif_calendar.specs.{Entries.association_entries, Entries.schedule_entries, Meaning.EntriesSayTheSame}
 use Rattle.cif_extract.specs.ExtractParts.{ExtractParts}
 use Rattle.cif_records.specs.declared.tiploc.Tiploc.{Tiploc}
 use Rattle.cif_weeks.specs.Window.{Window}
 use Rattle.cif_canon.specs.Asked.{header_window}
-use Rattle.cif_calendar.specs.Entries.{association_entries, schedule_entries}
 
 -- Two extracts agree in a window: they have the same TI records, whose repeats and order don't count, and on each day of the window
 -- the same associations hold and the same trains run, with the same bodies.

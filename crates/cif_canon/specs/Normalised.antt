@@ -2,21 +2,14 @@
 use Rattle.std.specs.Prelude.{◌≡◌, ◌⊎◌, ℕ, ⊤, List, Option, Result, Ok, Err}
 use Rattle.cif_columns.specs.Sink.{HasFailed, HasWritten}
 use Rattle.cif_columns.specs.declared.sink.Sink.{Sink}
-use Rattle.cif_extract.specs.ExtractParts.{ExtractParts}
-use Rattle.cif_extract.specs.ReadCall.{ReadCall, reading}
-use Rattle.cif_extract.specs.ReadFault.{is_read}
-use Rattle.cif_extract.specs.declared.fault.Fault.{Fault}
-use Rattle.cif_extract.specs.declared.fault.Fault.TheVariants.{Write}
+use Rattle.cif_extract.specs.{ExtractParts.ExtractParts, ReadCall.ReadCall, ReadCall.reading, ReadFault.is_read}
+use Rattle.cif_extract.specs.declared.{fault.Fault.Fault, fault.Fault.TheVariants.Write}
 use Rattle.cif_weeks.specs.declared.form.Form.{Form}
-use Rattle.cif_canon.specs.Accepted.{IsAcceptedWithin, SpellsNarrowed}
-use Rattle.cif_canon.specs.Asked.{IsNarrowed, IsNarrowingFault}
-use Rattle.cif_canon.specs.Canon.{CanonParts, IsCanonOf}
-use Rattle.cif_canon.specs.Canonical.{IsCanonicalOf}
-use Rattle.cif_canon.specs.Counts.{counts_of}
+use Rattle.cif_canon.specs.{Accepted.IsAcceptedWithin, Accepted.SpellsNarrowed, Asked.IsNarrowed, Asked.IsNarrowingFault, Canon.CanonParts}
+use Rattle.cif_canon.specs.{Canon.IsCanonOf, Canonical.IsCanonicalOf, Counts.counts_of}
 use Rattle.cif_canon.specs.Fault.{IsCanonFault, IsNormaliseFault, IsOfCheck, IsOfNormalise}
 use Rattle.cif_canon.specs.NormalForm.{IsNormalFormAgain, IsReachedFromForms, IsUnique}
-use Rattle.cif_canon.specs.declared.asked.Asked.{Asked}
-use Rattle.cif_canon.specs.declared.canonical_form.Counts.{Counts}
+use Rattle.cif_canon.specs.declared.{asked.Asked.Asked, canonical_form.Counts.Counts}
 
 -- The input is accepted, in at most max lines and for the window that is asked for, and this is its canonical text and its counts.
 pub record IsNormalised (form : Form) (asked : Asked) (max : ℕ) (input text : List ℕ) (counts : Counts) : Type 0 where

@@ -1,10 +1,8 @@
 -- Two extracts, in a window that is asked for of both: what `compare` and `diff` read.
 use Rattle.std.specs.Prelude.{◌⊎◌, ℕ, Bool, true, false, List, Some, Result, Ok, Err, max, min, unwrap_or}
 use Rattle.cif_columns.specs.declared.line_reader.TheConstants.{MAX_LINES}
-use Rattle.cif_extract.specs.ExtractParts.{ExtractParts, extract_parts}
-use Rattle.cif_extract.specs.SpellsExtract.{BytesSpellWithin}
-use Rattle.cif_extract.specs.declared.extract.Extract.{Extract}
-use Rattle.cif_extract.specs.declared.fault.Fault.{Fault}
+use Rattle.cif_extract.specs.{ExtractParts.ExtractParts, ExtractParts.extract_parts, SpellsExtract.BytesSpellWithin}
+use Rattle.cif_extract.specs.declared.{extract.Extract.Extract, fault.Fault.Fault}
 use Rattle.cif_canon.specs.Asked.{IsNarrowed, IsNarrowingFault}
 use Rattle.cif_canon.specs.declared.asked.Asked.{Asked}
 

@@ -1,15 +1,11 @@
 -- The rows of what runs: the fields of associations, trains and canonical schedules.
 use Rattle.std.specs.Prelude.{ℕ, List, ◌∷◌, [], ◌++◌, codes}
-use Rattle.cif_columns.specs.DayDigits.{yymmdd_of}
-use Rattle.cif_columns.specs.DaysRun.{days_columns}
-use Rattle.cif_columns.specs.Text.{left_justified}
+use Rattle.cif_columns.specs.{DayDigits.yymmdd_of, DaysRun.days_columns, Text.left_justified}
 use Rattle.cif_extract.specs.Body.{BodyLines, parts_in}
-use Rattle.cif_records.specs.declared.association.AssocBody.{AssocBody}
-use Rattle.cif_records.specs.declared.association.AssocKey.{AssocKey}
+use Rattle.cif_records.specs.declared.{association.AssocBody.AssocBody, association.AssocKey.AssocKey}
 use Rattle.cif_weeks.specs.Permanent.{Permanent}
 use Rattle.cif_canon.specs.Fields.{Field, left_out}
-use Rattle.cif_canon.specs.declared.rows.Format.{Format}
-use Rattle.cif_canon.specs.declared.rows.Format.TheVariants.{Text, Tsv}
+use Rattle.cif_canon.specs.declared.{rows.Format.Format, rows.Format.TheVariants.Text, rows.Format.TheVariants.Tsv}
 use Rattle.cif_canon.specs.declared.rows.Shape.TheVariants.{Date, Trimmed, Whole}
 
 -- a location with its suffix: one field of a line, and two of a table

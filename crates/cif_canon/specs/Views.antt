@@ -1,30 +1,15 @@
 -- What runs on a day, and when a train runs, as lines of text.
 use Rattle.std.specs.Prelude.{◌≡◌, ◌↔◌, ◌<◌, ⊤, ℕ, List, [], ◌++◌, AllPairs, Contains}
-use Rattle.std.specs.List.{flat_map}
-use Rattle.std.specs.Ordering.{nat_cmp}
-use Rattle.std.specs.Cmp.Lexicographic.{slice_cmp}
-use Rattle.std.specs.declared.cmp.Ordering.{Ordering}
-use Rattle.std.specs.declared.cmp.Ordering.TheVariants.{Less}
-use Rattle.cif_calendar.specs.Entries.{association_entries, schedule_entries}
-use Rattle.cif_calendar.specs.Keys.{of_key}
-use Rattle.cif_calendar.specs.Meaning.{EntriesSayTheSame}
-use Rattle.cif_calendar.specs.Runs.{BodyRuns}
-use Rattle.cif_calendar.specs.Terms.{Terms}
-use Rattle.cif_extract.specs.Body.{BodyLines}
-use Rattle.cif_extract.specs.ExtractParts.{ExtractParts}
-use Rattle.cif_extract.specs.declared.fault.Fault.{Fault}
-use Rattle.cif_extract.specs.declared.fault.Fault.TheVariants.{OutsideWindow, Write}
-use Rattle.cif_records.specs.AssocKey.{key_cmp}
-use Rattle.cif_records.specs.declared.association.AssocBody.{AssocBody}
-use Rattle.cif_records.specs.declared.association.AssocKey.{AssocKey}
-use Rattle.cif_weeks.specs.Canonical.{AreCanonical}
-use Rattle.cif_weeks.specs.Permanent.{Permanent, permanent_entries}
-use Rattle.cif_weeks.specs.Window.{IsWithin}
+use Rattle.std.specs.{Cmp.Lexicographic.slice_cmp, List.flat_map, Ordering.nat_cmp}
+use Rattle.std.specs.declared.{cmp.Ordering.Ordering, cmp.Ordering.TheVariants.Less}
+use Rattle.cif_calendar.specs.{Entries.association_entries, Entries.schedule_entries, Keys.of_key, Meaning.EntriesSayTheSame, Runs.BodyRuns}
+use Rattle.cif_calendar.specs.{Terms.Terms}
+use Rattle.cif_extract.specs.{Body.BodyLines, ExtractParts.ExtractParts}
+use Rattle.cif_extract.specs.declared.{fault.Fault.Fault, fault.Fault.TheVariants.OutsideWindow, fault.Fault.TheVariants.Write}
+use Rattle.cif_records.specs.{AssocKey.key_cmp, declared.association.AssocBody.AssocBody, declared.association.AssocKey.AssocKey}
+use Rattle.cif_weeks.specs.{Canonical.AreCanonical, Permanent.Permanent, Permanent.permanent_entries, Window.IsWithin}
 use Rattle.cif_weeks.specs.declared.form.Form.{Form}
-use Rattle.cif_canon.specs.Accepted.{IsClearExtract}
-use Rattle.cif_canon.specs.Asked.{header_window}
-use Rattle.cif_canon.specs.Fault.{IsCanonFault}
-use Rattle.cif_canon.specs.Fields.{line_of}
+use Rattle.cif_canon.specs.{Accepted.IsClearExtract, Asked.header_window, Fault.IsCanonFault, Fields.line_of}
 use Rattle.cif_canon.specs.Rows.{association_row, schedule_row, train_row}
 use Rattle.cif_canon.specs.declared.rows.Format.TheVariants.{Text}
 

@@ -1,9 +1,7 @@
 //! The window that is asked for, and extracts, one or two, that are narrowed to it.
 ghost use Rattle.std.specs.Prelude.{◌≡◌, IfErr, IfOk};
 ghost use Rattle.cif_columns.specs.declared.line_reader.TheConstants.{MAX_LINES};
-ghost use Rattle.cif_extract.specs.ExtractParts.{extract_parts};
-ghost use Rattle.cif_extract.specs.ReadCall.{IsResultOfBoth};
-ghost use Rattle.cif_extract.specs.ReadFault.{reading_extract};
+ghost use Rattle.cif_extract.specs.{ExtractParts.extract_parts, ReadCall.IsResultOfBoth, ReadFault.reading_extract};
 ghost use Rattle.cif_extract.specs.declared.fault.Fault.TheVariants.{OutsideWindow};
 ghost use Rattle.cif_weeks.specs.Window.{IsWithin};
 ghost use Rattle.cif_canon.specs.Asked.{IsNarrowed, IsNarrowingFault, header_window};

@@ -2,9 +2,7 @@
 ghost use Rattle.std.specs.Prelude.{◌≡◌, All, map};
 ghost use Rattle.std.specs.List.{enumerate_from, flat_map};
 ghost use Rattle.cif_calendar.specs.Entries.{schedule_entries};
-ghost use Rattle.cif_canon.specs.Appended.{IsAppended};
-ghost use Rattle.cif_canon.specs.Lines.{line_of_tiploc};
-ghost use Rattle.cif_canon.specs.Steps.Texts.{HasRecord, numbered_text};
+ghost use Rattle.cif_canon.specs.{Appended.IsAppended, Lines.line_of_tiploc, Steps.Texts.HasRecord, Steps.Texts.numbered_text};
 
 use crate::canonical_form::{
     Canon, CanonRecord, CanonSchedule, look_ahead_at, record_of, write_runs,

@@ -1,13 +1,11 @@
 //! The canonical form of an extract: its records, its counts and its text.
 ghost use Rattle.std.specs.Prelude.{◌≡◌, ◌<◌, All, IfErr, Some, length};
 ghost use Rattle.std.specs.List.{flat_map};
-ghost use Rattle.cif_calendar.specs.Keys.{keyed};
+ghost use Rattle.cif_calendar.specs.{Entries.schedule_entries, Keys.keyed};
 ghost use Rattle.cif_columns.specs.Sink.{Writes};
 ghost use Rattle.cif_extract.specs.declared.fault.Fault.TheVariants.{Write};
-ghost use Rattle.cif_canon.specs.Counts.{counts_line};
-ghost use Rattle.cif_calendar.specs.Entries.{schedule_entries};
+ghost use Rattle.cif_canon.specs.{Appended.IsAppended, Counts.counts_line};
 ghost use Rattle.cif_canon.specs.Steps.Texts.{HasRecord, body_at, record_at, run_text, schedule_run_text};
-ghost use Rattle.cif_canon.specs.Appended.{IsAppended};
 
 use crate::extract_runs::AT_ONCE;
 use crate::writing::{Texts, answer, write_each};
@@ -145,8 +143,7 @@ pub struct CanonRecord<'a, K, B> {
 
 impl<'a, K, B> Model for CanonRecord<'a, K, B> {
     ghost use Rattle.std.specs.Prelude.{◌≤◌};
-    ghost use Rattle.cif_weeks.specs.Permanent.{Permanent};
-    ghost use Rattle.cif_weeks.specs.Runs.{record_of};
+    ghost use Rattle.cif_weeks.specs.{Permanent.Permanent, Runs.record_of};
 
     ghost Value = { K × Permanent B };
 

@@ -1,15 +1,11 @@
 //! How two extracts compare: the first difference, and the line that names it.
 ghost use Rattle.std.specs.Prelude.{◌≡◌, ◌<◌, IfErr, IfOk, length};
-ghost use Rattle.cif_calendar.specs.ByKey.{HasKey, IsFirstOrNone};
-ghost use Rattle.cif_calendar.specs.Keys.{keyed};
+ghost use Rattle.cif_calendar.specs.{ByKey.HasKey, ByKey.IsFirstOrNone, Keys.keyed};
 ghost use Rattle.cif_columns.specs.Sink.{Writes};
 ghost use Rattle.cif_extract.specs.ExtractParts.{extract_parts};
 ghost use Rattle.cif_canon.specs.Comparison.{AreCompared, IsCompareFault, IsComparison, IsFirstDifference, comparison_line};
-ghost use Rattle.cif_canon.specs.Asked.{header_window};
-ghost use Rattle.cif_canon.specs.Steps.Differences.{AreClearIfSame};
-ghost use Rattle.cif_canon.specs.Steps.OnlySides.{AreSame};
+ghost use Rattle.cif_canon.specs.{Asked.header_window, Differences.at_side, Steps.Differences.AreClearIfSame, Steps.OnlySides.AreSame};
 ghost use Rattle.cif_weeks.specs.Window.{window_days};
-ghost use Rattle.cif_canon.specs.Differences.{at_side};
 
 use crate::differing::{
     Extent, check_comparable, check_one_window, different_records, fault_of_both,

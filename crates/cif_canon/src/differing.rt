@@ -2,11 +2,8 @@
 ghost use Rattle.std.specs.Prelude.{◌≡◌, ◌↔◌, ◌<◌, IfErr, IfOk, IsTrue, OnOk, length, map};
 ghost use Rattle.cif_calendar.specs.Keys.{keyed};
 ghost use Rattle.cif_extract.specs.ExtractParts.{extract_parts};
-ghost use Rattle.cif_canon.specs.Asked.{header_window};
-ghost use Rattle.cif_canon.specs.Comparison.{IsCompareFault};
+ghost use Rattle.cif_canon.specs.{Asked.header_window, Comparison.IsCompareFault, Meaning.Agree, Steps.Differences.AreComparable};
 ghost use Rattle.cif_canon.specs.Differences.{AreDifferences, AreNone, TurnLeftIntoRight};
-ghost use Rattle.cif_canon.specs.Meaning.{Agree};
-ghost use Rattle.cif_canon.specs.Steps.Differences.{AreComparable};
 ghost use Rattle.cif_canon.specs.Steps.OnlySides.{AreAppendedRuns, AreDifferentRuns, AreKeyDifferences, AreOfOneKey, AreRisingRuns};
 ghost use Rattle.cif_canon.specs.Steps.OnlySides.{IsFirstSide};
 ghost use Rattle.cif_weeks.specs.Window.{window_days};

@@ -1,13 +1,10 @@
 //! The canonical records of an extract, key by key.
 ghost use Rattle.std.specs.Prelude.{◌≡◌, ◌<◌, IfErr, IfOk, OnOk, All, length};
-ghost use Rattle.std.specs.Cmp.Lexicographic.{slice_cmp};
-ghost use Rattle.std.specs.Ordering.{nat_cmp};
-ghost use Rattle.cif_calendar.specs.Entries.{association_entries, schedule_entries};
-ghost use Rattle.cif_calendar.specs.Keys.{ArePositionsOf, keyed};
+ghost use Rattle.std.specs.{Cmp.Lexicographic.slice_cmp, Ordering.nat_cmp};
+ghost use Rattle.cif_calendar.specs.{Entries.association_entries, Entries.schedule_entries, Keys.ArePositionsOf, Keys.keyed};
 ghost use Rattle.cif_extract.specs.ExtractParts.{extract_parts};
 ghost use Rattle.cif_records.specs.AssocKey.{key_cmp};
-ghost use Rattle.cif_canon.specs.Asked.{header_window};
-ghost use Rattle.cif_canon.specs.Fault.{IsCanonFault};
+ghost use Rattle.cif_canon.specs.{Asked.header_window, Fault.IsCanonFault};
 ghost use Rattle.cif_canon.specs.Steps.Records.{AreCanonicalRecords, IsRecordsFault, AreRunsOfKey, IsKeyFault, extract_fault};
 ghost use Rattle.cif_weeks.specs.Window.{window_days};
 

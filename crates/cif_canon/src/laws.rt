@@ -1,19 +1,16 @@
 //! The laws that accepted inputs have canonical bytes, that these are unique, and that differences are
 //! listed by pairs.
 ghost use Rattle.std.specs.Prelude.{◌≡◌, ℕ, List};
-ghost use Rattle.std.specs.Cmp.Lexicographic.{slice_cmp};
-ghost use Rattle.std.specs.Ordering.{nat_cmp};
+ghost use Rattle.std.specs.{Cmp.Lexicographic.slice_cmp, Ordering.nat_cmp};
 ghost use Rattle.cif_columns.specs.Source.{Unread};
 ghost use Rattle.cif_extract.specs.ExtractParts.{ExtractParts};
 ghost use Rattle.cif_extract.specs.declared.fault.Fault.{Fault};
 ghost use Rattle.cif_records.specs.AssocKey.{key_cmp};
 ghost use Rattle.cif_weeks.specs.declared.form.Form.{Form};
-ghost use Rattle.cif_canon.specs.Accepted.{IsAccepted, IsAcceptedWithin};
-ghost use Rattle.cif_canon.specs.Canonical.{IsCanonicalOf};
-ghost use Rattle.cif_canon.specs.Differences.{AreDifferences, DifferencesParts};
-ghost use Rattle.cif_canon.specs.Fault.{IsDeviceOrMemory, IsNormaliseFault};
+ghost use Rattle.cif_canon.specs.{Accepted.IsAccepted, Accepted.IsAcceptedWithin, Canonical.IsCanonicalOf, Differences.AreDifferences};
+ghost use Rattle.cif_canon.specs.{Differences.DifferencesParts, Fault.IsDeviceOrMemory, Fault.IsNormaliseFault, Pairs.AreByPairs};
+ghost use Rattle.cif_canon.specs.{Pairs.by_pairs};
 ghost use Rattle.cif_canon.specs.NormalForm.{IsNormalFormAgain, IsReachedFromForms, IsUnique};
-ghost use Rattle.cif_canon.specs.Pairs.{AreByPairs, by_pairs};
 ghost use Rattle.cif_canon.specs.declared.asked.Asked.{Asked};
 
 /// Canonical bytes of one form are equal exactly if what they are made of says the same; they are

@@ -1,20 +1,16 @@
-//! The differences of two extracts, and their lines, each behind the mark of its side.
-ghost use Rattle.std.specs.Prelude.{◌<◌, ◌≡◌, ◌∷◌, [], ◌↔◌, IfOk, All, IfErr, IsTrue, Some, length};
+//! The differences of two extracts, and how they are listed: record by record, or by pairs of both sides.
+ghost use Rattle.std.specs.Prelude.{◌<◌, ◌≡◌, ◌↔◌, IfOk, IfSome, All, IsTrue, Some, length};
 ghost use Rattle.std.specs.List.{flat_map};
 ghost use Rattle.cif_calendar.specs.Keys.{keyed};
-ghost use Rattle.cif_columns.specs.Sink.{Writes};
-ghost use Rattle.cif_extract.specs.declared.fault.Fault.TheVariants.{Write};
-ghost use Rattle.cif_canon.specs.Differences.{at_side, mark, marked_text};
-ghost use Rattle.cif_canon.specs.Steps.OnlySides.{HasMovedOf};
-ghost use Rattle.cif_canon.specs.Steps.Sides.{HasSidedRecord, sided_run_text};
-ghost use Rattle.cif_canon.specs.Steps.Texts.{record_at};
-ghost use Rattle.cif_canon.specs.Appended.{IsAppended};
+ghost use Rattle.cif_canon.specs.{Appended.IsAppended, Differences.at_side, Pairs.ArePair, Pairs.by_pairs, Steps.ByPairs.IsFirstListed};
+ghost use Rattle.cif_canon.specs.{Steps.ByPairs.IsListedFirst, Steps.OnlySides.HasMovedOf, Steps.Sides.HasSidedRecord};
+ghost use Rattle.cif_canon.specs.{Steps.Sides.sided_records, Steps.Texts.record_at};
 
-use crate::canonical_form::{CanonRecord, CanonSchedule, record_of};
-use crate::writing::{Texts, answer, append, write_each};
+use crate::canonical_form::{CanonRecord, record_of};
+use crate::writing::{Texts, write_each};
 use cif_calendar::Entry;
-use cif_columns::{Line, LineSlice, Sink, WriteDevice};
-use cif_extract::{Extract, Fault};
+use cif_columns::{Sink, Uid, WriteDevice};
+use cif_extract::{Body, Extract};
 use cif_records::{AssocBody, AssocKey, Tiploc};
 use cif_weeks::Run;
 use std::alloc::AllocError;
@@ -103,97 +99,6 @@ pub(crate) fn push_next<'x, T: Copy + Drop>(
     }
 }
 
-/// What is before each line of a side.
-fn prefix_of(side: Side) -> &'static str
-    ensures { result.now ≡ mark side }
-{
-    match side {
-        Side::Left => "< ",
-        Side::Right => "> ",
-    }
-}
-
-/// Appends the line behind the mark of its side, and a line feed.
-fn write_marked<W: WriteDevice>(side: Side, line: &Line, sink: &mut Sink<W>)
-    ensures { IsAppended W.contents W.write_errors (marked_text side (line.now ∷ []))
-        sink.old sink.new }
-{
-    append(prefix_of(side), sink);
-    let _ = sink.write_line(line);
-}
-
-/// Appends the lines, as `write_marked` does.
-fn write_marked_lines<W: WriteDevice>(side: Side, lines: &LineSlice<'_>, sink: &mut Sink<W>)
-    ensures { IsAppended W.contents W.write_errors (marked_text side lines.now) sink.old sink.new }
-{
-    let mut rest = lines.copy();
-    while !rest.is_empty() {
-        write_marked(side, &rest.first(), sink);
-        rest = rest.rest();
-    }
-}
-
-/// The plain lines of locations and of records, behind the marks of their sides.
-#[derive(Clone, Copy)]
-struct MarkedLines;
-
-impl Texts<Sided<Tiploc>> for MarkedLines {
-    ghost use Rattle.cif_canon.specs.Differences.{marked_tiploc};
-
-    ghost text = { λ lines. marked_tiploc };
-
-    fn write<W: WriteDevice>(&self, item: &Sided<Tiploc>, sink: &mut Sink<W>) {
-        write_marked(item.side, &item.it.write(), sink);
-    }
-}
-
-impl<'a> Texts<Sided<CanonRecord<'a, AssocKey, AssocBody>>> for MarkedLines {
-    ghost use Rattle.cif_canon.specs.Differences.{marked_association};
-
-    ghost text = { λ lines. marked_association };
-
-    fn write<W: WriteDevice>(
-        &self,
-        item: &Sided<CanonRecord<'a, AssocKey, AssocBody>>,
-        sink: &mut Sink<W>,
-    ) {
-        write_marked(item.side, &item.it.line(), sink);
-    }
-}
-
-impl<'a> Texts<Sided<CanonSchedule<'a>>> for MarkedLines {
-    ghost use Rattle.cif_canon.specs.Differences.{marked_schedule};
-
-    ghost text = { λ lines. marked_schedule };
-
-    fn write<W: WriteDevice>(&self, item: &Sided<CanonSchedule<'a>>, sink: &mut Sink<W>) {
-        write_marked(item.side, &item.it.basic(), sink);
-        write_marked_lines(item.side, &item.it.further(), sink);
-    }
-}
-
-/// Appends the texts of the runs' records, each of which is of an entry of its side.
-fn write_sided_runs<
-    'a,
-    E: Entry,
-    L: Texts<Sided<CanonRecord<'a, E::Key, E::Body>>>,
-    W: WriteDevice,
->(texts: &L, left: &'a [E], right: &'a [E], runs: &'a [Sided<Run>], sink: &mut Sink<W>)
-    requires { All (HasSidedRecord (keyed E.key E.terms left.now) (keyed E.key E.terms right.now)) runs.now }
-    ensures { IsAppended W.contents W.write_errors
-        (flat_map (sided_run_text (L.text texts.now) (keyed E.key E.terms left.now) (keyed E.key E.terms right.now)) runs.now)
-        sink.old sink.new }
-{
-    for run in runs {
-        let record = sided_record(left, right, run);
-        let item = Sided {
-            side: run.side,
-            it: record,
-        };
-        texts.write(&item, sink);
-    }
-}
-
 /// What only one of two extracts says, as canonical records of each side. Their bodies are borrowed
 /// from the extracts: a clause sees the locations and the records, with their sides.
 #[derive(Debug, Drop)]
@@ -234,9 +139,10 @@ impl<'a> Model for Differences<'a> {
 }
 
 impl<'a> Differences<'a> {
+    ghost use Rattle.std.specs.{Cmp.Lexicographic.slice_cmp, Ordering.nat_cmp};
     ghost use Rattle.cif_calendar.specs.Entries.{association_entries, schedule_entries};
-    ghost use Rattle.cif_canon.specs.Differences.{AreNone, differences_text};
-    ghost use Rattle.cif_canon.specs.Steps.Sides.{sided_records};
+    ghost use Rattle.cif_records.specs.AssocKey.{key_cmp};
+    ghost use Rattle.cif_canon.specs.Differences.{AreNone};
 
     /// The differences of these locations and of the records of these runs.
     pub(crate) fn of(
@@ -278,31 +184,51 @@ impl<'a> Differences<'a> {
         )
     }
 
-    /// Appends the plain lines of the differences, each behind `< ` where it is of the left extract
-    /// or `> ` where it is of the right one, and with a line feed: the locations, rising; then the
-    /// associations and then the schedules, by key and first date, left before right.
-    pub fn write<W: WriteDevice>(&self, sink: &mut Sink<W>) -> Result<(), Fault>
-        ensures writes { Writes W.contents W.write_errors (differences_text self.now)
-            sink.old sink.new result }
-        ensures fault { IfErr result (λ fault. fault ≡ Write) }
+    /// Appends the texts of the locations, in their order.
+    pub fn list_tiplocs<L: Texts<Sided<Tiploc>>, W: WriteDevice>(
+        &self,
+        texts: &L,
+        sink: &mut Sink<W>,
+    )
+        ensures { IsAppended W.contents W.write_errors (flat_map (L.text texts.now) self.now.tiplocs) sink.old sink.new }
     {
-        let (left, right) = (self.left, self.right);
-        write_each(&MarkedLines, self.tiplocs.as_slice(), sink);
-        write_sided_runs(
-            &MarkedLines,
-            left.associations.as_slice(),
-            right.associations.as_slice(),
+        write_each(texts, self.tiplocs.as_slice(), sink);
+    }
+
+    /// Appends the texts of the associations, in their order, each pair as one.
+    pub fn list_associations<L: Texts<ListedRecord<'a, AssocKey, AssocBody>>, W: WriteDevice>(
+        &'a self,
+        texts: &L,
+        sink: &mut Sink<W>,
+    )
+        ensures { IsAppended W.contents W.write_errors
+            (flat_map (L.text texts.now) (by_pairs key_cmp self.now.associations)) sink.old sink.new }
+    {
+        write_pairs(
+            texts,
+            self.left.associations.as_slice(),
+            self.right.associations.as_slice(),
             self.associations.as_slice(),
             sink,
         );
-        write_sided_runs(
-            &MarkedLines,
-            left.schedules.as_slice(),
-            right.schedules.as_slice(),
+    }
+
+    /// Appends those of the schedules.
+    pub fn list_schedules<L: Texts<ListedRecord<'a, Uid, Body>>, W: WriteDevice>(
+        &'a self,
+        texts: &L,
+        sink: &mut Sink<W>,
+    )
+        ensures { IsAppended W.contents W.write_errors
+            (flat_map (L.text texts.now) (by_pairs (slice_cmp nat_cmp) self.now.schedules)) sink.old sink.new }
+    {
+        write_pairs(
+            texts,
+            self.left.schedules.as_slice(),
+            self.right.schedules.as_slice(),
             self.schedules.as_slice(),
             sink,
         );
-        answer(sink)
     }
 }
 
@@ -315,4 +241,108 @@ fn are_empty(
     ensures { IsTrue result ↔ ((length tiplocs.now ≡ 0) × (length associations.now ≡ 0) × (length schedules.now ≡ 0)) }
 {
     tiplocs.is_empty() && associations.is_empty() && schedules.is_empty()
+}
+
+/// Appends the texts of the runs' records, by pairs.
+fn write_pairs<'a, E: Entry, L: Texts<ListedRecord<'a, E::Key, E::Body>>, W: WriteDevice>(
+    texts: &L,
+    left: &'a [E],
+    right: &'a [E],
+    runs: &'a [Sided<Run>],
+    sink: &mut Sink<W>,
+)
+    requires { All (HasSidedRecord (keyed E.key E.terms left.now) (keyed E.key E.terms right.now)) runs.now }
+    ensures { IsAppended W.contents W.write_errors
+        (flat_map (L.text texts.now) (by_pairs E.Key.cmp
+        (sided_records (keyed E.key E.terms left.now) (keyed E.key E.terms right.now) runs.now)))
+        sink.old sink.new }
+{
+    let mut rest = runs;
+    while !rest.is_empty() {
+        let first = first_listed(left, right, rest);
+        texts.write(&first.0, sink);
+        rest = first.1;
+    }
+}
+
+/// The first run's record, or the pair that it begins, and the other runs.
+fn first_listed<'a, E: Entry>(
+    left: &'a [E],
+    right: &'a [E],
+    runs: &'a [Sided<Run>],
+) -> (ListedRecord<'a, E::Key, E::Body>, &'a [Sided<Run>])
+    requires some { 0 < length runs.now }
+    requires records { All (HasSidedRecord (keyed E.key E.terms left.now) (keyed E.key E.terms right.now)) runs.now }
+    ensures { IsFirstListed E.Key.cmp (keyed E.key E.terms left.now) (keyed E.key E.terms right.now)
+        runs.now result.1.now result.0 }
+{
+    let run = &runs[0];
+    let later = &runs[1..];
+    let side = run.side;
+    let one = sided_record(left, right, run);
+    match partner(left, right, side, &one, later) {
+        Some(other) => {
+            let other = Some(other);
+            (ListedRecord { side, one, other }, &later[1..])
+        }
+        None => {
+            let other = None;
+            (ListedRecord { side, one, other }, later)
+        }
+    }
+}
+
+/// The next run's record, if it makes a pair with this one.
+fn partner<'a, E: Entry>(
+    left: &'a [E],
+    right: &'a [E],
+    side: Side,
+    one: &CanonRecord<'_, E::Key, E::Body>,
+    later: &'a [Sided<Run>],
+) -> Option<CanonRecord<'a, E::Key, E::Body>>
+    requires { All (HasSidedRecord (keyed E.key E.terms left.now) (keyed E.key E.terms right.now)) later.now }
+    ensures listed { IsListedFirst E.Key.cmp (keyed E.key E.terms left.now) (keyed E.key E.terms right.now)
+        (record { side = side; it = one.now }) result later.now }
+    ensures some { IfSome result (λ _. 0 < length later.now) }
+{
+    if later.is_empty() {
+        return None;
+    }
+    let next = &later[0];
+    let other = sided_record(left, right, next);
+    if are_pair::<E>(side, one, next.side, &other) {
+        Some(other)
+    } else {
+        None
+    }
+}
+
+/// Whether two records are a pair.
+fn are_pair<E: Entry>(
+    side: Side,
+    one: &CanonRecord<'_, E::Key, E::Body>,
+    other_side: Side,
+    other: &CanonRecord<'_, E::Key, E::Body>,
+) -> bool
+    ensures { IsTrue result ↔ ArePair (record { side = side; it = one.now }) (record { side = other_side; it = other.now }) }
+{
+    match (side, other_side) {
+        (Side::Left, Side::Right) => have_same_key_and_dates::<E>(one, other),
+        (Side::Left, Side::Left) => false,
+        (Side::Right, _) => false,
+    }
+}
+
+/// Whether two records have one key, the same dates and the same days.
+fn have_same_key_and_dates<E: Entry>(
+    one: &CanonRecord<'_, E::Key, E::Body>,
+    other: &CanonRecord<'_, E::Key, E::Body>,
+) -> bool
+    ensures { IsTrue result ↔ ((one.now.0 ≡ other.now.0) × (one.now.1.first ≡ other.now.1.first)
+        × (one.now.1.last ≡ other.now.1.last) × (one.now.1.days ≡ other.now.1.days)) }
+{
+    one.key == other.key
+        && one.run.first == other.run.first
+        && one.run.last == other.run.last
+        && one.run.days.is(other.run.days)
 }

@@ -1,14 +1,10 @@
 //! The canonical form of an input, or why there is none, and the line that says why.
 ghost use Rattle.std.specs.Prelude.{◌≤◌, ◌≡◌, ℕ, List, IfErr, IfOk, IfSome};
-ghost use Rattle.cif_columns.specs.Sink.{Writes};
-ghost use Rattle.cif_columns.specs.Source.{reader_of};
+ghost use Rattle.cif_columns.specs.{Sink.Writes, Source.reader_of};
 ghost use Rattle.cif_columns.specs.declared.line_reader.TheConstants.{MAX_LINES};
-ghost use Rattle.cif_extract.specs.ExtractParts.{extract_parts};
-ghost use Rattle.cif_extract.specs.ReadCall.{IsResultOf};
-ghost use Rattle.cif_canon.specs.Canon.{IsCanonOf};
-ghost use Rattle.cif_canon.specs.Fault.{IsCanonFault, reading_narrowed};
+ghost use Rattle.cif_extract.specs.{ExtractParts.extract_parts, ReadCall.IsResultOf};
+ghost use Rattle.cif_canon.specs.{Canon.IsCanonOf, Fault.IsCanonFault, Fault.reading_narrowed, Report.fault_line};
 ghost use Rattle.cif_canon.specs.Normalised.{FaultWrites, HasCanon, Normalises, reading_canon, checking, normalising};
-ghost use Rattle.cif_canon.specs.Report.{fault_line};
 
 use crate::extract_runs::extract_runs;
 use crate::tiplocs::distinct_tiplocs;

@@ -1,7 +1,6 @@
 //! What only one of a key's two calendars says, day by day.
 ghost use Rattle.std.specs.Prelude.{◌≡◌, ◌↔◌, ◌≤◌, IfOk, IsTrue, map};
-ghost use Rattle.cif_calendar.specs.Calendar.{body_on};
-ghost use Rattle.cif_calendar.specs.Source.{body_at};
+ghost use Rattle.cif_calendar.specs.{Calendar.body_on, Source.body_at};
 ghost use Rattle.cif_canon.specs.Steps.Differences.{AreAlikeBy, HasBodies, HoldsFrom, IsBodied};
 ghost use Rattle.cif_canon.specs.Steps.OnlySides.{AreOfOneKey, AreOnlyRuns, AreOnlyWinners, AreRisingRuns, IsOnlyCalendar, IsOnlySource};
 

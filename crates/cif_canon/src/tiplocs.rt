@@ -1,9 +1,8 @@
 //! The locations of a canonical extract, and those that only one of two lists has.
 ghost use Rattle.std.specs.Prelude.{◌+◌, ◌<◌, IfOk, List, length};
 ghost use Rattle.cif_records.specs.declared.tiploc.Tiploc.{Tiploc};
-ghost use Rattle.cif_canon.specs.Differences.{AreDifferentTiplocs};
-ghost use Rattle.cif_canon.specs.Steps.OnlySides.{AreSifting, IsFirstOrder};
-ghost use Rattle.cif_canon.specs.Steps.Tiplocs.{AreDistinct};
+ghost use Rattle.cif_canon.specs.{Differences.AreDifferentTiplocs, Steps.OnlySides.AreSifting, Steps.OnlySides.IsFirstOrder};
+ghost use Rattle.cif_canon.specs.{Steps.Tiplocs.AreDistinct};
 
 use crate::listed_differences::{Side, Sided, push_next};
 use cif_records::Tiploc;

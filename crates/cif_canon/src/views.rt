@@ -4,8 +4,7 @@ ghost use Rattle.arrayvec.specs.ArrayString.{array_string_len};
 ghost use Rattle.cif_extract.specs.ExtractParts.{extract_parts};
 ghost use Rattle.cif_calendar.specs.Applies.{IsAmongDates};
 ghost use Rattle.cif_weeks.specs.Runs.{record_of};
-ghost use Rattle.cif_canon.specs.Appended.{IsAppended};
-ghost use Rattle.cif_canon.specs.Normalised.{FaultWrites, IfWritten};
+ghost use Rattle.cif_canon.specs.{Appended.IsAppended, Normalised.FaultWrites, Normalised.IfWritten};
 ghost use Rattle.cif_canon.specs.Views.{IsDayFault, IsDayListed, IsDayView, IsTrainFault, IsTrainListed, IsTrainView};
 
 use crate::asked::check_within;
@@ -25,8 +24,7 @@ use std::alloc::Global;
 pub trait DayLines {
     ghost use Rattle.std.specs.Prelude.{ℕ, List};
     ghost use Rattle.cif_extract.specs.Body.{BodyLines};
-    ghost use Rattle.cif_records.specs.declared.association.AssocBody.{AssocBody};
-    ghost use Rattle.cif_records.specs.declared.association.AssocKey.{AssocKey};
+    ghost use Rattle.cif_records.specs.declared.{association.AssocBody.AssocBody, association.AssocKey.AssocKey};
 
     // What comes first.
     ghost heading: { Self → List ℕ };

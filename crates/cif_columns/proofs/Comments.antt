@@ -1,9 +1,8 @@
 -- Which bytes begin as a comment does.
-use Rattle.cif_columns.proofs.Names.{All-cons, All-nil, All-take, AreUndecided, HaveNoFeed, InFeed, List, and_parts, ap, arith}
+use Rattle.cif_columns.proofs.Names.{All-cons, All-nil, All-take, AreUndecided, HaveNoFeed, InFeed, List, [], and_parts, ap, arith}
 use Rattle.cif_columns.proofs.Names.{begins_comment, bytes_eq-Decides, cases_lt, codes, cond, cond_both, false, false_from_ne_true}
-use Rattle.cif_columns.proofs.Names.{is_comment, length, length-take, most_by, nat_eq, nat_le, nat_tests, subst, sym, take}
-use Rattle.cif_columns.proofs.Names.{take-append-le, take-take, take_all, true, ℕ, ⊎_elim, [], ◌++◌, ◌+◌, ◌<◌, ◌∙◌, ◌≡◌}
-use Rattle.cif_columns.proofs.Names.{pointwise, ◌≢◌, ◌≤◌}
+use Rattle.cif_columns.proofs.Names.{is_comment, length, length-take, most_by, nat_eq, nat_le, nat_tests, pointwise, subst, sym, take}
+use Rattle.cif_columns.proofs.Names.{take-append-le, take-take, take_all, true, ℕ, ⊎_elim, ◌++◌, ◌+◌, ◌<◌, ◌∙◌, ◌≡◌, ◌≢◌, ◌≤◌}
 
 -- a content begins as the bytes do of which it is the first
 begins_front : (content bytes : List ℕ) → take (length content) bytes ≡ content → 3 ≤ length content

@@ -1,10 +1,9 @@
 -- What a `ContentReader` answers, by what its held bytes and its source gave.
 use Rattle.cif_columns.proofs.Names.{AnswersNext, AreUndecided, Content, ContentReader, CutsNext, DecideNoContent, Err, GivenDecideContent}
-use Rattle.cif_columns.proofs.Names.{GivenDecided, HoldsNext, IsNextWithin, List, Most, NextContent, Of, Ok, Option, Overlong, Read}
-use Rattle.cif_columns.proofs.Names.{ReadFault, Refused, Source, TooManyLines, ap, arith, content, length, most_by, most_of}
-use Rattle.cif_columns.proofs.Names.{nil_from_length, refl, ℕ, ◌+◌, ◌<◌, ◌≡◌, ◌≢◌}
-use Rattle.cif_columns.proofs.FirstContents.{first_some}
-use Rattle.cif_columns.proofs.GivenLinesLaws.{known_so}
+use Rattle.cif_columns.proofs.Names.{GivenDecided, IsNextWithin, List, Most, NextContent, Of, Ok, Option, Overlong, Read, ReadFault}
+use Rattle.cif_columns.proofs.Names.{Refused, Source, TooManyLines, ap, arith, content, length, most_by, most_of, refl, ℕ, ◌+◌, ◌<◌, ◌≡◌}
+use Rattle.cif_columns.proofs.Names.{◌≢◌}
+use Rattle.cif_columns.proofs.{FirstContents.first_some, GivenLinesLaws.known_so}
 use Rattle.cif_columns.specs.ContentReader.{given, held, left, limit}
 use Rattle.cif_columns.specs.declared.ahead.NextContent.TheVariants.{End}
 
@@ -20,19 +19,9 @@ module _ (most max count : ℕ) where
   pub none_more : count ≡ max → (given : List ℕ) → DecideNoContent most max count given → AreUndecided 1 given
   none_more full given none = record { no_feed = none.no_feed; short = omega (arith, ap length (none.none_too_many full)) }
 
-  pub none_begun : 0 < most → (held : List ℕ) → AreUndecided 1 held → DecideNoContent most max count held
-  none_begun some held none = record {
-    no_feed = none.no_feed;
-    short = omega (arith, some, none.short);
-    none_too_many = λ full. nil_from_length held (omega (arith, none.short));
-  }
-
   -- and else the content itself
   pub none_decided : (given : List ℕ) → DecideNoContent most max count given → AreUndecided most given
   none_decided given none = record { no_feed = none.no_feed; short = none.short }
-
-  pub none_with_room : count < max → (held : List ℕ) → AreUndecided most held → DecideNoContent most max count held
-  none_with_room room held none = record { no_feed = none.no_feed; short = none.short; none_too_many = λ full. absurd (omega arith) }
 
 -- what isn't none begins with some byte
 pub begins_some : (most : Most) (bytes content : List ℕ) (after : Option (List ℕ)) (next : NextContent) → 0 < most_by most bytes
@@ -43,21 +32,6 @@ begins_some most bytes content after End some other answer = absurd (other refl)
 
 module _ {R : Type 0} (remaining : R → Option (List ℕ)) (errors : R → Option ℕ) (most : Most) (old new : ContentReader)
     (from to : Source R) (limit_now : limit new ≡ limit old) (most_now : most_of new ≡ most_of old) where
-  -- the end, where none may
-  pub ends_next : CutsNext remaining errors (Of 1) old.ahead from (Ok End) new.ahead to → given old ≡ limit old → given new ≡ given old
-      → IsNextWithin remaining errors most old from (Ok End) new to
-  ends_next cut full same = record {
-    answer = cut.answer;
-    holds = same;
-    limit_now = limit_now;
-    most_now = most_now;
-    decided = λ other not. given_decide {m = Of 1} (λ gave. none_more (most_by most gave) (limit old) (given old) full gave)
-        (cut.decided not);
-    device = cut.device;
-    ended = λ e. cut.ended refl;
-    fresh = cut.fresh;
-  }
-
   -- a content that is one too many
   pub refuses_next : (next : NextContent) → CutsNext remaining errors (Of 1) old.ahead from (Ok next) new.ahead to → next ≢ End
       → given old ≡ limit old → given new ≡ given old
@@ -73,21 +47,6 @@ module _ {R : Type 0} (remaining : R → Option (List ℕ)) (errors : R → Opti
     device = cut.device;
     ended = λ e. absurd (cc);
     fresh = λ none. tt;
-  }
-
-  -- what comes where a content may
-  pub gives_next : (next : NextContent) → CutsNext remaining errors most old.ahead from (Ok next) new.ahead to
-      → HoldsNext most old (Ok next) new → IsNextWithin remaining errors most old from (Ok next) new to
-  gives_next next cut holds = record {
-    answer = cut.answer;
-    holds = holds;
-    limit_now = limit_now;
-    most_now = most_now;
-    decided = λ other not. given_decide {m = most} (λ gave. none_decided (most_by most gave) (limit old) (given old) gave)
-        (cut.decided not);
-    device = cut.device;
-    ended = λ e. let same : next ≡ End = cc in cut.ended (ap Ok same);
-    fresh = cut.fresh;
   }
 
   -- a failure of the source

@@ -2,8 +2,8 @@
 use Rattle.cif_columns.proofs.Names.{IfSome, IsDated, List, None, Option, Some, StandsInDdmmyy, StandsInYymmdd, [], arith, day_from}
 use Rattle.cif_columns.proofs.Names.{day_number, days_in_month_bounds, ddmmyy_in, get_or, length, refl, rules, sym, text_from_reads}
 use Rattle.cif_columns.proofs.Names.{yymmdd_in, ℕ, ◌<◌, ◌∙◌, ◌∷◌, ◌≡◌}
-use Rattle.cif_columns.proofs.Dates.{day_number-dated, is_dated-day_number}
-use Rattle.cif_columns.proofs.DigitsLemmas.{number_in-two_digits, two_digits-number_in}
+use Rattle.cif_columns.proofs.{Dates.day_number-dated, Dates.is_dated-day_number, DigitsLemmas.number_in-two_digits}
+use Rattle.cif_columns.proofs.{DigitsLemmas.two_digits-number_in}
 
 -- a date's month and day have two digits
 small_parts : (yy month day n : ℕ) → IsDated yy month day n → (month < 100) × (day < 100)

@@ -1,10 +1,8 @@
 -- One value stands in columns of a kind of field.
 use Rattle.cif_columns.proofs.Names.{Bool, List, Some, Stp, [], date, exactly, indicator, letter, refl, stp_in, sym, text, weekdays, ℕ, ◌∙◌}
 use Rattle.cif_columns.proofs.Names.{◌∷◌, ◌≡◌}
-use Rattle.cif_columns.proofs.DayColumns.{yymmdd_in-stands}
-use Rattle.cif_columns.proofs.Letters.{one_indicator as one_letter, stp_in-stands}
-use Rattle.cif_columns.proofs.Masks.{one_mask}
-use Rattle.cif_columns.proofs.Texts.{one_text}
+use Rattle.cif_columns.proofs.{DayColumns.yymmdd_in-stands, Letters.one_indicator as one_letter, Letters.stp_in-stands, Masks.one_mask}
+use Rattle.cif_columns.proofs.{Texts.one_text}
 use Rattle.cif_columns.specs.Field.{StandsIn}
 
 pub one_exactly : (columns a b : List ℕ) → StandsIn columns (exactly a) → StandsIn columns (exactly b) → a ≡ b

@@ -1,16 +1,14 @@
 -- The content that stands first in bytes, and bytes that decide none.
 use Rattle.cif_columns.proofs.Names.{All, All-append, All-cons, All-contains, All-nil, AnswersNext, AreUndecided, BeginOverlong, Bool}
-use Rattle.cif_columns.proofs.Names.{ComesFirst, Contains-append_right, Content, EndsAtFeed, HaveNoFeed, IfSome, IsAtEnd, IsFirstContent}
-use Rattle.cif_columns.proofs.Names.{InFeed, IsFirstFeed, IsLast, Keeps, List, Most, NextContent, None, Of, Option, Overlong, PassesFirst}
-use Rattle.cif_columns.proofs.Names.{Some, [], ap}
-use Rattle.cif_columns.proofs.Names.{append-nil, append_assoc, arith, cond, cond_both, contents_of, drop, drop-cons, drop_of_length-le}
-use Rattle.cif_columns.proofs.Names.{eqb-true, false, get_or, get_or_append_left, inl, inr, is_line_feed, length, length-append}
+use Rattle.cif_columns.proofs.Names.{ComesFirst, Contains-append_right, Content, EndsAtFeed, HaveNoFeed, IfSome, InFeed, IsAtEnd}
+use Rattle.cif_columns.proofs.Names.{IsFirstContent, IsFirstFeed, IsLast, Keeps, List, Most, NextContent, None, Of, Option, Overlong}
+use Rattle.cif_columns.proofs.Names.{PassesFirst, Some, [], ap, append-nil, append_assoc, arith, cond, cond_both, contents_of, drop}
+use Rattle.cif_columns.proofs.Names.{drop-cons, drop_of_length-le, eqb-true, false, get_or, inl, inr, is_line_feed, length, length-append}
 use Rattle.cif_columns.proofs.Names.{length-take, lines, lines_of_parts, map, most_by, nat_eq, nat_tests, prepend_known, refl, slice_index}
 use Rattle.cif_columns.proofs.Names.{slice_split, strip_carriage_return, subst, suc, sym, take, take-append-drop, take-append-le, take-take}
 use Rattle.cif_columns.proofs.Names.{take_all, true, zero, ℕ, ⊎_elim, ◌++◌, ◌+◌, ◌-◌, ◌<◌, ◌==◌, ◌∙◌, ◌∷◌, ◌≡◌, ◌≢◌, ◌≤◌, ◌⊎◌}
 use Rattle.std.proofs.lemmas.List.Splits.{slice_split_at, slice_split_none}
-use Rattle.cif_columns.proofs.Comments.{begins_kept}
-use Rattle.cif_columns.proofs.WholeLines.{lines_to_feed}
+use Rattle.cif_columns.proofs.{Comments.begins_kept, WholeLines.lines_to_feed}
 use Rattle.cif_columns.specs.declared.ahead.NextContent.TheVariants.{End}
 
 -- ---- parts
@@ -130,21 +128,6 @@ pub some_content : (bytes : List ℕ) → 0 < length bytes
 some_content bytes some =
     let (content, rest, first) = comes_first bytes some in
     (content, contents_of rest, (content_first (length bytes + 1) bytes content rest first).contents)
-
--- it begins as the bytes do
-take_begins : (k : ℕ) (bytes : List ℕ) (b : ℕ) → 0 < b → get_or (take k bytes) 0 0 ≡ b → (0 < length bytes) × (get_or bytes 0 0 ≡ b)
-take_begins zero bytes b some e = absurd (omega arith)
-take_begins (suc k) [] b some e = absurd (omega arith)
-take_begins (suc k) (x ∷ bytes) b some e = (omega arith, e)
-
-pub begins_as : (most : ℕ) (bytes content rest : List ℕ) (b : ℕ) → 0 < b → ComesFirst most bytes content rest → get_or content 0 0 ≡ b
-    → get_or bytes 0 0 ≡ b
-begins_as most bytes content rest b some first begins = ⊎_elim
-    (λ fed.
-    let front = stripped_front fed.part ∙ sym fed.is in
-    let (some_there, here) = take_begins _ fed.part b some (ap (λ l. get_or l 0 0) front ∙ begins) in
-    ap (λ l. get_or l 0 0) fed.parts ∙ get_or_append_left fed.part (10 ∷ rest) 0 0 some_there ∙ here)
-    (λ ended. ap (λ l. get_or l 0 0) (sym ended.is) ∙ begins) first
 
 -- with more bytes behind a line feed
 fed_more : (most : ℕ) (held content rest more : List ℕ) → EndsAtFeed most held content rest

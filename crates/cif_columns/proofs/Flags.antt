@@ -122,10 +122,6 @@ has-runs bits w below = rw (shr_and_one bits w) (
   λ on. sets bits w (bit-runs bits w on),
 )
 
--- the column of a weekday
-pub column-flag : (bits w : ℕ) → 48 + bit_and (bits / 2 ^ w) 1 ≡ cond (flag bits w) 49 48
-column-flag bits w = rw (shr_and_one bits w) (grind (arith, nat_tests, bit_at-lt bits w))
-
 -- the flags of a number that was made of seven bits
 flag-bit : (bits w n : ℕ) (runs : Bool) → n ≡ cond runs 1 0 → bit_at bits w ≡ n → flag bits w ≡ runs
 flag-bit bits w n true is e = sets bits w (e ∙ is)

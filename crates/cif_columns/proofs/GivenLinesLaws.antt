@@ -1,12 +1,10 @@
 -- A run of `next`: one step for each answer.
-use Rattle.cif_columns.proofs.Names.{All, All-push, Answers, AreAllContents, AreContentsToCut, AreContentsToFault}
-use Rattle.cif_columns.proofs.Names.{AreContentsToRefusal, AreWholeContentsAndRest, Bool, DecideNoContent, EndsLine, Err}
-use Rattle.cif_columns.proofs.Names.{GivenDecideContent, HasLineReason, IfSome, IsContentDecidedWithin}
-use Rattle.cif_columns.proofs.Names.{IsFirstContent, IsLine, IsNextBy, IsSomeAnd, LineFault, LineReader, List, Most, None, Ok, Option, Read}
-use Rattle.cif_columns.proofs.Names.{Reading, Refusal, Refused, Some, Source, [], ap, append-nil, append_assoc, arith, contents_of, false}
-use Rattle.cif_columns.proofs.Names.{length, length-append, lines, most_by, past, prepend_known, refl, source_ended, subst, sym, unread_of}
-use Rattle.cif_columns.proofs.Names.{ℕ, ◌++◌}
-use Rattle.cif_columns.proofs.Names.{◌+◌, ◌∙◌, ◌∷◌, ◌≡◌, ◌≤◌}
+use Rattle.cif_columns.proofs.Names.{All, All-push, Answers, AreAllContents, AreContentsToCut, AreContentsToFault, AreContentsToRefusal}
+use Rattle.cif_columns.proofs.Names.{AreWholeContentsAndRest, Bool, DecideNoContent, EndsLine, Err, GivenDecideContent, HasLineReason}
+use Rattle.cif_columns.proofs.Names.{IfSome, IsContentDecidedWithin, IsFirstContent, IsLine, IsNextBy, IsSomeAnd, LineFault, LineReader}
+use Rattle.cif_columns.proofs.Names.{List, Most, None, Ok, Option, Read, Reading, Refusal, Refused, Some, Source, [], ap, append-nil}
+use Rattle.cif_columns.proofs.Names.{append_assoc, arith, contents_of, false, length, length-append, lines, most_by, past, prepend_known}
+use Rattle.cif_columns.proofs.Names.{refl, source_ended, subst, sym, unread_of, ℕ, ◌++◌, ◌+◌, ◌∙◌, ◌∷◌, ◌≡◌, ◌≤◌}
 use mathlib.Core.Logic.{inl, inr, ◌⊎◌}
 use Rattle.cif_columns.proofs.WholeLines.{ends_after, ends_before, lines_piece, lines_whole, piece_of}
 use Rattle.cif_columns.specs.LineReader.{given, held, left, limit}

@@ -1,17 +1,15 @@
 -- What a content is as a line, and what a `LineReader` answers of it.
-use Rattle.cif_columns.proofs.Names.{BadByte, BadLength, BeginOverlong, Bool, Content, ContentReader, DecideNoContent, Ended, Err, Faulted}
+use Rattle.cif_columns.proofs.Names.{BadByte, BadLength, BeginOverlong, Bool, Content, ContentReader, DecideNoContent, Err, Faulted}
 use Rattle.cif_columns.proofs.Names.{GivenDecideContent, HasFailedToRead, HasLineReason, HasPassedComment, HasReadOn, IfSome, InFeed}
-use Rattle.cif_columns.proofs.Names.{IsFirstContent, IsLine, IsLineReason, IsNextBy, IsNextWithin, IsNoComment, Line, LineFault}
-use Rattle.cif_columns.proofs.Names.{LineReader, List, Most, None, Ok, Option, Overlong, PassesContent, Read, Reading, Refusal, Refused}
-use Rattle.cif_columns.proofs.Names.{Some, Source, [], ap, arith, cond, content, contents_of, eqb-true, false, is_comment, is_printable}
-use Rattle.cif_columns.proofs.Names.{length, line_of, list_all, most_by, nat_eq, nat_tests, past, reader_of, refl, source_ended}
-use Rattle.cif_columns.proofs.Names.{source_failed, subst, sym, true, ℕ, ◌+◌, ◌<◌, ◌∙◌, ◌∷◌, ◌≡◌, ◌≢◌, ◌≤◌}
-use Rattle.cif_columns.proofs.Comments.{overlong_no_comment}
+use Rattle.cif_columns.proofs.Names.{IsFirstContent, IsLine, IsLineReason, IsNextBy, IsNextWithin, IsNoComment, Line, LineFault, LineReader}
+use Rattle.cif_columns.proofs.Names.{List, Most, Ok, Option, Overlong, PassesContent, Read, Reading, Refusal, Refused, Some, Source, ap}
+use Rattle.cif_columns.proofs.Names.{arith, cond, content, contents_of, eqb-true, false, is_comment, is_printable, length, line_of}
+use Rattle.cif_columns.proofs.Names.{list_all, most_by, nat_eq, nat_tests, past, reader_of, refl, source_ended, subst, sym, true, ℕ, ◌+◌}
+use Rattle.cif_columns.proofs.Names.{◌<◌, ◌∙◌, ◌∷◌, ◌≡◌, ◌≢◌, ◌≤◌}
+use Rattle.cif_columns.proofs.{Comments.overlong_no_comment, GivenLinesLaws.known_so, PrintableBytes.printable_fact}
+use Rattle.cif_columns.proofs.{PrintableBytes.printable_true}
 use Rattle.cif_columns.proofs.FirstContents.{content_first, overlong_content, some_content}
-use Rattle.cif_columns.proofs.GivenLinesLaws.{known_so}
-use Rattle.cif_columns.proofs.PrintableBytes.{printable_fact, printable_true}
 use Rattle.cif_columns.specs.LineReader.{IsNextContent, content_of, given, held, left, limit}
-use Rattle.cif_columns.specs.declared.ahead.NextContent.TheVariants.{End}
 use Rattle.cif_columns.specs.declared.line_reader.Content.TheVariants as content_is
 
 -- ---- what a content is
@@ -75,28 +73,6 @@ module _ {R : Type 0} {remaining : R → Option (List ℕ)} {errors : R → Opti
     limit_now = limit_now;
     counted = counted;
     ended = λ e. absurd (cc);
-    refused = tt;
-  }
-
-  gives_end : past new ≡ Ended → given new ≡ given old
-      → IfSome (left remaining old from) (λ bytes. (bytes ≡ []) × (left remaining new to ≡ Some []))
-      → HasReadOn errors from to → (source_failed from ≡ false) × (source_ended to ≡ true)
-      → IsNextBy remaining errors most old from (Ok None) new to
-  gives_end past_now same found device ended = record {
-    answer = λ _. found;
-    device = λ _. device;
-    decided = λ _ _ not. absurd (cc);
-    undecided = λ _ e. absurd (cc);
-    endless = λ _ e. ended.0;
-    told = λ _ e. ended.1;
-    fault = λ _. tt;
-    past_now = past_now;
-    again = λ e. absurd (e reading);
-    still = λ e. absurd (e reading);
-    unread = λ e. absurd (e reading);
-    limit_now = limit_now;
-    counted = tt;
-    ended = λ e. same;
     refused = tt;
   }
 
@@ -173,10 +149,6 @@ module _ {R : Type 0} {remaining : R → Option (List ℕ)} {errors : R → Opti
     where
       is : number ≡ given old + 1
       is = numbered ∙ ap (λ n. n + 1) next.holds.1
-
-  pub passes_end : IsNextWithin remaining errors most old.contents from (Ok End) new.contents to → past new ≡ Ended
-      → PassesContent remaining errors most old from (Ok false) new to
-  passes_end next past_now = gives_end reading next.limit_now past_now next.holds next.answer next.device (next.ended refl)
 
   pub passes_fault : (fault : LineFault) → IsNextWithin remaining errors most old.contents from (Err fault) new.contents to
       → past new ≡ Faulted fault → PassesContent remaining errors most old from (Err fault) new to

@@ -18,17 +18,6 @@ pub record AreMet (t : PlainTest) (line : List ℕ) (k : ℕ) : Type 0 where
   pub before_fifth : IsFollowed t line (63 + k)
   pub fifth : IsInRange t line (64 + k)
 
--- three tests that all have to answer false
-pub none_of_three : (a b c : Bool) {A B C : Type 0} → ((a ≡ false) ↔ A) → ((b ≡ false) ↔ B) → ((c ≡ false) ↔ C)
-    → (a || b || c ≡ false) ↔ (A × B × C)
-none_of_three a b c p q r = (
-  (λ none.
-      let n2 = or_parts (a || b) c none in
-      let n1 = or_parts a b n2.0 in
-      (p.0 n1.0, q.0 n1.1, r.0 n2.1)),
-  (λ met. or_from (a || b) c (or_from a b (p.1 met.0) (q.1 met.1)) (r.1 met.2)),
-)
-
 -- eight tests that all have to answer false
 pub none_of_eight : (a b c d e f g h : Bool) (t : PlainTest) (line : List ℕ) (k : ℕ)
     → ((a ≡ false) ↔ MeetsFollowed t line k) → ((b ≡ false) ↔ IsTimed t line k)

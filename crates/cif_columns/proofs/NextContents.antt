@@ -1,14 +1,10 @@
 -- What a call that passes the next content answers: by what was decided, by what came last, and where its source failed.
-use Rattle.cif_columns.proofs.Names.{AreUndecided, BeginOverlong, Content, CutsNext, Err, HasFailedToRead, HasReadOn, IsAtEnd, IsLast}
-use Rattle.cif_columns.proofs.Names.{Keeps, List}
-use Rattle.cif_columns.proofs.Names.{Most, NextContent, Ok, Option, Overlong, PassesFirst, ReadFault, Result, Source, ap, arith}
-use Rattle.cif_columns.proofs.Names.{content_bytes}
+use Rattle.cif_columns.proofs.Names.{AreUndecided, BeginOverlong, Content, CutsNext, HasReadOn, IsAtEnd, IsLast, Keeps, List, Most}
+use Rattle.cif_columns.proofs.Names.{NextContent, Ok, Option, Overlong, PassesFirst, ReadFault, Result, Source, ap, arith, content_bytes}
 use Rattle.cif_columns.proofs.Names.{false, held_bytes, known_left, length, most_by, reader_of, source_ended, source_failed, subst, sym}
-use Rattle.cif_columns.proofs.Names.{true, ℕ, ⊎_elim, ◌<◌}
-use Rattle.cif_columns.proofs.Names.{◌∙◌, ◌≡◌, ◌⊎◌}
-use Rattle.cif_columns.proofs.FirstContents.{fed_decides, fed_some, kept_left, last_left, overlong_decides, passed_left}
-use Rattle.cif_columns.specs.declared.ahead.Ahead.{Ahead}
-use Rattle.cif_columns.specs.declared.ahead.NextContent.TheVariants.{End}
+use Rattle.cif_columns.proofs.Names.{true, ℕ, ⊎_elim, ◌<◌, ◌∙◌, ◌≡◌, ◌⊎◌}
+use Rattle.cif_columns.proofs.FirstContents.{fed_decides, fed_some, last_left, overlong_decides, passed_left}
+use Rattle.cif_columns.specs.declared.{ahead.Ahead.Ahead, ahead.NextContent.TheVariants.End}
 
 -- what is held first, and what is while the source is read on
 module _ {R : Type 0} (remaining : R → Option (List ℕ)) (errors : R → Option ℕ) (most : Most) (first old new : Ahead) (from to : Source R)
@@ -60,16 +56,3 @@ module _ {R : Type 0} (remaining : R → Option (List ℕ)) (errors : R → Opti
         none_overlong Content last e = absurd (cc)
         none_overlong Overlong last e = absurd last
         none_overlong End last e = absurd (cc)
-
-  -- where the source failed
-  pub failed_next : HasFailedToRead errors from to → AreUndecided (most_by most (held_bytes old)) (held_bytes old) → (fault : ReadFault)
-      → CutsNext remaining errors most first from (Err fault) old to
-  failed_next failed undecided fault = record {
-    answer = kept_left (known_left remaining first from) (known_left remaining old to) keeps;
-    overlong = λ e. absurd (cc);
-    decided = tt;
-    undecided = undecided;
-    device = failed;
-    ended = λ e. absurd (cc);
-    fresh = λ none. tt;
-  }

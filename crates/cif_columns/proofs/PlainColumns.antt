@@ -5,11 +5,8 @@ use Rattle.cif_columns.proofs.Names.{is_whole_from, left_justified, length, leng
 use Rattle.cif_columns.proofs.Names.{nil_from_length, plain_columns, plain_line, public_time, refl, replicate, spare, subst, suc, sym}
 use Rattle.cif_columns.proofs.Names.{take-append-drop, text, text_of, true, weekdays, working_time, zero, ℕ, ◌&&◌, ◌++◌, ◌+◌, ◌-◌, ◌∙◌, ◌∷◌}
 use Rattle.cif_columns.proofs.Names.{◌≡◌, ◌≤◌}
-use Rattle.cif_columns.proofs.Codes.{codes_in-stands}
-use Rattle.cif_columns.proofs.DayDigits.{yymmdd_of-stands}
-use Rattle.cif_columns.proofs.Masks.{days_columns-stands}
-use Rattle.cif_columns.proofs.Parts.{whole-first}
-use Rattle.cif_columns.proofs.Texts.{is_text_of, trim-text}
+use Rattle.cif_columns.proofs.{Codes.codes_in-stands, DayDigits.yymmdd_of-stands, Masks.days_columns-stands, Parts.whole-first}
+use Rattle.cif_columns.proofs.{Texts.is_text_of, Texts.trim-text}
 use Rattle.cif_columns.specs.Field.{StandsIn}
 
 -- blank columns are spaces

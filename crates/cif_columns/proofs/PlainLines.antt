@@ -7,11 +7,8 @@ use Rattle.cif_columns.proofs.Names.{is_whole_from, length, length-append, lengt
 use Rattle.cif_columns.proofs.Names.{nat_tests, onto_first, packed, plain_columns, plain_line, pos, public_time, refl, replicate}
 use Rattle.cif_columns.proofs.Names.{slice_split, spare, strip_carriage_return, subst, text, true, two_digits, weekdays, width_of}
 use Rattle.cif_columns.proofs.Names.{working_time, yymmdd_of, ℕ, ◌%◌, ◌++◌, ◌+◌, ◌-◌, ◌<◌, ◌∙◌, ◌∷◌, ◌≡◌, ◌≤◌}
-use Rattle.cif_columns.proofs.Codes.{printable-packed}
-use Rattle.cif_columns.proofs.DayDigits.{counted}
-use Rattle.cif_columns.proofs.Parts.{length-plain_line}
+use Rattle.cif_columns.proofs.{Codes.printable-packed, DayDigits.counted, Parts.length-plain_line, WholeLines.lines_to_feed}
 use Rattle.cif_columns.proofs.Times.{digits_printable, public_printable, work_printable}
-use Rattle.cif_columns.proofs.WholeLines.{lines_to_feed}
 use Rattle.cif_columns.specs.Field.{StandsIn}
 
 spaces_printable : (n : ℕ) → ArePrintable (replicate n 32)

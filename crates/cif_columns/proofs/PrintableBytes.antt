@@ -1,7 +1,7 @@
 -- Printable bytes by the test and by the fact.
-use Rattle.cif_columns.proofs.Names.{ArePrintable, BadByte, BadLength, Bool, Err, IsPrintable, IsTrue, List, None, Ok, Option, Some}
-use Rattle.cif_columns.proofs.Names.{SomeIff, ap, arith, cond, eq-eqb, false, is_printable, length, line_of, list_all, nat_tests, ok_or}
-use Rattle.cif_columns.proofs.Names.{refl, sym, true, ℕ, ◌↔◌, ◌∙◌, ◌≡◌}
+use Rattle.cif_columns.proofs.Names.{ArePrintable, BadByte, BadLength, Bool, Err, IsPrintable, List, None, Ok, Option, Some, SomeIff, ap}
+use Rattle.cif_columns.proofs.Names.{arith, cond, eq-eqb, false, is_printable, length, line_of, list_all, nat_tests, ok_or, refl, sym, true}
+use Rattle.cif_columns.proofs.Names.{ℕ, ◌∙◌, ◌≡◌}
 use Rattle.std.proofs.lemmas.List.Sums.{AllPass-from_list_all, list_all-from_AllPass}
 
 test_true : (b : ℕ) → IsPrintable b → is_printable b ≡ true
@@ -10,28 +10,11 @@ test_true b h = grind (arith, nat_tests)
 test_fact : (b : ℕ) → is_printable b ≡ true → IsPrintable b
 test_fact b h = (grind (arith, nat_tests), grind (arith, nat_tests))
 
--- a test with the same answer
-pub same_test : (r : Bool) (b : ℕ) → IsTrue r ↔ IsPrintable b → r ≡ is_printable b
-same_test true b h = sym (test_true b (h.0 refl))
-same_test false b h = at (is_printable b) refl
-  where
-    at : (t : Bool) → t ≡ is_printable b → false ≡ t
-    at true e = h.1 (test_fact b (sym e))
-    at false e = refl
-
 pub printable_true : (xs : List ℕ) → ArePrintable xs → list_all is_printable xs ≡ true
 printable_true xs h = list_all-from_AllPass is_printable xs (λ k d lt. test_true _ (h k d lt))
 
 pub printable_fact : (xs : List ℕ) → list_all is_printable xs ≡ true → ArePrintable xs
 printable_fact xs h = λ k d lt. test_fact _ (AllPass-from_list_all is_printable xs h k d lt)
-
-pub all_printable : (r : Bool) (xs : List ℕ) → IsTrue r ↔ ArePrintable xs → r ≡ list_all is_printable xs
-all_printable true xs h = sym (printable_true xs (h.0 refl))
-all_printable false xs h = at (list_all is_printable xs) refl
-  where
-    at : (t : Bool) → t ≡ list_all is_printable xs → false ≡ t
-    at true e = h.1 (printable_fact xs (sym e))
-    at false e = refl
 
 -- eighty bytes as a line
 pub line_of-eighty : (line : Option (List ℕ)) (xs : List ℕ) → length xs ≡ 80 → SomeIff line (ArePrintable xs) xs

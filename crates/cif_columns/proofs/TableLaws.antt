@@ -2,11 +2,8 @@
 use Rattle.cif_columns.proofs.Names.{AllStandIn, FieldValue, List, Option, Row, Some, [], activity_codes, ap, codes_in, columns, date}
 use Rattle.cif_columns.proofs.Names.{days_of, exactly, indicator, option_map, public_time, refl, slice_index, spare, stp_in, sym, text}
 use Rattle.cif_columns.proofs.Names.{text_of, weekdays, working_time, yymmdd_in, ℕ, ◌∙◌, ◌∷◌, ◌≡◌}
-use Rattle.cif_columns.proofs.Codes.{codes_in-stands}
-use Rattle.cif_columns.proofs.DayColumns.{yymmdd_in-stands}
-use Rattle.cif_columns.proofs.FieldLaws.{stp_in-letter}
-use Rattle.cif_columns.proofs.Masks.{days_of-stands}
-use Rattle.cif_columns.proofs.Texts.{trim-text}
+use Rattle.cif_columns.proofs.{Codes.codes_in-stands, DayColumns.yymmdd_in-stands, FieldLaws.stp_in-letter, Masks.days_of-stands}
+use Rattle.cif_columns.proofs.{Texts.trim-text}
 use Rattle.cif_columns.specs.Field.{StandsIn}
 
 -- the value in columns, of the same kind as this one

@@ -5,19 +5,14 @@ use Rattle.cif_columns.proofs.Names.{codes, codes_in, columns, eqb-true, exactly
 use Rattle.cif_columns.proofs.Names.{is_whole_from, is_work_time, leb-true, left_justified, length, length-replicate, nat_eq, or_cases}
 use Rattle.cif_columns.proofs.Names.{packed, public_time, read_off, read_value, refl, replicate, rules, spare, subst, sym, text}
 use Rattle.cif_columns.proofs.Names.{text_from_reads, text_of, true, working_time, ℕ, ◌+◌, ◌-◌, ◌<◌, ◌∙◌, ◌∷◌, ◌≡◌, ◌≤◌, ◌⊎◌}
-use Rattle.cif_columns.proofs.Codes.{stands-codes_in}
+use Rattle.cif_columns.proofs.{Codes.stands-codes_in, PackedCodes.AreLeft, PackedCodes.left_same, Parts.whole-first, TestedTexts.text_part}
+use Rattle.cif_columns.proofs.{Texts.is_text_of}
 use Rattle.cif_columns.proofs.ColumnReads.{asked_at, read, width}
-use Rattle.cif_columns.proofs.PackedCodes.{AreLeft, left_same}
-use Rattle.cif_columns.proofs.Parts.{whole-first}
 use Rattle.cif_columns.proofs.PlainColumns.{ArePlain, IsPlain, IsPlainActivities, IsPlainText, blank-spaces, plain-blank, plain_already}
 use Rattle.cif_columns.proofs.PlainColumns.{whole-within}
-use Rattle.cif_columns.proofs.TestedTexts.{text_part}
 use Rattle.cif_columns.proofs.TestedTimes.{InOrSpace, IsClockOrBlank, public_passes, work_passes}
-use Rattle.cif_columns.proofs.Texts.{is_text_of}
 use Rattle.cif_columns.proofs.Times.{five, four, public-stands, work-stands}
-use Rattle.cif_columns.specs.Field.{StandsIn}
-use Rattle.cif_columns.specs.PublicTime.{StandsIn as PublicTimeStandsIn}
-use Rattle.cif_columns.specs.WorkTime.{StandsIn as WorkTimeStandsIn}
+use Rattle.cif_columns.specs.{Field.StandsIn, PublicTime.StandsIn as PublicTimeStandsIn, WorkTime.StandsIn as WorkTimeStandsIn}
 
 twelve : (xs : List ℕ) → length xs ≡ 12 → xs ≡ get_or xs 0 0 ∷ get_or xs 1 0 ∷ get_or xs 2 0 ∷ get_or xs 3 0 ∷ get_or xs 4 0
     ∷ get_or xs 5 0 ∷ get_or xs 6 0 ∷ get_or xs 7 0 ∷ get_or xs 8 0 ∷ get_or xs 9 0 ∷ get_or xs 10 0 ∷ get_or xs 11 0 ∷ []

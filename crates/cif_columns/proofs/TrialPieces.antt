@@ -3,9 +3,6 @@ use Rattle.cif_columns.proofs.Names.{Bool, Err, IfSome, IsSomeAnd, List, None, O
 use Rattle.cif_columns.proofs.Names.{false, length, ltb-true, min, nat_lt, nat_tests, refl, sym, take-append-le, told_count, true, ℕ, ◌++◌}
 use Rattle.cif_columns.proofs.Names.{◌+◌, ◌-◌, ◌<◌, ◌^◌, ◌∙◌, ◌≡◌}
 use Rattle.std.specs.Io.{ReadsAtMost}
-use Rattle.cif_columns.specs.End.{bytes_left}
-use Rattle.cif_columns.specs.declared.trials.End.{End}
-use Rattle.cif_columns.specs.declared.trials.End.TheVariants.{Again, Fail, Stop}
 
 -- what a slice gives to the front of a buffer is consumed, if there is room in front where there is some
 module _ {E : Type 0} (rest left piece more : List ℕ) (room : 0 < length (piece ++ more) → 0 < length piece) where
@@ -13,13 +10,6 @@ module _ {E : Type 0} (rest left piece more : List ℕ) (room : 0 < length (piec
       → ReadConsumes (Some rest) (Some left) r (piece ++ more)
   known (Ok n) few gave = (gave.0 ∙ ap (λ l. l ++ left) (sym (take-append-le n piece more few.0)), λ zero some. gave.1 zero (room some))
   known (Err e) few gave = gave
-
-  pub piece_consumed : (r : Result ℕ E) (end : End) → ReadsAtMost r piece → ReadConsumes (Some rest) (Some left) r piece
-      → ReadConsumes (bytes_left end rest) (bytes_left end left) r (piece ++ more)
-  piece_consumed r Stop few gave = known r few gave
-  piece_consumed r Fail few gave = known r few gave
-  piece_consumed (Ok n) (Again place) few gave = (tt, λ _ _. tt)
-  piece_consumed (Err e) (Again place) few gave = tt
 
 -- one failure more
 pub one_more : (n m : ℕ) → m ≡ min (n + 1) (2 ^ 64 - 1) → OneError (told_count n) (told_count m)

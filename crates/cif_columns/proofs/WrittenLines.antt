@@ -1,8 +1,7 @@
 -- Lines that are written one after another.
 use Rattle.cif_columns.proofs.Names.{HasFailed, HasWritten, List, Option, Sink, [], ap, append_assoc, drop, get_or, length, lines_text}
 use Rattle.cif_columns.proofs.Names.{subst, sym, ℕ, ◌++◌, ◌<◌, ◌∙◌, ◌∷◌, ◌≡◌}
-use Rattle.cif_columns.proofs.TextsOfLines.{first_text}
-use Rattle.cif_columns.proofs.WrittenTexts.{failed_first, failed_second}
+use Rattle.cif_columns.proofs.{TextsOfLines.first_text, WrittenTexts.failed_first, WrittenTexts.failed_second}
 
 -- behind a text that is written comes the next line of those that are left
 module _ {W : Type 0} (contents : W → Option (List ℕ)) (errors : W → Option ℕ) (all front : List ℕ) (rest behind : List (List ℕ))

@@ -1,16 +1,13 @@
 -- What is read ahead of the lines, and the content that stands first in it.
-use Rattle.std.specs.Prelude.{◌≡◌, ℕ, ◌<◌, true, false, List, [], length, slice_index, slice_range, take, Option, Some, IfSome, Result, Ok}
-use Rattle.std.specs.Prelude.{IfOk, MatchResult, OnErr}
+use Rattle.std.specs.Prelude.{IfOk, IfSome, List, MatchResult, Ok, OnErr, Option, Result, Some, [], false, length, slice_index, slice_range}
+use Rattle.std.specs.Prelude.{take, true, ℕ, ◌<◌, ◌≡◌}
 use Rattle.std.specs.Io.KnownBytes.{Keeps, prepend_known}
 use Rattle.cif_columns.specs.Contents.{AreUndecided, BeginOverlong, ComesFirst, EndsAtFeed, most_by}
 use Rattle.cif_columns.specs.Line.{ArePrintable}
 use Rattle.cif_columns.specs.Source.{HasFailedToRead, HasReadOn, reader_of, source_ended, source_failed}
-use Rattle.cif_columns.specs.declared.ahead.Ahead.{Ahead}
-use Rattle.cif_columns.specs.declared.ahead.Most.{Most}
-use Rattle.cif_columns.specs.declared.ahead.NextContent.{NextContent}
+use Rattle.cif_columns.specs.declared.{ahead.Ahead.Ahead, ahead.Most.Most, ahead.NextContent.NextContent, source.ReadFault.ReadFault}
+use Rattle.cif_columns.specs.declared.{source.Source.Source}
 use Rattle.cif_columns.specs.declared.ahead.NextContent.TheVariants as next
-use Rattle.cif_columns.specs.declared.source.ReadFault.{ReadFault}
-use Rattle.cif_columns.specs.declared.source.Source.{Source}
 
 -- the bytes that are read and not yet given
 abbrev pub held_bytes : Ahead → List ℕ

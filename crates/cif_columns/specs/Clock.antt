@@ -1,7 +1,6 @@
 -- Hours and minutes, which working and public times share.
 use Rattle.std.specs.Prelude.{◌≡◌, ℕ, ◌+◌, ◌-◌, ◌*◌, ◌<◌, Bool, ◌&&◌, ◌==◌, nat_lt, List, ◌++◌, Option, None, Some, if◌then◌else◌}
-use Rattle.std.specs.Char.{is_ascii_digit}
-use Rattle.std.specs.List.{list_all}
+use Rattle.std.specs.{Char.is_ascii_digit, List.list_all}
 use Rattle.cif_columns.specs.Digits.{number_at, two_digits}
 
 -- HHMM: two digits of an hour up to 23 and two of a minute up to 59

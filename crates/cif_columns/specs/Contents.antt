@@ -1,13 +1,9 @@
 -- The contents of bytes, the lines among them, and why a content is no line.
 use Rattle.std.specs.Prelude.{◌≡◌, ◌≢◌, ◌⊎◌, ℕ, ◌<◌, ◌≤◌, List, [], ◌∷◌, ◌++◌, length, take, slice_index, All, if◌then◌else◌}
-use Rattle.std.specs.List.{flat_map}
-use Rattle.std.specs.Str.Lines.{lines, strip_carriage_return}
-use Rattle.cif_columns.specs.Comment.{begins_comment}
-use Rattle.cif_columns.specs.declared.ahead.Most.{Most}
-use Rattle.cif_columns.specs.declared.ahead.Most.TheVariants.{InFeed, Of}
-use Rattle.cif_columns.specs.declared.refusal.Refusal.{Refusal}
+use Rattle.std.specs.{List.flat_map, Str.Lines.lines, Str.Lines.strip_carriage_return}
+use Rattle.cif_columns.specs.{Comment.begins_comment, Line.ArePrintable}
+use Rattle.cif_columns.specs.declared.{ahead.Most.Most, ahead.Most.TheVariants.InFeed, ahead.Most.TheVariants.Of, refusal.Refusal.Refusal}
 use Rattle.cif_columns.specs.declared.refusal.Refusal.TheVariants.{BadLength, BadByte, TooManyLines}
-use Rattle.cif_columns.specs.Line.{ArePrintable}
 
 -- The parts between line feeds, as `str::lines` gives them: an empty last part doesn't count, and a part that a line
 -- feed follows loses one carriage return at its end.

@@ -1,8 +1,7 @@
 -- What a content is as a line, as a value that computes.
 use Rattle.std.specs.Prelude.{ℕ, Bool, ◌&&◌, List, length, nat_le, ◌==◌, if◌then◌else◌, Result, Ok, Err}
 use Rattle.std.specs.List.{list_all}
-use Rattle.cif_columns.specs.declared.refusal.Refusal.{Refusal}
-use Rattle.cif_columns.specs.declared.refusal.Refusal.TheVariants.{BadLength, BadByte}
+use Rattle.cif_columns.specs.declared.{refusal.Refusal.Refusal, refusal.Refusal.TheVariants.BadByte, refusal.Refusal.TheVariants.BadLength}
 
 -- whether the byte is a line feed
 abbrev pub is_line_feed : ℕ → Bool

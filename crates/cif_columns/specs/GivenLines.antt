@@ -1,13 +1,9 @@
 -- The contents that a `LineReader` gives of bytes, one after another, and how that ends: contents of which P holds, and so lines alone.
 use Rattle.std.specs.Prelude.{◌≡◌, ◌⊎◌, ℕ, ◌+◌, ◌≤◌, List, [], ◌∷◌, ◌++◌, length, All, IsSomeAnd, false}
-use Rattle.cif_columns.specs.declared.refusal.LineFault.{LineFault}
-use Rattle.cif_columns.specs.declared.refusal.LineFault.TheVariants.{Refused, Read}
-use Rattle.cif_columns.specs.declared.refusal.Refusal.{Refusal}
+use Rattle.cif_columns.specs.declared.{ahead.Most.Most, ahead.Most.TheVariants.Of, refusal.LineFault.LineFault}
+use Rattle.cif_columns.specs.declared.{refusal.LineFault.TheVariants.Read, refusal.LineFault.TheVariants.Refused, refusal.Refusal.Refusal}
 use Rattle.cif_columns.specs.Contents.{contents_of, HasLineReason, DecideNoContent, most_by}
-use Rattle.cif_columns.specs.declared.ahead.Most.{Most}
-use Rattle.cif_columns.specs.declared.ahead.Most.TheVariants.{Of}
-use Rattle.cif_columns.specs.Line.{IsLine}
-use Rattle.cif_columns.specs.Source.{Unread}
+use Rattle.cif_columns.specs.{Line.IsLine, Source.Unread}
 
 -- bytes that end with a line feed, or that nothing follows: their last line doesn't go on
 abbrev pub EndsLine : List ℕ → List ℕ → Type 0

@@ -1,9 +1,7 @@
 -- The contents that are judged one by one: each of any length, but the first that is overlong is the last.
 use Rattle.std.specs.Prelude.{◌≡◌, ℕ, ◌≤◌, Bool, false, List, [], ◌∷◌, ◌++◌, length, nat_le, if◌then◌else◌}
-use Rattle.std.specs.List.{list_any, slice_split}
-use Rattle.std.specs.Str.Lines.{lines_of_parts}
-use Rattle.cif_columns.specs.Contents.{contents_of}
-use Rattle.cif_columns.specs.FirstLine.{is_line_feed}
+use Rattle.std.specs.{List.list_any, List.slice_split, Str.Lines.lines_of_parts}
+use Rattle.cif_columns.specs.{Contents.contents_of, FirstLine.is_line_feed}
 
 -- the parts between line feeds
 abbrev pub parts_of : List ℕ → List (List ℕ)

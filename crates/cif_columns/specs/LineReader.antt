@@ -1,25 +1,17 @@
 -- What a clause reads of a `LineReader`, and what a `next` answers.
-use Rattle.std.specs.Prelude.{◌≡◌, ℕ, ◌+◌, ◌<◌, Bool, true, false, List, [], ◌∷◌, Option, None, Some, Result, Ok, Err, if◌then◌else◌, ◌≢◌}
-use Rattle.std.specs.Prelude.{IfErr, IfOk, IfSome, OnErr, OnSome, drop, length, slice_index, take}
-use Rattle.cif_columns.specs.declared.ahead.Most.{Most}
-use Rattle.cif_columns.specs.declared.ahead.Most.TheVariants.{InFeed, Of}
+use Rattle.std.specs.Prelude.{Bool, Err, IfErr, IfOk, IfSome, List, None, Ok, OnErr, OnSome, Option, Result, Some, [], drop, false}
+use Rattle.std.specs.Prelude.{if◌then◌else◌, length, slice_index, take, true, ℕ, ◌+◌, ◌<◌, ◌∷◌, ◌≡◌, ◌≢◌}
+use Rattle.cif_columns.specs.declared.{ahead.Most.Most, ahead.Most.TheVariants.InFeed, ahead.Most.TheVariants.Of, line.Line.Line}
+use Rattle.cif_columns.specs.declared.{line_reader.Content.Content, line_reader.LineReader.LineReader, line_reader.Past.Past}
+use Rattle.cif_columns.specs.declared.{refusal.LineFault.LineFault, refusal.LineFault.TheVariants.Read}
+use Rattle.cif_columns.specs.declared.{refusal.LineFault.TheVariants.Refused, refusal.Refusal.Refusal, source.Source.Source}
 use Rattle.cif_columns.specs.declared.ahead.NextContent.TheVariants as next
-use Rattle.cif_columns.specs.declared.line.Line.{Line}
-use Rattle.cif_columns.specs.declared.line_reader.Content.{Content}
 use Rattle.cif_columns.specs.declared.line_reader.Content.TheVariants as content
-use Rattle.cif_columns.specs.declared.line_reader.LineReader.{LineReader}
-use Rattle.cif_columns.specs.declared.refusal.LineFault.{LineFault}
-use Rattle.cif_columns.specs.declared.refusal.LineFault.TheVariants.{Refused, Read}
-use Rattle.cif_columns.specs.declared.line_reader.Past.{Past}
 use Rattle.cif_columns.specs.declared.line_reader.Past.TheVariants.{Reading, Ended, Faulted}
-use Rattle.cif_columns.specs.declared.refusal.Refusal.{Refusal}
-use Rattle.cif_columns.specs.declared.source.Source.{Source}
-use Rattle.cif_columns.specs.Ahead.{held_bytes, known_left}
-use Rattle.cif_columns.specs.Comment.{is_comment}
+use Rattle.cif_columns.specs.{Ahead.held_bytes, Ahead.known_left, Comment.is_comment, ContentReader.IsNextWithin, Line.ArePrintable}
+use Rattle.cif_columns.specs.{Line.IsLine}
 pub use Rattle.cif_columns.specs.ContentReader.{GivenDecideContent, LineReads}
-use Rattle.cif_columns.specs.ContentReader.{IsNextWithin}
 use Rattle.cif_columns.specs.Contents.{DecideNoContent, contents_of, IsFirstContent, StandsFirst, HasLineReason, IsLineReason, most_by}
-use Rattle.cif_columns.specs.Line.{ArePrintable, IsLine}
 use Rattle.cif_columns.specs.Source.{HasReadOn, reader_of, source_ended, source_failed}
 
 -- the bytes that are held: read, and not yet given

@@ -1,13 +1,10 @@
 -- A test of a line column by column, and which tables of records it asks for. Columns are counted from 0 in the test's own tables.
-use Rattle.std.specs.Prelude.{◌≡◌, ℕ, ◌+◌, ◌-◌, ◌<◌, ◌≤◌, ◌⊎◌, Bool, true, false, ◌&&◌, ◌||◌, ◌==◌, nat_le}
-use Rattle.std.specs.Prelude.{List, [], ◌∷◌, length, replicate, codes, slice_index, map}
-use Rattle.std.specs.List.{list_all}
-use Rattle.std.specs.Str.{bytes_eq}
-use Rattle.cif_columns.specs.Activities.{codes_in}
-use Rattle.cif_columns.specs.Field.{AllStandIn, FieldValue, Row, columns, is_whole_from, plain_line, row}
-use Rattle.cif_columns.specs.Field.{exactly, text, activity_codes, working_time, public_time, spare}
-use Rattle.cif_columns.specs.FirstLine.{is_printable}
-use Rattle.cif_columns.specs.Text.{text_of}
+use Rattle.std.specs.Prelude.{Bool, List, [], codes, false, length, map, nat_le, replicate, slice_index, true, ℕ, ◌&&◌, ◌+◌, ◌-◌, ◌<◌, ◌==◌}
+use Rattle.std.specs.Prelude.{◌||◌, ◌∷◌, ◌≡◌, ◌≤◌, ◌⊎◌}
+use Rattle.std.specs.{List.list_all, Str.bytes_eq}
+use Rattle.cif_columns.specs.{Activities.codes_in, FirstLine.is_printable, Text.text_of}
+use Rattle.cif_columns.specs.Field.{AllStandIn, FieldValue, Row, activity_codes, columns, exactly, is_whole_from, plain_line, public_time}
+use Rattle.cif_columns.specs.Field.{row, spare, text, working_time}
 use Rattle.cif_columns.specs.declared.plain_test.PlainTest.{PlainTest}
 
 -- the line spells the table, and is its plain line

@@ -1,8 +1,6 @@
 -- What a clause reads of a `Source`, and what a call that reads owes its source.
 use Rattle.std.specs.Prelude.{◌≡◌, ℕ, Bool, true, false, List, Option, Result, Ok, Err}
-use Rattle.cif_columns.specs.Devices.{OneError}
-use Rattle.cif_columns.specs.declared.source.ReadFault.{ReadFault}
-use Rattle.cif_columns.specs.declared.source.Source.{Source}
+use Rattle.cif_columns.specs.{Devices.OneError, declared.source.ReadFault.ReadFault, declared.source.Source.Source}
 
 -- `s.reader()`
 abbrev pub reader_of : {R : Type 0} → Source R → R

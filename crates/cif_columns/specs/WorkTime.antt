@@ -1,6 +1,6 @@
 -- Working times: five columns as they stand.
-use Rattle.std.specs.Prelude.{◌≡◌, ℕ, ◌+◌, Bool, ◌&&◌, ◌||◌, ◌==◌, ◌⊎◌, List, [], ◌∷◌, ◌++◌, replicate, Option, Some, None, slice_index}
-use Rattle.std.specs.Prelude.{if◌then◌else◌, option_map}
+use Rattle.std.specs.Prelude.{Bool, List, None, Option, Some, [], if◌then◌else◌, option_map, replicate, slice_index, ℕ, ◌&&◌, ◌++◌, ◌+◌}
+use Rattle.std.specs.Prelude.{◌==◌, ◌||◌, ◌∷◌, ◌≡◌, ◌⊎◌}
 use Rattle.cif_columns.specs.Clock.{IsHourMinute, clock_seconds, is_clock, is_blank}
 
 -- an hour and a minute, and then a space, or `H` for half a minute more

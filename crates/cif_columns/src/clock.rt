@@ -1,11 +1,9 @@
 //! Working times and public times: an hour and a minute, or blank columns.
 ghost use Rattle.std.specs.Prelude.{◌≡◌, ◌<◌, ◌≤◌, ℕ, List, Some, IfSome, length};
 ghost use Rattle.cif_columns.specs.Clock.{below, is_clock, is_blank as all_spaces, seconds_to};
-ghost use Rattle.cif_columns.specs.Digits.{number_in};
-ghost use Rattle.cif_columns.specs.Line.{ArePrintable};
+ghost use Rattle.cif_columns.specs.{Digits.number_in, Line.ArePrintable, PublicTime.is_public_time as is_public};
+ghost use Rattle.cif_columns.specs.{WorkTime.is_work_time as is_working};
 ghost use Rattle.std.specs.Option.{option_and_then};
-ghost use Rattle.cif_columns.specs.PublicTime.{is_public_time as is_public};
-ghost use Rattle.cif_columns.specs.WorkTime.{is_work_time as is_working};
 
 use crate::day::number_of;
 use crate::line::debug;

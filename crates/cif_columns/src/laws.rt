@@ -1,7 +1,6 @@
 //! Laws: how values are ordered, and how many lines may be asked for.
 ghost use Rattle.std.specs.Prelude.{◌≡◌, ◌↔◌, ◌≤◌, ℕ, IsTrue, List, length};
-ghost use Rattle.std.specs.Cmp.Lexicographic.{slice_cmp};
-ghost use Rattle.std.specs.Ordering.{nat_cmp};
+ghost use Rattle.std.specs.{Cmp.Lexicographic.slice_cmp, Ordering.nat_cmp};
 ghost use Rattle.cif_columns.specs.Text.{IsText, left_justified as justified};
 ghost use Rattle.cif_columns.specs.declared.line_reader.TheConstants.{MAX_LINES};
 

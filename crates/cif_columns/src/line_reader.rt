@@ -1,8 +1,7 @@
 //! Lines, one by one, from a source that gives its bytes in any pieces.
 ghost use Rattle.std.specs.Prelude.{◌≡◌, ◌<◌, ◌≤◌, ◌+◌, [], ℕ, List, IfSome, IsTrue, false};
 ghost use Rattle.cif_columns.specs.Contents.{most_by};
-ghost use Rattle.cif_columns.specs.declared.ahead.TheConstants.{AHEAD};
-ghost use Rattle.cif_columns.specs.declared.line_reader.TheConstants.{MAX_LINES};
+ghost use Rattle.cif_columns.specs.declared.{ahead.TheConstants.AHEAD, line_reader.TheConstants.MAX_LINES};
 
 use crate::ahead::{ContentReader, LONGEST_LINE, Most, NextContent, is_comment, line_of};
 use crate::line::{LINE_WIDTH, Line};
@@ -61,8 +60,8 @@ pub struct LineReader {
 impl LineReader {
     ghost use Rattle.cif_columns.specs.LineReader.{held, given, limit, line_read, past, IsNext};
     ghost use Rattle.cif_columns.specs.LineReader.{AreAhead, HasPassed, HasReadAhead, IsNextContent, PassesContent};
-    ghost use Rattle.cif_columns.specs.declared.line_reader.Past.TheVariants.{Faulted, Reading};
-    ghost use Rattle.cif_columns.specs.declared.refusal.LineFault.{LineFault};
+    ghost use Rattle.cif_columns.specs.declared.{line_reader.Past.TheVariants.Faulted, line_reader.Past.TheVariants.Reading};
+    ghost use Rattle.cif_columns.specs.declared.{refusal.LineFault.LineFault};
 
     /// A reader that will give at most `max_lines` lines.
     pub fn new(max_lines: u64) -> Self

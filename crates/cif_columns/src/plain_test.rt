@@ -1,9 +1,8 @@
 //! Whether a line is the plain line of its kind, found in one pass with no branch on what stands in it.
 ghost use Rattle.std.specs.Prelude.{◌≡◌, ◌<◌, ◌≤◌, ◌↔◌, List, IsTrue, true, false};
-ghost use Rattle.cif_columns.specs.Field.{Row};
+ghost use Rattle.cif_columns.specs.{Field.Row, Line.IsLine};
 ghost use Rattle.cif_columns.specs.PlainTest.{IsFollowed, IsFollowedOver, IsInRange, IsPlainLineOf};
 ghost use Rattle.cif_columns.specs.PlainTest.{IsTimed, Passes, asks_all, asks_printable, read_off};
-ghost use Rattle.cif_columns.specs.Line.{IsLine};
 
 use crate::line::{FIFTH, LINE_WIDTH, Line};
 

@@ -1,8 +1,7 @@
 //! A writer that isn't written to again once it has failed, and the errors that a writer reports.
 ghost use Rattle.std.specs.Prelude.{◌≡◌, ◌++◌, ◌∷◌, [], ◌<◌, IfOk, ℕ, Option, None, IsErr, false, length};
 ghost use Rattle.cif_columns.specs.Contents.{lines_text};
-ghost use Rattle.std.specs.Io.{WritesAtMost};
-ghost use Rattle.std.specs.Io.KnownBytes.{Keeps, WriteAppends};
+ghost use Rattle.std.specs.{Io.KnownBytes.Keeps, Io.KnownBytes.WriteAppends, Io.WritesAtMost};
 
 use crate::line::Line;
 use crate::lines::LineSlice;
@@ -197,8 +196,7 @@ impl<A: Allocator> WriteDevice for Vec<u8, A> {
 
 /// The errors of the writer behind the buffer aren't kept. It holds back what is in the buffer.
 impl<W: WriteDevice + Drop, A: Allocator> WriteDevice for BufWriter<W, A> {
-    ghost use Rattle.std.specs.Prelude.{◌≡◌, []};
-    ghost use Rattle.std.specs.Io.Buffered.{writer_buffer};
+    ghost use Rattle.std.specs.{Io.Buffered.writer_buffer, Prelude.[], Prelude.◌≡◌};
 
     ghost holds_nothing = { λ w. writer_buffer w ≡ [] };
 

@@ -1,7 +1,6 @@
 //! A reader that isn't read again once it has failed, and the errors that a reader reports.
 ghost use Rattle.std.specs.Prelude.{◌≡◌, ◌↔◌, ◌<◌, ℕ, Option, None, Some, IfOk, IsTrue, false, length};
-ghost use Rattle.std.specs.Io.{ReadsAtMost};
-ghost use Rattle.std.specs.Io.KnownBytes.{ReadConsumes};
+ghost use Rattle.std.specs.{Io.KnownBytes.ReadConsumes, Io.ReadsAtMost};
 
 use std::alloc::Allocator;
 use std::fs::File;

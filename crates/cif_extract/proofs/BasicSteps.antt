@@ -1,10 +1,8 @@
 -- What a BS comes to, and an LT.
-use Rattle.cif_extract.proofs.Names.{AllStandIn, Basic, BasicTerms, Detail, IsClosed, IsKeepable, List, None, Option}
-use Rattle.cif_extract.proofs.Names.{Progress, Result, Schedule, Some, TakeFault, Terminus, UnlessMemory, [], ap, closed}
-use Rattle.cif_extract.proofs.Names.{detail_table, false, has_body, is_some, plain_line, schedule_of, step, subst, sym, terms_of, ℕ, ◌++◌}
-use Rattle.cif_extract.proofs.Names.{◌∙◌, ◌∷◌, ◌≡◌}
+use Rattle.cif_extract.proofs.Names.{AllStandIn, Basic, BasicTerms, Detail, IsClosed, IsKeepable, List, None, Option, Progress, Schedule}
+use Rattle.cif_extract.proofs.Names.{Some, Terminus, [], ap, closed, detail_table, false, has_body, is_some, plain_line, schedule_of, step}
+use Rattle.cif_extract.proofs.Names.{subst, sym, terms_of, ℕ, ◌++◌, ◌∙◌, ◌∷◌, ◌≡◌}
 use Rattle.cif_records.specs.declared.record.Record.TheVariants as of
-use Rattle.cif_extract.proofs.TakenLines.{memory_so}
 use Rattle.cif_extract.specs.Steps.Reading.{begun, kept}
 use Rattle.cif_extract.specs.declared.place.Place.TheVariants as at
 
@@ -45,7 +43,6 @@ module _ (before now : Progress) (t : Terminus) (is : now ≡ record before { li
   terminus_none = terminus None
 
   -- and closing the schedule is the step
-  pub closing : (o : BasicTerms) (after : Progress) (result : Result Unit TakeFault) → now.opened ≡ Some o →
-      IsClosed (record now { place = at.Schedules; opened = None }) o result after →
-      UnlessMemory (after ≡ step before (of.Terminus t)) result
-  closing o after result some = memory_so None (λ closed. closed ∙ terminus (Some o) some) result
+  pub closing : (o : BasicTerms) (after : Progress) → now.opened ≡ Some o →
+      IsClosed (record now { place = at.Schedules; opened = None }) o after → after ≡ step before (of.Terminus t)
+  closing o after some closed = closed ∙ terminus (Some o) some

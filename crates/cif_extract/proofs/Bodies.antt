@@ -7,12 +7,9 @@ use Rattle.cif_extract.proofs.Names.{get_or, get_or-append_seam, is_extra, is_so
 use Rattle.cif_extract.proofs.Names.{parts_in, plain_line, record_table, refl, slice_range, subst, suc, sym, take, take-append_seam, true}
 use Rattle.cif_extract.proofs.Names.{ℕ, ◌++◌, ◌-◌, ◌<◌, ◌↔◌, ◌∙◌, ◌∷◌, ◌≡◌}
 use Rattle.std.specs.Result.{result_ok}
-use Rattle.cif_records.proofs.Extras.{extra_in-spells}
-use Rattle.cif_records.proofs.Origins.{origin_in-spells}
-use Rattle.cif_records.proofs.Termini.{terminus_in-spells}
+use Rattle.cif_records.proofs.{Extras.extra_in-spells, Origins.origin_in-spells, Termini.terminus_in-spells}
 use Rattle.cif_records.specs.declared.record.Record.TheVariants as of
-use Rattle.cif_extract.proofs.CallLines.{call_in-spells}
-use Rattle.cif_extract.proofs.WrittenLines.{kept_plain}
+use Rattle.cif_extract.proofs.{CallLines.call_in-spells, WrittenLines.kept_plain}
 
 -- the lines from the first call to LT
 pub record Way (lines : List (List ℕ)) (calls : List Call) (terminus : Terminus) : Type 0 where

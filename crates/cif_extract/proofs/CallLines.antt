@@ -1,10 +1,8 @@
 -- The call that a line spells.
 use Rattle.cif_extract.proofs.Names.{All, All-tail, At, Bool, Call, List, SpellsChange, SpellsRecord, SpellsSomeCall, SpellsStop, Turn, []}
-use Rattle.cif_extract.proofs.Names.{ap, arith, before_last, bytes_eq, call_in, call_record, change_in, codes, columns, drop, false}
-use Rattle.cif_extract.proofs.Names.{get_or, length, map, nat_eq, nat_tests, stop_in, subst, suc, sym, take, true, ℕ, ◌-◌, ◌<◌, ◌∙◌, ◌∷◌}
-use Rattle.cif_extract.proofs.Names.{◌≡◌}
-use Rattle.cif_records.proofs.Changes.{change_in-spells}
-use Rattle.cif_records.proofs.Stops.{stop_in-spells}
+use Rattle.cif_extract.proofs.Names.{ap, arith, before_last, bytes_eq, call_in, call_record, change_in, codes, columns, drop, false, get_or}
+use Rattle.cif_extract.proofs.Names.{length, map, nat_eq, nat_tests, stop_in, subst, suc, sym, take, true, ℕ, ◌-◌, ◌<◌, ◌∙◌, ◌∷◌, ◌≡◌}
+use Rattle.cif_records.proofs.{Changes.change_in-spells, Stops.stop_in-spells}
 
 -- what a call's line spells is what stands in it
 pub call_in-spells : (line : List ℕ) (call : Call) → SpellsRecord line (call_record call) → call_in line ≡ call

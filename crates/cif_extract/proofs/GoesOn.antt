@@ -5,8 +5,7 @@ use Rattle.cif_extract.proofs.Names.{arith, codes, inl, may_stand, origin_table,
 use Rattle.cif_extract.proofs.Names.{replicate, stands-plain_line, step, subst, sym, terminus_table, text, true, ℕ, ◌++◌, ◌∙◌, ◌∷◌, ◌≡◌}
 use Rattle.cif_records.proofs.Rows.{◌&◌}
 use Rattle.cif_records.specs.declared.record.Record.TheVariants as of
-use Rattle.cif_extract.proofs.JourneySteps.{has_read_more}
-use Rattle.cif_extract.proofs.ReadingSteps.{trailer_where}
+use Rattle.cif_extract.proofs.{JourneySteps.has_read_more, ReadingSteps.trailer_where}
 use Rattle.cif_extract.specs.declared.place.Place.TheVariants as at
 
 no_text : (width : ℕ) → Fits width (text [])

@@ -6,8 +6,7 @@ use Rattle.cif_extract.proofs.Names.{extra_records, journey_records, kind_of, ma
 use Rattle.cif_extract.proofs.Names.{◌++◌, ◌∙◌, ◌∷◌, ◌≡◌}
 use Rattle.cif_records.specs.declared.record.Record.TheVariants as of
 use Rattle.cif_extract.proofs.Each.{Each, each_append, each_map, each_so}
-use Rattle.cif_extract.proofs.LayoutLaws.{AreLayouts}
-use Rattle.cif_extract.proofs.Schedules.{same_schedule}
+use Rattle.cif_extract.proofs.{LayoutLaws.AreLayouts, Schedules.same_schedule}
 
 -- P doesn't hold of the first record, if there is one
 abbrev Stops : (Record → Type 0) → List Record → Type 0

@@ -7,8 +7,7 @@ use Rattle.cif_extract.proofs.Names.{is_some, journey_records, length, length-ap
 use Rattle.cif_extract.proofs.Names.{subst, sym, true, ℕ, ⊎_elim, ◌++◌, ◌+◌, ◌<◌, ◌∙◌, ◌∷◌, ◌≡◌, ◌≤◌}
 use Rattle.cif_records.proofs.Records.{kind_of as record_kind}
 use Rattle.cif_records.specs.declared.record.Record.TheVariants as of
-use Rattle.cif_extract.proofs.FirstRefusals.{none_refused-more, none_refused-none}
-use Rattle.cif_extract.proofs.LayoutLaws.{own_are}
+use Rattle.cif_extract.proofs.{FirstRefusals.none_refused-more, FirstRefusals.none_refused-none, LayoutLaws.own_are}
 use Rattle.cif_extract.proofs.Places.{fine_here, place_more, place_past, refused_at}
 use Rattle.cif_extract.specs.declared.place.Place.TheVariants as at
 

@@ -7,12 +7,8 @@ use Rattle.cif_extract.proofs.Names.{may_stand, no_progress, own_layouts, place_
 use Rattle.cif_extract.proofs.Names.{stands-plain_line, step, subst, sym, true, ℕ, ◌++◌, ◌∙◌, ◌∷◌, ◌≡◌}
 use Rattle.cif_records.proofs.Records as records
 use Rattle.cif_records.specs.declared.record.Record.TheVariants as of
-use Rattle.cif_extract.proofs.GoesOn.{read_begins}
-use Rattle.cif_extract.proofs.JourneySteps.{has_read_more}
-use Rattle.cif_extract.proofs.LayoutLaws.{own_are}
-use Rattle.cif_extract.proofs.OrderLaws.{MayStand, stand_extract}
-use Rattle.cif_extract.proofs.Places.{place_more, place_past}
-use Rattle.cif_extract.proofs.ReadingRuns.{place_step}
+use Rattle.cif_extract.proofs.{GoesOn.read_begins, JourneySteps.has_read_more, LayoutLaws.own_are, OrderLaws.MayStand}
+use Rattle.cif_extract.proofs.{OrderLaws.stand_extract, Places.place_more, Places.place_past, ReadingRuns.place_step}
 use Rattle.cif_extract.specs.declared.place.Place.TheVariants as at
 
 one_kind : (line : List ℕ) (j k : Kind) → kind_in line ≡ Some j → kind_in line ≡ Some k → j ≡ k

@@ -5,8 +5,7 @@ use Rattle.cif_extract.proofs.Names.{refusal_of, true, ℕ, ◌++◌, ◌<◌, �
 use Rattle.std.proofs.lemmas.List.Sums.{fold-append}
 use Rattle.cif_records.proofs.Records.{kind_of as record_kind}
 use Rattle.cif_records.specs.declared.record.Record.TheVariants as of
-use Rattle.cif_extract.proofs.FirstRefusals.{line_refusal}
-use Rattle.cif_extract.proofs.LayoutLaws.{AreLayouts}
+use Rattle.cif_extract.proofs.{FirstRefusals.line_refusal, LayoutLaws.AreLayouts}
 use Rattle.cif_extract.specs.declared.place.Place.TheVariants as at
 
 -- why a line is refused after these, by the place behind them

@@ -14,8 +14,7 @@ use Rattle.cif_records.proofs.Trailers as trailers
 use Rattle.cif_records.specs.declared.record.Record.TheVariants as of
 use Rattle.cif_extract.proofs.Bodies.{body_of-parts_in, keeps_parts_in, parts_in-keeps}
 use Rattle.cif_extract.proofs.Each.{Each, each_append, each_back, each_front}
-use Rattle.cif_extract.proofs.LayoutLaws.{AreLayouts, own_are}
-use Rattle.cif_extract.proofs.OneExtract.{laid_out}
+use Rattle.cif_extract.proofs.{LayoutLaws.AreLayouts, LayoutLaws.own_are, OneExtract.laid_out}
 use Rattle.cif_extract.proofs.PlainRecords.{are-extract, basic_of, plain_records, records_of, records_of_body}
 
 -- what a record says fits its columns

@@ -1,22 +1,21 @@
 -- What the lines so far have come to, line by line.
 use Rattle.cif_extract.proofs.Names.{All, All-append, All-cons, All-nil, AreAllLines, AreExtract, AreLinesToFault, Basic, Bool}
 use Rattle.cif_extract.proofs.Names.{BytesSpellWithin, Detail, Err, Extract, ExtractParts, Fault, HasRead, HasReadAt, HasReadOn, HasTaken}
-use Rattle.cif_extract.proofs.Names.{Header, IfErr, IfOk, IfSome, IsDecided, IsFirstRefusal, IsLine, IsNextFault, IsNoTrailer, IsReadFault}
+use Rattle.cif_extract.proofs.Names.{IfErr, IfOk, IfSome, IsDecided, IsFirstRefusal, IsLine, IsNextFault, IsNoTrailer, IsReadFault}
 use Rattle.cif_extract.proofs.Names.{IsReadWhole, IsResultOf, IsTaken, IsTakenAs, IsTakenBehind, IsWhole, Kind, Layouts, LineFault}
 use Rattle.cif_extract.proofs.Names.{LineReads, List, None, NoneRefused, Ok, Option, Place, Progress, Record, Refusal, Result, Some, Source}
 use Rattle.cif_extract.proofs.Names.{SpellAllBy, SpellExtract, TakeFault, Zz, [], ap, arith, cond, extract_parts, failed_after, false}
 use Rattle.cif_extract.proofs.Names.{fault_at_line, first_of, has_body, inr, is_some, known_so, length, may_stand, no_progress}
-use Rattle.cif_extract.proofs.Names.{of_line_fault, order_refusal, own_layouts, parts_with_header, read_on_both, reader_of, reading_extract}
-use Rattle.cif_extract.proofs.Names.{refl, refusal_at, refusal_behind, refusal_of, source_failed, step, subst, sym, true, true≢false}
-use Rattle.cif_extract.proofs.Names.{unless, unread_of, ℕ, ◌++◌, ◌+◌, ◌<◌, ◌∙◌, ◌∷◌, ◌≡◌, ◌≢◌, ◌≤◌}
+use Rattle.cif_extract.proofs.Names.{of_line_fault, order_refusal, own_layouts, read_on_both, reader_of, reading_extract, refl, refusal_at}
+use Rattle.cif_extract.proofs.Names.{refusal_behind, refusal_of, source_failed, step, subst, sym, true, true≢false, unless, unread_of, ℕ}
+use Rattle.cif_extract.proofs.Names.{◌++◌, ◌+◌, ◌<◌, ◌∙◌, ◌∷◌, ◌≡◌, ◌≢◌, ◌≤◌}
 use Rattle.cif_columns.specs.declared.line.Line.{Line}
 use Rattle.cif_columns.specs.declared.refusal.LineFault.TheVariants as line_fault
 use Rattle.cif_columns.specs.declared.refusal.Refusal.TheVariants as refusal
 use Rattle.cif_records.proofs.Records.{kind_of as record_kind}
 use Rattle.cif_records.specs.declared.record.Record.TheVariants as of
 use Rattle.cif_extract.proofs.FirstRefusals.{at_fault, none_refused-more, none_refused-none}
-use Rattle.cif_extract.proofs.JourneySteps.{has_read_more}
-use Rattle.cif_extract.proofs.LayoutLaws.{AreLayouts, own_are}
+use Rattle.cif_extract.proofs.{JourneySteps.has_read_more, LayoutLaws.AreLayouts, LayoutLaws.own_are}
 use Rattle.cif_extract.proofs.Places.{place_more, place_past, refused_at}
 use Rattle.cif_extract.proofs.ReadCalls.{answers, of_any, refuses}
 use Rattle.cif_extract.specs.Steps.Reading.{begun}
@@ -130,12 +129,6 @@ module _ (max : ℕ) (lines : List (List ℕ)) (line : List ℕ) (is_line : IsLi
 module _ (records : List Record) (p : Progress) (read : HasRead records p) where
   whole : p.place ≡ at.Ended → IsWhole records p
   whole ended = subst (λ place. HasReadAt place records p) ended read
-
-  -- a whole reading holds the extract
-  pub held_are : (h : Header) → p.place ≡ at.Ended → p.header ≡ Some h → AreExtract records (parts_with_header p h p.schedules)
-  held_are h ended is =
-      let same : (whole ended).header ≡ h = (let there = (whole ended).is_header in cc) in
-      subst (λ (x : Header). AreExtract records (parts_with_header p x p.schedules)) same (whole ended).are
 
   -- one without a header isn't whole
   pub unfinished : (p.place ≡ at.Ended → p.header ≡ None) → p.place ≢ at.Ended

@@ -3,8 +3,7 @@ use Rattle.cif_extract.proofs.Names.{All, All-tail, ExtractParts, IsNoTrailer, L
 use Rattle.cif_extract.proofs.Names.{SpellExtractBy, [], ap, append-nil, append_assoc, arith, place_behind_by, records_before_trailer, refl}
 use Rattle.cif_extract.proofs.Names.{refusal_at, refusal_behind, subst, sym, ℕ, ◌++◌, ◌∙◌, ◌∷◌, ◌≡◌}
 use Rattle.cif_records.specs.declared.record.Record.TheVariants as of
-use Rattle.cif_extract.proofs.LayoutLaws.{AreLayouts}
-use Rattle.cif_extract.proofs.OrderLaws.{MayStand, stand_extract}
+use Rattle.cif_extract.proofs.{LayoutLaws.AreLayouts, OrderLaws.MayStand, OrderLaws.stand_extract}
 use Rattle.cif_extract.proofs.Places.{fine_here, place_more, place_past}
 use Rattle.cif_extract.specs.declared.place.Place.TheVariants as at
 

@@ -1,10 +1,9 @@
 -- What a line that is taken comes to, by its kind.
 use Rattle.cif_extract.proofs.Names.{AllStandIn, Err, GoesOnPlainly, HasLast, HasRead, IsFurther, IsFurtherPlainly, IsJudged, IsKeepable}
-use Rattle.cif_extract.proofs.Names.{IsKept, IsPlainOf, IsTaken, Kind, Li, List, Lt, None, Ok, Option, Place, Progress, Record, Refusal}
-use Rattle.cif_extract.proofs.Names.{Result, Some, SpellsRecord, TakeFault, Terminus, UnlessMemory, UnlessRefused, [], after_further, ap}
-use Rattle.cif_extract.proofs.Names.{first_of, keeping, kind_in, may_stand, no_refusal, order_refusal, own_layouts, plain_line}
-use Rattle.cif_extract.proofs.Names.{record_refusal, record_table, refl, refusal-kind, refusal_as, refusal_at, step, subst, sym, true}
-use Rattle.cif_extract.proofs.Names.{with_kept, ℕ, ◌∙◌, ◌∷◌, ◌≡◌, ◌≢◌}
+use Rattle.cif_extract.proofs.Names.{IsKept, IsPlainOf, IsTaken, Kind, Li, List, Lt, Ok, Option, Place, Progress, Record, Refusal, Result}
+use Rattle.cif_extract.proofs.Names.{Some, SpellsRecord, TakeFault, Terminus, UnlessRefused, [], after_further, ap, first_of, keeping}
+use Rattle.cif_extract.proofs.Names.{kind_in, may_stand, no_refusal, order_refusal, own_layouts, plain_line, record_refusal, record_table}
+use Rattle.cif_extract.proofs.Names.{refl, refusal_at, step, subst, sym, true, with_kept, ℕ, ◌∙◌, ◌∷◌, ◌≡◌, ◌≢◌}
 use Rattle.cif_records.proofs.Records.{kind_of as record_kind, kind_there as spelled_kind}
 use Rattle.cif_records.specs.declared.record.Record.TheVariants as of
 use Rattle.cif_extract.proofs.FirstRefusals.{or_none}
@@ -18,38 +17,21 @@ pub refusal_of_record : (place : Place) (line : List ℕ) (kind : Kind) → kind
 refusal_of_record place line kind is allowed =
     ap (λ k. first_of (order_refusal place k ∷ record_refusal line ∷ [])) is ∙ rw allowed (or_none (record_refusal line))
 
-pub refusal_of_fields : (place : Place) (line : List ℕ) (kind : Kind) → kind_in line ≡ Some kind → may_stand place kind ≡ true →
-    refusal_at own_layouts place line ≡ refusal_as (Some kind) line
-refusal_of_fields place line kind is allowed = refusal_of_record place line kind is allowed ∙ refusal-kind line kind is
-
 -- what a step comes to says more
-module _ (refusal : Option Refusal) {P Q : Type 0} (so : P → Q) where
-  pub memory_so : (result : Result Unit TakeFault) → UnlessMemory P result → UnlessMemory Q result
-  memory_so (Ok done) h = so h
-  memory_so (Err (untaken.Refused why)) h = h
-  memory_so (Err untaken.Memory) h = tt
-
-  pub refused_so : (result : Result Unit TakeFault) → UnlessRefused refusal P result → UnlessRefused refusal Q result
-  refused_so (Ok done) h = (h.0, so h.1)
-  refused_so (Err (untaken.Refused why)) h = h
-  refused_so (Err untaken.Memory) h = tt
-
-  pub fine_so : (result : Result Unit TakeFault) → refusal ≡ None → UnlessMemory P result → UnlessRefused refusal Q result
-  fine_so (Ok done) fine h = (fine, so h)
-  fine_so (Err (untaken.Refused why)) fine h = absurd h
-  fine_so (Err untaken.Memory) fine h = tt
+pub refused_so : (refusal : Option Refusal) {P Q : Type 0} → (P → Q) → (result : Result Unit TakeFault) → UnlessRefused refusal P result
+    → UnlessRefused refusal Q result
+refused_so refusal so (Ok done) h = (h.0, so h.1)
+refused_so refusal so (Err (untaken.Refused why)) h = h
+refused_so refusal so (Err untaken.Memory) h = tt
 
 -- a line whose plain line is kept
-pub kept_plain : (line plain : List ℕ) (p after : Progress) (result : Result Unit TakeFault)
-    → IsJudged (record_refusal line) (IsPlainOf Record record_table line) (Ok plain) → UnlessMemory (after ≡ keeping p plain) result
-    → IsKept (record_refusal line) line p result after
-kept_plain line plain p after result (fine, of) =
-    fine_so (record_refusal line) (λ is. (
-      of.value,
-      of.stands,
-      subst (λ l. AllStandIn l (record_table of.value)) of.same of.again,
-      is ∙ ap (keeping p) of.same,
-    )) result fine
+pub kept_plain : (line plain : List ℕ) (p after : Progress)
+    → IsJudged (record_refusal line) (IsPlainOf Record record_table line) (Ok plain) → after ≡ keeping p plain
+    → IsKept (record_refusal line) line p (Ok tt) after
+kept_plain line plain p after (fine, of) is = (
+  fine,
+  (of.value, of.stands, subst (λ l. AllStandIn l (record_table of.value)) of.same of.again, is ∙ ap (keeping p) of.same),
+)
 
 -- the kind of what a line spells, where it is known
 pub kind_here : (line : List ℕ) (r : Record) (kind : Kind) → SpellsRecord line r → kind_in line ≡ Some kind → record_kind r ≡ kind
@@ -102,7 +84,7 @@ plain_further p after line kind h other is =
     subst (λ refusal. IsTaken refusal line p (Ok tt) after)
     (sym (refusal_of_record p.place line kind h.plain.kind_there h.allowed))
     (taken_further p line kind after (Ok tt) h.plain.kind_there (subst IsFurther (sym h.plain.kind_there) (h.further other))
-    (kept_plain line line (record p { place = after_further p.place kind }) after (Ok tt) (h.plain.fine, h.plain.of) is))
+    (kept_plain line line (record p { place = after_further p.place kind }) after (h.plain.fine, h.plain.of) is))
 
 -- a record of this kind is a last location
 pub is_terminus : (r : Record) → record_kind r ≡ Lt → (t : Terminus) × (r ≡ of.Terminus t)
@@ -134,5 +116,5 @@ has_last p after line records read here lt r spells again is =
 pub plain_last : (p after : Progress) (line : List ℕ) (records : List Record) → HasRead records p → IsFurtherPlainly p.place line Lt →
     after ≡ keeping p line → HasLast p line after
 plain_last p after line records read h is =
-    let (fine, (r, spells, again, now)) = kept_plain line line p after (Ok tt) (h.plain.fine, h.plain.of) is in
+    let (fine, (r, spells, again, now)) = kept_plain line line p after (h.plain.fine, h.plain.of) is in
     has_last p after line records read (journey_where p.place h.allowed) h.plain.kind_there r spells again now

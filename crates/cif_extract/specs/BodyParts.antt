@@ -2,12 +2,9 @@
 use Rattle.std.specs.Prelude.{List, [], ◌∷◌, ◌++◌, Option, None, Some, map}
 use Rattle.cif_extract.specs.Call.{call_record}
 use Rattle.cif_extract.specs.declared.call.Call.{Call}
-use Rattle.cif_records.specs.declared.detail.Detail.{Detail}
-use Rattle.cif_records.specs.declared.extra.Extra.{Extra}
-use Rattle.cif_records.specs.declared.origin.Origin.{Origin}
-use Rattle.cif_records.specs.declared.record.Record.{Record}
+use Rattle.cif_records.specs.declared.{detail.Detail.Detail, extra.Extra.Extra, origin.Origin.Origin, record.Record.Record}
+use Rattle.cif_records.specs.declared.{terminus.Terminus.Terminus}
 use Rattle.cif_records.specs.declared.record.Record.TheVariants as of
-use Rattle.cif_records.specs.declared.terminus.Terminus.{Terminus}
 
 -- Columns 30 to 78 of its BS, its BX or the lack of one, and its journey. An absent BX and one of empty texts are two.
 pub record BodyParts : Type 0 where

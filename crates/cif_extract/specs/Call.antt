@@ -2,13 +2,9 @@
 use Rattle.std.specs.Prelude.{ℕ, ◌-◌, List, codes, cond, length, take}
 use Rattle.std.specs.Str.{bytes_eq}
 use Rattle.cif_columns.specs.Field.{columns}
-use Rattle.cif_extract.specs.declared.call.Call.{Call}
-use Rattle.cif_extract.specs.declared.call.Call.TheVariants.{At, Turn}
-use Rattle.cif_records.specs.Change.{change_in}
-use Rattle.cif_records.specs.Record.{SpellsRecord}
-use Rattle.cif_records.specs.Stop.{stop_in}
-use Rattle.cif_records.specs.declared.record.Record.{Record}
-use Rattle.cif_records.specs.declared.record.Record.TheVariants.{Change, Stop}
+use Rattle.cif_extract.specs.declared.{call.Call.Call, call.Call.TheVariants.At, call.Call.TheVariants.Turn}
+use Rattle.cif_records.specs.{Change.change_in, Record.SpellsRecord, Stop.stop_in}
+use Rattle.cif_records.specs.declared.{record.Record.Record, record.Record.TheVariants.Change, record.Record.TheVariants.Stop}
 
 -- a call as a record of its kind
 abbrev pub call_record : Call → Record

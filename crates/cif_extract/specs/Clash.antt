@@ -1,9 +1,7 @@
 -- The text of a clash.
 use Rattle.std.specs.Prelude.{ℕ, List, ◌++◌, codes}
-use Rattle.cif_columns.specs.DayDigits.{yymmdd_of}
-use Rattle.cif_columns.specs.Text.{left_justified}
-use Rattle.cif_extract.specs.declared.fault.Clash.{Clash}
-use Rattle.cif_extract.specs.declared.fault.Clash.TheVariants.{Association, Train}
+use Rattle.cif_columns.specs.{DayDigits.yymmdd_of, Text.left_justified}
+use Rattle.cif_extract.specs.declared.{fault.Clash.Clash, fault.Clash.TheVariants.Association, fault.Clash.TheVariants.Train}
 use Rattle.cif_records.specs.declared.association.AssocKey.{AssocKey}
 
 -- columns between brackets

@@ -1,10 +1,7 @@
 -- What an extract holds.
 use Rattle.std.specs.Prelude.{List}
-use Rattle.cif_extract.specs.declared.extract.Extract.{Extract}
-use Rattle.cif_extract.specs.declared.extract.Schedule.{Schedule}
-use Rattle.cif_records.specs.declared.association.Association.{Association}
-use Rattle.cif_records.specs.declared.header.Header.{Header}
-use Rattle.cif_records.specs.declared.tiploc.Tiploc.{Tiploc}
+use Rattle.cif_extract.specs.declared.{extract.Extract.Extract, extract.Schedule.Schedule}
+use Rattle.cif_records.specs.declared.{association.Association.Association, header.Header.Header, tiploc.Tiploc.Tiploc}
 
 -- the header, and the other records in file order and with repeats
 pub record ExtractParts : Type 0 where

@@ -1,19 +1,14 @@
 -- The first refused line of an input, and its reason.
-use Rattle.std.specs.Prelude.{◌≡◌, ◌≢◌, ◌⊎◌, ℕ, ◌+◌, ◌<◌, ◌==◌, nat_lt, List, [], ◌∷◌, ◌++◌, length, All, take, slice_index_or}
-use Rattle.std.specs.Prelude.{Option, None, Some}
+use Rattle.std.specs.Prelude.{All, List, None, Option, Some, [], length, nat_lt, slice_index_or, take, ℕ, ◌++◌, ◌+◌, ◌<◌, ◌==◌, ◌∷◌, ◌≡◌}
+use Rattle.std.specs.Prelude.{◌≢◌, ◌⊎◌}
 use Rattle.std.specs.List.{list_all}
-use Rattle.cif_columns.specs.Contents.{contents_of}
-use Rattle.cif_columns.specs.GivenLines.{AreLinesToFailure}
-use Rattle.cif_columns.specs.FirstLine.{is_printable}
+use Rattle.cif_columns.specs.{Contents.contents_of, FirstLine.is_printable, GivenLines.AreLinesToFailure}
 use Rattle.cif_columns.specs.declared.refusal.Refusal.{Refusal}
 use Rattle.cif_columns.specs.declared.refusal.Refusal.TheVariants.{BadLength, BadByte, OutOfOrder, Truncated, TooManyLines}
 use Rattle.cif_extract.specs.OrderOfRecords.{may_stand, place_behind}
 use Rattle.cif_extract.specs.declared.place.Place.{Place}
-use Rattle.cif_records.specs.Checks.{first_of, unless}
-use Rattle.cif_records.specs.Kind.{kind_in}
-use Rattle.cif_records.specs.Record.{record_refusal}
-use Rattle.cif_records.specs.declared.record.Kind.{Kind}
-use Rattle.cif_records.specs.declared.record.Kind.TheVariants.{Zz}
+use Rattle.cif_records.specs.{Checks.first_of, Checks.unless, Kind.kind_in, Record.record_refusal}
+use Rattle.cif_records.specs.declared.{record.Kind.Kind, record.Kind.TheVariants.Zz}
 
 -- why a line whose columns 1 and 2 name this kind may not stand there; one that names none is refused as a record
 abbrev pub order_refusal : Place → Option Kind → Option Refusal

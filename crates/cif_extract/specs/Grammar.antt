@@ -2,18 +2,12 @@
 -- lack the part from LO to LT.
 use Rattle.std.specs.Prelude.{◌≡◌, ◌⊎◌, List, [], ◌∷◌, ◌++◌, Option, None, Some, map}
 use Rattle.cif_columns.specs.Field.{plain_line}
-use Rattle.cif_extract.specs.Body.{BodyLines, body_tables}
-use Rattle.cif_extract.specs.BodyParts.{extra_records, journey_records}
-use Rattle.cif_extract.specs.ExtractParts.{ExtractParts}
-use Rattle.cif_extract.specs.declared.call.Call.{Call}
-use Rattle.cif_extract.specs.declared.extract.Schedule.{Schedule}
-use Rattle.cif_records.specs.declared.basic.Basic.{Basic}
-use Rattle.cif_records.specs.declared.detail.Detail.{Detail}
-use Rattle.cif_records.specs.declared.extra.Extra.{Extra}
-use Rattle.cif_records.specs.declared.origin.Origin.{Origin}
-use Rattle.cif_records.specs.declared.record.Record.{Record}
+use Rattle.cif_extract.specs.{Body.BodyLines, Body.body_tables, BodyParts.extra_records, BodyParts.journey_records}
+use Rattle.cif_extract.specs.{ExtractParts.ExtractParts}
+use Rattle.cif_extract.specs.declared.{call.Call.Call, extract.Schedule.Schedule}
+use Rattle.cif_records.specs.declared.{basic.Basic.Basic, detail.Detail.Detail, extra.Extra.Extra, origin.Origin.Origin}
+use Rattle.cif_records.specs.declared.{record.Record.Record, terminus.Terminus.Terminus}
 use Rattle.cif_records.specs.declared.record.Record.TheVariants as of
-use Rattle.cif_records.specs.declared.terminus.Terminus.{Terminus}
 
 -- a journey, whatever it is
 pub record AreJourney (records : List Record) : Type 0 where

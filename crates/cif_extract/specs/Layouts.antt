@@ -3,10 +3,8 @@ use Rattle.std.specs.Prelude.{ℕ, Bool, List, Option, codes}
 use Rattle.std.specs.Str.{bytes_eq}
 use Rattle.cif_columns.specs.Field.{columns}
 use Rattle.cif_columns.specs.declared.refusal.Refusal.{Refusal}
-use Rattle.cif_records.specs.Kind.{kind_in}
-use Rattle.cif_records.specs.Record.{record_refusal, SpellsRecord}
-use Rattle.cif_records.specs.declared.record.Kind.{Kind}
-use Rattle.cif_records.specs.declared.record.Record.{Record}
+use Rattle.cif_records.specs.{Kind.kind_in, Record.SpellsRecord, Record.record_refusal}
+use Rattle.cif_records.specs.declared.{record.Kind.Kind, record.Record.Record}
 
 -- what is read of a line by itself
 pub record Layouts : Type 1 where

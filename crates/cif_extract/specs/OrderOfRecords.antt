@@ -4,8 +4,8 @@ use Rattle.std.specs.Prelude.{◌≡◌, ℕ, Bool, true, List, [], ◌∷◌, �
 use Rattle.std.specs.List.{fold, list_any}
 use Rattle.cif_extract.specs.Layouts.{Layouts, own_layouts}
 use Rattle.cif_extract.specs.declared.place.Place.{Place}
-use Rattle.cif_extract.specs.declared.place.Place.TheVariants.{Start, Tiplocs, Associations, Basic, Extra, Cancelled, CancelledExtra}
-use Rattle.cif_extract.specs.declared.place.Place.TheVariants.{Journey, Schedules, Ended}
+use Rattle.cif_extract.specs.declared.place.Place.TheVariants.{Associations, Basic, Cancelled, CancelledExtra, Ended, Extra, Journey}
+use Rattle.cif_extract.specs.declared.place.Place.TheVariants.{Schedules, Start, Tiplocs}
 use Rattle.cif_records.specs.Kind.{identity, is_identity, kind_in}
 use Rattle.cif_records.specs.declared.record.Kind.{Kind}
 use Rattle.cif_records.specs.declared.record.Kind.TheVariants.{Hd, Ti, Ta, Td, Aa, Bs, Bx, Lo, Li, Cr, Lt, Zz}

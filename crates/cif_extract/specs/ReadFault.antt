@@ -1,13 +1,9 @@
 -- Why bytes are no extract, or can't be read.
 use Rattle.std.specs.Prelude.{◌≡◌, ◌≤◌, ◌+◌, ℕ, Bool, true, false, List, IsSomeAnd, Result, Ok, Err}
-use Rattle.cif_columns.specs.GivenLines.{IsDecided}
-use Rattle.cif_columns.specs.Source.{Unread}
-use Rattle.cif_extract.specs.ExtractParts.{ExtractParts, extract_parts}
-use Rattle.cif_extract.specs.FirstRefusal.{IsCutBeforeRefusal, IsFirstRefusal}
-use Rattle.cif_extract.specs.ReadCall.{ReadCall, reading}
-use Rattle.cif_extract.specs.SpellsExtract.{BytesSpellWithin}
-use Rattle.cif_extract.specs.declared.extract.Extract.{Extract}
-use Rattle.cif_extract.specs.declared.fault.Fault.{Fault}
+use Rattle.cif_columns.specs.{GivenLines.IsDecided, Source.Unread}
+use Rattle.cif_extract.specs.{ExtractParts.ExtractParts, ExtractParts.extract_parts, FirstRefusal.IsCutBeforeRefusal}
+use Rattle.cif_extract.specs.{FirstRefusal.IsFirstRefusal, ReadCall.ReadCall, ReadCall.reading, SpellsExtract.BytesSpellWithin}
+use Rattle.cif_extract.specs.declared.{extract.Extract.Extract, fault.Fault.Fault}
 use Rattle.cif_extract.specs.declared.fault.Fault.TheVariants.{Memory, Read, Refused}
 
 -- Why these bytes are no extract, or can't be read, where `after` is left then: their first refusal, of a line that is decided, or a

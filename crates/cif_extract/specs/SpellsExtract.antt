@@ -1,9 +1,7 @@
 -- When lines, and bytes, spell an extract.
 use Rattle.std.specs.Prelude.{ℕ, ◌≤◌, List, [], ◌∷◌, All, length}
-use Rattle.cif_columns.specs.Contents.{contents_of}
-use Rattle.cif_columns.specs.Line.{IsLine}
-use Rattle.cif_extract.specs.ExtractParts.{ExtractParts}
-use Rattle.cif_extract.specs.Grammar.{AreExtract}
+use Rattle.cif_columns.specs.{Contents.contents_of, Line.IsLine}
+use Rattle.cif_extract.specs.{ExtractParts.ExtractParts, Grammar.AreExtract}
 use Rattle.cif_records.specs.Record.{SpellsRecord}
 use Rattle.cif_records.specs.declared.record.Record.{Record}
 

@@ -1,18 +1,11 @@
 -- What a reading that takes lines one by one has come to, in terms of these lines.
 use Rattle.std.specs.Prelude.{◌≡◌, ◌≢◌, ℕ, List, [], ◌∷◌, ◌++◌, All, Option, None, Some, Result, Ok, Err}
 use Rattle.cif_columns.specs.declared.refusal.Refusal.{Refusal}
-use Rattle.cif_extract.specs.FirstRefusal.{order_refusal}
-use Rattle.cif_extract.specs.Layouts.{Layouts}
-use Rattle.cif_extract.specs.OrderOfRecords.{place_behind_by}
-use Rattle.cif_extract.specs.SpellsExtract.{SpellAllBy}
-use Rattle.cif_extract.specs.Steps.Reading.{HasRead, Progress}
-use Rattle.cif_extract.specs.declared.place.Place.{Place}
-use Rattle.cif_extract.specs.declared.place.Place.TheVariants.{Ended}
-use Rattle.cif_extract.specs.declared.reading.TakeFault.{TakeFault}
-use Rattle.cif_extract.specs.declared.reading.TakeFault.TheVariants.{Refused, Memory}
-use Rattle.cif_records.specs.Checks.{first_of}
-use Rattle.cif_records.specs.declared.record.Kind.TheVariants.{Zz}
-use Rattle.cif_records.specs.declared.record.Record.{Record}
+use Rattle.cif_extract.specs.{FirstRefusal.order_refusal, Layouts.Layouts, OrderOfRecords.place_behind_by, SpellsExtract.SpellAllBy}
+use Rattle.cif_extract.specs.{Steps.Reading.HasRead, Steps.Reading.Progress}
+use Rattle.cif_extract.specs.declared.{place.Place.Place, place.Place.TheVariants.Ended, reading.TakeFault.TakeFault}
+use Rattle.cif_extract.specs.declared.{reading.TakeFault.TheVariants.Memory, reading.TakeFault.TheVariants.Refused}
+use Rattle.cif_records.specs.{Checks.first_of, declared.record.Kind.TheVariants.Zz, declared.record.Record.Record}
 
 -- the line is no trailer
 abbrev pub IsNoTrailer : Layouts → List ℕ → Type 0

@@ -1,6 +1,5 @@
 //! What a train does on its way, one call after another.
-ghost use Rattle.std.specs.Prelude.{◌≡◌};
-ghost use Rattle.std.specs.Iterator.{YieldsFirst, item_count};
+ghost use Rattle.std.specs.{Iterator.YieldsFirst, Iterator.item_count, Prelude.◌≡◌};
 ghost use Rattle.cif_columns.specs.Field.{plain_line};
 ghost use Rattle.cif_records.specs.Record.{SpellsRecord, record_table};
 

@@ -2,7 +2,6 @@
 //! of records.
 #![tactic(auto)]
 
-mod body;
 mod call;
 mod extract;
 mod fault;
@@ -11,9 +10,8 @@ mod place;
 mod reading;
 mod writing;
 
-pub use body::Body;
 pub use call::{Call, Calls};
-pub use extract::{Extract, Schedule};
+pub use extract::{Body, Extract, Schedule};
 pub use fault::{Clash, Fault};
 pub use reading::{Reading, TakeFault, read_extract};
 pub use writing::{

@@ -1,19 +1,11 @@
 //! Reading a whole extract, line by line.
 ghost use Rattle.std.specs.Prelude.{◌≡◌, ◌≢◌, ◌<◌, ◌≤◌, ◌+◌, ◌^◌, ◌++◌, ◌∷◌, []};
-ghost use Rattle.std.specs.Prelude.{IfErr, IfNone, IfOk, IfSome, IsTrue, List, Ok, Some, true, ℕ};
+ghost use Rattle.std.specs.Prelude.{IfErr, IfNone, IfOk, IfSome, IsTrue, List, Ok, OnOk, Some, true, ℕ};
 ghost use Rattle.cif_columns.specs.Line.{ArePrintable, IsLine};
 ghost use Rattle.cif_columns.specs.declared.line_reader.TheConstants.{MAX_LINES};
-ghost use Rattle.cif_extract.specs.ExtractParts.{extract_parts};
-ghost use Rattle.cif_extract.specs.ReadCall.{IsResultOf};
-ghost use Rattle.cif_extract.specs.ReadFault.{reading_extract};
-ghost use Rattle.cif_records.specs.Association.{association_refusal};
-ghost use Rattle.cif_records.specs.Basic.{basic_refusal};
-ghost use Rattle.cif_records.specs.Bodies.{has_body};
-ghost use Rattle.cif_records.specs.Header.{header_refusal};
-ghost use Rattle.cif_records.specs.Kind.{kind_in};
-ghost use Rattle.cif_records.specs.Record.{record_refusal};
-ghost use Rattle.cif_records.specs.Tiploc.{tiploc_refusal};
-ghost use Rattle.cif_records.specs.Trailer.{trailer_refusal};
+ghost use Rattle.cif_extract.specs.{ExtractParts.extract_parts, ReadCall.IsResultOf, ReadFault.reading_extract};
+ghost use Rattle.cif_records.specs.{Association.association_refusal, Basic.basic_refusal, Bodies.has_body, Header.header_refusal};
+ghost use Rattle.cif_records.specs.{Kind.kind_in, Record.record_refusal, Tiploc.tiploc_refusal, Trailer.trailer_refusal};
 
 use crate::place::Place;
 use crate::{Body, Extract, Fault, Schedule};
@@ -22,7 +14,7 @@ use cif_records::{
     Association, BasicTerms, Detail, Header, Kind, Stop, Tiploc, Trailer, are_plain, is_plain_line,
     kind_of, plain_line_of,
 };
-use std::alloc::Global;
+use std::alloc::{AllocError, Global};
 
 /// The extract that the source's lines spell, of which at most `max_lines` may come.
 ///
@@ -44,16 +36,12 @@ pub fn read_extract<R: ReadDevice>(
     loop {
         if let Some(columns) = lines.columns_ahead() {
             if reading.goes_on_plainly(columns) {
-                let Ok(()) = reading.take_plain_stop(columns) else {
-                    return Err(Fault::Memory);
-                };
+                reading.take_plain_stop(columns)?;
                 lines.pass_line();
                 continue;
             }
             if let Some(kind) = reading.goes_further_plainly(columns) {
-                let Ok(()) = reading.take_plain_further(alloc, kind, columns) else {
-                    return Err(Fault::Memory);
-                };
+                reading.take_plain_further(alloc, kind, columns)?;
                 lines.pass_line();
                 continue;
             }
@@ -84,18 +72,13 @@ pub struct Reading {
 }
 
 impl Reading {
-    ghost use Rattle.cif_extract.specs.Body.{KeepSomeBody};
-    ghost use Rattle.cif_extract.specs.Grammar.{AreExtract};
-    ghost use Rattle.cif_extract.specs.OrderOfRecords.{may_stand};
+    ghost use Rattle.cif_extract.specs.{Body.KeepSomeBody, Grammar.AreExtract, Layouts.own_layouts, OrderOfRecords.may_stand};
+    ghost use Rattle.cif_extract.specs.{Taken.refusal_at};
     ghost use Rattle.cif_extract.specs.Steps.Reading.{HasLast, HasRead, IsClosed, IsFurther, IsFurtherPlainly, IsKeepable, IsKept, IsStep};
     ghost use Rattle.cif_extract.specs.Steps.Reading.{GoesOnPlainly, IsTaken, Progress, keeping};
-    ghost use Rattle.cif_extract.specs.Steps.Reading.{no_progress, progress_of, step, UnlessMemory};
-    ghost use Rattle.cif_extract.specs.Layouts.{own_layouts};
-    ghost use Rattle.cif_extract.specs.Taken.{refusal_at};
-    ghost use Rattle.cif_records.specs.Basic.{terms_of};
-    ghost use Rattle.cif_records.specs.Detail.{detail_in};
-    ghost use Rattle.cif_records.specs.declared.basic.Basic.{Basic};
-    ghost use Rattle.cif_records.specs.declared.record.Record.{Record};
+    ghost use Rattle.cif_extract.specs.Steps.Reading.{no_progress, progress_of, step};
+    ghost use Rattle.cif_records.specs.{Basic.terms_of, Detail.detail_in};
+    ghost use Rattle.cif_records.specs.declared.{basic.Basic.Basic, record.Record.Record};
 
     /// The reading of no lines.
     pub fn new(alloc: Global) -> Reading
@@ -188,10 +171,10 @@ impl Reading {
     /// Takes the line of such columns, as `take` does. Nearly three in four lines are such, and are kept from
     /// where they were read.
     #[inline(always)]
-    pub fn take_plain_stop(&mut self, columns: &[u8; LINE_WIDTH]) -> Result<(), TakeFault>
+    pub fn take_plain_stop(&mut self, columns: &[u8; LINE_WIDTH]) -> Result<(), AllocError>
         requires { GoesOnPlainly self.old.place columns.now }
-        ensures { UnlessMemory (IsTaken (refusal_at own_layouts self.old.place columns.now)
-            columns.now (progress_of self.old) (Ok tt) (progress_of self.new)) result }
+        ensures { OnOk result (IsTaken (refusal_at own_layouts self.old.place columns.now)
+            columns.now (progress_of self.old) (Ok tt) (progress_of self.new)) }
     {
         self.keep_columns(columns)
     }
@@ -229,11 +212,11 @@ impl Reading {
         alloc: Global,
         kind: Kind,
         columns: &[u8; LINE_WIDTH],
-    ) -> Result<(), TakeFault>
+    ) -> Result<(), AllocError>
         requires plain { IsFurtherPlainly self.old.place columns.now kind }
         requires read { (records : List Record) × HasRead records (progress_of self.old) }
-        ensures { UnlessMemory (IsTaken (refusal_at own_layouts self.old.place columns.now)
-            columns.now (progress_of self.old) (Ok tt) (progress_of self.new)) result }
+        ensures { OnOk result (IsTaken (refusal_at own_layouts self.old.place columns.now)
+            columns.now (progress_of self.old) (Ok tt) (progress_of self.new)) }
     {
         match kind {
             Kind::Lt => {
@@ -290,16 +273,16 @@ impl Reading {
         ensures { IsTaken (tiploc_refusal line.now) line.now (progress_of self.old) result
             (progress_of self.new) }
     {
-        self.put_tiploc(Tiploc::read(line)?)
+        Ok(self.put_tiploc(Tiploc::read(line)?)?)
     }
 
     /// Puts a location that was read.
     #[inline(always)]
-    pub fn put_tiploc(&mut self, tiploc: Tiploc) -> Result<(), TakeFault>
-        ensures { UnlessMemory (progress_of self.new ≡ step (progress_of self.old) (Record.Tiploc tiploc)) result }
+    pub fn put_tiploc(&mut self, tiploc: Tiploc) -> Result<(), AllocError>
+        ensures { OnOk result (progress_of self.new ≡ step (progress_of self.old) (Record.Tiploc tiploc)) }
     {
         self.place = Place::Tiplocs;
-        Reading::push(&mut self.tiplocs, tiploc)
+        Ok(self.tiplocs.push(tiploc)?)
     }
 
     /// Takes an association.
@@ -308,17 +291,16 @@ impl Reading {
         ensures { IsTaken (association_refusal line.now) line.now (progress_of self.old) result
             (progress_of self.new) }
     {
-        self.put_association(Association::read(line)?)
+        Ok(self.put_association(Association::read(line)?)?)
     }
 
     /// Puts an association that was read.
     #[inline(always)]
-    pub fn put_association(&mut self, association: Association) -> Result<(), TakeFault>
-        ensures { UnlessMemory
-            (progress_of self.new ≡ step (progress_of self.old) (Record.Association association)) result }
+    pub fn put_association(&mut self, association: Association) -> Result<(), AllocError>
+        ensures { OnOk result (progress_of self.new ≡ step (progress_of self.old) (Record.Association association)) }
     {
         self.place = Place::Associations;
-        Reading::push(&mut self.associations, association)
+        Ok(self.associations.push(association)?)
     }
 
     /// Takes a BS, which begins a schedule.
@@ -327,16 +309,16 @@ impl Reading {
         ensures { IsTaken (basic_refusal line.now) line.now (progress_of self.old) result
             (progress_of self.new) }
     {
-        self.put_basic(BasicTerms::read(line)?, line)
+        Ok(self.put_basic(BasicTerms::read(line)?, line)?)
     }
 
     /// Puts a BS whose terms were read of the line, which begins a schedule.
     #[inline(always)]
-    pub fn put_basic(&mut self, terms: BasicTerms, line: &Line) -> Result<(), TakeFault>
+    pub fn put_basic(&mut self, terms: BasicTerms, line: &Line) -> Result<(), AllocError>
         ensures { (b : Basic) → terms ≡ terms_of b
             → (has_body b.letter ≡ true → b.detail ≡ Some (detail_in line.now))
-            → UnlessMemory (IsKeepable (Record.Basic b)
-            × (progress_of self.new ≡ step (progress_of self.old) (Record.Basic b))) result }
+            → OnOk result (IsKeepable (Record.Basic b)
+            × (progress_of self.new ≡ step (progress_of self.old) (Record.Basic b))) }
     {
         if terms.has_body() {
             self.lines.clear();
@@ -346,7 +328,7 @@ impl Reading {
         } else {
             self.opened = None;
             self.place = Place::Cancelled;
-            Reading::push(&mut self.schedules, Schedule::of(terms, None))
+            Ok(self.schedules.push(Schedule::of(terms, None))?)
         }
     }
 
@@ -370,15 +352,15 @@ impl Reading {
             (progress_of self.new) }
     {
         self.keep(Kind::Lt, line)?;
-        self.end_schedule(alloc)
+        Ok(self.end_schedule(alloc)?)
     }
 
     /// Ends the schedule whose last line is kept.
     #[inline(never)]
-    fn end_schedule(&mut self, alloc: Global) -> Result<(), TakeFault>
+    fn end_schedule(&mut self, alloc: Global) -> Result<(), AllocError>
         requires { (before : Progress) × (line : List ℕ) × HasLast before line (progress_of self.old) }
         ensures { (before : Progress) (line : List ℕ) → HasLast before line (progress_of self.old)
-            → UnlessMemory (IsStep before line (progress_of self.new)) result }
+            → OnOk result (IsStep before line (progress_of self.new)) }
     {
         self.place = Place::Schedules;
         match self.opened.take() {
@@ -388,15 +370,13 @@ impl Reading {
     }
 
     /// Ends the schedule of these terms, whose body's lines are kept.
-    fn close(&mut self, alloc: Global, terms: BasicTerms) -> Result<(), TakeFault>
+    fn close(&mut self, alloc: Global, terms: BasicTerms) -> Result<(), AllocError>
         requires lines { KeepSomeBody self.old.lines }
         requires runs { true ≡ has_body terms.letter }
-        ensures { IsClosed (progress_of self.old) terms result (progress_of self.new) }
+        ensures { OnOk result (IsClosed (progress_of self.old) terms (progress_of self.new)) }
     {
-        match Body::of_lines(alloc, &self.lines) {
-            Ok(body) => Reading::push(&mut self.schedules, Schedule::of(terms, Some(body))),
-            Err(_) => Err(TakeFault::Memory),
-        }
+        let body = Body::of_lines(alloc, &self.lines)?;
+        Ok(self.schedules.push(Schedule::of(terms, Some(body)))?)
     }
 
     /// Keeps the line of a record of this kind as its plain line, if the schedule that is being read
@@ -409,28 +389,28 @@ impl Reading {
     {
         // `plain_line_of` alone would do, but most lines are plain, and need no record.
         if is_plain_line(kind, line) {
-            self.keep_plain(line)
+            Ok(self.keep_plain(line)?)
         } else {
-            self.keep_plain(&plain_line_of(kind, line)?)
+            Ok(self.keep_plain(&plain_line_of(kind, line)?)?)
         }
     }
 
     /// Keeps a plain line, if the schedule that is being read has a body.
     #[inline(always)]
-    fn keep_plain(&mut self, line: &Line) -> Result<(), TakeFault>
-        ensures { UnlessMemory (progress_of self.new ≡ keeping (progress_of self.old) line.now) result }
+    fn keep_plain(&mut self, line: &Line) -> Result<(), AllocError>
+        ensures { OnOk result (progress_of self.new ≡ keeping (progress_of self.old) line.now) }
     {
         self.keep_columns(line.bytes())
     }
 
     /// Keeps the plain line of these columns in the open body.
     #[inline(always)]
-    fn keep_columns(&mut self, columns: &[u8; LINE_WIDTH]) -> Result<(), TakeFault>
+    fn keep_columns(&mut self, columns: &[u8; LINE_WIDTH]) -> Result<(), AllocError>
         requires { ArePrintable columns.now }
-        ensures { UnlessMemory (progress_of self.new ≡ keeping (progress_of self.old) columns.now) result }
+        ensures { OnOk result (progress_of self.new ≡ keeping (progress_of self.old) columns.now) }
     {
-        if self.opened.is_some() && self.lines.push_columns(columns).is_err() {
-            return Err(TakeFault::Memory);
+        if self.opened.is_some() {
+            self.lines.push_columns(columns)?;
         }
         Ok(())
     }
@@ -444,16 +424,6 @@ impl Reading {
         let _ = Trailer::read(line)?;
         self.place = Place::Ended;
         Ok(())
-    }
-
-    /// Appends an item.
-    fn push<T: Drop>(items: &mut Vec<T>, item: T) -> Result<(), TakeFault>
-        ensures { UnlessMemory (items.new.items ≡ items.old.items ++ item ∷ []) result }
-    {
-        match items.push(item) {
-            Ok(()) => Ok(()),
-            Err(_) => Err(TakeFault::Memory),
-        }
     }
 }
 
@@ -473,6 +443,16 @@ impl From<Refusal> for TakeFault {
 
     fn from(why: Refusal) -> TakeFault {
         TakeFault::Refused(why)
+    }
+}
+
+impl From<AllocError> for TakeFault {
+    ghost use Rattle.cif_extract.specs.declared.reading.TakeFault.TheVariants.{Memory};
+
+    ghost from_gives = { λ _ fault. fault ≡ Memory };
+
+    fn from(_error: AllocError) -> TakeFault {
+        TakeFault::Memory
     }
 }
 

@@ -1,14 +1,9 @@
 //! Records as plain lines, each with a line feed.
 ghost use Rattle.std.specs.Prelude.{◌≡◌, ◌≤◌, ◌++◌, ◌∷◌, [], Some};
-ghost use Rattle.cif_columns.specs.Field.{plain_line};
-ghost use Rattle.cif_columns.specs.Sink.{Writes};
+ghost use Rattle.cif_columns.specs.{Contents.lines_text, Field.plain_line, Sink.Writes};
 ghost use Rattle.cif_columns.specs.declared.stp.Stp.TheVariants.{P};
-ghost use Rattle.cif_columns.specs.Contents.{lines_text};
 ghost use Rattle.cif_extract.specs.Texts.{further_lines, schedule_lines};
-ghost use Rattle.cif_records.specs.Association.{association_rows};
-ghost use Rattle.cif_records.specs.Header.{header_table};
-ghost use Rattle.cif_records.specs.Tiploc.{tiploc_table};
-ghost use Rattle.cif_records.specs.Trailer.{trailer_table};
+ghost use Rattle.cif_records.specs.{Association.association_rows, Header.header_table, Tiploc.tiploc_table, Trailer.trailer_table};
 
 use crate::Body;
 use cif_columns::{Day, DaysRun, Line, LineSlice, LineTexts, Sink, Uid, WriteDevice, WriteFault};

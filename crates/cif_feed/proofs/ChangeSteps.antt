@@ -7,8 +7,7 @@ use Rattle.cif_feed.proofs.Names.{map-append, map_more, nat_tests, not, option_o
 use Rattle.cif_feed.proofs.Names.{refl, refusal, refusals, same_Some, sym, take, take-append-drop, true, untouched, unwrap_or, with_keys, ℕ}
 use Rattle.cif_feed.proofs.Names.{◌&&◌, ◌++◌, ◌+◌, ◌<◌, ◌==◌, ◌||◌, ◌∙◌, ◌∷◌, ◌≡◌, ◌≤◌}
 use Rattle.std.specs.List.Retain.{IsFiltered, ReturnsInTurn}
-use Rattle.cif_feed.proofs.ChangeLaws.{of_key-after, put_keys}
-use Rattle.cif_feed.proofs.ListSteps.{filter-map}
+use Rattle.cif_feed.proofs.{ChangeLaws.of_key-after, ChangeLaws.put_keys, ListSteps.filter-map}
 use Rattle.cif_feed.specs.Changes.{of_key, parts_of}
 
 -- ---- options and tests
@@ -150,12 +149,6 @@ module _ {K I : Type 0} (same : K → K → Bool) (laws : IsEquivalence same) wh
             let no : is_changed same changes key ≡ false = sym (changed-same changes r.0 key one) ∙ apart in
             ap (λ v. v && is_there same records key) no ∙ ap (λ v. v && (is_there same records key || (true || false))) (sym no)
         at key false other = ap (λ v. is_changed same changes key && v) (sym (or-false (is_there same records key)))
-
-  pub says-there : (records : List (K × I)) (changes : List (ChangeParts K I)) (there : K → Option Bool)
-      → SaysAlone same records changes there → SaysThere same records changes there
-  says-there records changes there alone = record {
-    says = λ key changed. alone.says key ∙ ap (λ b. b && is_there same records key) changed;
-  }
 
   -- ---- after a change
 

@@ -6,17 +6,13 @@ use Rattle.cif_feed.proofs.Names.{IsChosen, IsHoliday, IsHolidayOf, IsPermutatio
 use Rattle.cif_feed.proofs.Names.{SameRecords, Some, Terms, X, [], ap, arith, code_list, dates_of, drop, false, false≢true, get_or, inl}
 use Rattle.cif_feed.proofs.Names.{inr, keyed, length, map, nat_cmp, option_map, published_by, refl, same_Some, slice_get, subst, sym, take}
 use Rattle.cif_feed.proofs.Names.{take_all, take_more, true, ℕ, ⊎_elim, ◌++◌, ◌+◌, ◌-◌, ◌<◌, ◌↔◌, ◌∙◌, ◌∷◌, ◌≡◌, ◌⊎◌}
-use Rattle.std.proofs.Common.{IsPermutation, eqb}
-use Rattle.std.specs.List.{dedup}
-use Rattle.std.specs.List.Sorted.{IsSorted}
+use Rattle.std.proofs.{Common.IsPermutation, Common.eqb, lemmas.Map.Keys.IsStrictlyIncreasing-dedup}
+use Rattle.std.specs.{List.Sorted.IsSorted, List.dedup}
 use Rattle.std.proofs.lemmas.List.Kept.{AllPairs-from_increasing, Contains-dedup_nat, Contains-from_dedup}
-use Rattle.std.proofs.lemmas.Map.Keys.{IsStrictlyIncreasing-dedup}
 use Rattle.std.proofs.lemmas.Option.{get_or_from_slice_get, slice_get-get_or, slice_get-map}
-use Rattle.cif_calendar.proofs.Positions.{at-contains, contains-at}
-use Rattle.cif_calendar.proofs.Sets.{IsClash-same, IsClear-same}
+use Rattle.cif_calendar.proofs.{Positions.at-contains, Positions.contains-at, Sets.IsClash-same, Sets.IsClear-same}
 use Rattle.cif_calendar.specs.Keys.{of_key}
-use Rattle.cif_feed.proofs.ListSteps.{Contains-from_map, Contains-map}
-use Rattle.cif_feed.proofs.PreparedRuns.{in-list}
+use Rattle.cif_feed.proofs.{ListSteps.Contains-from_map, ListSteps.Contains-map, PreparedRuns.in-list}
 
 turned : {B : Type 0} {xs ys : Records B} → SameRecords xs ys → SameRecords ys xs
 turned e = record { same = λ r. ((e.same r).1, (e.same r).0) }
@@ -44,9 +40,6 @@ first-and-rest (x ∷ xs) d some = ap (λ l. x ∷ l) (sym (take_all (length (x 
 module _ {A : Type 0} (Q : A → Type 0) (old : List A) where
   abbrev pub AreAlso : List A → List A → Type 0
   AreAlso xs new = (x : A) → Contains new x ↔ (Contains old x ⊎ (Contains xs x × Q x))
-
-  pub also-none : AreAlso [] old
-  also-none x = (λ has. inl has, λ either. ⊎_elim (λ has. has) (λ more. absurd (Contains-none x more.0)) either)
 
   also-push : (xs new : List A) (y : A) → Q y → AreAlso xs new → AreAlso (xs ++ y ∷ []) (new ++ y ∷ [])
   also-push xs new y holds also x = (

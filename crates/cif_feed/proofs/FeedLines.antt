@@ -17,9 +17,8 @@ use Rattle.cif_columns.specs.Stp.{letter}
 use Rattle.cif_records.proofs.Associations as associations
 use Rattle.cif_records.proofs.Basics as basics
 use Rattle.cif_records.proofs.Headers as headers
-use Rattle.cif_records.proofs.Identities.{only_kind}
+use Rattle.cif_records.proofs.{Identities.only_kind, Rows.◌&◌}
 use Rattle.cif_records.proofs.Records as records
-use Rattle.cif_records.proofs.Rows.{◌&◌}
 use Rattle.cif_records.proofs.Tiplocs as tiplocs
 use Rattle.cif_records.specs.Checks.{are, date_refusal, letter_refusal}
 use Rattle.cif_records.specs.Kind.{identity}

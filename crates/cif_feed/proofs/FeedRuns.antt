@@ -1,36 +1,29 @@
 -- What the contents of a feed so far have come to, and how its reading ends.
 use Rattle.cif_feed.proofs.Names.{All, All-cons, All-head, All-nil, All-tail, AreAllContents, AreContentsToCut, AreContentsToFault}
 use Rattle.cif_feed.proofs.Names.{AreContentsToRefusal, AreWholeContentsAndRest, BadTransaction, BeginWithoutComment, Bool, BytesSpellFeed}
-use Rattle.cif_feed.proofs.Names.{begins_comment}
 use Rattle.cif_feed.proofs.Names.{Err, Extract, Feed, FeedExtract, FeedFault, FeedReading, Full, HasLineReason, HasPassedComment, HasReadOn}
-use Rattle.cif_feed.proofs.Names.{HaveRoom, Hd, HolidayCodes, IfErr, IfOk, IfSome, IsFeedContent, IsFeedCut, IsFeedFault, IsFeedTaken}
-use Rattle.cif_feed.proofs.Names.{InFeed, IsFirstContent, IsFirstOfFeed, IsLine, IsLineNumber, IsNextBy, IsNextFault, IsNoComment}
-use Rattle.cif_feed.proofs.Names.{IsNoTrailer}
-use Rattle.cif_feed.proofs.Names.{IsOfFeed, IsOwed, IsReadWhole, IsReadingContents, IsResultOf, IsSomeAnd, Kind, KnownContents, LineFault}
-use Rattle.cif_feed.proofs.Names.{LineReads, List, None, NoneOfFeedRefused, NotUpdate, Ok, Option, Refusal, Result, SayFeed, Some, Source}
-use Rattle.cif_feed.proofs.Names.{SpellFeed, TakeFault, Unread, Zz, [], answers, ap, append_assoc, append_cancel_left, arith, below_more}
-use Rattle.cif_feed.proofs.Names.{codes, cond, contents_given, contents_of, count_by-le-length, counts_of, failed_after, false, fault_for}
-use Rattle.cif_feed.proofs.Names.{feed_layouts, feed_parts, feed_refusal, filter, first_of, get_or, get_or-append_seam, get_or_append_left}
-use Rattle.cif_feed.proofs.Names.{inl, inr, is_comment, is_feed_read, is_note, is_printable, is_record_line, kind_in, kind_read_as}
-use Rattle.cif_feed.proofs.Names.{known_so, length, length-append, length-filter, list_all, nat_eq, nat_lt, nat_tests, ne_eqb, not_full}
-use Rattle.cif_feed.proofs.Names.{not_true, notes_may_stand, of_any, option_or, or_none, printable_fact, printable_true, read_on_both}
-use Rattle.cif_feed.proofs.Names.{reader_of, reading_content, reading_feed, record_lines, refl, refuses, slice_index_or, source_failed, sym}
-use Rattle.cif_feed.proofs.Names.{take, take-append-le, take-append_seam, true, true≢false, unless, unread_of, untaken_fault, ℕ, ◌++◌, ◌+◌}
-use Rattle.cif_feed.proofs.Names.{◌<◌, ◌∙◌, ◌∷◌, ◌≡◌, ◌≢◌, ◌≤◌}
-use Rattle.cif_columns.specs.GivenLines.{IsDecidedWithinOrLast}
-use Rattle.cif_columns.specs.LineReader.{given, left}
-use Rattle.cif_columns.specs.declared.line.Line.{Line}
-use Rattle.cif_columns.specs.declared.line_reader.LineReader.{LineReader}
-use Rattle.cif_columns.specs.declared.line_reader.TheConstants.{MAX_LINES}
+use Rattle.cif_feed.proofs.Names.{HaveRoom, Hd, HolidayCodes, IfErr, IfOk, IfSome, InFeed, IsFeedContent, IsFeedCut, IsFeedFault}
+use Rattle.cif_feed.proofs.Names.{IsFeedTaken, IsFirstContent, IsFirstOfFeed, IsLine, IsLineNumber, IsNextBy, IsNextFault, IsNoComment}
+use Rattle.cif_feed.proofs.Names.{IsNoTrailer, IsOfFeed, IsOwed, IsReadWhole, IsReadingContents, IsResultOf, IsSomeAnd, Kind, KnownContents}
+use Rattle.cif_feed.proofs.Names.{LineFault, LineReads, List, None, NoneOfFeedRefused, NotUpdate, Ok, Option, Refusal, Result, SayFeed}
+use Rattle.cif_feed.proofs.Names.{Some, Source, SpellFeed, TakeFault, Unread, Zz, [], answers, ap, append_assoc, append_cancel_left, arith}
+use Rattle.cif_feed.proofs.Names.{begins_comment, below_more, codes, cond, contents_given, contents_of, count_by-le-length, counts_of}
+use Rattle.cif_feed.proofs.Names.{failed_after, false, fault_for, feed_layouts, feed_parts, feed_refusal, filter, first_of, get_or}
+use Rattle.cif_feed.proofs.Names.{get_or-append_seam, get_or_append_left, inl, inr, is_comment, is_feed_read, is_note, is_printable}
+use Rattle.cif_feed.proofs.Names.{is_record_line, kind_in, kind_read_as, known_so, length, length-append, length-filter, list_all, nat_eq}
+use Rattle.cif_feed.proofs.Names.{nat_lt, nat_tests, ne_eqb, not_full, not_true, notes_may_stand, of_any, option_or, or_none}
+use Rattle.cif_feed.proofs.Names.{printable_fact, printable_true, read_on_both, reader_of, reading_content, reading_feed, record_lines}
+use Rattle.cif_feed.proofs.Names.{refl, refuses, slice_index_or, source_failed, sym, take, take-append-le, take-append_seam, true}
+use Rattle.cif_feed.proofs.Names.{true≢false, unless, unread_of, untaken_fault, ℕ, ◌++◌, ◌+◌, ◌<◌, ◌∙◌, ◌∷◌, ◌≡◌, ◌≢◌, ◌≤◌}
+use Rattle.cif_columns.specs.{GivenLines.IsDecidedWithinOrLast, LineReader.given, LineReader.left}
+use Rattle.cif_columns.specs.declared.{line.Line.Line, line_reader.LineReader.LineReader, line_reader.TheConstants.MAX_LINES}
 use Rattle.cif_columns.specs.declared.refusal.LineFault.TheVariants as line_fault
 use Rattle.cif_columns.specs.declared.refusal.Refusal.TheVariants as refusal
 use Rattle.cif_extract.specs.Fault.{of_line_fault}
 use Rattle.cif_extract.specs.declared.fault.Fault.TheVariants as fault
 use Rattle.cif_extract.specs.declared.reading.TakeFault.TheVariants as untaken
 use Rattle.cif_feed.proofs.FeedSteps.{comment_kind, named_line}
-use Rattle.cif_feed.specs.FeedRefusal.{line_refusal}
-use Rattle.cif_feed.specs.declared.feed_line.Feed.TheVariants.{Update}
-use Rattle.cif_feed.specs.declared.mark.UpdateCounts.{UpdateCounts}
+use Rattle.cif_feed.specs.{FeedRefusal.line_refusal, declared.feed_line.Feed.TheVariants.Update, declared.mark.UpdateCounts.UpdateCounts}
 
 -- ---- why a content is refused
 

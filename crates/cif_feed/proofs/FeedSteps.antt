@@ -1,43 +1,32 @@
 -- One content more of a feed: the record that is read of it and taken, what the contents say then, and what the reading has come to.
 use Rattle.std.proofs.Common.{nat_le}
-use Rattle.cif_feed.proofs.Names.{begins_comment}
 use Rattle.cif_feed.proofs.Names.{Aa, AllStandIn, Association, BasicTerms, Bool, Bs, Err, Feed, FeedReading, Full, GoesOnPlainly, HasTaken}
-use Rattle.cif_feed.proofs.Names.{HasTakenFeed, Hd, HolidayCode, HolidayCodes, IsClosedAt, IsFeedTaken, IsJudged, IsKeepable}
-use Rattle.cif_feed.proofs.Names.{IsNoteTaken, IsOwn}
-use Rattle.cif_feed.proofs.Names.{IsRecordTaken, IsStopTaken, IsTaken, IsTakenAs, Kind, Li, List, MarkParts, None, Ok, Option, OutOfOrder}
-use Rattle.cif_feed.proofs.Names.{Progress, Record, Refusal, Refused, Result, Some, SpellsAssociationBy, SpellsBasicBy, SpellsInFeed}
-use Rattle.cif_feed.proofs.Names.{SpellsRecord, Ta, TakeFault, Td, Ti, Transaction, UnlessMemory, [], and_parts, ap, append-nil, arith}
-use Rattle.cif_feed.proofs.Names.{association_mark, association_refusal_by, basic_back, basic_refusal_by, bytes_eq-Decides, code_of, codes}
-use Rattle.cif_feed.proofs.Names.{columns, cond, counts_of, ends_open, enumerate_from, false, feed_layouts, feed_refusal_as, filter}
-use Rattle.cif_feed.proofs.Names.{has_holiday_code, slice_index}
-use Rattle.cif_feed.proofs.Names.{filter-append, find, fine_so, first_of, header_behind, header_from, is_association, is_basic, is_comment}
-use Rattle.cif_feed.proofs.Names.{is_deleted, is_header, is_identity, is_new, is_note, is_of_tiploc, is_open, is_record_line, is_revised}
-use Rattle.cif_feed.proofs.Names.{is_trailer, kind_in, kind_of, kind_read_as, kinds, length, length-append, lines_of, list_any}
-use Rattle.cif_feed.proofs.Names.{list_any-append, map, map-append, mark_parts, marks_in, may_stand, ne_eqb, not, not_true, notes_may_stand}
-use Rattle.cif_feed.proofs.Names.{one_if, or_none, order_refusal, own_layouts, passed_of, plus_if, progress_of, put_basic_front}
-use Rattle.cif_feed.proofs.Names.{put_basic_rows, read_as, record_lines, record_refusal, refl, refusal_as, refusal_at, refused_behind}
-use Rattle.cif_feed.proofs.Names.{refused_so, schedule_mark, step, subst, sym, take, take-take, taken_behind, tiploc_mark, transaction_as}
-use Rattle.cif_feed.proofs.Names.{transaction_at, true, unless, with_counts, with_line, with_passed, ℕ, ◌&&◌, ◌++◌, ◌+◌, ◌==◌, ◌||◌, ◌∙◌}
-use Rattle.cif_feed.proofs.Names.{◌∷◌, ◌≡◌, ◌≤◌}
-use Rattle.cif_records.proofs.Basics.{detail_read}
+use Rattle.cif_feed.proofs.Names.{HasTakenFeed, Hd, HolidayCode, HolidayCodes, IsClosedAt, IsFeedTaken, IsJudged, IsKeepable, IsNoteTaken}
+use Rattle.cif_feed.proofs.Names.{IsOwn, IsRecordTaken, IsStopTaken, IsTaken, IsTakenAs, Kind, Li, List, MarkParts, None, Ok, Option}
+use Rattle.cif_feed.proofs.Names.{OutOfOrder, Progress, Record, Refusal, Refused, Result, Some, SpellsAssociationBy, SpellsBasicBy}
+use Rattle.cif_feed.proofs.Names.{SpellsInFeed, SpellsRecord, Ta, TakeFault, Td, Ti, Transaction, [], and_parts, ap, append-nil, arith}
+use Rattle.cif_feed.proofs.Names.{association_mark, association_refusal_by, basic_back, basic_refusal_by, begins_comment, bytes_eq-Decides}
+use Rattle.cif_feed.proofs.Names.{code_of, codes, columns, cond, counts_of, ends_open, enumerate_from, false, feed_layouts, feed_refusal_as}
+use Rattle.cif_feed.proofs.Names.{filter, filter-append, find, first_of, has_holiday_code, header_behind, header_from, is_association}
+use Rattle.cif_feed.proofs.Names.{is_basic, is_comment, is_deleted, is_header, is_identity, is_new, is_note, is_of_tiploc, is_open}
+use Rattle.cif_feed.proofs.Names.{is_record_line, is_revised, is_trailer, kind_in, kind_of, kind_read_as, kinds, length, length-append}
+use Rattle.cif_feed.proofs.Names.{lines_of, list_any, list_any-append, map, map-append, mark_parts, marks_in, may_stand, ne_eqb, not}
+use Rattle.cif_feed.proofs.Names.{not_true, notes_may_stand, one_if, or_none, order_refusal, own_layouts, passed_of, plus_if, progress_of}
+use Rattle.cif_feed.proofs.Names.{put_basic_front, put_basic_rows, read_as, record_lines, record_refusal, refl, refusal_as, refusal_at}
+use Rattle.cif_feed.proofs.Names.{refused_so, schedule_mark, slice_index, step, subst, sym, take, take-take, taken_behind, tiploc_mark}
+use Rattle.cif_feed.proofs.Names.{transaction_as, transaction_at, true, unless, with_counts, with_line, with_passed, ℕ, ◌&&◌, ◌++◌, ◌+◌}
+use Rattle.cif_feed.proofs.Names.{◌==◌, ◌||◌, ◌∙◌, ◌∷◌, ◌≡◌, ◌≤◌}
+use Rattle.cif_records.proofs.{Basics.detail_read, Records.kind_there}
 use Rattle.cif_records.proofs.Details.{basic_with, stands_by, stands_with}
-use Rattle.cif_records.proofs.Records.{kind_there}
 use Rattle.cif_records.specs.Checks.{are}
 use Rattle.cif_records.specs.declared.record.Record.TheVariants as of
 use Rattle.cif_extract.proofs.Places.{fine_here}
 use Rattle.cif_extract.specs.Steps.Reading as read
 use Rattle.cif_extract.specs.declared.reading.TakeFault.TheVariants.{Memory}
-use Rattle.cif_columns.specs.declared.refusal.Refusal.TheVariants.{UnknownRecord}
-use Rattle.cif_feed.proofs.FeedLines.{feed_are, kind_there as feed_kind}
-use Rattle.cif_feed.proofs.ListSteps.{enumerate_append}
-use Rattle.cif_feed.specs.FeedLine.{column}
-use Rattle.cif_feed.specs.Marks.{put_mark, record_mark}
-use Rattle.cif_feed.specs.Steps.FeedLine.{ReadsBasic}
-use Rattle.cif_feed.specs.Transaction.{transaction_in}
-use Rattle.cif_feed.specs.declared.feed_line.Feed.TheVariants.{Update}
-use Rattle.cif_feed.specs.declared.mark.Passed.{Passed}
-use Rattle.cif_feed.specs.declared.mark.RecordMark.{RecordMark}
-use Rattle.cif_feed.specs.declared.mark.Transaction.TheVariants.{New}
+use Rattle.cif_feed.proofs.{FeedLines.feed_are, FeedLines.kind_there as feed_kind, ListSteps.enumerate_append}
+use Rattle.cif_feed.specs.{FeedLine.column, Marks.put_mark, Marks.record_mark, Steps.FeedLine.ReadsBasic, Transaction.transaction_in}
+use Rattle.cif_feed.specs.declared.{feed_line.Feed.TheVariants.Update, mark.Passed.Passed, mark.RecordMark.RecordMark}
+use Rattle.cif_feed.specs.declared.{mark.Transaction.TheVariants.New}
 
 -- ---- what the readers of AA and BS find, by the transaction
 
@@ -125,16 +114,6 @@ read_there Update Td = refl
 read_there Update _ = refl
 
 module _ (feed : Feed) (allowed : HolidayCodes) (line : List ℕ) (before : Progress) where
-  -- a line of no kind is refused for that
-  pub unnamed : kind_in line ≡ None → refusal_at (feed_layouts feed allowed) before.place line ≡ Some UnknownRecord
-  unnamed is =
-      ap (λ k. first_of (order_refusal before.place (kind_read_as feed k) ∷ feed_refusal_as feed allowed k line ∷ [])) is ∙ at feed
-    where
-      at : (f : Feed) → first_of (order_refusal before.place (kind_read_as f None) ∷ feed_refusal_as f allowed None line ∷ [])
-          ≡ Some UnknownRecord
-      at Full = refl
-      at Update = refl
-
   -- a line of this kind
   module _ (kind : Kind) (named : Some kind ≡ kind_in line) where
     by_place : refusal_at (feed_layouts feed allowed) before.place line
@@ -143,26 +122,22 @@ module _ (feed : Feed) (allowed : HolidayCodes) (line : List ℕ) (before : Prog
         ap (λ k. first_of (order_refusal before.place (kind_read_as feed k) ∷ feed_refusal_as feed allowed k line ∷ [])) (sym named)
         ∙ ap (λ k. first_of (order_refusal before.place k ∷ feed_refusal_as feed allowed (Some kind) line ∷ [])) (read_there feed kind)
 
-    -- it is refused where it may not stand
-    pub out_of_place : may_stand before.place (read_as feed kind) ≡ false
-        → refusal_at (feed_layouts feed allowed) before.place line ≡ Some OutOfOrder
-    out_of_place forbidden = by_place ∙ rw forbidden refl
-
     module _ (may : may_stand before.place (read_as feed kind) ≡ true) where
       -- else it is refused for its fields
       pub in_place : refusal_at (feed_layouts feed allowed) before.place line ≡ feed_refusal_as feed allowed (Some kind) line
       in_place = by_place ∙ rw may (or_none (feed_refusal_as feed allowed (Some kind) line))
 
       -- and a record that it spells is put
-      pub put_taken : (r : Record) → SpellsInFeed feed allowed line r → (result : Result Unit TakeFault) (after : Progress)
-          → UnlessMemory (IsKeepable r × (after ≡ step before r)) result → IsRecordTaken feed allowed line before result after
-      put_taken r spells result after =
+      pub put_taken : (r : Record) → SpellsInFeed feed allowed line r → (after : Progress) → IsKeepable r × (after ≡ step before r)
+          → IsRecordTaken feed allowed line before (Ok tt) after
+      put_taken r spells after is =
           let both : Some (kind_of r) ≡ Some (read_as feed kind) =
           sym (feed_kind feed allowed line r spells) ∙ ap (kind_read_as feed) (sym named) ∙ read_there feed kind in
-          let same : kind_of r ≡ read_as feed kind = cc in
-          fine_so _ (λ is. (r, spells, is.0, is.1)) result
-          (fine_here (feed_layouts feed allowed) (feed_are feed allowed) before.place line r spells
-          (ap (may_stand before.place) same ∙ may))
+          let same : kind_of r ≡ read_as feed kind = cc in (
+            fine_here (feed_layouts feed allowed) (feed_are feed allowed) before.place line r spells
+                (ap (may_stand before.place) same ∙ may),
+            (r, spells, is.0, is.1),
+          )
 
   -- a line that is as in an extract of this profile
   own_refusal : (f : Feed) (kind : Option Kind) → IsOwn kind f
@@ -424,14 +399,6 @@ module _ (feed : Feed) (allowed : HolidayCodes) (cs : List (List ℕ)) (c : List
       let (fine, more) = taken_behind (feed_layouts feed allowed) (feed_are feed allowed) (record_lines cs) c (progress_of old.reading)
       so_far.taken (Ok tt) (progress_of new.reading) taken in
       (rw kept.no_note fine, line_step number at old new so_far kept more)
-
-  pub line_untaken : is_note c ≡ false → (fault : TakeFault) (old mid new : FeedReading) → HasTakenFeed feed allowed cs old
-      → IsRecordTaken feed allowed c (progress_of old.reading) (Err fault) (progress_of mid.reading)
-      → IsFeedTaken feed allowed cs c (Err fault) new
-  line_untaken no_note (Refused why) old mid new so_far is =
-      rw no_note (refused_behind (feed_layouts feed allowed) (feed_are feed allowed) (record_lines cs) c (progress_of old.reading)
-      so_far.taken ∙ is)
-  line_untaken no_note Memory old mid new so_far is = tt
 
   -- a plain line of a location on the way
   pub stop_taken : (old new : FeedReading) → HasTakenFeed feed allowed cs old → GoesOnPlainly (progress_of old.reading).place c

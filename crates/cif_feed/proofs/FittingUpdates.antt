@@ -1,16 +1,13 @@
 -- What an update leaves fits the columns of lines, where what was there does.
 use Rattle.cif_feed.proofs.Names.{All, All-append, All-cons, All-filter, All-head, All-map, All-nil, All-tail, AllFit, AreAfter, AreTriples}
-use Rattle.cif_feed.proofs.Names.{Association, AssociationKey, Bool, BytesSpellUpdate, RecordChange, ChangeParts, FitsColumns, IfSome}
+use Rattle.cif_feed.proofs.Names.{Association, AssociationKey, Bool, BytesSpellUpdate, ChangeParts, FitsColumns, IfSome}
 use Rattle.cif_feed.proofs.Names.{IsAssociationChange, IsScheduleChange, IsUpdated, List, None, Option, PublishedAssociation}
-use Rattle.cif_feed.proofs.Names.{PublishedParts, PublishedSchedule, RecordMark, Schedule, ScheduleFits, ScheduleKey, Some, Transaction}
-use Rattle.cif_feed.proofs.Names.{UpdateParts, [], after_all, after_change, all_codes, association_table, change_by, changes_of}
-use Rattle.cif_feed.proofs.Names.{contents_of, extract_fits, keyed_record, not, of_profile, published_association_key}
+use Rattle.cif_feed.proofs.Names.{PublishedParts, PublishedSchedule, RecordChange, RecordMark, Schedule, ScheduleFits, ScheduleKey, Some}
+use Rattle.cif_feed.proofs.Names.{Transaction, UpdateParts, [], after_all, after_change, all_codes, association_table, change_by}
+use Rattle.cif_feed.proofs.Names.{changes_of, contents_of, extract_fits, keyed_record, not, of_profile, published_association_key}
 use Rattle.cif_feed.proofs.Names.{published_schedule_key, put_of, subst, sym, with_keys, without_key, ℕ, ◌∷◌}
-use Rattle.cif_feed.proofs.ListSteps.{All-from_map}
-use Rattle.cif_feed.proofs.SaidLines.{feed_fits}
-use Rattle.cif_feed.specs.Changes.{parts_of}
-use Rattle.cif_feed.specs.declared.feed_line.Feed.TheVariants.{Update}
-use Rattle.cif_feed.specs.declared.mark.Transaction.TheVariants.{Deleted}
+use Rattle.cif_feed.proofs.{ListSteps.All-from_map, SaidLines.feed_fits}
+use Rattle.cif_feed.specs.{Changes.parts_of, declared.feed_line.Feed.TheVariants.Update, declared.mark.Transaction.TheVariants.Deleted}
 
 -- what follows of the third of each three, where P holds of the first
 triples-all : {A B D : Type 0} (Q : A → B → D → Type 0) (P : A → Type 0) (S : D → Type 0)

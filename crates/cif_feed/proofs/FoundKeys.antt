@@ -2,11 +2,10 @@
 use Rattle.cif_feed.proofs.Names.{AllPairs, AnyHasKey, AreClashDatesOn, AreClashDays, AreFound, AreOfFirstKey, ArePositionsOf, BTreeMap}
 use Rattle.cif_feed.proofs.Names.{Clash, Contains, Contains-append_left, Contains-first, Contains-get_or, Contains-none, Contains-push}
 use Rattle.cif_feed.proofs.Names.{Contains-push_cases, Contains-rest, CountsAmong, DroppedKey, Equal, Greater, Holidays, IsKeyReported}
-use Rattle.cif_feed.proofs.Names.{IsNonDecreasing, IsReported, IsRising, IsTotalOrder, Less, List, None, Option, Ordering, PublishedTerms}
-use Rattle.cif_feed.proofs.Names.{ReadsDates, RisingDays, Terms, [], all_pairs_push, ap, append-nil, append_assoc, ap₂, arith, cases_lt}
-use Rattle.cif_feed.proofs.Names.{code_list, cond, days_in, days_with, drop, get, get_or, has-key, inl, is_eq, keyed, length, map}
-use Rattle.cif_feed.proofs.Names.{map-append, not_less, published_by, refl, slice_get_within, subst, sym, take, tied_itself, ℕ, ⊎_elim}
-use Rattle.cif_feed.proofs.Names.{◌++◌, ◌<◌, ◌↔◌, ◌∙◌, ◌∷◌, ◌≡◌, ◌≤◌, ◌⊎◌}
+use Rattle.cif_feed.proofs.Names.{IsReported, IsRising, IsTotalOrder, Less, List, None, Option, Ordering, PublishedTerms, ReadsDates}
+use Rattle.cif_feed.proofs.Names.{RisingDays, Terms, [], all_pairs_push, ap, append-nil, append_assoc, ap₂, arith, code_list, cond, days_in}
+use Rattle.cif_feed.proofs.Names.{days_with, drop, get, get_or, has-key, inl, is_eq, keyed, length, map, map-append, not_less, published_by}
+use Rattle.cif_feed.proofs.Names.{refl, slice_get_within, subst, sym, take, tied_itself, ℕ, ⊎_elim, ◌++◌, ◌<◌, ◌↔◌, ◌∙◌, ◌∷◌, ◌≡◌, ◌⊎◌}
 use Rattle.std.specs.Map.{lookup}
 use Rattle.cif_calendar.proofs.KeyTurns.{decided, first-leads, no-entry, one-key, rising-after}
 use Rattle.cif_calendar.proofs.PassedKeys.{HasPassed, key-or-later, later-less, left-before, passed-more, turn}
@@ -32,13 +31,6 @@ key-reported h key terms published own xs members cmp name stands_for first to k
       counted-days h key terms published own xs k members p first to found dates,
       subst (λ j. IsReported cmp name stands_for j found known all old new) same reported,
     )
-
--- days that rise don't fall
-pub rising-days : (days : List ℕ) → AllPairs ◌<◌ days → IsNonDecreasing days
-rising-days days rise i j d upto below = ⊎_elim
-    (λ (less : i < j). let up = rise i j d less below in omega arith)
-    (λ (back : j ≤ i). let same : i ≡ j = omega arith in omega (arith, ap (λ n. get_or days n d) same))
-    (cases_lt i j)
 
 -- ---- maps
 

@@ -1,28 +1,26 @@
 -- The lines of holidays, word by word, and how they are read.
-use Rattle.cif_feed.proofs.Names.{Of}
 use Rattle.cif_feed.proofs.Names.{All, All-contains, AreCodeAndDates, AreHolidaysOf, AreRead, AreWholeContentsAndRest, Bool, Contains}
 use Rattle.cif_feed.proofs.Names.{Contains-append_left, Contains-append_right, Contains-first, Contains-push, Contains-push_cases}
 use Rattle.cif_feed.proofs.Names.{ContentReader, DecideNoContent, E, Err, G, GivenDecideContent, HasGiven, HasLineMore, HasMore, HasReadOn}
 use Rattle.cif_feed.proofs.Names.{HolidayCode, Holidays, IfErr, IfOk, IfSome, IsBadLine, IsDate, IsDateFault, IsFirstBadLine, IsHoliday}
 use Rattle.cif_feed.proofs.Names.{IsHolidayFault, IsHolidayLine, IsLineFault, IsNextOf, IsResultOf, LineFault, LineNames, LineSays, List}
-use Rattle.cif_feed.proofs.Names.{Names, NamesDay, None, Ok, Option, Result, Some, SomeLine, Source, SpellHolidays, StandsInYymmdd, Unread}
-use Rattle.cif_feed.proofs.Names.{X, [], after_first, answers, ap, append-nil, arith, at_drop_more, at_limits, before_first, cases_lt, cond}
-use Rattle.cif_feed.proofs.Names.{content, content_first, contents_given, contents_of, drop, drop_of_length-le, eqb-true, failed_after}
-use Rattle.cif_feed.proofs.Names.{fails_before_first, false, false_from_ne_true, filter, get_or, get_or-drop, given_all, given_more}
-use Rattle.cif_feed.proofs.Names.{given_within, held, inl, inr, is_space, known_both, known_cut, known_decided, known_next, known_so}
-use Rattle.cif_feed.proofs.Names.{length, length-append, length-drop, length-prefix_len, nat_lt, nat_tests, nil_from_length, not, of_any}
-use Rattle.cif_feed.proofs.Names.{one_more, overlong_content, passes_at_first, position_or_len, position_or_len_is, read_on_both, reader_of}
-use Rattle.cif_feed.proofs.Names.{reading_holidays, refl, refuses, same_Some, slice_get, some_content, source_ended, subst, sym, take}
-use Rattle.cif_feed.proofs.Names.{take_all, true, words_in, words_of, yymmdd_in-stands, ℕ, ⊎_elim, ◌++◌, ◌+◌, ◌<◌, ◌==◌, ◌↔◌, ◌∙◌, ◌∷◌, ◌≡◌}
-use Rattle.cif_feed.proofs.Names.{◌≤◌, ◌⊎◌}
+use Rattle.cif_feed.proofs.Names.{Names, NamesDay, None, Of, Ok, Option, Result, Some, SomeLine, Source, SpellHolidays, StandsInYymmdd}
+use Rattle.cif_feed.proofs.Names.{Unread, X, [], after_first, answers, ap, append-nil, arith, at_drop_more, at_limits, before_first}
+use Rattle.cif_feed.proofs.Names.{cases_lt, cond, content, content_first, contents_given, contents_of, drop, drop_of_length-le, eqb-true}
+use Rattle.cif_feed.proofs.Names.{failed_after, fails_before_first, false, false_from_ne_true, filter, get_or, get_or-drop, given_all}
+use Rattle.cif_feed.proofs.Names.{given_more, given_within, held, inl, inr, is_space, known_both, known_cut, known_decided, known_next}
+use Rattle.cif_feed.proofs.Names.{known_so, length, length-append, length-drop, length-prefix_len, nat_lt, nat_tests, nil_from_length, not}
+use Rattle.cif_feed.proofs.Names.{of_any, one_more, overlong_content, passes_at_first, position_or_len, position_or_len_is, read_on_both}
+use Rattle.cif_feed.proofs.Names.{reader_of, reading_holidays, refl, refuses, same_Some, slice_get, some_content, source_ended, subst, sym}
+use Rattle.cif_feed.proofs.Names.{take, take_all, true, words_in, words_of, yymmdd_in-stands, ℕ, ⊎_elim, ◌++◌, ◌+◌, ◌<◌, ◌==◌, ◌↔◌, ◌∙◌}
+use Rattle.cif_feed.proofs.Names.{◌∷◌, ◌≡◌, ◌≤◌, ◌⊎◌}
 use Rattle.std.proofs.lemmas.List.Splits.{slice_split_first, slice_split_none}
 use Rattle.memchr.specs.Find.{IsFirstByte, is_byte}
 use Rattle.cif_columns.specs.ContentReader.{given, left}
 use Rattle.cif_columns.specs.declared.ahead.NextContent.TheVariants.{Content, End, Overlong}
 use Rattle.cif_columns.specs.declared.refusal.LineFault.TheVariants as line_fault
 use Rattle.cif_feed.proofs.ListSteps.{iff-by}
-use Rattle.cif_feed.specs.HolidayCode.{letter}
-use Rattle.cif_feed.specs.HolidayText.{of_line_fault}
+use Rattle.cif_feed.specs.{HolidayCode.letter, HolidayText.of_line_fault}
 use Rattle.cif_feed.specs.declared.holiday_text.HolidayFault.{HolidayFault}
 use Rattle.cif_feed.specs.declared.holiday_text.HolidayFault.TheVariants.{BadHoliday, Memory, Read}
 

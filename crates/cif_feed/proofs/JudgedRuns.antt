@@ -19,10 +19,8 @@ use Rattle.cif_extract.specs.Fault.{of_line_fault}
 use Rattle.cif_extract.specs.declared.fault.Fault.{Fault}
 use Rattle.cif_extract.specs.declared.fault.Fault.TheVariants as fault
 use Rattle.cif_feed.proofs.ReportedReasons.{judged_line, own_none, own_of_line, reasons_of_more, refused_number, report_nothing}
-use Rattle.cif_feed.specs.declared.judged.Judged.{Judged}
+use Rattle.cif_feed.specs.declared.{judged.Judged.Judged, judged.Judging.Judging, judged.Order.Order}
 use Rattle.cif_feed.specs.declared.judged.Judged.TheVariants as judged
-use Rattle.cif_feed.specs.declared.judged.Judging.{Judging}
-use Rattle.cif_feed.specs.declared.judged.Order.{Order}
 
 -- ---- contents that spell an extract
 

@@ -74,10 +74,6 @@ module _ {A B : Type 0} (P : A → B → Type 0) where
   pairs_some (z ∷ xs) x [] p is = absurd p
   pairs_some xs x (y ∷ ys) p is = cc
 
-  pub pairs_none : (ys : List B) → ArePairs P [] ys → ys ≡ []
-  pairs_none [] p = refl
-  pairs_none (y ∷ ys) p = absurd p
-
   -- others behind them
   pub pairs-append : (xs : List A) (ys : List B) (zs : List A) (ws : List B) → ArePairs P xs ys → ArePairs P zs ws
       → ArePairs P (xs ++ zs) (ys ++ ws)

@@ -1,27 +1,21 @@
 -- The marks with that of a line that spells a record are those with its line: what is counted by the mark is counted by the columns.
-use Rattle.cif_feed.proofs.Names.{Aa, Association, Basic, Bool, Bs, Feed, Full, Hd, HolidayCode, HolidayCodes, Kind, List, MarkParts, None}
-use Rattle.cif_feed.proofs.Names.{Option, Progress, Record, Some, SpellsAssociationBy, SpellsBasicBy, SpellsInFeed, StandsIn, Ta, Td, Ti}
-use Rattle.cif_feed.proofs.Names.{Transaction, [], and-false, ap, append-nil, code_of, code_value, columns}
-use Rattle.cif_feed.proofs.Names.{IsOwn, Ok, IsRecordTaken, feed_refusal_as, is_basic, is_deleted, is_new, is_open, is_revised, is_some}
-use Rattle.cif_feed.proofs.Names.{Err, Result, TakeFault, tiploc_mark}
-use Rattle.cif_feed.proofs.Names.{false, is_trailer}
-use Rattle.cif_feed.proofs.Names.{kind_in, kind_of, kind_read_as, not, plus_if, refl, slice_index, subst, sym, transaction_at, with_line}
-use Rattle.cif_feed.proofs.Names.{ℕ, ◌&&◌, ◌++◌, ◌==◌, ◌∙◌, ◌∷◌, ◌≡◌}
+use Rattle.cif_feed.proofs.Names.{Aa, Association, Basic, Bool, Bs, Err, Feed, Full, Hd, HolidayCode, HolidayCodes, IsOwn, IsRecordTaken}
+use Rattle.cif_feed.proofs.Names.{Kind, List, MarkParts, None, Ok, Option, Progress, Record, Result, Some, SpellsAssociationBy}
+use Rattle.cif_feed.proofs.Names.{SpellsBasicBy, SpellsInFeed, StandsIn, Ta, TakeFault, Td, Ti, Transaction, [], and-false, ap, append-nil}
+use Rattle.cif_feed.proofs.Names.{code_of, code_value, columns, false, feed_refusal_as, is_basic, is_deleted, is_new, is_open, is_revised}
+use Rattle.cif_feed.proofs.Names.{is_some, is_trailer, kind_in, kind_of, kind_read_as, not, plus_if, refl, slice_index, subst, sym}
+use Rattle.cif_feed.proofs.Names.{transaction_at, with_line, ℕ, ◌&&◌, ◌++◌, ◌==◌, ◌∙◌, ◌∷◌, ◌≡◌}
 use Rattle.std.proofs.Math.Bool.{and-true}
 use Rattle.std.specs.Result.{IsErrAnd}
 use Rattle.cif_records.specs.declared.record.Kind.TheVariants.{Zz}
 use Rattle.cif_records.specs.declared.record.Record.TheVariants as of
-use Rattle.cif_feed.proofs.FeedLines.{fine, kind_there}
-use Rattle.cif_feed.proofs.FeedSteps.{read_back, read_transaction}
-use Rattle.cif_feed.specs.FeedLine.{column}
-use Rattle.cif_feed.specs.Marks.{record_mark}
+use Rattle.cif_feed.proofs.{FeedLines.fine, FeedLines.kind_there, FeedSteps.read_back, FeedSteps.read_transaction}
+use Rattle.cif_feed.specs.{FeedLine.column, Marks.record_mark, Transaction.transaction_in}
 use Rattle.cif_feed.specs.Steps.Marks.{is_schedule_mark, is_trailer_mark, mark_of, own_mark, with_mark}
-use Rattle.cif_feed.specs.Transaction.{transaction_in}
-use Rattle.cif_feed.specs.declared.feed_line.Feed.TheVariants.{Update}
+use Rattle.cif_feed.specs.declared.{feed_line.Feed.TheVariants.Update, mark.UpdateCounts.UpdateCounts}
 use Rattle.cif_feed.specs.declared.holidays.HolidayCode.TheVariants.{X, E, G}
 use Rattle.cif_feed.specs.declared.mark.Mark.TheVariants as mark
 use Rattle.cif_feed.specs.declared.mark.Transaction.TheVariants.{Deleted, New, Revised}
-use Rattle.cif_feed.specs.declared.mark.UpdateCounts.{UpdateCounts}
 
 -- a code that stands there counts
 coded : (code : Option HolidayCode) (cs : List ℕ) → StandsIn cs (code_value code) → is_some code ≡ not (slice_index cs 0 == 32)
@@ -144,15 +138,6 @@ passed_on P fault (Ok x) h p = absurd h
 passed_on P fault (Err e) h p = subst (λ f. P (Err f)) (sym h) p
 
 -- ---- what a mark tells of its kind
-
--- a line that is read as a location has the mark of one
-pub tiploc_marked : (feed : Feed) (allowed : HolidayCodes) (kind : Kind) (line : ℕ × List ℕ) → kind_read_as feed (Some kind) ≡ Some Ti
-    → mark.Tiploc (tiploc_mark (Some kind) line) ≡ mark_of allowed (Some kind) line
-tiploc_marked feed allowed Ti l is = refl
-tiploc_marked feed allowed Ta l is = refl
-tiploc_marked feed allowed Td l is = refl
-tiploc_marked Full allowed _ l is = absurd (cc)
-tiploc_marked Update allowed _ l is = absurd (cc)
 
 pub schedule_there : (allowed : HolidayCodes) (kind : Option Kind) (line : ℕ × List ℕ)
     → is_schedule_mark (mark_of allowed kind line) ≡ is_basic kind

@@ -7,18 +7,14 @@ use Rattle.cif_feed.proofs.Names.{append-nil, append_assoc, arith, before_cut, c
 use Rattle.cif_feed.proofs.Names.{get_or_default, inl, inr, is_gt, length, length-drop, ltb-false, ltb-true, map, map-append, nat_cmp}
 use Rattle.cif_feed.proofs.Names.{nat_lt, part_entry, records_on, refl, rules, sooner_of, subst, sym, true, weekday_of, ℕ, ⊎_elim, ◌++◌}
 use Rattle.cif_feed.proofs.Names.{◌+◌, ◌-◌, ◌<◌, ◌↔◌, ◌∙◌, ◌∷◌, ◌≡◌, ◌≤◌, ◌⊎◌}
-use Rattle.std.specs.Ordering.{is_le}
+use Rattle.std.specs.{Ordering.is_le, Prelude.min}
 use Rattle.std.proofs.lemmas.List.Sorted.{IsNonDecreasingBy-drop}
-use Rattle.std.specs.Prelude.{min}
 use Rattle.cif_feed.specs.PreparedRecord.{terms_on}
 
 -- ---- what a comparison says
 
 pub gt-after : (a b : ℕ) (gt : Bool) → gt ≡ is_gt (nat_cmp a b) → gt ≡ true → b < a
 gt-after a b gt is after = search rules
-
-pub gt-upto : (a b : ℕ) (gt : Bool) → gt ≡ is_gt (nat_cmp a b) → gt ≡ false → a ≤ b
-gt-upto a b gt is upto = search rules
 
 le-upto : (a b : ℕ) → is_le (nat_cmp a b) ≡ true → a ≤ b
 le-upto a b is = search rules
@@ -56,16 +52,6 @@ module _ (dates later : List ℕ) (P : ℕ → Type 0) (from place index : ℕ) 
       let one = at_later index in absurd (omega arith))
       (cases_lt (k - place) index))
       (cases_lt k place)
-
--- a date that is left is one of them
-pub left-contains : (dates later : List ℕ) (place index date : ℕ) → later ≡ drop place dates → index < length later
-    → date ≡ get_or later index date → Contains dates date
-left-contains dates later place index date is below at =
-    let long : length later ≡ length dates - place = ap length is ∙ length-drop place dates in (
-      place + index,
-      (let there : place + index < length dates = omega arith in there),
-      sym (at ∙ ap (λ (l : List ℕ). get_or l index date) is ∙ get_or-drop place dates index date),
-    )
 
 -- ---- the dates that are left
 

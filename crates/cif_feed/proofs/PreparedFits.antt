@@ -6,8 +6,7 @@ use Rattle.cif_feed.proofs.Names.{PublishedTerms, ScheduleFits, Terms, [], arith
 use Rattle.cif_feed.proofs.Names.{basic_rows, cond_both, detail_of, ended, extract_fits, last_is_day, map, max, of_profile, option_map}
 use Rattle.cif_feed.proofs.Names.{part_terms, prepared_last, published_association_terms, published_associations, published_schedule_terms}
 use Rattle.cif_feed.proofs.Names.{published_schedules, refl, schedule_entries, schedule_entry, subst, sym, ℕ, ◌+◌, ◌∷◌}
-use Rattle.cif_feed.proofs.FittingUpdates.{AssociationFits}
-use Rattle.cif_feed.proofs.ListSteps.{All-from_map}
+use Rattle.cif_feed.proofs.{FittingUpdates.AssociationFits, ListSteps.All-from_map}
 
 -- ---- records on the dates of their parts
 

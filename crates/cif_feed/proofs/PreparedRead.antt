@@ -4,22 +4,17 @@ use Rattle.cif_feed.proofs.Names.{IsDeviceOrMemory, IsFirstOfFeed, IsHolidayFaul
 use Rattle.cif_feed.proofs.Names.{Option, Prepares, PublishedExtract, Result, Sink, Some, Source, Unread, [], ap, codes_named, contents_of}
 use Rattle.cif_feed.proofs.Names.{goes-on, inl, inr, is_feed_read, known_so, of_any, preparing, reader_of, reading_holidays, refl, refuses}
 use Rattle.cif_feed.proofs.Names.{subst, sym, unread_of, ℕ, ⊎_elim, ◌∙◌, ◌≡◌, ◌⊎◌}
-use Rattle.cif_feed.specs.FeedAnswer.{AreHolidaysGiven, AreHolidaysOf, AreHolidaysRead, FeedAnswers, IsBadHoliday, IsHolidayFeedFault}
-use Rattle.cif_feed.specs.FeedAnswer.{IsPrepareAnswer, IsPrepareFault, IsPreparedInTurn, IsReported, OfHolidays, reading_as_feed}
+use Rattle.cif_feed.specs.FeedAnswer.{AreHolidaysGiven, AreHolidaysOf, AreHolidaysRead, FeedAnswers, IsBadHoliday, IsPrepareAnswer}
+use Rattle.cif_feed.specs.FeedAnswer.{IsPrepareFault, IsPreparedInTurn, IsReported, OfHolidays, reading_as_feed}
 use Rattle.cif_columns.specs.declared.line_reader.TheConstants.{MAX_LINES}
 use Rattle.std.proofs.Common.{MatchBool}
 use Rattle.cif_columns.specs.Source.{HasFailedToRead}
 use Rattle.cif_extract.specs.declared.fault.Fault.TheVariants as fault
-use Rattle.cif_feed.specs.FeedFault.{of_holiday_fault}
-use Rattle.cif_feed.specs.HolidayText.{is_holiday_read}
-use Rattle.cif_feed.specs.WrittenPrepared.{IsPrepareFault as IsOnePrepareFault}
-use Rattle.cif_feed.specs.declared.dropped.Dropped.{Dropped}
-use Rattle.cif_feed.specs.declared.feed_fault.FeedFault.TheVariants.{Extract}
-use Rattle.cif_feed.specs.declared.feed_line.Feed.TheVariants.{Full}
-use Rattle.cif_feed.specs.declared.holiday_text.HolidayFault.{HolidayFault}
+use Rattle.cif_feed.specs.{FeedFault.of_holiday_fault, HolidayText.is_holiday_read, WrittenPrepared.IsPrepareFault as IsOnePrepareFault}
+use Rattle.cif_feed.specs.declared.{dropped.Dropped.Dropped, feed_fault.FeedFault.TheVariants.Extract, feed_line.Feed.TheVariants.Full}
+use Rattle.cif_feed.specs.declared.{holiday_text.HolidayFault.HolidayFault, holidays.Holidays.Holidays}
 use Rattle.cif_feed.specs.declared.holiday_text.HolidayFault.TheVariants.{BadHoliday, Memory, Read}
-use Rattle.cif_feed.specs.declared.holidays.Holidays.{Holidays}
-use Rattle.cif_feed.proofs.UpdatesRead.{answer-of, fault-of}
+use Rattle.cif_feed.proofs.UpdatesRead.{answer-of, fault-of, flushed}
 
 -- ---- holidays
 
@@ -73,25 +68,6 @@ module _ {R : Type 0} (remaining : R → Option (List ℕ)) (errors : R → Opti
   holidays-given None after given h read are = subst (λ g. AreHolidaysOf g h) (sym are) read.1
   holidays-given (Some s) after given h (t, is, call) (bytes, same, known) =
       subst (λ g. AreHolidaysOf g h) (sym same) (answer-of reading_as_feed remaining errors s t bytes known h call)
-
-  -- or a line of them is bad
-  pub holidays-refused : (source after : Option (Source R)) (given : Option (List ℕ)) (f : FeedFault) →
-      AreHolidaysRead remaining errors source after (Err f) → AreHolidaysGiven remaining source given →
-      IsDeviceOrMemory f ⊎ IsBadHoliday given f
-  holidays-refused None after given f read are = absurd read.2
-  holidays-refused (Some s) after given f (t, is, call) (bytes, same, known) =
-      let why : IsHolidayFeedFault bytes (unread_of remaining t) f = fault-of reading_as_feed remaining errors s t bytes known f call in
-      subst (λ g. IsDeviceOrMemory f ⊎ IsBadHoliday g f) (sym same)
-      (subst (λ e. IsDeviceOrMemory e ⊎ IsBadHoliday (Some bytes) e) (sym why.1) (bad bytes (unread_of remaining t) why.0 why.2))
-
-  pub unread-answer : {W A T : Type 0} (contents : W → Option (List ℕ)) (write_errors : W → Option ℕ) (reported : A → T)
-      (P : List ℕ → Option T → Type 0) (old : Sink W) (source after : Option (Source R)) (f : FeedFault) →
-      AreHolidaysRead remaining errors source after (Err f) → FeedAnswers contents write_errors reported P old old (Err f)
-  unread-answer contents write_errors reported P old None after f read = absurd read.2
-  unread-answer contents write_errors reported P old (Some s) after f (t, is, call) =
-      let why = call.answers in
-      subst (λ e. FeedAnswers contents write_errors reported P old old (Err e)) (sym why.1)
-      (silent contents write_errors reported P old why.0)
 
 -- ---- the whole run
 
@@ -161,32 +137,32 @@ module _ {R W : Type 0} (remaining : R → Option (List ℕ)) (errors : R → Op
 
     -- what was prepared is handed on
     module _ (old mid new : Sink W) (a : Dropped) (w : Written old mid (Ok a)) where
-      pub prepared-answer : HasWritten contents write_errors w.0 old new → FeedAnswers contents write_errors (λ d. d) Answer old new (Ok a)
-      prepared-answer written = record {
+      pub prepared-answer : HasWritten contents write_errors [] mid new → FeedAnswers contents write_errors (λ d. d) Answer old new (Ok a)
+      prepared-answer handed = record {
         text = w.0;
-        writes = written;
+        writes = flushed {A = Dropped} {E = FeedFault} contents write_errors w.0 old mid new (Ok a) w.1 handed;
         answer = λ given bytes are known. prepared w.0 bytes given a are
             (subst (λ o. IfSome o (λ b. IsPreparedText h drops MAX_LINES b w.0 a)) known w.2);
       }
 
       -- or isn't
-      pub unhanded-answer : (result : Result Dropped FeedFault) (f : FeedFault) → result ≡ Err f → f ≡ Extract fault.Write →
-          HasFailed contents write_errors w.0 old new → FeedAnswers contents write_errors (λ d. d) Answer old new result
-      unhanded-answer result f is write failed =
-          subst (FeedAnswers contents write_errors (λ d. d) Answer old new) (sym (is ∙ ap Err write)) record {
+      pub unhanded-answer : (result : Result Dropped FeedFault) → result ≡ Err (Extract fault.Write) →
+          HasFailed contents write_errors [] mid new → FeedAnswers contents write_errors (λ d. d) Answer old new result
+      unhanded-answer result is failed =
+          subst (FeedAnswers contents write_errors (λ d. d) Answer old new) (sym is) record {
             text = w.0;
-            writes = failed;
+            writes = flushed {A = Dropped} {E = FeedFault} contents write_errors w.0 old mid new (Err (Extract fault.Write)) w.1 failed;
             answer = some-reported w.0 (known_so (remaining (reader_of source)) _ _ (λ bytes p. (a, p)) w.2);
           }
 
 module _ {R : Type 0} (remaining : R → Option (List ℕ)) (errors : R → Option ℕ) (source source_new : Source R) (h : Holidays)
     (kept : Option PublishedExtract) where
   -- a failure to hand on is one to write
-  pub unhanded-read : (a : Dropped) (result : Result Dropped FeedFault) (f : FeedFault) → result ≡ Err f →
-      f ≡ Extract fault.Write → IsResultOf remaining errors (preparing h MAX_LINES kept) source source_new (Ok a) →
+  pub unhanded-read : (a : Dropped) (result : Result Dropped FeedFault) → result ≡ Err (Extract fault.Write) →
+      IsResultOf remaining errors (preparing h MAX_LINES kept) source source_new (Ok a) →
       IsResultOf remaining errors (preparing h MAX_LINES kept) source source_new result
-  unhanded-read a result f is write call =
-      subst (IsResultOf remaining errors (preparing h MAX_LINES kept) source source_new) (sym (is ∙ ap Err write))
+  unhanded-read a result is call =
+      subst (IsResultOf remaining errors (preparing h MAX_LINES kept) source source_new) (sym is)
       (goes-on (preparing h MAX_LINES kept) (preparing h MAX_LINES kept) remaining errors source source_new a call
       (Err (Extract fault.Write))
       (record { fault = λ bytes after p. tt; answers = tt; other = refl }))

@@ -10,8 +10,7 @@ use Rattle.cif_feed.proofs.Names.{prepared_last, published_associations, publish
 use Rattle.cif_feed.proofs.Names.{⊎_elim, ◌+◌, ◌<◌, ◌↔◌, ◌∙◌, ◌∷◌, ◌≡◌, ◌≤◌, ◌⊎◌}
 use Rattle.cif_columns.specs.Stp.{letter}
 use Rattle.cif_calendar.specs.Keys.{of_key}
-use Rattle.cif_feed.proofs.ListSteps.{Contains-from_map, Contains-map}
-use Rattle.cif_feed.proofs.PreparedLists.{prepared-same}
+use Rattle.cif_feed.proofs.{ListSteps.Contains-from_map, ListSteps.Contains-map, PreparedLists.prepared-same}
 
 -- ---- two sets of records
 

@@ -19,14 +19,9 @@ use Rattle.cif_records.proofs.Records.{kind_there}
 use Rattle.cif_records.specs.Checks.{are}
 use Rattle.cif_records.specs.declared.record.Record.TheVariants as of
 use Rattle.cif_extract.proofs.PlainRecords.{basic_of}
-use Rattle.cif_feed.proofs.FeedLines.{kind_there as feed_kind}
-use Rattle.cif_feed.proofs.FeedSteps.{named_line}
-use Rattle.cif_feed.proofs.ListSteps.{triples-of}
+use Rattle.cif_feed.proofs.{FeedLines.kind_there as feed_kind, FeedSteps.named_line, ListSteps.triples-of}
 use Rattle.cif_feed.proofs.SaidLines.{IsScheduleLine, IsTest, SpellsAssociation, associations_spelled, schedules_spelled}
-use Rattle.cif_feed.specs.FeedLine.{column}
-use Rattle.cif_feed.specs.HolidayCode.{letter}
-use Rattle.cif_feed.specs.Marks.{unless_deleted}
-use Rattle.cif_feed.specs.Transaction.{transaction_in}
+use Rattle.cif_feed.specs.{FeedLine.column, HolidayCode.letter, Marks.unless_deleted, Transaction.transaction_in}
 use Rattle.cif_feed.specs.declared.mark.Transaction.TheVariants.{New}
 
 -- ---- contents whose records are known

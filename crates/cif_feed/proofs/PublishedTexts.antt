@@ -4,10 +4,10 @@ use Rattle.cif_feed.proofs.Names.{BytesSpellPublished, E, Each, Extra, FeedParts
 use Rattle.cif_feed.proofs.Names.{IsBody, IsPublishedAssociation, IsPublishedSchedule, IsTrue, Kind, List, None, Option}
 use Rattle.cif_feed.proofs.Names.{PublishedAssociation, PublishedParts, PublishedSchedule, Record, RecordFits, SayPublished, Schedule}
 use Rattle.cif_feed.proofs.Names.{ScheduleFits, Some, SpellPublished, Tiploc, X, [], all_codes, ap, append-nil, association_mark}
-use Rattle.cif_feed.proofs.Names.{call_record, contents_of, each_append, each_map, enumerate_from, extra_records, filter}
-use Rattle.cif_feed.proofs.Names.{filter-append, flat_map, further-fit, further-lines, further_lines, has_code, is_association, is_basic}
-use Rattle.cif_feed.proofs.Names.{kind_in, kind_of, laid_out, length, line_of_tiploc, lines_of, map, of_profile, one_if, parts_in}
-use Rattle.cif_feed.proofs.Names.{plain_line, published_association_line, published_basic_line, published_lines, published_schedule_lines}
+use Rattle.cif_feed.proofs.Names.{call_record, contents_of, each_append, each_map, enumerate_from, extra_records, filter, filter-append}
+use Rattle.cif_feed.proofs.Names.{flat_map, further-fit, further-lines, further_lines, has_code, is_association, is_basic, kind_in, kind_of}
+use Rattle.cif_feed.proofs.Names.{laid_out, length, line_of_tiploc, lines_of, map, of_profile, one_if, parts_in, plain_line}
+use Rattle.cif_feed.proofs.Names.{published_association_line, published_basic_line, published_lines, published_schedule_lines}
 use Rattle.cif_feed.proofs.Names.{published_text, record_table, refl, rows_on, same_extract_parts, schedule_mark, subst, sym, ℕ, ◌++◌, ◌+◌}
 use Rattle.cif_feed.proofs.Names.{◌∙◌, ◌∷◌, ◌≡◌, ◌≤◌}
 use Rattle.cif_columns.proofs.PlainLines.{contents-lines_text}
@@ -19,15 +19,11 @@ use Rattle.cif_records.proofs.Trailers as trailers
 use Rattle.cif_records.specs.declared.record.Record.TheVariants as of
 use Rattle.cif_extract.proofs.PlainRecords.{are-extract, basic_of, plain_records, records_of, records_of_body}
 use Rattle.cif_extract.proofs.PlainTexts.{lines_of as record_lines}
-use Rattle.cif_extract.specs.declared.call.Call.{Call}
-use Rattle.cif_extract.specs.declared.call.Call.TheVariants.{At, Turn}
-use Rattle.cif_feed.proofs.FeedLines.{kind_there as feed_kind}
-use Rattle.cif_feed.proofs.FeedSteps.{read_back}
-use Rattle.cif_feed.proofs.FittingUpdates.{AssociationFits}
+use Rattle.cif_extract.specs.declared.{call.Call.Call, call.Call.TheVariants.At, call.Call.TheVariants.Turn}
+use Rattle.cif_feed.proofs.{FeedLines.kind_there as feed_kind, FeedSteps.read_back, FittingUpdates.AssociationFits, SaidLines.feed_fits}
 use Rattle.cif_feed.proofs.ListSteps.{enumerate_append, pairs-append, triples-by}
 use Rattle.cif_feed.proofs.PublishedLines.{AreReadAs, IsReadAs, association_written, basic_written, own_spells, parts_read, read_are}
 use Rattle.cif_feed.proofs.PublishedLines.{spell_read}
-use Rattle.cif_feed.proofs.SaidLines.{feed_fits}
 use Rattle.cif_feed.specs.WrittenExtracts.{CodesMayStand}
 
 abbrev association_of : PublishedAssociation → Association

@@ -1,30 +1,27 @@
 -- The records of a kind, and its lines, one by one, with the records that they spell, the changes that they say, and their marks.
 use Rattle.cif_feed.proofs.Names.{All, All-filter, All-head, All-tail, AllFit, AllStandIn, AreExtract, ArePairs, AreSchedule, AreSchedules}
-use Rattle.cif_feed.proofs.Names.{AreTriples, Association, AssociationKey, Basic, BodyLines, Bool, RecordChange, Detail, Each, Err, Extra}
-use Rattle.cif_feed.proofs.Names.{ExtractParts, Feed, FeedExtract, FeedFault, FeedParts, FitsColumns, Full, HasMarks, HaveBody, Header}
-use Rattle.cif_feed.proofs.Names.{HolidayCodes, IfOk, Inside, IsAssociationChange, IsClosed, IsFeedContent, IsLine, IsScheduleChange, Kind}
-use Rattle.cif_feed.proofs.Names.{IsTrue}
-use Rattle.cif_feed.proofs.Names.{List, MarkParts, None, Ok, Option, PublishedAssociation, PublishedSchedule, Record, Result, SayFeed}
-use Rattle.cif_feed.proofs.Names.{SayTiplocs, SaysAssociation, SaysSchedule, Schedule, ScheduleKey, Some, SpellAllBy, SpellExtractBy}
-use Rattle.cif_feed.proofs.Names.{SpellFeed, SpellUpdate, SpellsAssociationBy, SpellsBasicBy, SpellsInFeed, Ta, Td, Ti, Tiploc, TiplocMark}
-use Rattle.cif_feed.proofs.Names.{Transaction, UpdateParts, [], all_codes, and-false, ap, append-nil, association_mark, basic_back, code_of}
-use Rattle.cif_feed.proofs.Names.{cond, deleted_basic_rows, detail_in-stands, detail_of, detail_rows, detail_table, enumerate_from}
-use Rattle.cif_feed.proofs.Names.{extra_records, false, feed_layouts, feed_parts, filter, filter_agree, filter_passes, fits-append}
-use Rattle.cif_feed.proofs.Names.{fits-front, flat_map, flat_map-append, further_inside, is_association, is_basic, is_note, is_of_tiploc}
-use Rattle.cif_feed.proofs.Names.{is_open, is_record_line, kind_in, kind_of, kind_read_as, last_of_association, last_of_schedule}
-use Rattle.cif_feed.proofs.Names.{length-map, letter_of, lines_of, map, not, one_if, option_map, plain_line, published_association_rows}
-use Rattle.cif_feed.proofs.Names.{published_basic_rows, put_association_rows, put_basic_rows, record_lines, records_before_trailer, refl}
-use Rattle.cif_feed.proofs.Names.{row, schedule_mark, spare, spelled-fits-by, stands-plain_line, subst, sym, terms_of, tiploc_changes}
-use Rattle.cif_feed.proofs.Names.{tiploc_changes_of, tiploc_mark, transaction_at, true, ℕ, ⊎_elim, ◌&&◌, ◌++◌, ◌∙◌, ◌∷◌, ◌≡◌}
+use Rattle.cif_feed.proofs.Names.{AreTriples, Association, AssociationKey, Basic, BodyLines, Bool, Detail, Each, Err, Extra, ExtractParts}
+use Rattle.cif_feed.proofs.Names.{Feed, FeedExtract, FeedFault, FeedParts, FitsColumns, Full, HasMarks, HaveBody, Header, HolidayCodes}
+use Rattle.cif_feed.proofs.Names.{IfOk, Inside, IsAssociationChange, IsClosed, IsFeedContent, IsLine, IsScheduleChange, IsTrue, Kind, List}
+use Rattle.cif_feed.proofs.Names.{MarkParts, None, Ok, Option, PublishedAssociation, PublishedSchedule, Record, RecordChange, Result}
+use Rattle.cif_feed.proofs.Names.{SayFeed, SayTiplocs, SaysAssociation, SaysSchedule, Schedule, ScheduleKey, Some, SpellAllBy}
+use Rattle.cif_feed.proofs.Names.{SpellExtractBy, SpellFeed, SpellUpdate, SpellsAssociationBy, SpellsBasicBy, SpellsInFeed, Ta, Td, Ti}
+use Rattle.cif_feed.proofs.Names.{Tiploc, TiplocMark, Transaction, UpdateParts, [], all_codes, and-false, ap, append-nil, association_mark}
+use Rattle.cif_feed.proofs.Names.{basic_back, code_of, cond, deleted_basic_rows, detail_in-stands, detail_of, detail_rows, detail_table}
+use Rattle.cif_feed.proofs.Names.{enumerate_from, extra_records, false, feed_layouts, feed_parts, filter, filter_agree, filter_passes}
+use Rattle.cif_feed.proofs.Names.{fits-append, fits-front, flat_map, flat_map-append, further_inside, is_association, is_basic, is_note}
+use Rattle.cif_feed.proofs.Names.{is_of_tiploc, is_open, is_record_line, kind_in, kind_of, kind_read_as, last_of_association}
+use Rattle.cif_feed.proofs.Names.{last_of_schedule, length-map, letter_of, lines_of, map, not, one_if, option_map, plain_line}
+use Rattle.cif_feed.proofs.Names.{published_association_rows, published_basic_rows, put_association_rows, put_basic_rows, record_lines}
+use Rattle.cif_feed.proofs.Names.{records_before_trailer, refl, row, schedule_mark, spare, spelled-fits-by, stands-plain_line, subst, sym}
+use Rattle.cif_feed.proofs.Names.{terms_of, tiploc_changes, tiploc_changes_of, tiploc_mark, transaction_at, true, ℕ, ⊎_elim, ◌&&◌, ◌++◌}
+use Rattle.cif_feed.proofs.Names.{◌∙◌, ◌∷◌, ◌≡◌}
 use Rattle.cif_records.specs.declared.record.Record.TheVariants as of
 use Rattle.cif_extract.specs.Grammar.{HasTerms}
-use Rattle.cif_feed.proofs.ChangeLaws.{filter-filter}
+use Rattle.cif_feed.proofs.{ChangeLaws.filter-filter, FeedSteps.named_line}
 use Rattle.cif_feed.proofs.FeedLines.{association_closed, basic_closed, feed_are, kind_there}
-use Rattle.cif_feed.proofs.FeedSteps.{named_line}
 use Rattle.cif_feed.proofs.ListSteps.{enumerate_filter, pairs-append, pairs-length, pairs-mapped, triples-said}
-use Rattle.cif_feed.specs.FeedLine.{column}
-use Rattle.cif_feed.specs.Marks.{record_mark, unless_deleted}
-use Rattle.cif_feed.specs.Transaction.{transaction_in}
+use Rattle.cif_feed.specs.{FeedLine.column, Marks.record_mark, Marks.unless_deleted, Transaction.transaction_in}
 use Rattle.cif_feed.specs.declared.feed_line.Feed.TheVariants.{Update}
 use Rattle.cif_feed.specs.declared.mark.Transaction.TheVariants.{Deleted, New, Revised}
 

@@ -1,11 +1,11 @@
 -- Bytes that spell a published extract, or an update, aren't refused, and spell no other: it is what its lines say.
 use Rattle.cif_feed.proofs.Names.{All, All-filter, All-weaker, AreTriples, Association, AssociationKey, BadTransaction, Bool}
-use Rattle.cif_feed.proofs.Names.{BytesSpellFeed, BytesSpellPublished, BytesSpellUpdate, RecordChange, Err, Extract, ExtractParts, Feed}
-use Rattle.cif_feed.proofs.Names.{FeedExtract, FeedFault, FeedParts, Full, HandsOn, Header, HolidayCode, HolidayCodes, IfErr, IfOk}
-use Rattle.cif_feed.proofs.Names.{IsAssociationChange, IsFailure, IsFeedContent, IsFeedFault, IsFeedTruncated, IsFirstOfFeed, IsLine}
-use Rattle.cif_feed.proofs.Names.{IsNoTrailer, IsPublishedAssociation, IsPublishedOf, IsPublishedSchedule, IsRefusedContent}
-use Rattle.cif_feed.proofs.Names.{IsScheduleChange, IsTrue, IsUpdateOf, List, Makes, MarkParts, None, NotUpdate, Ok, Option, OutOfOrder}
-use Rattle.cif_feed.proofs.Names.{PublishedAssociation, PublishedExtract, PublishedParts, PublishedSchedule, Result, SayFeed, SayPublished}
+use Rattle.cif_feed.proofs.Names.{BytesSpellFeed, BytesSpellPublished, BytesSpellUpdate, Err, Extract, ExtractParts, Feed, FeedExtract}
+use Rattle.cif_feed.proofs.Names.{FeedFault, FeedParts, Full, Header, HolidayCode, HolidayCodes, IfErr, IfOk, IsAssociationChange}
+use Rattle.cif_feed.proofs.Names.{IsFailure, IsFeedContent, IsFeedFault, IsFeedTruncated, IsFirstOfFeed, IsLine, IsNoTrailer}
+use Rattle.cif_feed.proofs.Names.{IsPublishedAssociation, IsPublishedOf, IsPublishedSchedule, IsRefusedContent, IsScheduleChange, IsTrue}
+use Rattle.cif_feed.proofs.Names.{IsUpdateOf, List, Makes, MarkParts, None, NotUpdate, Ok, Option, OutOfOrder, PublishedAssociation}
+use Rattle.cif_feed.proofs.Names.{PublishedExtract, PublishedParts, PublishedSchedule, RecordChange, Result, SayFeed, SayPublished}
 use Rattle.cif_feed.proofs.Names.{SayUpdate, Schedule, ScheduleKey, Some, SpellExtractBy, SpellFeed, SpellPublished, SpellUpdate}
 use Rattle.cif_feed.proofs.Names.{SpellsInFeed, Tiploc, Unread, UpdateParts, Zz, [], all_codes, ap, arith, change_by, cond, contents_of}
 use Rattle.cif_feed.proofs.Names.{false, feed_layouts, feed_parts, filter-append, get_or, get_or-append_seam, is_comment, is_note}
@@ -16,11 +16,8 @@ use Rattle.cif_feed.proofs.Names.{◌∷◌, ◌≡◌, ◌≢◌, ◌≤◌}
 use mathlib.Core.HLevel.{Σ_prop_path}
 use Rattle.cif_extract.proofs.SpelledLines.{spelled_behind, spelled_trailer}
 use Rattle.cif_extract.specs.declared.fault.Fault.TheVariants as fault
-use Rattle.cif_feed.proofs.FeedLines.{feed_are}
-use Rattle.cif_feed.proofs.FeedRuns.{comment_fine, line_why}
-use Rattle.cif_feed.proofs.FeedSteps.{read_back}
-use Rattle.cif_feed.specs.FeedFault.{IsReadAs}
-use Rattle.cif_feed.specs.FeedRefusal.{line_refusal}
+use Rattle.cif_feed.proofs.{FeedLines.feed_are, FeedRuns.comment_fine, FeedRuns.line_why, FeedSteps.read_back}
+use Rattle.cif_feed.specs.{FeedFault.IsReadAs, FeedRefusal.line_refusal}
 use Rattle.cif_feed.specs.declared.feed_line.Feed.TheVariants as feed
 use Rattle.cif_feed.specs.declared.update.Update.{Update}
 
@@ -168,9 +165,6 @@ one_published allowed cs p q s t =
 -- ---- what is read
 
 module _ (allowed : HolidayCodes) (max : ℕ) where
-  pub reads-published : (f : FeedFault) → HandsOn (reading_feed Full allowed max) (reading_published allowed max) f
-  reads-published f = record { fault = λ bytes after h. h; answers = λ h. h; same = refl }
-
   pub makes-published : (lines : FeedExtract) (x : PublishedExtract) → SayPublished (feed_parts lines) (published_parts x)
       → x.counts ≡ lines.marks.counts → x.passed ≡ lines.marks.passed
       → Makes (reading_feed Full allowed max) (reading_published allowed max) lines x
@@ -218,13 +212,6 @@ one_update cs u v s t =
     one_update_said s.lines u v s.says (subst (λ l. SayUpdate l v) (sym same) t.says)
 
 module _ (max : ℕ) (allowed : HolidayCodes) (each : allowed ≡ all_codes) where
-  pub reads-update : (f : FeedFault) → HandsOn (reading_feed feed.Update allowed max) (reading_update max) f
-  reads-update f = record {
-    fault = λ bytes after. subst (λ a. IsFeedFault feed.Update a max bytes after f) each;
-    answers = λ h. h;
-    same = refl;
-  }
-
   pub makes-update : (lines : FeedExtract) (u : Update) → SayUpdate (feed_parts lines) (update_parts u) → u.counts ≡ lines.marks.counts
       → u.passed ≡ lines.marks.passed
       → Makes (reading_feed feed.Update allowed max) (reading_update max) lines u

@@ -1,21 +1,19 @@
 -- An update that was read is done, or a line of it is refused; and updates are done one after another.
 use Rattle.cif_feed.proofs.Names.{AlreadyThere, AreAfter, AreRefused, AreRefusedLines, Bool, BytesSpellPublished, BytesSpellUpdate, Err}
-use Rattle.cif_feed.proofs.Names.{FeedFault, FitsColumns, HandsOn, Header, IfOk, IsDone, IsFailure, IsLineRefused, IsUpdateFault}
-use Rattle.cif_feed.proofs.Names.{IsUpdateOf, IsUpdated, IsUpdatedBy, List, Makes, MatchResult, MayBeDone, NotThere, Ok}
-use Rattle.cif_feed.proofs.Names.{PublishedAssociation, PublishedParts, PublishedSchedule, RecordChange, RefusedLine, Refuses, Result, Some}
-use Rattle.cif_feed.proofs.Names.{Tiploc, Unread, UpdateParts, [], all_codes, ap, append-nil, append_assoc, append_cancel_left, changes_of}
-use Rattle.cif_feed.proofs.Names.{cond, contents_of, false, inr, last_line, length, of_profile, published_lines, published_text}
-use Rattle.cif_feed.proofs.Names.{reading_update, refl, refused_header, reported_once, same_values, slice_get, subst, sym, true≢false}
-use Rattle.cif_feed.proofs.Names.{update_parts, updating, with_keys, ℕ, ⊎_elim, ◌++◌, ◌==◌, ◌↔◌, ◌∙◌, ◌∷◌, ◌≡◌, ◌≤◌}
+use Rattle.cif_feed.proofs.Names.{FeedFault, FitsColumns, Header, IfOk, IsDone, IsFailure, IsLineRefused, IsUpdateFault, IsUpdateOf}
+use Rattle.cif_feed.proofs.Names.{IsUpdated, IsUpdatedBy, List, Makes, MatchResult, MayBeDone, NotThere, Ok, PublishedAssociation}
+use Rattle.cif_feed.proofs.Names.{PublishedParts, PublishedSchedule, RecordChange, RefusedLine, Refuses, Result, Some, Tiploc, Unread}
+use Rattle.cif_feed.proofs.Names.{UpdateParts, [], all_codes, ap, append-nil, append_assoc, append_cancel_left, changes_of, cond}
+use Rattle.cif_feed.proofs.Names.{contents_of, false, inr, last_line, length, of_profile, published_lines, published_text, reading_update}
+use Rattle.cif_feed.proofs.Names.{refl, refused_header, reported_once, same_values, slice_get, subst, sym, true≢false, update_parts}
+use Rattle.cif_feed.proofs.Names.{updating, with_keys, ℕ, ⊎_elim, ◌++◌, ◌==◌, ◌↔◌, ◌∙◌, ◌∷◌, ◌≡◌, ◌≤◌}
 use Rattle.cif_feed.proofs.ChangeLaws.{after_all-alike, refusals-alike, same_alike}
 use Rattle.cif_feed.proofs.FittingUpdates.{updated_fits}
 use Rattle.cif_feed.proofs.PublishedTexts.{may_any, published-lines, published-spells, said_fits}
 use Rattle.cif_feed.proofs.SpelledFeeds.{one_published, one_update, spelled_first, update_blames_none}
 use Rattle.cif_feed.specs.UpdatesInTurn.{AreUpdatesDone, IsOneRefused, IsRefused, IsRefusedFor, IsWritten}
-use Rattle.cif_feed.specs.declared.feed_fault.FeedFault.TheVariants.{OutOfSequence}
+use Rattle.cif_feed.specs.declared.{feed_fault.FeedFault.TheVariants.OutOfSequence, update.Outcome.Outcome, update.Update.Update}
 use Rattle.cif_feed.specs.declared.feed_line.Feed.TheVariants as feed
-use Rattle.cif_feed.specs.declared.update.Outcome.{Outcome}
-use Rattle.cif_feed.specs.declared.update.Update.{Update}
 
 -- ---- lines that are reported once
 
@@ -64,12 +62,6 @@ one_list u old p q a b =
     (one_refused _ old.schedules u.schedules a.schedules b.schedules a.of_schedules b.of_schedules) ∙ sym b.are
 
 module _ (lenient : Bool) (max : ℕ) (old new : PublishedParts) where
-  pub reads-updating : (f : FeedFault) → HandsOn (reading_update max) (updating lenient old new max) f
-  reads-updating (OutOfSequence line) = record { fault = λ bytes after h. absurd h; answers = λ h. tt; same = refl }
-  reads-updating (NotThere line) = record { fault = λ bytes after h. absurd h; answers = λ h. tt; same = refl }
-  reads-updating (AlreadyThere line) = record { fault = λ bytes after h. absurd h; answers = λ h. tt; same = refl }
-  reads-updating _ = record { fault = λ bytes after h. h; answers = λ h. h; same = refl }
-
   line_refused : (u : Update) (waived : List RefusedLine) → AreRefusedLines (update_parts u) old waived → (line : RefusedLine)
       → (lenient ≡ false) × (slice_get waived 0 ≡ Some line) → (bytes : List ℕ) → IsUpdateOf max bytes u
       → IsLineRefused lenient old max bytes line

@@ -2,25 +2,20 @@
 use Rattle.cif_feed.proofs.Names.{AlreadyThere, BadTransaction, Bool, BytesSpellPublished, Err, FeedFault, HasFailed, HasWritten, IfErr}
 use Rattle.cif_feed.proofs.Names.{IfOk, IfSome, IsDeviceOrMemory, IsPublishedOf, IsResultOf, List, MatchResult, NotThere, NotUpdate, Ok}
 use Rattle.cif_feed.proofs.Names.{Option, PublishedExtract, PublishedParts, Result, Sink, Some, Source, Unread, Writes, [], all_codes, ap}
-use Rattle.cif_feed.proofs.Names.{append-nil, append_assoc, failed_second, goes-on, inl, inr, list_any, not, published_parts}
-use Rattle.cif_feed.proofs.Names.{published_text, reader_of, reading_published, refl, subst, sym, unread_of, updating, written_both, ℕ}
-use Rattle.cif_feed.proofs.Names.{⊎_elim, ◌&&◌, ◌++◌, ◌||◌, ◌∙◌, ◌∷◌, ◌≡◌, ◌⊎◌}
+use Rattle.cif_feed.proofs.Names.{append-nil, append_assoc, goes-on, inl, inr, list_any, not, published_parts, published_text, reader_of}
+use Rattle.cif_feed.proofs.Names.{reading_published, refl, subst, sym, unread_of, updating, writes_on, ℕ, ⊎_elim, ◌&&◌, ◌++◌, ◌||◌, ◌∙◌}
+use Rattle.cif_feed.proofs.Names.{◌∷◌, ◌≡◌, ◌⊎◌}
 use Rattle.cif_feed.specs.Counts.{have_marks}
 use Rattle.cif_feed.specs.FeedAnswer.{AreDoneInTurn, AreGiven, AreUpdatesRead, EndsAs, FeedAnswers, FeedFinishes, IsReported}
 use Rattle.cif_feed.specs.FeedAnswer.{IsUpdateAnswer, IsUpdateFault, OfUpdates, UpdateReported, counts_in, waived_by}
-use Rattle.cif_columns.specs.declared.line_reader.TheConstants.{MAX_LINES}
+use Rattle.cif_columns.specs.declared.{line_reader.TheConstants.MAX_LINES, sink.WriteFault.WriteFault}
 use Rattle.cif_extract.specs.ReadCall.{ReadCall}
-use Rattle.cif_extract.specs.declared.fault.Fault.TheVariants.{Write}
-use Rattle.cif_feed.specs.declared.feed_fault.FeedFault.TheVariants.{OutOfSequence}
-use Rattle.cif_columns.specs.declared.sink.WriteFault.{WriteFault}
-use Rattle.cif_extract.specs.declared.fault.Fault.TheVariants.{Memory, Read, Refused}
+use Rattle.cif_extract.specs.declared.fault.Fault.TheVariants.{Memory, Read, Refused, Write}
+use Rattle.cif_feed.specs.declared.feed_fault.FeedFault.TheVariants.{BadHoliday, Extract, OutOfSequence}
 use Rattle.cif_feed.specs.Updated.{IsOfUpdate, IsOutcomeOf, IsUpdateFault as IsOneUpdateFault}
 use Rattle.cif_feed.specs.UpdatesInTurn.{AreUpdatesDone, IsOneRefused, IsRefusedFor}
 use Rattle.cif_feed.specs.declared.changes.Unfit.TheVariants as unfit
-use Rattle.cif_feed.specs.declared.feed_fault.FeedFault.TheVariants.{BadHoliday, Extract}
-use Rattle.cif_feed.specs.declared.holidays.HolidayCodes.{HolidayCodes}
-use Rattle.cif_feed.specs.declared.update.Outcome.{Outcome}
-use Rattle.cif_feed.specs.declared.feed_answers.DoneUpdate.{DoneUpdate}
+use Rattle.cif_feed.specs.declared.{holidays.HolidayCodes.HolidayCodes, update.Outcome.Outcome, updates_in_turn.DoneUpdate.DoneUpdate}
 
 -- a call's answer, and its fault, where the bytes of its reader are known
 module _ {A F R : Type 0} (may : ReadCall A F) (remaining : R → Option (List ℕ)) (errors : R → Option ℕ) (old new : Source R)
@@ -153,6 +148,13 @@ silent contents errors reported P old (Extract Write) of = absurd of
 silent contents errors reported P old (Extract _) of = record { text = []; writes = refl; answer = tt }
 silent contents errors reported P old _ of = record { text = []; writes = refl; answer = tt }
 
+-- a text is written, and then handed on, or that fails
+pub flushed : {W A E : Type 0} (contents : W → Option (List ℕ)) (errors : W → Option ℕ) (text : List ℕ) (old mid new : Sink W)
+    (result : Result A E) → HasWritten contents errors text old mid → Writes contents errors [] mid new result →
+    Writes contents errors text old new result
+flushed contents errors text old mid new result w h =
+    subst (λ t. Writes contents errors t old new result) (append-nil text) (writes_on contents errors text [] old mid new result w h)
+
 -- a text is written, and then handed on, or neither
 pub finished : {W A : Type 0} (contents : W → Option (List ℕ)) (errors : W → Option ℕ) (text : List ℕ) (old mid new : Sink W)
     (written : Result A WriteFault) (result : Result (Unit {0}) FeedFault) → Writes contents errors text old mid written →
@@ -160,9 +162,9 @@ pub finished : {W A : Type 0} (contents : W → Option (List ℕ)) (errors : W �
     MatchResult result (λ done. HasWritten contents errors text old new)
     (λ f. (f ≡ Extract Write) × HasFailed contents errors text old new)
 finished contents errors text old mid new (Ok done) (Ok handed) w h =
-    subst (λ t. HasWritten contents errors t old new) (append-nil text) (written_both contents errors text [] old mid new w h.0)
+    flushed {A = Unit {0}} {E = FeedFault} contents errors text old mid new (Ok handed) w h.0
 finished contents errors text old mid new (Ok done) (Err f) w h =
-    (h.1, subst (λ t. HasFailed contents errors t old new) (append-nil text) (failed_second contents errors text [] old mid new w h.0))
+    (h.1, flushed {A = Unit {0}} {E = FeedFault} contents errors text old mid new (Err f) w h.0)
 finished contents errors text old mid new (Err f) result w h =
     subst (λ r. MatchResult r (λ done. HasWritten contents errors text old new)
     (λ f. (f ≡ Extract Write) × HasFailed contents errors text old new)) (sym h.0)
@@ -262,11 +264,6 @@ module _ {R W A : Type 0} (remaining : R → Option (List ℕ)) (errors : R → 
           writes = w.1;
           answer = λ bytes given known are. (reported-here, written bytes given known are);
         }
-
-    pub ended-fault : (old after : Sink W) (result : Result A FeedFault) → Ends old after result →
-        OfUpdates remaining (λ bytes given. IfErr result (IsUpdateFault lenient bytes given)) full updates
-    ended-fault old after (Ok a) w bytes given known are = tt
-    ended-fault old after (Err f) w bytes given known are = subst (IsUpdateFault lenient bytes given) (sym w.0) (inl tt)
 
     pub ended-reads : ((a : A) → listed a ≡ these) → (old after : Sink W) (result : Result A FeedFault) → Ends old after result →
         AreUpdatesRead remaining errors listed lenient full full_new updates updates_new result

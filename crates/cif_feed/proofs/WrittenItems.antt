@@ -6,7 +6,7 @@ use Rattle.cif_feed.proofs.Names.{length, line_of_association, line_of_tiploc, l
 use Rattle.cif_feed.proofs.Names.{prepared_association_text, prepared_parts, prepared_schedule_text, published_association_line}
 use Rattle.cif_feed.proofs.Names.{published_association_text, published_schedule_lines, published_schedule_text, published_text}
 use Rattle.cif_feed.proofs.Names.{records_text, refl, schedule_on, subst, sym, take, take-append-drop, take_all, take_more, tiploc_text}
-use Rattle.cif_feed.proofs.Names.{trailer_text, written_both, ℕ, ◌++◌, ◌+◌, ◌<◌, ◌∙◌, ◌∷◌, ◌≡◌, ◌≤◌}
+use Rattle.cif_feed.proofs.Names.{trailer_text, ℕ, ◌++◌, ◌+◌, ◌<◌, ◌∙◌, ◌∷◌, ◌≡◌, ◌≤◌}
 use Rattle.cif_records.specs.Trailer.{trailer_table}
 
 -- ---- one text more
@@ -21,12 +21,6 @@ module _ {A W : Type 0} (contents : W → Option (List ℕ)) (errors : W → Opt
     next_text =
         ap (flat_map text) (take_more items n item below ∙ ap (λ (y : A). take n items ++ y ∷ []) (sym is))
         ∙ flat_map-append text (take n items) (item ∷ []) ∙ ap (λ (l : List ℕ). so_far n ++ l) (append-nil (text item))
-
-    pub one-written : (u : Sink W) → HasWritten contents errors (text item) t u
-        → HasWritten contents errors (flat_map text (take (n + 1) items)) s u
-    one-written u h =
-        subst (λ (l : List ℕ). HasWritten contents errors l s u) (sym next_text)
-        (written_both contents errors (so_far n) (text item) s t u written h)
 
     whole : so_far (n + 1) ++ flat_map text (drop (n + 1) items) ≡ flat_map text items
     whole = sym (flat_map-append text (take (n + 1) items) (drop (n + 1) items)) ∙ ap (flat_map text) (take-append-drop (n + 1) items)

@@ -6,10 +6,7 @@ use Rattle.cif_feed.proofs.Names.{PublishedExtract, PublishedParts, Refuses, Res
 use Rattle.cif_feed.proofs.Names.{codes_named, contents_of, extract_text, has_code, known_so, of_any, preparing, published_parts}
 use Rattle.cif_feed.proofs.Names.{reading_published, refl, subst, text-spells, ℕ, ◌↔◌, ◌∙◌, ◌≡◌}
 use Rattle.cif_extract.specs.declared.fault.Fault.TheVariants as fault
-use Rattle.cif_feed.proofs.ChangeLaws.{bools}
-use Rattle.cif_feed.proofs.PreparedFits.{prepared_fits}
-use Rattle.cif_feed.proofs.PublishedTexts.{said_fits}
-use Rattle.cif_feed.proofs.SpelledFeeds.{blames_none}
+use Rattle.cif_feed.proofs.{ChangeLaws.bools, PreparedFits.prepared_fits, PublishedTexts.said_fits, SpelledFeeds.blames_none}
 
 -- these are the codes that the holidays name
 codes_are : (h : Holidays) (allowed : HolidayCodes) → ((code : HolidayCode) → IsTrue (has_code allowed code) ↔ Names h code)

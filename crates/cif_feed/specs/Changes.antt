@@ -1,14 +1,11 @@
 -- What the lines of an update do, one after another, to records of one kind. `same` is a test that tells whether two keys are the same.
-use Rattle.std.specs.Prelude.{◌≡◌, ◌≢◌, ◌↔◌, ℕ, IsTrue, map, Bool, not, List, [], ◌∷◌, ◌++◌, All, filter, Option, Some, None}
-use Rattle.std.specs.Prelude.{option_to_list, if◌then◌else◌}
+use Rattle.std.specs.Prelude.{All, Bool, IsTrue, List, None, Option, Some, [], filter, if◌then◌else◌, map, not, option_to_list, ℕ, ◌++◌}
+use Rattle.std.specs.Prelude.{◌↔◌, ◌∷◌, ◌≡◌, ◌≢◌}
 use Rattle.std.specs.List.{list_any}
-use Rattle.cif_feed.specs.declared.changes.Action.{Action}
+use Rattle.cif_feed.specs.declared.{changes.Action.Action, changes.RecordChange.RecordChange, changes.RefusedLine.RefusedLine}
+use Rattle.cif_feed.specs.declared.{changes.Unfit.TheVariants.AlreadyThere, changes.Unfit.TheVariants.NotThere, changes.Unfit.Unfit}
+use Rattle.cif_feed.specs.declared.{mark.Transaction.Transaction}
 use Rattle.cif_feed.specs.declared.changes.Action.TheVariants.{New, Revised, Deleted}
-use Rattle.cif_feed.specs.declared.changes.RecordChange.{RecordChange}
-use Rattle.cif_feed.specs.declared.changes.RefusedLine.{RefusedLine}
-use Rattle.cif_feed.specs.declared.changes.Unfit.{Unfit}
-use Rattle.cif_feed.specs.declared.changes.Unfit.TheVariants.{NotThere, AlreadyThere}
-use Rattle.cif_feed.specs.declared.mark.Transaction.{Transaction}
 use Rattle.cif_feed.specs.declared.mark.Transaction.TheVariants as transaction
 
 -- the test tells whether two keys are the same

@@ -3,10 +3,8 @@ use Rattle.std.specs.Prelude.{ℕ, Bool, true, false, not, ◌&&◌, ◌||◌, �
 use Rattle.cif_records.specs.Kind.{kind_in}
 use Rattle.cif_records.specs.declared.record.Kind.{Kind}
 use Rattle.cif_records.specs.declared.record.Kind.TheVariants.{Ti, Ta, Td, Aa, Bs}
-use Rattle.cif_feed.specs.FeedLine.{column, is_open}
-use Rattle.cif_feed.specs.Transaction.{transaction_in}
-use Rattle.cif_feed.specs.declared.mark.UpdateCounts.{UpdateCounts}
-use Rattle.cif_feed.specs.declared.mark.Transaction.{Transaction}
+use Rattle.cif_feed.specs.{FeedLine.column, FeedLine.is_open, Transaction.transaction_in}
+use Rattle.cif_feed.specs.declared.{mark.Transaction.Transaction, mark.UpdateCounts.UpdateCounts}
 use Rattle.cif_feed.specs.declared.mark.Transaction.TheVariants.{New, Revised, Deleted}
 
 -- the transaction of a line of an update, by its kind; of AA and BS it is in column 3

@@ -1,7 +1,6 @@
 -- How many records have a cut, or apply on a day of a clash.
 use Rattle.std.specs.Prelude.{◌≡◌, ◌⊎◌, ◌+◌, ℕ, List, [], ◌∷◌}
-use Rattle.cif_feed.specs.Parts.{IsCut, ended}
-use Rattle.cif_feed.specs.Prepared.{prepared_last}
+use Rattle.cif_feed.specs.{Parts.IsCut, Parts.ended, Prepared.prepared_last}
 use Rattle.cif_feed.specs.Published.{AppliesAsPublished, IsHolidayOf, PublishedTerms}
 use Rattle.cif_feed.specs.declared.holidays.Holidays.{Holidays}
 

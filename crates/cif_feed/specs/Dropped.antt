@@ -1,10 +1,8 @@
 -- What is reported of the keys that clash.
 use Rattle.std.specs.Prelude.{AllPairs, Contains, List, codes, decimal, if◌then◌else◌, length, map, slice_index_or, ℕ, ◌++◌, ◌+◌, ◌-◌, ◌<◌}
 use Rattle.std.specs.Prelude.{◌==◌, ◌↔◌, ◌≡◌, ◌≤◌}
-use Rattle.std.specs.Ordering.{nat_cmp}
-use Rattle.std.specs.Cmp.Lexicographic.{slice_cmp}
-use Rattle.std.specs.declared.cmp.Ordering.{Ordering}
-use Rattle.std.specs.declared.cmp.Ordering.TheVariants.{Less}
+use Rattle.std.specs.{Cmp.Lexicographic.slice_cmp, Ordering.nat_cmp}
+use Rattle.std.specs.declared.{cmp.Ordering.Ordering, cmp.Ordering.TheVariants.Less}
 use Rattle.cif_calendar.specs.Clash.{IsClear}
 use Rattle.cif_extract.specs.Clash.{clash_text}
 use Rattle.cif_extract.specs.declared.fault.Clash.{Clash}
@@ -14,9 +12,7 @@ use Rattle.cif_records.specs.declared.association.AssocKey.{AssocKey}
 use Rattle.cif_feed.specs.CutCount.{AppliesOnAny, IsCountOf}
 use Rattle.cif_feed.specs.Published.{CountOn, IsClashDay, PublishedTerms}
 use Rattle.cif_feed.specs.PublishedParts.{PublishedParts, published_associations, published_schedules}
-use Rattle.cif_feed.specs.declared.dropped.Dropped.{Dropped}
-use Rattle.cif_feed.specs.declared.dropped.DroppedKey.{DroppedKey}
-use Rattle.cif_feed.specs.declared.holidays.Holidays.{Holidays}
+use Rattle.cif_feed.specs.declared.{dropped.Dropped.Dropped, dropped.DroppedKey.DroppedKey, holidays.Holidays.Holidays}
 
 -- These are the clash days of key k, from `first` to the one before `to`, rising. On the other days the key is clear.
 pub record AreClashDays {K B : Type 0} (h : Holidays) (entries : List (K × PublishedTerms B)) (first to : ℕ) (k : K) (days : List ℕ)

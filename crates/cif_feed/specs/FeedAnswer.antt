@@ -1,37 +1,22 @@
 -- What `prepare` and `update` answer: a text on the output, and what is reported beside it.
 use Rattle.std.specs.Prelude.{Bool, Err, IfErr, IfOk, List, None, Ok, Option, Result, Some, [], false, not, ℕ, ⊤, ◌&&◌, ◌++◌, ◌∷◌, ◌≡◌, ◌⊎◌}
 use Rattle.std.specs.List.{flat_map, list_any}
-use Rattle.cif_columns.specs.Contents.{contents_of}
-use Rattle.cif_columns.specs.Sink.{Writes, writer_of}
-use Rattle.cif_columns.specs.Source.{Unread, reader_of}
-use Rattle.cif_columns.specs.declared.line_reader.TheConstants.{MAX_LINES}
-use Rattle.cif_columns.specs.declared.sink.Sink.{Sink}
-use Rattle.cif_columns.specs.declared.source.Source.{Source}
+use Rattle.cif_columns.specs.{Contents.contents_of, Sink.Writes, Sink.writer_of, Source.Unread, Source.reader_of}
+use Rattle.cif_columns.specs.declared.{line_reader.TheConstants.MAX_LINES, sink.Sink.Sink, source.Source.Source}
 use Rattle.cif_extract.specs.ReadCall.{IsResultOf, ReadCall, reading}
 use Rattle.cif_extract.specs.declared.fault.Fault.TheVariants.{Write}
-use Rattle.cif_feed.specs.Counts.{counts_of, have_marks}
-use Rattle.cif_feed.specs.FeedFault.{is_feed_read, of_holiday_fault}
-use Rattle.cif_feed.specs.FeedRefusal.{IsFirstOfFeed}
-use Rattle.cif_feed.specs.HolidayCode.{all_codes}
+use Rattle.cif_feed.specs.{Counts.counts_of, Counts.have_marks, FeedFault.is_feed_read, FeedFault.of_holiday_fault}
+use Rattle.cif_feed.specs.{FeedRefusal.IsFirstOfFeed, HolidayCode.all_codes, Holidays.Names, Updated.updating, UpdatesInTurn.IsRefused}
+use Rattle.cif_feed.specs.{UpdatesInTurn.IsWritten}
 use Rattle.cif_feed.specs.HolidayText.{IsFirstBadLine, IsHolidayFault, IsOfHolidays, SpellHolidays}
-use Rattle.cif_feed.specs.Holidays.{Names}
 use Rattle.cif_feed.specs.PublishedParts.{PublishedParts, published_parts, reading_published}
-use Rattle.cif_feed.specs.Updated.{updating}
-use Rattle.cif_feed.specs.UpdatesInTurn.{IsRefused, IsWritten}
 use Rattle.cif_feed.specs.WrittenPrepared.{FeedWrites, IsDeviceOrMemory, IsPreparedText, codes_named, preparing}
-use Rattle.cif_feed.specs.declared.changes.RefusedLine.{RefusedLine}
-use Rattle.cif_feed.specs.declared.dropped.Dropped.{Dropped}
-use Rattle.cif_feed.specs.declared.feed_line.Feed.TheVariants.{Full}
-use Rattle.cif_feed.specs.declared.feed_fault.FeedFault.{FeedFault}
-use Rattle.cif_feed.specs.declared.feed_fault.FeedFault.TheVariants.{BadHoliday, Extract}
-use Rattle.cif_feed.specs.declared.holidays.HolidayCode.{HolidayCode}
-use Rattle.cif_feed.specs.declared.holiday_text.HolidayFault.{HolidayFault}
-use Rattle.cif_feed.specs.declared.holidays.Holidays.{Holidays}
-use Rattle.cif_feed.specs.declared.published_extract.PublishedExtract.{PublishedExtract}
-use Rattle.cif_feed.specs.declared.feed_answers.DoneUpdate.{DoneUpdate}
-use Rattle.cif_feed.specs.declared.feed_answers.KeptUpdate.{KeptUpdate}
-use Rattle.cif_feed.specs.declared.feed_answers.ReadFeed.{ReadFeed}
-use Rattle.cif_feed.specs.declared.mark.UpdateCounts.{UpdateCounts}
+use Rattle.cif_feed.specs.declared.{changes.RefusedLine.RefusedLine, dropped.Dropped.Dropped, feed_fault.FeedFault.FeedFault}
+use Rattle.cif_feed.specs.declared.{feed_fault.FeedFault.TheVariants.BadHoliday, feed_fault.FeedFault.TheVariants.Extract}
+use Rattle.cif_feed.specs.declared.{feed_line.Feed.TheVariants.Full, holiday_text.HolidayFault.HolidayFault}
+use Rattle.cif_feed.specs.declared.{holidays.HolidayCode.HolidayCode, holidays.Holidays.Holidays, mark.UpdateCounts.UpdateCounts}
+use Rattle.cif_feed.specs.declared.{published_extract.PublishedExtract.PublishedExtract, updates_in_turn.DoneUpdate.DoneUpdate}
+use Rattle.cif_feed.specs.declared.{updates_in_turn.KeptUpdate.KeptUpdate, updates_in_turn.ReadFeed.ReadFeed}
 
 -- where a command answers, its sink's writer holds nothing back: the whole answer is handed on
 abbrev pub IsHandedOn : {W A E : Type 0} → (W → Type 0) → Sink W → Result A E → Type 0

@@ -1,20 +1,14 @@
 -- Why bytes are no published extract, or no update, or can't be read.
 use Rattle.std.specs.Prelude.{◌≡◌, ℕ, Bool, false, List, IsSomeAnd, Result, Ok, Err}
-use Rattle.cif_columns.specs.Contents.{contents_of}
-use Rattle.cif_columns.specs.GivenLines.{IsDecidedWithinOrLast}
-use Rattle.cif_columns.specs.Source.{Unread}
+use Rattle.cif_columns.specs.{Contents.contents_of, GivenLines.IsDecidedWithinOrLast, Source.Unread}
 use Rattle.cif_columns.specs.declared.ahead.Most.TheVariants.{InFeed}
-use Rattle.cif_extract.specs.ReadCall.{ReadCall, reading}
-use Rattle.cif_extract.specs.ReadFault.{IsLineNumber, is_read}
+use Rattle.cif_extract.specs.{ReadCall.ReadCall, ReadCall.reading, ReadFault.IsLineNumber, ReadFault.is_read}
 use Rattle.cif_extract.specs.declared.fault.Fault.TheVariants.{Refused, Read, Memory}
 use Rattle.cif_feed.specs.FeedRefusal.{IsFeedContent, IsFeedCut, IsFirstOfFeed}
 use Rattle.cif_feed.specs.SpellsFeed.{BytesSpellFeed, feed_parts}
-use Rattle.cif_feed.specs.declared.feed_line.Feed.{Feed}
-use Rattle.cif_feed.specs.declared.feed_fault.FeedFault.{FeedFault}
+use Rattle.cif_feed.specs.declared.{feed_fault.FeedFault.FeedFault, feed_line.Feed.Feed, feed_reading.FeedExtract.FeedExtract}
+use Rattle.cif_feed.specs.declared.{holiday_text.HolidayFault.HolidayFault, holidays.HolidayCodes.HolidayCodes}
 use Rattle.cif_feed.specs.declared.feed_fault.FeedFault.TheVariants.{BadHoliday, BadTransaction, Extract, NotUpdate}
-use Rattle.cif_feed.specs.declared.feed_reading.FeedExtract.{FeedExtract}
-use Rattle.cif_feed.specs.declared.holidays.HolidayCodes.{HolidayCodes}
-use Rattle.cif_feed.specs.declared.holiday_text.HolidayFault.{HolidayFault}
 use Rattle.cif_feed.specs.declared.holiday_text.HolidayFault.TheVariants as holiday
 
 -- Why these bytes are none, or can't be read, where `after` is left then: their first refusal, of a content that is decided, or a failure

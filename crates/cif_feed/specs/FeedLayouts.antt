@@ -1,10 +1,8 @@
 -- The layouts of a feed.
 use Rattle.cif_extract.specs.Layouts.{Layouts}
 use Rattle.cif_records.specs.Kind.{kind_in}
-use Rattle.cif_feed.specs.FeedLine.{SpellsInFeed, cancels_in_feed}
-use Rattle.cif_feed.specs.LayoutRefusals.{feed_refusal_as, kind_read_as}
-use Rattle.cif_feed.specs.declared.feed_line.Feed.{Feed}
-use Rattle.cif_feed.specs.declared.holidays.HolidayCodes.{HolidayCodes}
+use Rattle.cif_feed.specs.{FeedLine.SpellsInFeed, FeedLine.cancels_in_feed, LayoutRefusals.feed_refusal_as, LayoutRefusals.kind_read_as}
+use Rattle.cif_feed.specs.declared.{feed_line.Feed.Feed, holidays.HolidayCodes.HolidayCodes}
 
 -- how its lines spell records, where these holiday codes may stand
 abbrev pub feed_layouts : Feed → HolidayCodes → Layouts

@@ -1,44 +1,26 @@
 -- Which record a line of a feed spells. The lines are laid out as those of this profile, but for what feeds have otherwise: transactions,
 -- open ends, holiday codes, and TA and TD.
-use Rattle.std.specs.Prelude.{◌≡◌, ℕ, ◌||◌, Bool, true, false, List, [], ◌∷◌, ◌++◌, Option, Some, None, IsTrue, codes, replicate}
-use Rattle.std.specs.Prelude.{slice_index, unwrap_or, if◌then◌else◌}
+use Rattle.std.specs.Prelude.{Bool, IsTrue, List, None, Option, Some, [], codes, false, if◌then◌else◌, replicate, slice_index, true}
+use Rattle.std.specs.Prelude.{unwrap_or, ℕ, ◌++◌, ◌||◌, ◌∷◌, ◌≡◌}
 use Rattle.std.specs.Option.{option_map}
 use Rattle.cif_columns.specs.Field.{AllStandIn, FieldValue, Row, columns, columns_from, date, exactly, spare, weekdays}
-use Rattle.cif_columns.specs.Stp.{stp_in}
-use Rattle.cif_columns.specs.declared.stp.Stp.{Stp}
-use Rattle.cif_columns.specs.declared.stp.Stp.TheVariants.{C}
-use Rattle.cif_extract.specs.Body.{detail_of}
-use Rattle.cif_extract.specs.Layouts.{cancels}
+use Rattle.cif_columns.specs.{Stp.stp_in, declared.stp.Stp.Stp, declared.stp.Stp.TheVariants.C}
+use Rattle.cif_extract.specs.{Body.detail_of, Layouts.cancels}
 use Rattle.cif_extract.specs.declared.extract.Schedule.{Schedule}
-use Rattle.cif_records.specs.Association.{association_rows_by}
+use Rattle.cif_records.specs.{Association.association_rows_by, Checks.are, Detail.detail_rows, Header.header_rows_by, Kind.kind_in}
+use Rattle.cif_records.specs.{Record.SpellsRecord, Tiploc.SpellsTiploc}
 use Rattle.cif_records.specs.Basic.{basic_back, basic_front_by, terms_of}
-use Rattle.cif_records.specs.Checks.{are}
-use Rattle.cif_records.specs.Detail.{detail_rows}
-use Rattle.cif_records.specs.Header.{header_rows_by}
-use Rattle.cif_records.specs.Kind.{kind_in}
-use Rattle.cif_records.specs.Record.{SpellsRecord}
-use Rattle.cif_records.specs.Tiploc.{SpellsTiploc}
-use Rattle.cif_records.specs.declared.association.AssocKey.{AssocKey}
-use Rattle.cif_records.specs.declared.association.Association.{Association}
-use Rattle.cif_records.specs.declared.basic.Basic.{Basic}
-use Rattle.cif_records.specs.declared.basic.BasicTerms.{BasicTerms}
-use Rattle.cif_records.specs.declared.detail.Detail.{Detail}
-use Rattle.cif_records.specs.declared.record.Kind.{Kind}
-use Rattle.cif_records.specs.declared.record.Kind.TheVariants.{Ta, Td}
-use Rattle.cif_records.specs.declared.record.Record.{Record}
+use Rattle.cif_records.specs.declared.{association.AssocKey.AssocKey, association.Association.Association, basic.Basic.Basic}
+use Rattle.cif_records.specs.declared.{basic.BasicTerms.BasicTerms, detail.Detail.Detail, record.Kind.Kind, record.Kind.TheVariants.Ta}
+use Rattle.cif_records.specs.declared.{record.Kind.TheVariants.Td, record.Record.Record, tiploc.Tiploc.Tiploc}
 use Rattle.cif_records.specs.declared.record.Record.TheVariants as of
-use Rattle.cif_records.specs.declared.tiploc.Tiploc.{Tiploc}
 use Rattle.cif_feed.specs.HolidayCode.{code_in, has_code, letter}
-use Rattle.cif_feed.specs.LastDay.{last_day}
-use Rattle.cif_feed.specs.Transaction.{transaction_in, transaction_letter}
-use Rattle.cif_feed.specs.declared.feed_line.Feed.{Feed}
-use Rattle.cif_feed.specs.declared.feed_line.Feed.TheVariants.{Full, Update}
-use Rattle.cif_feed.specs.declared.holidays.HolidayCode.{HolidayCode}
-use Rattle.cif_feed.specs.declared.holidays.HolidayCodes.{HolidayCodes}
-use Rattle.cif_feed.specs.declared.mark.Transaction.{Transaction}
-use Rattle.cif_feed.specs.declared.mark.Transaction.TheVariants.{New, Deleted}
-use Rattle.cif_feed.specs.declared.published_extract.PublishedAssociation.{PublishedAssociation}
-use Rattle.cif_feed.specs.declared.published_extract.PublishedSchedule.{PublishedSchedule}
+use Rattle.cif_feed.specs.{LastDay.last_day, Transaction.transaction_in, Transaction.transaction_letter}
+use Rattle.cif_feed.specs.declared.{feed_line.Feed.Feed, feed_line.Feed.TheVariants.Full, feed_line.Feed.TheVariants.Update}
+use Rattle.cif_feed.specs.declared.{holidays.HolidayCode.HolidayCode, holidays.HolidayCodes.HolidayCodes}
+use Rattle.cif_feed.specs.declared.{mark.Transaction.TheVariants.Deleted, mark.Transaction.TheVariants.New, mark.Transaction.Transaction}
+use Rattle.cif_feed.specs.declared.{published_extract.PublishedAssociation.PublishedAssociation}
+use Rattle.cif_feed.specs.declared.{published_extract.PublishedSchedule.PublishedSchedule}
 
 -- ---- what columns say
 

@@ -1,29 +1,20 @@
 -- The first refused content of a published extract, or of an update, and its reason.
-use Rattle.std.specs.Prelude.{◌≡◌, ◌≢◌, ◌⊎◌, ℕ, ◌+◌, ◌<◌, ◌==◌, true, nat_lt, List, [], ◌∷◌, ◌++◌, length, All, take, slice_index_or}
-use Rattle.std.specs.Prelude.{Option, None, Some, if◌then◌else◌}
+use Rattle.std.specs.Prelude.{All, List, None, Option, Some, [], if◌then◌else◌, length, nat_lt, slice_index_or, take, true, ℕ, ◌++◌, ◌+◌}
+use Rattle.std.specs.Prelude.{◌<◌, ◌==◌, ◌∷◌, ◌≡◌, ◌≢◌, ◌⊎◌}
 use Rattle.std.specs.List.{list_all}
-use Rattle.cif_columns.specs.Comment.{is_comment}
-use Rattle.cif_columns.specs.FirstLine.{is_printable}
-use Rattle.cif_columns.specs.GivenLines.{AreContentsToCut}
-use Rattle.cif_columns.specs.Line.{IsLine}
-use Rattle.cif_columns.specs.declared.ahead.Most.TheVariants.{InFeed}
-use Rattle.cif_columns.specs.declared.refusal.Refusal.{Refusal}
+use Rattle.cif_columns.specs.{Comment.is_comment, FirstLine.is_printable, GivenLines.AreContentsToCut, Line.IsLine}
+use Rattle.cif_columns.specs.declared.{ahead.Most.TheVariants.InFeed, refusal.Refusal.Refusal}
 use Rattle.cif_columns.specs.declared.refusal.Refusal.TheVariants.{BadLength, BadByte, NotFull, OutOfOrder, Truncated, TooManyLines}
 use Rattle.cif_extract.specs.Taken.{refusal_behind}
-use Rattle.cif_extract.specs.declared.fault.Fault.TheVariants.{Memory, Refused}
-use Rattle.cif_extract.specs.declared.reading.TakeFault.{TakeFault}
+use Rattle.cif_extract.specs.declared.{fault.Fault.TheVariants.Memory, fault.Fault.TheVariants.Refused, reading.TakeFault.TakeFault}
 use Rattle.cif_extract.specs.declared.reading.TakeFault.TheVariants as untaken
-use Rattle.cif_records.specs.Checks.{first_of, unless}
-use Rattle.cif_records.specs.Kind.{kind_in}
-use Rattle.cif_records.specs.declared.record.Kind.{Kind}
-use Rattle.cif_records.specs.declared.record.Kind.TheVariants.{Hd, Zz}
+use Rattle.cif_records.specs.{Checks.first_of, Checks.unless, Kind.kind_in}
+use Rattle.cif_records.specs.declared.{record.Kind.Kind, record.Kind.TheVariants.Hd, record.Kind.TheVariants.Zz}
 use Rattle.cif_feed.specs.FeedLayouts.{feed_layouts}
 use Rattle.cif_feed.specs.RecordLines.{is_note, notes_may_stand, record_lines}
-use Rattle.cif_feed.specs.declared.feed_line.Feed.{Feed}
-use Rattle.cif_feed.specs.declared.feed_line.Feed.TheVariants.{Full, Update}
-use Rattle.cif_feed.specs.declared.feed_fault.FeedFault.{FeedFault}
+use Rattle.cif_feed.specs.declared.{feed_fault.FeedFault.FeedFault, feed_line.Feed.Feed, feed_line.Feed.TheVariants.Full}
+use Rattle.cif_feed.specs.declared.{feed_line.Feed.TheVariants.Update, holidays.HolidayCodes.HolidayCodes}
 use Rattle.cif_feed.specs.declared.feed_fault.FeedFault.TheVariants.{Extract, NotUpdate, BadTransaction}
-use Rattle.cif_feed.specs.declared.holidays.HolidayCodes.{HolidayCodes}
 
 -- a content that says something or is refused: a comment, or a line
 abbrev pub IsFeedContent : List ℕ → Type 0

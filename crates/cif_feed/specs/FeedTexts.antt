@@ -2,8 +2,8 @@
 use Rattle.std.specs.Prelude.{ℕ, List, ◌++◌, codes, decimal}
 use Rattle.cif_extract.specs.Fault.{fault_text as extract_text, name_of as extract_name, number_of as extract_number}
 use Rattle.cif_feed.specs.declared.feed_fault.FeedFault.{FeedFault}
-use Rattle.cif_feed.specs.declared.feed_fault.FeedFault.TheVariants.{AlreadyThere, BadHoliday, BadTransaction, Extract, NotThere}
-use Rattle.cif_feed.specs.declared.feed_fault.FeedFault.TheVariants.{NotUpdate, OutOfSequence}
+use Rattle.cif_feed.specs.declared.feed_fault.FeedFault.TheVariants.{AlreadyThere, BadHoliday, BadTransaction, Extract, NotThere, NotUpdate}
+use Rattle.cif_feed.specs.declared.feed_fault.FeedFault.TheVariants.{OutOfSequence}
 
 -- the number of a fault
 abbrev pub number_of : FeedFault → ℕ

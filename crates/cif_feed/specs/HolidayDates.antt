@@ -1,7 +1,6 @@
 -- What is found among the dates of a code.
 use Rattle.std.specs.Prelude.{ℕ, ◌<◌, ◌≤◌, Bool, List, Option, Some, None, Contains}
-use Rattle.cif_columns.specs.Day.{weekday_of}
-use Rattle.cif_columns.specs.DaysRun.{RunsOn}
+use Rattle.cif_columns.specs.{Day.weekday_of, DaysRun.RunsOn}
 
 -- d is one of the dates, and its weekday is in the mask
 pub record IsDateOnDaysRun (dates : List ℕ) (days : List Bool) (d : ℕ) : Type 0 where

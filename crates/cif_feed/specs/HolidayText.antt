@@ -1,24 +1,15 @@
 -- The text of holidays, line by line, and the first line that is refused.
-use Rattle.std.specs.Prelude.{◌≡◌, ◌⊎◌, ◌↔◌, ℕ, ◌+◌, ◌<◌, ◌≤◌, ◌==◌, Bool, List, [], ◌∷◌, ◌++◌, length, All, Contains}
-use Rattle.std.specs.Prelude.{Some, Result, Ok, Err, IsSomeAnd, slice_get, drop, true, false}
+use Rattle.std.specs.Prelude.{All, Bool, Contains, Err, IsSomeAnd, List, Ok, Result, Some, [], drop, false, length, slice_get, true, ℕ}
+use Rattle.std.specs.Prelude.{◌++◌, ◌+◌, ◌<◌, ◌==◌, ◌↔◌, ◌∷◌, ◌≡◌, ◌≤◌, ◌⊎◌}
 use Rattle.std.specs.List.{before_first}
-use Rattle.cif_columns.specs.Contents.{contents_of}
-use Rattle.cif_columns.specs.Day.{StandsInYymmdd}
-use Rattle.cif_columns.specs.GivenLines.{AreContentsToCut, IsDecidedWithinOrLast}
-use Rattle.cif_columns.specs.Source.{Unread}
-use Rattle.cif_columns.specs.declared.ahead.Most.TheVariants.{Of}
-use Rattle.cif_columns.specs.declared.line_reader.TheConstants.{MAX_LINES}
-use Rattle.cif_columns.specs.declared.refusal.LineFault.{LineFault}
+use Rattle.cif_columns.specs.{Contents.contents_of, Day.StandsInYymmdd, GivenLines.AreContentsToCut, GivenLines.IsDecidedWithinOrLast}
+use Rattle.cif_columns.specs.{Source.Unread}
+use Rattle.cif_columns.specs.declared.{ahead.Most.TheVariants.Of, line_reader.TheConstants.MAX_LINES, refusal.LineFault.LineFault}
 use Rattle.cif_columns.specs.declared.refusal.LineFault.TheVariants as line_fault
-use Rattle.cif_extract.specs.ReadCall.{ReadCall, reading}
-use Rattle.cif_extract.specs.ReadFault.{IsLineNumber}
-use Rattle.cif_feed.specs.HolidayCode.{letter}
-use Rattle.cif_feed.specs.Holidays.{Names, IsHoliday}
-use Rattle.cif_feed.specs.Words.{words_in}
-use Rattle.cif_feed.specs.declared.holidays.HolidayCode.{HolidayCode}
-use Rattle.cif_feed.specs.declared.holiday_text.HolidayFault.{HolidayFault}
+use Rattle.cif_extract.specs.{ReadCall.ReadCall, ReadCall.reading, ReadFault.IsLineNumber}
+use Rattle.cif_feed.specs.{HolidayCode.letter, Holidays.IsHoliday, Holidays.Names, Words.words_in}
+use Rattle.cif_feed.specs.declared.{holiday_text.HolidayFault.HolidayFault, holidays.HolidayCode.HolidayCode, holidays.Holidays.Holidays}
 use Rattle.cif_feed.specs.declared.holiday_text.HolidayFault.TheVariants.{BadHoliday, Read, Memory}
-use Rattle.cif_feed.specs.declared.holidays.Holidays.{Holidays}
 
 -- a `#`, which begins a remark
 abbrev pub is_remark : ℕ → Bool

@@ -1,10 +1,8 @@
 -- Holidays: for some of the holiday codes, a set of days.
 use Rattle.std.specs.Prelude.{◌≡◌, ◌⊎◌, ◌↔◌, ℕ, List, [], Bool, Option, Some, None, Contains, IsTrue}
 use Rattle.cif_feed.specs.HolidayDates.{IsDateOnDaysRun}
-use Rattle.cif_feed.specs.declared.holidays.HolidayCode.{HolidayCode}
+use Rattle.cif_feed.specs.declared.{holidays.HolidayCode.HolidayCode, holidays.HolidayDates.HolidayDates, holidays.Holidays.Holidays}
 use Rattle.cif_feed.specs.declared.holidays.HolidayCode.TheVariants.{X, E, G}
-use Rattle.cif_feed.specs.declared.holidays.HolidayDates.{HolidayDates}
-use Rattle.cif_feed.specs.declared.holidays.Holidays.{Holidays}
 
 -- what is kept of a code
 abbrev pub dates_of : Holidays → HolidayCode → HolidayDates

@@ -1,20 +1,14 @@
 -- What comes of an input whose lines are judged each by itself.
 use Rattle.std.specs.Prelude.{All, Contains, Err, IsSomeAnd, List, None, Ok, Result, Some, false, length, true, ℕ, ⊤, ◌+◌, ◌<◌, ◌≡◌, ◌≤◌}
 use Rattle.cif_columns.specs.JudgedContents.{IsGiven, MayGoOn, judged_contents}
-use Rattle.cif_columns.specs.Source.{Unread}
-use Rattle.cif_columns.specs.declared.refusal.Refusal.{Refusal}
-use Rattle.cif_columns.specs.declared.refusal.Refusal.TheVariants.{TooManyLines}
-use Rattle.cif_extract.specs.ExtractParts.{ExtractParts, extract_parts}
-use Rattle.cif_extract.specs.FirstRefusal.{IsFirstRefusal}
-use Rattle.cif_extract.specs.ReadCall.{ReadCall, reading}
-use Rattle.cif_extract.specs.ReadFault.{IsOfReading, is_read}
-use Rattle.cif_extract.specs.SpellsExtract.{BytesSpellWithin}
+use Rattle.cif_columns.specs.{Source.Unread, declared.refusal.Refusal.Refusal, declared.refusal.Refusal.TheVariants.TooManyLines}
+use Rattle.cif_extract.specs.{ExtractParts.ExtractParts, ExtractParts.extract_parts, FirstRefusal.IsFirstRefusal, ReadCall.ReadCall}
+use Rattle.cif_extract.specs.{ReadCall.reading, ReadFault.IsOfReading, ReadFault.is_read, SpellsExtract.BytesSpellWithin}
 use Rattle.cif_extract.specs.declared.fault.Fault.{Fault}
 use Rattle.cif_extract.specs.declared.fault.Fault.TheVariants.{Memory, Read, Refused}
 use Rattle.cif_feed.specs.Reasons.{ReportReasons, own_reason, reasons_in}
-use Rattle.cif_feed.specs.declared.judged.Judged.{Judged}
-use Rattle.cif_feed.specs.declared.judged.Judged.TheVariants.{Extract, Reasons}
-use Rattle.cif_feed.specs.declared.reasons.Reasons.{Reasons as Reported}
+use Rattle.cif_feed.specs.declared.{judged.Judged.Judged, judged.Judged.TheVariants.Extract, judged.Judged.TheVariants.Reasons}
+use Rattle.cif_feed.specs.declared.{reasons.Reasons.Reasons as Reported}
 
 -- none of these contents has a reason by itself
 abbrev pub NoneHasReason : List (List ℕ) → Type 0

@@ -2,19 +2,15 @@
 -- them, and what feeds have otherwise.
 use Rattle.std.specs.Prelude.{List, None, Option, Some, [], codes, if◌then◌else◌, is_some, ℕ, ◌||◌, ◌∷◌}
 use Rattle.cif_columns.specs.Field.{columns}
-use Rattle.cif_columns.specs.declared.refusal.Refusal.{Refusal}
-use Rattle.cif_columns.specs.declared.refusal.Refusal.TheVariants.{BankHoliday, NotFull}
+use Rattle.cif_columns.specs.declared.{refusal.Refusal.Refusal, refusal.Refusal.TheVariants.BankHoliday}
+use Rattle.cif_columns.specs.declared.{refusal.Refusal.TheVariants.NotFull}
 use Rattle.cif_records.specs.Checks.{are, date_refusal, dates_refusal, days_refusal, first_of, letter_refusal, unless}
-use Rattle.cif_records.specs.Header.{header_refusal_by}
-use Rattle.cif_records.specs.Record.{refusal_as}
+use Rattle.cif_records.specs.{Header.header_refusal_by, Record.refusal_as}
 use Rattle.cif_records.specs.declared.record.Kind.{Kind}
 use Rattle.cif_records.specs.declared.record.Kind.TheVariants.{Aa, Bs, Hd, Ta, Td, Ti}
 use Rattle.cif_feed.specs.FeedLine.{code_of, indicator_of, transaction_at}
-use Rattle.cif_feed.specs.declared.feed_line.Feed.{Feed}
-use Rattle.cif_feed.specs.declared.feed_line.Feed.TheVariants.{Update}
-use Rattle.cif_feed.specs.declared.holidays.HolidayCodes.{HolidayCodes}
-use Rattle.cif_feed.specs.declared.mark.Transaction.{Transaction}
-use Rattle.cif_feed.specs.declared.mark.Transaction.TheVariants.{Deleted}
+use Rattle.cif_feed.specs.declared.{feed_line.Feed.Feed, feed_line.Feed.TheVariants.Update, holidays.HolidayCodes.HolidayCodes}
+use Rattle.cif_feed.specs.declared.{mark.Transaction.TheVariants.Deleted, mark.Transaction.Transaction}
 
 -- the reasons to refuse a first and a last date, where the last may be 999999: no first date is after that
 abbrev pub open_dates_refusal : List ℕ → List ℕ → Option Refusal

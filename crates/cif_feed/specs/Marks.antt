@@ -1,24 +1,15 @@
 -- What the lines of a feed say beyond their records: their marks, and how many do what.
-use Rattle.std.specs.Prelude.{ℕ, ◌+◌, Bool, false, List, [], ◌∷◌, Option, None, Some, filter, length, map, unwrap_or}
-use Rattle.std.specs.Prelude.{if◌then◌else◌}
-use Rattle.cif_columns.specs.Comment.{is_comment}
-use Rattle.cif_columns.specs.Field.{columns}
+use Rattle.std.specs.Prelude.{Bool, List, None, Option, Some, [], false, filter, if◌then◌else◌, length, map, unwrap_or, ℕ, ◌+◌, ◌∷◌}
+use Rattle.cif_columns.specs.{Comment.is_comment, Field.columns}
 use Rattle.cif_records.specs.Kind.{kind_in}
-use Rattle.cif_records.specs.declared.record.Kind.{Kind}
-use Rattle.cif_records.specs.declared.record.Kind.TheVariants.{Ta, Td}
-use Rattle.cif_feed.specs.Counts.{counts_of}
+use Rattle.cif_records.specs.declared.{record.Kind.Kind, record.Kind.TheVariants.Ta, record.Kind.TheVariants.Td}
+use Rattle.cif_feed.specs.{Counts.counts_of, Transaction.transaction_in}
 use Rattle.cif_feed.specs.FeedLine.{code_of, column, is_open, letter_of}
 use Rattle.cif_feed.specs.RecordLines.{is_association, is_basic, is_header, is_note, is_of_tiploc, lines_of}
-use Rattle.cif_feed.specs.Transaction.{transaction_in}
-use Rattle.cif_feed.specs.declared.holidays.HolidayCode.{HolidayCode}
-use Rattle.cif_feed.specs.declared.holidays.HolidayCodes.{HolidayCodes}
-use Rattle.cif_feed.specs.declared.mark.Marks.{Marks}
-use Rattle.cif_feed.specs.declared.mark.Passed.{Passed}
-use Rattle.cif_feed.specs.declared.mark.RecordMark.{RecordMark}
-use Rattle.cif_feed.specs.declared.mark.TiplocMark.{TiplocMark}
-use Rattle.cif_feed.specs.declared.mark.Transaction.{Transaction}
+use Rattle.cif_feed.specs.declared.{holidays.HolidayCode.HolidayCode, holidays.HolidayCodes.HolidayCodes, mark.Marks.Marks}
+use Rattle.cif_feed.specs.declared.{mark.Passed.Passed, mark.RecordMark.RecordMark, mark.TiplocMark.TiplocMark}
+use Rattle.cif_feed.specs.declared.{mark.Transaction.Transaction, mark.UpdateCounts.UpdateCounts}
 use Rattle.cif_feed.specs.declared.mark.Transaction.TheVariants.{New, Revised, Deleted}
-use Rattle.cif_feed.specs.declared.mark.UpdateCounts.{UpdateCounts}
 
 -- ---- of one line, by its number and its columns
 

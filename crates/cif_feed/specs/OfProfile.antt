@@ -4,9 +4,8 @@ use Rattle.std.proofs.lemmas.Bool.{false≢true}
 use Rattle.cif_extract.specs.ExtractParts.{ExtractParts}
 use Rattle.cif_extract.specs.declared.extract.Schedule.{Schedule}
 use Rattle.cif_records.specs.declared.association.Association.{Association}
-use Rattle.cif_feed.specs.PublishedParts.{PublishedParts}
-use Rattle.cif_feed.specs.declared.published_extract.PublishedAssociation.{PublishedAssociation}
-use Rattle.cif_feed.specs.declared.published_extract.PublishedSchedule.{PublishedSchedule}
+use Rattle.cif_feed.specs.{PublishedParts.PublishedParts, declared.published_extract.PublishedAssociation.PublishedAssociation}
+use Rattle.cif_feed.specs.{declared.published_extract.PublishedSchedule.PublishedSchedule}
 
 -- an association, and a schedule, as published ones: the end isn't open, and there is no holiday code
 abbrev pub association_as_published : Association → PublishedAssociation

@@ -1,7 +1,6 @@
 -- The parts of a record: the ranges of its days between its cuts.
 use Rattle.std.specs.Prelude.{◌≡◌, ◌⊎◌, ℕ, ◌+◌, ◌<◌, ◌≤◌, List, All, AllPairs, Contains}
-use Rattle.cif_calendar.specs.Applies.{Applies}
-use Rattle.cif_calendar.specs.Terms.{Terms}
+use Rattle.cif_calendar.specs.{Applies.Applies, Terms.Terms}
 
 -- a range of days, from the first to the last
 pub record Part : Type 0 where

@@ -1,10 +1,7 @@
 -- What a prepared extract says of each day of its window.
 use Rattle.std.specs.Prelude.{◌≡◌, ◌≤◌, ℕ, ◌+◌, Bool, List, IsTrue}
-use Rattle.cif_calendar.specs.Applies.{Applies}
-use Rattle.cif_calendar.specs.Clash.{IsClear}
-use Rattle.cif_calendar.specs.Entries.{association_entries, schedule_entries}
-use Rattle.cif_calendar.specs.Keys.{of_key}
-use Rattle.cif_calendar.specs.Terms.{Terms}
+use Rattle.cif_calendar.specs.{Applies.Applies, Clash.IsClear, Entries.association_entries, Entries.schedule_entries, Keys.of_key}
+use Rattle.cif_calendar.specs.{Terms.Terms}
 use Rattle.cif_extract.specs.ExtractParts.{ExtractParts}
 use Rattle.cif_records.specs.declared.association.AssocKey.{AssocKey}
 use Rattle.cif_feed.specs.Prepared.{SayTheSame}

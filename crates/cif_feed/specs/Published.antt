@@ -1,11 +1,7 @@
 -- When a published record applies, and which records count on a day.
 use Rattle.std.specs.Prelude.{◌⊎◌, ℕ, Bool, true, false, List, Option, Some, None, Contains}
-use Rattle.cif_calendar.specs.Applies.{Applies}
-use Rattle.cif_calendar.specs.ClashDates.{IsClashBetween}
-use Rattle.cif_calendar.specs.Terms.{Terms}
-use Rattle.cif_feed.specs.Holidays.{IsHoliday}
-use Rattle.cif_feed.specs.declared.holidays.HolidayCode.{HolidayCode}
-use Rattle.cif_feed.specs.declared.holidays.Holidays.{Holidays}
+use Rattle.cif_calendar.specs.{Applies.Applies, ClashDates.IsClashBetween, Terms.Terms}
+use Rattle.cif_feed.specs.{Holidays.IsHoliday, declared.holidays.HolidayCode.HolidayCode, declared.holidays.Holidays.Holidays}
 
 -- What the rules read of a published record: its terms as a record of this profile, in which an open end is the last day that there is;
 -- whether its end is open; and its holiday code.

@@ -1,34 +1,21 @@
 -- What a published extract holds, when bytes spell it, and its text.
 use Rattle.std.specs.Prelude.{◌≡◌, ℕ, ◌≤◌, List, [], ◌∷◌, ◌++◌, None, map, length}
 use Rattle.std.specs.List.{flat_map}
-use Rattle.cif_columns.specs.Contents.{contents_of, lines_text}
-use Rattle.cif_columns.specs.Field.{plain_line}
-use Rattle.cif_extract.specs.ReadCall.{ReadCall, reading}
+use Rattle.cif_columns.specs.{Contents.contents_of, Contents.lines_text, Field.plain_line}
+use Rattle.cif_extract.specs.{Body.BodyLines, ReadCall.ReadCall, ReadCall.reading}
 use Rattle.cif_extract.specs.Texts.{further_lines, line_of_association, line_of_tiploc, rows_on}
 use Rattle.cif_calendar.specs.Entries.{association_terms, schedule_terms}
-use Rattle.cif_extract.specs.Body.{BodyLines}
 use Rattle.cif_extract.specs.declared.extract.Schedule.{Schedule}
-use Rattle.cif_records.specs.Header.{header_table}
-use Rattle.cif_records.specs.Trailer.{trailer_table}
-use Rattle.cif_records.specs.declared.association.AssocBody.{AssocBody}
-use Rattle.cif_records.specs.declared.association.AssocKey.{AssocKey}
-use Rattle.cif_records.specs.declared.association.Association.{Association}
-use Rattle.cif_records.specs.declared.header.Header.{Header}
-use Rattle.cif_records.specs.declared.tiploc.Tiploc.{Tiploc}
-use Rattle.cif_feed.specs.Counts.{counts_of}
+use Rattle.cif_records.specs.{Header.header_table, Trailer.trailer_table}
+use Rattle.cif_records.specs.declared.{association.AssocBody.AssocBody, association.AssocKey.AssocKey, association.Association.Association}
+use Rattle.cif_records.specs.declared.{header.Header.Header, tiploc.Tiploc.Tiploc}
+use Rattle.cif_feed.specs.{Counts.counts_of, FromLines.AreTriples, Marks.passed_of, Published.PublishedTerms, SpellsFeed.FeedParts}
+use Rattle.cif_feed.specs.{SpellsFeed.SpellFeed, WrittenOver.with_code, WrittenOver.with_open_end}
 use Rattle.cif_feed.specs.FeedFault.{IsFeedFault, IsOfFeed, is_feed_read}
-use Rattle.cif_feed.specs.FromLines.{AreTriples}
-use Rattle.cif_feed.specs.Marks.{passed_of}
-use Rattle.cif_feed.specs.Published.{PublishedTerms}
-use Rattle.cif_feed.specs.SpellsFeed.{FeedParts, SpellFeed}
-use Rattle.cif_feed.specs.WrittenOver.{with_code, with_open_end}
-use Rattle.cif_feed.specs.declared.feed_line.Feed.TheVariants.{Full}
-use Rattle.cif_feed.specs.declared.feed_fault.FeedFault.{FeedFault}
-use Rattle.cif_feed.specs.declared.holidays.HolidayCodes.{HolidayCodes}
-use Rattle.cif_feed.specs.declared.mark.RecordMark.{RecordMark}
-use Rattle.cif_feed.specs.declared.published_extract.PublishedAssociation.{PublishedAssociation}
-use Rattle.cif_feed.specs.declared.published_extract.PublishedSchedule.{PublishedSchedule}
-use Rattle.cif_feed.specs.declared.published_extract.PublishedExtract.{PublishedExtract}
+use Rattle.cif_feed.specs.declared.{feed_fault.FeedFault.FeedFault, feed_line.Feed.TheVariants.Full, holidays.HolidayCodes.HolidayCodes}
+use Rattle.cif_feed.specs.declared.{mark.RecordMark.RecordMark, published_extract.PublishedAssociation.PublishedAssociation}
+use Rattle.cif_feed.specs.declared.{published_extract.PublishedExtract.PublishedExtract}
+use Rattle.cif_feed.specs.declared.{published_extract.PublishedSchedule.PublishedSchedule}
 
 -- the header, and the other records in their order and with repeats
 pub record PublishedParts : Type 0 where

@@ -2,14 +2,11 @@
 use Rattle.std.specs.Prelude.{Bool, List, None, Option, Some, [], codes, decimal, false, filter, if◌then◌else◌, length, map, slice_index, ℕ}
 use Rattle.std.specs.Prelude.{◌++◌, ◌+◌, ◌-◌, ◌<◌, ◌==◌, ◌∷◌, ◌≡◌}
 use Rattle.std.specs.List.{flat_map, list_all, position_or_len}
-use Rattle.cif_columns.specs.FirstLine.{is_printable}
-use Rattle.cif_columns.specs.JudgedContents.{judged_contents}
-use Rattle.cif_columns.specs.Refusal.{name_of, number_of}
+use Rattle.cif_columns.specs.{FirstLine.is_printable, JudgedContents.judged_contents, Refusal.name_of, Refusal.number_of}
 use Rattle.cif_columns.specs.declared.refusal.Refusal.{Refusal}
 use Rattle.cif_columns.specs.declared.refusal.Refusal.TheVariants.{BadByte, BadDate, BadDays, BadLength, BadStp, BadTime, BankHoliday}
 use Rattle.cif_columns.specs.declared.refusal.Refusal.TheVariants.{DatesReversed, NotFull, OpenEnd, UnknownRecord}
-use Rattle.cif_records.specs.Checks.{first_of, unless}
-use Rattle.cif_records.specs.Record.{record_refusal}
+use Rattle.cif_records.specs.{Checks.first_of, Checks.unless, Record.record_refusal}
 use Rattle.cif_feed.specs.declared.reasons.Reasons.{Reasons}
 
 -- The first reason to refuse a content whatever stands before it: it isn't eighty bytes, one of them may stand in no line, or it is

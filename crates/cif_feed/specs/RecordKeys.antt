@@ -4,9 +4,7 @@ use Rattle.cif_calendar.specs.Ranks.{number_after}
 use Rattle.cif_columns.specs.Field.{columns}
 use Rattle.cif_columns.specs.declared.stp.Stp.{Stp}
 use Rattle.cif_extract.specs.declared.extract.Schedule.{Schedule}
-use Rattle.cif_records.specs.declared.association.AssocKey.{AssocKey}
-use Rattle.cif_records.specs.declared.association.Association.{Association}
-use Rattle.cif_records.specs.declared.tiploc.Tiploc.{Tiploc}
+use Rattle.cif_records.specs.declared.{association.AssocKey.AssocKey, association.Association.Association, tiploc.Tiploc.Tiploc}
 
 -- a location by its TIPLOC, columns 3 to 9 of its line
 abbrev pub tiploc_key : Tiploc → List ℕ

@@ -5,28 +5,18 @@ use Rattle.cif_columns.specs.declared.stp.Stp.{Stp}
 use Rattle.cif_extract.specs.ReadCall.{ReadCall, reading}
 use Rattle.cif_extract.specs.declared.extract.Schedule.{Schedule}
 use Rattle.cif_records.specs.Checks.{are}
-use Rattle.cif_records.specs.declared.association.AssocKey.{AssocKey}
-use Rattle.cif_records.specs.declared.association.Association.{Association}
-use Rattle.cif_records.specs.declared.header.Header.{Header}
-use Rattle.cif_records.specs.declared.tiploc.Tiploc.{Tiploc}
-use Rattle.cif_feed.specs.Counts.{counts_of}
+use Rattle.cif_records.specs.declared.{association.AssocKey.AssocKey, association.Association.Association, header.Header.Header}
+use Rattle.cif_records.specs.declared.{tiploc.Tiploc.Tiploc}
+use Rattle.cif_feed.specs.{Counts.counts_of, FromLines.AreTriples, HolidayCode.all_codes, Marks.passed_of}
+use Rattle.cif_feed.specs.{PublishedParts.IsPublishedAssociation, PublishedParts.IsPublishedSchedule, RecordKeys.tiploc_key}
+use Rattle.cif_feed.specs.{SpellsFeed.FeedParts, SpellsFeed.SpellFeed}
 use Rattle.cif_feed.specs.FeedFault.{IsFeedFault, IsOfFeed, is_feed_read}
-use Rattle.cif_feed.specs.FromLines.{AreTriples}
-use Rattle.cif_feed.specs.HolidayCode.{all_codes}
-use Rattle.cif_feed.specs.Marks.{passed_of}
-use Rattle.cif_feed.specs.PublishedParts.{IsPublishedAssociation, IsPublishedSchedule}
-use Rattle.cif_feed.specs.RecordKeys.{tiploc_key}
-use Rattle.cif_feed.specs.SpellsFeed.{FeedParts, SpellFeed}
 use Rattle.cif_feed.specs.declared.changes.Action.TheVariants.{New, Revised, Deleted}
-use Rattle.cif_feed.specs.declared.changes.RecordChange.{RecordChange}
-use Rattle.cif_feed.specs.declared.feed_line.Feed.TheVariants.{Update}
-use Rattle.cif_feed.specs.declared.feed_fault.FeedFault.{FeedFault}
-use Rattle.cif_feed.specs.declared.mark.RecordMark.{RecordMark}
-use Rattle.cif_feed.specs.declared.mark.TiplocMark.{TiplocMark}
-use Rattle.cif_feed.specs.declared.mark.Transaction.{Transaction}
+use Rattle.cif_feed.specs.declared.{changes.RecordChange.RecordChange, feed_fault.FeedFault.FeedFault, feed_line.Feed.TheVariants.Update}
+use Rattle.cif_feed.specs.declared.{mark.RecordMark.RecordMark, mark.TiplocMark.TiplocMark, mark.Transaction.Transaction}
+use Rattle.cif_feed.specs.declared.{published_extract.PublishedAssociation.PublishedAssociation}
+use Rattle.cif_feed.specs.declared.{published_extract.PublishedSchedule.PublishedSchedule}
 use Rattle.cif_feed.specs.declared.mark.Transaction.TheVariants as transaction
-use Rattle.cif_feed.specs.declared.published_extract.PublishedAssociation.{PublishedAssociation}
-use Rattle.cif_feed.specs.declared.published_extract.PublishedSchedule.{PublishedSchedule}
 use Rattle.cif_feed.specs.declared.update.Update as declared
 
 -- the keys of associations and of schedules in an update: with their first day and their letter

@@ -1,26 +1,17 @@
 -- What an update does to a published extract.
 use Rattle.std.specs.Prelude.{Bool, List, Some, [], false, if◌then◌else◌, slice_get, true, ℕ, ◌++◌, ◌==◌, ◌∷◌, ◌≡◌, ◌⊎◌}
-use Rattle.cif_columns.specs.Contents.{contents_of}
-use Rattle.cif_columns.specs.Source.{Unread}
+use Rattle.cif_columns.specs.{Contents.contents_of, Source.Unread}
 use Rattle.cif_extract.specs.ReadCall.{ReadCall, reading}
-use Rattle.cif_feed.specs.Changes.{AreAfter, AreRefused}
-use Rattle.cif_feed.specs.Counts.{counts_of}
+use Rattle.cif_feed.specs.{Changes.AreAfter, Changes.AreRefused, Counts.counts_of, HolidayCode.all_codes, Marks.passed_of}
+use Rattle.cif_feed.specs.{PublishedParts.PublishedParts, Sequence.follows}
 use Rattle.cif_feed.specs.FeedFault.{IsFeedFault, IsOfFeed, is_feed_read}
-use Rattle.cif_feed.specs.HolidayCode.{all_codes}
-use Rattle.cif_feed.specs.Marks.{passed_of}
-use Rattle.cif_feed.specs.PublishedParts.{PublishedParts}
 use Rattle.cif_feed.specs.RecordKeys.{association_key, schedule_key, tiploc_key}
-use Rattle.cif_feed.specs.Sequence.{follows}
 use Rattle.cif_feed.specs.UpdateParts.{AssociationKey, BytesSpellUpdate, ScheduleKey, UpdateParts}
-use Rattle.cif_feed.specs.declared.changes.RefusedLine.{RefusedLine}
-use Rattle.cif_feed.specs.declared.changes.Unfit.{Unfit}
+use Rattle.cif_feed.specs.declared.{changes.RefusedLine.RefusedLine, changes.Unfit.Unfit, feed_fault.FeedFault.FeedFault}
+use Rattle.cif_feed.specs.declared.{feed_line.Feed.TheVariants.Update, published_extract.PublishedAssociation.PublishedAssociation}
+use Rattle.cif_feed.specs.declared.{published_extract.PublishedSchedule.PublishedSchedule, update.Outcome.Outcome}
 use Rattle.cif_feed.specs.declared.changes.Unfit.TheVariants as unfit
-use Rattle.cif_feed.specs.declared.feed_line.Feed.TheVariants.{Update}
-use Rattle.cif_feed.specs.declared.feed_fault.FeedFault.{FeedFault}
 use Rattle.cif_feed.specs.declared.feed_fault.FeedFault.TheVariants.{AlreadyThere, NotThere, OutOfSequence}
-use Rattle.cif_feed.specs.declared.published_extract.PublishedAssociation.{PublishedAssociation}
-use Rattle.cif_feed.specs.declared.published_extract.PublishedSchedule.{PublishedSchedule}
-use Rattle.cif_feed.specs.declared.update.Outcome.{Outcome}
 
 -- the keys of the records of a published extract
 abbrev pub published_association_key : PublishedAssociation → AssociationKey

@@ -1,16 +1,12 @@
 //! How many records holidays cut, and how many apply on a date on which their key clashes.
 ghost use Rattle.std.specs.Prelude.{◌≡◌, ◌↔◌, ◌<◌, ◌≤◌, ◌+◌, ◌^◌, ℕ, Contains, IsTrue, List, length};
-ghost use Rattle.std.specs.BTreeMap.{get};
-ghost use Rattle.std.specs.List.Sorted.{IsNonDecreasing};
-ghost use Rattle.std.specs.Ordering.{nat_cmp};
+ghost use Rattle.std.specs.{BTreeMap.get, List.Sorted.IsNonDecreasing, Ordering.nat_cmp};
 ghost use Rattle.cif_feed.specs.CutCount.{AppliesOnAny, HasCut, IsCountOf};
-ghost use Rattle.cif_feed.specs.PublishedParts.{published_association_terms, published_schedule_terms};
-ghost use Rattle.cif_feed.specs.Steps.Dropping.{ReadsAssociations, ReadsTrains};
-ghost use Rattle.cif_feed.specs.Steps.Marks.{plus_if};
-ghost use Rattle.cif_feed.specs.Published.{AppliesAsPublished};
-ghost use Rattle.cif_feed.specs.Parts.{ended};
-ghost use Rattle.cif_feed.specs.declared.published_extract.PublishedAssociation.{PublishedAssociation};
-ghost use Rattle.cif_feed.specs.declared.published_extract.PublishedSchedule.{PublishedSchedule};
+ghost use Rattle.cif_feed.specs.{Parts.ended, Published.AppliesAsPublished, PublishedParts.published_association_terms};
+ghost use Rattle.cif_feed.specs.{PublishedParts.published_schedule_terms, Steps.Dropping.ReadsAssociations, Steps.Dropping.ReadsTrains};
+ghost use Rattle.cif_feed.specs.{Steps.Marks.plus_if};
+ghost use Rattle.cif_feed.specs.declared.{published_extract.PublishedAssociation.PublishedAssociation};
+ghost use Rattle.cif_feed.specs.declared.{published_extract.PublishedSchedule.PublishedSchedule};
 ghost use Rattle.cif_records.specs.AssocKey.{key_cmp};
 ghost use Rattle.cif_records.specs.declared.association.AssocKey.{AssocKey};
 

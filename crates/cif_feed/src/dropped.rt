@@ -1,7 +1,6 @@
 //! The keys that clash, and their dates.
 ghost use Rattle.std.specs.Prelude.{◌≡◌, ◌+◌, [], IfOk};
-ghost use Rattle.std.specs.BTreeMap.{get};
-ghost use Rattle.std.specs.List.Sorted.{IsNonDecreasing};
+ghost use Rattle.std.specs.{BTreeMap.get, List.Sorted.IsNonDecreasing};
 ghost use Rattle.cif_feed.specs.Dropped.{AreClashDays, dropped_text};
 ghost use Rattle.cif_feed.specs.Steps.Dropping.{AreFound, IsReported, published_by};
 

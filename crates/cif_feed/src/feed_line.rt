@@ -2,20 +2,15 @@
 ghost use Rattle.std.specs.Prelude.{◌≡◌, ◌≤◌, ◌+◌, ◌++◌, ◌∷◌, [], None, Some, IfSome, codes, false};
 ghost use Rattle.cif_columns.specs.Field.{AllStandIn, StandsIn, columns, columns_from, date};
 ghost use Rattle.cif_columns.specs.Line.{ArePrintable};
-ghost use Rattle.cif_records.specs.Basic.{basic_back};
-ghost use Rattle.cif_records.specs.Checks.{IsJudged};
-ghost use Rattle.cif_records.specs.Kind.{kind_in};
+ghost use Rattle.cif_records.specs.{Basic.basic_back, Checks.IsJudged, Kind.kind_in};
 ghost use Rattle.cif_records.specs.declared.record.Record.TheVariants as of;
 ghost use Rattle.cif_feed.specs.FeedLine.{IsClosedAt, IsDeletion, SpellsAssociationBy, SpellsInFeed, code_of};
 ghost use Rattle.cif_feed.specs.FeedLine.{code_value, deleted_basic_rows, end_value, is_open, letter_of};
 ghost use Rattle.cif_feed.specs.FeedLine.{put_association_rows, put_basic_front, put_tiploc, transaction_at};
-ghost use Rattle.cif_feed.specs.LastDay.{last_day};
+ghost use Rattle.cif_feed.specs.{LastDay.last_day, Steps.FeedLine.ReadsBasic, Steps.Marks.mark_of, Transaction.transaction_letter};
 ghost use Rattle.cif_feed.specs.LayoutRefusals.{association_refusal_by, basic_refusal_by, feed_refusal_as};
 ghost use Rattle.cif_feed.specs.LayoutRefusals.{holiday_code_refusal, kind_read_as, open_dates_refusal};
 ghost use Rattle.cif_feed.specs.Marks.{association_mark, deleted_mark, put_mark, schedule_mark, tiploc_transaction};
-ghost use Rattle.cif_feed.specs.Steps.FeedLine.{ReadsBasic};
-ghost use Rattle.cif_feed.specs.Steps.Marks.{mark_of};
-ghost use Rattle.cif_feed.specs.Transaction.{transaction_letter};
 ghost use Rattle.cif_feed.specs.declared.holidays.HolidayCodes.{HolidayCodes};
 
 use crate::mark::{Mark, RecordMark, TiplocMark};

@@ -1,20 +1,14 @@
 //! Reading a published extract, or an update, content by content.
-ghost use Rattle.std.specs.Prelude.{◌≡◌, ◌<◌, ◌≤◌, ◌+◌, ◌^◌, ◌++◌, ◌∷◌, [], ℕ, List, Some, false, true, length, IfErr, IfOk, All};
-ghost use Rattle.cif_columns.specs.Comment.{is_comment};
-ghost use Rattle.cif_columns.specs.Line.{IsLine};
+ghost use Rattle.std.specs.Prelude.{◌≡◌, ◌<◌, ◌≤◌, ◌+◌, ◌^◌, ◌++◌, ◌∷◌, [], ℕ, List, Some, false, true, length, IfErr, IfOk, OnOk, All};
+ghost use Rattle.cif_columns.specs.{Comment.is_comment, Line.IsLine};
 ghost use Rattle.cif_columns.specs.declared.line_reader.TheConstants.{MAX_LINES};
-ghost use Rattle.cif_extract.specs.ReadCall.{IsResultOf};
-ghost use Rattle.cif_extract.specs.Steps.Reading.{GoesOnPlainly, HasRead, UnlessMemory, progress_of};
-ghost use Rattle.cif_extract.specs.Taken.{IsNoTrailer};
-ghost use Rattle.cif_feed.specs.FeedRefusal.{untaken_fault};
-ghost use Rattle.cif_feed.specs.FeedLayouts.{feed_layouts};
-ghost use Rattle.cif_feed.specs.RecordLines.{is_note, record_lines};
-ghost use Rattle.cif_feed.specs.FeedFault.{reading_feed};
-ghost use Rattle.cif_feed.specs.SpellsFeed.{SayFeed, feed_parts};
+ghost use Rattle.cif_extract.specs.{ReadCall.IsResultOf, Taken.IsNoTrailer};
+ghost use Rattle.cif_extract.specs.Steps.Reading.{GoesOnPlainly, HasRead, progress_of};
+ghost use Rattle.cif_feed.specs.{FeedFault.reading_feed, FeedLayouts.feed_layouts, FeedRefusal.untaken_fault, RecordLines.is_note};
+ghost use Rattle.cif_feed.specs.{RecordLines.record_lines, SpellsFeed.SayFeed, SpellsFeed.feed_parts};
 ghost use Rattle.cif_feed.specs.Steps.FeedReading.{HasTakenFeed, IsFeedTaken, IsMarkedTaken, IsNoteTaken, IsOwn, IsStopTaken, read_as};
 ghost use Rattle.cif_feed.specs.Steps.Marks.{HasMarks, HaveRoom, own_mark};
-ghost use Rattle.cif_feed.specs.declared.feed_line.Feed.{Feed};
-ghost use Rattle.cif_feed.specs.declared.holidays.HolidayCodes.{HolidayCodes};
+ghost use Rattle.cif_feed.specs.declared.{feed_line.Feed.Feed, holidays.HolidayCodes.HolidayCodes};
 ghost use Rattle.cif_records.specs.Kind.{kind_in};
 ghost use Rattle.cif_records.specs.declared.record.Record.{Record};
 
@@ -55,9 +49,7 @@ pub(crate) fn read_feed<R: ReadDevice>(
         if let Some(columns) = lines.columns_ahead()
             && reading.reading.goes_on_plainly(columns)
         {
-            let Ok(()) = reading.take_plain_stop(columns) else {
-                return Err(FeedFault::Extract(Fault::Memory));
-            };
+            reading.take_plain_stop(columns)?;
             lines.pass_line();
             continue;
         }
@@ -111,11 +103,11 @@ impl FeedReading {
 
     /// Takes the line of columns that are a plain line of a location on the way, where one may stand.
     #[inline(always)]
-    fn take_plain_stop(&mut self, columns: &[u8; LINE_WIDTH]) -> Result<(), TakeFault>
+    fn take_plain_stop(&mut self, columns: &[u8; LINE_WIDTH]) -> Result<(), AllocError>
         requires { GoesOnPlainly (progress_of self.old.reading).place columns.now }
         ensures { (feed : Feed) (allowed : HolidayCodes) (contents : List (List ℕ))
             → HasTakenFeed feed allowed contents self.old
-            → UnlessMemory (IsStopTaken feed allowed contents columns.now self.new) result }
+            → OnOk result (IsStopTaken feed allowed contents columns.now self.new) }
     {
         self.reading.take_plain_stop(columns)
     }
@@ -144,10 +136,7 @@ impl FeedReading {
         let mark = take_record(alloc, &mut self.reading, feed, allowed, number, line)?;
         self.has_basic |= mark.is_of_schedule();
         self.has_trailer |= mark.is_of_trailer();
-        match self.marks.add(mark) {
-            Ok(()) => Ok(()),
-            Err(AllocError) => Err(TakeFault::Memory),
-        }
+        Ok(self.marks.add(mark)?)
     }
 
     /// Counts a note, where one may stand.

@@ -162,10 +162,8 @@ pub struct Holidays {
 
 impl Holidays {
     ghost use Rattle.cif_feed.specs.declared.holidays.HolidayCode.{HolidayCode};
-    ghost use Rattle.cif_feed.specs.HolidayCode.{has_code};
-    ghost use Rattle.cif_feed.specs.HolidayDates.{IsFirstFrom};
+    ghost use Rattle.cif_feed.specs.{HolidayCode.has_code, HolidayDates.IsFirstFrom, Published.IsHolidayOf};
     ghost use Rattle.cif_feed.specs.Holidays.{HasMore, IsHoliday, IsHolidayOn, Names, dates_of, holidays_of};
-    ghost use Rattle.cif_feed.specs.Published.{IsHolidayOf};
 
     /// No code is named.
     pub fn new(alloc: Global) -> Holidays

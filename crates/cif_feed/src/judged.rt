@@ -1,7 +1,6 @@
 //! Judging each line of an input by itself, and reading the extract where no line is refused so.
 ghost use Rattle.std.specs.Prelude.{◌≡◌, ◌<◌, ◌≤◌, ◌+◌, ◌^◌, ◌++◌, ◌∷◌, [], ℕ, List, None, Some, IfErr, IfOk, length};
-ghost use Rattle.cif_columns.specs.FirstLine.{line_of};
-ghost use Rattle.cif_columns.specs.Source.{unread_of};
+ghost use Rattle.cif_columns.specs.{FirstLine.line_of, Source.unread_of};
 ghost use Rattle.cif_columns.specs.declared.line_reader.TheConstants.{MAX_LINES};
 ghost use Rattle.cif_extract.specs.ReadCall.{IsResultOf};
 ghost use Rattle.cif_feed.specs.Reasons.{own_reason};

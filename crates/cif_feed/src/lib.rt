@@ -5,7 +5,6 @@ mod changes;
 mod counting;
 mod cut_count;
 mod dropped;
-mod feed_answers;
 mod feed_fault;
 mod feed_line;
 mod feed_reading;
@@ -21,21 +20,20 @@ mod published_extract;
 mod reasons;
 mod record_keys;
 mod update;
+mod updates_in_turn;
 mod written;
 
 pub use changes::{Action, Keyed, RecordChange, RefusedLine, Unfit, apply};
 pub use dropped::{Dropped, DroppedKey};
-pub use feed_answers::{
-    DoneUpdate, KeptPrepare, KeptUpdate, ReadFeed, answer_prepare, answer_update,
-};
 pub use feed_fault::FeedFault;
 pub use feed_line::Feed;
 pub use holiday_text::HolidayFault;
 pub use holidays::{HolidayCode, HolidayCodes, Holidays};
 pub use judged::Judged;
 pub use mark::{Passed, Transaction, UpdateCounts};
-pub use prepare::{Preparation, Prepared, write_prepared};
+pub use prepare::{KeptPrepare, Preparation, Prepared, answer_prepare, write_prepared};
 pub use prepared_record::PreparedRecord;
 pub use published_extract::{PublishedAssociation, PublishedExtract, PublishedSchedule};
 pub use reasons::Reasons;
 pub use update::{Outcome, Update, current_reference, last_reference};
+pub use updates_in_turn::{DoneUpdate, KeptUpdate, ReadFeed, answer_update};

@@ -1,9 +1,7 @@
 //! What the lines of a feed say beyond their records.
 ghost use Rattle.std.specs.Prelude.{◌≡◌, [], IfOk};
-ghost use Rattle.cif_feed.specs.Counts.{have_marks};
-ghost use Rattle.cif_feed.specs.Marks.{mark_parts, marks_in};
+ghost use Rattle.cif_feed.specs.{Counts.have_marks, Marks.mark_parts, Marks.marks_in, Transaction.transaction_in};
 ghost use Rattle.cif_feed.specs.Steps.Marks.{HaveRoom, is_schedule_mark, is_trailer_mark, with_mark, with_record, with_transaction};
-ghost use Rattle.cif_feed.specs.Transaction.{transaction_in};
 ghost use Rattle.cif_feed.specs.declared.holidays.HolidayCodes.{HolidayCodes};
 
 use crate::HolidayCode;

@@ -1,21 +1,18 @@
-//! The prepared extract of a published one, the parts of its records: making and writing it.
-ghost use Rattle.std.specs.Prelude.{◌≡◌, ◌≤◌, ℕ, List, Option, IfOk, IfSome, false, map, true};
-ghost use Rattle.std.specs.BTreeMap.{get};
-ghost use Rattle.std.specs.List.Sorted.{IsNonDecreasing};
-ghost use Rattle.std.specs.Ordering.{nat_cmp};
+//! What `prepare` answers, for any devices: the prepared extract of a published one, the parts of its records.
+ghost use Rattle.std.specs.Prelude.{◌≡◌, ◌≤◌, ℕ, List, Option, IfErr, IfOk, IfSome, false, map, true};
+ghost use Rattle.std.specs.{BTreeMap.get, List.Sorted.IsNonDecreasing, Ordering.nat_cmp};
 ghost use Rattle.cif_calendar.specs.Entries.{association_entries, schedule_entries};
-ghost use Rattle.cif_columns.specs.Sink.{Writes};
-ghost use Rattle.cif_columns.specs.Source.{reader_of};
+ghost use Rattle.cif_columns.specs.{Sink.Writes, Source.reader_of};
 ghost use Rattle.cif_columns.specs.declared.line_reader.TheConstants.{MAX_LINES};
-ghost use Rattle.cif_extract.specs.ReadCall.{IsResultOf};
-ghost use Rattle.cif_extract.specs.Texts.{extract_text};
+ghost use Rattle.cif_extract.specs.{ReadCall.IsResultOf, Texts.extract_text};
+ghost use Rattle.cif_feed.specs.FeedAnswer.{AreHolidaysRead, FeedAnswers, IsHandedOn, IsPrepareAnswer, IsPrepareFault};
+ghost use Rattle.cif_feed.specs.FeedAnswer.{IsPreparedInTurn, IsReported, OfHolidays};
 ghost use Rattle.cif_feed.specs.Prepared.{ArePrepared, prepared_last, published_terms};
 ghost use Rattle.cif_feed.specs.PreparedParts.{IsPrepared, association_on, schedule_on};
 ghost use Rattle.cif_feed.specs.PublishedParts.{published_associations, published_parts, published_schedules};
 ghost use Rattle.cif_feed.specs.Steps.Dropping.{AreAllFound, IsCutAt, IsStopAmong, ReadsAssociations, ReadsDates, ReadsTrains};
 ghost use Rattle.cif_feed.specs.WrittenPrepared.{FeedWrites, IsPreparedAs, Prepares, WritesPrepared, preparing};
-ghost use Rattle.cif_feed.specs.declared.holidays.HolidayCode.{HolidayCode};
-ghost use Rattle.cif_feed.specs.declared.holidays.Holidays.{Holidays};
+ghost use Rattle.cif_feed.specs.declared.{holidays.HolidayCode.HolidayCode, holidays.Holidays.Holidays};
 ghost use Rattle.cif_records.specs.AssocKey.{key_cmp};
 ghost use Rattle.cif_records.specs.declared.association.AssocKey.{AssocKey};
 
@@ -27,7 +24,7 @@ use crate::{
     PublishedExtract, PublishedSchedule,
 };
 use cif_calendar::{Entry, Window};
-use cif_columns::{Day, ReadDevice, Sink, Source, WriteDevice, WriteFault};
+use cif_columns::{Day, MAX_LINES, ReadDevice, Sink, Source, WriteDevice, WriteFault};
 use cif_extract::Schedule;
 use cif_records::{AssocKey, Association};
 use std::alloc::{AllocError, Global};
@@ -41,6 +38,61 @@ pub struct Preparation<'a> {
     pub holidays: &'a Holidays,
     /// Whether the dates on which a key clashes are left out.
     pub drops_clashes: bool,
+}
+
+/// What `prepare` leaves to its caller.
+#[derive(Drop)]
+pub struct KeptPrepare {
+    /// The published extract that it has read.
+    pub extract: Option<PublishedExtract>,
+    /// The holidays that it was prepared with.
+    pub holidays: Option<Holidays>,
+}
+
+/// Writes the prepared extract of what the source gives, with the holidays that the other source gives, which
+/// is read first; with none where there is no such source. With `drop_clashes` the dates of clashes are left
+/// out; the answer is what was dropped. What was read is left in `kept`.
+pub fn answer_prepare<R: ReadDevice, W: WriteDevice>(
+    alloc: Global,
+    holidays: &mut Option<Source<R>>,
+    source: &mut Source<R>,
+    sink: &mut Sink<W>,
+    drop_clashes: bool,
+    kept: &mut KeptPrepare,
+) -> Result<Dropped, FeedFault>
+    ensures answer { FeedAnswers W.contents W.write_errors (λ dropped. dropped)
+        (λ text reported. OfHolidays R.remaining (λ given bytes. IsReported (IsPrepareAnswer drop_clashes given bytes text) reported)
+        holidays.old source.old) sink.old sink.new result }
+    ensures fault { OfHolidays R.remaining (λ given bytes. IfErr result (IsPrepareFault given bytes))
+        holidays.old source.old }
+    ensures reads { IsPreparedInTurn R.remaining R.read_errors holidays.old holidays.new source.old source.new result }
+    ensures handed_on { IsHandedOn W.holds_nothing sink.new result }
+{
+    let read = read_holidays(alloc, holidays)?;
+    let holidays = kept.holidays.insert(read);
+    let preparation = Preparation {
+        holidays,
+        drops_clashes: drop_clashes,
+    };
+    let kept = &mut kept.extract;
+    let dropped = write_prepared(alloc, source, sink, MAX_LINES, preparation, kept)?;
+    sink.flush()?;
+    Ok(dropped)
+}
+
+/// The holidays that the source gives; none where there is no source.
+// Inlined, it would keep its buffer on the stack while the extract is read.
+#[inline(never)]
+fn read_holidays<R: ReadDevice>(
+    alloc: Global,
+    holidays: &mut Option<Source<R>>,
+) -> Result<Holidays, FeedFault>
+    ensures { AreHolidaysRead R.remaining R.read_errors holidays.old holidays.new result }
+{
+    match holidays {
+        None => Ok(Holidays::new(alloc)),
+        Some(source) => Ok(Holidays::read(alloc, source)?),
+    }
 }
 
 /// Reads a published extract, of which at most `max_lines` contents may come, and appends the text of

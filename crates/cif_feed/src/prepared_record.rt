@@ -1,8 +1,7 @@
 //! The records of a prepared extract: those of the published one, on their dates between their cuts.
 ghost use Rattle.std.specs.Prelude.{◌≡◌, ◌≤◌, ◌++◌, ◌⊎◌, ℕ, IfOk, Contains, max};
 ghost use Rattle.std.specs.List.Sorted.{IsNonDecreasing};
-ghost use Rattle.cif_feed.specs.Parts.{ended};
-ghost use Rattle.cif_feed.specs.HolidayDates.{IsDateOnDaysRun, IsFirstFrom};
+ghost use Rattle.cif_feed.specs.{HolidayDates.IsDateOnDaysRun, HolidayDates.IsFirstFrom, Parts.ended};
 ghost use Rattle.cif_feed.specs.Steps.PartsSoFar.{AreAdded, IsFromNext, IsLeftFrom, IsPushed, added_before, first_upto};
 ghost use Rattle.cif_feed.specs.Steps.PartsSoFar.{records_on, sooner_of};
 

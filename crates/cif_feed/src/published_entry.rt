@@ -38,12 +38,9 @@ impl Entry for PublishedAssociation {
 
     type Body = AssocBody;
 
-    ghost use Rattle.cif_calendar.specs.Entries.{association_terms};
-    ghost use Rattle.cif_calendar.specs.Laws.Bodied.{cancelled-from_bodied};
-    ghost use Rattle.cif_calendar.specs.Laws.Ranks.{order_of_keys};
+    ghost use Rattle.cif_calendar.specs.{Entries.association_terms, Laws.Bodied.cancelled-from_bodied, Laws.Ranks.order_of_keys};
     ghost use Rattle.cif_records.specs.AssocKey.{key_cmp};
-    ghost use Rattle.std.proofs.Common.{rules};
-    ghost use Rattle.std.proofs.lemmas.Grind.{common_steps};
+    ghost use Rattle.std.proofs.{Common.rules, lemmas.Grind.common_steps};
     ghost use Rattle.std.specs.Cmp.Lexicographic.{bytes_decides, pointwise_decides};
 
     ghost key = { λ a. a.association.key };
@@ -121,12 +118,9 @@ impl Entry for PublishedSchedule {
 
     type Body = Body;
 
-    ghost use Rattle.cif_calendar.specs.Entries.{schedule_terms};
-    ghost use Rattle.cif_calendar.specs.Laws.Bodied.{cancelled-from_bodied};
-    ghost use Rattle.cif_calendar.specs.Laws.Ranks.{order_of_numbers};
-    ghost use Rattle.cif_calendar.specs.Ranks.{IsNumberOf};
-    ghost use Rattle.std.proofs.Common.{rules};
-    ghost use Rattle.std.proofs.lemmas.Grind.{common_steps};
+    ghost use Rattle.cif_calendar.specs.{Entries.schedule_terms, Laws.Bodied.cancelled-from_bodied, Laws.Ranks.order_of_numbers};
+    ghost use Rattle.cif_calendar.specs.{Ranks.IsNumberOf};
+    ghost use Rattle.std.proofs.{Common.rules, lemmas.Grind.common_steps};
     ghost use Rattle.std.specs.Cmp.Lexicographic.{bytes_decides, pointwise_decides};
 
     ghost key = { λ s. s.schedule.uid };

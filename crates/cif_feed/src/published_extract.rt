@@ -3,8 +3,7 @@ ghost use Rattle.std.specs.Prelude.{◌≡◌, ◌≢◌, ◌≤◌, ◌+◌, �
 ghost use Rattle.cif_columns.specs.Line.{ArePrintable};
 ghost use Rattle.cif_columns.specs.declared.line_reader.TheConstants.{MAX_LINES};
 ghost use Rattle.cif_extract.specs.ReadCall.{IsResultOf};
-ghost use Rattle.cif_feed.specs.FromLines.{ArePairs, AreTriples};
-ghost use Rattle.cif_feed.specs.LastDay.{last_day};
+ghost use Rattle.cif_feed.specs.{FromLines.ArePairs, FromLines.AreTriples, LastDay.last_day};
 ghost use Rattle.cif_feed.specs.WrittenOver.{with_code, with_columns, with_open_end};
 
 use crate::feed_reading::{FeedExtract, read_feed};
@@ -59,8 +58,7 @@ pub struct PublishedExtract {
 impl PublishedExtract {
     ghost use Rattle.cif_columns.specs.Sink.{Writes};
     ghost use Rattle.cif_feed.specs.PublishedParts.{SayPublished, published_parts, published_text, reading_published};
-    ghost use Rattle.cif_feed.specs.SpellsFeed.{feed_parts};
-    ghost use Rattle.cif_feed.specs.Steps.Marks.{HasMarks};
+    ghost use Rattle.cif_feed.specs.{SpellsFeed.feed_parts, Steps.Marks.HasMarks};
 
     /// The published extract that the source's contents spell, of which at most `max_lines` may come.
     /// `allowed` are the holiday codes that may stand in it.
@@ -240,8 +238,7 @@ pub(crate) fn last_of<M: Drop>(marks: &mut Vec<M>) -> M
 impl FromLine for PublishedAssociation {
     type Record = Association;
 
-    ghost use Rattle.cif_feed.specs.PublishedParts.{IsPublishedAssociation};
-    ghost use Rattle.cif_feed.specs.Steps.Marks.{IsClosed, last_of_association};
+    ghost use Rattle.cif_feed.specs.{PublishedParts.IsPublishedAssociation, Steps.Marks.IsClosed, Steps.Marks.last_of_association};
 
     ghost may = { IsClosed last_of_association };
 
@@ -258,8 +255,7 @@ impl FromLine for PublishedAssociation {
 impl FromLine for PublishedSchedule {
     type Record = Schedule;
 
-    ghost use Rattle.cif_feed.specs.PublishedParts.{IsPublishedSchedule};
-    ghost use Rattle.cif_feed.specs.Steps.Marks.{IsClosed, last_of_schedule};
+    ghost use Rattle.cif_feed.specs.{PublishedParts.IsPublishedSchedule, Steps.Marks.IsClosed, Steps.Marks.last_of_schedule};
 
     ghost may = { IsClosed last_of_schedule };
 

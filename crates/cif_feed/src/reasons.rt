@@ -1,11 +1,9 @@
 //! The reasons to refuse lines, each judged by itself: how many lines have each, and the first of them.
 ghost use Rattle.std.specs.Prelude.{◌≡◌, ◌≢◌, ◌<◌, ◌≤◌, ◌+◌, ◌++◌, ◌∷◌, [], ℕ, List, Option, Some, length};
 ghost use Rattle.std.specs.List.{flat_map};
-ghost use Rattle.cif_columns.specs.Line.{IsLine};
-ghost use Rattle.cif_columns.specs.Sink.{Writes};
-ghost use Rattle.cif_columns.specs.declared.line_reader.TheConstants.{MAX_LINES};
-ghost use Rattle.cif_columns.specs.declared.refusal.Refusal.{Refusal};
-ghost use Rattle.cif_columns.specs.declared.refusal.Refusal.TheVariants.{OutOfOrder, TooManyLines};
+ghost use Rattle.cif_columns.specs.{Line.IsLine, Sink.Writes};
+ghost use Rattle.cif_columns.specs.declared.{line_reader.TheConstants.MAX_LINES, refusal.Refusal.Refusal};
+ghost use Rattle.cif_columns.specs.declared.{refusal.Refusal.TheVariants.OutOfOrder, refusal.Refusal.TheVariants.TooManyLines};
 ghost use Rattle.cif_extract.specs.FirstRefusal.{refusal_of};
 ghost use Rattle.cif_feed.specs.Reasons.{ReportReasons, first_in, lines_in, own_reason, reason_line};
 ghost use Rattle.cif_feed.specs.Reasons.{first_with, lines_word, place_of, reported_text};

@@ -53,8 +53,7 @@ impl Keyed for PublishedAssociation {
 
     type Rank = (AssocKey, Day, Stp);
 
-    ghost use Rattle.std.proofs.Common.{rules};
-    ghost use Rattle.std.proofs.lemmas.Grind.{common_steps};
+    ghost use Rattle.std.proofs.{Common.rules, lemmas.Grind.common_steps};
     ghost use Rattle.std.specs.Cmp.Lexicographic.{pointwise_decides, bytes_decides};
     ghost use Rattle.cif_feed.specs.RecordKeys.{association_key};
 
@@ -86,8 +85,7 @@ impl Keyed for PublishedSchedule {
     // two UIDs take.
     type Rank = (u64, Day, Stp, Uid);
 
-    ghost use Rattle.std.proofs.Common.{rules};
-    ghost use Rattle.std.proofs.lemmas.Grind.{common_steps};
+    ghost use Rattle.std.proofs.{Common.rules, lemmas.Grind.common_steps};
     ghost use Rattle.std.specs.Cmp.Lexicographic.{bytes_decides};
     ghost use Rattle.cif_feed.specs.RecordKeys.{schedule_key, schedule_rank};
 

@@ -2,14 +2,11 @@
 ghost use Rattle.std.specs.Prelude.{◌≡◌, ◌≤◌, ◌++◌, ◌∷◌, [], IfOk, length, reverse, if◌then◌else◌};
 ghost use Rattle.cif_columns.specs.declared.line_reader.TheConstants.{MAX_LINES};
 ghost use Rattle.cif_extract.specs.ReadCall.{IsResultOf};
-ghost use Rattle.cif_feed.specs.PublishedParts.{published_parts};
-ghost use Rattle.cif_feed.specs.SpellsFeed.{feed_parts};
-ghost use Rattle.cif_feed.specs.Steps.Marks.{HasMarks};
+ghost use Rattle.cif_feed.specs.{PublishedParts.published_parts, SpellsFeed.feed_parts, Steps.Changes.IsDone, Steps.Changes.last_line};
+ghost use Rattle.cif_feed.specs.{Steps.Marks.HasMarks, Updated.reported_once};
 ghost use Rattle.cif_feed.specs.UpdateParts.{change_by, tiploc_changes, tiploc_changes_by};
-ghost use Rattle.cif_feed.specs.Updated.{reported_once};
 ghost use Rattle.cif_feed.specs.Sequence.{current_reference, follows, last_reference};
 ghost use Rattle.cif_feed.specs.declared.changes.Unfit.TheVariants as unfit;
-ghost use Rattle.cif_feed.specs.Steps.Changes.{IsDone, last_line};
 ghost use Rattle.cif_feed.specs.declared.feed_line.Feed.TheVariants as feed;
 
 use crate::feed_reading::{FeedExtract, read_feed};
@@ -319,8 +316,7 @@ fn change_by<K: Drop, R: Drop>(
 impl FromLine for RecordChange<(AssocKey, Day, Stp), PublishedAssociation> {
     type Record = Association;
 
-    ghost use Rattle.cif_feed.specs.Steps.Marks.{IsClosed, last_of_association};
-    ghost use Rattle.cif_feed.specs.UpdateParts.{IsAssociationChange};
+    ghost use Rattle.cif_feed.specs.{Steps.Marks.IsClosed, Steps.Marks.last_of_association, UpdateParts.IsAssociationChange};
 
     ghost may = { IsClosed last_of_association };
 
@@ -339,8 +335,7 @@ impl FromLine for RecordChange<(AssocKey, Day, Stp), PublishedAssociation> {
 impl FromLine for RecordChange<(Uid, Day, Stp), PublishedSchedule> {
     type Record = Schedule;
 
-    ghost use Rattle.cif_feed.specs.Steps.Marks.{IsClosed, last_of_schedule};
-    ghost use Rattle.cif_feed.specs.UpdateParts.{IsScheduleChange};
+    ghost use Rattle.cif_feed.specs.{Steps.Marks.IsClosed, Steps.Marks.last_of_schedule, UpdateParts.IsScheduleChange};
 
     ghost may = { IsClosed last_of_schedule };
 

@@ -1,8 +1,7 @@
 //! The text of an extract, record by record.
 ghost use Rattle.std.specs.Prelude.{◌≡◌, ◌∷◌, Some, false, option_copied};
 ghost use Rattle.std.specs.List.{flat_map};
-ghost use Rattle.cif_columns.specs.Contents.{lines_text};
-ghost use Rattle.cif_columns.specs.Sink.{Writes, sink_failed};
+ghost use Rattle.cif_columns.specs.{Contents.lines_text, Sink.Writes, Sink.sink_failed};
 ghost use Rattle.cif_extract.specs.Texts.{further_lines};
 ghost use Rattle.cif_feed.specs.Steps.Written.{records_text};
 

@@ -5,17 +5,11 @@ use Rattle.std.proofs.Common.{true, ℕ, ⊎_elim, ◌&&◌, ◌||◌, ◌∙◌
 use Rattle.std.proofs.lemmas.Bool.{and_from, and_parts, or_cases, or_left, or_right}
 use Rattle.cif_calendar.proofs.Elements.{Contains-cases, Contains-first, Contains-rest}
 use Rattle.cif_calendar.proofs.RisingLists.{Contains-none}
-use Rattle.cif_calendar.specs.Applies.{Applies}
-use Rattle.cif_calendar.specs.Keys.{AreClear, of_key}
-use Rattle.cif_calendar.specs.Meaning.{EntriesSayTheSame}
-use Rattle.cif_calendar.specs.Runs.{Runs}
-use Rattle.cif_calendar.specs.Terms.{Terms}
-use Rattle.cif_calendar.specs.Wins.{Wins, precedence}
+use Rattle.cif_calendar.specs.{Applies.Applies, Keys.AreClear, Keys.of_key, Meaning.EntriesSayTheSame, Runs.Runs, Terms.Terms, Wins.Wins}
+use Rattle.cif_calendar.specs.{Wins.precedence}
 use Rattle.cif_columns.proofs.Names.{nat_tests}
-use Rattle.cif_columns.specs.Day.{weekday_of}
-use Rattle.cif_columns.specs.Stp.{letter as column_of}
-use Rattle.cif_columns.specs.declared.stp.Stp.{Stp}
-use Rattle.cif_columns.specs.declared.stp.Stp.TheVariants.{C}
+use Rattle.cif_columns.specs.{Day.weekday_of, Stp.letter as column_of}
+use Rattle.cif_columns.specs.declared.{stp.Stp.Stp, stp.Stp.TheVariants.C}
 
 -- ---- whether one of the entries applies on day d, by a test
 

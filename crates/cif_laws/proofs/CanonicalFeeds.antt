@@ -1,15 +1,11 @@
 -- The theorem for feeds: canonical extracts of what is prepared are equal exactly where the feeds say the same.
 use Rattle.std.proofs.Common.{Bool, List, ap, subst, sym, ℕ, ◌↔◌, ◌∙◌, ◌≡◌}
-use Rattle.cif_canon.proofs.NormalForms.{normal-unique}
-use Rattle.cif_canon.proofs.SameExtracts.{one-window}
-use Rattle.cif_canon.specs.Asked.{header_window, window_asked}
-use Rattle.cif_canon.specs.Meaning.{Agree, SameMeaning}
-use Rattle.cif_canon.specs.NormalForm.{IsNormalFormOf, after_first_line}
+use Rattle.cif_canon.proofs.{NormalForms.normal-unique, SameExtracts.one-window}
+use Rattle.cif_canon.specs.{Asked.header_window, Asked.window_asked, Meaning.Agree, Meaning.SameMeaning, NormalForm.IsNormalFormOf}
+use Rattle.cif_canon.specs.{NormalForm.after_first_line}
 use Rattle.cif_canon.specs.declared.asked.Asked.{Asked}
 use Rattle.cif_extract.specs.ExtractParts.{ExtractParts}
-use Rattle.cif_feed.specs.WrittenPrepared.{IsPreparedText}
-use Rattle.cif_feed.specs.declared.dropped.Dropped.{Dropped}
-use Rattle.cif_feed.specs.declared.holidays.Holidays.{Holidays}
+use Rattle.cif_feed.specs.{WrittenPrepared.IsPreparedText, declared.dropped.Dropped.Dropped, declared.holidays.Holidays.Holidays}
 use Rattle.cif_records.proofs.Headers.{same_header}
 use Rattle.cif_weeks.specs.Window.{IsWithin, Window}
 use Rattle.cif_weeks.specs.declared.form.Form.{Form}

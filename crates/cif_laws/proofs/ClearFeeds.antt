@@ -1,22 +1,15 @@
 -- A clear extract of this profile has no clash day, so that its records are stopped by none.
-use Rattle.std.proofs.Common.{Contains, List, None, Option, ap, arith, false, inl, map, subst, sym, true, ℕ, ⊎_elim, ◌+◌, ◌↔◌}
-use Rattle.std.proofs.Common.{◌≡◌}
+use Rattle.std.proofs.Common.{Contains, List, None, Option, ap, arith, false, inl, map, subst, sym, true, ℕ, ⊎_elim, ◌+◌, ◌↔◌, ◌≡◌}
 use Rattle.cif_calendar.proofs.Sets.{IsClash-same}
-use Rattle.cif_calendar.specs.Entries.{association_entries, schedule_entries}
-use Rattle.cif_calendar.specs.Keys.{AreClear, of_key}
-use Rattle.cif_calendar.specs.Terms.{Terms}
+use Rattle.cif_calendar.specs.{Entries.association_entries, Entries.schedule_entries, Keys.AreClear, Keys.of_key, Terms.Terms}
 use Rattle.cif_canon.specs.Accepted.{IsClearExtract}
 use Rattle.cif_extract.specs.ExtractParts.{ExtractParts}
-use Rattle.cif_feed.proofs.ListSteps.{Contains-from_map, Contains-map}
+use Rattle.cif_feed.proofs.{ListSteps.Contains-from_map, ListSteps.Contains-map, PreparedLists.prepared-same}
 use Rattle.cif_feed.proofs.OwnParts.{associations_as, only_itself, schedules_as}
-use Rattle.cif_feed.proofs.PreparedLists.{prepared-same}
-use Rattle.cif_feed.specs.OfProfile.{as_published}
-use Rattle.cif_feed.specs.Prepared.{ArePrepared, published_terms}
-use Rattle.cif_feed.specs.PreparedParts.{IsPrepared}
+use Rattle.cif_feed.specs.{OfProfile.as_published, Prepared.ArePrepared, Prepared.published_terms, PreparedParts.IsPrepared}
+use Rattle.cif_feed.specs.{PublishedParts.published_associations, PublishedParts.published_schedules}
 use Rattle.cif_feed.specs.Published.{CountOn, IsClashDay, IsStop, PublishedTerms}
-use Rattle.cif_feed.specs.PublishedParts.{published_associations, published_schedules}
-use Rattle.cif_feed.specs.declared.holidays.HolidayCode.{HolidayCode}
-use Rattle.cif_feed.specs.declared.holidays.Holidays.{Holidays}
+use Rattle.cif_feed.specs.declared.{holidays.HolidayCode.HolidayCode, holidays.Holidays.Holidays}
 
 module _ {K B : Type 0} (h : Holidays) (es : List (K × Terms B)) (first last : ℕ) (clear : AreClear es first last) where
   -- as published ones

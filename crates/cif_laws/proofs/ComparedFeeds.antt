@@ -1,28 +1,21 @@
 -- What is prepared of two feeds compares and differs as the feeds do.
 use Rattle.std.proofs.Common.{Contains, List, Option, Ordering, Some, arith, subst, ℕ, ◌↔◌, ◌≡◌}
-use Rattle.cif_calendar.specs.Keys.{of_key}
-use Rattle.cif_calendar.specs.Runs.{Runs}
-use Rattle.cif_calendar.specs.Terms.{Terms}
+use Rattle.cif_calendar.specs.{Entries.association_entries, Entries.schedule_entries, Keys.of_key, Runs.Runs, Terms.Terms}
 use Rattle.cif_canon.specs.Asked.{header_window}
 use Rattle.cif_canon.specs.Comparison.{IsComparison, IsFirstDifference, IsFirstTiploc}
 use Rattle.cif_canon.specs.Differences.{AreDifferences, AreDifferentRecords, AreDifferentTiplocs, AreOnlyRecords, DifferencesParts, of_side}
-use Rattle.cif_canon.specs.declared.comparison.Comparison.{Comparison}
+use Rattle.cif_canon.specs.declared.{comparison.Comparison.Comparison, listed_differences.Side.Side}
+use Rattle.cif_canon.specs.declared.{listed_differences.Side.TheVariants.Left, listed_differences.Side.TheVariants.Right}
+use Rattle.cif_canon.specs.declared.{listed_differences.Sided.Sided}
 use Rattle.cif_canon.specs.declared.comparison.Comparison.TheVariants.{Same, Tiploc as DifferentTiploc, Association, Train}
-use Rattle.cif_canon.specs.declared.listed_differences.Side.{Side}
-use Rattle.cif_canon.specs.declared.listed_differences.Side.TheVariants.{Left, Right}
-use Rattle.cif_canon.specs.declared.listed_differences.Sided.{Sided}
 use Rattle.cif_extract.specs.ExtractParts.{ExtractParts}
 use Rattle.cif_records.specs.AssocKey.{key_cmp}
 use Rattle.cif_records.specs.declared.tiploc.Tiploc.{Tiploc}
-use Rattle.cif_weeks.specs.Permanent.{Permanent}
-use Rattle.cif_weeks.specs.Window.{IsWithin, Window}
+use Rattle.cif_weeks.specs.{Permanent.Permanent, Window.IsWithin, Window.Window}
 use Rattle.cif_laws.proofs.CanonicalFeeds.{feeds-agree}
 use Rattle.cif_laws.specs.FeedDifferences.{AreDifferencesOf, AreFeedDifferences, AreOnlyOf, DifferFirst, IsFeedComparison, SaysAt}
-use Rattle.cif_laws.specs.Feeds.{SayTheSame, SaysWhatFeedSays}
-use Rattle.cif_laws.specs.PublishedFeed.{PublishedFeed}
-use Rattle.cif_calendar.specs.Entries.{association_entries, schedule_entries}
-use Rattle.std.specs.Cmp.Lexicographic.{slice_cmp}
-use Rattle.std.specs.Ordering.{nat_cmp}
+use Rattle.cif_laws.specs.{Feeds.SayTheSame, Feeds.SaysWhatFeedSays, PublishedFeed.PublishedFeed}
+use Rattle.std.specs.{Cmp.Lexicographic.slice_cmp, Ordering.nat_cmp}
 
 -- ---- of one kind
 

@@ -1,13 +1,9 @@
 -- The window of the examples, from day 3, a Monday, to day 5, and a record of it whose mask has Monday, Wednesday and perhaps Tuesday.
 use Rattle.std.proofs.Common.{Bool, List, Some, [], arith, false, inl, inr, refl, slice_get, subst, suc, sym, true, zero, ℕ, ⊎_elim, ◌<◌}
 use Rattle.std.proofs.Common.{◌∷◌, ◌≡◌, ◌≤◌, ◌⊎◌}
-use Rattle.cif_columns.specs.Day.{weekday_of}
-use Rattle.cif_columns.specs.DaysRun.{RunsOn}
+use Rattle.cif_columns.specs.{Day.weekday_of, DaysRun.RunsOn}
 use Rattle.cif_feed.proofs.Names.{cases_lt}
-use Rattle.cif_weeks.specs.Aligned.{IsAlignedTwo}
-use Rattle.cif_weeks.specs.Applies.{Applies}
-use Rattle.cif_weeks.specs.Permanent.{Permanent}
-use Rattle.cif_weeks.specs.Window.{Window}
+use Rattle.cif_weeks.specs.{Aligned.IsAlignedTwo, Applies.Applies, Permanent.Permanent, Window.Window}
 
 abbrev pub window : Window
 window = record { first = 3; last = 5 }

@@ -2,45 +2,30 @@
 use Rattle.std.proofs.Common.{AllPairs, Contains, IsTrue, List, None, Option, Some, [], arith, codes, false, inl, inr, refl, subst, subst₂}
 use Rattle.std.proofs.Common.{suc, sym, zero, ℕ, ◌<◌, ◌∷◌, ◌≡◌, ◌≤◌, ◌⊎◌}
 use Rattle.std.proofs.lemmas.List.Elements.{All-cons, All-nil}
-use Rattle.cif_calendar.proofs.Elements.{Contains-first, Contains-rest}
-use Rattle.cif_calendar.proofs.SayTheSame.{EntriesSayTheSame-refl}
+use Rattle.cif_calendar.proofs.{Elements.Contains-first, Elements.Contains-rest, SayTheSame.EntriesSayTheSame-refl}
 use Rattle.cif_calendar.specs.Entries.{association_entries, schedule_entries, schedule_terms}
-use Rattle.cif_calendar.specs.Meaning.{EntriesSayTheSame}
-use Rattle.cif_calendar.specs.Terms.{Terms}
-use Rattle.cif_canon.specs.Accepted.{IsClearExtract}
-use Rattle.cif_canon.specs.Asked.{nothing_asked}
-use Rattle.cif_canon.specs.Canonical.{IsCanonicalExtract}
-use Rattle.cif_canon.specs.NormalForm.{IsNormalFormOf}
-use Rattle.cif_columns.specs.declared.line_reader.TheConstants.{MAX_LINES}
-use Rattle.cif_columns.specs.declared.stp.Stp.TheVariants.{P}
+use Rattle.cif_calendar.specs.{Meaning.EntriesSayTheSame, Terms.Terms}
+use Rattle.cif_canon.specs.{Accepted.IsClearExtract, Asked.nothing_asked, Canonical.IsCanonicalExtract, NormalForm.IsNormalFormOf}
+use Rattle.cif_columns.specs.declared.{line_reader.TheConstants.MAX_LINES, stp.Stp.TheVariants.P}
 use Rattle.cif_extract.proofs.PlainTexts.{text-spells}
-use Rattle.cif_extract.specs.Body.{BodyLines}
-use Rattle.cif_extract.specs.SpellsExtract.{BytesSpell}
+use Rattle.cif_extract.specs.{Body.BodyLines, SpellsExtract.BytesSpell}
 use Rattle.cif_feed.proofs.PublishedTexts.{published-spells}
-use Rattle.cif_feed.specs.HolidayCode.{has_code}
+use Rattle.cif_feed.specs.{HolidayCode.has_code, PreparedParts.IsPrepared, PublishedParts.BytesSpellPublished}
+use Rattle.cif_feed.specs.{WrittenExtracts.CodesMayStand, WrittenPrepared.IsPreparedText, WrittenPrepared.codes_named}
 use Rattle.cif_feed.specs.Parts.{AreParts, HaveDay, IsBefore, IsCut, IsPart, Part}
-use Rattle.cif_feed.specs.PreparedParts.{IsPrepared}
-use Rattle.cif_feed.specs.PublishedParts.{BytesSpellPublished}
-use Rattle.cif_feed.specs.WrittenExtracts.{CodesMayStand}
-use Rattle.cif_feed.specs.WrittenPrepared.{IsPreparedText, codes_named}
-use Rattle.cif_feed.specs.declared.dropped.Dropped.{Dropped}
-use Rattle.cif_feed.specs.declared.holidays.HolidayCode.{HolidayCode}
-use Rattle.cif_feed.specs.declared.holidays.HolidayCode.TheVariants.{X}
-use Rattle.cif_feed.specs.declared.published_extract.PublishedSchedule.{PublishedSchedule}
+use Rattle.cif_feed.specs.declared.{dropped.Dropped.Dropped, holidays.HolidayCode.HolidayCode, holidays.HolidayCode.TheVariants.X}
+use Rattle.cif_feed.specs.declared.{published_extract.PublishedSchedule.PublishedSchedule}
 use Rattle.cif_records.specs.AssocKey.{key_cmp}
 use Rattle.cif_records.specs.declared.association.AssocBody.{AssocBody}
 use Rattle.cif_weeks.specs.declared.form.Form.TheVariants.{Two}
 use Rattle.cif_laws.proofs.AlikeEntries.{AreAlike, alike-clear, alike-same, more-alike, none-alike, some_on}
 use Rattle.cif_laws.proofs.ExampleDays.{aligned, one-of, permanent, window}
 use Rattle.cif_laws.proofs.ExampleHolidays.{example-days, no-items, only}
-use Rattle.cif_laws.proofs.ExampleParts.{example-key}
+use Rattle.cif_laws.proofs.{ExampleParts.example-key, FormsOfTexts.text-normal, OneRecord.none-canonical, OneRecord.one-canonical}
 use Rattle.cif_laws.proofs.ExampleSchedules.{after, before, example-joined, example-journey, example-parts, example-published, given}
 use Rattle.cif_laws.proofs.ExampleSchedules.{joined, joined-fits, joined-text, parts-fit, prepared-text, published-fits, published-text}
-use Rattle.cif_laws.proofs.FormsOfTexts.{text-normal}
-use Rattle.cif_laws.proofs.OneRecord.{none-canonical, one-canonical}
 use Rattle.cif_laws.specs.Examples.{example_feed, example_prepared, example_prepared_canonical}
-use Rattle.std.specs.Cmp.Lexicographic.{slice_cmp}
-use Rattle.std.specs.Ordering.{nat_cmp}
+use Rattle.std.specs.{Cmp.Lexicographic.slice_cmp, Ordering.nat_cmp}
 
 -- ---- the parts of the schedule
 

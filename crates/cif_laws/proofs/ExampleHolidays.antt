@@ -1,24 +1,16 @@
 -- The holidays of the example's text: Tuesday 5 January 1960 alone, of code X.
 use Rattle.std.proofs.Common.{Contains, List, Option, Some, [], ap, arith, codes, drop, false, inr, refl, slice_get, subst, suc, sym, true}
 use Rattle.std.proofs.Common.{zero, ℕ, ⊎_elim, ◌<◌, ◌↔◌, ◌∙◌, ◌∷◌, ◌≡◌, ◌≤◌}
-use Rattle.std.specs.List.Sorted.{IsNonDecreasing}
+use Rattle.std.specs.{Global.Global, Global.Vec, List.Sorted.IsNonDecreasing}
 use Rattle.std.proofs.lemmas.List.Elements.{All-cons, All-nil}
-use Rattle.cif_calendar.proofs.Elements.{Contains-cases, Contains-first}
-use Rattle.cif_calendar.proofs.RisingLists.{Contains-none}
-use Rattle.cif_columns.proofs.DayColumns.{yymmdd_in-stands}
-use Rattle.cif_columns.proofs.DayDigits.{stands-yymmdd_of}
-use Rattle.cif_columns.specs.Contents.{contents_of}
-use Rattle.cif_columns.specs.Day.{StandsInYymmdd}
-use Rattle.cif_columns.specs.DayDigits.{date_of, yymmdd_of}
-use Rattle.cif_feed.specs.HolidayCode.{letter}
+use Rattle.cif_calendar.proofs.{Elements.Contains-cases, Elements.Contains-first, RisingLists.Contains-none}
+use Rattle.cif_columns.proofs.{DayColumns.yymmdd_in-stands, DayDigits.stands-yymmdd_of}
+use Rattle.cif_columns.specs.{Contents.contents_of, Day.StandsInYymmdd, DayDigits.date_of, DayDigits.yymmdd_of}
+use Rattle.cif_feed.specs.{HolidayCode.letter, Holidays.IsHoliday, Holidays.Names, Words.words_in}
 use Rattle.cif_feed.specs.HolidayText.{AreCodeAndDates, IsDate, IsHolidayLine, LineNames, LineSays, NamesDay, SomeLine, SpellHolidays}
 use Rattle.cif_feed.specs.HolidayText.{words_of}
-use Rattle.cif_feed.specs.Holidays.{IsHoliday, Names}
-use Rattle.cif_feed.specs.Words.{words_in}
-use Rattle.cif_feed.specs.declared.holidays.HolidayCode.{HolidayCode}
+use Rattle.cif_feed.specs.declared.{holidays.HolidayCode.HolidayCode, holidays.Holidays.Holidays}
 use Rattle.cif_feed.specs.declared.holidays.HolidayCode.TheVariants.{E, G, X}
-use Rattle.cif_feed.specs.declared.holidays.Holidays.{Holidays}
-use Rattle.std.specs.Global.{Global, Vec}
 use denote.RawPtr.{null_ptr}
 use Rattle.cif_laws.specs.Examples.{example_holidays}
 

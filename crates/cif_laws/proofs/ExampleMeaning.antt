@@ -2,15 +2,10 @@
 use Rattle.std.proofs.Common.{List, None, Some, [], arith, refl, subst₂, sym, true, ℕ, ◌∷◌, ◌≡◌}
 use Rattle.cif_calendar.proofs.SayTheSame.{EntriesSayTheSame-refl}
 use Rattle.cif_calendar.specs.Entries.{association_entries, association_terms, schedule_entries}
-use Rattle.cif_calendar.specs.Meaning.{EntriesSayTheSame}
-use Rattle.cif_calendar.specs.Terms.{Terms}
-use Rattle.cif_canon.specs.Accepted.{IsClearExtract}
-use Rattle.cif_canon.specs.Asked.{nothing_asked}
-use Rattle.cif_canon.specs.Canonical.{IsCanonicalExtract}
-use Rattle.cif_canon.specs.NormalForm.{IsNormalFormOf}
+use Rattle.cif_calendar.specs.{Meaning.EntriesSayTheSame, Terms.Terms}
+use Rattle.cif_canon.specs.{Accepted.IsClearExtract, Asked.nothing_asked, Canonical.IsCanonicalExtract, NormalForm.IsNormalFormOf}
 use Rattle.cif_columns.specs.declared.stp.Stp.TheVariants.{N, P}
-use Rattle.cif_extract.specs.Body.{BodyLines}
-use Rattle.cif_extract.specs.ExtractParts.{ExtractParts}
+use Rattle.cif_extract.specs.{Body.BodyLines, ExtractParts.ExtractParts}
 use Rattle.cif_records.specs.AssocKey.{key_cmp}
 use Rattle.cif_records.specs.declared.association.AssocBody.{AssocBody}
 use Rattle.cif_weeks.specs.declared.form.Form.TheVariants.{Two}
@@ -18,11 +13,9 @@ use Rattle.cif_laws.proofs.AlikeEntries.{AreAlike, alike-clear, alike-same, more
 use Rattle.cif_laws.proofs.ExampleDays.{aligned, one-of, permanent, window}
 use Rattle.cif_laws.proofs.ExampleParts.{example-association, example-body, example-fits, example-key, example-text, extract-of}
 use Rattle.cif_laws.proofs.ExampleParts.{made-association, made-fits, made-text}
-use Rattle.cif_laws.proofs.FormsOfTexts.{text-normal}
-use Rattle.cif_laws.proofs.OneRecord.{none-canonical, one-canonical}
+use Rattle.cif_laws.proofs.{FormsOfTexts.text-normal, OneRecord.none-canonical, OneRecord.one-canonical}
 use Rattle.cif_laws.specs.Examples.{example_canonical, example_input}
-use Rattle.std.specs.Cmp.Lexicographic.{slice_cmp}
-use Rattle.std.specs.Ordering.{nat_cmp}
+use Rattle.std.specs.{Cmp.Lexicographic.slice_cmp, Ordering.nat_cmp}
 
 abbrev x : ExtractParts
 x = extract-of example-association

@@ -1,29 +1,18 @@
 -- The extract that the example spells, and the canonical one.
 use Rattle.std.proofs.Common.{All, Bool, List, Some, [], ap, arith, codes, refl, sym, true, ℕ, ◌∙◌, ◌∷◌, ◌≡◌}
 use Rattle.std.proofs.lemmas.List.Elements.{All-cons, All-nil}
-use Rattle.cif_columns.proofs.DayColumns.{ddmmyy_in-stands}
-use Rattle.cif_columns.proofs.DayDigits.{stands-ddmmyy_of}
-use Rattle.cif_columns.proofs.PrintableBytes.{printable_fact}
-use Rattle.cif_columns.specs.Day.{ddmmyy_in}
+use Rattle.cif_columns.proofs.{DayColumns.ddmmyy_in-stands, DayDigits.stands-ddmmyy_of, PrintableBytes.printable_fact}
+use Rattle.cif_columns.specs.{Day.ddmmyy_in, Field.AllFit, Text.text_of}
 use Rattle.cif_columns.specs.DayDigits.{date_of, ddmmyy_of, yymmdd_of}
-use Rattle.cif_columns.specs.Field.{AllFit}
-use Rattle.cif_columns.specs.Text.{text_of}
-use Rattle.cif_columns.specs.declared.stp.Stp.{Stp}
-use Rattle.cif_columns.specs.declared.stp.Stp.TheVariants.{N, P}
+use Rattle.cif_columns.specs.declared.{stp.Stp.Stp, stp.Stp.TheVariants.N, stp.Stp.TheVariants.P}
 use Rattle.cif_extract.specs.ExtractParts.{ExtractParts}
 use Rattle.cif_extract.specs.Texts.{FitsColumns, ScheduleFits, extract_text}
 use Rattle.cif_extract.specs.declared.extract.Schedule.{Schedule}
 use Rattle.cif_records.proofs.Headers as headers
-use Rattle.cif_records.specs.Association.{association_table}
-use Rattle.cif_records.specs.Bodies.{has_body}
-use Rattle.cif_records.specs.Tiploc.{tiploc_table}
-use Rattle.cif_records.specs.declared.association.AssocBody.{AssocBody}
-use Rattle.cif_records.specs.declared.association.AssocKey.{AssocKey}
-use Rattle.cif_records.specs.declared.association.Association.{Association}
-use Rattle.cif_records.specs.declared.header.Header.{Header}
-use Rattle.cif_records.specs.declared.tiploc.Tiploc.{Tiploc}
-use Rattle.cif_laws.proofs.ExampleDays.{three-days}
-use Rattle.cif_laws.proofs.TestedFits.{all_fit, rows-fit}
+use Rattle.cif_records.specs.{Association.association_table, Bodies.has_body, Tiploc.tiploc_table}
+use Rattle.cif_records.specs.declared.{association.AssocBody.AssocBody, association.AssocKey.AssocKey, association.Association.Association}
+use Rattle.cif_records.specs.declared.{header.Header.Header, tiploc.Tiploc.Tiploc}
+use Rattle.cif_laws.proofs.{ExampleDays.three-days, TestedFits.all_fit, TestedFits.rows-fit}
 use Rattle.cif_laws.specs.Examples.{example_canonical, example_input}
 
 -- ---- the header

@@ -1,22 +1,15 @@
 -- What is prepared of a feed says what the feed says.
-use Rattle.std.proofs.Common.{Bool, List, None, Option, Some, arith, false, inl, inr, refl, sym, true, ℕ, ⊎_elim}
-use Rattle.std.proofs.Common.{◌+◌, ◌↔◌, ◌≡◌, ◌≤◌}
+use Rattle.std.proofs.Common.{Bool, List, None, Option, Some, arith, false, inl, inr, refl, sym, true, ℕ, ⊎_elim, ◌+◌, ◌↔◌, ◌≡◌, ◌≤◌}
 use Rattle.cif_calendar.proofs.Names.{false≢true}
-use Rattle.cif_calendar.specs.Applies.{Applies}
-use Rattle.cif_calendar.specs.Clash.{IsClash, IsClear}
-use Rattle.cif_calendar.specs.Entries.{association_entries, schedule_entries}
-use Rattle.cif_calendar.specs.Keys.{of_key}
-use Rattle.cif_calendar.specs.Runs.{Runs}
-use Rattle.cif_calendar.specs.Terms.{Terms}
+use Rattle.cif_calendar.specs.{Applies.Applies, Clash.IsClash, Clash.IsClear, Entries.association_entries, Entries.schedule_entries}
+use Rattle.cif_calendar.specs.{Keys.of_key, Runs.Runs, Terms.Terms}
 use Rattle.cif_extract.specs.ExtractParts.{ExtractParts}
 use Rattle.cif_feed.proofs.PreparedRuns.{in-list, says-published}
-use Rattle.cif_feed.specs.Dropped.{AreClashDays, AreDropped}
-use Rattle.cif_feed.specs.PreparedDays.{SayOfDay}
+use Rattle.cif_feed.specs.{Dropped.AreClashDays, Dropped.AreDropped, PreparedDays.SayOfDay, WrittenPrepared.AreDroppedIf}
+use Rattle.cif_feed.specs.{WrittenPrepared.IsPreparedAs}
 use Rattle.cif_feed.specs.Published.{CountOn, IsClashDay, PublishedTerms}
 use Rattle.cif_feed.specs.PublishedParts.{PublishedParts, published_associations, published_schedules}
-use Rattle.cif_feed.specs.WrittenPrepared.{AreDroppedIf, IsPreparedAs}
-use Rattle.cif_feed.specs.declared.dropped.Dropped.{Dropped}
-use Rattle.cif_feed.specs.declared.holidays.Holidays.{Holidays}
+use Rattle.cif_feed.specs.declared.{dropped.Dropped.Dropped, holidays.Holidays.Holidays}
 use Rattle.cif_records.specs.declared.association.AssocKey.{AssocKey}
 use Rattle.cif_laws.specs.PublishedFeed.{FeedRuns}
 

@@ -1,14 +1,10 @@
 -- The text of a clear extract has as its canonical form the text of a canonical one that says the same.
 use Rattle.std.proofs.Common.{refl}
 use Rattle.cif_canon.proofs.NormalForms.{unasked}
-use Rattle.cif_canon.specs.Accepted.{IsClearExtract}
-use Rattle.cif_canon.specs.Asked.{nothing_asked}
-use Rattle.cif_canon.specs.Canonical.{IsCanonicalExtract}
-use Rattle.cif_canon.specs.Meaning.{SameMeaning}
-use Rattle.cif_canon.specs.NormalForm.{IsNormalFormOf}
+use Rattle.cif_canon.specs.{Accepted.IsClearExtract, Asked.nothing_asked, Canonical.IsCanonicalExtract, Meaning.SameMeaning}
+use Rattle.cif_canon.specs.{NormalForm.IsNormalFormOf}
 use Rattle.cif_extract.proofs.PlainTexts.{text-spells}
-use Rattle.cif_extract.specs.ExtractParts.{ExtractParts}
-use Rattle.cif_extract.specs.Texts.{FitsColumns, extract_text}
+use Rattle.cif_extract.specs.{ExtractParts.ExtractParts, Texts.FitsColumns, Texts.extract_text}
 use Rattle.cif_weeks.specs.declared.form.Form.{Form}
 
 module _ (form : Form) (x made : ExtractParts) (fits : FitsColumns x) (clear : IsClearExtract x) (made_fits : FitsColumns made)

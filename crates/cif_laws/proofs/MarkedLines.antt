@@ -1,13 +1,12 @@
 -- The lines of each side, out of marked lines of both.
-use Rattle.std.proofs.Common.{All, Bool, List, [], ap, arith, cond, drop, filter, flat_map, length}
-use Rattle.std.proofs.Common.{length-append, map, nat_eq, refl, slice_index_or, sym, take, ℕ, ◌++◌, ◌∙◌, ◌∷◌, ◌≡◌}
+use Rattle.std.proofs.Common.{All, Bool, List, [], ap, arith, cond, drop, filter, flat_map, length, length-append, map, nat_eq, refl}
+use Rattle.std.proofs.Common.{slice_index_or, sym, take, ℕ, ◌++◌, ◌∙◌, ◌∷◌, ◌≡◌}
 use Rattle.std.proofs.lemmas.List.{drop_at, map-append, take_at}
 use Rattle.std.proofs.lemmas.List.Elements.{All-append, All-cons, All-head, All-nil, All-tail, filter-append}
 use Rattle.std.proofs.lemmas.Grind.{flat_map-append}
 use Rattle.cif_canon.specs.Differences.{is_side, mark, marked_text, of_side}
-use Rattle.cif_canon.specs.declared.listed_differences.Side.{Side}
-use Rattle.cif_canon.specs.declared.listed_differences.Side.TheVariants.{Left, Right}
-use Rattle.cif_canon.specs.declared.listed_differences.Sided.{Sided}
+use Rattle.cif_canon.specs.declared.{listed_differences.Side.Side, listed_differences.Side.TheVariants.Left}
+use Rattle.cif_canon.specs.declared.{listed_differences.Side.TheVariants.Right, listed_differences.Sided.Sided}
 use Rattle.cif_columns.specs.Contents.{lines_text}
 
 -- ---- lists of lines

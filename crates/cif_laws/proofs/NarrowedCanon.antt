@@ -1,14 +1,11 @@
 -- Canonical bytes, narrowed to a part of their window, have the canonical form that the input has for that part.
 use Rattle.std.proofs.Common.{Contains, List, ap, arith, length, length-take-le, refl, subst, sym, take, ℕ, ◌++◌, ◌∙◌, ◌≡◌, ◌≤◌}
 use Rattle.cif_calendar.proofs.SayTheSame.{EntriesSayTheSame-refl}
-use Rattle.cif_calendar.specs.Entries.{association_entries, schedule_entries}
-use Rattle.cif_calendar.specs.Meaning.{EntriesSayTheSame}
+use Rattle.cif_calendar.specs.{Entries.association_entries, Entries.schedule_entries, Meaning.EntriesSayTheSame}
 use Rattle.cif_canon.proofs.NormalForms.{asked-again, canonical-extract-clear, one-accepted}
 use Rattle.cif_canon.proofs.SameExtracts.{agree-sym, agree-trans, same-trans}
-use Rattle.cif_canon.specs.Accepted.{IsAccepted, IsClearExtract}
+use Rattle.cif_canon.specs.{Accepted.IsAccepted, Accepted.IsClearExtract, Meaning.Agree, Meaning.SameMeaning, NormalForm.IsNormalFormOf}
 use Rattle.cif_canon.specs.Asked.{AskedDatesAreWithin, IsNarrowed, header_window, window_asked}
-use Rattle.cif_canon.specs.Meaning.{Agree, SameMeaning}
-use Rattle.cif_canon.specs.NormalForm.{IsNormalFormOf}
 use Rattle.cif_canon.specs.declared.asked.Asked.{Asked}
 use Rattle.cif_columns.proofs.Names.{take_at}
 use Rattle.cif_extract.proofs.SpelledBytes.{one_spelled}

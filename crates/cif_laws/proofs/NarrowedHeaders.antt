@@ -2,12 +2,8 @@
 use Rattle.cif_columns.proofs.Names.{All-append, All-drop, All-take, date, yymmdd_of}
 use Rattle.std.proofs.Common.{List, ap, arith, drop, length, refl, take, ℕ, ◌++◌, ◌∙◌, ◌≡◌, ◌≤◌}
 use borrow.Rule.Slice.PartMut.{put_mid}
-use Rattle.cif_columns.proofs.DayColumns.{ddmmyy_in-stands}
-use Rattle.cif_columns.proofs.DayDigits.{stands-ddmmyy_of}
-use Rattle.cif_columns.proofs.PlainLines.{printable-plain_columns}
-use Rattle.cif_columns.specs.Day.{IsDay, ddmmyy_in}
-use Rattle.cif_columns.specs.DayDigits.{ddmmyy_of}
-use Rattle.cif_columns.specs.Line.{ArePrintable, IsPrintable}
+use Rattle.cif_columns.proofs.{DayColumns.ddmmyy_in-stands, DayDigits.stands-ddmmyy_of, PlainLines.printable-plain_columns}
+use Rattle.cif_columns.specs.{Day.IsDay, Day.ddmmyy_in, DayDigits.ddmmyy_of, Line.ArePrintable, Line.IsPrintable}
 use Rattle.cif_records.proofs.Windows.{are_printable, kept-first, kept-front, kept-indicator, kept-last, still_wide, written}
 use Rattle.cif_records.specs.HeaderColumns.{with_window}
 use Rattle.cif_records.specs.declared.header.Header.{Header}

@@ -1,12 +1,8 @@
 -- A list of one aligned record, and an empty one, are canonical in form 2.
 use Rattle.std.proofs.Common.{[], ap, arith, subst, sym, ⊎_elim, ◌<◌, ◌∙◌, ◌∷◌, ◌≡◌}
-use Rattle.cif_calendar.proofs.Elements.{Contains-cases}
-use Rattle.cif_calendar.proofs.RisingLists.{Contains-none}
+use Rattle.cif_calendar.proofs.{Elements.Contains-cases, RisingLists.Contains-none}
 use Rattle.cif_calendar.specs.Keys.{of_key}
-use Rattle.cif_weeks.specs.Aligned.{IsAlignedTwo}
-use Rattle.cif_weeks.specs.Canonical.{AreCanonical}
-use Rattle.cif_weeks.specs.Permanent.{Permanent}
-use Rattle.cif_weeks.specs.Window.{Window}
+use Rattle.cif_weeks.specs.{Aligned.IsAlignedTwo, Canonical.AreCanonical, Permanent.Permanent, Window.Window}
 use Rattle.cif_weeks.specs.declared.form.Form.TheVariants.{Two}
 use Rattle.std.specs.declared.cmp.Ordering.{Ordering}
 

@@ -1,16 +1,13 @@
 -- What an update leaves of a key that it doesn't name.
-use Rattle.std.proofs.Common.{All, Bool, Contains, List, Option, ap, false, filter, inl, inr, map, refl, subst, sym, true}
-use Rattle.std.proofs.Common.{ℕ, ⊎_elim, ◌↔◌, ◌≡◌}
-use Rattle.std.proofs.Common.{◌∙◌, ◌≢◌}
+use Rattle.std.proofs.Common.{All, Bool, Contains, List, Option, ap, false, filter, inl, inr, map, refl, subst, sym, true, ℕ, ⊎_elim, ◌↔◌}
+use Rattle.std.proofs.Common.{◌∙◌, ◌≡◌, ◌≢◌}
 use Rattle.cif_calendar.proofs.Sets.{IsClash-same, Runs-same}
 use Rattle.cif_calendar.specs.Terms.{SameRecords, Terms}
 use Rattle.cif_canon.proofs.ChosenRecords.{chosen, chosen-from}
-use Rattle.cif_feed.proofs.ChangeLaws.{have_last_word}
-use Rattle.cif_feed.proofs.ListSteps.{Contains-from_map, Contains-map}
+use Rattle.cif_feed.proofs.{ChangeLaws.have_last_word, ListSteps.Contains-from_map, ListSteps.Contains-map}
 use Rattle.cif_feed.specs.Changes.{AreAfter, AreOfKey, key_of}
-use Rattle.cif_feed.specs.Published.{CountOn, PublishedTerms}
-use Rattle.cif_feed.specs.declared.changes.RecordChange.{RecordChange}
-use Rattle.cif_feed.specs.declared.holidays.Holidays.{Holidays}
+use Rattle.cif_feed.specs.{Published.CountOn, Published.PublishedTerms, declared.changes.RecordChange.RecordChange}
+use Rattle.cif_feed.specs.{declared.holidays.Holidays.Holidays}
 use Rattle.cif_laws.specs.PublishedFeed.{FeedRuns}
 
 -- ---- what is there

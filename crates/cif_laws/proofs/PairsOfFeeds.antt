@@ -1,21 +1,14 @@
 -- Two prepared inputs, narrowed to what is asked for of both.
 use Rattle.std.proofs.Common.{Bool, List, subst, sym, ℕ, ◌≡◌}
-use Rattle.cif_canon.specs.Asked.{IsNarrowed, header_window}
-use Rattle.cif_canon.specs.Comparison.{AreCompared}
-use Rattle.cif_canon.specs.Differences.{AreDifferences, DifferencesParts}
-use Rattle.cif_canon.specs.Pair.{SpellPair, asked_of_both}
-use Rattle.cif_canon.specs.declared.asked.Asked.{Asked}
-use Rattle.cif_canon.specs.declared.comparison.Comparison.{Comparison}
-use Rattle.cif_extract.specs.ExtractParts.{ExtractParts}
-use Rattle.cif_extract.specs.SpellsExtract.{BytesSpell}
-use Rattle.cif_feed.specs.WrittenPrepared.{IsPreparedText}
-use Rattle.cif_feed.specs.declared.dropped.Dropped.{Dropped}
-use Rattle.cif_feed.specs.declared.holidays.Holidays.{Holidays}
+use Rattle.cif_canon.specs.{Asked.IsNarrowed, Asked.header_window, Comparison.AreCompared, Differences.AreDifferences}
+use Rattle.cif_canon.specs.{Differences.DifferencesParts, Pair.SpellPair, Pair.asked_of_both}
+use Rattle.cif_canon.specs.declared.{asked.Asked.Asked, comparison.Comparison.Comparison}
+use Rattle.cif_extract.specs.{ExtractParts.ExtractParts, SpellsExtract.BytesSpell}
+use Rattle.cif_feed.specs.{WrittenPrepared.IsPreparedText, declared.dropped.Dropped.Dropped, declared.holidays.Holidays.Holidays}
 use Rattle.cif_laws.proofs.ComparedFeeds.{compared-feeds, different-feeds}
 use Rattle.cif_laws.proofs.PreparedInputs.{says, tiplocs-of, window-of}
-use Rattle.cif_laws.specs.FeedDifferences.{AreFeedDifferences, IsFeedComparison}
-use Rattle.cif_laws.specs.Feeds.{SaysWhatFeedSays}
-use Rattle.cif_laws.specs.PublishedFeed.{feed_of}
+use Rattle.cif_laws.specs.{FeedDifferences.AreFeedDifferences, FeedDifferences.IsFeedComparison, Feeds.SaysWhatFeedSays}
+use Rattle.cif_laws.specs.{PublishedFeed.feed_of}
 
 module _ {h : Holidays} {drops : Bool} {limit : ℕ} {bytes text : List ℕ} {dropped : Dropped}
     (a : IsPreparedText h drops limit bytes text dropped) (asked : Asked) (whole x : ExtractParts) (spelled : BytesSpell text whole)

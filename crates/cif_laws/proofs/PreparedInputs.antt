@@ -1,24 +1,17 @@
 -- A prepared extract, narrowed to what is asked for, says what the feed says, and has its header.
-use Rattle.std.proofs.Common.{Bool, Contains, IfSome, List, None, Option, Some, ap, arith, refl, subst, sym, unwrap_or, ℕ}
-use Rattle.std.proofs.Common.{◌↔◌, ◌∙◌, ◌≡◌, ◌≤◌}
-use Rattle.cif_calendar.specs.Clash.{IsClear}
-use Rattle.cif_calendar.specs.Entries.{association_entries, schedule_entries}
-use Rattle.cif_calendar.specs.Keys.{of_key}
-use Rattle.cif_calendar.specs.Runs.{Runs}
+use Rattle.std.proofs.Common.{Bool, Contains, IfSome, List, None, Option, Some, ap, arith, refl, subst, sym, unwrap_or, ℕ, ◌↔◌, ◌∙◌, ◌≡◌}
+use Rattle.std.proofs.Common.{◌≤◌}
+use Rattle.cif_calendar.specs.{Clash.IsClear, Entries.association_entries, Entries.schedule_entries, Keys.of_key, Runs.Runs}
 use Rattle.cif_canon.specs.Accepted.{IsAcceptedWithin}
 use Rattle.cif_canon.specs.Asked.{AskedDatesAreWithin, IsNarrowed, header_window, window_asked}
 use Rattle.cif_canon.specs.declared.asked.Asked.{Asked}
 use Rattle.cif_extract.proofs.SpelledBytes.{one_spelled}
-use Rattle.cif_extract.specs.ExtractParts.{ExtractParts}
-use Rattle.cif_extract.specs.SpellsExtract.{BytesSpell}
-use Rattle.cif_feed.specs.WrittenPrepared.{IsPreparedText}
-use Rattle.cif_feed.specs.declared.dropped.Dropped.{Dropped}
-use Rattle.cif_feed.specs.declared.holidays.Holidays.{Holidays}
+use Rattle.cif_extract.specs.{ExtractParts.ExtractParts, SpellsExtract.BytesSpell}
+use Rattle.cif_feed.specs.{WrittenPrepared.IsPreparedText, declared.dropped.Dropped.Dropped, declared.holidays.Holidays.Holidays}
 use Rattle.cif_records.proofs.Headers.{last_is_day}
 use Rattle.cif_records.specs.declared.header.Header.{Header}
 use Rattle.cif_weeks.specs.Window.{IsWithin, Window, window_from}
-use Rattle.cif_laws.proofs.FeedMeaning.{associations-say, trains-say}
-use Rattle.cif_laws.proofs.NarrowedHeaders.{windowed-header}
+use Rattle.cif_laws.proofs.{FeedMeaning.associations-say, FeedMeaning.trains-say, NarrowedHeaders.windowed-header}
 use Rattle.cif_laws.specs.Feeds.{IsFeedAccepted, SaysWhatFeedSays, columns_asked}
 use Rattle.cif_laws.specs.PublishedFeed.{AssociationRuns, TrainRuns, feed_of}
 

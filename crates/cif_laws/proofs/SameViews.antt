@@ -1,25 +1,16 @@
 -- Views of extracts that say the same are the same.
-use Rattle.std.proofs.Common.{List, Ordering, Some, ap, subst, sym, ℕ}
-use Rattle.std.proofs.Common.{nat_cmp, ◌∙◌, ◌≡◌, ◌≤◌}
+use Rattle.std.proofs.Common.{List, Ordering, Some, ap, nat_cmp, subst, sym, ℕ, ◌∙◌, ◌≡◌, ◌≤◌}
 use Rattle.std.specs.Cmp.Lexicographic.{slice_cmp}
 use Rattle.cif_calendar.proofs.SayTheSame.{EntriesSayTheSame-sym, EntriesSayTheSame-trans}
-use Rattle.cif_calendar.specs.Entries.{association_entries, schedule_entries}
-use Rattle.cif_calendar.specs.Meaning.{EntriesSayTheSame}
-use Rattle.cif_calendar.specs.Terms.{Terms}
+use Rattle.cif_calendar.specs.{Entries.association_entries, Entries.schedule_entries, Meaning.EntriesSayTheSame, Terms.Terms}
 use Rattle.cif_canon.proofs.SameExtracts.{one-window, same-sym, same-trans}
 use Rattle.cif_canon.proofs.Unique.{extracts-unique}
-use Rattle.cif_canon.specs.Accepted.{IsClearExtract}
-use Rattle.cif_canon.specs.Canon.{CanonParts, IsCanonOf}
-use Rattle.cif_canon.specs.Counts.{counts_of}
-use Rattle.cif_canon.specs.Lines.{lines_of}
-use Rattle.cif_canon.specs.Meaning.{SameMeaning}
+use Rattle.cif_canon.specs.{Accepted.IsClearExtract, Canon.CanonParts, Canon.IsCanonOf, Counts.counts_of, Lines.lines_of}
+use Rattle.cif_canon.specs.{Meaning.SameMeaning}
 use Rattle.cif_canon.specs.Views.{AreRunning, DayTexts, IsDayListed, IsTrainListed, TrainTexts}
-use Rattle.cif_extract.specs.ExtractParts.{ExtractParts}
-use Rattle.cif_extract.specs.Texts.{extract_text}
+use Rattle.cif_extract.specs.{ExtractParts.ExtractParts, Texts.extract_text}
 use Rattle.cif_records.specs.AssocKey.{key_cmp}
-use Rattle.cif_weeks.specs.Canonical.{AreCanonical}
-use Rattle.cif_weeks.specs.Permanent.{permanent_entries}
-use Rattle.cif_weeks.specs.Window.{IsWithin, Window}
+use Rattle.cif_weeks.specs.{Canonical.AreCanonical, Permanent.permanent_entries, Window.IsWithin, Window.Window}
 use Rattle.cif_weeks.specs.declared.form.Form.{Form}
 
 module _ {K B : Type 0} (cmp : K → K → Ordering) (xs ys : List (K × Terms B)) (first last d : ℕ) (from : first ≤ d) (upto : d ≤ last)

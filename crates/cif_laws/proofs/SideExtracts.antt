@@ -1,17 +1,13 @@
 -- The extract of what one side of differences says: its records fit their columns, as the side's own do.
-use Rattle.std.proofs.Common.{All, Contains, List, Some, [], ap, flat_map, get_or, map, nat_cmp, refl}
-use Rattle.std.proofs.Common.{Ordering}
-use Rattle.std.proofs.Common.{option_map, subst, ℕ, ◌++◌, ◌∙◌, ◌∷◌, ◌≡◌, IfSome}
+use Rattle.std.proofs.Common.{All, Contains, IfSome, List, Ordering, Some, [], ap, flat_map, get_or, map, nat_cmp, option_map, refl, subst}
+use Rattle.std.proofs.Common.{ℕ, ◌++◌, ◌∙◌, ◌∷◌, ◌≡◌}
 use Rattle.std.proofs.lemmas.List.Elements.{All-cons, All-contains, All-head, All-nil, All-tail, Contains-get_or}
 use Rattle.std.specs.Cmp.Lexicographic.{slice_cmp}
 use Rattle.cif_calendar.specs.Entries.{association_entries, association_entry, schedule_entries, schedule_entry}
-use Rattle.cif_calendar.specs.Keys.{of_key}
-use Rattle.cif_calendar.specs.Runs.{BodyRuns}
-use Rattle.cif_calendar.specs.Terms.{Terms}
+use Rattle.cif_calendar.specs.{Keys.of_key, Runs.BodyRuns, Terms.Terms}
 use Rattle.cif_canon.proofs.MadeExtract.{IsDated, association_of, associations_of, schedule_of, schedules_of}
 use Rattle.cif_canon.proofs.MadeFits.{HasTerms, have-terms, permanent-association, permanent-basic}
-use Rattle.cif_canon.specs.Asked.{header_window}
-use Rattle.cif_canon.specs.Differences.{AreOnlyRecords}
+use Rattle.cif_canon.specs.{Asked.header_window, Differences.AreOnlyRecords}
 use Rattle.cif_columns.specs.Field.{AllFit, plain_line}
 use Rattle.cif_columns.specs.declared.stp.Stp.TheVariants.{P}
 use Rattle.cif_extract.specs.Body.{BodyLines, IsBody, detail_of}
@@ -20,16 +16,11 @@ use Rattle.cif_extract.specs.Texts.{FitsColumns, ScheduleFits, line_of_associati
 use Rattle.cif_extract.specs.declared.extract.Schedule.{Schedule}
 use Rattle.cif_feed.proofs.ListSteps.{Contains-from_map}
 use Rattle.cif_records.proofs.Headers as headers
-use Rattle.cif_records.specs.AssocKey.{key_cmp}
-use Rattle.cif_records.specs.Association.{association_rows, association_table}
-use Rattle.cif_records.specs.Basic.{basic_rows}
-use Rattle.cif_records.specs.Tiploc.{tiploc_table}
-use Rattle.cif_records.specs.declared.association.AssocBody.{AssocBody}
-use Rattle.cif_records.specs.declared.association.AssocKey.{AssocKey}
-use Rattle.cif_records.specs.declared.association.Association.{Association}
-use Rattle.cif_records.specs.declared.tiploc.Tiploc.{Tiploc}
-use Rattle.cif_weeks.proofs.AlignedDays.{tight}
-use Rattle.cif_weeks.proofs.PermanentEntries.{canonical-dated}
+use Rattle.cif_records.specs.{AssocKey.key_cmp, Association.association_rows, Association.association_table, Basic.basic_rows}
+use Rattle.cif_records.specs.{Tiploc.tiploc_table}
+use Rattle.cif_records.specs.declared.{association.AssocBody.AssocBody, association.AssocKey.AssocKey, association.Association.Association}
+use Rattle.cif_records.specs.declared.{tiploc.Tiploc.Tiploc}
+use Rattle.cif_weeks.proofs.{AlignedDays.tight, PermanentEntries.canonical-dated}
 use Rattle.cif_weeks.specs.Permanent.{Permanent}
 use Rattle.cif_weeks.specs.declared.form.Form.TheVariants.{Two}
 

@@ -4,19 +4,12 @@ use Rattle.std.proofs.Common.{ℕ, ◌&&◌, ◌∷◌, ◌≡◌}
 use Rattle.std.specs.List.{list_all}
 use Rattle.std.proofs.lemmas.List.Elements.{All-cons, All-nil}
 use Rattle.cif_columns.proofs.Names.{and_parts, bytes_eq-Decides, nat_tests}
-use Rattle.cif_columns.proofs.Parts.{stands-plain_line}
-use Rattle.cif_columns.proofs.PlainLines.{line-plain_line}
-use Rattle.cif_columns.proofs.PrintableBytes.{printable_fact}
-use Rattle.cif_columns.proofs.Texts.{is_text_of}
-use Rattle.cif_columns.proofs.Times.{public-stands, work-stands}
-use Rattle.cif_columns.specs.Activities.{IsCode}
+use Rattle.cif_columns.proofs.{Parts.stands-plain_line, PlainLines.line-plain_line, PrintableBytes.printable_fact, Texts.is_text_of}
+use Rattle.cif_columns.proofs.{Times.public-stands, Times.work-stands}
+use Rattle.cif_columns.specs.{Activities.IsCode, FirstLine.is_printable, Line.IsLine, PublicTime.is_public_time, Text.IsTrimmed}
+use Rattle.cif_columns.specs.{Text.text_of, WorkTime.is_work_time}
 use Rattle.cif_columns.specs.Field.{AllFit, FieldValue, Fits, Row, activity_codes, date, exactly, indicator, is_whole_from, plain_line}
 use Rattle.cif_columns.specs.Field.{public_time, spare, text, weekdays, width_of, working_time}
-use Rattle.cif_columns.specs.Line.{IsLine}
-use Rattle.cif_columns.specs.FirstLine.{is_printable}
-use Rattle.cif_columns.specs.PublicTime.{is_public_time}
-use Rattle.cif_columns.specs.Text.{IsTrimmed, text_of}
-use Rattle.cif_columns.specs.WorkTime.{is_work_time}
 use Rattle.cif_extract.specs.Body.{KeepAll}
 
 -- Whether the value can stand in so many columns. Of activity codes the test accepts none alone.

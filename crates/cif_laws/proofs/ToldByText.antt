@@ -1,40 +1,25 @@
 -- The text of differences tells what each side alone says, and so what the right extract says.
-use Rattle.std.proofs.Common.{All, Contains, List, None, Option, Some, [], ap, append_assoc, flat_map, map, nat_cmp, refl, subst}
-use Rattle.std.proofs.Common.{sym, ℕ, ◌++◌, ◌∙◌, ◌∷◌, ◌≡◌, ◌⊎◌}
-use Rattle.std.proofs.lemmas.Grind.{flat_map-append}
-use Rattle.std.proofs.lemmas.List.Elements.{All-append, All-tail}
+use Rattle.std.proofs.Common.{All, Contains, List, None, Option, Some, [], ap, append_assoc, flat_map, map, nat_cmp, refl, subst, sym, ℕ}
+use Rattle.std.proofs.Common.{◌++◌, ◌∙◌, ◌∷◌, ◌≡◌, ◌⊎◌}
+use Rattle.std.proofs.{lemmas.Grind.flat_map-append, lemmas.List.Elements.All-append, lemmas.List.Elements.All-tail}
 use Rattle.std.specs.Cmp.Lexicographic.{slice_cmp}
-use Rattle.cif_calendar.specs.Entries.{association_entries, schedule_entries}
-use Rattle.cif_calendar.specs.Keys.{of_key}
-use Rattle.cif_calendar.specs.Meaning.{EntriesSayTheSame}
-use Rattle.cif_calendar.specs.Runs.{BodyRuns, NothingRuns}
-use Rattle.cif_calendar.specs.Terms.{Terms}
+use Rattle.cif_calendar.specs.{Entries.association_entries, Entries.schedule_entries, Keys.of_key, Meaning.EntriesSayTheSame, Runs.BodyRuns}
+use Rattle.cif_calendar.specs.{Runs.NothingRuns, Terms.Terms}
 use Rattle.cif_canon.proofs.MadeExtract.{associations_of, entries-of_associations, entries-of_schedules, schedules_of}
-use Rattle.cif_canon.specs.Asked.{header_window}
-use Rattle.cif_canon.specs.Differences.{AreDifferences, AreOnlyRecords, DifferencesParts, RunsApplied}
-use Rattle.cif_canon.specs.Differences.{SaysNothing, SaysSomething, TurnInto, TurnLeftIntoRight, at_side, differences_text}
-use Rattle.cif_canon.specs.Differences.{marked_association, marked_schedule, of_side}
-use Rattle.cif_canon.specs.Meaning.{SameMeaning}
-use Rattle.cif_canon.specs.declared.listed_differences.Side.{Side}
-use Rattle.cif_canon.specs.declared.listed_differences.Side.TheVariants.{Left, Right}
-use Rattle.cif_canon.specs.declared.listed_differences.Sided.{Sided}
+use Rattle.cif_canon.specs.{Asked.header_window, Meaning.SameMeaning}
+use Rattle.cif_canon.specs.Differences.{AreDifferences, AreOnlyRecords, DifferencesParts, RunsApplied, SaysNothing, SaysSomething, TurnInto}
+use Rattle.cif_canon.specs.Differences.{TurnLeftIntoRight, at_side, differences_text, marked_association, marked_schedule, of_side}
+use Rattle.cif_canon.specs.declared.{listed_differences.Side.Side, listed_differences.Side.TheVariants.Left}
+use Rattle.cif_canon.specs.declared.{listed_differences.Side.TheVariants.Right, listed_differences.Sided.Sided}
 use Rattle.cif_canon.proofs.MergedSides.{from-side}
-use Rattle.cif_columns.specs.Contents.{lines_text}
-use Rattle.cif_columns.specs.Field.{plain_line}
-use Rattle.cif_columns.specs.Line.{IsLine}
-use Rattle.cif_extract.proofs.OneExtract.{same_values}
-use Rattle.cif_extract.proofs.PlainTexts.{text-lines, text-spells}
-use Rattle.cif_extract.proofs.SpelledBytes.{one_spelled}
-use Rattle.cif_extract.specs.ExtractParts.{ExtractParts}
-use Rattle.cif_extract.specs.SpellsExtract.{BytesSpell}
+use Rattle.cif_columns.specs.{Contents.lines_text, Field.plain_line, Line.IsLine}
+use Rattle.cif_extract.proofs.{OneExtract.same_values, PlainTexts.text-lines, PlainTexts.text-spells, SpelledBytes.one_spelled}
+use Rattle.cif_extract.specs.{ExtractParts.ExtractParts, SpellsExtract.BytesSpell}
 use Rattle.cif_extract.specs.Texts.{FitsColumns, extract_lines, extract_text, line_of_association, plain_lines_of}
-use Rattle.cif_records.specs.AssocKey.{key_cmp}
-use Rattle.cif_records.specs.Header.{header_table}
-use Rattle.cif_records.specs.Trailer.{trailer_table}
+use Rattle.cif_records.specs.{AssocKey.key_cmp, Header.header_table, Trailer.trailer_table}
 use Rattle.cif_records.specs.declared.tiploc.Tiploc.{Tiploc}
 use Rattle.cif_weeks.specs.Permanent.{Permanent, permanent_entries, terms_of}
-use Rattle.cif_weeks.specs.WhatRuns.{HasBody}
-use Rattle.cif_weeks.specs.Window.{IsWithin, Window}
+use Rattle.cif_weeks.specs.{WhatRuns.HasBody, Window.IsWithin, Window.Window}
 use Rattle.cif_laws.proofs.MarkedLines.{All-back, All-front, IsMarkedWide, IsWide, one-list, sided_lines, text-of, unmarked}
 use Rattle.cif_laws.proofs.MarkedLines.{unmarked-append, unmarked-of, wide-of}
 use Rattle.cif_laws.proofs.SideExtracts.{association_lines, associations-dated, lines-of_associations, lines-of_schedules, lines-of_tiplocs}

@@ -1,15 +1,11 @@
 -- What a published feed says on each date.
 use Rattle.std.specs.Prelude.{◌≡◌, ◌⊎◌, ℕ, Bool, true, false, List, Option, None}
-use Rattle.cif_calendar.specs.Clash.{IsClash}
-use Rattle.cif_calendar.specs.Runs.{Runs}
+use Rattle.cif_calendar.specs.{Clash.IsClash, Runs.Runs}
 use Rattle.cif_extract.specs.Body.{BodyLines}
-use Rattle.cif_records.specs.declared.association.AssocBody.{AssocBody}
-use Rattle.cif_records.specs.declared.association.AssocKey.{AssocKey}
-use Rattle.cif_feed.specs.Published.{CountOn, PublishedTerms}
+use Rattle.cif_records.specs.declared.{association.AssocBody.AssocBody, association.AssocKey.AssocKey}
+use Rattle.cif_feed.specs.{Published.CountOn, Published.PublishedTerms, WrittenPrepared.IsPreparedText}
 use Rattle.cif_feed.specs.PublishedParts.{PublishedParts, published_associations, published_schedules}
-use Rattle.cif_feed.specs.WrittenPrepared.{IsPreparedText}
-use Rattle.cif_feed.specs.declared.dropped.Dropped.{Dropped}
-use Rattle.cif_feed.specs.declared.holidays.Holidays.{Holidays}
+use Rattle.cif_feed.specs.declared.{dropped.Dropped.Dropped, holidays.Holidays.Holidays}
 
 -- A published feed: a published extract with the holidays of its codes, whose clashes stay or are dropped.
 pub record PublishedFeed : Type 0 where

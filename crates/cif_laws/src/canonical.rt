@@ -1,23 +1,16 @@
 //! Laws of canonical extracts: what the canonical bytes of an input say of it.
 ghost use Rattle.std.specs.Prelude.{◌≡◌, ◌↔◌, ℕ, List, true};
-ghost use Rattle.cif_canon.specs.Accepted.{IsAccepted, IsClearExtract};
+ghost use Rattle.cif_canon.specs.{Accepted.IsAccepted, Accepted.IsClearExtract, Canon.CanonParts, Canon.IsCanonOf, Comparison.AreCompared};
+ghost use Rattle.cif_canon.specs.{Meaning.SameMeaning, NormalForm.IsNormalFormOf};
 ghost use Rattle.cif_canon.specs.Asked.{AskedDatesAreWithin, header_window, nothing_asked, window_asked};
-ghost use Rattle.cif_canon.specs.Canon.{CanonParts, IsCanonOf};
-ghost use Rattle.cif_canon.specs.Comparison.{AreCompared};
 ghost use Rattle.cif_canon.specs.Differences.{AreDifferences, DifferencesParts, TurnLeftIntoRight, differences_text};
-ghost use Rattle.cif_canon.specs.Meaning.{SameMeaning};
-ghost use Rattle.cif_canon.specs.NormalForm.{IsNormalFormOf};
 ghost use Rattle.cif_canon.specs.Views.{DayTexts, IsDayListed, IsTrainListed, TrainTexts};
-ghost use Rattle.cif_canon.specs.declared.asked.Asked.{Asked};
-ghost use Rattle.cif_canon.specs.declared.comparison.Comparison.{Comparison};
-ghost use Rattle.cif_extract.specs.ExtractParts.{ExtractParts};
-ghost use Rattle.cif_extract.specs.Texts.{FitsColumns};
-ghost use Rattle.cif_feed.specs.OfProfile.{as_published};
-ghost use Rattle.cif_feed.specs.PreparedParts.{IsPrepared};
+ghost use Rattle.cif_canon.specs.declared.{asked.Asked.Asked, comparison.Comparison.Comparison};
+ghost use Rattle.cif_extract.specs.{ExtractParts.ExtractParts, Texts.FitsColumns};
+ghost use Rattle.cif_feed.specs.{OfProfile.as_published, PreparedParts.IsPrepared};
 ghost use Rattle.cif_feed.specs.declared.holidays.Holidays.{Holidays};
 ghost use Rattle.cif_laws.specs.Examples.{example_canonical, example_input};
-ghost use Rattle.cif_weeks.specs.declared.form.Form.{Form};
-ghost use Rattle.cif_weeks.specs.declared.form.Form.TheVariants.{Two};
+ghost use Rattle.cif_weeks.specs.declared.{form.Form.Form, form.Form.TheVariants.Two};
 
 /// Canonical bytes of an input, narrowed to a part of their window, are what the input is, narrowed to that part: of
 /// either form, from either form.

@@ -1,32 +1,21 @@
 //! Laws of published feeds: what becomes of one that `prepare` writes, and `normalise`, `compare` and `diff` read.
 ghost use Rattle.std.specs.Prelude.{◌≡◌, ◌≢◌, ◌↔◌, ◌≤◌, ℕ, All, Bool, List, Option, false};
-ghost use Rattle.cif_canon.specs.Accepted.{IsAcceptedWithin};
+ghost use Rattle.cif_canon.specs.{Accepted.IsAcceptedWithin, Comparison.AreCompared, Differences.AreDifferences};
+ghost use Rattle.cif_canon.specs.{Differences.DifferencesParts, NormalForm.IsNormalFormOf, NormalForm.after_first_line, Pair.SpellPair};
 ghost use Rattle.cif_canon.specs.Asked.{header_window, nothing_asked, window_asked};
-ghost use Rattle.cif_canon.specs.Comparison.{AreCompared};
-ghost use Rattle.cif_canon.specs.Differences.{AreDifferences, DifferencesParts};
-ghost use Rattle.cif_canon.specs.NormalForm.{IsNormalFormOf, after_first_line};
-ghost use Rattle.cif_canon.specs.Pair.{SpellPair};
-ghost use Rattle.cif_canon.specs.declared.asked.Asked.{Asked};
-ghost use Rattle.cif_canon.specs.declared.comparison.Comparison.{Comparison};
+ghost use Rattle.cif_canon.specs.declared.{asked.Asked.Asked, comparison.Comparison.Comparison};
 ghost use Rattle.cif_columns.specs.declared.line_reader.TheConstants.{MAX_LINES};
-ghost use Rattle.cif_extract.specs.Body.{BodyLines};
-ghost use Rattle.cif_extract.specs.ExtractParts.{ExtractParts};
-ghost use Rattle.cif_feed.specs.Changes.{key_of};
-ghost use Rattle.cif_feed.specs.HolidayText.{SpellHolidays};
+ghost use Rattle.cif_extract.specs.{Body.BodyLines, ExtractParts.ExtractParts};
+ghost use Rattle.cif_feed.specs.{Changes.key_of, HolidayText.SpellHolidays, UpdateParts.UpdateParts, WrittenPrepared.IsPreparedText};
 ghost use Rattle.cif_feed.specs.PublishedParts.{PublishedParts, published_associations, published_schedules};
-ghost use Rattle.cif_feed.specs.UpdateParts.{UpdateParts};
 ghost use Rattle.cif_feed.specs.Updated.{IsUpdated, published_association_key, published_schedule_key};
-ghost use Rattle.cif_feed.specs.WrittenPrepared.{IsPreparedText};
-ghost use Rattle.cif_feed.specs.declared.dropped.Dropped.{Dropped};
-ghost use Rattle.cif_feed.specs.declared.holidays.Holidays.{Holidays};
+ghost use Rattle.cif_feed.specs.declared.{dropped.Dropped.Dropped, holidays.Holidays.Holidays};
 ghost use Rattle.cif_laws.specs.Examples.{example_feed, example_holidays, example_prepared, example_prepared_canonical};
-ghost use Rattle.cif_laws.specs.FeedDifferences.{AreFeedDifferences, IsFeedComparison};
+ghost use Rattle.cif_laws.specs.{FeedDifferences.AreFeedDifferences, FeedDifferences.IsFeedComparison, PublishedFeed.FeedRuns};
+ghost use Rattle.cif_laws.specs.{PublishedFeed.feed_of};
 ghost use Rattle.cif_laws.specs.Feeds.{FeedsAgree, FeedsSayTheSame, IsFeedAccepted, SaysWhatFeedSays, columns_asked};
-ghost use Rattle.cif_laws.specs.PublishedFeed.{FeedRuns, feed_of};
-ghost use Rattle.cif_records.specs.declared.association.AssocBody.{AssocBody};
-ghost use Rattle.cif_records.specs.declared.association.AssocKey.{AssocKey};
-ghost use Rattle.cif_weeks.specs.declared.form.Form.{Form};
-ghost use Rattle.cif_weeks.specs.declared.form.Form.TheVariants.{Two};
+ghost use Rattle.cif_records.specs.declared.{association.AssocBody.AssocBody, association.AssocKey.AssocKey};
+ghost use Rattle.cif_weeks.specs.declared.{form.Form.Form, form.Form.TheVariants.Two};
 
 /// What is prepared of a feed is accepted for the dates that are asked for exactly if it isn't too long, the
 /// dates lie in its window, and, unless clashes are dropped, none is in the window that is asked for.

@@ -5,8 +5,7 @@ use Rattle.cif_records.proofs.Names.{detail_rows, exactly, false, has_body, is_s
 use Rattle.cif_records.proofs.Names.{one_weekdays, props, refl, stands-back, stands-front, stp_in-letter, sym, true, weekdays, ℕ, ◌++◌, ◌∙◌}
 use Rattle.cif_records.proofs.Names.{◌≡◌, ◌≤◌}
 use mathlib.Core.HLevel.{Σ_prop_path}
-use Rattle.cif_records.proofs.Details.{detail_stands, one_detail}
-use Rattle.cif_records.proofs.Judging.{dates_fine}
+use Rattle.cif_records.proofs.{Details.detail_stands, Details.one_detail, Judging.dates_fine}
 
 same_detail : (line : List ℕ) (a b : Option Detail) → is_some a ≡ is_some b → AllStandIn line (detail_rows a) →
     AllStandIn line (detail_rows b) → a ≡ b

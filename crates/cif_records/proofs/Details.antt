@@ -6,9 +6,8 @@ use Rattle.cif_records.proofs.Names.{get_or-append-add, get_or_append_left, has_
 use Rattle.cif_records.proofs.Names.{one_table, plain_columns, plain_line, refl, replicate, row, spare, stands-append, stands-front, subst}
 use Rattle.cif_records.proofs.Names.{sym, take, take-append_seam, text, text_of, true, width_of, ℕ, ◌&&◌, ◌++◌, ◌+◌, ◌-◌, ◌<◌, ◌∙◌, ◌∷◌}
 use Rattle.cif_records.proofs.Names.{◌≡◌, ◌≤◌}
-use Rattle.cif_columns.proofs.ColumnReads.{read, width}
+use Rattle.cif_columns.proofs.{ColumnReads.read, ColumnReads.width, Texts.is_text_of}
 use Rattle.cif_columns.proofs.StoodValues as stood
-use Rattle.cif_columns.proofs.Texts.{is_text_of}
 use Rattle.cif_records.proofs.Rows.{◌&◌}
 
 -- a detail that stands in a line of its own fits its columns

@@ -1,8 +1,7 @@
 -- What a chain of checks says.
 use Rattle.cif_records.proofs.Names.{Err, IsJudged, List, None, Ok, Option, Refusal, Result, Some, StandsInYymmdd, ap, are, arith}
 use Rattle.cif_records.proofs.Names.{bytes_decides, codes, dates_refusal, day_number, false, false_from_ne_true, last_date_refusal, nat_le}
-use Rattle.cif_records.proofs.Names.{nat_tests, sym, true, yymmdd_in, yymmdd_in-stands, ℕ, ◌<◌, ◌∙◌, ◌≡◌, ◌≤◌}
-use Rattle.cif_columns.specs.declared.refusal.Refusal.TheVariants.{DatesReversed}
+use Rattle.cif_records.proofs.Names.{nat_tests, sym, true, yymmdd_in, yymmdd_in-stands, ℕ, ◌∙◌, ◌≡◌, ◌≤◌}
 
 -- the exit of a check that refused
 pub judged_err : {T : Type 0} (P : T → Type 0) (refusal : Option Refusal) (result : Result T Refusal) (why : Refusal)
@@ -25,13 +24,6 @@ pub dates_judged : (first last : List ℕ) (m n : ℕ) → yymmdd_in first ≡ S
     → yymmdd_in last ≡ Some n → m ≤ n → dates_refusal first last ≡ None
 dates_judged first last m n a b c h =
     let test : nat_le m n ≡ true = grind (arith, nat_tests) in
-    rw (b, a, c, test)
-
--- two dates that name days, the second no open end and before the first
-pub dates_reversed : (first last : List ℕ) (m n : ℕ) → yymmdd_in first ≡ Some m → last_date_refusal last ≡ None
-    → yymmdd_in last ≡ Some n → n < m → dates_refusal first last ≡ Some DatesReversed
-dates_reversed first last m n a b c h =
-    let test : nat_le m n ≡ false = grind (arith, nat_tests) in
     rw (b, a, c, test)
 
 no_day : (columns : List ℕ) (n : ℕ) → columns ≡ codes "999999" → yymmdd_in columns ≡ Some n → ⊥

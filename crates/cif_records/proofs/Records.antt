@@ -10,8 +10,7 @@ use Rattle.cif_records.proofs.Basics as basics
 use Rattle.cif_records.proofs.Changes as changes
 use Rattle.cif_records.proofs.Extras as extras
 use Rattle.cif_records.proofs.Headers as headers
-use Rattle.cif_records.proofs.Identities.{only_kind}
-use Rattle.cif_records.proofs.Judging.{none-some}
+use Rattle.cif_records.proofs.{Identities.only_kind, Judging.none-some}
 use Rattle.cif_records.proofs.Origins as origins
 use Rattle.cif_records.proofs.Stops as stops
 use Rattle.cif_records.proofs.Termini as termini

@@ -1,9 +1,7 @@
 -- The order of the keys of associations.
-use Rattle.std.specs.Ordering.{ordering_then, nat_cmp}
-use Rattle.std.specs.Cmp.Lexicographic.{slice_cmp}
+use Rattle.std.specs.{Cmp.Lexicographic.slice_cmp, Ordering.nat_cmp, Ordering.ordering_then}
 use Rattle.std.specs.declared.cmp.Ordering.{Ordering}
-use Rattle.cif_columns.specs.Field.{Fits, text}
-use Rattle.cif_columns.specs.Text.{left_justified}
+use Rattle.cif_columns.specs.{Field.Fits, Field.text, Text.left_justified}
 use Rattle.cif_records.specs.declared.association.AssocKey.{AssocKey}
 
 -- Keys are compared by the base UID, then the associated UID, the location, the base suffix and the associated suffix: the first

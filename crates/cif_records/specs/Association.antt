@@ -1,13 +1,10 @@
 -- AA: an association of two trains, its columns, and the reasons to refuse one.
 use Rattle.std.specs.Prelude.{◌≡◌, ℕ, Bool, List, [], ◌∷◌, Option, codes}
 use Rattle.cif_columns.specs.Field.{AllStandIn, FieldValue, Row, StandsIn, row, columns, exactly, text, date, weekdays, indicator, spare}
-use Rattle.cif_columns.specs.declared.refusal.Refusal.{Refusal}
-use Rattle.cif_columns.specs.declared.stp.Stp.{Stp}
+use Rattle.cif_columns.specs.declared.{refusal.Refusal.Refusal, stp.Stp.Stp}
 use Rattle.cif_records.specs.Bodies.{of_body}
 use Rattle.cif_records.specs.Checks.{first_of, identity_refusal, transaction_refusal, dates_refusal, days_refusal, letter_refusal}
-use Rattle.cif_records.specs.declared.association.AssocBody.{AssocBody}
-use Rattle.cif_records.specs.declared.association.AssocKey.{AssocKey}
-use Rattle.cif_records.specs.declared.association.Association.{Association}
+use Rattle.cif_records.specs.declared.{association.AssocBody.AssocBody, association.AssocKey.AssocKey, association.Association.Association}
 
 -- the columns of an association with these fields, where its transaction, its last date and its days stand as these values
 abbrev pub association_rows_by : List ℕ → AssocKey → ℕ → FieldValue → FieldValue → Stp → Option AssocBody → List Row

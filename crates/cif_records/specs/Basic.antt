@@ -1,14 +1,11 @@
 -- BS: a basic schedule, its columns, and the reasons to refuse one.
 use Rattle.std.specs.Prelude.{◌≡◌, ℕ, Bool, List, [], ◌∷◌, ◌++◌, Option, codes}
 use Rattle.cif_columns.specs.Field.{AllStandIn, FieldValue, Row, row, columns, exactly, date, weekdays, indicator, spare}
-use Rattle.cif_columns.specs.declared.refusal.Refusal.{Refusal}
-use Rattle.cif_columns.specs.declared.stp.Stp.{Stp}
-use Rattle.cif_records.specs.Checks.{first_of, identity_refusal, transaction_refusal, dates_refusal, days_refusal}
-use Rattle.cif_records.specs.Checks.{bank_holiday_refusal, letter_refusal}
+use Rattle.cif_columns.specs.declared.{refusal.Refusal.Refusal, stp.Stp.Stp}
+use Rattle.cif_records.specs.Checks.{bank_holiday_refusal, dates_refusal, days_refusal, first_of, identity_refusal, letter_refusal}
+use Rattle.cif_records.specs.Checks.{transaction_refusal}
 use Rattle.cif_records.specs.Detail.{detail_rows}
-use Rattle.cif_records.specs.declared.basic.Basic.{Basic}
-use Rattle.cif_records.specs.declared.basic.BasicTerms.{BasicTerms}
-use Rattle.cif_records.specs.declared.detail.Detail.{Detail}
+use Rattle.cif_records.specs.declared.{basic.Basic.Basic, basic.BasicTerms.BasicTerms, detail.Detail.Detail}
 
 -- columns 1 to 29, where its transaction, its last date, its days and column 29 stand as these values
 abbrev pub basic_front_by : List ℕ → List ℕ → ℕ → FieldValue → FieldValue → FieldValue → List Row

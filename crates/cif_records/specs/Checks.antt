@@ -1,17 +1,12 @@
 -- The reasons to refuse a line's fields, in column order.
-use Rattle.std.specs.Prelude.{◌≡◌, ℕ, Bool, true, not, List, [], ◌∷◌, Option, Some, None, is_some, Result, Ok, Err, nat_le, codes}
-use Rattle.std.specs.Prelude.{slice_index, if◌then◌else◌}
-use Rattle.std.specs.Option.{option_or}
-use Rattle.std.specs.Str.{bytes_eq}
-use Rattle.cif_columns.specs.Day.{ddmmyy_in, yymmdd_in}
-use Rattle.cif_columns.specs.DaysRun.{days_of}
-use Rattle.cif_columns.specs.Field.{columns}
-use Rattle.cif_columns.specs.PublicTime.{public_time_in}
-use Rattle.cif_columns.specs.Stp.{stp_in}
-use Rattle.cif_columns.specs.WorkTime.{work_time_in}
+use Rattle.std.specs.Prelude.{Bool, Err, List, None, Ok, Option, Result, Some, [], codes, if◌then◌else◌, is_some, nat_le, not, slice_index}
+use Rattle.std.specs.Prelude.{true, ℕ, ◌∷◌, ◌≡◌}
+use Rattle.std.specs.{Option.option_or, Str.bytes_eq}
+use Rattle.cif_columns.specs.{Day.ddmmyy_in, Day.yymmdd_in, DaysRun.days_of, Field.columns, PublicTime.public_time_in, Stp.stp_in}
+use Rattle.cif_columns.specs.{WorkTime.work_time_in}
 use Rattle.cif_columns.specs.declared.refusal.Refusal.{Refusal}
-use Rattle.cif_columns.specs.declared.refusal.Refusal.TheVariants.{UnknownRecord, NotFull, BadDate, OpenEnd, DatesReversed, BadDays}
-use Rattle.cif_columns.specs.declared.refusal.Refusal.TheVariants.{BankHoliday, BadStp, BadTime}
+use Rattle.cif_columns.specs.declared.refusal.Refusal.TheVariants.{BadDate, BadDays, BadStp, BadTime, BankHoliday, DatesReversed, NotFull}
+use Rattle.cif_columns.specs.declared.refusal.Refusal.TheVariants.{OpenEnd, UnknownRecord}
 
 -- the reason, where the test fails
 abbrev pub unless : Bool → Refusal → Option Refusal

@@ -1,7 +1,6 @@
 -- Columns 3 to 60 of HD, which a header keeps as they stand.
 use Rattle.std.specs.Prelude.{◌≡◌, ℕ, ◌-◌, List, ◌++◌, codes}
-use Rattle.cif_columns.specs.DayDigits.{ddmmyy_of}
-use Rattle.cif_columns.specs.Field.{columns}
+use Rattle.cif_columns.specs.{DayDigits.ddmmyy_of, Field.columns}
 
 -- of columns 3 to 60, which a header keeps, those from one to another, numbered as in the line
 abbrev pub kept : ℕ → ℕ → List ℕ → List ℕ

@@ -2,24 +2,17 @@
 use Rattle.std.specs.Prelude.{◌≡◌, ℕ, List, Option, Some, None}
 use Rattle.cif_columns.specs.Field.{AllStandIn, Row, plain_line}
 use Rattle.cif_columns.specs.Line.{IsLine}
-use Rattle.cif_columns.specs.declared.refusal.Refusal.{Refusal}
-use Rattle.cif_columns.specs.declared.refusal.Refusal.TheVariants.{UnknownRecord, NotFull}
-use Rattle.cif_records.specs.Association.{association_refusal, association_table}
-use Rattle.cif_records.specs.Basic.{basic_refusal, basic_table}
-use Rattle.cif_records.specs.Change.{change_refusal, change_table}
-use Rattle.cif_records.specs.Extra.{extra_refusal, extra_table}
-use Rattle.cif_records.specs.Header.{header_refusal, header_table}
-use Rattle.cif_records.specs.Kind.{kind_in}
-use Rattle.cif_records.specs.Origin.{origin_refusal, origin_table}
-use Rattle.cif_records.specs.Stop.{stop_refusal, stop_table}
-use Rattle.cif_records.specs.Terminus.{terminus_refusal, terminus_table}
-use Rattle.cif_records.specs.Tiploc.{tiploc_refusal, tiploc_table}
-use Rattle.cif_records.specs.Trailer.{trailer_refusal, trailer_table}
-use Rattle.cif_records.specs.declared.record.Kind.{Kind}
+use Rattle.cif_columns.specs.declared.{refusal.Refusal.Refusal, refusal.Refusal.TheVariants.NotFull}
+use Rattle.cif_columns.specs.declared.{refusal.Refusal.TheVariants.UnknownRecord}
+use Rattle.cif_records.specs.{Association.association_refusal, Association.association_table, Basic.basic_refusal, Basic.basic_table}
+use Rattle.cif_records.specs.{Change.change_refusal, Change.change_table, Extra.extra_refusal, Extra.extra_table, Header.header_refusal}
+use Rattle.cif_records.specs.{Header.header_table, Kind.kind_in, Origin.origin_refusal, Origin.origin_table, Stop.stop_refusal}
+use Rattle.cif_records.specs.{Stop.stop_table, Terminus.terminus_refusal, Terminus.terminus_table, Tiploc.tiploc_refusal}
+use Rattle.cif_records.specs.{Tiploc.tiploc_table, Trailer.trailer_refusal, Trailer.trailer_table}
+use Rattle.cif_records.specs.declared.{record.Kind.Kind, record.Record.Record}
 use Rattle.cif_records.specs.declared.record.Kind.TheVariants.{Hd, Ti, Ta, Td, Aa, Bs, Bx, Lo, Li, Cr, Lt, Zz}
-use Rattle.cif_records.specs.declared.record.Record.{Record}
-use Rattle.cif_records.specs.declared.record.Record.TheVariants.{Header, Tiploc, Association, Basic, Extra}
-use Rattle.cif_records.specs.declared.record.Record.TheVariants.{Origin, Stop, Change, Terminus, Trailer}
+use Rattle.cif_records.specs.declared.record.Record.TheVariants.{Association, Basic, Change, Extra, Header, Origin, Stop, Terminus, Tiploc}
+use Rattle.cif_records.specs.declared.record.Record.TheVariants.{Trailer}
 
 -- the columns of this record
 abbrev pub record_table : Record → List Row

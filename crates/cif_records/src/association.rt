@@ -2,8 +2,7 @@
 ghost use Rattle.std.specs.Prelude.{◌≡◌, ◌≤◌, [], ◌↔◌, Some, Ok, IsTrue, is_some};
 ghost use Rattle.cif_columns.specs.Field.{AllFit, AllStandIn, plain_line};
 ghost use Rattle.cif_columns.specs.LineBuilder.{put_all};
-ghost use Rattle.cif_records.specs.Bodies.{has_body};
-ghost use Rattle.cif_records.specs.Checks.{IsJudged};
+ghost use Rattle.cif_records.specs.{Bodies.has_body, Checks.IsJudged};
 
 use crate::layout::{self, DateRange, Layout, check_letters, dates_at, field_or, has_body};
 use cif_columns::{

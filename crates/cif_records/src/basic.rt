@@ -3,9 +3,7 @@ ghost use Rattle.std.specs.Prelude.{◌≡◌, ◌≤◌, [], length, Ok, Option
 ghost use Rattle.cif_columns.specs.Field.{AllFit, AllStandIn, columns, plain_line};
 ghost use Rattle.cif_columns.specs.Line.{IsLine};
 ghost use Rattle.cif_columns.specs.declared.stp.Stp.TheVariants.{P};
-ghost use Rattle.cif_records.specs.Bodies.{has_body};
-ghost use Rattle.cif_records.specs.Checks.{IsJudged};
-ghost use Rattle.cif_records.specs.Detail.{detail_rows, detail_table};
+ghost use Rattle.cif_records.specs.{Bodies.has_body, Checks.IsJudged, Detail.detail_rows, Detail.detail_table};
 ghost use Rattle.cif_records.specs.declared.detail.Detail.{Detail};
 
 use crate::detail::{DETAIL_WIDTH, Detail};

@@ -1,7 +1,6 @@
 //! What a schedule says of its train.
 ghost use Rattle.std.specs.Prelude.{◌≡◌, Some};
-ghost use Rattle.cif_columns.specs.Field.{AllStandIn, plain_line};
-ghost use Rattle.cif_columns.specs.Line.{IsLine};
+ghost use Rattle.cif_columns.specs.{Field.AllStandIn, Field.plain_line, Line.IsLine};
 ghost use Rattle.cif_records.specs.Detail.{alone_in, detail_in, detail_rows, detail_table};
 
 use crate::layout::{self, Layout};

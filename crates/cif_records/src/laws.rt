@@ -1,7 +1,6 @@
 //! Laws for proofs: what a line says of its record.
 ghost use Rattle.std.specs.Prelude.{◌≡◌, ℕ, List};
-ghost use Rattle.cif_columns.specs.Field.{AllFit, plain_line};
-ghost use Rattle.cif_columns.specs.Line.{IsLine};
+ghost use Rattle.cif_columns.specs.{Field.AllFit, Field.plain_line, Line.IsLine};
 ghost use Rattle.cif_records.specs.Record.{SpellsRecord, record_table};
 ghost use Rattle.cif_records.specs.declared.record.Record.{Record};
 

@@ -1,7 +1,6 @@
 //! A location on the way of a journey.
 ghost use Rattle.std.specs.Prelude.{◌≡◌, IsTrue, Ok};
-ghost use Rattle.cif_columns.specs.Field.{plain_line};
-ghost use Rattle.cif_columns.specs.Line.{IsLine};
+ghost use Rattle.cif_columns.specs.{Field.plain_line, Line.IsLine};
 ghost use Rattle.cif_records.specs.Checks.{IsJudged};
 
 use crate::layout::{self, Layout, check_letters, field_or};

@@ -1,9 +1,7 @@
 //! A location of the timetable.
 ghost use Rattle.std.specs.Prelude.{◌≡◌, ◌↔◌, Ok, IsTrue, length};
-ghost use Rattle.std.specs.Cmp.Lexicographic.{slice_cmp};
-ghost use Rattle.std.specs.Ordering.{nat_cmp};
-ghost use Rattle.cif_columns.specs.Field.{plain_line};
-ghost use Rattle.cif_columns.specs.Line.{ArePrintable};
+ghost use Rattle.std.specs.{Cmp.Lexicographic.slice_cmp, Ordering.nat_cmp};
+ghost use Rattle.cif_columns.specs.{Field.plain_line, Line.ArePrintable};
 ghost use Rattle.cif_records.specs.Checks.{IsJudged};
 
 use crate::layout::{self, Layout, check_letters};

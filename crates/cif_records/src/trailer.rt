@@ -1,8 +1,7 @@
 //! The trailer.
 ghost use Rattle.std.specs.Prelude.{◌≡◌};
 ghost use Rattle.cif_columns.specs.Field.{AllStandIn, plain_line};
-ghost use Rattle.cif_records.specs.Checks.{IsJudged};
-ghost use Rattle.cif_records.specs.Trailer.{trailer_refusal, trailer_table};
+ghost use Rattle.cif_records.specs.{Checks.IsJudged, Trailer.trailer_refusal, Trailer.trailer_table};
 
 use crate::layout::{self, Layout, check_letters};
 use cif_columns::{Line, LineBuilder, Refusal};

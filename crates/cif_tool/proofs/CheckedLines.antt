@@ -7,10 +7,8 @@ use Rattle.cif_tool.proofs.Names.{reported_text, ℕ, ◌≡◌, ◌≢◌}
 use Rattle.cif_extract.specs.declared.extract.Extract.{Extract}
 use Rattle.cif_extract.specs.declared.fault.Fault.TheVariants as fault
 use Rattle.cif_feed.proofs.ReportedReasons.{reported_as}
-use Rattle.cif_feed.specs.Judged.{HaveNone}
-use Rattle.cif_feed.specs.declared.judged.Judged.{Judged}
+use Rattle.cif_feed.specs.{Judged.HaveNone, declared.judged.Judged.Judged, declared.reasons.Reasons.Reasons}
 use Rattle.cif_feed.specs.declared.judged.Judged.TheVariants as judged
-use Rattle.cif_feed.specs.declared.reasons.Reasons.{Reasons}
 
 -- ---- the answers
 

@@ -3,11 +3,8 @@ use Rattle.cif_tool.proofs.Names.{AddsArg, App, Bor, IsCommand, List, Parts, Som
 use Rattle.cif_tool.proofs.Names.{argument, at_drop_more, cif, drop, false, get_or, given, is_simple, is_simple_and_free, length, map}
 use Rattle.cif_tool.proofs.Names.{new_app, program, refl, rule_of, sym, taken, taking, true, with_rule, with_subcommands, ℕ, ◌+◌, ◌<◌, ◌||◌}
 use Rattle.cif_tool.proofs.Names.{◌∙◌, ◌∷◌, ◌≡◌}
-use Rattle.clap.specs.declared.Command.{Command}
-use Rattle.clap.specs.declared.Command.TheViews.{out-Command}
-use Rattle.clap.specs.declared.builder.arg.Arg.{Arg}
-use Rattle.cif_tool.specs.declared.command_line.Argument.{Argument}
-use Rattle.cif_tool.specs.declared.command_line.Choices.{Choices}
+use Rattle.clap.specs.declared.{Command.Command, Command.TheViews.out-Command, builder.arg.Arg.Arg}
+use Rattle.cif_tool.specs.declared.{command_line.Argument.Argument, command_line.Choices.Choices}
 
 -- `clap` says exactly what it makes of the command's words
 pub is_simple_cif : (choices : Choices) → is_simple (cif choices) ≡ true

@@ -3,19 +3,18 @@ use Rattle.cif_tool.proofs.Names.{AreAllClashes, AreCompared, AreComparedAs, Are
 use Rattle.cif_tool.proofs.Names.{CalendarJob, CanonParts, CanonicalJob, Clash, CompareJob, DayJob, DifferencesParts, Err, ExplainJob}
 use Rattle.cif_tool.proofs.Names.{ExtractLines, ExtractParts, Fault, Format, IfErr, IfSome, IsCalendarAnswer, IsCanonOfInput}
 use Rattle.cif_tool.proofs.Names.{IsCanonicalAnswer, IsClashesAnswer, IsClashlessRefusal, IsCompareAnswer, IsCompareFault, IsDayAnswer}
-use Rattle.cif_tool.proofs.Names.{IsDiffAnswer, IsErrAnd, IsExplainAnswer, IsExplanation, IsListedStatus, IsNormaliseFault}
-use Rattle.cif_views.specs.Explanation.{IsExplanationFault}
-use Rattle.cif_tool.proofs.Names.{IsDayFault, IsOfNormalise, IsReadNarrowedFault, IsResultOfBoth, IsTrainAnswer, IsTrainFault, IsTrue}
-use Rattle.cif_tool.proofs.Names.{IsWeekCalendar, IsWeekCalendarFault, List, MAX_LINES, Ok, Option, Result, Source, SpellsNarrowed}
-use Rattle.cif_tool.proofs.Names.{TrainJob, Unread, [], ap, canon-fault, canonical_text, clashes_text, comparison_line, differences_in}
-use Rattle.cif_tool.proofs.Names.{extract_parts, false, inl, inr, is-normalised, known_so, lines_of, listed_status, outcome_of, reader_of}
-use Rattle.cif_tool.proofs.Names.{reading_extract, refl, sym, table_text, true, true≢false, ℕ, ⊎_elim, ◌↔◌, ◌≡◌, ◌⊎◌}
+use Rattle.cif_tool.proofs.Names.{IsDayFault, IsDiffAnswer, IsErrAnd, IsExplainAnswer, IsExplanation, IsListedStatus, IsNormaliseFault}
+use Rattle.cif_tool.proofs.Names.{IsOfNormalise, IsReadNarrowedFault, IsResultOfBoth, IsTrainAnswer, IsTrainFault, IsTrue, IsWeekCalendar}
+use Rattle.cif_tool.proofs.Names.{IsWeekCalendarFault, List, MAX_LINES, Ok, Option, Result, Source, SpellsNarrowed, TrainJob, Unread, []}
+use Rattle.cif_tool.proofs.Names.{ap, canon-fault, canonical_text, clashes_text, comparison_line, differences_in, extract_parts, false, inl}
+use Rattle.cif_tool.proofs.Names.{inr, is-normalised, known_so, lines_of, listed_status, outcome_of, reader_of, reading_extract, refl, sym}
+use Rattle.cif_tool.proofs.Names.{table_text, true, true≢false, ℕ, ⊎_elim, ◌↔◌, ◌≡◌, ◌⊎◌}
+use Rattle.cif_views.specs.{Explanation.IsExplanationFault, Listing.IsDayListing, Listing.IsTrainListing}
 use Rattle.cif_extract.proofs.ReadCalls.{both-go-on, both-hand-on}
 use Rattle.cif_extract.specs.declared.extract.Extract.{Extract}
 use Rattle.cif_extract.specs.declared.fault.Fault.TheVariants as fault
 use Rattle.cif_canon.specs.Pair.{IsNarrowedPair, SpellPair}
 use Rattle.cif_canon.specs.declared.comparison.Comparison.{Comparison}
-use Rattle.cif_views.specs.Listing.{IsDayListing, IsTrainListing}
 use Rattle.cif_tool.specs.declared.answers.CanonicalOutput.{CanonicalOutput}
 use Rattle.cif_tool.specs.declared.answers.CanonicalOutput.TheVariants as output
 

@@ -1,34 +1,26 @@
 -- Names of std, of the crates below and of specs/, from modules that several of the proofs cite.
-pub use Rattle.std.proofs.Common.{Bool, Bor, Err, IfErr, IfOk, IfSome, IsErrAnd, IsTrue, List, MatchBool, MatchOption, MatchResult, None}
-pub use Rattle.std.proofs.Common.{Ok, Option, Result, Some, [], ap, append-nil, append_assoc, ap₂, arith, codes, drop, false, get_or, inl}
-pub use Rattle.std.proofs.Common.{inr, length, map, option_map, refl, rules, string_bytes, subst, sym, true, true≢false, unwrap_or, ℕ}
-pub use Rattle.std.proofs.Common.{⊎_elim, ◌++◌, ◌+◌, ◌<◌, ◌||◌, ◌↔◌, ◌∙◌, ◌∷◌, ◌≡◌, ◌≢◌, ◌≤◌, ◌⊎◌}
+pub use Rattle.std.proofs.Common.{Bool, Bor, Err, IfErr, IfOk, IfSome, IsErrAnd, IsTrue, List, MatchOption, MatchResult, None, Ok, Option}
+pub use Rattle.std.proofs.Common.{Result, Some, [], ap, append-nil, ap₂, codes, drop, false, get_or, inl, inr, length, map, refl, rules}
+pub use Rattle.std.proofs.Common.{string_bytes, subst, sym, true, true≢false, ℕ, ⊎_elim, ◌++◌, ◌+◌, ◌<◌, ◌||◌, ◌↔◌, ◌∙◌, ◌∷◌, ◌≡◌, ◌≢◌, ◌≤◌}
+pub use Rattle.std.proofs.Common.{◌⊎◌}
 pub use Rattle.clap.proofs.WalkLemmas.{first_value-rows, raw_values-rows}
 pub use Rattle.clap.specs.Simple.{app_of_fields}
 pub use Rattle.clap.specs.Words.{AddsArg, App, FailsBy, Text, app_of, fault_of, found_of, is_simple, is_simple_and_free, new_app, rule_of}
 pub use Rattle.clap.specs.Words.{subcommand_of, with_rule, with_subcommand}
 pub use Rattle.cif_columns.specs.declared.line_reader.TheConstants.{MAX_LINES}
 pub use Rattle.cif_extract.specs.ReadCall.{ReadCall}
-pub use Rattle.cif_feed.proofs.Names.{BytesSpellPublished, BytesSpellWithin, Clash, ExtractParts, FeedWrites, HasFailed, HasReadOn}
-pub use Rattle.cif_feed.proofs.Names.{HasWritten, HaveReasons, IfOk-weaker, IsDeviceOrMemory, IsFirstOfFeed, IsHolidayFault, IsJudgedFault}
-pub use Rattle.cif_feed.proofs.Names.{IsPreparedText, IsPublishedOf, IsResultOf, Makes, Prepares, PublishedParts, Refuses, Sink, Source}
-pub use Rattle.cif_feed.proofs.Names.{StandsInYymmdd, Unread, Writes, all_codes, at_drop_more, codes_named, contents_of, extract_parts}
-pub use Rattle.cif_feed.proofs.Names.{failed_second, flat_map-append, goes-on, hands-on, is_feed_read, judging, known_so, of_any, preparing}
-pub use Rattle.cif_feed.proofs.Names.{published_parts, published_text, reader_of, reading_holidays, reading_published, refuses}
-pub use Rattle.cif_feed.proofs.Names.{reported_text, unread_of, updating, written_both}
+pub use Rattle.cif_feed.proofs.Names.{BytesSpellWithin, Clash, ExtractParts, HasFailed, HasWritten, HaveReasons, IfOk-weaker, IsJudgedFault}
+pub use Rattle.cif_feed.proofs.Names.{IsResultOf, Makes, Refuses, Sink, Source, StandsInYymmdd, Unread, Writes, at_drop_more, extract_parts}
+pub use Rattle.cif_feed.proofs.Names.{failed_second, goes-on, hands-on, judging, known_so, reader_of, reported_text, unread_of}
+pub use Rattle.cif_feed.proofs.Names.{written_both}
 pub use Rattle.cif_feed.specs.FeedAnswer.{IsHandedOn}
-pub use Rattle.cif_feed.specs.declared.feed_fault.FeedFault.{FeedFault}
-pub use Rattle.cif_feed.specs.declared.feed_fault.FeedFault.TheVariants.{AlreadyThere, BadTransaction, NotThere, NotUpdate, OutOfSequence}
-pub use Rattle.cif_feed.specs.declared.published_extract.PublishedExtract.{PublishedExtract}
 pub use Rattle.cif_canon.proofs.Names.{AreDifferences, AreNone, CanonParts, DifferencesParts, Fault, FaultWrites, Form, HasCanon, IfWritten}
 pub use Rattle.cif_canon.proofs.Names.{IsCanonOfInput, IsCompareFault, IsNormaliseFault, IsOfReadNarrowed, IsOfReading, IsReadNarrowedFault}
-pub use Rattle.cif_canon.specs.Fault.{IsOfCheck, IsOfNormalise}
 pub use Rattle.cif_canon.proofs.Names.{IsResultOfBoth, SpellsNarrowed, Write, at-fault, err_from_is_err_and, hands, hands-either, is_read}
 pub use Rattle.cif_canon.proofs.Names.{lines_of, reading_canon, reading_extract, reading_narrowed}
+pub use Rattle.cif_canon.specs.{Comparison.AreCompared, Comparison.comparison_line, Counts.counts_line, Fault.IsOfCheck}
+pub use Rattle.cif_canon.specs.{Fault.IsOfNormalise, Views.IsDayFault, Views.IsTrainFault}
 pub use Rattle.cif_canon.proofs.Normalising.{canon-blamed, canon-fault, is-normalised, narrowed-fault, of-canon}
-pub use Rattle.cif_canon.specs.Comparison.{AreCompared, comparison_line}
-pub use Rattle.cif_canon.specs.Counts.{counts_line}
-pub use Rattle.cif_canon.specs.Views.{IsDayFault, IsTrainFault}
 pub use Rattle.cif_canon.specs.declared.asked.Asked.{Asked}
 pub use Rattle.cif_views.proofs.Names.{AreAllClashes, ExtractLines, Format, IsExplanation, IsWeekCalendar, at_drop_all, clashes_text}
 pub use Rattle.cif_views.proofs.Names.{table_text}
@@ -40,6 +32,6 @@ pub use Rattle.cif_tool.specs.Answer.{IsDiffAnswer, IsExplainAnswer, IsExplainRe
 pub use Rattle.cif_tool.specs.Answer.{TrainJob, answering, answering_all, canonical_text, differences_in}
 unfoldable pub use Rattle.cif_tool.specs.CommandLine.{chosen, cif, faults_of}
 pub use Rattle.cif_tool.specs.CommandLine.{IsCommand, Parts, argument, given, program, subcommands, taken, taking, with_subcommands}
-pub use Rattle.cif_tool.specs.JobFault.{Explains, IsFaultAt, NamesNoDay, status_of, text_of}
+pub use Rattle.cif_tool.specs.JobFault.{Explains, IsFaultAt, NamesNoDay}
 pub use Rattle.cif_tool.specs.Status.{ReportsFault, listed_status, outcome_of}
 pub use Rattle.cif_tool.specs.declared.command_line.Argument.TheVariants.{Verbose}

@@ -1,58 +1,32 @@
 -- What the commands answer: a text on the output, and a status.
 use Rattle.std.specs.Prelude.{◌≡◌, ◌⊎◌, ◌≤◌, ⊤, ℕ, Bool, List, Option, Some, IfSome, Result, Ok, Err, IfOk, IfErr, [], Contains, length}
-use Rattle.cif_columns.specs.JudgedContents.{judged_contents}
-use Rattle.cif_columns.specs.declared.refusal.Refusal.{Refusal}
-use Rattle.cif_columns.specs.Sink.{Writes}
-use Rattle.cif_columns.specs.Source.{Unread, reader_of}
-use Rattle.cif_columns.specs.declared.line_reader.TheConstants.{MAX_LINES}
-use Rattle.cif_columns.specs.declared.sink.Sink.{Sink}
-use Rattle.cif_columns.specs.declared.source.Source.{Source}
-use Rattle.cif_extract.specs.ExtractParts.{ExtractParts, extract_parts}
+use Rattle.cif_columns.specs.{JudgedContents.judged_contents, Sink.Writes, Source.Unread, Source.reader_of}
+use Rattle.cif_columns.specs.declared.{line_reader.TheConstants.MAX_LINES, refusal.Refusal.Refusal, sink.Sink.Sink, source.Source.Source}
+use Rattle.cif_extract.specs.{ExtractParts.ExtractParts, ExtractParts.extract_parts, SpellsExtract.BytesSpellWithin}
 use Rattle.cif_extract.specs.ReadCall.{IsResultOf, IsResultOfBoth, ReadCall, reading}
 use Rattle.cif_extract.specs.ReadFault.{IsReadFault, is_read, reading_extract}
-use Rattle.cif_extract.specs.SpellsExtract.{BytesSpellWithin}
-use Rattle.cif_extract.specs.declared.extract.Extract.{Extract}
-use Rattle.cif_extract.specs.declared.fault.Fault.{Fault}
+use Rattle.cif_extract.specs.declared.{extract.Extract.Extract, fault.Clash.Clash, fault.Fault.Fault}
 use Rattle.cif_extract.specs.declared.fault.Fault.TheVariants.{Memory, Read, Refused, Write}
-use Rattle.cif_feed.specs.FeedAnswer.{IsHandedOn}
-use Rattle.cif_feed.specs.Judged.{IsJudgedFault, NoneHasReason}
-use Rattle.cif_feed.specs.Reasons.{reasons_in, reasons_text}
-use Rattle.cif_canon.specs.Accepted.{SpellsNarrowed}
-use Rattle.cif_extract.specs.declared.fault.Clash.{Clash}
-use Rattle.cif_views.specs.Clashes.{AreAllClashes, clashes_text}
-use Rattle.cif_views.specs.DifferenceTable.{difference_table}
-use Rattle.cif_views.specs.WeekCalendar.{IsWeekCalendar}
-use Rattle.cif_canon.specs.Canon.{CanonParts}
+use Rattle.cif_feed.specs.{FeedAnswer.IsHandedOn, Judged.IsJudgedFault, Judged.NoneHasReason, Reasons.reasons_in, Reasons.reasons_text}
+use Rattle.cif_canon.specs.{Accepted.SpellsNarrowed, Canon.CanonParts, Counts.counts_line, Lines.lines_of, Normalised.FaultWrites}
+use Rattle.cif_canon.specs.{Normalised.IsNormalised, Views.IsDayFault}
+use Rattle.cif_views.specs.{Clashes.AreAllClashes, Clashes.clashes_text, DifferenceTable.difference_table, Explanation.IsExplanation}
+use Rattle.cif_views.specs.{Explanation.IsExplanationFault, Listing.IsDayListing, Listing.IsTrainListing, TableText.table_text}
+use Rattle.cif_views.specs.{WeekCalendar.IsWeekCalendar}
 use Rattle.cif_canon.specs.Comparison.{AreCompared, IsCompareFault, comparison_line}
-use Rattle.cif_canon.specs.Counts.{counts_line}
 use Rattle.cif_canon.specs.Differences.{AreDifferences, AreNone, DifferencesParts, differences_text}
-use Rattle.cif_views.specs.Explanation.{IsExplanation, IsExplanationFault}
 use Rattle.cif_canon.specs.Fault.{IsNormaliseFault, IsOfNormalise, IsReadNarrowedFault}
-use Rattle.cif_canon.specs.Lines.{lines_of}
-use Rattle.cif_canon.specs.Normalised.{FaultWrites, IsNormalised}
 use Rattle.cif_canon.specs.Pair.{AreNarrowed, IsNarrowedPair, SpellPair}
-use Rattle.cif_canon.specs.Views.{IsDayFault}
-use Rattle.cif_views.specs.Listing.{IsDayListing, IsTrainListing}
-use Rattle.cif_views.specs.TableText.{table_text}
-use Rattle.cif_canon.specs.declared.asked.Asked.{Asked}
-use Rattle.cif_canon.specs.declared.comparison.Comparison.{Comparison}
-use Rattle.cif_canon.specs.declared.canonical_form.Counts.{Counts}
-use Rattle.cif_canon.specs.declared.rows.Format.{Format}
-use Rattle.cif_canon.specs.declared.rows.Format.TheVariants.{Text, Tsv}
+use Rattle.cif_canon.specs.declared.{asked.Asked.Asked, canonical_form.Counts.Counts, comparison.Comparison.Comparison, rows.Format.Format}
+use Rattle.cif_canon.specs.declared.{rows.Format.TheVariants.Text, rows.Format.TheVariants.Tsv}
 use Rattle.cif_tool.specs.Status.{outcome_of}
-pub use Rattle.cif_tool.specs.declared.job.CalendarJob.{CalendarJob}
-pub use Rattle.cif_tool.specs.declared.job.CanonicalJob.{CanonicalJob}
-pub use Rattle.cif_tool.specs.declared.job.CompareJob.{CompareJob}
-pub use Rattle.cif_tool.specs.declared.job.DayJob.{DayJob}
-pub use Rattle.cif_tool.specs.declared.job.ExplainJob.{ExplainJob}
-use Rattle.cif_tool.specs.declared.job.Job.{Job}
-use Rattle.cif_tool.specs.declared.answers.CanonicalOutput.{CanonicalOutput}
+pub use Rattle.cif_tool.specs.declared.{job.CalendarJob.CalendarJob, job.CanonicalJob.CanonicalJob, job.CompareJob.CompareJob}
+pub use Rattle.cif_tool.specs.declared.{job.DayJob.DayJob, job.ExplainJob.ExplainJob, job.TrainJob.TrainJob}
+use Rattle.cif_tool.specs.declared.{answers.CanonicalOutput.CanonicalOutput, answers.PairOutput.PairOutput, job.Job.Job}
 use Rattle.cif_tool.specs.declared.answers.CanonicalOutput.TheVariants as output
-use Rattle.cif_tool.specs.declared.answers.PairOutput.{PairOutput}
 use Rattle.cif_tool.specs.declared.answers.PairOutput.TheVariants as pair
-pub use Rattle.cif_tool.specs.declared.job.TrainJob.{TrainJob}
-use Rattle.cif_tool.specs.declared.job.Job.TheVariants.{Calendar, Check, CheckAll, Clashes, Compare, Day, Diff, Explain}
-use Rattle.cif_tool.specs.declared.job.Job.TheVariants.{Normalise, Table, Train}
+use Rattle.cif_tool.specs.declared.job.Job.TheVariants.{Calendar, Check, CheckAll, Clashes, Compare, Day, Diff, Explain, Normalise, Table}
+use Rattle.cif_tool.specs.declared.job.Job.TheVariants.{Train}
 
 -- P holds of the status of an answer, whose text was written or, at Write, a prefix of it was
 abbrev pub IfAnswered : Result ℕ Fault → (ℕ → Type 0) → Type 0

@@ -2,17 +2,13 @@
 use Rattle.std.specs.Prelude.{◌≡◌, List, [], ◌∷◌, ◌++◌, Option, Some, codes, map, true, false}
 use Rattle.std.specs.Borrow.{Bor}
 use Rattle.clap.specs.Words.{App, Row, Rule, Text, app_of, fault_of, new_app, new_rule, subcommand_of, with_rule, with_subcommand}
-use Rattle.clap.specs.Kinds.{Kinds}
-use Rattle.clap.specs.Lexer.{usize_max}
-use Rattle.clap.specs.declared.Command.{Command}
-use Rattle.clap.specs.declared.Command.TheViews.{out-Command}
-use Rattle.clap.specs.declared.builder.ArgAction.TheVariants.{SetTrue}
-use Rattle.clap.specs.declared.builder.ValueParser.TheVariants.{Names}
-use Rattle.cif_tool.specs.declared.command_line.Argument.{Argument}
-use Rattle.cif_tool.specs.declared.command_line.Argument.TheVariants.{Verbose, File, Left, Right, Uid, Date, From, To, All, Common, Stops}
-use Rattle.cif_tool.specs.declared.command_line.Argument.TheVariants.{Form, Format, Full, Updates, Holidays, DropClashes, Lenient, Table}
-use Rattle.cif_tool.specs.declared.command_line.Choices.{Choices}
-use Rattle.cif_tool.specs.declared.command_line.Syntax.{Syntax}
+use Rattle.clap.specs.{Kinds.Kinds, Lexer.usize_max}
+use Rattle.clap.specs.declared.{Command.Command, Command.TheViews.out-Command, builder.ArgAction.TheVariants.SetTrue}
+use Rattle.clap.specs.declared.{builder.ValueParser.TheVariants.Names}
+use Rattle.cif_tool.specs.declared.{command_line.Argument.Argument, command_line.Choices.Choices, command_line.Syntax.Syntax}
+use Rattle.cif_tool.specs.declared.command_line.Argument.TheVariants.{All, Common, Date, DropClashes, File, Form, Format, From, Full}
+use Rattle.cif_tool.specs.declared.command_line.Argument.TheVariants.{Holidays, Left, Lenient, Right, Stops, Table, To, Uid, Updates}
+use Rattle.cif_tool.specs.declared.command_line.Argument.TheVariants.{Verbose}
 use Rattle.cif_tool.specs.declared.command_line.Syntax.TheVariants as syntax
 
 -- a word that may not be left out

@@ -1,29 +1,20 @@
 -- What the words of a call ask for.
-use Rattle.std.specs.Prelude.{◌≡◌, ◌≤◌, ◌||◌, ⊤, ℕ, Bool, List, [], ◌∷◌, ◌++◌, Option, Some, None, IsSomeAnd, string_bytes}
-use Rattle.std.specs.Prelude.{codes, count_by, false, if◌then◌else◌, map, option_to_list, true, unwrap_or}
+use Rattle.std.specs.Prelude.{Bool, IsSomeAnd, List, None, Option, Some, [], codes, count_by, false, if◌then◌else◌, map, option_to_list}
+use Rattle.std.specs.Prelude.{string_bytes, true, unwrap_or, ℕ, ⊤, ◌++◌, ◌||◌, ◌∷◌, ◌≡◌, ◌≤◌}
 use Rattle.std.specs.Str.{bytes_eq}
 use Rattle.clap.specs.Words.{Row, Text, all_of, first_of}
-use Rattle.cif_canon.specs.declared.asked.Asked.{Asked}
-use Rattle.cif_canon.specs.declared.rows.Format.{Format}
+use Rattle.cif_canon.specs.declared.{asked.Asked.Asked, rows.Format.Format}
 use Rattle.cif_canon.specs.declared.rows.Format.TheVariants as format
-use Rattle.cif_views.specs.declared.listing.Listing.{Listing}
-use Rattle.cif_views.specs.declared.tables.Table.{Table as TableOf}
+use Rattle.cif_views.specs.declared.{listing.Listing.Listing, tables.Table.Table as TableOf}
 use Rattle.cif_views.specs.declared.tables.Table.TheVariants as table
-use Rattle.cif_columns.specs.Day.{StandsInYymmdd}
-use Rattle.cif_columns.specs.Uid.{IsUid}
-use Rattle.cif_weeks.specs.declared.form.Form.{Form}
-use Rattle.cif_weeks.specs.declared.form.Form.TheVariants.{One, Two}
+use Rattle.cif_columns.specs.{Day.StandsInYymmdd, Uid.IsUid}
+use Rattle.cif_weeks.specs.declared.{form.Form.Form, form.Form.TheVariants.One, form.Form.TheVariants.Two}
 use Rattle.cif_tool.specs.CommandLine.{AreChoices, chosen, faults_of}
-use Rattle.cif_tool.specs.declared.command_line.Choices.{Choices}
-use Rattle.cif_tool.specs.declared.job.Request.{Request}
-use Rattle.cif_tool.specs.declared.job.FeedJob.{FeedJob}
-use Rattle.cif_tool.specs.declared.job.FeedJob.TheVariants.{Prepare, Update}
-use Rattle.cif_tool.specs.declared.job.InputNames.{InputNames}
-use Rattle.cif_tool.specs.declared.job.Job.{Job}
-use Rattle.cif_tool.specs.declared.job.Job.TheVariants.{Calendar, Check, CheckAll, Clashes, Compare, Day, Diff, Explain}
-use Rattle.cif_tool.specs.declared.job.Job.TheVariants.{Normalise, Table, Train}
-use Rattle.cif_tool.specs.declared.job.Task.{Task}
-use Rattle.cif_tool.specs.declared.job.Task.TheVariants.{Extract, Feed}
+use Rattle.cif_tool.specs.declared.{command_line.Choices.Choices, job.FeedJob.FeedJob, job.FeedJob.TheVariants.Prepare}
+use Rattle.cif_tool.specs.declared.{job.FeedJob.TheVariants.Update, job.InputNames.InputNames, job.Job.Job, job.Request.Request}
+use Rattle.cif_tool.specs.declared.{job.Task.Task, job.Task.TheVariants.Extract, job.Task.TheVariants.Feed}
+use Rattle.cif_tool.specs.declared.job.Job.TheVariants.{Calendar, Check, CheckAll, Clashes, Compare, Day, Diff, Explain, Normalise, Table}
+use Rattle.cif_tool.specs.declared.job.Job.TheVariants.{Train}
 
 -- The word of this id. `clap` misses none that is required; one that is missing counts as empty.
 abbrev pub required_word : Text → List Row → Text

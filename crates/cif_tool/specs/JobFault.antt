@@ -3,26 +3,20 @@ use Rattle.std.specs.Prelude.{Err, IfErr, IfOk, IsSomeAnd, List, None, Ok, Optio
 use Rattle.std.specs.Prelude.{⊤, ◌<◌, ◌∷◌, ◌≡◌, ◌≢◌, ◌⊎◌}
 use Rattle.std.specs.Str.{bytes_eq}
 use Rattle.clap.specs.Words.{IsAmong, Row, Text, first_of}
-use Rattle.clap.specs.declared.error.ErrorKind.{ErrorKind}
-use Rattle.clap.specs.declared.error.ErrorKind.TheVariants.{DisplayHelp, DisplayVersion}
-use Rattle.cif_columns.specs.Day.{StandsInYymmdd}
+use Rattle.clap.specs.declared.{error.ErrorKind.ErrorKind, error.ErrorKind.TheVariants.DisplayHelp}
+use Rattle.clap.specs.declared.{error.ErrorKind.TheVariants.DisplayVersion}
+use Rattle.cif_columns.specs.{Day.StandsInYymmdd, Uid.IsUid}
 use Rattle.cif_columns.specs.Sink.{HasFailed, HasWritten, Writes}
-use Rattle.cif_columns.specs.Uid.{IsUid}
-use Rattle.cif_columns.specs.declared.sink.Sink.{Sink}
-use Rattle.cif_columns.specs.declared.sink.WriteFault.{WriteFault}
-use Rattle.cif_extract.specs.declared.fault.Fault.{Fault}
-use Rattle.cif_extract.specs.declared.fault.Fault.TheVariants.{Write}
+use Rattle.cif_columns.specs.declared.{sink.Sink.Sink, sink.WriteFault.WriteFault}
+use Rattle.cif_extract.specs.declared.{fault.Fault.Fault, fault.Fault.TheVariants.Write}
 use Rattle.cif_feed.specs.FeedAnswer.{IsHandedOn}
 use Rattle.cif_tool.specs.CommandLine.{AreChoices, chosen, faults_of, subcommands}
 use Rattle.cif_tool.specs.Job.{IsTaskChosen, inputs_of, required_word, standard_inputs}
 use Rattle.cif_tool.specs.Status.{ReportsFault, end_status}
-use Rattle.cif_tool.specs.declared.command_line.Argument.{Argument}
-use Rattle.cif_tool.specs.declared.command_line.Choices.{Choices}
-use Rattle.cif_tool.specs.declared.job.JobFault.{JobFault}
-use Rattle.cif_tool.specs.declared.job.Inputs.{Inputs}
+use Rattle.cif_tool.specs.declared.{command_line.Argument.Argument, command_line.Choices.Choices, job.Inputs.Inputs, job.JobFault.JobFault}
+use Rattle.cif_tool.specs.declared.{job.Task.Task}
 use Rattle.cif_tool.specs.declared.job.Inputs.TheVariants.{Extracts, HolidaysAndFile, LeftAndRight}
 use Rattle.cif_tool.specs.declared.job.JobFault.TheVariants.{BadDate, BadUid, Memory, NoCommand, StandardInputTwice, Usage}
-use Rattle.cif_tool.specs.declared.job.Task.{Task}
 
 -- six digits YYMMDD that name a day aren't the word
 abbrev pub NamesNoDay : Text → Type 0

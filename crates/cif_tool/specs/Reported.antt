@@ -1,17 +1,10 @@
 -- What `prepare` and `update` say on standard error of their answer, and the status that they end with.
 use Rattle.std.specs.Prelude.{Bool, Err, List, Ok, Result, [], codes, if◌then◌else◌, ℕ, ◌++◌}
 use Rattle.std.specs.List.{flat_map}
-use Rattle.cif_feed.specs.Dropped.{dropped_text}
-use Rattle.cif_feed.specs.FeedAnswer.{looks_prepared}
-use Rattle.cif_feed.specs.FeedTexts.{fault_text}
-use Rattle.cif_feed.specs.Updated.{refused_fault}
-use Rattle.cif_feed.specs.declared.changes.RefusedLine.{RefusedLine}
-use Rattle.cif_feed.specs.declared.dropped.Dropped.{Dropped}
-use Rattle.cif_feed.specs.declared.dropped.DroppedKey.{DroppedKey}
-use Rattle.cif_feed.specs.declared.feed_fault.FeedFault.{FeedFault}
-use Rattle.cif_feed.specs.declared.feed_fault.FeedFault.TheVariants.{Extract}
-use Rattle.cif_feed.specs.declared.feed_answers.DoneUpdate.{DoneUpdate}
-use Rattle.cif_feed.specs.declared.feed_answers.KeptUpdate.{KeptUpdate}
+use Rattle.cif_feed.specs.{Dropped.dropped_text, FeedAnswer.looks_prepared, FeedTexts.fault_text, Updated.refused_fault}
+use Rattle.cif_feed.specs.declared.{changes.RefusedLine.RefusedLine, dropped.Dropped.Dropped, dropped.DroppedKey.DroppedKey}
+use Rattle.cif_feed.specs.declared.{feed_fault.FeedFault.FeedFault, feed_fault.FeedFault.TheVariants.Extract}
+use Rattle.cif_feed.specs.declared.{updates_in_turn.DoneUpdate.DoneUpdate, updates_in_turn.KeptUpdate.KeptUpdate}
 use Rattle.cif_tool.specs.Status.{status_of}
 
 -- a line of an update that was waived

@@ -9,9 +9,10 @@ ghost use Rattle.cif_tool.specs.Answer.{Answers, AreAnswered, AreComparedAs, Fin
 ghost use Rattle.cif_tool.specs.Answer.{IsClashesAnswer, IsClashlessRefusal, IsCanonicalAnswer, IsDayAnswer, IsDayRefusal, IsPairAnswer};
 ghost use Rattle.cif_tool.specs.Answer.{IsExplainAnswer, IsExplainRefusal, IsJobAnswer, IsJobResult, IsTrainAnswer, answering};
 ghost use Rattle.cif_tool.specs.Answer.{answering_all, canonical_text, differences_in};
+ghost use Rattle.cif_tool.specs.Status.{ReportsFault, end_status};
 
 use crate::job::{CalendarJob, CanonicalJob, CompareJob, DayJob, ExplainJob, Job, TrainJob};
-use crate::status::{DONE, REFUSED, listed, outcome};
+use crate::status::{DONE, Ended, REFUSED, end, listed, outcome};
 use cif_canon::{
     Asked, Canon, Differences, Format, compare, differences, narrowed_canon, read_canon,
     read_narrowed, read_pair, write_comparison, write_counts,
@@ -279,7 +280,7 @@ fn finish<W: WriteDevice>(
 
 /// Writes what the job's command answers of its input, and of `compare` and `diff` of the right one too; the
 /// answer is the status. The extracts that it has read are left in `kept`.
-pub fn answer<R: ReadDevice, W: WriteDevice>(
+fn answer<R: ReadDevice, W: WriteDevice>(
     alloc: Global,
     job: &Job,
     source: &mut Source<R>,
@@ -326,5 +327,37 @@ pub fn answer<R: ReadDevice, W: WriteDevice>(
             answer_canonical(alloc, source, sink, &job.canonical, output, &mut kept.left)
         }
         Job::Calendar(job) => answer_calendar(alloc, source, sink, job, &mut kept.left),
+    }
+}
+
+/// Answers a job of one extract, or of two. A fault's line goes to `errors`; that it can't be written changes no
+/// status.
+pub fn run_job<R: ReadDevice, W: WriteDevice, E: WriteDevice>(
+    alloc: Global,
+    job: &Job,
+    source: &mut Source<R>,
+    right: &mut Source<R>,
+    sink: &mut Sink<W>,
+    errors: &mut Sink<E>,
+) -> Ended<Result<u8, Fault>, Kept>
+    ensures answer { Answers W.contents W.write_errors
+        (IsJobAnswer R.remaining job.now source.old right.old) sink.old sink.new result.answer }
+    ensures reads { IsJobResult R.remaining R.read_errors job.now
+        source.old source.new right.old right.new result.answer }
+    ensures handed_on { IsHandedOn W.holds_nothing sink.new result.answer }
+    ensures line { ReportsFault E.contents E.write_errors result.answer errors.old errors.new }
+    ensures status { result.status ≡ end_status result.answer }
+{
+    let mut kept = Kept {
+        left: None,
+        right: None,
+        reasons: None,
+    };
+    let answer = answer(alloc, job, source, right, sink, &mut kept);
+    let status = end(&answer, errors);
+    Ended {
+        answer,
+        status,
+        kept,
     }
 }

@@ -1,10 +1,8 @@
 //! The command line of `cif`.
 ghost use Rattle.std.specs.Prelude.{◌≡◌, IfOk, Some, false, map, string_bytes};
 ghost use Rattle.clap.specs.Words.{FailsBy, app_of, new_app, rule_of, subcommand_rows_of, with_subcommand};
-ghost use Rattle.clap.specs.declared.Command.TheViews.{out-Command};
-ghost use Rattle.clap.specs.declared.builder.ArgAction.TheVariants.{SetTrue};
-ghost use Rattle.clap.specs.declared.builder.ValueParser.TheVariants.{Names};
-ghost use Rattle.clap.specs.declared.builder.texts.Texts.TheVariants.{One};
+ghost use Rattle.clap.specs.declared.{Command.TheViews.out-Command, builder.ArgAction.TheVariants.SetTrue};
+ghost use Rattle.clap.specs.declared.{builder.ValueParser.TheVariants.Names, builder.texts.Texts.TheVariants.One};
 ghost use Rattle.cif_tool.specs.CommandLine.{AreChoices, IsCommand, argument, chosen, cif, faults_of, given, taken, taking};
 
 use crate::help;

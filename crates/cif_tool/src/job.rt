@@ -1,7 +1,8 @@
 //! What a call of `cif` asks for, or why it asks for nothing.
 ghost use Rattle.std.specs.Prelude.{◌≡◌};
+ghost use Rattle.cif_tool.specs.JobFault.{IsExplained};
 
-use crate::status::{DONE, FAILED, USAGE_ERROR};
+use crate::status::{DONE, FAILED, USAGE_ERROR, end};
 use cif_canon::{Asked, Format};
 use cif_columns::{Day, Sink, Uid, WriteDevice};
 use cif_extract::Fault;
@@ -249,4 +250,18 @@ impl JobFault {
             JobFault::Memory => "cif: Memory\n",
         }
     }
+}
+
+/// Says why the arguments ask for nothing, and gives the status that the program exits with: help and the version go to
+/// `output`, all else to `errors`.
+pub fn run_fault<O: WriteDevice, E: WriteDevice>(
+    fault: &JobFault,
+    output: &mut Sink<O>,
+    errors: &mut Sink<E>,
+) -> u8
+    ensures { IsExplained O.contents O.write_errors O.holds_nothing E.contents E.write_errors fault.now
+        output.old output.new errors.old errors.new result }
+{
+    let explained = fault.explain(output, errors);
+    end(&explained, errors)
 }

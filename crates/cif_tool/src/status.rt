@@ -1,4 +1,4 @@
-//! The statuses that the program exits with.
+//! The statuses that the program exits with, and how a command ends.
 ghost use Rattle.std.specs.Prelude.{◌≡◌};
 ghost use Rattle.cif_tool.specs.Status.{ReportsFault, end_status, listed_status, outcome_of, status_of};
 
@@ -53,6 +53,17 @@ pub fn listed(is_empty: bool) -> u8
     ensures { result ≡ listed_status is_empty }
 {
     if is_empty { DONE } else { DIFFERENT }
+}
+
+/// How a command ended.
+#[derive(Drop)]
+pub struct Ended<A, K> {
+    /// Its answer, or why it has none.
+    pub answer: A,
+    /// The status that the program exits with.
+    pub status: u8,
+    /// What it has read.
+    pub kept: K,
 }
 
 /// The status that an answer ends with. A fault's line goes to `errors`; that it can't be written

@@ -1,26 +1,7 @@
 -- The rows of associations, and of what is explained, have all fields; and those of records have all columns.
-use Rattle.cif_views.proofs.Names.{AssocBody, AssocKey, BodyLines, Bool, List, Mark, None, Option, Some, Terms, Trimmed, Tsv, [], ap}
-use Rattle.cif_views.proofs.Names.{append-nil, append_assoc, association_fields_of, codes, columns, date_field, day_names, drop, drop-drop}
-use Rattle.cif_views.proofs.Names.{explanation_names, false, mark_columns, no_association, no_train, refl, said_of_association}
-use Rattle.cif_views.proofs.Names.{said_of_train, sym, take, take-add, terms_fields, true, with_first, ℕ, ◌++◌, ◌+◌, ◌∙◌, ◌∷◌, ◌≡◌}
-use Rattle.cif_views.specs.AllFields.{HasAll, TablesHaveColumns, table_with}
-
-pub all-of_association : (calls : Bool) (d : ℕ) (e : AssocKey × AssocBody) →
-    HasAll (day_names (table_with calls)) (association_fields_of (table_with calls) (date_field d) e)
-all-of_association true d e = refl
-all-of_association false d e = refl
-
-pub explained-association : (d : ℕ) (mark : Mark) (key : AssocKey) (terms : Terms AssocBody) (body : Option AssocBody) →
-    HasAll explanation_names (with_first Tsv (date_field d) ((Trimmed, mark_columns mark) ∷ (Trimmed, codes "AA")
-    ∷ (terms_fields terms ++ (no_train Tsv ++ said_of_association Tsv key body))))
-explained-association d mark key terms None = refl
-explained-association d mark key terms (Some body) = refl
-
-pub explained-train : (d : ℕ) (mark : Mark) (uid : List ℕ) (terms : Terms BodyLines) (body : Option BodyLines) →
-    HasAll explanation_names (with_first Tsv (date_field d) ((Trimmed, mark_columns mark) ∷ (Trimmed, codes "BS")
-    ∷ (terms_fields terms ++ (said_of_train Tsv uid body ++ no_association Tsv))))
-explained-train d mark uid terms None = refl
-explained-train d mark uid terms (Some body) = refl
+use Rattle.cif_views.proofs.Names.{List, [], ap, append-nil, append_assoc, columns, drop, drop-drop, refl, sym, take, take-add, ℕ, ◌++◌}
+use Rattle.cif_views.proofs.Names.{◌+◌, ◌∙◌, ◌∷◌, ◌≡◌}
+use Rattle.cif_views.specs.AllFields.{TablesHaveColumns}
 
 -- pieces of so many columns, one behind another, and then the rest
 module _ (line : List ℕ) where

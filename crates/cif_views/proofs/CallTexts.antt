@@ -1,13 +1,11 @@
 -- The text of calls that are written one after another, and of the rows of a table that has them.
 use Rattle.cif_views.proofs.Names.{At, BodyLines, Bor, Call, Field, Format, List, Text, Trimmed, Tsv, Turn, [], ap, append-nil}
-use Rattle.cif_views.proofs.Names.{append_assoc, ap₂, arith, at_drop_all, at_drop_more, call_names_if, call_text, calls_text, codes, drop}
-use Rattle.cif_views.proofs.Names.{fields_text, flat_map, flat_map-append, flat_map-map, get_or, heading_text, if_table, if◌then◌else◌}
-use Rattle.cif_views.proofs.Names.{joined-rows, journey_names, length, line_of, lines_of_row, map, names_line, parts_in, refl}
-use Rattle.cif_views.proofs.Names.{row_and_calls, row_lines, row_start, separator, shown, subst, sym, texts, with_calls, with_first, ℕ}
-use Rattle.cif_views.proofs.Names.{◌++◌, ◌+◌, ◌<◌, ◌∙◌, ◌∷◌, ◌≡◌, ◌≤◌}
+use Rattle.cif_views.proofs.Names.{append_assoc, ap₂, arith, at_drop_all, call_names_if, call_text, calls_text, codes, drop, fields_text}
+use Rattle.cif_views.proofs.Names.{flat_map, flat_map-append, flat_map-map, heading_text, if_table, if◌then◌else◌, joined-rows}
+use Rattle.cif_views.proofs.Names.{journey_names, length, line_of, lines_of_row, map, names_line, parts_in, refl, row_and_calls, row_lines}
+use Rattle.cif_views.proofs.Names.{row_start, shown, subst, sym, texts, with_calls, with_first, ℕ, ◌++◌, ◌+◌, ◌<◌, ◌∙◌, ◌∷◌, ◌≡◌, ◌≤◌}
 use Rattle.std.specs.List.{join_with_byte}
 use Rattle.cif_canon.proofs.ViewLines.{IsGrowing}
-use Rattle.cif_canon.specs.Fields.{after}
 use Rattle.cif_views.specs.declared.listing.Listing.{Listing}
 
 -- one more of all is done, or none is left
@@ -15,37 +13,12 @@ module _ {X : Type 0} (all done left : List X) (split : done ++ left ≡ all) wh
   pub one-done : (x : X) (later : List X) → left ≡ x ∷ later → (done ++ (x ∷ [])) ++ later ≡ all
   one-done x later first = append_assoc done (x ∷ []) later ∙ ap (λ (xs : List X). done ++ xs) (sym first) ∙ split
 
-  pub all-done : left ≡ [] → done ≡ all
-  all-done none = sym (append-nil done) ∙ ap (λ (xs : List X). done ++ xs) (sym none) ∙ split
-
 -- columns without the spaces at their end, as the code has them
 abbrev pub trimmed_field : Bor (List ℕ) → Field
 trimmed_field columns = (Trimmed, columns.now)
 
--- With the columns of a call that are left, its line is whole: one more is appended, or none is left.
-abbrev pub no_columns : Bor (List ℕ)
-no_columns = record { ref_ptr = (0, 0); now = [] }
-
 module _ (format : Format) (whole : List ℕ) (most : ℕ) (xs : List (Bor (List ℕ))) (i : ℕ) where
   module _ (line : List ℕ) (size : ℕ) (is : IsGrowing format whole most line size (map trimmed_field (drop i xs))) where
-    pub first-column : i < length xs →
-        IsGrowing format whole most line size (trimmed_field (get_or xs i no_columns) ∷ map trimmed_field (drop (i + 1) xs))
-    first-column below = subst (IsGrowing format whole most line size) (at_drop_more (map trimmed_field) xs i no_columns below) is
-
-    pub one-column : i < length xs → (new : List ℕ) (more : ℕ) →
-        new ≡ line ++ (separator format ∷ shown format (trimmed_field (get_or xs i no_columns))) →
-        more ≤ size + length (get_or xs i no_columns).now + 1 → IsGrowing format whole most new more (map trimmed_field (drop (i + 1) xs))
-    one-column below new more e upto =
-        let here = first-column below in
-        let room = here.room in
-        let rest = map trimmed_field (drop (i + 1) xs) in record {
-          text = ap (λ (l : List ℕ). l ++ after format rest) e
-              ∙ append_assoc line (separator format ∷ shown format (trimmed_field (get_or xs i no_columns))) (after format rest)
-              ∙ here.text;
-          room = omega (arith, room, upto);
-          fields = here.fields.1;
-        }
-
     pub no-column : length xs ≤ i → (line ≡ whole) × (size ≤ most)
     no-column past =
         let end = subst (IsGrowing format whole most line size) (at_drop_all (map trimmed_field) xs i past) is in

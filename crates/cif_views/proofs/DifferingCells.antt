@@ -8,8 +8,7 @@ use Rattle.cif_views.proofs.Names.{refl, replicate, row_behind, row_fields, show
 use Rattle.cif_views.proofs.Names.{trimmed, true, used, yymmdd_from, ℕ, ⊎_elim, ◌&&◌, ◌++◌, ◌+◌, ◌-◌, ◌<◌, ◌||◌, ◌∙◌, ◌∷◌, ◌≡◌, ◌≤◌}
 use Rattle.cif_columns.proofs.KeptLines.{trimmed as widened, used_few}
 use Rattle.cif_canon.specs.Fields.{after}
-use Rattle.cif_views.specs.DifferenceTable.{text}
-use Rattle.cif_views.specs.Steps.Columns.{shown_at}
+use Rattle.cif_views.specs.{DifferenceTable.text, Steps.Columns.shown_at}
 use Rattle.cif_views.specs.declared.columns.FieldPlace.TheVariants as place
 
 -- ---- rows

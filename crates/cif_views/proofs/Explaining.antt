@@ -1,19 +1,17 @@
 -- The records of a train that apply on a day are found, put in order and marked one by one.
-use Rattle.cif_views.proofs.Names.{All-contains, All-nil, All-permutation, All-push, All-weaker, AllPairs, AllPairs-map, AllWithin}
-use Rattle.cif_views.proofs.Names.{AreExplained, AreMarked, ArePlacedBelow, ArePlacedInOrder, Contains, Contains-append_left}
-use Rattle.cif_views.proofs.Names.{Contains-from_map, Contains-map, Contains-permutation, Contains-push, Decides-eqb, Equal, Explained}
-use Rattle.cif_views.proofs.Names.{Greater, IsFirstOfKey, IsLeast, IsLevel, IsLike, IsMarkAmong, IsMarkAt, IsMarkOf, IsMarked}
-use Rattle.cif_views.proofs.Names.{IsPermutation, IsPermutation-map, IsPlaced, IsRisingBy, IsSortedBy, IsTotalOrder, Less, List, Mark}
-use Rattle.cif_views.proofs.Names.{Ordering, Placed, Some, Terms, Wins, [], all_pairs_push, ap, ap₂, arith, at-contains, at_read, cases_lt}
-use Rattle.cif_views.proofs.Names.{contains-at, drop, eq-or-lt_of_le, false, get_or, get_or-drop, get_or-map, get_or-take, get_or_default}
-use Rattle.cif_views.proofs.Names.{inl, inr, is_lt, length, length-drop, length-map, length-take, map, map-append, marked_as, nat_cmp}
-use Rattle.cif_views.proofs.Names.{nat_tests, of_key, on_total, ordering_reverse, ordering_then, placed_at, placed_cmp, precedence}
-use Rattle.cif_views.proofs.Names.{ranks_by, refl, slice_get, slice_get_within, slice_range, some_pair_parts, sorted_far, subst, sym, take}
-use Rattle.cif_views.proofs.Names.{take_more, then_total, tied_itself, unmarked, ℕ, ⊎_elim, ◌++◌, ◌+◌, ◌-◌, ◌<◌, ◌==◌, ◌∙◌, ◌∷◌, ◌≡◌, ◌≢◌}
-use Rattle.cif_views.proofs.Names.{◌≤◌, ◌⊎◌}
-use Rattle.std.proofs.lemmas.Cmp.{nat_cmp_total}
-use Rattle.std.proofs.lemmas.Map.Keys.{IsDistinct-IsPermutation}
-use Rattle.std.proofs.lemmas.Map.Made.{AllPairs-from_IsDistinct, IsDistinct-from_AllPairs}
+use Rattle.cif_views.proofs.Names.{All-contains, All-permutation, All-push, All-weaker, AllPairs, AllPairs-map, AllWithin, AreExplained}
+use Rattle.cif_views.proofs.Names.{AreMarked, ArePlacedBelow, ArePlacedInOrder, Contains, Contains-append_left, Contains-from_map}
+use Rattle.cif_views.proofs.Names.{Contains-map, Contains-permutation, Contains-push, Decides-eqb, Equal, Explained, Greater, IsFirstOfKey}
+use Rattle.cif_views.proofs.Names.{IsLeast, IsLevel, IsLike, IsMarkAmong, IsMarkAt, IsMarkOf, IsMarked, IsPermutation, IsPermutation-map}
+use Rattle.cif_views.proofs.Names.{IsPlaced, IsRisingBy, IsSortedBy, IsTotalOrder, Less, List, Mark, Ordering, Placed, Some, Terms, Wins}
+use Rattle.cif_views.proofs.Names.{[], all_pairs_push, ap, ap₂, arith, at-contains, at_read, cases_lt, contains-at, drop, eq-or-lt_of_le}
+use Rattle.cif_views.proofs.Names.{false, get_or, get_or-drop, get_or-map, get_or-take, get_or_default, inl, inr, is_lt, length}
+use Rattle.cif_views.proofs.Names.{length-drop, length-map, length-take, map, map-append, marked_as, nat_cmp, nat_tests, of_key, on_total}
+use Rattle.cif_views.proofs.Names.{ordering_reverse, ordering_then, placed_at, placed_cmp, precedence, ranks_by, refl, slice_get}
+use Rattle.cif_views.proofs.Names.{slice_get_within, slice_range, some_pair_parts, sorted_far, subst, sym, take, take_more, then_total}
+use Rattle.cif_views.proofs.Names.{tied_itself, unmarked, ℕ, ⊎_elim, ◌++◌, ◌+◌, ◌-◌, ◌<◌, ◌==◌, ◌∙◌, ◌∷◌, ◌≡◌, ◌≢◌, ◌≤◌, ◌⊎◌}
+use Rattle.std.proofs.{lemmas.Cmp.nat_cmp_total, lemmas.Map.Keys.IsDistinct-IsPermutation, lemmas.Map.Made.AllPairs-from_IsDistinct}
+use Rattle.std.proofs.{lemmas.Map.Made.IsDistinct-from_AllPairs}
 use Rattle.cif_calendar.specs.Applies.{Applies}
 use Rattle.cif_views.specs.declared.marks.Mark.TheVariants as mark
 
@@ -23,16 +21,6 @@ placed-same : {K B : Type 0} (p q : Placed K B) → p.place ≡ q.place → p.ke
 placed-same p q place key terms =
     ap (λ n. placed_at n p.key p.terms) place
     ∙ (ap (λ k. placed_at q.place k p.terms) key ∙ ap (λ t. placed_at q.place q.key t) terms)
-
--- without entries looked at there is no record
-pub placed-nothing : {K B : Type 0} (IsOf : K → List ℕ → Type 0) (entries : List (K × Terms B)) (u : List ℕ) (d : ℕ) →
-    ArePlacedBelow IsOf entries u d 0 []
-placed-nothing IsOf entries u d = record {
-  found = All-nil _;
-  below = All-nil _;
-  all = λ p is below. absurd (omega (arith, below));
-  rising = λ i j d less within. absurd (omega (arith, within));
-}
 
 module _ {K B : Type 0} (IsOf : K → List ℕ → Type 0) (entries : List (K × Terms B)) (u : List ℕ) (d : ℕ) where
   one-place : (p q : Placed K B) → IsPlaced IsOf entries u d p → IsPlaced IsOf entries u d q → p.place ≡ q.place → p ≡ q

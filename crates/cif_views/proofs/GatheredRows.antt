@@ -1,30 +1,10 @@
 -- Rows that wait to be written together.
 use Rattle.cif_views.proofs.Names.{Field, List, Option, Tsv, [], ap, append-nil, append_assoc, arith, codes, drop, length, length-append}
-use Rattle.cif_views.proofs.Names.{number, refl, row_behind, subst, sym, take, take-append_seam, ℕ, ◌++◌, ◌+◌, ◌<◌, ◌∙◌, ◌∷◌, ◌≡◌, ◌≤◌}
+use Rattle.cif_views.proofs.Names.{refl, row_behind, subst, sym, take, take-append_seam, ℕ, ◌++◌, ◌+◌, ◌<◌, ◌∙◌, ◌∷◌, ◌≡◌}
 use Rattle.cif_columns.specs.declared.sink.Sink.{Sink}
-use Rattle.cif_canon.proofs.AppendedTexts.{both, nothing, text-is}
-use Rattle.cif_canon.specs.Appended.{IsAppended}
-use Rattle.cif_canon.specs.Fields.{after}
-use Rattle.cif_views.proofs.TableRows.{first-pushed, no-shorter}
-use Rattle.cif_views.specs.Steps.GatheredRows.{AreRows, IsBegun, IsGathered, waiting}
-
--- a row with the number of a schedule alone is what its rows begin with
-pub rows-begin : (begun n : ℕ) (row : List ℕ) → begun ≡ length row → row ≡ after Tsv (number n ∷ []) → length row ≤ 41 →
-    AreRows begun row
-rows-begin begun n row is number_is few =
-    let long = ap length number_is in
-    record { some = omega (arith, is, long); few = omega (arith, is, few); begun_in = omega (arith, is); room = omega (arith, few) }
-
--- with fields behind it they are no shorter
-pub rows-more : (begun : ℕ) (old mid new : List ℕ) (fields : List Field) → AreRows begun old → begun ≤ length mid →
-    length mid + 261 ≤ 768 → new ≡ mid ++ after Tsv fields → length new ≤ length mid + 260 → AreRows begun new
-rows-more begun old mid new fields rows within room is bound =
-    let long = no-shorter mid new fields (first-pushed mid new fields is) in record {
-      some = rows.some;
-      few = rows.few;
-      begun_in = omega (arith, within, long);
-      room = omega (arith, room, bound);
-    }
+use Rattle.cif_canon.proofs.AppendedTexts.{both, text-is}
+use Rattle.cif_canon.specs.{Appended.IsAppended, Fields.after}
+use Rattle.cif_views.specs.Steps.GatheredRows.{IsBegun, IsGathered, waiting}
 
 -- a row behind one that waits, with a line feed between them
 two-rows : (out head more next text : List ℕ) → out ++ ((head ++ more) ++ codes "\n") ≡ text →
@@ -47,11 +27,6 @@ further-next (x ∷ head) out [] text some wait is b rest = absurd (omega (arith
 further-next [] out more text some wait is b rest = absurd (omega (arith, some))
 
 module _ {W : Type 0} (contents : W → Option (List ℕ)) (errors : W → Option ℕ) (begun : List ℕ) (s : Sink W) where
-  -- nothing waits at first
-  pub none-yet : (row : List ℕ) → row ≡ begun → IsGathered contents errors begun [] s s row
-  none-yet row is =
-      record { out = []; more = []; written = nothing contents errors s; row_is = is ∙ sym (append-nil begun); text_is = refl }
-
   -- the text is this one
   pub gathered-is : (t : Sink W) (row a b : List ℕ) → a ≡ b → IsGathered contents errors begun a s t row →
       IsGathered contents errors begun b s t row
@@ -82,18 +57,6 @@ module _ {W : Type 0} (contents : W → Option (List ℕ)) (errors : W → Optio
   }
 
   module _ (t : Sink W) (row : List ℕ) where
-    -- no more than what rows begin with, so the text is out
-    none-of : (out more : List ℕ) → IsAppended contents errors out s t → row ≡ begun ++ more → out ++ waiting begun more ≡ text →
-        length row ≡ length begun → IsAppended contents errors text s t × (row ≡ begun)
-    none-of out [] written row_is text_is short =
-        (text-is contents errors _ _ s t (sym (append-nil out) ∙ text_is) written, row_is ∙ append-nil begun)
-    none-of out (b ∷ more) written row_is text_is short =
-        absurd (let long = ap length row_is ∙ length-append begun (b ∷ more) in omega (arith, long, short))
-
-    pub none-waits : IsGathered contents errors begun text s t row → length row ≡ length begun →
-        IsAppended contents errors text s t × (row ≡ begun)
-    none-waits h = none-of h.out h.more h.written h.row_is h.text_is
-
     -- the rows that wait are written
     some-of : (u : Sink W) (out more : List ℕ) → IsAppended contents errors out s t → row ≡ begun ++ more →
         out ++ waiting begun more ≡ text → length begun < length row → IsAppended contents errors (drop 1 row ++ codes "\n") t u →

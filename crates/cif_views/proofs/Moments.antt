@@ -1,14 +1,10 @@
 -- Moments in hours, minutes and seconds.
-use Rattle.cif_views.proofs.Names.{Bool, IsBy, IsOnTheWay, List, [], ap, append_assoc, arith, codes, decimal, decimal_digit}
-use Rattle.cif_views.proofs.Names.{decimal_step_wide, false, if◌then◌else◌, ltb-false, ltb-true, midnight, nat_lt, refl, sym, time_text}
-use Rattle.cif_views.proofs.Names.{true, two_digits, two_digits_or_more, ℕ, ◌%◌, ◌*◌, ◌++◌, ◌+◌, ◌-◌, ◌/◌, ◌<◌, ◌^◌, ◌∙◌, ◌∷◌, ◌≡◌, ◌≤◌}
+use Rattle.cif_views.proofs.Names.{Bool, IsBy, List, [], ap, append_assoc, arith, codes, decimal, decimal_digit, decimal_step_wide, false}
+use Rattle.cif_views.proofs.Names.{if◌then◌else◌, ltb-false, ltb-true, midnight, nat_lt, refl, sym, time_text, true, two_digits}
+use Rattle.cif_views.proofs.Names.{two_digits_or_more, ℕ, ◌%◌, ◌*◌, ◌++◌, ◌+◌, ◌-◌, ◌/◌, ◌<◌, ◌^◌, ◌∙◌, ◌∷◌, ◌≡◌, ◌≤◌}
 use Rattle.itoa.proofs.Decimal.{decimal_two}
 
 module _ (d s v : ℕ) (is : d * 86400 + s ≡ v) (within : s < 86400) (from : midnight ≤ v) where
-  -- a moment from midnight on is of a day from the first one on
-  pub from-midnight : 2 ^ 64 ≤ d
-  from-midnight = omega (arith, is, within, from)
-
   hours : (d - 2 ^ 64) * 24 + s / 3600 ≡ (v - midnight) / 3600
   hours = omega (arith, is, within, from)
 
@@ -54,13 +50,6 @@ long-hours n many fits =
     ∙ ap (λ (l : List ℕ). l ++ ((48 + n % 10) ∷ [])) (decimal_step_wide (n / 10) (omega (arith, many)) (omega (arith, fits)))
     ∙ append_assoc (decimal (n / 10 / 10)) ((48 + n / 10 % 10) ∷ []) ((48 + n % 10) ∷ [])
     ∙ rw (hundreds, tens, ones) refl)
-
--- a journey of so many moments is on its way
-pub on-the-way : (n m : ℕ) → n ≤ 2 ^ 65 → IsBy n m → IsOnTheWay m
-on-the-way n m few by =
-    let late = by.late in
-    let early = by.early in
-    record { late = omega (arith, few, late); early = omega (arith, few, early) }
 
 -- one moment more
 pub one-more : (n p m : ℕ) → IsBy n p → p ≤ m + 3600 → m < p + 86400 → IsBy (n + 1) m

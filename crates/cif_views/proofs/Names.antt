@@ -6,17 +6,16 @@ pub use Rattle.std.proofs.Common.{flat_map, get_or, get_or-drop, get_or-take, if
 pub use Rattle.std.proofs.Common.{leb-true, length, length-append, length-drop, length-set, length-take, length-take-le, lt-ltb, ltb-false}
 pub use Rattle.std.proofs.Common.{ltb-true, map, map-id, max, nat_cmp, nat_eq, nat_le, nat_lt, not, option_and_then, option_map, refl}
 pub use Rattle.std.proofs.Common.{replicate, rules, slice_get, slice_index, slice_index_or, slice_range, slice_set, subst, suc, sym, take}
-pub use Rattle.std.proofs.Common.{take-add, take-append-drop, take-take, take_all, true, zero, ℕ, ⊎_elim, ◌%◌, ◌&&◌, ◌*◌, ◌++◌, ◌+◌, ◌-◌}
-pub use Rattle.std.proofs.Common.{◌/◌, ◌<◌, ◌==◌, ◌^◌, ◌||◌, ◌↔◌, ◌∙◌, ◌∷◌, ◌≡◌, ◌≢◌, ◌≤◌, ◌⊎◌}
+pub use Rattle.std.proofs.Common.{take-add, take-append-drop, take-take, true, zero, ℕ, ⊎_elim, ◌%◌, ◌&&◌, ◌*◌, ◌++◌, ◌+◌, ◌-◌, ◌/◌, ◌<◌}
+pub use Rattle.std.proofs.Common.{◌==◌, ◌^◌, ◌||◌, ◌↔◌, ◌∙◌, ◌∷◌, ◌≡◌, ◌≢◌, ◌≤◌, ◌⊎◌}
 pub use Rattle.std.proofs.Math.Bool.{and-false, and-true, and_assoc, or-false, or_assoc}
 pub use Rattle.std.proofs.lemmas.Fmt.{decimal_digit, decimal_injective, decimal_is_IsNumeral, decimal_step_wide}
-pub use Rattle.std.proofs.lemmas.List.{append_cancel_left, at_drop_all, at_drop_more}
+pub use Rattle.std.proofs.lemmas.List.{append_cancel_left, at_drop_all}
 pub use Rattle.std.proofs.lemmas.List.Elements.{All-map, AllWithin-more, at_read}
-pub use Rattle.std.proofs.lemmas.List.Folds.{flat_map-map}
-pub use Rattle.std.proofs.lemmas.Option.{some_pair_parts}
+pub use Rattle.std.proofs.{lemmas.List.Folds.flat_map-map, lemmas.Option.some_pair_parts}
 pub use Rattle.cif_columns.proofs.Names.{All-push, All-weaker, FieldValue, and_parts, codes_in, drop-take, get_or_default, is_whole_from}
-pub use Rattle.cif_columns.proofs.Names.{not-true, or_cases, plain_columns, take-append-add, take_more_set, take_rest, two_digits, used}
-pub use Rattle.cif_columns.proofs.Names.{width_of, yymmdd_of}
+pub use Rattle.cif_columns.proofs.Names.{or_cases, plain_columns, take-append-add, take_more_set, take_rest, two_digits, used, width_of}
+pub use Rattle.cif_columns.proofs.Names.{yymmdd_of}
 pub use Rattle.cif_records.proofs.Names.{StandsIn, is_identity, kinds, length-columns, one_text_value, stands-front}
 pub use Rattle.cif_extract.proofs.Each.{Each, each_back, each_front}
 pub use Rattle.cif_extract.proofs.Names.{All-append, AllStandIn, Association, BodyParts, Bx, Extra, IsLine, KeepSomeBody, Lo, Row}
@@ -24,18 +23,17 @@ pub use Rattle.cif_extract.proofs.Names.{SpellsRecord, basic_back, body_records,
 pub use Rattle.cif_extract.proofs.Names.{extra_records, further_lines, journey_records, kind_in, letter, line-plain_line, map-append}
 pub use Rattle.cif_extract.proofs.Names.{record_table, row, spare, stands-plain_line, take-append_seam}
 pub use Rattle.cif_extract.proofs.PlainTexts.{RecordFits, further-fit, further-lines}
-pub use Rattle.cif_extract.specs.declared.call.Call.{Call}
-pub use Rattle.cif_extract.specs.declared.call.Call.TheVariants.{At, Turn}
+pub use Rattle.cif_extract.specs.declared.{call.Call.Call, call.Call.TheVariants.At, call.Call.TheVariants.Turn}
 pub use Rattle.cif_calendar.proofs.Names.{All-permutation, AreDayStates, IsClear, IsDayState, IsFirstClashOf, IsPermutation-map, Wins}
 pub use Rattle.cif_calendar.proofs.Names.{get_or-map, precedence, range_with_len, ranks_by, sorted_far, tied_itself}
 pub use Rattle.cif_calendar.specs.AllClashes.{AreAllClashes, association_clash, train_clash}
-pub use Rattle.cif_calendar.specs.Clashes.{AreClashes, told}
-pub use Rattle.cif_calendar.specs.Entries.{association_terms, schedule_terms}
+pub use Rattle.cif_calendar.specs.{Clashes.AreClashes, Entries.association_terms, Entries.schedule_terms}
 pub use Rattle.cif_calendar.specs.declared.day_state.DayState.{DayState}
 pub use Rattle.cif_weeks.proofs.Names.{AllWithin, IsAlignedTwo, at-contains, contains-at, week_of}
-pub use Rattle.cif_canon.proofs.AppendedTexts.{all-items, answered, appended, both, fault-answered}
+pub use Rattle.cif_canon.proofs.AppendedTexts.{all-items, answered, both, fault-answered}
 pub use Rattle.cif_canon.proofs.ByPairs.{associations-by_pairs, same-keys, schedules-by_pairs}
-pub use Rattle.cif_canon.proofs.MergedSides.{from-side, side-member}
+pub use Rattle.cif_canon.proofs.{MergedSides.from-side, MergedSides.side-member, Unique.extracts-unique, Unique.keys-total}
+pub use Rattle.cif_canon.proofs.{ViewTexts.written-so}
 unfoldable pub use Rattle.cif_canon.proofs.Names.{long_date}
 pub use Rattle.cif_canon.proofs.Names.{All-cons, All-contains, All-drop, All-filter, All-head, All-nil, All-tail, All-take, AllFit}
 pub use Rattle.cif_canon.proofs.Names.{AllPairs-map, AreByPairs, AreClear, AreDifferences, AreDifferentRecords, AreDifferentTiplocs}
@@ -43,59 +41,49 @@ pub use Rattle.cif_canon.proofs.Names.{AreLawful, AreLawful-of_key, AreNone, Are
 pub use Rattle.cif_canon.proofs.Names.{BodyLines, BodyRuns, BytesSpell, C, CanonParts, Clash, ComesBefore, Contains-append_left}
 pub use Rattle.cif_canon.proofs.Names.{Contains-append_right, Contains-cases, Contains-first, Contains-from_map, Contains-map}
 pub use Rattle.cif_canon.proofs.Names.{Contains-none, Contains-permutation, Contains-push, Contains-rest, Decides-eqb, Detail}
-pub use Rattle.cif_canon.proofs.Names.{DifferencesParts, ExtractParts, Field, Form, IfOk-weaker, IfWritten, IsAccepted, IsAppended, IsBody}
-pub use Rattle.cif_canon.proofs.Names.{IsCanonOf, IsCanonicalOf, IsClearExtract, IsDayListed, IsFirstClashIn, IsOneWay, IsPrintable}
-pub use Rattle.cif_canon.proofs.Names.{IsTotalOrder, IsTrainListed, IsWithin, Listed, OnlySays, P, Permanent, Records, Runs, RunsOn}
-pub use Rattle.cif_canon.proofs.Names.{SameMeaning, Schedule, ScheduleFits, ScheduleLines, Sink, Terms, Tiploc, Two, Window, all_pairs_push}
-pub use Rattle.cif_canon.proofs.Names.{association_entries, association_entry, association_plain, at_side, basic_rows, by_pairs}
-pub use Rattle.cif_canon.proofs.Names.{bytes_decides, cases_lt, contents_of, detail_of, enumerate_from, extract_parts, extract_text}
-pub use Rattle.cif_canon.proofs.Names.{false≢true, fields_text, filter_passes, first_clash-clear, flat_map-append, header_table}
-pub use Rattle.cif_canon.proofs.Names.{header_window, key_cmp, keyed, length-map, less_one_way, line_of, line_of_association}
-pub use Rattle.cif_canon.proofs.Names.{line_of_tiploc, lines_of_schedule, lines_text, nat_list_cmp_total, nat_tests, nil_from_length}
-pub use Rattle.cif_canon.proofs.Names.{no_association, no_train, not-false, not_less, of_key, of_side, on_total, one_spelled}
-pub use Rattle.cif_canon.proofs.Names.{ordering_reverse, ordering_then, parts_in, permanent_entries, plain_line, plain_lines_of, pointwise}
-pub use Rattle.cif_canon.proofs.Names.{positions-records, record_of, row_start, same_Some, same_key-cmp, same_members, schedule_entries}
-pub use Rattle.cif_canon.proofs.Names.{schedule_entry, schedule_plain, separator, shown, slice_cmp, slice_get-get_or, slice_get_within}
-pub use Rattle.cif_canon.proofs.Names.{spelled-fits, take_more, terms_at, terms_of, texts_ties, then_total, tiploc_table, trailer_table}
-pub use Rattle.cif_canon.proofs.Names.{train_fields, weekday_of, width, with_first}
-pub use Rattle.cif_canon.proofs.Unique.{extracts-unique, keys-total}
-pub use Rattle.cif_canon.proofs.ViewLines.{both-after, explained-groups, four-after, joined-rows, printable-date, row-behind, spaces}
-pub use Rattle.cif_canon.proofs.ViewLines.{with_first-line}
-pub use Rattle.cif_canon.proofs.ViewTexts.{written-so}
-pub use Rattle.cif_canon.specs.Fields.{in_table, left_out, trimmed}
-pub use Rattle.cif_canon.specs.Lines.{ExtractLines}
+pub use Rattle.cif_canon.proofs.Names.{DifferencesParts, ExtractParts, Field, Form, IfOk-weaker, IsAccepted, IsAppended, IsBody, IsCanonOf}
+pub use Rattle.cif_canon.proofs.Names.{IsCanonicalOf, IsClearExtract, IsFirstClashIn, IsOneWay, IsPrintable, IsTotalOrder, IsWithin, Listed}
+pub use Rattle.cif_canon.proofs.Names.{OnlySays, P, Permanent, Records, Runs, RunsOn, SameMeaning, Schedule, ScheduleFits, ScheduleLines}
+pub use Rattle.cif_canon.proofs.Names.{Sink, Terms, Tiploc, Two, Window, all_pairs_push, association_entries, association_entry}
+pub use Rattle.cif_canon.proofs.Names.{association_plain, at_side, basic_rows, by_pairs, bytes_decides, cases_lt, contents_of, detail_of}
+pub use Rattle.cif_canon.proofs.Names.{enumerate_from, extract_parts, extract_text, false≢true, fields_text, filter_passes}
+pub use Rattle.cif_canon.proofs.Names.{first_clash-clear, flat_map-append, header_table, header_window, key_cmp, keyed, length-map}
+pub use Rattle.cif_canon.proofs.Names.{less_one_way, line_of, line_of_association, line_of_tiploc, lines_of_schedule, lines_text}
+pub use Rattle.cif_canon.proofs.Names.{nat_list_cmp_total, nat_tests, nil_from_length, no_association, no_train, not-false, not_less}
+pub use Rattle.cif_canon.proofs.Names.{of_key, of_side, on_total, one_spelled, ordering_reverse, ordering_then, parts_in, permanent_entries}
+pub use Rattle.cif_canon.proofs.Names.{plain_line, plain_lines_of, pointwise, positions-records, record_of, row_start, same_Some}
+pub use Rattle.cif_canon.proofs.Names.{same_key-cmp, same_members, schedule_entries, schedule_entry, schedule_plain, shown, slice_cmp}
+pub use Rattle.cif_canon.proofs.Names.{slice_get-get_or, slice_get_within, spelled-fits, take_more, terms_at, terms_of, texts_ties}
+pub use Rattle.cif_canon.proofs.Names.{then_total, tiploc_table, trailer_table, train_fields, weekday_of, width, with_first}
+pub use Rattle.cif_canon.proofs.ViewLines.{both-after, explained-groups, joined-rows, printable-date, row-behind, spaces, with_first-line}
+pub use Rattle.cif_canon.specs.Fields.{in_table, trimmed}
+pub use Rattle.cif_canon.specs.{Lines.ExtractLines, Rows.schedule_row, Rows.train_row}
 pub use Rattle.cif_canon.specs.Pairs.{association_lines, listed_as, parts_of, schedule_lines, tiploc_lines}
-pub use Rattle.cif_canon.specs.Rows.{schedule_row, train_row}
-pub use Rattle.cif_canon.specs.declared.listed_differences.Side.{Side}
-pub use Rattle.cif_canon.specs.declared.listed_differences.Side.TheVariants.{Left, Right}
-pub use Rattle.cif_canon.specs.declared.listed_differences.Sided.{Sided}
-pub use Rattle.cif_canon.specs.declared.rows.Format.{Format}
-pub use Rattle.cif_canon.specs.declared.rows.Format.TheVariants.{Text, Tsv}
-pub use Rattle.cif_canon.specs.declared.rows.Shape.TheVariants.{Trimmed, Whole}
+pub use Rattle.cif_canon.specs.declared.{listed_differences.Side.Side, listed_differences.Side.TheVariants.Left}
+pub use Rattle.cif_canon.specs.declared.{listed_differences.Side.TheVariants.Right, listed_differences.Sided.Sided, rows.Format.Format}
+pub use Rattle.cif_canon.specs.declared.{rows.Format.TheVariants.Text, rows.Format.TheVariants.Tsv, rows.Shape.TheVariants.Trimmed}
+pub use Rattle.cif_canon.specs.declared.{rows.Shape.TheVariants.Whole}
 pub use Rattle.cif_views.specs.Calls.{call_text, calls_text, origin_fields, terminus_fields}
-pub use Rattle.cif_views.specs.Clashes.{clash_line, clashes_text}
-unfoldable pub use Rattle.cif_views.specs.DifferenceTable.{difference_table}
+pub use Rattle.cif_views.specs.{Clashes.clash_line, Clashes.clashes_text, Steps.WeekCalendar.state_in}
+unfoldable pub use Rattle.cif_views.specs.{DifferenceTable.difference_table, Explanation.explained_association_line}
+unfoldable pub use Rattle.cif_views.specs.{Explanation.explained_train_line, Steps.DifferenceRows.field_row, TableText.table_text}
 pub use Rattle.cif_views.specs.DifferenceTable.{association_differences, association_head, call_count, change_of, changed, difference_names}
 pub use Rattle.cif_views.specs.DifferenceTable.{differing_row, differing_rows, in_journey, in_record, journey_differences, own_fields}
 pub use Rattle.cif_views.specs.DifferenceTable.{place_columns, place_rows, schedule_differences, schedule_head, single_row, tiploc_head}
 pub use Rattle.cif_views.specs.DifferenceTable.{tiploc_row, without_extra}
-unfoldable pub use Rattle.cif_views.specs.Explanation.{explained_association_line, explained_train_line}
 pub use Rattle.cif_views.specs.Explanation.{AreExplained, Explained, HasWinningMark, IsAssociationOf, IsExplanation, IsMarked, IsTrain}
-pub use Rattle.cif_views.specs.Explanation.{SomeApplies, explanation_heading, explanation_names, mark_columns, said_of_association}
-pub use Rattle.cif_views.specs.Explanation.{said_of_train, terms_fields}
-pub use Rattle.cif_views.specs.Listing.{association_fields_of, association_names, call_names_if, date_field, day_names, if_table}
-pub use Rattle.cif_views.specs.Listing.{journey_names, lines_of_row, no_call, schedule_text, train_names, train_text, uid_field, with_calls}
-pub use Rattle.cif_views.specs.Moments.{IsBy, IsInDayFrom, IsOnTheWay, in_day_from, midnight, time_text, two_digits_or_more}
+pub use Rattle.cif_views.specs.Explanation.{SomeApplies, explanation_heading, mark_columns, said_of_association, said_of_train}
+pub use Rattle.cif_views.specs.Explanation.{terms_fields}
+pub use Rattle.cif_views.specs.Listing.{call_names_if, date_field, if_table, journey_names, lines_of_row, no_call, with_calls}
+pub use Rattle.cif_views.specs.Moments.{IsBy, IsInDayFrom, in_day_from, midnight, time_text, two_digits_or_more}
 pub use Rattle.cif_views.specs.PublicCalls.{AreMoments, ArePublicCalls, AreShown, IsBehind, PublicCall, TimedCall, advertised, is_public}
-pub use Rattle.cif_views.specs.PublicCalls.{is_timed, left_at, pick_up, platform_in, public_fields, reached_at, riders_in, riders_of}
-pub use Rattle.cif_views.specs.PublicCalls.{said_by, set_down, times_in, times_of, working}
+pub use Rattle.cif_views.specs.PublicCalls.{is_timed, left_at, public_fields, reached_at, riders_of, said_by, times_in, working}
 pub use Rattle.cif_views.specs.Steps.PublicCalls.{at_first, behind_shown, behind_stay, public_call, public_calls, public_from}
-pub use Rattle.cif_views.specs.Steps.PublicCalls.{public_moment, raised, reached_moment, stay, stay_at, step, step_at}
+pub use Rattle.cif_views.specs.Steps.PublicCalls.{public_moment, raised, reached_moment, stay, stay_at, step_at}
 pub use Rattle.cif_views.specs.RowsOfDifferences.{AreRowsOfFields, HasRow, HaveRows, IsRowOfField}
 pub use Rattle.cif_views.specs.Steps.Columns.{Column, are_within, association_columns, basic_columns, call_columns, change_columns, column}
-pub use Rattle.cif_views.specs.Steps.Columns.{extra_columns, field_in, fields_in, is_short, is_span, is_within, name_fields, named, over}
-pub use Rattle.cif_views.specs.Steps.Columns.{room_for, room_for_names, row_behind, span_in}
-unfoldable pub use Rattle.cif_views.specs.Steps.DifferenceRows.{field_row}
+pub use Rattle.cif_views.specs.Steps.Columns.{extra_columns, field_in, fields_in, is_span, is_within, name_fields, named, over, room_for}
+pub use Rattle.cif_views.specs.Steps.Columns.{room_for_names, row_behind, span_in}
 pub use Rattle.cif_views.specs.Steps.DifferenceRows.{are_texts, call_counts, count_of_calls, is_text, is_text_place, journeys_behind}
 pub use Rattle.cif_views.specs.Steps.DifferenceRows.{own_columns, place_behind, places_behind, same_places}
 pub use Rattle.cif_views.specs.Steps.Explanation.{AreMarked, AreMarkedOn, ArePlacedBelow, ArePlacedInOrder, IsFirstOfKey, IsLeast, IsLevel}
@@ -104,23 +92,15 @@ pub use Rattle.cif_views.specs.Steps.Explanation.{placed_at, placed_cmp, placed_
 pub use Rattle.cif_views.specs.Steps.PublicRows.{IsJourneyBy, behind_schedule, row_of_step}
 pub use Rattle.cif_views.specs.Steps.Rows.{first_field, heading_text, row_and_calls, row_lines, texts}
 pub use Rattle.cif_views.specs.Steps.TableRows.{has_row, journey_columns, journey_rows, row_of_kind, rows_of}
-pub use Rattle.cif_views.specs.Steps.WeekCalendar.{state_in}
-unfoldable pub use Rattle.cif_views.specs.TableText.{table_text}
 pub use Rattle.cif_views.specs.TableText.{schedule_rows, table_heading, table_rows}
 pub use Rattle.cif_views.specs.Tables.{Numbered, NumberedSchedule, TableFields, call_fields, category_fields, change_fields, detail_fields}
 pub use Rattle.cif_views.specs.Tables.{extra_fields, extra_identity, extra_in, header_fields, is_call, is_change, is_extra, journey_kind}
 pub use Rattle.cif_views.specs.Tables.{kind_of_line, names, names_line, number, numbered_from, numbered_schedule, own_call_fields}
-pub use Rattle.cif_views.specs.Tables.{own_change_fields, row_fields, row_line, schedule_fields, text_at, tiploc_fields, type_fields}
-pub use Rattle.cif_views.specs.Tables.{yymmdd_from}
+pub use Rattle.cif_views.specs.Tables.{own_change_fields, row_fields, row_line, schedule_fields, tiploc_fields, type_fields, yymmdd_from}
 pub use Rattle.cif_views.specs.WeekCalendar.{IsRunningLetter, IsShown, IsWeekCalendar, SaysWhatRuns, calendar_text, cell, character}
 pub use Rattle.cif_views.specs.WeekCalendar.{monday_columns, space, week_line, weeks_between}
-pub use Rattle.cif_views.specs.declared.columns.JourneyKind.{JourneyKind}
+pub use Rattle.cif_views.specs.declared.{columns.FieldPlace.FieldPlace, columns.JourneyKind.JourneyKind, marks.Mark.Mark}
+pub use Rattle.cif_views.specs.declared.{public_calls.CallTimes.CallTimes, public_calls.Journey.Journey, public_calls.Riders.Riders}
+pub use Rattle.cif_views.specs.declared.{public_calls.Shown.Shown, tables.Table.Table}
 pub use Rattle.cif_views.specs.declared.columns.JourneyKind.TheVariants.{Change, Other, Stop}
-pub use Rattle.cif_views.specs.declared.columns.FieldPlace.{FieldPlace}
-pub use Rattle.cif_views.specs.declared.marks.Mark.{Mark}
-pub use Rattle.cif_views.specs.declared.public_calls.CallTimes.{CallTimes}
-pub use Rattle.cif_views.specs.declared.public_calls.Journey.{Journey}
-pub use Rattle.cif_views.specs.declared.public_calls.Riders.{Riders}
-pub use Rattle.cif_views.specs.declared.public_calls.Shown.{Shown}
-pub use Rattle.cif_views.specs.declared.tables.Table.{Table}
 pub use Rattle.cif_views.specs.declared.tables.Table.TheVariants.{Associations, Calls, Changes, Public, Schedules, Tiplocs}

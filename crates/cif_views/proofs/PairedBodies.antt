@@ -16,17 +16,13 @@ use Rattle.cif_columns.specs.Field.{text}
 use Rattle.cif_records.proofs.Details.{one_detail}
 use Rattle.cif_records.proofs.Records as records
 use Rattle.cif_records.specs.Association as aa
-use Rattle.cif_records.specs.declared.origin.Origin.{Origin}
-use Rattle.cif_records.specs.declared.record.Record.{Record}
+use Rattle.cif_records.specs.declared.{origin.Origin.Origin, record.Record.Record, terminus.Terminus.Terminus}
 use Rattle.cif_records.specs.declared.record.Record.TheVariants as of
-use Rattle.cif_records.specs.declared.terminus.Terminus.{Terminus}
-use Rattle.cif_extract.proofs.Bodies.{first_line}
-use Rattle.cif_extract.proofs.PlainTexts.{lines_of}
+use Rattle.cif_extract.proofs.{Bodies.first_line, PlainTexts.lines_of}
 use Rattle.cif_canon.specs.Fields.{after}
 use Rattle.cif_views.proofs.DifferingCells.{AllSame, all-covered, all-moved, are_covered, both-none, covered, is_there, same-cells}
 use Rattle.cif_views.proofs.DifferingCells.{same-cells_in, some-behind}
-use Rattle.cif_views.proofs.DifferingFields.{same-kind}
-use Rattle.cif_views.proofs.PairedJourneys.{journeys-by-lines}
+use Rattle.cif_views.proofs.{DifferingFields.same-kind, PairedJourneys.journeys-by-lines}
 use Rattle.cif_views.specs.DifferenceTable.{journey_of}
 use Rattle.cif_views.specs.declared.columns.JourneyKind.TheVariants as kinds_of
 

@@ -1,41 +1,14 @@
 -- The rows of public calls, as they are written line by line.
-use Rattle.cif_views.proofs.Names.{CallTimes, Journey, JourneyKind, List, None, Numbered, Option, Riders, Shown, Some, Tsv, Whole, [], ap}
-use Rattle.cif_views.proofs.Names.{append-nil, append_assoc, arith, behind_schedule, cond, flat_map, flat_map-append, is_call, kind_of_line}
-use Rattle.cif_views.proofs.Names.{length, midnight, number, numbered_from, pick_up, platform_in, public_call, public_fields, public_from}
-use Rattle.cif_views.proofs.Names.{refl, riders_in, riders_of, row_line, row_of_step, set_down, step, step_at, sym, text_at, time_text}
-use Rattle.cif_views.proofs.Names.{times_in, times_of, ℕ, ◌++◌, ◌+◌, ◌-◌, ◌∙◌, ◌∷◌, ◌≡◌}
+use Rattle.cif_views.proofs.Names.{Journey, JourneyKind, List, None, Numbered, Option, Shown, Some, Tsv, [], ap, append-nil, append_assoc}
+use Rattle.cif_views.proofs.Names.{arith, behind_schedule, cond, flat_map, flat_map-append, is_call, kind_of_line, length, number}
+use Rattle.cif_views.proofs.Names.{numbered_from, public_call, public_fields, public_from, refl, row_line, row_of_step, step_at, sym, ℕ}
+use Rattle.cif_views.proofs.Names.{◌++◌, ◌+◌, ◌-◌, ◌∙◌, ◌∷◌, ◌≡◌}
 use Rattle.cif_canon.specs.Fields.{after}
 use Rattle.cif_views.proofs.TableRows.{behind-row}
-
--- what is said of riders, by what is read of the line
-module _ (line answer : List ℕ) (riders : Riders) (times : CallTimes) (are_riders : riders ≡ riders_of line)
-    (are_times : times ≡ times_of line) where
-  pub own-set-down : answer ≡ set_down riders times → answer ≡ set_down (riders_of line) (times_of line)
-  own-set-down is = rw (← are_riders, ← are_times) is
-
-  pub own-pick-up : answer ≡ pick_up riders times → answer ≡ pick_up (riders_of line) (times_of line)
-  own-pick-up is = rw (← are_riders, ← are_times) is
-
--- a step by what is read of the line is that of the line
-pub step-is : (j next : Journey) (shown : Option Shown) (kind : JourneyKind) (line : List ℕ) (times : CallTimes) →
-    kind ≡ kind_of_line line → times ≡ times_in kind line → (next, shown) ≡ step j times (riders_in kind line) →
-    (next, shown) ≡ step_at j line
-step-is j next shown kind line times is_kind are_times is =
-    is
-    ∙ ap (λ (t : CallTimes). step j t (riders_in kind line)) are_times
-    ∙ ap (λ (k : JourneyKind). step j (times_in k line) (riders_in k line)) is_kind
 
 pub same-row : (row : List ℕ) (call : ℕ) (j next : Journey) (line : List ℕ) (shown : Option Shown) →
     (next, shown) ≡ step_at j line → row_of_step row call line shown ≡ row_of_step row call line (step_at j line).1
 same-row row call j next line shown is = ap (λ (p : Journey × Option Shown). row_of_step row call line p.1) is
-
--- the fields of a public call, as they are appended
-pub own-fields : (kind : JourneyKind) (call : ℕ) (line : List ℕ) (shown : Shown) (down up : List ℕ) → kind ≡ kind_of_line line →
-    down ≡ set_down (riders_of line) (times_of line) → up ≡ pick_up (riders_of line) (times_of line) →
-    number call ∷ text_at 3 9 line ∷ platform_in kind line ∷ (Whole, time_text (shown.arrival - midnight))
-    ∷ (Whole, time_text (shown.departure - midnight)) ∷ (Whole, down) ∷ (Whole, up) ∷ []
-    ≡ behind_schedule call line shown
-own-fields kind call line shown down up is_kind is_down is_up = rw (is_kind, is_down, is_up) refl
 
 module _ (schedule : ℕ) where
   -- the rows of the lines that are left

@@ -8,8 +8,7 @@ use Rattle.cif_views.proofs.Names.{or_cases, plain_columns, plain_line, pointwis
 use Rattle.cif_views.proofs.Names.{span_in, subst, suc, sym, take, take-append_seam, true, used, width_of, yymmdd_from, zero, ℕ, ⊎_elim}
 use Rattle.cif_views.proofs.Names.{◌&&◌, ◌++◌, ◌+◌, ◌-◌, ◌<◌, ◌^◌, ◌||◌, ◌∙◌, ◌∷◌, ◌≡◌}
 use Rattle.std.proofs.lemmas.Str.Parse.{digit_from_value}
-use Rattle.std.specs.List.{join_with_byte}
-use Rattle.std.specs.Str.Parse.{AllDigits}
+use Rattle.std.specs.{List.join_with_byte, Str.Parse.AllDigits}
 use Rattle.cif_columns.proofs.Parts.{length-plain_columns, whole-first}
 use Rattle.cif_views.proofs.DifferingCells.{covered, is_among}
 use Rattle.cif_views.specs.Steps.Columns.{shown_at}

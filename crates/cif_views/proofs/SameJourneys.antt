@@ -9,9 +9,8 @@ use Rattle.cif_records.proofs.Records as records
 use Rattle.cif_records.specs.declared.record.Record.{Record}
 use Rattle.cif_records.specs.declared.record.Record.TheVariants as of
 use Rattle.cif_views.proofs.DifferingCells.{all-covered, all-moved, are_covered, covered}
-use Rattle.cif_views.proofs.PairedBodies.{IsPlace}
+use Rattle.cif_views.proofs.{PairedBodies.IsPlace, TableRows.call-fields}
 use Rattle.cif_views.proofs.RowLines.{AreCells, are-cells, cells_of, number-printable}
-use Rattle.cif_views.proofs.TableRows.{call-fields}
 
 -- ---- lines of journeys
 

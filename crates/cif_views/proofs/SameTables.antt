@@ -13,18 +13,15 @@ use Rattle.cif_views.proofs.Names.{tiploc_table, trailer_table, true, ℕ, ◌++
 use Rattle.std.proofs.lemmas.Simd.{map-map}
 use Rattle.cif_records.specs.Association as aa
 use Rattle.cif_canon.proofs.SameExtracts.{same-sym, same-trans}
-use Rattle.cif_canon.specs.Canonical.{IsCanonicalText}
-use Rattle.cif_canon.specs.Lines.{lines_of}
-use Rattle.cif_views.proofs.PairedBodies.{FitsLines, association_line}
+use Rattle.cif_canon.specs.{Canonical.IsCanonicalText, Lines.lines_of}
+use Rattle.cif_views.proofs.{PairedBodies.FitsLines, PairedBodies.association_line, RowsOfDifferences.AssociationEntryFits}
+use Rattle.cif_views.proofs.{RowsOfDifferences.ScheduleEntryFits}
 use Rattle.cif_views.proofs.RowLines.{IsPlain, same-plain_row, same-plain_rows, same-rows}
-use Rattle.cif_views.proofs.RowsOfDifferences.{AssociationEntryFits, ScheduleEntryFits}
 use Rattle.cif_views.proofs.SameJourneys.{IsRow, fields_of, most, one-row, row-cells}
 use Rattle.cif_views.proofs.SameSchedules.{IsNumberedPlain, IsSchedule, all-numbered, all-rows, listed, rows_from, same-row_of}
 use Rattle.cif_views.proofs.SameSchedules.{same-schedules, schedule-cells, schedules_from}
-use Rattle.cif_views.specs.SameTables.{HaveSameTables}
-use Rattle.cif_views.specs.Tables.{association_fields}
-use Rattle.cif_views.specs.declared.columns.TheConstants.{HEADER, TIPLOC}
-use Rattle.cif_views.specs.declared.tables.Table.TheVariants.{Header}
+use Rattle.cif_views.specs.{SameTables.HaveSameTables, Tables.association_fields}
+use Rattle.cif_views.specs.declared.{columns.TheConstants.HEADER, columns.TheConstants.TIPLOC, tables.Table.TheVariants.Header}
 
 abbrev header_columns : List Column
 header_columns = over HEADER (λ c. (c.0.now, c.1))

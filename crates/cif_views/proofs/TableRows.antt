@@ -1,12 +1,11 @@
 -- The rows of tables, as they are made field by field.
-use Rattle.cif_views.proofs.Names.{Bool, Bor, Calls, Change, Changes, Column, ExtractLines, Field, FieldPlace, IsTrue, JourneyKind, List}
-use Rattle.cif_views.proofs.Names.{Numbered, Other, Public, ScheduleLines, Schedules, Stop, Table, Tsv, [], and_parts, ap, append-nil}
-use Rattle.cif_views.proofs.Names.{append_assoc, are_within, arith, at_drop_all, both-after, call_columns, call_fields, change_columns}
-use Rattle.cif_views.proofs.Names.{change_fields, codes, cond, drop, enumerate_from, false, fields_in, filter, flat_map, has_row, in_table}
-use Rattle.cif_views.proofs.Names.{inl, inr, is_call, is_change, is_short, is_span, is_within, journey_columns, journey_rows, kind_of_line}
-use Rattle.cif_views.proofs.Names.{length, length-append, length-set, length-take-le, line_of, name_fields, named, nat_tests, number}
-use Rattle.cif_views.proofs.Names.{numbered_from, own_call_fields, refl, room_for, row_behind, row_fields, row_line, row_of_kind, rows_of}
-use Rattle.cif_views.proofs.Names.{schedule_rows, slice_index_or, slice_set, span_in, subst, sym, table_rows, take, take-append-add}
+use Rattle.cif_views.proofs.Names.{Bool, Bor, Calls, Change, Changes, Column, ExtractLines, Field, FieldPlace, JourneyKind, List, Numbered}
+use Rattle.cif_views.proofs.Names.{Other, Public, ScheduleLines, Schedules, Stop, Table, Tsv, [], ap, append-nil, append_assoc, are_within}
+use Rattle.cif_views.proofs.Names.{arith, at_drop_all, both-after, call_columns, call_fields, change_columns, change_fields, codes, cond}
+use Rattle.cif_views.proofs.Names.{drop, enumerate_from, false, fields_in, filter, flat_map, in_table, inl, inr, is_call, is_change}
+use Rattle.cif_views.proofs.Names.{journey_rows, kind_of_line, length, length-append, length-set, length-take-le, line_of, named, nat_tests}
+use Rattle.cif_views.proofs.Names.{number, numbered_from, own_call_fields, refl, room_for, row_behind, row_fields, row_line, row_of_kind}
+use Rattle.cif_views.proofs.Names.{rows_of, schedule_rows, slice_index_or, slice_set, subst, sym, table_rows, take, take-append-add}
 use Rattle.cif_views.proofs.Names.{take-take, take_more_set, true, ℕ, ◌++◌, ◌+◌, ◌<◌, ◌==◌, ◌∙◌, ◌∷◌, ◌≡◌, ◌≤◌, ◌⊎◌}
 use borrow.Rule.Slice.PartMut.{put_mid}
 use Rattle.std.proofs.lemmas.Slice.{take-put_mid}
@@ -60,31 +59,12 @@ pub row-pushed : (row : List ℕ) (first : Field) (fields : List Field) → HasP
     drop 1 row ++ codes "\n" ≡ line_of Tsv (first ∷ fields)
 row-pushed row first fields h = row-is [] row (first ∷ fields) h ∙ row-text first fields
 
--- three groups of names are a row that is a heading
-behind-tab : (row heading : List ℕ) → row ++ codes "\n" ≡ 9 ∷ heading → (drop 1 row ++ codes "\n" ≡ heading) × (0 < length row)
-behind-tab [] heading is = absurd (let other : 10 ≡ 9 = ap (λ (l : List ℕ). slice_index_or l 0 0) is in omega (arith, other))
-behind-tab (b ∷ row) heading is = (ap (drop 1) is, omega arith)
-
-pub heading-row : (none one two three : List ℕ) (a b c : List Column) (heading : List ℕ) → none ≡ [] →
-    one ≡ none ++ after Tsv (name_fields a) → two ≡ one ++ after Tsv (name_fields b) → three ≡ two ++ after Tsv (name_fields c) →
-    after Tsv ((name_fields a ++ name_fields b) ++ name_fields c) ++ codes "\n" ≡ 9 ∷ heading →
-    (drop 1 three ++ codes "\n" ≡ heading) × (0 < length three)
-heading-row none one two three a b c heading empty p q r is =
-    let h1 = more-pushed _ _ _ _ (name_fields a) (begun-row none empty) p in
-    let h2 = more-pushed _ _ _ _ (name_fields b) h1 q in
-    let h3 = more-pushed _ _ _ _ (name_fields c) h2 r in
-    behind-tab three heading (ap (λ (l : List ℕ). l ++ codes "\n") h3.text ∙ is)
-
 pub columns-row : (kind : JourneyKind) (given : List (Bor (List ℕ) × FieldPlace)) (line row : List ℕ) → 0 < length given →
     HasPushed [] row (fields_in kind (named given) line) →
     (drop 1 row ++ codes "\n" ≡ line_of Tsv (fields_in kind (named given) line)) × (0 < length row)
 columns-row kind [] line row some h = absurd (omega (arith, some))
 columns-row kind (c ∷ given) line row some h =
     (row-pushed row _ (fields_in kind (named given) line) h, let long = ap length h.text in omega (arith, long))
-
--- a row that has been appended to is no shorter
-pub no-shorter : (old new : List ℕ) (fields : List Field) → HasPushed old new fields → length old ≤ length new
-no-shorter old new fields h = let long = ap length h.text ∙ length-append old (after Tsv fields) in omega (arith, long)
 
 -- the bytes of a row with a byte and columns behind them, of which so many count
 pub row-more : (tab : ℕ) (bytes columns copied : List ℕ) (len count k : ℕ) → len < length bytes → copied ≡ columns →
@@ -120,22 +100,6 @@ module _ (kind : JourneyKind) (line whole : List ℕ) (most : ℕ) (xs : List (B
       let end = subst (IsGrowing kind line whole most row) (at_drop_all named xs i past) is in
       let room = end.room in
       (sym (append-nil row) ∙ end.text, omega (arith, room))
-
--- what the place of a field says of its columns in a line of this kind
-short-span : (span : ℕ × ℕ) → IsTrue (is_short span) → IsTrue (is_span span)
-short-span span short = (and_parts (is_span span) _ short).0
-
-pub within-span : (kind : JourneyKind) (at : FieldPlace) → IsTrue (is_within at) → IsTrue (is_span (span_in kind at))
-within-span kind (place.Text first last) within = within
-within-span kind (place.Whole first last) within = within
-within-span kind (place.Date first last) within = (and_parts (is_span (first, last)) _ within).0
-within-span kind (place.DayFirst first last) within = (and_parts (is_span (first, last)) _ within).0
-within-span kind place.Nowhere within = refl
-within-span Origin (place.Call o s t) within = short-span o (and_parts (is_short o) _ within).0
-within-span Stop (place.Call o s t) within = short-span s (and_parts (is_short s) (is_short t) (and_parts (is_short o) _ within).1).0
-within-span Terminus (place.Call o s t) within = short-span t (and_parts (is_short s) (is_short t) (and_parts (is_short o) _ within).1).1
-within-span Change (place.Call o s t) within = refl
-within-span Other (place.Call o s t) within = refl
 
 -- what is listed of items that pass a test
 passing : {A : Type 0} (test : Bool) (text : A → List ℕ) (x : A) (xs : List A) (rest : List ℕ) → flat_map text xs ≡ rest →
@@ -227,11 +191,3 @@ numbered-row true begun p is =
 numbered-row false begun p is =
     ap (λ (l : List ℕ). cond (is_change (kind_of_line p.line)) l [])
     (behind-row begun (number p.schedule) [] (number p.call ∷ fields_in (kind_of_line p.line) change_columns p.line) is)
-
--- a table has a row of a line, or none
-pub own-row : (calls has : Bool) (begun : List ℕ) (call : ℕ) (kind there : JourneyKind) (line : List ℕ) → has ≡ has_row calls kind →
-    kind ≡ there →
-    cond has (row_behind begun (number call ∷ fields_in kind (journey_columns calls) line)) [] ≡ row_of_kind calls begun call there line
-own-row calls has begun call kind there line is kind_is =
-    ap (λ h. cond h (row_behind begun (number call ∷ fields_in kind (journey_columns calls) line)) []) is
-    ∙ ap (λ k. row_of_kind calls begun call k line) kind_is

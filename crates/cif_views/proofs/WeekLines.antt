@@ -15,12 +15,6 @@ use Rattle.cif_views.specs.WeekCalendar.{text_of}
 
 -- ---- Mondays
 
-pub monday-some : (n w : ℕ) → (n + 4) / 7 ≡ w → (n + 4) % 7 ≡ 0 → yymmdd_of n ≡ monday_columns w
-monday-some n w week weekday =
-    let day : n ≡ w * 7 - 4 = omega arith in
-    let late : 4 ≤ w * 7 = omega arith in
-    ap yymmdd_of day ∙ sym (ap (λ b. cond b (codes "      ") (yymmdd_of (w * 7 - 4))) (le-ltb (w * 7) 4 late))
-
 pub monday-none : (w : ℕ) → w * 7 < 36529 → ((n : ℕ) → (n + 4) / 7 ≡ w → (n + 4) % 7 ≡ 0 → n < 36525 → ⊥) →
     codes "      " ≡ monday_columns w
 monday-none w within none =
@@ -40,13 +34,6 @@ module _ (first last : ℕ) (state_on : ℕ → DayState) (w i : ℕ) where
 
   abbrev rest : Bool → Bool → ℕ
   rest early late = cond early space (cond late space (character (state_on (days - 4))))
-
-  pub cell-before : days < first + 4 → space ≡ cell first last state_on w i
-  cell-before early = sym (ap (λ b. rest b (nat_lt (last + 4) days)) (lt-ltb days (first + 4) early))
-
-  pub cell-behind : first + 4 ≤ days → last + 4 < days → space ≡ cell first last state_on w i
-  cell-behind from late =
-      sym (ap (λ b. rest b (nat_lt (last + 4) days)) (le-ltb days (first + 4) from) ∙ ap (rest false) (lt-ltb (last + 4) days late))
 
 -- ---- weeks
 

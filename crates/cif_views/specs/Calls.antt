@@ -1,14 +1,10 @@
 -- The calls of a train: one for its origin, one for each location on its way, and one for its terminus.
 use Rattle.std.specs.Prelude.{ℕ, List, ◌∷◌, [], ◌++◌, codes}
 use Rattle.std.specs.List.{flat_map}
-use Rattle.cif_columns.specs.Activities.{codes_columns}
-use Rattle.cif_columns.specs.Text.{left_justified}
+use Rattle.cif_columns.specs.{Activities.codes_columns, Text.left_justified}
 use Rattle.cif_extract.specs.Body.{BodyLines, parts_in}
-use Rattle.cif_extract.specs.declared.call.Call.{Call}
-use Rattle.cif_extract.specs.declared.call.Call.TheVariants.{At, Turn}
-use Rattle.cif_records.specs.declared.origin.Origin.{Origin}
-use Rattle.cif_records.specs.declared.stop.Stop.{Stop}
-use Rattle.cif_records.specs.declared.terminus.Terminus.{Terminus}
+use Rattle.cif_extract.specs.declared.{call.Call.Call, call.Call.TheVariants.At, call.Call.TheVariants.Turn}
+use Rattle.cif_records.specs.declared.{origin.Origin.Origin, stop.Stop.Stop, terminus.Terminus.Terminus}
 use Rattle.cif_canon.specs.Fields.{Field}
 use Rattle.cif_canon.specs.declared.rows.Shape.TheVariants.{Trimmed}
 

@@ -1,27 +1,14 @@
 -- Why a train does or doesn't run on a day, and why its associations hold or don't: the records that apply, each with a mark.
 use Rattle.std.specs.Prelude.{◌≡◌, ◌⊎◌, ℕ, List, ◌∷◌, [], ◌++◌, Option, Some, None, AllPairs, Contains, codes, slice_get}
-use Rattle.std.specs.List.{flat_map}
-use Rattle.std.specs.Ordering.{nat_cmp, ordering_then}
-use Rattle.std.specs.Cmp.Lexicographic.{slice_cmp}
-use Rattle.std.specs.declared.cmp.Ordering.{Ordering}
-use Rattle.std.specs.declared.cmp.Ordering.TheVariants.{Less}
-use Rattle.cif_calendar.specs.Applies.{Applies}
-use Rattle.cif_calendar.specs.Clash.{IsClash, IsClear}
-use Rattle.cif_calendar.specs.Entries.{association_entries, schedule_entries}
-use Rattle.cif_calendar.specs.Keys.{of_key}
-use Rattle.cif_calendar.specs.Terms.{Records, Terms}
-use Rattle.cif_calendar.specs.Wins.{Wins, precedence}
-use Rattle.cif_columns.specs.DayDigits.{yymmdd_of}
-use Rattle.cif_columns.specs.DaysRun.{days_columns}
-use Rattle.cif_columns.specs.Stp.{letter}
-use Rattle.cif_columns.specs.Text.{left_justified}
-use Rattle.cif_extract.specs.Body.{BodyLines}
-use Rattle.cif_extract.specs.ExtractParts.{ExtractParts}
+use Rattle.std.specs.{Cmp.Lexicographic.slice_cmp, List.flat_map, Ordering.nat_cmp, Ordering.ordering_then}
+use Rattle.std.specs.declared.{cmp.Ordering.Ordering, cmp.Ordering.TheVariants.Less}
+use Rattle.cif_calendar.specs.{Applies.Applies, Clash.IsClash, Clash.IsClear, Entries.association_entries, Entries.schedule_entries}
+use Rattle.cif_calendar.specs.{Keys.of_key, Terms.Records, Terms.Terms, Wins.Wins, Wins.precedence}
+use Rattle.cif_columns.specs.{DayDigits.yymmdd_of, DaysRun.days_columns, Stp.letter, Text.left_justified}
+use Rattle.cif_extract.specs.{Body.BodyLines, ExtractParts.ExtractParts}
 use Rattle.cif_extract.specs.declared.fault.Fault.{Fault}
 use Rattle.cif_extract.specs.declared.fault.Fault.TheVariants.{Memory, OutsideWindow, Write}
-use Rattle.cif_records.specs.AssocKey.{key_cmp}
-use Rattle.cif_records.specs.declared.association.AssocBody.{AssocBody}
-use Rattle.cif_records.specs.declared.association.AssocKey.{AssocKey}
+use Rattle.cif_records.specs.{AssocKey.key_cmp, declared.association.AssocBody.AssocBody, declared.association.AssocKey.AssocKey}
 use Rattle.cif_weeks.specs.Window.{IsWithin}
 use Rattle.cif_canon.specs.Asked.{header_window}
 use Rattle.cif_canon.specs.Fields.{Field, left_out, line_of, with_first}

@@ -1,20 +1,14 @@
 -- The public calls of a schedule, and when they are.
-use Rattle.std.specs.Prelude.{◌≡◌, ⊤, ℕ, ◌-◌, ◌+◌, Bool, not, ◌&&◌, ◌||◌, List, [], ◌∷◌, Option, None, Some, IfSome, IsNone, codes}
-use Rattle.std.specs.Prelude.{is_some, map, max, if◌then◌else◌}
-use Rattle.std.specs.List.{filter}
-use Rattle.std.specs.Option.{option_and_then, option_or}
-use Rattle.cif_columns.specs.Activities.{codes_in, has_code}
-use Rattle.cif_columns.specs.Field.{columns}
-use Rattle.cif_canon.specs.Fields.{Field}
-use Rattle.cif_canon.specs.Lines.{ScheduleLines}
+use Rattle.std.specs.Prelude.{Bool, IfSome, IsNone, List, None, Option, Some, [], codes, if◌then◌else◌, is_some, map, max, not, ℕ, ⊤, ◌&&◌}
+use Rattle.std.specs.Prelude.{◌+◌, ◌-◌, ◌||◌, ◌∷◌, ◌≡◌}
+use Rattle.std.specs.{List.filter, Option.option_and_then, Option.option_or}
+use Rattle.cif_columns.specs.{Activities.codes_in, Activities.has_code, Field.columns, PublicTime.public_seconds, PublicTime.public_time_in}
+use Rattle.cif_columns.specs.{WorkTime.work_seconds, WorkTime.work_time_in}
+use Rattle.cif_canon.specs.{Fields.Field, Lines.ScheduleLines}
 use Rattle.cif_canon.specs.declared.rows.Shape.TheVariants.{Whole}
-use Rattle.cif_columns.specs.PublicTime.{public_seconds, public_time_in}
-use Rattle.cif_columns.specs.WorkTime.{work_seconds, work_time_in}
 use Rattle.cif_views.specs.Moments.{IsNearest, IsNext, midnight, time_text}
 use Rattle.cif_views.specs.Tables.{Numbered, TableFields, calls_of, kind_of_line, number, text_at}
-use Rattle.cif_views.specs.declared.public_calls.CallTimes.{CallTimes}
-use Rattle.cif_views.specs.declared.public_calls.Riders.{Riders}
-use Rattle.cif_views.specs.declared.columns.JourneyKind.{JourneyKind}
+use Rattle.cif_views.specs.declared.{columns.JourneyKind.JourneyKind, public_calls.CallTimes.CallTimes, public_calls.Riders.Riders}
 use Rattle.cif_views.specs.declared.columns.JourneyKind.TheVariants.{Origin, Stop, Terminus}
 
 -- ---- what is read of a call's line

@@ -1,12 +1,9 @@
 -- Each difference has a row in their table.
 use Rattle.std.specs.Prelude.{◌≡◌, ◌≢◌, ℕ, ◌<◌, Contains, List, [], length}
 use Rattle.std.specs.List.{flat_map}
-use Rattle.cif_canon.specs.Differences.{DifferencesParts}
-use Rattle.cif_canon.specs.Fields.{Field, shown}
-use Rattle.cif_canon.specs.Lines.{ScheduleLines}
+use Rattle.cif_canon.specs.{Differences.DifferencesParts, Fields.Field, Fields.shown, Lines.ScheduleLines}
 use Rattle.cif_canon.specs.Pairs.{Listed, association_lines, schedule_lines, tiploc_lines}
-use Rattle.cif_canon.specs.declared.listed_differences.Sided.{Sided}
-use Rattle.cif_canon.specs.declared.rows.Format.TheVariants.{Tsv}
+use Rattle.cif_canon.specs.declared.{listed_differences.Sided.Sided, rows.Format.TheVariants.Tsv}
 use Rattle.cif_views.specs.DifferenceTable.{association_differences, differing_row, differing_rows, schedule_differences, tiploc_row}
 use Rattle.cif_views.specs.Tables.{TableFields}
 

@@ -1,6 +1,6 @@
 -- Tables of a whole canonical extract: a line of names, and then a line for each row.
-use Rattle.std.specs.Prelude.{ℕ, ◌+◌, Bool, true, false, List, [], ◌∷◌, ◌++◌, Option, Some, codes, cond, decimal, map, replicate}
-use Rattle.std.specs.Prelude.{slice_index_or}
+use Rattle.std.specs.Prelude.{Bool, List, Option, Some, [], codes, cond, decimal, false, map, replicate, slice_index_or, true, ℕ, ◌++◌, ◌+◌}
+use Rattle.std.specs.Prelude.{◌∷◌}
 use Rattle.std.specs.List.{filter, join_with_byte}
 use Rattle.cif_columns.specs.Field.{columns, columns_from}
 use Rattle.cif_records.specs.Kind.{kind_in}

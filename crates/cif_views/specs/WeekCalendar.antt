@@ -1,21 +1,13 @@
 -- The calendar of a train: a line for each week, with a character for each day.
 use Rattle.std.specs.Prelude.{◌≡◌, ◌↔◌, ◌⊎◌, ℕ, ◌+◌, ◌-◌, ◌*◌, ◌≤◌, List, [], ◌∷◌, ◌++◌, Some, codes, map, nat_lt, slice_get, if◌then◌else◌}
 use Rattle.std.specs.List.{flat_map, range_with_len}
-use Rattle.cif_calendar.specs.Clash.{IsClear}
-use Rattle.cif_calendar.specs.DayState.{IsDayState}
-use Rattle.cif_calendar.specs.Entries.{schedule_entries}
-use Rattle.cif_calendar.specs.Keys.{of_key}
-use Rattle.cif_calendar.specs.Runs.{Runs}
+use Rattle.cif_calendar.specs.{Clash.IsClear, DayState.IsDayState, Entries.schedule_entries, Keys.of_key, Runs.Runs}
 use Rattle.cif_calendar.specs.declared.day_state.DayState.{DayState}
 use Rattle.cif_calendar.specs.declared.day_state.DayState.TheVariants as state
-use Rattle.cif_columns.specs.Day.{week_of, weekday_of}
-use Rattle.cif_columns.specs.DayDigits.{yymmdd_of}
-use Rattle.cif_columns.specs.Stp.{letter}
+use Rattle.cif_columns.specs.{Day.week_of, Day.weekday_of, DayDigits.yymmdd_of, Stp.letter}
 use Rattle.cif_columns.specs.declared.stp.Stp.TheVariants.{N, O, P}
-use Rattle.cif_extract.specs.Body.{BodyLines}
-use Rattle.cif_extract.specs.ExtractParts.{ExtractParts}
-use Rattle.cif_extract.specs.declared.fault.Fault.{Fault}
-use Rattle.cif_extract.specs.declared.fault.Fault.TheVariants.{Memory, Write}
+use Rattle.cif_extract.specs.{Body.BodyLines, ExtractParts.ExtractParts}
+use Rattle.cif_extract.specs.declared.{fault.Fault.Fault, fault.Fault.TheVariants.Memory, fault.Fault.TheVariants.Write}
 
 -- a space, and the characters of a day on which no record applies, or two winners differ: `.` and `!`
 abbrev pub space : ℕ

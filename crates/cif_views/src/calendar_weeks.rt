@@ -1,11 +1,8 @@
 //! The calendar of a train, week by week.
 ghost use Rattle.std.specs.Prelude.{◌≡◌, ◌+◌, ◌*◌, ◌<◌, ℕ, List, IfErr, IfOk, length};
 ghost use Rattle.std.specs.List.{flat_map};
-ghost use Rattle.cif_calendar.specs.DayState.{AreDayStates};
-ghost use Rattle.cif_calendar.specs.Entries.{schedule_entries};
-ghost use Rattle.cif_calendar.specs.Keys.{of_key};
-ghost use Rattle.cif_canon.specs.Appended.{IsAppended};
-ghost use Rattle.cif_canon.specs.Normalised.{FaultWrites, IfWritten};
+ghost use Rattle.cif_calendar.specs.{DayState.AreDayStates, Entries.schedule_entries, Keys.of_key};
+ghost use Rattle.cif_canon.specs.{Appended.IsAppended, Normalised.FaultWrites, Normalised.IfWritten};
 ghost use Rattle.cif_extract.specs.ExtractParts.{extract_parts};
 ghost use Rattle.cif_views.specs.Steps.WeekCalendar.{state_in};
 ghost use Rattle.cif_views.specs.WeekCalendar.{IsWeekCalendar, IsWeekCalendarFault};

@@ -1,17 +1,14 @@
 //! The table of the differences of two extracts.
 ghost use Rattle.std.specs.Prelude.{◌≡◌, ◌≤◌, ◌++◌, [], ◌∷◌, IfErr, IsTrue, Some, codes, length, replicate};
 ghost use Rattle.std.specs.List.{flat_map};
-ghost use Rattle.cif_columns.specs.Field.{columns};
-ghost use Rattle.cif_columns.specs.Sink.{Writes};
+ghost use Rattle.cif_columns.specs.{Field.columns, Sink.Writes};
 ghost use Rattle.cif_extract.specs.declared.fault.Fault.TheVariants.{Write};
-ghost use Rattle.cif_canon.specs.Appended.{IsAppended};
+ghost use Rattle.cif_canon.specs.{Appended.IsAppended, Lines.schedule_plain};
 ghost use Rattle.cif_canon.specs.Fields.{after, nothing, trimmed};
-ghost use Rattle.cif_canon.specs.declared.rows.Format.TheVariants.{Tsv};
+ghost use Rattle.cif_canon.specs.declared.{listed_differences.Side.TheVariants.Left, rows.Format.TheVariants.Tsv};
 ghost use Rattle.cif_views.specs.DifferenceTable.{association_head, change_of, changed, difference_table, differing_rows};
 ghost use Rattle.cif_views.specs.DifferenceTable.{in_record, schedule_differences, text, without_extra};
 ghost use Rattle.cif_views.specs.Tables.{category_fields, type_fields};
-ghost use Rattle.cif_canon.specs.Lines.{schedule_plain};
-ghost use Rattle.cif_canon.specs.declared.listed_differences.Side.TheVariants.{Left};
 ghost use Rattle.cif_views.specs.Steps.Columns.{are_within, column, fields_in, is_span, named, room_for, row_behind};
 ghost use Rattle.cif_views.specs.Steps.DifferenceRows.{are_texts, count_of_calls, field_row, is_text, journeys_behind};
 ghost use Rattle.cif_views.specs.Steps.DifferenceRows.{own_columns, place_behind, places_behind, same_places};
@@ -82,8 +79,7 @@ impl Texts<Sided<Tiploc>> for DifferenceTable {
 }
 
 impl<'a> Texts<ListedRecord<'a, AssocKey, AssocBody>> for DifferenceTable {
-    ghost use Rattle.cif_canon.specs.Lines.{association_plain};
-    ghost use Rattle.cif_canon.specs.Pairs.{listed_as};
+    ghost use Rattle.cif_canon.specs.{Lines.association_plain, Pairs.listed_as};
     ghost use Rattle.cif_views.specs.DifferenceTable.{association_differences};
 
     ghost text = { λ table e. association_differences (listed_as association_plain e) };
@@ -105,8 +101,7 @@ impl<'a> Texts<ListedRecord<'a, AssocKey, AssocBody>> for DifferenceTable {
 }
 
 impl<'a> Texts<ListedRecord<'a, Uid, Body>> for DifferenceTable {
-    ghost use Rattle.cif_canon.specs.Lines.{schedule_plain};
-    ghost use Rattle.cif_canon.specs.Pairs.{listed_as};
+    ghost use Rattle.cif_canon.specs.{Lines.schedule_plain, Pairs.listed_as};
     ghost use Rattle.cif_views.specs.DifferenceTable.{schedule_differences};
 
     ghost text = { λ table e. schedule_differences (listed_as schedule_plain e) };

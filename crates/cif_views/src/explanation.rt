@@ -8,8 +8,7 @@ ghost use Rattle.cif_canon.specs.Normalised.{FaultWrites, IfWritten};
 ghost use Rattle.cif_views.specs.Steps.Explanation.{AreMarkedOn, IsRisingBy, placed_of};
 ghost use Rattle.cif_columns.specs.Line.{ArePrintable};
 ghost use Rattle.cif_canon.specs.Fields.{after, row_start, separator, shown};
-ghost use Rattle.cif_canon.specs.declared.rows.Format.TheVariants.{Text};
-ghost use Rattle.cif_canon.specs.declared.rows.Shape.TheVariants.{Trimmed};
+ghost use Rattle.cif_canon.specs.declared.{rows.Format.TheVariants.Text, rows.Shape.TheVariants.Trimmed};
 ghost use Rattle.cif_views.specs.Listing.{date_field};
 
 use crate::heading::{ASSOCIATION, write_heading};

@@ -1,9 +1,8 @@
 //! What runs on a day, and when a train runs, as text or as a table, with or without calls.
 ghost use Rattle.std.specs.Prelude.{◌≡◌, ◌+◌, ◌++◌, ◌≤◌, ℕ, List, IfErr};
 ghost use Rattle.arrayvec.specs.ArrayString.{array_string_len};
-ghost use Rattle.cif_canon.specs.Fields.{after, row_start};
-ghost use Rattle.cif_canon.specs.Normalised.{FaultWrites, IfWritten};
-ghost use Rattle.cif_canon.specs.Views.{IsDayFault, IsTrainFault};
+ghost use Rattle.cif_canon.specs.{Fields.after, Fields.row_start, Normalised.FaultWrites, Normalised.IfWritten, Views.IsDayFault};
+ghost use Rattle.cif_canon.specs.{Views.IsTrainFault};
 ghost use Rattle.cif_extract.specs.ExtractParts.{extract_parts};
 ghost use Rattle.cif_views.specs.Listing.{IsDayListing, IsTrainListing, association_line, no_call};
 ghost use Rattle.cif_views.specs.Steps.Rows.{first_field};
@@ -133,8 +132,7 @@ impl DayLines for ListedRows {
 }
 
 impl TrainLines for ListedRows {
-    ghost use Rattle.cif_views.specs.Listing.{schedule_text, train_heading};
-    ghost use Rattle.cif_views.specs.Steps.Rows.{first_field};
+    ghost use Rattle.cif_views.specs.{Listing.schedule_text, Listing.train_heading, Steps.Rows.first_field};
 
     ghost heading = { λ rows. train_heading rows.listing };
 

@@ -1,7 +1,6 @@
 //! The records of a train that apply on a day, and their marks.
 ghost use Rattle.std.specs.Prelude.{◌≡◌, ◌↔◌, ◌+◌, ◌<◌, ℕ, IfOk, IsTrue, length, map};
-ghost use Rattle.cif_calendar.specs.Applies.{Applies};
-ghost use Rattle.cif_calendar.specs.Keys.{keyed};
+ghost use Rattle.cif_calendar.specs.{Applies.Applies, Keys.keyed};
 ghost use Rattle.cif_views.specs.Steps.Explanation.{ArePlacedInOrder, IsFirstOfKey, IsMarkAt, IsRisingBy, placed_cmp, placed_of};
 
 use arrayvec::ArrayString;

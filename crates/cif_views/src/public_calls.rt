@@ -1,16 +1,13 @@
 //! The public calls of a schedule, as rows of a table.
 ghost use Rattle.std.specs.Prelude.{◌≡◌, ◌<◌, ◌≤◌, ◌+◌, ◌^◌, ◌++◌, ◌∷◌, [], ℕ, IfSome, List, cond, length};
-ghost use Rattle.cif_columns.specs.Activities.{codes_in};
+ghost use Rattle.cif_columns.specs.{Activities.codes_in, Field.columns_from};
 ghost use Rattle.std.specs.List.{flat_map};
-ghost use Rattle.cif_columns.specs.Field.{columns_from};
-ghost use Rattle.cif_canon.specs.Appended.{IsAppended};
-ghost use Rattle.cif_canon.specs.Fields.{after};
+ghost use Rattle.cif_canon.specs.{Appended.IsAppended, Fields.after};
 ghost use Rattle.cif_canon.specs.declared.rows.Format.TheVariants.{Tsv};
-ghost use Rattle.cif_views.specs.Moments.{IsBy, IsOnTheWay};
+ghost use Rattle.cif_views.specs.{Moments.IsBy, Moments.IsOnTheWay, Steps.GatheredRows.AreRows, Steps.GatheredRows.IsGathered};
 ghost use Rattle.cif_views.specs.PublicCalls.{advertised, answer_of, pick_up, platform_in, public_fields, riders_in, riders_of};
 ghost use Rattle.cif_views.specs.PublicCalls.{said_by, set_down, times_in, times_of, working};
 ghost use Rattle.cif_views.specs.Steps.PublicCalls.{at_first, public_from, reached_moment, shown_at, stay, step, step_at};
-ghost use Rattle.cif_views.specs.Steps.GatheredRows.{AreRows, IsGathered};
 ghost use Rattle.cif_views.specs.Steps.PublicRows.{IsJourneyBy, IsStayBy, IsToShow, behind_schedule, joined, row_of_step, shown_in};
 ghost use Rattle.cif_views.specs.Tables.{is_call, kind_of_line, numbered_from, row_line};
 

@@ -7,8 +7,7 @@ ghost use Rattle.cif_canon.specs.declared.rows.Format.TheVariants.{Tsv};
 ghost use Rattle.cif_views.specs.Steps.Columns.{IsOfShape, are_within, field_in, fields_in, is_span, is_within};
 ghost use Rattle.cif_views.specs.Steps.Columns.{name_fields, named, room_for, room_for_names, room_of};
 ghost use Rattle.cif_views.specs.Steps.GatheredRows.{AreRows, IsBegun, IsGathered};
-ghost use Rattle.cif_views.specs.DifferenceTable.{text};
-ghost use Rattle.cif_views.specs.Tables.{number, yymmdd_from};
+ghost use Rattle.cif_views.specs.{DifferenceTable.text, Tables.number, Tables.yymmdd_from};
 
 use crate::columns::{Column, ColumnRange, FieldPlace, JourneyKind, span_in};
 use cif_canon::Shape;

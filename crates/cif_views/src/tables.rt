@@ -3,15 +3,12 @@ ghost use Rattle.std.specs.Prelude.{◌≡◌, ◌<◌, ◌≤◌, ◌+◌, ◌^
 ghost use Rattle.std.specs.List.{flat_map};
 ghost use Rattle.cif_columns.specs.Sink.{Writes};
 ghost use Rattle.cif_extract.specs.declared.fault.Fault.TheVariants.{Write};
-ghost use Rattle.cif_canon.specs.Appended.{IsAppended};
-ghost use Rattle.cif_canon.specs.Fields.{after, line_of};
-ghost use Rattle.cif_canon.specs.Lines.{line_of_tiploc, schedule_plain};
+ghost use Rattle.cif_canon.specs.{Appended.IsAppended, Fields.after, Fields.line_of, Lines.line_of_tiploc, Lines.schedule_plain};
 ghost use Rattle.cif_canon.specs.declared.rows.Format.TheVariants.{Tsv};
 ghost use Rattle.cif_views.specs.Steps.Columns.{are_within, call_columns, fields_in, name_fields, named, room_for, room_for_names};
-ghost use Rattle.cif_views.specs.Steps.GatheredRows.{AreRows, IsGathered};
+ghost use Rattle.cif_views.specs.{Steps.GatheredRows.AreRows, Steps.GatheredRows.IsGathered, TableText.table_heading, TableText.table_text};
 ghost use Rattle.cif_views.specs.Steps.TableRows.{call_kind, has_row, journey_columns, journey_rows, row_of_kind};
 ghost use Rattle.cif_views.specs.Tables.{is_call, kind_of_line, number, numbered_schedule, row_line, schedule_fields, tiploc_fields};
-ghost use Rattle.cif_views.specs.TableText.{table_heading, table_text};
 ghost use Rattle.cif_views.specs.declared.columns.JourneyKind.TheVariants.{Other};
 
 use crate::columns::{
@@ -119,8 +116,7 @@ fn write_tiplocs<W: WriteDevice>(tiplocs: &[Tiploc], sink: &mut Sink<W>)
 }
 
 impl CanonListing for Table {
-    ghost use Rattle.cif_views.specs.TableText.{schedule_rows};
-    ghost use Rattle.cif_views.specs.Tables.{association_fields, row_line};
+    ghost use Rattle.cif_views.specs.{TableText.schedule_rows, Tables.association_fields, Tables.row_line};
 
     ghost association_text = { λ table. row_line association_fields };
 

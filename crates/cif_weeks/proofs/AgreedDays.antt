@@ -1,6 +1,6 @@
 -- On which weekdays two weeks have to agree, and weekday by weekday whether they do.
-use Rattle.cif_weeks.proofs.Names.{Bool, Counts, Form, List, MasksAgree, RunsOn, Two, Window, arith, cases_lt, subst, sym, ℕ, ⊎_elim, ◌*◌}
-use Rattle.cif_weeks.proofs.Names.{◌+◌, ◌-◌, ◌<◌, ◌↔◌, ◌≡◌, ◌≤◌}
+use Rattle.cif_weeks.proofs.Names.{Bool, Counts, Form, List, RunsOn, Two, Window, arith, cases_lt, subst, sym, ℕ, ⊎_elim, ◌*◌, ◌+◌, ◌-◌}
+use Rattle.cif_weeks.proofs.Names.{◌<◌, ◌↔◌, ◌≡◌, ◌≤◌}
 
 -- form 2: a weekday counts where its date in the next week, as days from the first Monday, and that a week before lie in the window
 pub counts-if : (window : Window) (week next w : ℕ) → w < 7 → week + 1 ≡ next → window.first + 11 ≤ next * 7 + w →
@@ -31,10 +31,3 @@ agree-more {form} {window} {k = k} {x} {y} h also = record {
       (also week is (subst (Counts form window week) (sym at) counted)))
       (cases_lt w k);
 }
-
--- equal masks agree on each weekday
-pub same-agree : (form : Form) (window : Window) (week : ℕ) (x y : List Bool) → x ≡ y → MasksAgree form window week x y
-same-agree form window week x y e = λ w below counted. (
-  λ on. subst (λ d. RunsOn d w) e on,
-  λ on. subst (λ d. RunsOn d w) (sym e) on,
-)

@@ -6,10 +6,7 @@ use Rattle.cif_weeks.proofs.Names.{dates_of, get_or, get_or-append_seam, length,
 use Rattle.cif_weeks.proofs.Names.{reverse-reverse, set, subst, sym, week_of, weekday_of, ℕ, ⊎_elim, ◌*◌, ◌++◌, ◌+◌, ◌-◌, ◌<◌, ◌↔◌, ◌∙◌}
 use Rattle.cif_weeks.proofs.Names.{◌∷◌, ◌≡◌, ◌≤◌, ◌⊎◌}
 use Rattle.std.proofs.Math.Seq.{set-append_seam}
-use Rattle.cif_weeks.proofs.Ended.{breaks_differ}
-use Rattle.cif_weeks.proofs.Growing.{grown_more, grown_start}
-use Rattle.cif_weeks.proofs.Jump.{grown_jump}
-use Rattle.cif_weeks.proofs.WeekDays.{RunsOn-below}
+use Rattle.cif_weeks.proofs.{Ended.breaks_differ, Growing.grown_more, Growing.grown_start, Jump.grown_jump, WeekDays.RunsOn-below}
 
 module _ (form : Form) (window : Window) (on : ℕ → Type 0) (source : ℕ) where
   -- weeks more, without a day

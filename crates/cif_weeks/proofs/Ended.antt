@@ -1,9 +1,7 @@
 -- When the week after a record's last doesn't join it.
 use Rattle.cif_weeks.proofs.Names.{Bool, Breaks, ExactlyOne, Form, IsGrown, IsMask, IsWithin, List, MasksDiffer, One, Permanent, RunsOn}
 use Rattle.cif_weeks.proofs.Names.{Two, Window, arith, inl, inr, subst, sym, week_of, weekday_of, ℕ, ◌+◌, ◌∙◌, ◌≡◌}
-use Rattle.cif_weeks.proofs.Grown.{fits_last}
-use Rattle.cif_weeks.proofs.Masks.{mask_runs, one_mask}
-use Rattle.cif_weeks.proofs.WeekDays.{week_of-next, weekday_of-next}
+use Rattle.cif_weeks.proofs.{Grown.fits_last, Masks.mask_runs, Masks.one_mask, WeekDays.week_of-next, WeekDays.weekday_of-next}
 
 -- no list has a weekday that an equal one doesn't have
 pub not_equal : (x y : List Bool) (w : ℕ) → x ≡ y → ¬ ExactlyOne (RunsOn x w) (RunsOn y w)

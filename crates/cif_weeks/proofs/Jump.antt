@@ -1,8 +1,7 @@
 -- Weeks with one mask: a record grows by all of them at once.
 use Rattle.cif_weeks.proofs.Names.{Bool, Form, IsGrown, IsMask, IsWithin, List, MasksAgree, One, Permanent, RunsOn, Two, Window, arith, inl}
 use Rattle.cif_weeks.proofs.Names.{refl, subst, suc, sym, week_of, weekday_of, zero, ℕ, ⊎_elim, ◌*◌, ◌+◌, ◌≡◌, ◌≤◌}
-use Rattle.cif_weeks.proofs.Growing.{grown_more}
-use Rattle.cif_weeks.proofs.Grown.{fits_last, fits_shows}
+use Rattle.cif_weeks.proofs.{Growing.grown_more, Grown.fits_last, Grown.fits_shows}
 use Rattle.cif_weeks.proofs.WeekDays.{week_later, week_of-next, weekday_of-next}
 
 module _ {B : Type 0} (window : Window) (on : ℕ → Type 0) (inside : (n : ℕ) → on n → IsWithin window n) where

@@ -5,9 +5,7 @@ use Rattle.cif_weeks.proofs.Names.{IsWithin, List, None, Option, Run, Shows, Som
 use Rattle.cif_weeks.proofs.Names.{inl, inr, is_some, option_and_then, refl, same_Some, slice_get, subst, sym, true, ℕ, ⊎_elim, ◌++◌, ◌∙◌}
 use Rattle.cif_weeks.proofs.Names.{◌∷◌, ◌≡◌, ◌⊎◌}
 use Rattle.cif_calendar.specs.Applies.{Applies}
-use Rattle.cif_weeks.proofs.JoinedLists.{zip-with}
-use Rattle.cif_weeks.proofs.Meeting.{have_form, say}
-use Rattle.cif_weeks.proofs.MemberClash.{leads-winner}
+use Rattle.cif_weeks.proofs.{JoinedLists.zip-with, Meeting.have_form, Meeting.say, MemberClash.leads-winner}
 use Rattle.cif_weeks.proofs.SpanRecords.{HaveBodies, IsBodysRun, Shown, in-order, one-body, records-of, records-rising}
 use Rattle.cif_weeks.specs.Steps.BodyRuns.{HasBody}
 

@@ -5,14 +5,12 @@ pub use Rattle.std.proofs.Common.{is_some, le-leb, leb, leb-false, leb-true, len
 pub use Rattle.std.proofs.Common.{option_and_then, refl, reverse, rules, set, slice_get, subst, suc, sym, take, take-append-drop, take_all}
 pub use Rattle.std.proofs.Common.{true, unwrap_or, zero, ℕ, ⊎_elim, ◌%◌, ◌*◌, ◌++◌, ◌+◌, ◌-◌, ◌<◌, ◌==◌, ◌↔◌, ◌∙◌, ◌∷◌, ◌≡◌, ◌≢◌, ◌≤◌, ◌⊎◌}
 pub use Rattle.std.proofs.lemmas.Bool.{cases_eq, cond-false, cond-true, lt-leb}
-pub use Rattle.std.proofs.lemmas.List.{get_or_read_under}
-pub use Rattle.std.proofs.lemmas.List.Kept.{AllPairs-cons}
+pub use Rattle.std.proofs.{lemmas.List.Kept.AllPairs-cons, lemmas.List.get_or_read_under}
 pub use Rattle.std.proofs.lemmas.List.Sorted.{IsNonDecreasingBy-drop, IsNonDecreasingBy-from_all_adjacent}
-pub use Rattle.std.proofs.lemmas.List.Sorted.{IsNonDecreasingBy-from_sort_by_key, IsNonDecreasingBy-push, IsNonDecreasingBy-short}
-pub use Rattle.std.proofs.lemmas.List.Sorted.{IsPartitionedBy-leb, IsPermutation-reverse, IsPermutation-sym, answers_always}
+pub use Rattle.std.proofs.lemmas.List.Sorted.{IsNonDecreasingBy-from_sort_by_key, IsNonDecreasingBy-push, IsPartitionedBy-leb}
+pub use Rattle.std.proofs.lemmas.List.Sorted.{IsPermutation-reverse, IsPermutation-sym, answers_always}
 pub use Rattle.std.specs.List.{AllWithin, AllZip, refill}
-pub use Rattle.std.specs.List.Sorted.{IsNonDecreasingBy, IsPartitionPoint}
-pub use Rattle.std.specs.Ordering.{ord_max, ordering_then, partial_lt}
+pub use Rattle.std.specs.{List.Sorted.IsNonDecreasingBy, List.Sorted.IsPartitionPoint, Ordering.ordering_then, Ordering.partial_lt}
 pub use Rattle.cif_columns.proofs.Names.{All-append, All-cons, All-head, All-tail, IsDay, IsFirstOf, IsLastOf, reverse-append}
 pub use Rattle.cif_columns.proofs.Names.{reverse-reverse, take-append_seam}
 pub use Rattle.cif_columns.specs.Day.{week_of}
@@ -22,7 +20,7 @@ pub use Rattle.cif_calendar.proofs.Names.{Contains-append_cases, Contains-append
 pub use Rattle.cif_calendar.proofs.Names.{Contains-permutation, Contains-push, Contains-push_cases, IfOk-weaker, IsCalendar, IsChosen}
 pub use Rattle.cif_calendar.proofs.Names.{IsClearFrom, IsPartitionPoint-from_clause, IsSource, IsTotalOrder, IsWinnerAt, P, RunsOn, Stp}
 pub use Rattle.cif_calendar.proofs.Names.{Terms, Tiles, Wins, body_at, body_on, cases_lt, drop_all, drop_more, get_or-append_seam}
-pub use Rattle.cif_calendar.proofs.Names.{get_or_default, get_or_from_slice_get, iff_false, length-map, letter, nat_tests, of_key, ord_min}
+pub use Rattle.cif_calendar.proofs.Names.{get_or_default, get_or_from_slice_get, iff_false, length-map, letter, nat_tests, of_key}
 pub use Rattle.cif_calendar.proofs.Names.{same_Some, slice_get-get_or, slice_get_within, source_at, take_more, weekday_of, winner_of}
 pub use Rattle.cif_calendar.proofs.PieceLists.{source_at-piece, tiles-ends, tiles-from}
 pub use Rattle.cif_calendar.proofs.Positions.{AreLawful-chosen, at-contains, contains-at}
@@ -31,10 +29,8 @@ pub use Rattle.cif_calendar.proofs.Winning.{terms_at}
 pub use Rattle.cif_calendar.specs.Applies.{IsAmongDates}
 pub use Rattle.cif_calendar.specs.declared.key_calendar.Piece.{Piece}
 pub use Rattle.cif_weeks.specs.Aligned.{IsAligned, IsAlignedOne, IsAlignedTwo}
-pub use Rattle.cif_weeks.specs.Applies.{IsWeekOf}
+pub use Rattle.cif_weeks.specs.{Applies.IsWeekOf, HaveForm.HaveForm, Meets.Meets, WhatRuns.SayTheSame, WhatRuns.SayWhatRuns}
 pub use Rattle.cif_weeks.specs.Canonical.{AreCanonical, Precedes, SayTheSameByKey, SayWhatRunsByKey, with_key}
-pub use Rattle.cif_weeks.specs.HaveForm.{HaveForm}
-pub use Rattle.cif_weeks.specs.Meets.{Meets}
 pub use Rattle.cif_weeks.specs.MemberRuns.{AreRunsOfMembers, HaveClash, IsMembersRun}
 pub use Rattle.cif_weeks.specs.Permanent.{Permanent, Permanents, permanent_entries, terms_of}
 pub use Rattle.cif_weeks.specs.Runs.{AreCanonicalRuns, AreSources, IsRunOf, record_of, window_of}
@@ -47,10 +43,6 @@ pub use Rattle.cif_weeks.specs.Steps.PieceSpans.{IsWinnerOn, body_in, named, sou
 pub use Rattle.cif_weeks.specs.Steps.Spans.{AgreeOn, AreSpansOf, HasDay, HaveOneMask, IsAgreed, IsDisputed, IsMembersSpan, IsSourceAmong}
 pub use Rattle.cif_weeks.specs.Steps.Spans.{IsSpanOf, Leads, Shows, SomeOf}
 pub use Rattle.cif_weeks.specs.Steps.WeekMasks.{Counts, IsLastDay, IsMask, MasksAgree, MasksDiffer}
-pub use Rattle.cif_weeks.specs.WhatRuns.{SayTheSame, SayWhatRuns}
 pub use Rattle.cif_weeks.specs.Window.{IsWithin, Window, window_days, window_from}
-pub use Rattle.cif_weeks.specs.declared.form.Form.{Form}
-pub use Rattle.cif_weeks.specs.declared.form.Form.TheVariants.{One, Two}
-pub use Rattle.cif_weeks.specs.declared.form.Run.{Run}
-pub use Rattle.cif_weeks.specs.declared.span.Span.{Span}
-pub use Rattle.cif_weeks.specs.declared.span.Weeks.{Weeks}
+pub use Rattle.cif_weeks.specs.declared.{form.Form.Form, form.Form.TheVariants.One, form.Form.TheVariants.Two, form.Run.Run, span.Span.Span}
+pub use Rattle.cif_weeks.specs.declared.{span.Weeks.Weeks}

@@ -3,10 +3,8 @@ use Rattle.cif_weeks.proofs.Names.{All, AreCanonicalRuns, AreRunsOfSpans, AreSou
 use Rattle.cif_weeks.proofs.Names.{Form, HasDay, IsAgreed, IsRunOf, IsWithin, List, None, Option, Permanent, Run, Shows, Some, Span, Terms}
 use Rattle.cif_weeks.proofs.Names.{ap, arith, body_at, body_in, body_on, get_or, letter, map, named, refl, source_at, sym, unwrap_or}
 use Rattle.cif_weeks.proofs.Names.{window_of, ℕ, ◌+◌, ◌<◌, ◌∙◌, ◌≡◌}
-use Rattle.cif_weeks.proofs.Growth.{inside}
-use Rattle.cif_weeks.proofs.JoinedLists.{zip-map, zip-with}
-use Rattle.cif_weeks.proofs.Meeting.{have_form, say}
-use Rattle.cif_weeks.proofs.SourcesIn.{source_in-within}
+use Rattle.cif_weeks.proofs.{Growth.inside, JoinedLists.zip-map, JoinedLists.zip-with, Meeting.have_form, Meeting.say}
+use Rattle.cif_weeks.proofs.{SourcesIn.source_in-within}
 use Rattle.cif_weeks.proofs.SpanRecords.{HaveBodies, IsBodysRun, Shown, in-order, records-of, records-rising}
 use Rattle.cif_weeks.specs.Steps.BodyRuns.{HasBody}
 

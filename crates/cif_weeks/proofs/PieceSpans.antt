@@ -1,13 +1,12 @@
 -- The spans of a calendar's pieces: one span more, one piece more, and all of them by their sources.
-use Rattle.cif_weeks.proofs.Names.{All, AreInOrder, AreNear, AreSources, AreSpansBefore, AreSpansOn, Bool, CalendarParts, Contains}
-use Rattle.cif_weeks.proofs.Names.{Contains-append_left, Contains-get_or, Contains-none, Contains-permutation, Contains-push}
-use Rattle.cif_weeks.proofs.Names.{Contains-push_cases, HasBodyOn, HasDay, IsAmongDates, IsNonDecreasingBy-push, IsNonDecreasingBy-short}
-use Rattle.cif_weeks.proofs.Names.{IsPermutation, IsPermutation-sym, IsPieceSpan, IsSourceAmong, IsWinnerOn, List, None, P, Piece, RunsOn}
-use Rattle.cif_weeks.proofs.Names.{Some, Span, Terms, Tiles, [], ap, arith, body_at, body_in, cases_lt, drop, drop_more, get_or}
-use Rattle.cif_weeks.proofs.Names.{get_or_from_slice_get, inl, inr, length, refl, slice_get, slice_get-get_or, slice_get_within, source_in}
-use Rattle.cif_weeks.proofs.Names.{subst, sym, tiles-ends, week_of, weekday_of, winner_of, ℕ, ⊎_elim, ◌++◌, ◌+◌, ◌-◌, ◌<◌, ◌↔◌, ◌∙◌, ◌∷◌}
-use Rattle.cif_weeks.proofs.Names.{◌≡◌, ◌≤◌, ◌⊎◌}
-use Rattle.cif_weeks.proofs.Growth.{body-source, has-below, inside, source-body}
+use Rattle.cif_weeks.proofs.Names.{All, AreInOrder, AreNear, AreSources, AreSpansOn, Bool, CalendarParts, Contains, Contains-append_left}
+use Rattle.cif_weeks.proofs.Names.{Contains-get_or, Contains-permutation, Contains-push, Contains-push_cases, HasBodyOn, HasDay}
+use Rattle.cif_weeks.proofs.Names.{IsAmongDates, IsNonDecreasingBy-push, IsPermutation, IsPermutation-sym, IsPieceSpan, IsSourceAmong}
+use Rattle.cif_weeks.proofs.Names.{IsWinnerOn, List, None, P, Piece, RunsOn, Some, Span, Terms, Tiles, [], ap, arith, body_at, body_in}
+use Rattle.cif_weeks.proofs.Names.{cases_lt, drop, drop_more, get_or, get_or_from_slice_get, inl, inr, length, refl, slice_get}
+use Rattle.cif_weeks.proofs.Names.{slice_get-get_or, slice_get_within, source_in, subst, sym, tiles-ends, week_of, weekday_of, winner_of, ℕ}
+use Rattle.cif_weeks.proofs.Names.{⊎_elim, ◌++◌, ◌+◌, ◌-◌, ◌<◌, ◌↔◌, ◌∙◌, ◌∷◌, ◌≡◌, ◌≤◌, ◌⊎◌}
+use Rattle.cif_weeks.proofs.Growth.{body-source, has-below, source-body}
 use Rattle.cif_weeks.proofs.SourcesIn.{source_in-piece}
 
 -- a piece of the calendar
@@ -109,14 +108,6 @@ module _ {B : Type 0} (xs : List (Terms B)) (c : CalendarParts) where
   }
 
   module _ (sources : AreSources xs c) where
-    -- before the first piece no day has a body
-    pub spans-none : AreSpansOn xs c (λ n. n < c.first) []
-    spans-none = record {
-      each = λ s listed. absurd (Contains-none s listed);
-      all = λ n b before runs. absurd (omega (arith, (inside xs c sources b n runs).from, before));
-      one_source = λ s t listed. absurd (Contains-none s listed);
-    }
-
     module _ (p : Piece) (of : IsPieceOf c p) where
       -- what runs on a day of the piece
       piece-body : (n : ℕ) (b : B) → p.first ≤ n → n ≤ p.last → body_in xs c n ≡ Some b →
@@ -234,17 +225,6 @@ module _ {B : Type 0} (xs : List (Terms B)) (c : CalendarParts) where
     spans-below size spans long a = λ k d below.
         let e = a.each (get_or spans k d) (Contains-get_or spans k d below) in
         subst (λ v. (get_or spans k d).source < v) long (has-below xs c sources (get_or spans k d).source e.body e.has)
-
-    -- before the first piece there is no span
-    pub spans-before_first : AreSpansBefore xs c c.first []
-    spans-before_first = record {
-      are = spans-none;
-      order = record {
-        rising = IsNonDecreasingBy-short (λ (s : Span). s.last_week) [] (omega arith);
-        begun = λ s listed. absurd (Contains-none s listed);
-        ended = λ s listed. absurd (Contains-none s listed);
-      };
-    }
 
   -- the spans in another order
   pub spans-sorted : {known : ℕ → Type 0} (spans sorted : List Span) → IsPermutation spans sorted → AreSpansOn xs c known spans →

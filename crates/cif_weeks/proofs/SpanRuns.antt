@@ -7,8 +7,7 @@ use Rattle.cif_weeks.proofs.Names.{IsNonDecreasingBy, IsPermutation, IsPermutati
 use Rattle.cif_weeks.proofs.Names.{Window, [], ap, arith, cases_lt, dates_of, false, get_or, inl, inr, nat_tests, refl, reverse, subst, sym}
 use Rattle.cif_weeks.proofs.Names.{week_of, ℕ, ⊎_elim, ◌++◌, ◌+◌, ◌<◌, ◌==◌, ◌∙◌, ◌∷◌, ◌≡◌, ◌≢◌, ◌≤◌, ◌⊎◌}
 use Rattle.std.proofs.lemmas.Map.Keys.{IsDistinct-IsPermutation, IsDistinct-from_apart, apart_from_distinct}
-use Rattle.cif_weeks.proofs.JoinedLists.{AllPairs-append}
-use Rattle.cif_weeks.proofs.SameDays.{breaks-over, grown-over}
+use Rattle.cif_weeks.proofs.{JoinedLists.AllPairs-append, SameDays.breaks-over, SameDays.grown-over}
 use Rattle.cif_weeks.specs.Steps.BodyRuns.{HasBody}
 
 -- whether two runs begin on one date

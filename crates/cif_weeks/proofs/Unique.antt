@@ -5,8 +5,7 @@ use Rattle.cif_weeks.proofs.Names.{SayTheSame, SayWhatRuns, Two, Window, ap, ari
 use Rattle.cif_weeks.proofs.Names.{sym, week_of, ℕ, ◌+◌, ◌-◌, ◌<◌, ◌∙◌, ◌≡◌, ◌≢◌, ◌≤◌}
 use Rattle.cif_weeks.proofs.AlignedDays.{DayOfWeek, IsTight, day_in_week, full_two, full_week, tight, week_of-applies, within-tight}
 use Rattle.cif_weeks.proofs.WeekDays.{masks_equal}
-use Rattle.cif_weeks.specs.Applies.{Applies}
-use Rattle.cif_weeks.specs.WhatRuns.{HasBody}
+use Rattle.cif_weeks.specs.{Applies.Applies, WhatRuns.HasBody}
 
 -- two records apply on the same days of a week
 record ApplyAlike {B : Type 0} (r s : Permanent B) (week : ℕ) : Type 0 where

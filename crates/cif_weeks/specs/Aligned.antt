@@ -2,11 +2,8 @@
 use Rattle.std.specs.Prelude.{◌≡◌, ℕ, ◌≤◌, Bool, List, length}
 use Rattle.cif_columns.specs.Day.{week_of, weekday_of}
 use Rattle.cif_columns.specs.DaysRun.{RunsOn, IsFirstOf, IsLastOf}
-use Rattle.cif_weeks.specs.declared.form.Form.{Form}
-use Rattle.cif_weeks.specs.declared.form.Form.TheVariants.{One, Two}
-use Rattle.cif_weeks.specs.Window.{Window, IsWithin}
-use Rattle.cif_weeks.specs.Permanent.{Permanent}
-use Rattle.cif_weeks.specs.Applies.{Applies}
+use Rattle.cif_weeks.specs.declared.{form.Form.Form, form.Form.TheVariants.One, form.Form.TheVariants.Two}
+use Rattle.cif_weeks.specs.{Applies.Applies, Permanent.Permanent, Window.IsWithin, Window.Window}
 
 -- Form 1: the first day isn't after the last, both lie in the window, and of the weekdays in the mask the first day
 -- has the least and the last day the greatest. So the mask isn't empty.

@@ -1,13 +1,9 @@
 -- The canonical records of all keys, whatever runs, in one list of pairs of a key and one of its records.
 use Rattle.std.specs.Prelude.{◌≡◌, ℕ, ◌<◌, ◌⊎◌, List, map, Option, AllPairs}
-use Rattle.std.specs.declared.cmp.Ordering.{Ordering}
-use Rattle.std.specs.declared.cmp.Ordering.TheVariants.{Less}
+use Rattle.std.specs.declared.{cmp.Ordering.Ordering, cmp.Ordering.TheVariants.Less}
 use Rattle.cif_weeks.specs.declared.form.Form.{Form}
-use Rattle.cif_weeks.specs.Window.{Window}
+use Rattle.cif_weeks.specs.{HaveForm.HaveForm, Permanent.Permanent, WhatRuns.SayTheSame, WhatRuns.SayWhatRuns, Window.Window}
 use Rattle.cif_calendar.specs.Keys.{of_key}
-use Rattle.cif_weeks.specs.Permanent.{Permanent}
-use Rattle.cif_weeks.specs.HaveForm.{HaveForm}
-use Rattle.cif_weeks.specs.WhatRuns.{SayWhatRuns, SayTheSame}
 
 -- the records of one key, each with it
 abbrev pub with_key : {K B : Type 0} → K → List (Permanent B) → List (K × Permanent B)

@@ -1,17 +1,9 @@
 -- The runs of some members of a list of entries: their canonical records, by the positions of their bodies.
 use Rattle.std.specs.Prelude.{◌≡◌, ℕ, ◌<◌, List, Some, AllPairs, Contains, ◌↔◌}
 use Rattle.std.specs.List.{AllZip}
-use Rattle.cif_calendar.specs.Terms.{Terms}
-use Rattle.cif_calendar.specs.Clash.{IsClash, IsClearFrom}
-use Rattle.cif_calendar.specs.Runs.{BodyRuns}
-use Rattle.cif_calendar.specs.Source.{IsChosen, body_at}
-use Rattle.cif_weeks.specs.declared.form.Form.{Form}
-use Rattle.cif_weeks.specs.declared.form.Run.{Run}
-use Rattle.cif_weeks.specs.HaveForm.{HaveForm}
-use Rattle.cif_weeks.specs.Permanent.{Permanent}
-use Rattle.cif_weeks.specs.Runs.{record_of}
-use Rattle.cif_weeks.specs.WhatRuns.{HasBody}
-use Rattle.cif_weeks.specs.Window.{Window, IsWithin}
+use Rattle.cif_calendar.specs.{Clash.IsClash, Clash.IsClearFrom, Runs.BodyRuns, Source.IsChosen, Source.body_at, Terms.Terms}
+use Rattle.cif_weeks.specs.declared.{form.Form.Form, form.Run.Run}
+use Rattle.cif_weeks.specs.{HaveForm.HaveForm, Permanent.Permanent, Runs.record_of, WhatRuns.HasBody, Window.IsWithin, Window.Window}
 
 -- The run has the dates and the mask of permanent record r, and its source is the position of a member with r's body.
 pub record IsMembersRun {B : Type 0} (xs : List (Terms B)) (members : List ℕ) (run : Run) (r : Permanent B) : Type 0 where

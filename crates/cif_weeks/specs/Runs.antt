@@ -1,15 +1,9 @@
 -- The runs of a calendar: its canonical records, by the positions of their bodies.
 use Rattle.std.specs.Prelude.{◌≡◌, ℕ, ◌≤◌, List, Some, IsSome}
 use Rattle.std.specs.List.{AllZip}
-use Rattle.cif_calendar.specs.Terms.{Terms}
-use Rattle.cif_calendar.specs.Source.{body_at}
-use Rattle.cif_calendar.specs.Pieces.{source_at}
-use Rattle.cif_calendar.specs.Calendar.{CalendarParts, body_on}
-use Rattle.cif_weeks.specs.declared.form.Form.{Form}
-use Rattle.cif_weeks.specs.declared.form.Run.{Run}
-use Rattle.cif_weeks.specs.Window.{Window}
-use Rattle.cif_weeks.specs.Permanent.{Permanent}
-use Rattle.cif_weeks.specs.Meets.{Meets}
+use Rattle.cif_calendar.specs.{Calendar.CalendarParts, Calendar.body_on, Pieces.source_at, Source.body_at, Terms.Terms}
+use Rattle.cif_weeks.specs.declared.{form.Form.Form, form.Run.Run}
+use Rattle.cif_weeks.specs.{Meets.Meets, Permanent.Permanent, Window.Window}
 
 -- each source of the calendar is the position of an entry with a body
 pub record AreSources {B : Type 0} (xs : List (Terms B)) (c : CalendarParts) : Type 0 where

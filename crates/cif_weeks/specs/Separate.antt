@@ -1,11 +1,8 @@
 -- Two records with one body are not parts of one record.
 use Rattle.std.specs.Prelude.{◌≡◌, ◌≢◌, ◌⊎◌, ℕ, ◌+◌}
 use Rattle.cif_columns.specs.Day.{week_of, weekday_of}
-use Rattle.cif_weeks.specs.declared.form.Form.{Form}
-use Rattle.cif_weeks.specs.declared.form.Form.TheVariants.{One, Two}
-use Rattle.cif_weeks.specs.Window.{Window, IsWithin}
-use Rattle.cif_weeks.specs.Permanent.{Permanent}
-use Rattle.cif_weeks.specs.Applies.{Applies, IsWeekOf}
+use Rattle.cif_weeks.specs.declared.{form.Form.Form, form.Form.TheVariants.One, form.Form.TheVariants.Two}
+use Rattle.cif_weeks.specs.{Applies.Applies, Applies.IsWeekOf, Permanent.Permanent, Window.IsWithin, Window.Window}
 
 -- one of the two records applies on day n, or both do
 abbrev pub EitherApplies : {B : Type 0} → Permanent B → Permanent B → ℕ → Type 0

@@ -1,8 +1,6 @@
 -- What runs on each day, as records say it.
 use Rattle.std.specs.Prelude.{◌≡◌, ℕ, Option, Some, ◌↔◌}
-use Rattle.cif_weeks.specs.Window.{Window, IsWithin}
-use Rattle.cif_weeks.specs.Permanent.{Permanent, Permanents}
-use Rattle.cif_weeks.specs.Applies.{Applies}
+use Rattle.cif_weeks.specs.{Applies.Applies, Permanent.Permanent, Permanent.Permanents, Window.IsWithin, Window.Window}
 
 -- a record with body b applies on day n
 pub record HasBody {B : Type 0} (records : Permanents B) (n : ℕ) (b : B) : Type 0 where

@@ -9,8 +9,7 @@ ghost use Rattle.cif_calendar.specs.Source.{body_at};
 ghost use Rattle.cif_weeks.specs.Steps.BodyRuns.{AreGrownTo, AreNextWeeks, AreRunsOfBody};
 ghost use Rattle.cif_weeks.specs.Steps.Spans.{AgreeOn, HaveOneMask, IsDisputed, IsSourceAmong, Leads, Shows};
 ghost use Rattle.cif_weeks.specs.Window.{IsWithin, window_days};
-ghost use Rattle.cif_weeks.specs.declared.form.Run.{Run};
-ghost use Rattle.cif_weeks.specs.declared.span.Span.{Span};
+ghost use Rattle.cif_weeks.specs.declared.{form.Run.Run, span.Span.Span};
 
 use crate::form::{Joining, Run};
 use crate::span::{Span, Weeks, no_days};

@@ -4,10 +4,9 @@ ghost use Rattle.std.specs.Prelude.{◌≡◌, ◌<◌, ◌+◌, ◌↔◌, ℕ,
 ghost use Rattle.cif_columns.specs.DaysRun.{RunsOn};
 ghost use Rattle.cif_calendar.specs.declared.key_calendar.Piece.{Piece};
 ghost use Rattle.cif_weeks.specs.Runs.{AreCanonicalRuns, AreSources, window_of};
-ghost use Rattle.cif_weeks.specs.Steps.BodyRuns.{AreRunsOfSpans, HasBody};
+ghost use Rattle.cif_weeks.specs.{Steps.BodyRuns.AreRunsOfSpans, Steps.BodyRuns.HasBody, Steps.Spans.IsAgreed, Steps.Spans.Shows};
+ghost use Rattle.cif_weeks.specs.{Window.IsWithin, Window.window_days};
 ghost use Rattle.cif_weeks.specs.Steps.PieceSpans.{AreBySource, AreSpansBefore, HasBodyOn, IsWinnerOn, named};
-ghost use Rattle.cif_weeks.specs.Steps.Spans.{IsAgreed, Shows};
-ghost use Rattle.cif_weeks.specs.Window.{IsWithin, window_days};
 ghost use Rattle.cif_weeks.specs.declared.span.Span.{Span};
 
 use crate::body_runs::{add_body_runs, have_one_body, source_of};

@@ -1,16 +1,10 @@
 //! Laws: what runs determines the canonical records, what these say of a day, and what `runs` asks of a
 //! calendar.
 ghost use Rattle.std.specs.Prelude.{◌≡◌, ℕ, List, Option, Some, All, Contains};
-ghost use Rattle.cif_calendar.specs.Terms.{Terms};
-ghost use Rattle.cif_calendar.specs.Source.{IsWinnerAt};
-ghost use Rattle.cif_calendar.specs.Calendar.{CalendarParts, IsCalendar};
-ghost use Rattle.cif_weeks.specs.Runs.{AreSources, AreCanonicalRuns};
-ghost use Rattle.cif_weeks.specs.declared.form.Run.{Run};
-ghost use Rattle.cif_weeks.specs.declared.form.Form.{Form};
-ghost use Rattle.cif_weeks.specs.Window.{Window, IsWithin};
-ghost use Rattle.cif_weeks.specs.Permanent.{Permanent};
-ghost use Rattle.cif_weeks.specs.Applies.{Applies};
-ghost use Rattle.cif_weeks.specs.Meets.{Meets};
+ghost use Rattle.cif_calendar.specs.{Calendar.CalendarParts, Calendar.IsCalendar, Source.IsWinnerAt, Terms.Terms};
+ghost use Rattle.cif_weeks.specs.{Applies.Applies, Meets.Meets, Permanent.Permanent, Runs.AreCanonicalRuns, Runs.AreSources};
+ghost use Rattle.cif_weeks.specs.{Window.IsWithin, Window.Window};
+ghost use Rattle.cif_weeks.specs.declared.{form.Form.Form, form.Run.Run};
 ghost use Rattle.cif_weeks.specs.Canonical.{AreCanonical, SayWhatRunsByKey, SayTheSameByKey};
 
 /// The canonical records of a key are unique: two lists that meet one form for one window, and

@@ -1,7 +1,6 @@
 -- The law of an entry's cancellations, from the records' law of bodies.
 use Rattle.std.proofs.Common.{◌≡◌, Option, false, refl, sym, ◌∙◌, ap}
-use Rattle.std.specs.Prelude.{IsNone, ◌↔◌}
-use Rattle.std.specs.Option.{is_some}
+use Rattle.std.specs.{Option.is_some, Prelude.IsNone, Prelude.◌↔◌}
 use Rattle.cif_columns.specs.declared.stp.Stp.{Stp}
 use Rattle.cif_columns.specs.declared.stp.Stp.TheVariants.{P, N, O, C}
 use Rattle.cif_records.specs.Bodies.{has_body}

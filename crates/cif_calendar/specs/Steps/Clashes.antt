@@ -1,12 +1,8 @@
 -- The clashes of keys, as they are found one after another. No public clause cites it.
 use Rattle.std.specs.Prelude.{◌≡◌, ◌⊎◌, ℕ, List, Option, None, Some, [], ◌∷◌, ◌++◌}
-use Rattle.cif_calendar.specs.Clash.{IsClearFrom, IsFirstClash}
-use Rattle.cif_calendar.specs.Clashes.{told}
-use Rattle.cif_calendar.specs.Keys.{of_key}
-use Rattle.cif_calendar.specs.Terms.{Terms}
-use Rattle.cif_calendar.specs.declared.key_calendar.CalendarFault.{CalendarFault}
-use Rattle.cif_calendar.specs.declared.key_calendar.CalendarFault.TheVariants.{Ambiguous, Memory}
-use Rattle.cif_calendar.specs.declared.key_clashes.KeyClash.{KeyClash}
+use Rattle.cif_calendar.specs.{Clash.IsClearFrom, Clash.IsFirstClash, Clashes.told, Keys.of_key, Terms.Terms}
+use Rattle.cif_calendar.specs.declared.{key_calendar.CalendarFault.CalendarFault, key_calendar.CalendarFault.TheVariants.Ambiguous}
+use Rattle.cif_calendar.specs.declared.{key_calendar.CalendarFault.TheVariants.Memory, key_clashes.KeyClash.KeyClash}
 use Rattle.cif_extract.specs.declared.fault.Clash.{Clash}
 
 -- key k has its first clash on a day, and this is told behind what was found

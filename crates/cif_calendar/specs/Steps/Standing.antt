@@ -1,10 +1,7 @@
 -- Who leads on a day among members that are looked at together. No public clause cites it.
 use Rattle.std.specs.Prelude.{◌≡◌, ◌≢◌, ℕ, ◌<◌, List, ◌++◌, length, Bool, Option, Some, None, slice_get, slice_index_or, ◌⊎◌}
 use Rattle.cif_columns.specs.DaysRun.{RunsOn}
-use Rattle.cif_calendar.specs.Terms.{Terms, Records}
-use Rattle.cif_calendar.specs.Applies.{Applies}
-use Rattle.cif_calendar.specs.Wins.{Wins, precedence}
-use Rattle.cif_calendar.specs.Source.{IsChosen, body_at}
+use Rattle.cif_calendar.specs.{Applies.Applies, Source.IsChosen, Source.body_at, Terms.Records, Terms.Terms, Wins.Wins, Wins.precedence}
 use Rattle.cif_calendar.specs.declared.standing.Standing.{Standing}
 use Rattle.cif_calendar.specs.declared.standing.Standing.TheVariants.{Nobody, Leader, Disputed}
 

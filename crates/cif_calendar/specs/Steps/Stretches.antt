@@ -1,14 +1,10 @@
 -- Stretches of days, one after another, and who leads on them. No public clause cites it.
 use Rattle.std.specs.Prelude.{◌≡◌, ℕ, ◌+◌, ◌<◌, ◌≤◌, List, [], ◌∷◌, ◌++◌, length, slice_index_or, ◌⊎◌}
 use Rattle.cif_columns.specs.Day.{weekday_of}
-use Rattle.cif_calendar.specs.Terms.{Terms}
-use Rattle.cif_calendar.specs.Source.{IsChosen}
-use Rattle.cif_calendar.specs.Pieces.{ChangesOn, IsUnbroken}
+use Rattle.cif_calendar.specs.{Pieces.ChangesOn, Pieces.IsUnbroken, Source.IsChosen, Terms.Terms}
 use Rattle.cif_calendar.specs.Steps.Standing.{AreBelow, Combines, Stands}
-use Rattle.cif_calendar.specs.declared.applies.Window.{Window}
-use Rattle.cif_calendar.specs.declared.standing.Standing.{Standing}
-use Rattle.cif_calendar.specs.declared.standing.Standing.TheVariants.{Disputed, Nobody}
-use Rattle.cif_calendar.specs.declared.stretch.Stretch.{Stretch}
+use Rattle.cif_calendar.specs.declared.{applies.Window.Window, standing.Standing.Standing, standing.Standing.TheVariants.Disputed}
+use Rattle.cif_calendar.specs.declared.{standing.Standing.TheVariants.Nobody, stretch.Stretch.Stretch}
 
 -- The stretch begins on day `first` and has no break by the members that were looked at, and the standings of its days are theirs.
 -- On the day behind it one of them begins or has just ended, or that day is `end`.

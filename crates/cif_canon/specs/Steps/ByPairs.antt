@@ -4,8 +4,7 @@ use Rattle.std.specs.declared.cmp.Ordering.{Ordering}
 use Rattle.cif_calendar.specs.Terms.{Terms}
 use Rattle.cif_weeks.specs.Permanent.{Permanent}
 use Rattle.cif_weeks.specs.declared.form.Run.{Run}
-use Rattle.cif_canon.specs.Pairs.{Listed, by_pairs}
-use Rattle.cif_canon.specs.Steps.Sides.{sided_records}
+use Rattle.cif_canon.specs.{Pairs.Listed, Pairs.by_pairs, Steps.Sides.sided_records}
 use Rattle.cif_canon.specs.declared.listed_differences.Sided.{Sided}
 
 -- the runs that are left behind a record with or without a partner

@@ -1,14 +1,10 @@
 -- Extracts that are compared, and days on which two calendars have the same bodies. No public clause cites it.
 use Rattle.std.specs.Prelude.{◌≡◌, ℕ, ◌≤◌, List, Option, Some, IsSome, ⊤}
-use Rattle.cif_calendar.specs.Pieces.{winner_of}
-use Rattle.cif_calendar.specs.Source.{body_at}
-use Rattle.cif_calendar.specs.Terms.{Terms}
+use Rattle.cif_calendar.specs.{Pieces.winner_of, Source.body_at, Terms.Terms}
 use Rattle.cif_calendar.specs.declared.key_calendar.Piece.{Piece}
 use Rattle.cif_extract.specs.ExtractParts.{ExtractParts}
-use Rattle.cif_canon.specs.Accepted.{IsClearExtract}
-use Rattle.cif_canon.specs.Asked.{header_window}
-use Rattle.cif_canon.specs.declared.comparison.Comparison.{Comparison}
-use Rattle.cif_canon.specs.declared.comparison.Comparison.TheVariants.{Same}
+use Rattle.cif_canon.specs.{Accepted.IsClearExtract, Asked.header_window}
+use Rattle.cif_canon.specs.declared.{comparison.Comparison.Comparison, comparison.Comparison.TheVariants.Same}
 
 -- it holds of the days from `first` to `last`
 abbrev pub HoldsFrom : (ℕ → Type 0) → ℕ → ℕ → Type 0

@@ -1,32 +1,20 @@
 -- What only one of two calendars says, and the runs of both sides as they are found. No public clause cites it.
 use Rattle.std.specs.Prelude.{◌≡◌, ◌≢◌, ◌↔◌, ◌⊎◌, ℕ, ◌<◌, ◌≤◌, List, [], ◌∷◌, ◌++◌, Option, None, Some, AllPairs, Contains, slice_index_or}
-use Rattle.std.specs.List.{AllZip}
-use Rattle.std.specs.Ordering.{nat_cmp}
-use Rattle.std.specs.Cmp.Lexicographic.{slice_cmp}
-use Rattle.std.specs.declared.cmp.Ordering.{Ordering}
-use Rattle.std.specs.declared.cmp.Ordering.TheVariants.{Less, Greater}
-use Rattle.cif_calendar.specs.Calendar.{CalendarParts, body_on}
-use Rattle.cif_calendar.specs.Keys.{AreClear}
-use Rattle.cif_calendar.specs.Meaning.{EntriesSayTheSame}
-use Rattle.cif_calendar.specs.Pieces.{source_at, winner_of}
-use Rattle.cif_calendar.specs.Source.{body_at}
-use Rattle.cif_calendar.specs.Terms.{Terms}
+use Rattle.std.specs.{Cmp.Lexicographic.slice_cmp, List.AllZip, Ordering.nat_cmp}
+use Rattle.std.specs.declared.{cmp.Ordering.Ordering, cmp.Ordering.TheVariants.Greater, cmp.Ordering.TheVariants.Less}
+use Rattle.cif_calendar.specs.{Calendar.CalendarParts, Calendar.body_on, Keys.AreClear, Meaning.EntriesSayTheSame, Pieces.source_at}
+use Rattle.cif_calendar.specs.{Pieces.winner_of, Source.body_at, Terms.Terms}
 use Rattle.cif_calendar.specs.declared.key_calendar.Piece.{Piece}
 use Rattle.cif_columns.specs.Day.{weekday_of}
 use Rattle.cif_records.specs.declared.tiploc.Tiploc.{Tiploc}
-use Rattle.cif_weeks.specs.Permanent.{Permanent}
+use Rattle.cif_weeks.specs.{Permanent.Permanent, Window.Window}
 use Rattle.cif_weeks.specs.Runs.{AreSources, IsRunOf as IsCalendarRun, window_of}
-use Rattle.cif_weeks.specs.Window.{Window}
-use Rattle.cif_weeks.specs.declared.form.Form.TheVariants.{Two}
-use Rattle.cif_weeks.specs.declared.form.Run.{Run}
-use Rattle.cif_canon.specs.Comparison.{IsFirstDifference}
+use Rattle.cif_weeks.specs.declared.{form.Form.TheVariants.Two, form.Run.Run}
+use Rattle.cif_canon.specs.{Comparison.IsFirstDifference, Steps.Records.AreRunsOf, Steps.Records.IsRunOf}
 use Rattle.cif_canon.specs.Differences.{AreDifferentRecords, IsOnlyIn, TurnInto, at_side, of_side}
-use Rattle.cif_canon.specs.Steps.Records.{AreRunsOf, IsRunOf}
-use Rattle.cif_canon.specs.declared.differing.Extent.{Extent}
-use Rattle.cif_canon.specs.declared.differing.Extent.TheVariants.{AllKeys}
-use Rattle.cif_canon.specs.declared.listed_differences.Side.{Side}
-use Rattle.cif_canon.specs.declared.listed_differences.Side.TheVariants.{Left, Right}
-use Rattle.cif_canon.specs.declared.listed_differences.Sided.{Sided}
+use Rattle.cif_canon.specs.declared.{differing.Extent.Extent, differing.Extent.TheVariants.AllKeys, listed_differences.Side.Side}
+use Rattle.cif_canon.specs.declared.{listed_differences.Side.TheVariants.Left, listed_differences.Side.TheVariants.Right}
+use Rattle.cif_canon.specs.declared.{listed_differences.Sided.Sided}
 
 -- what is left of a source: none where the other one has the same body, and else itself
 abbrev pub IsOnlySource : {B : Type 0} → List (Terms B) → List (Terms B) → Option ℕ → Option ℕ → Option ℕ → Type 0

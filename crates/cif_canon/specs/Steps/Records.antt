@@ -2,24 +2,15 @@
 use Rattle.std.specs.Prelude.{◌≡◌, ℕ, ◌<◌, List, Some, ⊤, ◌↔◌, AllPairs, Contains, slice_get}
 use Rattle.std.specs.List.{AllZip}
 use Rattle.std.specs.declared.cmp.Ordering.{Ordering}
-use Rattle.cif_calendar.specs.Terms.{Terms}
-use Rattle.cif_calendar.specs.Clash.{IsClearFrom, IsFirstClash}
+use Rattle.cif_calendar.specs.{Clash.IsClearFrom, Clash.IsFirstClash, Meaning.EntriesSayTheSame, Runs.BodyRuns, Terms.Terms}
 use Rattle.cif_calendar.specs.Keys.{of_key, AreClear, IsFirstClashOf}
-use Rattle.cif_calendar.specs.Meaning.{EntriesSayTheSame}
-use Rattle.cif_calendar.specs.Runs.{BodyRuns}
 use Rattle.cif_calendar.specs.declared.key_calendar.CalendarFault.{CalendarFault}
 use Rattle.cif_calendar.specs.declared.key_calendar.CalendarFault.TheVariants as calendar
-use Rattle.cif_extract.specs.declared.fault.Clash.{Clash}
-use Rattle.cif_extract.specs.declared.fault.Fault.{Fault}
+use Rattle.cif_extract.specs.declared.{fault.Clash.Clash, fault.Fault.Fault}
 use Rattle.cif_extract.specs.declared.fault.Fault.TheVariants as fault
-use Rattle.cif_weeks.specs.Canonical.{AreCanonical}
-use Rattle.cif_weeks.specs.HaveForm.{HaveForm}
+use Rattle.cif_weeks.specs.{Canonical.AreCanonical, HaveForm.HaveForm, Runs.record_of, WhatRuns.HasBody, Window.IsWithin, Window.Window}
 use Rattle.cif_weeks.specs.Permanent.{Permanent, Permanents, permanent_entries}
-use Rattle.cif_weeks.specs.Runs.{record_of}
-use Rattle.cif_weeks.specs.WhatRuns.{HasBody}
-use Rattle.cif_weeks.specs.Window.{Window, IsWithin}
-use Rattle.cif_weeks.specs.declared.form.Form.{Form}
-use Rattle.cif_weeks.specs.declared.form.Run.{Run}
+use Rattle.cif_weeks.specs.declared.{form.Form.Form, form.Run.Run}
 
 -- The run has the dates and the mask of the record of e, and its source is the position of an entry with e's key and the record's
 -- body.

@@ -3,10 +3,8 @@ use Rattle.std.specs.Prelude.{ℕ, List, [], ◌∷◌, Option, None, Some}
 use Rattle.cif_calendar.specs.Terms.{Terms}
 use Rattle.cif_weeks.specs.Permanent.{Permanent}
 use Rattle.cif_weeks.specs.declared.form.Run.{Run}
-use Rattle.cif_canon.specs.Differences.{at_side}
+use Rattle.cif_canon.specs.{Differences.at_side, declared.listed_differences.Side.Side, declared.listed_differences.Sided.Sided}
 use Rattle.cif_canon.specs.Steps.Texts.{HasRecord, record_at, run_text}
-use Rattle.cif_canon.specs.declared.listed_differences.Side.{Side}
-use Rattle.cif_canon.specs.declared.listed_differences.Sided.{Sided}
 
 -- a run that has a record among the entries of its side
 abbrev pub HasSidedRecord : {K B : Type 0} → List (K × Terms B) → List (K × Terms B) → Sided Run → Type 0

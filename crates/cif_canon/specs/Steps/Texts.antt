@@ -1,26 +1,15 @@
 -- The text of runs, as it is written from an extract. No public clause cites it.
 use Rattle.std.specs.Prelude.{◌≡◌, ℕ, ◌≤◌, List, [], ◌∷◌, ◌++◌, Option, None, Some, map, slice_get}
-use Rattle.std.specs.List.{flat_map}
-use Rattle.std.specs.Option.{option_and_then, option_map}
-use Rattle.cif_calendar.specs.Terms.{Terms}
-use Rattle.cif_columns.specs.Contents.{lines_text}
-use Rattle.cif_columns.specs.Field.{plain_line}
+use Rattle.std.specs.{List.flat_map, Option.option_and_then, Option.option_map}
+use Rattle.cif_calendar.specs.{Entries.association_entries, Entries.schedule_entries, Terms.Terms}
+use Rattle.cif_columns.specs.{Contents.lines_text, Field.plain_line}
 use Rattle.cif_columns.specs.declared.stp.Stp.TheVariants.{P}
-use Rattle.cif_extract.specs.Body.{BodyLines}
-use Rattle.cif_extract.specs.ExtractParts.{ExtractParts}
+use Rattle.cif_extract.specs.{Body.BodyLines, ExtractParts.ExtractParts, Texts.schedule_lines}
 use Rattle.cif_extract.specs.declared.extract.Schedule.{Schedule}
-use Rattle.cif_extract.specs.Texts.{schedule_lines}
-use Rattle.cif_records.specs.Association.{association_rows}
-use Rattle.cif_records.specs.Header.{header_table}
-use Rattle.cif_records.specs.Tiploc.{tiploc_table}
-use Rattle.cif_records.specs.Trailer.{trailer_table}
-use Rattle.cif_records.specs.declared.association.AssocBody.{AssocBody}
-use Rattle.cif_records.specs.declared.association.AssocKey.{AssocKey}
-use Rattle.cif_records.specs.declared.tiploc.Tiploc.{Tiploc}
-use Rattle.cif_weeks.specs.Permanent.{Permanent}
-use Rattle.cif_weeks.specs.Runs.{record_of}
+use Rattle.cif_records.specs.{Association.association_rows, Header.header_table, Tiploc.tiploc_table, Trailer.trailer_table}
+use Rattle.cif_records.specs.declared.{association.AssocBody.AssocBody, association.AssocKey.AssocKey, tiploc.Tiploc.Tiploc}
+use Rattle.cif_weeks.specs.{Permanent.Permanent, Runs.record_of}
 use Rattle.cif_weeks.specs.declared.form.Run.{Run}
-use Rattle.cif_calendar.specs.Entries.{association_entries, schedule_entries}
 use Rattle.cif_canon.specs.Lines.{ExtractLines, ScheduleLines, association_plain, line_of_tiploc, schedule_plain}
 
 -- the record of a run, with the key and the body of the entry at its source

@@ -1,43 +1,25 @@
 -- What a reading has come to, for the contracts of the reader's own steps. Of public functions only those of `Reading` cite it.
-use Rattle.std.specs.Prelude.{◌≡◌, ◌≢◌, refl, ◌⊎◌, ℕ, Bool, List, [], ◌∷◌, ◌++◌, Option, None, Some, Result, Ok, Err, IfSome, is_some}
-use Rattle.std.specs.Prelude.{map, true, false}
-use Rattle.cif_columns.specs.Field.{AllStandIn, plain_line}
-use Rattle.cif_columns.specs.Line.{IsLine}
+use Rattle.std.specs.Prelude.{Bool, Err, IfSome, List, None, Ok, Option, Result, Some, [], false, is_some, map, refl, true, ℕ, ◌++◌, ◌∷◌}
+use Rattle.std.specs.Prelude.{◌≡◌, ◌≢◌, ◌⊎◌}
+use Rattle.cif_columns.specs.{Field.AllStandIn, Field.plain_line, Line.IsLine}
 use Rattle.cif_columns.specs.declared.refusal.Refusal.{Refusal}
 use Rattle.cif_extract.specs.Body.{BodyLines, KeepAll, body_tables}
-use Rattle.cif_extract.specs.BodyParts.{extra_records}
-use Rattle.cif_extract.specs.Call.{call_record}
-use Rattle.cif_extract.specs.ExtractParts.{ExtractParts}
+use Rattle.cif_extract.specs.{BodyParts.extra_records, Call.call_record, ExtractParts.ExtractParts, OrderOfRecords.after_extra}
+use Rattle.cif_extract.specs.{OrderOfRecords.may_stand}
 use Rattle.cif_extract.specs.Grammar.{AreExtract, AreSchedules, HasTerms, records_before_trailer}
-use Rattle.cif_extract.specs.OrderOfRecords.{after_extra, may_stand}
-use Rattle.cif_extract.specs.declared.call.Call.{Call}
-use Rattle.cif_extract.specs.declared.fault.Fault.{Fault}
+use Rattle.cif_extract.specs.declared.{call.Call.Call, extract.Schedule.Schedule, fault.Fault.Fault, place.Place.Place}
+use Rattle.cif_extract.specs.declared.{reading.Reading.Reading, reading.TakeFault.TakeFault}
 use Rattle.cif_extract.specs.declared.fault.Fault.TheVariants as fault
-use Rattle.cif_extract.specs.declared.place.Place.{Place}
 use Rattle.cif_extract.specs.declared.place.Place.TheVariants as at
-use Rattle.cif_extract.specs.declared.reading.Reading.{Reading}
-use Rattle.cif_extract.specs.declared.extract.Schedule.{Schedule}
-use Rattle.cif_extract.specs.declared.reading.TakeFault.{TakeFault}
 use Rattle.cif_extract.specs.declared.reading.TakeFault.TheVariants as untaken
-use Rattle.cif_records.specs.Basic.{terms_of}
-use Rattle.cif_records.specs.Bodies.{has_body}
-use Rattle.cif_records.specs.Detail.{detail_table}
+use Rattle.cif_records.specs.{Basic.terms_of, Bodies.has_body, Detail.detail_table, Stop.SpellsStop, Stop.stop_table}
 use Rattle.cif_records.specs.Record.{IsPlainAs, record_table, SpellsRecord}
-use Rattle.cif_records.specs.Stop.{SpellsStop, stop_table}
-use Rattle.cif_records.specs.declared.stop.Stop.{Stop}
-use Rattle.cif_records.specs.declared.association.Association.{Association}
-use Rattle.cif_records.specs.declared.basic.Basic.{Basic}
-use Rattle.cif_records.specs.declared.basic.BasicTerms.{BasicTerms}
-use Rattle.cif_records.specs.declared.detail.Detail.{Detail}
-use Rattle.cif_records.specs.declared.extra.Extra.{Extra}
-use Rattle.cif_records.specs.declared.header.Header.{Header}
-use Rattle.cif_records.specs.declared.record.Kind.{Kind}
+use Rattle.cif_records.specs.declared.{association.Association.Association, basic.Basic.Basic, basic.BasicTerms.BasicTerms}
+use Rattle.cif_records.specs.declared.{detail.Detail.Detail, extra.Extra.Extra, header.Header.Header, origin.Origin.Origin}
+use Rattle.cif_records.specs.declared.{record.Kind.Kind, record.Record.Record, stop.Stop.Stop, terminus.Terminus.Terminus}
+use Rattle.cif_records.specs.declared.{tiploc.Tiploc.Tiploc}
 use Rattle.cif_records.specs.declared.record.Kind.TheVariants.{Bx, Lo, Li, Cr, Lt}
-use Rattle.cif_records.specs.declared.origin.Origin.{Origin}
-use Rattle.cif_records.specs.declared.record.Record.{Record}
 use Rattle.cif_records.specs.declared.record.Record.TheVariants as of
-use Rattle.cif_records.specs.declared.terminus.Terminus.{Terminus}
-use Rattle.cif_records.specs.declared.tiploc.Tiploc.{Tiploc}
 
 -- the fields of a reading, its vectors as lists
 pub record Progress : Type 0 where
@@ -136,12 +118,6 @@ IsKeepable (of.Association a) = Unit {0}
 IsKeepable of.Trailer = Unit {0}
 IsKeepable r = AllStandIn (plain_line (record_table r)) (record_table r)
 
--- what a step that is refused for nothing gives: this, unless memory ran out
-abbrev pub UnlessMemory : Type 0 → Result Unit TakeFault → Type 0
-UnlessMemory P (Ok done) = P
-UnlessMemory P (Err (untaken.Refused why)) = ⊥
-UnlessMemory P (Err untaken.Memory) = Unit {0}
-
 -- what a step gives where this is the first reason to refuse its line: the reason, or this, unless memory ran out
 abbrev pub UnlessRefused : Option Refusal → Type 0 → Result Unit TakeFault → Type 0
 UnlessRefused refusal P (Ok done) = (refusal ≡ None) × P
@@ -169,9 +145,8 @@ IsKept refusal line before result after = UnlessRefused refusal ((r : Record) ×
     result
 
 -- closing a schedule comes to one schedule more, with the body that the lines keep
-abbrev pub IsClosed : Progress → BasicTerms → Result Unit TakeFault → Progress → Type 0
-IsClosed before t result after =
-    UnlessMemory (after ≡ record before { schedules = closed before.schedules (Some t) before.lines }) result
+abbrev pub IsClosed : Progress → BasicTerms → Progress → Type 0
+IsClosed before t after = after ≡ record before { schedules = closed before.schedules (Some t) before.lines }
 
 -- The line is the plain line of a location on the way, and one may stand at this place.
 pub record GoesOnPlainly (place : Place) (line : List ℕ) : Type 0 where

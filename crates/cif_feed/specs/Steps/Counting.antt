@@ -1,13 +1,9 @@
 -- The clash days of records of which some don't count on their holidays.
 use Rattle.std.specs.Prelude.{◌≡◌, ◌⊎◌, ◌↔◌, ℕ, ◌<◌, ◌≤◌, List, [], ◌∷◌, Some, AllPairs, Contains, slice_get}
-use Rattle.cif_calendar.specs.Clash.{IsClear}
-use Rattle.cif_calendar.specs.ClashDates.{IsClashBetween}
-use Rattle.cif_calendar.specs.Terms.{Records, Terms}
-use Rattle.cif_feed.specs.Holidays.{IsHoliday}
-use Rattle.cif_feed.specs.Published.{PublishedTerms}
-use Rattle.cif_feed.specs.declared.holidays.HolidayCode.{HolidayCode}
+use Rattle.cif_calendar.specs.{Clash.IsClear, ClashDates.IsClashBetween, Terms.Records, Terms.Terms}
+use Rattle.cif_feed.specs.{Holidays.IsHoliday, Published.PublishedTerms}
+use Rattle.cif_feed.specs.declared.{holidays.HolidayCode.HolidayCode, holidays.Holidays.Holidays}
 use Rattle.cif_feed.specs.declared.holidays.HolidayCode.TheVariants.{X, E, G}
-use Rattle.cif_feed.specs.declared.holidays.Holidays.{Holidays}
 
 abbrev pub code_list : List HolidayCode
 code_list = X ∷ E ∷ G ∷ []

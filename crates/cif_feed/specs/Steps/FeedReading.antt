@@ -1,28 +1,20 @@
 -- What the reading of a feed has come to, content by content.
 use Rattle.std.specs.Prelude.{◌≡◌, ℕ, ◌+◌, true, false, not, ◌&&◌, List, [], ◌∷◌, ◌++◌, Option, Some, None, Result, Ok, Err}
 use Rattle.std.specs.List.{list_any}
-use Rattle.cif_columns.specs.Comment.{is_comment}
-use Rattle.cif_columns.specs.Line.{IsLine}
+use Rattle.cif_columns.specs.{Comment.is_comment, Line.IsLine}
 use Rattle.cif_columns.specs.declared.refusal.Refusal.TheVariants.{OutOfOrder}
 use Rattle.cif_extract.specs.Steps.Reading.{IsTakenAs, Progress, progress_of}
 use Rattle.cif_extract.specs.Taken.{HasTaken, refusal_at}
-use Rattle.cif_extract.specs.declared.reading.TakeFault.{TakeFault}
-use Rattle.cif_extract.specs.declared.reading.TakeFault.TheVariants.{Refused, Memory}
+use Rattle.cif_extract.specs.declared.{reading.TakeFault.TakeFault, reading.TakeFault.TheVariants.Memory}
+use Rattle.cif_extract.specs.declared.{reading.TakeFault.TheVariants.Refused}
 use Rattle.cif_records.specs.Kind.{kind_in}
 use Rattle.cif_records.specs.declared.record.Kind.{Kind}
 use Rattle.cif_records.specs.declared.record.Kind.TheVariants.{Hd, Ti, Ta, Td, Aa, Bs}
-use Rattle.cif_feed.specs.FeedLayouts.{feed_layouts}
-use Rattle.cif_feed.specs.FeedLine.{SpellsInFeed}
-use Rattle.cif_feed.specs.FeedRefusal.{line_refusal}
-use Rattle.cif_feed.specs.Marks.{mark_parts, marks_in}
+use Rattle.cif_feed.specs.{FeedLayouts.feed_layouts, FeedLine.SpellsInFeed, FeedRefusal.line_refusal, Marks.mark_parts, Marks.marks_in}
+use Rattle.cif_feed.specs.{Steps.Marks.mark_of}
 use Rattle.cif_feed.specs.RecordLines.{is_basic, is_trailer, record_lines}
-use Rattle.cif_feed.specs.Steps.Marks.{mark_of}
-use Rattle.cif_feed.specs.declared.feed_line.Feed.{Feed}
-use Rattle.cif_feed.specs.declared.feed_line.Feed.TheVariants.{Update}
-use Rattle.cif_feed.specs.declared.feed_reading.FeedReading.{FeedReading}
-use Rattle.cif_feed.specs.declared.holidays.HolidayCodes.{HolidayCodes}
-use Rattle.cif_feed.specs.declared.mark.Mark.{Mark}
-use Rattle.cif_feed.specs.declared.mark.Passed.{Passed}
+use Rattle.cif_feed.specs.declared.{feed_line.Feed.Feed, feed_line.Feed.TheVariants.Update, feed_reading.FeedReading.FeedReading}
+use Rattle.cif_feed.specs.declared.{holidays.HolidayCodes.HolidayCodes, mark.Mark.Mark, mark.Passed.Passed}
 
 -- the reading has taken these contents
 pub record HasTakenFeed (feed : Feed) (allowed : HolidayCodes) (contents : List (List ℕ)) (r : FeedReading) : Type 0 where

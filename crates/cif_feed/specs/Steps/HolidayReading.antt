@@ -2,10 +2,8 @@
 use Rattle.std.specs.Prelude.{◌≡◌, ◌⊎◌, ◌↔◌, ℕ, List, All}
 use Rattle.cif_feed.specs.HolidayText.{IsDate, IsHolidayLine, LineNames, LineSays}
 use Rattle.cif_feed.specs.Holidays.{IsHoliday, Names}
-use Rattle.cif_feed.specs.declared.holidays.HolidayCode.{HolidayCode}
-use Rattle.cif_feed.specs.declared.holiday_text.HolidayFault.{HolidayFault}
+use Rattle.cif_feed.specs.declared.{holiday_text.HolidayFault.HolidayFault, holidays.HolidayCode.HolidayCode, holidays.Holidays.Holidays}
 use Rattle.cif_feed.specs.declared.holiday_text.HolidayFault.TheVariants.{BadHoliday, Read, Memory}
-use Rattle.cif_feed.specs.declared.holidays.Holidays.{Holidays}
 
 -- the new holidays have what the line says too
 pub record HasLineMore (old : Holidays) (line : List ℕ) (new : Holidays) : Type 0 where

@@ -1,21 +1,14 @@
 -- What the judging of lines has come to, content by content.
 use Rattle.std.specs.Prelude.{Contains, Err, List, Ok, Result, Some, ℕ, ◌≢◌, ◌⊎◌}
-use Rattle.cif_columns.specs.declared.refusal.Refusal.{Refusal}
-use Rattle.cif_columns.specs.declared.refusal.Refusal.TheVariants.{OutOfOrder, TooManyLines}
-use Rattle.cif_extract.specs.ExtractParts.{extract_parts}
+use Rattle.cif_columns.specs.declared.{refusal.Refusal.Refusal, refusal.Refusal.TheVariants.OutOfOrder}
+use Rattle.cif_columns.specs.declared.{refusal.Refusal.TheVariants.TooManyLines}
+use Rattle.cif_extract.specs.{ExtractParts.extract_parts, Layouts.own_layouts, SpellsExtract.SpellExtract, Steps.Reading.progress_of}
+use Rattle.cif_extract.specs.{Taken.HasTaken}
 use Rattle.cif_extract.specs.FirstRefusal.{IsRefusedLine, IsTruncated, NoneRefused}
-use Rattle.cif_extract.specs.Layouts.{own_layouts}
-use Rattle.cif_extract.specs.SpellsExtract.{SpellExtract}
-use Rattle.cif_extract.specs.Steps.Reading.{progress_of}
-use Rattle.cif_extract.specs.Taken.{HasTaken}
-use Rattle.cif_extract.specs.declared.fault.Fault.{Fault}
-use Rattle.cif_extract.specs.declared.fault.Fault.TheVariants.{Refused}
-use Rattle.cif_feed.specs.Judged.{NoneHasReason}
-use Rattle.cif_feed.specs.Reasons.{ReportReasons, reasons_of}
-use Rattle.cif_feed.specs.declared.judged.Judged.{Judged}
+use Rattle.cif_extract.specs.declared.{fault.Fault.Fault, fault.Fault.TheVariants.Refused}
+use Rattle.cif_feed.specs.{Judged.NoneHasReason, Reasons.ReportReasons, Reasons.reasons_of}
+use Rattle.cif_feed.specs.declared.{judged.Judged.Judged, judged.Judging.Judging, judged.Order.Order}
 use Rattle.cif_feed.specs.declared.judged.Judged.TheVariants as judged
-use Rattle.cif_feed.specs.declared.judged.Judging.{Judging}
-use Rattle.cif_feed.specs.declared.judged.Order.{Order}
 use Rattle.cif_feed.specs.declared.judged.Order.TheVariants as order
 
 -- one of the contents has a reason by itself

@@ -1,23 +1,17 @@
 -- The marks of one line more, and of the records.
-use Rattle.std.specs.Prelude.{◌≡◌, ℕ, ◌+◌, ◌<◌, ◌==◌, ◌&&◌, Bool, true, false, List, [], ◌∷◌, ◌++◌, Option, Some, IsTrue, is_some, length}
-use Rattle.std.specs.Prelude.{if◌then◌else◌}
+use Rattle.std.specs.Prelude.{Bool, IsTrue, List, Option, Some, [], false, if◌then◌else◌, is_some, length, true, ℕ, ◌&&◌, ◌++◌, ◌+◌, ◌<◌}
+use Rattle.std.specs.Prelude.{◌==◌, ◌∷◌, ◌≡◌}
 use Rattle.cif_columns.specs.declared.line_reader.TheConstants.{MAX_LINES}
 use Rattle.cif_extract.specs.declared.extract.Schedule.{Schedule}
-use Rattle.cif_records.specs.declared.association.Association.{Association}
-use Rattle.cif_records.specs.declared.record.Kind.{Kind}
+use Rattle.cif_records.specs.declared.{association.Association.Association, record.Kind.Kind}
 use Rattle.cif_records.specs.declared.record.Kind.TheVariants.{Hd, Ti, Ta, Td, Aa, Bs, Zz}
 use Rattle.cif_feed.specs.Counts.{ends_open, has_holiday_code, is_deleted, is_new, is_revised, transaction_as}
-use Rattle.cif_feed.specs.FromLines.{ArePairs}
-use Rattle.cif_feed.specs.LastDay.{last_day}
+use Rattle.cif_feed.specs.{FromLines.ArePairs, LastDay.last_day, SpellsFeed.FeedParts}
 use Rattle.cif_feed.specs.Marks.{MarkParts, association_mark, schedule_mark, tiploc_mark}
 use Rattle.cif_feed.specs.RecordLines.{is_association, is_basic, is_header, is_of_tiploc}
-use Rattle.cif_feed.specs.SpellsFeed.{FeedParts}
-use Rattle.cif_feed.specs.declared.holidays.HolidayCodes.{HolidayCodes}
-use Rattle.cif_feed.specs.declared.mark.Mark.{Mark}
+use Rattle.cif_feed.specs.declared.{holidays.HolidayCodes.HolidayCodes, mark.Mark.Mark, mark.RecordMark.RecordMark}
+use Rattle.cif_feed.specs.declared.{mark.Transaction.Transaction, mark.UpdateCounts.UpdateCounts}
 use Rattle.cif_feed.specs.declared.mark.Mark.TheVariants as of
-use Rattle.cif_feed.specs.declared.mark.RecordMark.{RecordMark}
-use Rattle.cif_feed.specs.declared.mark.Transaction.{Transaction}
-use Rattle.cif_feed.specs.declared.mark.UpdateCounts.{UpdateCounts}
 
 -- one more, if it counts
 abbrev pub plus_if : ℕ → Bool → ℕ

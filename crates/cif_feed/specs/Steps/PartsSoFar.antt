@@ -1,13 +1,11 @@
 -- What the listing of a record's parts has come to.
-use Rattle.std.specs.Prelude.{◌≡◌, ◌⊎◌, ℕ, ◌+◌, ◌-◌, ◌<◌, ◌≤◌, nat_lt, List, [], ◌∷◌, ◌++◌, All, AllPairs, map, length, drop}
-use Rattle.std.specs.Prelude.{if◌then◌else◌, Bool, None, Option, Some, min, slice_index}
+use Rattle.std.specs.Prelude.{All, AllPairs, Bool, List, None, Option, Some, [], drop, if◌then◌else◌, length, map, min, nat_lt, slice_index}
+use Rattle.std.specs.Prelude.{ℕ, ◌++◌, ◌+◌, ◌-◌, ◌<◌, ◌∷◌, ◌≡◌, ◌≤◌, ◌⊎◌}
 use Rattle.std.specs.Ordering.{is_le, nat_cmp}
-use Rattle.cif_columns.specs.Day.{weekday_of}
-use Rattle.cif_columns.specs.DaysRun.{RunsOn}
+use Rattle.cif_columns.specs.{Day.weekday_of, DaysRun.RunsOn}
 use Rattle.cif_calendar.specs.Terms.{Terms}
 use Rattle.cif_feed.specs.Parts.{AreParts, HaveDay, IsBefore, IsCut, IsPart, Part}
-use Rattle.cif_feed.specs.Prepared.{part_entry}
-use Rattle.cif_feed.specs.PreparedRecord.{terms_on}
+use Rattle.cif_feed.specs.{Prepared.part_entry, PreparedRecord.terms_on}
 use Rattle.cif_feed.specs.declared.prepared_record.PreparedRecord.{PreparedRecord}
 
 -- These are the first parts of the record: each of its days before this one is in one of them, or a cut.

@@ -1,20 +1,16 @@
 -- The texts of records, one after another.
 use Rattle.std.specs.Prelude.{ℕ, List, [], ◌∷◌, ◌++◌}
 use Rattle.std.specs.List.{flat_map}
-use Rattle.cif_columns.specs.Contents.{lines_text}
-use Rattle.cif_columns.specs.Field.{plain_line}
+use Rattle.cif_columns.specs.{Contents.lines_text, Field.plain_line}
 use Rattle.cif_extract.specs.Texts.{line_of_association, line_of_tiploc, plain_lines_of}
 use Rattle.cif_extract.specs.declared.extract.Schedule.{Schedule}
-use Rattle.cif_records.specs.Header.{header_table}
-use Rattle.cif_records.specs.Trailer.{trailer_table}
-use Rattle.cif_records.specs.declared.association.Association.{Association}
-use Rattle.cif_records.specs.declared.header.Header.{Header}
-use Rattle.cif_records.specs.declared.tiploc.Tiploc.{Tiploc}
-use Rattle.cif_feed.specs.PreparedParts.{association_on, schedule_on}
-use Rattle.cif_feed.specs.PublishedParts.{published_association_line, published_schedule_lines}
-use Rattle.cif_feed.specs.declared.prepared_record.PreparedRecord.{PreparedRecord}
-use Rattle.cif_feed.specs.declared.published_extract.PublishedAssociation.{PublishedAssociation}
-use Rattle.cif_feed.specs.declared.published_extract.PublishedSchedule.{PublishedSchedule}
+use Rattle.cif_records.specs.{Header.header_table, Trailer.trailer_table}
+use Rattle.cif_records.specs.declared.{association.Association.Association, header.Header.Header, tiploc.Tiploc.Tiploc}
+use Rattle.cif_feed.specs.{PreparedParts.association_on, PreparedParts.schedule_on, PublishedParts.published_association_line}
+use Rattle.cif_feed.specs.{PublishedParts.published_schedule_lines}
+use Rattle.cif_feed.specs.declared.{prepared_record.PreparedRecord.PreparedRecord}
+use Rattle.cif_feed.specs.declared.{published_extract.PublishedAssociation.PublishedAssociation}
+use Rattle.cif_feed.specs.declared.{published_extract.PublishedSchedule.PublishedSchedule}
 
 -- the line of a location, with a line feed
 abbrev pub tiploc_text : Tiploc → List ℕ

@@ -1,8 +1,7 @@
 -- The clashes of entries by their names. No public clause cites it.
 use Rattle.std.specs.Prelude.{◌≡◌, ℕ, List, ◌++◌, map}
 use Rattle.std.specs.declared.cmp.Ordering.{Ordering}
-use Rattle.cif_calendar.specs.Clashes.{AreClashes}
-use Rattle.cif_calendar.specs.Terms.{Terms}
+use Rattle.cif_calendar.specs.{Clashes.AreClashes, Terms.Terms}
 use Rattle.cif_extract.specs.declared.fault.Clash.{Clash}
 
 -- behind the clashes that were known come those of the entries, each by its name

@@ -2,16 +2,12 @@
 use Rattle.std.specs.Prelude.{Bool, List, [], codes, drop, length, map, nat_eq, nat_le, true, ℕ, ⊤, ◌&&◌, ◌++◌, ◌+◌, ◌-◌, ◌∷◌, ◌≡◌}
 use Rattle.std.specs.Borrow.{Bor}
 use Rattle.cif_columns.specs.Field.{columns}
-use Rattle.cif_canon.specs.Fields.{Field, after}
-use Rattle.cif_canon.specs.declared.rows.Format.TheVariants.{Tsv}
-use Rattle.cif_canon.specs.declared.rows.Shape.{Shape}
+use Rattle.cif_canon.specs.{Fields.Field, Fields.after, declared.rows.Format.TheVariants.Tsv, declared.rows.Shape.Shape}
 use Rattle.cif_canon.specs.declared.rows.Shape.TheVariants as shape
-use Rattle.cif_views.specs.DifferenceTable.{text}
-use Rattle.cif_views.specs.Tables.{yymmdd_from}
-use Rattle.cif_views.specs.declared.columns.FieldPlace.{FieldPlace}
+use Rattle.cif_views.specs.{DifferenceTable.text, Tables.yymmdd_from}
+use Rattle.cif_views.specs.declared.{columns.FieldPlace.FieldPlace, columns.JourneyKind.JourneyKind}
 use Rattle.cif_views.specs.declared.columns.FieldPlace.TheVariants.{Call, Date, DayFirst, Nowhere, Text, Whole}
 use Rattle.cif_views.specs.declared.columns.TheConstants.{ASSOCIATION, BASIC, CALL, CHANGE, EXTRA}
-use Rattle.cif_views.specs.declared.columns.JourneyKind.{JourneyKind}
 use Rattle.cif_views.specs.declared.columns.JourneyKind.TheVariants.{Change, Origin, Other, Stop, Terminus}
 
 -- a field of a table: its name, and its place; and fields as the code has them

@@ -1,18 +1,15 @@
 -- The rows of differences as the code makes them. No public clause cites them.
 use Rattle.std.specs.Prelude.{Bool, List, [], codes, cond, drop, false, if◌then◌else◌, length, map, nat_eq, nat_le, replicate, take, true}
 use Rattle.std.specs.Prelude.{ℕ, ◌&&◌, ◌++◌, ◌+◌, ◌∷◌}
-use Rattle.std.specs.List.{flat_map}
-use Rattle.std.specs.Cmp.Lexicographic.{pointwise}
+use Rattle.std.specs.{Cmp.Lexicographic.pointwise, List.flat_map}
 use Rattle.cif_columns.specs.Field.{columns}
 use Rattle.cif_canon.specs.Fields.{Field, after, nothing, shown}
 use Rattle.cif_canon.specs.declared.rows.Format.TheVariants.{Tsv}
 use Rattle.cif_views.specs.DifferenceTable.{text}
 use Rattle.cif_views.specs.Steps.Columns.{Column, call_columns, change_columns, field_in, fields_in, is_within, row_behind}
 use Rattle.cif_views.specs.Tables.{is_call, is_change, kind_of_line, number}
-use Rattle.cif_views.specs.declared.columns.FieldPlace.{FieldPlace}
+use Rattle.cif_views.specs.declared.{columns.FieldPlace.FieldPlace, columns.JourneyKind.JourneyKind, columns.JourneyKind.TheVariants.Other}
 use Rattle.cif_views.specs.declared.columns.FieldPlace.TheVariants.{Call, Date, DayFirst, Nowhere, Text, Whole}
-use Rattle.cif_views.specs.declared.columns.JourneyKind.{JourneyKind}
-use Rattle.cif_views.specs.declared.columns.JourneyKind.TheVariants.{Other}
 
 -- fields that are shown as text, and whose names are short
 abbrev pub is_text_place : FieldPlace → Bool

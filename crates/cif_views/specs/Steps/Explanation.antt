@@ -1,17 +1,11 @@
 -- The records of a train that apply on a day, and how they are marked one by one. No public clause cites it.
 use Rattle.std.specs.Prelude.{◌≡◌, ◌≢◌, ℕ, ◌+◌, ◌<◌, ◌≤◌, List, Option, Some, All, AllPairs, Contains, HoldsAt, map, slice_get}
-use Rattle.std.specs.List.{flat_map}
-use Rattle.std.specs.Ordering.{nat_cmp, ordering_then}
-use Rattle.std.specs.declared.cmp.Ordering.{Ordering}
-use Rattle.std.specs.declared.cmp.Ordering.TheVariants.{Less}
-use Rattle.cif_calendar.specs.Applies.{Applies}
-use Rattle.cif_calendar.specs.Terms.{Terms}
-use Rattle.cif_calendar.specs.Wins.{precedence}
+use Rattle.std.specs.{List.flat_map, Ordering.nat_cmp, Ordering.ordering_then}
+use Rattle.std.specs.declared.{cmp.Ordering.Ordering, cmp.Ordering.TheVariants.Less}
+use Rattle.cif_calendar.specs.{Applies.Applies, Terms.Terms, Wins.precedence}
 use Rattle.cif_columns.specs.declared.sink.Sink.{Sink}
-use Rattle.cif_views.specs.Explanation.{Explained}
+use Rattle.cif_views.specs.{Explanation.Explained, declared.marks.Applying.Applying, declared.marks.Mark.Mark}
 use Rattle.cif_canon.specs.Appended.{IsAppended}
-use Rattle.cif_views.specs.declared.marks.Applying.{Applying}
-use Rattle.cif_views.specs.declared.marks.Mark.{Mark}
 use Rattle.cif_views.specs.declared.marks.Mark.TheVariants as mark
 
 -- a record with its place among the entries

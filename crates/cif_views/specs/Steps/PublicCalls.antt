@@ -1,14 +1,10 @@
 -- The public calls of a schedule as the code makes them, call by call. `public_calls_are_by_moments` says what they are.
 use Rattle.std.specs.Prelude.{ℕ, ◌-◌, ◌+◌, List, [], ◌∷◌, ◌++◌, Option, None, Some, max, if◌then◌else◌}
 use Rattle.cif_canon.specs.Lines.{ScheduleLines}
-use Rattle.cif_views.specs.Moments.{in_day_from, midnight}
+use Rattle.cif_views.specs.{Moments.in_day_from, Moments.midnight, Tables.Numbered, Tables.numbered_from}
 use Rattle.cif_views.specs.PublicCalls.{PublicCall, left_at, reached_at, riders_of, times_of}
-use Rattle.cif_views.specs.Tables.{Numbered, numbered_from}
-use Rattle.cif_views.specs.declared.public_calls.CallTimes.{CallTimes}
-use Rattle.cif_views.specs.declared.public_calls.Journey.{Journey}
-use Rattle.cif_views.specs.declared.public_calls.Riders.{Riders}
-use Rattle.cif_views.specs.declared.public_calls.Shown.{Shown}
-use Rattle.cif_views.specs.declared.public_calls.Stay.{Stay}
+use Rattle.cif_views.specs.declared.{public_calls.CallTimes.CallTimes, public_calls.Journey.Journey, public_calls.Riders.Riders}
+use Rattle.cif_views.specs.declared.{public_calls.Shown.Shown, public_calls.Stay.Stay}
 
 -- what goes on from call to call: when the last timed call was left, and the last moment shown; none at first
 abbrev pub at_first : Journey

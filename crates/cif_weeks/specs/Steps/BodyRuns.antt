@@ -2,15 +2,10 @@
 use Rattle.std.specs.Prelude.{◌≡◌, ◌≢◌, ℕ, ◌+◌, ◌<◌, ◌≤◌, ◌++◌, List, [], ◌∷◌, AllPairs, Contains, reverse}
 use Rattle.cif_columns.specs.declared.stp.Stp.TheVariants.{C}
 use Rattle.cif_columns.specs.Day.{week_of}
-use Rattle.cif_weeks.specs.declared.form.Form.{Form}
-use Rattle.cif_weeks.specs.declared.form.Run.{Run}
-use Rattle.cif_weeks.specs.Permanent.{Permanent}
-use Rattle.cif_weeks.specs.Runs.{record_of}
-use Rattle.cif_weeks.specs.Window.{IsWithin, Window}
-use Rattle.cif_weeks.specs.Steps.Growing.{Breaks, IsGrown}
+use Rattle.cif_weeks.specs.declared.{form.Form.Form, form.Run.Run, span.Span.Span, span.Weeks.Weeks}
+use Rattle.cif_weeks.specs.{Permanent.Permanent, Runs.record_of, Steps.Growing.Breaks, Steps.Growing.IsGrown, Window.IsWithin}
+use Rattle.cif_weeks.specs.{Window.Window}
 use Rattle.cif_weeks.specs.Steps.Spans.{HaveOneMask, IsAgreed, Shows}
-use Rattle.cif_weeks.specs.declared.span.Span.{Span}
-use Rattle.cif_weeks.specs.declared.span.Weeks.{Weeks}
 
 -- the dates and the mask of a run as those of a record, with the run's source as the body
 abbrev pub dates_of : Run → Permanent ℕ

@@ -1,13 +1,9 @@
 -- Steps to the runs: records that grow week by week. No public clause cites them.
 use Rattle.std.specs.Prelude.{◌≡◌, ◌≢◌, ℕ, ◌+◌, ◌<◌, ◌≤◌, List, Bool, length}
-use Rattle.cif_columns.specs.Day.{week_of, weekday_of}
-use Rattle.cif_columns.specs.DaysRun.{RunsOn}
-use Rattle.cif_weeks.specs.declared.form.Form.{Form}
-use Rattle.cif_weeks.specs.declared.form.Form.TheVariants.{One, Two}
-use Rattle.cif_weeks.specs.Window.{Window, IsWithin}
-use Rattle.cif_weeks.specs.Permanent.{Permanent}
-use Rattle.cif_weeks.specs.Separate.{Change, ExactlyOne}
-use Rattle.cif_weeks.specs.Steps.WeekMasks.{IsMask}
+use Rattle.cif_columns.specs.{Day.week_of, Day.weekday_of, DaysRun.RunsOn}
+use Rattle.cif_weeks.specs.declared.{form.Form.Form, form.Form.TheVariants.One, form.Form.TheVariants.Two}
+use Rattle.cif_weeks.specs.{Permanent.Permanent, Separate.Change, Separate.ExactlyOne, Steps.WeekMasks.IsMask, Window.IsWithin}
+use Rattle.cif_weeks.specs.{Window.Window}
 
 -- form 2: on the days of a week that are in the window, the mask has just the weekdays on which the record's body runs
 pub record FitsWithin (window : Window) (on : ℕ → Type 0) (days : List Bool) (week : ℕ) : Type 0 where

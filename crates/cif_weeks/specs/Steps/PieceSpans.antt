@@ -1,17 +1,12 @@
 -- Steps to the runs of a calendar: the spans of its pieces. No public clause cites them.
-use Rattle.std.specs.Prelude.{◌≡◌, ℕ, ◌+◌, ◌<◌, ◌≤◌, List, Option, Some, None, Contains, length, slice_index_or, unwrap_or, nat_le}
-use Rattle.std.specs.Prelude.{if◌then◌else◌}
+use Rattle.std.specs.Prelude.{Contains, List, None, Option, Some, if◌then◌else◌, length, nat_le, slice_index_or, unwrap_or, ℕ, ◌+◌, ◌<◌}
+use Rattle.std.specs.Prelude.{◌≡◌, ◌≤◌}
 use Rattle.std.specs.List.Sorted.{IsNonDecreasingBy}
 use Rattle.cif_columns.specs.Day.{week_of, weekday_of}
 use Rattle.cif_columns.specs.declared.stp.Stp.TheVariants.{P}
-use Rattle.cif_calendar.specs.Calendar.{CalendarParts}
-use Rattle.cif_calendar.specs.Pieces.{source_at}
-use Rattle.cif_calendar.specs.Source.{body_at}
-use Rattle.cif_calendar.specs.Terms.{Terms}
+use Rattle.cif_calendar.specs.{Calendar.CalendarParts, Pieces.source_at, Source.body_at, Terms.Terms}
 use Rattle.cif_calendar.specs.declared.key_calendar.Piece.{Piece}
-use Rattle.cif_weeks.specs.Steps.Spans.{HasDay}
-use Rattle.cif_weeks.specs.declared.form.Run.{Run}
-use Rattle.cif_weeks.specs.declared.span.Span.{Span}
+use Rattle.cif_weeks.specs.{Steps.Spans.HasDay, declared.form.Run.Run, declared.span.Span.Span}
 
 -- the source of day n, and none outside the window
 abbrev pub source_in : CalendarParts → ℕ → Option ℕ

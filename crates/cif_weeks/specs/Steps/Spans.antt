@@ -1,15 +1,9 @@
 -- Steps to the runs of few records: the days that each has in a window, and on which it leads. No public clause cites them.
 use Rattle.std.specs.Prelude.{◌≡◌, ℕ, ◌≢◌, ◌⊎◌, ◌+◌, ◌<◌, ◌≤◌, List, Some, Contains, ◌↔◌}
-use Rattle.cif_columns.specs.Day.{week_of, weekday_of}
-use Rattle.cif_columns.specs.DaysRun.{RunsOn}
-use Rattle.cif_columns.specs.Stp.{letter}
-use Rattle.cif_calendar.specs.Applies.{Applies}
-use Rattle.cif_calendar.specs.Source.{IsChosen, body_at}
-use Rattle.cif_calendar.specs.Terms.{Terms}
-use Rattle.cif_weeks.specs.Window.{Window, IsWithin}
-use Rattle.cif_weeks.specs.Steps.WeekMasks.{IsMask}
-use Rattle.cif_weeks.specs.declared.span.Span.{Span}
-use Rattle.cif_weeks.specs.declared.span.Weeks.{Weeks}
+use Rattle.cif_columns.specs.{Day.week_of, Day.weekday_of, DaysRun.RunsOn, Stp.letter}
+use Rattle.cif_calendar.specs.{Applies.Applies, Source.IsChosen, Source.body_at, Terms.Terms}
+use Rattle.cif_weeks.specs.{Steps.WeekMasks.IsMask, Window.IsWithin, Window.Window}
+use Rattle.cif_weeks.specs.declared.{span.Span.Span, span.Weeks.Weeks}
 
 -- day n lies in the span's weeks, and its weekday is one of those in its week
 pub record HasDay (s : Span) (n : ℕ) : Type 0 where

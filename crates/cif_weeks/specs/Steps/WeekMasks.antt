@@ -1,11 +1,8 @@
 -- Steps to the runs: the weekdays of a body week by week. No public clause cites them.
 use Rattle.std.specs.Prelude.{◌≡◌, ℕ, ◌+◌, ◌<◌, ◌≤◌, Bool, List, length, ◌↔◌}
-use Rattle.cif_columns.specs.Day.{week_of, weekday_of}
-use Rattle.cif_columns.specs.DaysRun.{RunsOn}
-use Rattle.cif_weeks.specs.declared.form.Form.{Form}
-use Rattle.cif_weeks.specs.declared.form.Form.TheVariants.{One, Two}
-use Rattle.cif_weeks.specs.Window.{Window, IsWithin}
-use Rattle.cif_weeks.specs.Separate.{ExactlyOne}
+use Rattle.cif_columns.specs.{Day.week_of, Day.weekday_of, DaysRun.RunsOn}
+use Rattle.cif_weeks.specs.declared.{form.Form.Form, form.Form.TheVariants.One, form.Form.TheVariants.Two}
+use Rattle.cif_weeks.specs.{Separate.ExactlyOne, Window.IsWithin, Window.Window}
 
 -- the mask of a set of days in a week has the weekdays of those days
 pub record IsMask (on : ℕ → Type 0) (week : ℕ) (mask : List Bool) : Type 0 where

@@ -1,7 +1,6 @@
 -- In the order of keys none is before that of the first position (`from-first`), and positions with its key come first (`of-first_key`).
 use Rattle.cif_calendar.proofs.Names.{HasKey, get_or, keyed, subst, sym}
-use Rattle.cif_calendar.proofs.KeyPositions.{has-key}
-use Rattle.cif_calendar.proofs.KeyTurns.{from-first, of-first_key}
+use Rattle.cif_calendar.proofs.{KeyPositions.has-key, KeyTurns.from-first, KeyTurns.of-first_key}
 use Rattle.cif_calendar.proofs.by_key.count_of_first_key.Goals as goal
 
 pub count_of_key-requires-clause-from : goal.count_of_key-requires-clause-from

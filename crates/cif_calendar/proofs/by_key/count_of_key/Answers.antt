@@ -1,13 +1,8 @@
 -- In the order of keys no position behind one with another key has this one (`count-ends`); or all have it (`count-of_all`).
-use Rattle.cif_calendar.proofs.Names.{All, All-more, All-nil, HasKey, ap, arith, false≢true, get_or, keyed, length, not, not-false, subst}
-use Rattle.cif_calendar.proofs.Names.{sym, take, ◌∙◌, ◌≡◌}
-use Rattle.cif_calendar.proofs.FirstClash.{same_key-cmp}
-use Rattle.cif_calendar.proofs.KeyPositions.{has-key}
-use Rattle.cif_calendar.proofs.KeyTurns.{count-ends, count-of_all}
+use Rattle.cif_calendar.proofs.Names.{All, All-more, HasKey, ap, arith, false≢true, get_or, keyed, length, not, not-false, subst, sym, take}
+use Rattle.cif_calendar.proofs.Names.{◌∙◌, ◌≡◌}
+use Rattle.cif_calendar.proofs.{FirstClash.same_key-cmp, KeyPositions.has-key, KeyTurns.count-ends, KeyTurns.count-of_all}
 use Rattle.cif_calendar.proofs.by_key.count_of_key.Goals as goal
-
-pub loop-count-init : goal.loop-count-init
-loop-count-init g c = All-nil _
 
 pub returns-then-ne : goal.returns-then-ne
 returns-then-ne g c =

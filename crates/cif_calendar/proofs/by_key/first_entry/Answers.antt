@@ -1,10 +1,8 @@
 -- By cases of what is left: a first position has its entry's key (`leading`), and of two the lesser is the first (`lesser-first`).
 use Rattle.cif_calendar.proofs.Names.{IsFirstOfBoth, ap, false, is_lt, keyed, true, ◌∙◌, ◌≡◌}
-use Rattle.cif_calendar.proofs.FirstClash.{same_key-cmp}
-use Rattle.cif_calendar.proofs.FirstEntries.{leading, leading-within, left-alone, lesser-first, right-alone}
+use Rattle.cif_calendar.proofs.{FirstClash.same_key-cmp, by_key.first_entry.Given.Over, by_key.first_entry.Goals.After-is_lt}
+use Rattle.cif_calendar.proofs.FirstEntries.{leading, left-alone, lesser-first, right-alone}
 use Rattle.cif_calendar.proofs.by_key.first_entry.Goals as goal
-use Rattle.cif_calendar.proofs.by_key.first_entry.Given.{Over}
-use Rattle.cif_calendar.proofs.by_key.first_entry.Goals.{After-is_lt}
 
 -- of two first positions that of the lesser key
 of-two : (g : Over) (c : After-is_lt g) →
@@ -52,15 +50,3 @@ returns-in-None-Some g c =
     (leading g.E.Entry.key g.E.Entry.terms c.args.right.now c.args.right_positions.now c.in-None-Some.j.now
     c.index-right-j-in-None-Some.result c.requires.right c.in-None-Some.ensures'.item.3.0 c.in-None-Some.ensures'.item.3.1
     c.index-right-j-in-None-Some.is) c.in-None-Some.ensures.item.3
-
-pub bounds-left-i : goal.bounds-left-i
-bounds-left-i g c = let item = c.in-Some-Some.ensures.item.3 in leading-within _ _ _ c.requires.left item.0 item.1
-
-pub bounds-right-j : goal.bounds-right-j
-bounds-right-j g c = let item = c.in-Some-Some.ensures'.item.3 in leading-within _ _ _ c.requires.right item.0 item.1
-
-pub bounds-left-i-in-Some-None : goal.bounds-left-i-in-Some-None
-bounds-left-i-in-Some-None g c = let item = c.in-Some-None.ensures.item.3 in leading-within _ _ _ c.requires.left item.0 item.1
-
-pub bounds-right-j-in-None-Some : goal.bounds-right-j-in-None-Some
-bounds-right-j-in-None-Some g c = let item = c.in-None-Some.ensures'.item.3 in leading-within _ _ _ c.requires.right item.0 item.1

@@ -12,12 +12,6 @@ count_of_key-right_count-requires-clause-from g c =
     subst (AreFrom g.E.Key.Ord.cmp (keyed g.E.Entry.key g.E.Entry.terms c.args.right.now) c.args.right_positions.now) (sym c.key-2.ensures)
     c.in-Some.ensures.right_from
 
-pub split_at-requires : goal.split_at-requires
-split_at-requires g c = c.count_of_key-left_count.ensures.upto
-
-pub split_at-requires-2 : goal.split_at-requires-2
-split_at-requires-2 g c = c.count_of_key-right_count.ensures.upto
-
 pub returns : goal.returns
 returns g c = record {
   first = c.in-Some.ensures;
@@ -36,15 +30,3 @@ returns g c = record {
     later_is = c.split_at-2.ensures.back;
   };
 }
-
-pub first_entry-requires-clause-left : goal.first_entry-requires-clause-left
-first_entry-requires-clause-left g c = c.requires.left
-
-pub first_entry-requires-clause-right : goal.first_entry-requires-clause-right
-first_entry-requires-clause-right g c = c.requires.right
-
-pub first_entry-requires-clause-left_rising : goal.first_entry-requires-clause-left_rising
-first_entry-requires-clause-left_rising g c = c.requires.left_rising
-
-pub first_entry-requires-clause-right_rising : goal.first_entry-requires-clause-right_rising
-first_entry-requires-clause-right_rising g c = c.requires.right_rising

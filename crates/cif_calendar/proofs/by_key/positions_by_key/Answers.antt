@@ -1,9 +1,8 @@
 -- The sorted pairs are those of all entries, in the order of what stands for their keys.
 use Rattle.cif_calendar.proofs.Names.{AreAllByKey, AreRanked, IfOk-weaker, IsSortedBy, keyed, length, length-map, map, ranks_by, rules}
 use Rattle.cif_calendar.proofs.Names.{subst, sym, ℕ, ◌∙◌, ◌≡◌}
-use Rattle.std.proofs.lemmas.Fn.{always_returns_same}
+use Rattle.std.proofs.{lemmas.Fn.always_returns_same, lemmas.Iterator.Consumers.YieldsList-at}
 use Rattle.std.proofs.lemmas.Iterator.{YieldsList-from_map, YieldsList-from_slice, items_from_collect}
-use Rattle.std.proofs.lemmas.Iterator.Consumers.{YieldsList-at}
 use Rattle.std.specs.declared.alloc.AllocError.{AllocError}
 use Rattle.cif_calendar.proofs.SortedPositions.{by-ranks, is_before}
 use Rattle.cif_calendar.proofs.by_key.positions_by_key.Goals as goal

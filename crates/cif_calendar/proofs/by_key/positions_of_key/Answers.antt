@@ -1,9 +1,9 @@
 -- One entry more has the key (`before-more`) or another (`before-other`).
 use Rattle.cif_calendar.proofs.Names.{All-nil, HasKey, arith, false≢true, keyed, length, length-map, subst, sym, ◌∙◌, ◌≡◌, ◌≤◌}
 use Rattle.cif_calendar.proofs.KeyMembers.{before-all, before-more, before-none, before-other, within-more}
-use Rattle.cif_calendar.proofs.KeyPositions.{has-key}
+use Rattle.cif_calendar.proofs.{KeyPositions.has-key, by_key.positions_of_key.Goals.else-eq}
+use Rattle.cif_calendar.proofs.{by_key.positions_of_key.Goals.then-eq+in_ok-push}
 use Rattle.cif_calendar.proofs.by_key.positions_of_key.Goals as goal
-use Rattle.cif_calendar.proofs.by_key.positions_of_key.Goals.{else-eq, then-eq+in_ok-push}
 
 pub loop-position-init : goal.loop-position-init
 loop-position-init g c = rw c.new-positions.ensures.items (record {

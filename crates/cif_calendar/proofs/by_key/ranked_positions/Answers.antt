@@ -1,25 +1,7 @@
 -- An entry's rank stands for its key, which is the only one at its position.
-use Rattle.cif_calendar.proofs.Names.{AreRanked, IfOk-from_err, arith, keyed, length, subst, sym, ◌+◌, ◌≡◌}
-use Rattle.cif_calendar.proofs.KeyPositions.{has-key}
-use Rattle.cif_calendar.proofs.KeyTurns.{one-key}
-use Rattle.cif_calendar.proofs.SortedPositions.{ranked-more, ranked-none}
+use Rattle.cif_calendar.proofs.Names.{AreRanked, arith, keyed, length, subst, sym, ◌+◌, ◌≡◌}
+use Rattle.cif_calendar.proofs.{KeyPositions.has-key, KeyTurns.one-key, SortedPositions.ranked-more}
 use Rattle.cif_calendar.proofs.by_key.ranked_positions.Goals as goal
-
-pub returns-in_err-ranked : goal.returns-in_err-ranked
-returns-in_err-ranked g c = IfOk-from_err c.from_residual.result _ c.from_residual.ensures.0
-
-pub loop-position-init : goal.loop-position-init
-loop-position-init g c = subst (AreRanked g.E.Entry.stands_for (keyed g.E.Entry.key g.E.Entry.terms c.args.entries.now) 0)
-    (sym c.in_ok-ranked.ensures.items) (ranked-none _ _)
-
-pub offset_bounds-entries-position : goal.offset_bounds-entries-position
-offset_bounds-entries-position g c = let below = c.loop-position-test.true in omega (arith, below)
-
-pub bounds-entries-position : goal.bounds-entries-position
-bounds-entries-position g c = c.loop-position-test.true
-
-pub returns-in_err-push : goal.returns-in_err-push
-returns-in_err-push g c = IfOk-from_err c.from_residual-in_err-push.result _ c.from_residual-in_err-push.ensures.0
 
 pub loop-position-preserved : goal.loop-position-preserved
 loop-position-preserved g c =

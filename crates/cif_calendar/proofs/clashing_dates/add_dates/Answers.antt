@@ -1,6 +1,5 @@
 -- One date more is a clash date, or none (`dates-more`); without a dispute no date of the stretch is (`dates-none`).
-use Rattle.cif_calendar.proofs.Names.{AreClashDates, IsChosen, Nobody, Stands, arith, get_or, subst, sym, weekday_of, ◌+◌, ◌<◌, ◌∙◌}
-use Rattle.cif_calendar.proofs.Names.{◌≡◌}
+use Rattle.cif_calendar.proofs.Names.{AreClashDates, IsChosen, Nobody, Stands, arith, get_or, subst, sym, weekday_of, ◌+◌, ◌<◌, ◌∙◌, ◌≡◌}
 use Rattle.cif_calendar.proofs.ClashingDates.{dates-more, dates-none, undisputed}
 use Rattle.cif_calendar.proofs.clashing_dates.add_dates.Goals as goal
 

@@ -1,6 +1,5 @@
 -- At first no bodies are known to be alike.
-use Rattle.cif_calendar.proofs.Names.{map, rules}
-use Rattle.cif_calendar.proofs.Bodies.{alike-none}
+use Rattle.cif_calendar.proofs.{Bodies.alike-none, Names.map, Names.rules}
 use Rattle.cif_calendar.proofs.day_state.day_states.Goals as goal
 
 pub stretches_of-requires-clause-alike : goal.stretches_of-requires-clause-alike

@@ -1,8 +1,6 @@
 -- Whichever key has these positions: it is clear, or its first clash is told by the first of them (`fault-added`).
 use Rattle.cif_calendar.proofs.Names.{Contains-get_or, inl, on_ok_weaker, refl}
-use Rattle.cif_calendar.proofs.FoundClashes.{fault-added, fault-within}
-use Rattle.cif_calendar.proofs.Positions.{positions-records}
-use Rattle.cif_calendar.proofs.Sets.{IsClearFrom-same}
+use Rattle.cif_calendar.proofs.{FoundClashes.fault-added, FoundClashes.fault-within, Positions.positions-records, Sets.IsClearFrom-same}
 use Rattle.cif_calendar.proofs.key_clashes.add_clash_of_key.Goals as goal
 
 pub returns-in-Ok-clause-added : goal.returns-in-Ok-clause-added

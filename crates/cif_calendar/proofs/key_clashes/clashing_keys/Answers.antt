@@ -1,9 +1,8 @@
 -- Key by key (`FoundClashes`): the first run of positions is all of a key, whose clash goes behind.
 use Rattle.cif_calendar.proofs.Names.{All, All-drop, All-nil, All-take, List, [], eqb-true, keyed, length, nil_from_length, subst, sym, ℕ}
 use Rattle.cif_calendar.proofs.Names.{◌<◌}
-use Rattle.cif_calendar.proofs.FirstClash.{same_key-cmp}
+use Rattle.cif_calendar.proofs.{FirstClash.same_key-cmp, KeyPositions.all-within}
 use Rattle.cif_calendar.proofs.FoundClashes.{AreFound, found-all, found-key, found-nothing}
-use Rattle.cif_calendar.proofs.KeyPositions.{all-within}
 use Rattle.cif_calendar.proofs.key_clashes.clashing_keys.Goals as goal
 
 pub loop-rest-init : goal.loop-rest-init
@@ -18,15 +17,6 @@ loop-rest-init g c =
           (found-nothing g.E.Key.Ord.cmp es window.first window.last c.in_ok-positions.positions.items
           c.in_ok-positions.ensures.whole c.in_ok-positions.ensures.rising));
     }
-
-pub count_of_first_key-requires-clause-within : goal.count_of_first_key-requires-clause-within
-count_of_first_key-requires-clause-within g c = c.loop-rest.invariant.within
-
-pub count_of_first_key-requires-clause-rising : goal.count_of_first_key-requires-clause-rising
-count_of_first_key-requires-clause-rising g c = c.loop-rest.invariant.found.searched.rising
-
-pub split_at-requires : goal.split_at-requires
-split_at-requires g c = c.count_of_first_key.ensures.count.upto
 
 pub add_clash_of_key-requires-clause-within : goal.add_clash_of_key-requires-clause-within
 add_clash_of_key-requires-clause-within g c =

@@ -1,11 +1,7 @@
 -- One clash after another goes behind by its name (`named-more`), and all that were found are told (`named-all`).
-use Rattle.cif_calendar.proofs.Names.{KeyClash, [], ap, append-nil, keyed, length, subst, sym, ◌++◌, ◌<◌, ◌∙◌, ◌∷◌}
-use Rattle.cif_calendar.proofs.KeyPositions.{has-key}
-use Rattle.cif_calendar.proofs.NamedClashes.{named-all, named-more}
+use Rattle.cif_calendar.proofs.Names.{KeyClash, [], ap, keyed, length, subst, sym, ◌++◌, ◌<◌, ◌∙◌, ◌∷◌}
+use Rattle.cif_calendar.proofs.{KeyPositions.has-key, NamedClashes.named-all, NamedClashes.named-more}
 use Rattle.cif_calendar.proofs.named_clashes.add_named.Goals as goal
-
-pub loop-clash-init : goal.loop-clash-init
-loop-clash-init g c = sym (append-nil c.args.clashes.now.items)
 
 pub loop-clash-preserved : goal.loop-clash-preserved
 loop-clash-preserved g c =

@@ -42,12 +42,6 @@ told : (g : Over) (c : After-same_body-same g) →
     c.args.one c.args.other
 told g c = one-body _ _ _ _ _ _ _ c.entry.ensures.stands c.entry-2.ensures.stands c.same_body-same.ensures
 
-pub returns-then-same-clause-told : goal.returns-then-same-clause-told
-returns-then-same-clause-told g c = told g (goal.at.returns-then-same-clause-told g c).After-same_body-same
-
-pub returns-else-same-clause-told : goal.returns-else-same-clause-told
-returns-else-same-clause-told g c = told g (goal.at.returns-else-same-clause-told g c).After-same_body-same
-
 pub returns-then-same-clause-alike : goal.returns-then-same-clause-alike
 returns-then-same-clause-alike g c = alike-noted c.args.members.now.terms c.args.members.now.positions
     c.loop.alike _ _ _

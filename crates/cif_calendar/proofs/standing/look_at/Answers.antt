@@ -1,20 +1,13 @@
 -- One of the weekdays is looked at, and another stays as it was (`stepped`, `stepped-same`).
 use Rattle.cif_calendar.proofs.Names.{arith, iff_false, inl, inr, refl}
-use Rattle.cif_calendar.proofs.Standings.{stepped, stepped-same}
+use Rattle.cif_calendar.proofs.{Standings.stepped, Standings.stepped-same, standing.look_at.Goals.else-has, standing.look_at.Goals.then-has}
 use Rattle.cif_calendar.proofs.standing.look_at.Goals as goal
-use Rattle.cif_calendar.proofs.standing.look_at.Goals.{else-has, then-has}
 
 pub loop-weekday-init : goal.loop-weekday-init
 loop-weekday-init g c = record {
   alike = c.requires.alike;
   stepped = record { below = c.requires.below; each = λ w less. absurd (omega arith); rest = λ w upto. refl };
 }
-
-pub combine-requires-clause-one : goal.combine-requires-clause-one
-combine-requires-clause-one g c = c.loop-weekday.invariant.stepped.below.below c.from-place.result
-
-pub combine-requires-clause-other : goal.combine-requires-clause-other
-combine-requires-clause-other g c = c.requires.others.below c.from-place.result
 
 pub loop-weekday-preserved : goal.loop-weekday-preserved
 loop-weekday-preserved g c =

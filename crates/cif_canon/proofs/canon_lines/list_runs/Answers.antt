@@ -1,12 +1,9 @@
 -- The text is a fold over runs with their numbers: one more goes behind it (`one-more`). Each run has a record.
-use Rattle.cif_canon.proofs.Names.{HasRecord, ap, arith, enumerate_from, length-enumerate_from, numbered_text}
-use Rattle.cif_canon.proofs.Names.{schedule_entries, schedule_plain, subst, sym, text_if, ◌+◌}
-use Rattle.cif_canon.proofs.AppendedTexts.{all-items, nothing, one-more, text-is}
+use Rattle.cif_canon.proofs.Names.{HasRecord, ap, arith, enumerate_from, length-enumerate_from, numbered_text, schedule_entries}
+use Rattle.cif_canon.proofs.Names.{schedule_plain, subst, sym, text_if, ◌+◌}
+use Rattle.cif_canon.proofs.AppendedTexts.{all-items, one-more, text-is}
 use Rattle.cif_canon.proofs.CanonLines.{at-number}
 use Rattle.cif_canon.proofs.canon_lines.list_runs.Goals as goal
-
-pub loop-at-init : goal.loop-at-init
-loop-at-init g c = nothing _ _ _
 
 pub record_of-requires : goal.record_of-requires
 record_of-requires g c =

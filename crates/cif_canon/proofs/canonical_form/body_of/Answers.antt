@@ -3,9 +3,6 @@ use Rattle.cif_canon.proofs.Names.{Schedule, ap, schedule_entry, ◌∙◌}
 use Rattle.cif_canon.proofs.RunTexts.{body-of, has-body, record-within}
 use Rattle.cif_canon.proofs.canonical_form.body_of.Goals as goal
 
-pub bounds-schedules-run : goal.bounds-schedules-run
-bounds-schedules-run c = record-within schedule_entry c.args.schedules.now c.args.run.now c.requires
-
 pub returns : goal.returns
 returns c =
     body-of c.args.schedules.now c.args.run.now.source c.index-schedules-run.result

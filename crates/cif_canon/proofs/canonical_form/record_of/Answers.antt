@@ -3,9 +3,6 @@ use Rattle.cif_canon.proofs.Names.{Some, ap, keyed, option_copied, record_of, sy
 use Rattle.cif_canon.proofs.RunTexts.{has-body, record-of_entry, record-within}
 use Rattle.cif_canon.proofs.canonical_form.record_of.Goals as goal
 
-pub bounds-entries-run : goal.bounds-entries-run
-bounds-entries-run g c = record-within (λ e. (g.E.Entry.key e, g.E.Entry.terms e)) c.args.entries.now c.args.run.now c.requires
-
 pub unreachable-requires : goal.unreachable-requires
 unreachable-requires g c =
     has-body (λ e. (g.E.Entry.key e, g.E.Entry.terms e)) c.args.entries.now c.args.run.now c.index-entries-run.result c.requires

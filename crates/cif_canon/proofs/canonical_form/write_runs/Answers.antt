@@ -1,10 +1,7 @@
 -- The text is a fold over runs: one more goes behind it (`one-more`); each run has a record.
 use Rattle.cif_canon.proofs.Names.{HasRecord, ap, keyed, run_text, subst, sym, text_if}
-use Rattle.cif_canon.proofs.AppendedTexts.{all-items, nothing, one-more, text-is}
+use Rattle.cif_canon.proofs.AppendedTexts.{all-items, one-more, text-is}
 use Rattle.cif_canon.proofs.canonical_form.write_runs.Goals as goal
-
-pub loop-run-init : goal.loop-run-init
-loop-run-init g c = nothing _ _ _
 
 pub loop-run-preserved : goal.loop-run-preserved
 loop-run-preserved g c =

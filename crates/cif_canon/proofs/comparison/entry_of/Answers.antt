@@ -1,6 +1,5 @@
 -- An entry at a position of its side has its key (`has-key`).
-use Rattle.cif_canon.proofs.Names.{has-key, keyed}
-use Rattle.cif_canon.proofs.MergedSides.{at_side-made}
+use Rattle.cif_canon.proofs.{MergedSides.at_side-made, Names.has-key, Names.keyed}
 use Rattle.cif_canon.proofs.comparison.entry_of.Goals as goal
 
 pub returns : goal.returns

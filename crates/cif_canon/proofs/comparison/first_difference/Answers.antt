@@ -1,9 +1,8 @@
 -- The first run is at the first difference (`first-run`).
 use Rattle.cif_canon.proofs.Names.{List, None, Run, Sided, Some, ap, option_copied, slice_get, sym, ◌∙◌, ◌≡◌}
-use Rattle.cif_canon.proofs.ListedDifferences.{first-run, first-within}
+use Rattle.cif_canon.proofs.{ListedDifferences.first-run, ListedDifferences.first-within, comparison.first_difference.Given.Over}
+use Rattle.cif_canon.proofs.{comparison.first_difference.Goals.In-Some}
 use Rattle.cif_canon.proofs.comparison.first_difference.Goals as goal
-use Rattle.cif_canon.proofs.comparison.first_difference.Given.{Over}
-use Rattle.cif_canon.proofs.comparison.first_difference.Goals.{In-Some}
 
 pub returns-in-None : goal.returns-in-None
 returns-in-None g c =

@@ -1,8 +1,7 @@
 -- What was found is said of slices and of the left window: the extracts' own lists and windows are put in by equations.
 use Rattle.cif_canon.proofs.Names.{AreSame, Contains, Left, Right, Tiploc, ap, association_entries, extract_parts, header_window}
 use Rattle.cif_canon.proofs.Names.{option_copied, schedule_entries, sym, ◌↔◌, ◌∙◌}
-use Rattle.cif_canon.proofs.DifferentTiplocs.{first-tiploc, no-tiploc}
-use Rattle.cif_canon.proofs.ListedDifferences.{clear-right}
+use Rattle.cif_canon.proofs.{DifferentTiplocs.first-tiploc, DifferentTiplocs.no-tiploc, ListedDifferences.clear-right}
 use Rattle.cif_canon.proofs.comparison.first_found.Goals as goal
 use Rattle.cif_canon.proofs.comparison.first_found.Goals.{In-Ok-None, In-Ok-None-first_difference, In_default}
 

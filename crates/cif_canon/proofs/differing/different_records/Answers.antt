@@ -1,11 +1,10 @@
 -- The fronts of both rests are the positions of one key (`ComparedKeys`), whose differences go behind the others (`found-key`).
-use Rattle.cif_canon.proofs.Names.{All, All-drop, All-take, AreAllByKey, IfOk-from_err, List, Run, Sided, [], all-within, calendar_sources}
-use Rattle.cif_canon.proofs.Names.{keyed, length, nil_from_length, refl, same_key-cmp, subst, sym, window_days, window_from, ℕ, ◌<◌, ◌∙◌}
+use Rattle.cif_canon.proofs.Names.{All, All-drop, All-take, AreAllByKey, List, Run, Sided, [], all-within, calendar_sources, keyed, length}
+use Rattle.cif_canon.proofs.Names.{nil_from_length, refl, same_key-cmp, subst, sym, window_days, window_from, ℕ, ◌<◌, ◌∙◌}
 use Rattle.cif_canon.proofs.FoundRecords.{AreFound, found-all, found-enough, found-first, found-key, found-turns}
-use Rattle.cif_canon.proofs.KeyDifferences.{key-of}
+use Rattle.cif_canon.proofs.{KeyDifferences.key-of, differing.different_records.Given.Over}
+use Rattle.cif_canon.proofs.{differing.different_records.Goals.In_ok-push_differences}
 use Rattle.cif_canon.proofs.differing.different_records.Goals as goal
-use Rattle.cif_canon.proofs.differing.different_records.Given.{Over}
-use Rattle.cif_canon.proofs.differing.different_records.Goals.{In_ok-push_differences}
 
 pub loop-first-init : goal.loop-first-init
 loop-first-init g c =
@@ -26,18 +25,6 @@ loop-first-init g c =
       right_within = all-within key terms c.args.right.now _ right.within;
       found = subst (λ (runs : List (Sided Run)). AreFound cmp window xs ys l r runs) (sym c.new-found.ensures.items) none;
     }
-
-pub first_key-requires-clause-left : goal.first_key-requires-clause-left
-first_key-requires-clause-left g c = c.loop-first.invariant.left_within
-
-pub first_key-requires-clause-right : goal.first_key-requires-clause-right
-first_key-requires-clause-right g c = c.loop-first.invariant.right_within
-
-pub first_key-requires-clause-left_rising : goal.first_key-requires-clause-left_rising
-first_key-requires-clause-left_rising g c = c.loop-first.invariant.found.passed.left_rising
-
-pub first_key-requires-clause-right_rising : goal.first_key-requires-clause-right_rising
-first_key-requires-clause-right_rising g c = c.loop-first.invariant.found.passed.right_rising
 
 pub calendar-requires : goal.calendar-requires
 calendar-requires g c = record {
@@ -127,20 +114,3 @@ returns g c =
     (nil_from_length c.loop-first.left_rest.now none.0)
     (subst (λ (r : List ℕ). AreFound cmp window xs ys c.loop-first.left_rest.now r c.loop-first.found.items)
     (nil_from_length c.loop-first.right_rest.now none.1) c.loop-first.invariant.found)) c.args.extent
-
-pub returns-in_err-left_positions : goal.returns-in_err-left_positions
-returns-in_err-left_positions g c = IfOk-from_err c.from_residual.result _ c.from_residual.ensures.0
-
-pub returns-in_err-right_positions : goal.returns-in_err-right_positions
-returns-in_err-right_positions g c =
-    IfOk-from_err c.from_residual-in_err-right_positions.result _ c.from_residual-in_err-right_positions.ensures.0
-
-pub returns-in_err-one : goal.returns-in_err-one
-returns-in_err-one g c = IfOk-from_err c.from_residual-in_err-one.result _ c.from_residual-in_err-one.ensures.0
-
-pub returns-in_err-other : goal.returns-in_err-other
-returns-in_err-other g c = IfOk-from_err c.from_residual-in_err-other.result _ c.from_residual-in_err-other.ensures.0
-
-pub returns-in_err-push_differences : goal.returns-in_err-push_differences
-returns-in_err-push_differences g c =
-    IfOk-from_err c.from_residual-in_err-push_differences.result _ c.from_residual-in_err-push_differences.ensures.0

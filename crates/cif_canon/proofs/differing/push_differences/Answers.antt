@@ -1,7 +1,6 @@
 -- Where the calendars have the same bodies nothing is said by one alone (`only-none`); or the runs of either side go behind the others.
-use Rattle.cif_canon.proofs.Names.{AreAppendedRuns, AreRisingRuns, [], arith, map, on_ok_weaker, refl, subst, sym}
-use Rattle.cif_canon.proofs.MergedSides.{merged-none}
-use Rattle.cif_canon.proofs.OnlyRuns.{only-none}
+use Rattle.cif_canon.proofs.Names.{AreAppendedRuns, [], arith, map, on_ok_weaker, refl, sym}
+use Rattle.cif_canon.proofs.{MergedSides.merged-none, OnlyRuns.only-none}
 use Rattle.cif_canon.proofs.differing.push_differences.Goals as goal
 
 pub returns-then-are_alike : goal.returns-then-are_alike
@@ -18,12 +17,6 @@ returns-then-are_alike g c =
       appended = merged-none c.args.found.now.items;
     }
 
-pub are_alike-requires : goal.are_alike-requires
-are_alike-requires g c = c.requires
-
-pub only_runs-requires : goal.only_runs-requires
-only_runs-requires g c = c.requires
-
 pub only_runs-requires-2 : goal.only_runs-requires-2
 only_runs-requires-2 g c = record {
   first = sym c.requires.first;
@@ -31,12 +24,6 @@ only_runs-requires-2 g c = record {
   left = c.requires.right;
   right = c.requires.left;
 }
-
-pub push_merged-requires-clause-left : goal.push_merged-requires-clause-left
-push_merged-requires-clause-left g c = subst AreRisingRuns (sym c.as_slice.ensures.value) c.in_ok-lefts.ensures.rising
-
-pub push_merged-requires-clause-right : goal.push_merged-requires-clause-right
-push_merged-requires-clause-right g c = subst AreRisingRuns (sym c.as_slice-2.ensures.value) c.in_ok-rights.ensures.rising
 
 pub returns : goal.returns
 returns g c =

@@ -1,20 +1,14 @@
 -- The first run goes behind the others (`moved-of`), and in the end no run is left (`merging-end`).
-use Rattle.cif_canon.proofs.MergedSides.{merging-end, merging-nothing, moved-of, moved-smaller, side-there}
+use Rattle.cif_canon.proofs.MergedSides.{merging-end, merging-nothing, moved-of}
 use Rattle.cif_canon.proofs.differing.push_merged.Goals as goal
 
 pub loop-side-init : goal.loop-side-init
 loop-side-init c = merging-nothing c.args.left.now c.args.right.now c.args.found.now.items c.requires.left c.requires.right
 
-pub push_next-requires : goal.push_next-requires
-push_next-requires c = side-there c.in-Some.side c.loop-side.lefts.now c.loop-side.rights.now c.in-Some.ensures
-
 pub loop-side-preserved : goal.loop-side-preserved
 loop-side-preserved c =
     moved-of c.args.left.now c.args.right.now c.args.found.now.items c.loop-side.found.items c.push_next.new.found.items c.in-Some.side
     c.loop-side.lefts.now c.loop-side.rights.now _ _ c.in-Some.ensures c.in_ok-rest.ensures c.loop-side.invariant
-
-pub loop-side-smaller : goal.loop-side-smaller
-loop-side-smaller c = moved-smaller c.in-Some.side _ _ _ _ _ _ c.in_ok-rest.ensures
 
 pub returns : goal.returns
 returns c =

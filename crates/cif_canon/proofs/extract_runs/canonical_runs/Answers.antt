@@ -18,18 +18,6 @@ loop-rest-init g c =
           c.in_ok-positions.ensures.whole c.in_ok-positions.ensures.rising));
     }
 
-pub look_ahead-requires : goal.look_ahead-requires
-look_ahead-requires g c = record { within = All-take (λ i. i < length c.args.entries.now) _ _ c.loop-rest.invariant.within }
-
-pub count_of_first_key-requires-clause-within : goal.count_of_first_key-requires-clause-within
-count_of_first_key-requires-clause-within g c = c.loop-rest.invariant.within
-
-pub count_of_first_key-requires-clause-rising : goal.count_of_first_key-requires-clause-rising
-count_of_first_key-requires-clause-rising g c = c.loop-rest.invariant.made.rising
-
-pub split_at-requires : goal.split_at-requires
-split_at-requires g c = c.count_of_first_key.ensures.count.upto
-
 pub make_runs_of_key-requires-clause-within : goal.make_runs_of_key-requires-clause-within
 make_runs_of_key-requires-clause-within g c =
     subst (λ (front : List ℕ). All (λ i. i < length c.args.entries.now) front) (sym c.split_at.ensures.front)

@@ -1,6 +1,6 @@
 -- Whichever key has these positions: a fault of the calendar is one of that key (`key_fault`), and the runs of its members, found with
 -- or without a calendar, are the key's (`members-records`, `key-records`).
-use Rattle.cif_canon.proofs.Names.{Contains-get_or, calendar_sources, window_days}
+use Rattle.cif_canon.proofs.Names.{Contains-get_or, window_days}
 use Rattle.cif_canon.proofs.KeyRecords.{key-records, key_fault, members-records}
 use Rattle.cif_canon.proofs.extract_runs.make_runs_of_key.Goals as goal
 
@@ -21,15 +21,3 @@ returns-clause-runs g c k p =
     key-records g.E.Entry.key g.E.Entry.terms c.args.entries.now k c.args.members.now p c.args.window.now.first c.args.window.now.last
     c.in-Ok.calendar c.in-Ok.ensures.calendar g.met.E.Entry.cancelled c.args.form
     c.in_ok-made.field-0.items c.in_ok-made.ensures
-
-pub runs_of_few-requires : goal.runs_of_few-requires
-runs_of_few-requires g c = record { within = c.requires.within }
-
-pub calendar-requires : goal.calendar-requires
-calendar-requires g c = record { positions = c.requires.within }
-
-pub runs-requires : goal.runs-requires
-runs-requires g c = record { sources = calendar_sources _ _ _ _ _ c.in-Ok.ensures.calendar }
-
-pub bounds-entries-members : goal.bounds-entries-members
-bounds-entries-members g c = c.requires.within 0 0 c.requires.some

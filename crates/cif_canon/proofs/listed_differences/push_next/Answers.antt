@@ -1,15 +1,11 @@
 -- The first item is before the others.
-use Rattle.cif_canon.proofs.Names.{IfOk-from_err, List, [], ap₂, arith, drop, get_or, length, refl, sym, take, take_all, ◌-◌, ◌<◌, ◌∙◌, ◌∷◌}
-use Rattle.cif_canon.proofs.Names.{◌≡◌}
+use Rattle.cif_canon.proofs.Names.{List, [], ap₂, arith, drop, get_or, length, refl, sym, take, take_all, ◌-◌, ◌<◌, ◌∙◌, ◌∷◌, ◌≡◌}
 use Rattle.cif_canon.proofs.listed_differences.push_next.Goals as goal
 
 first-before : {T : Type 0} (items : List T) (item : T) → 0 < length items → item ≡ get_or items 0 item →
     items ≡ item ∷ take (length items - 1) (drop 1 items)
 first-before [] item some is = absurd (omega (arith, some))
 first-before (x ∷ xs) item some is = ap₂ (λ y ys. y ∷ ys) (sym is) (sym (take_all (length (x ∷ xs) - 1) xs (omega arith)))
-
-pub returns-in_err-push : goal.returns-in_err-push
-returns-in_err-push g c = IfOk-from_err c.from_residual.result _ c.from_residual.ensures.0
 
 pub returns-in-Left : goal.returns-in-Left
 returns-in-Left g c = rw c.in-Left.is (

@@ -1,6 +1,5 @@
 -- The run's record is that of its side.
-use Rattle.cif_canon.proofs.Names.{keyed}
-use Rattle.cif_canon.proofs.MergedSides.{at_side-made}
+use Rattle.cif_canon.proofs.{MergedSides.at_side-made, Names.keyed}
 use Rattle.cif_canon.proofs.listed_differences.sided_record.Goals as goal
 
 pub record_of-requires : goal.record_of-requires

@@ -1,6 +1,5 @@
 -- What is read has a canonical form, narrowed, or it has none (`has-canon`).
-use Rattle.cif_canon.proofs.Names.{goes-on, hands-on}
-use Rattle.cif_canon.proofs.Normalising.{has-canon, reads-canon}
+use Rattle.cif_canon.proofs.{Names.goes-on, Names.hands-on, Normalising.has-canon, Normalising.reads-canon}
 use Rattle.cif_canon.proofs.normal_form.read_canon.Goals as goal
 
 pub returns-in_err-extract : goal.returns-in_err-extract

@@ -3,8 +3,7 @@ use Rattle.cif_canon.proofs.Names.{HoldsFrom, IsTrue, arith, body_on, cases_lt, 
 use Rattle.cif_canon.proofs.Names.{◌≤◌}
 use Rattle.cif_canon.proofs.DifferentDays.{alike-by_pieces, not-below, piece-bodies, piece-ends}
 use Rattle.cif_canon.proofs.only_days.are_alike.Goals as goal
-use Rattle.cif_canon.proofs.only_days.are_alike.Given.{Over}
-use Rattle.cif_canon.proofs.only_days.are_alike.Goals.{After-are_pieces_alike}
+use Rattle.cif_canon.proofs.{only_days.are_alike.Given.Over, only_days.are_alike.Goals.After-are_pieces_alike}
 
 pub loop-window-init : goal.loop-window-init
 loop-window-init g c = record {
@@ -12,18 +11,6 @@ loop-window-init g c = record {
   upto = omega (arith, c.window-window.ensures.first, c.window-window.ensures.last, c.window-window.result.in_order);
   alike = λ d a b. absurd (omega (arith, a, b, c.window-window.ensures.first));
 }
-
-pub piece_on-piece-requires-clause-from : goal.piece_on-piece-requires-clause-from
-piece_on-piece-requires-clause-from g c = c.loop-window.invariant.from
-
-pub piece_on-piece-requires-clause-upto : goal.piece_on-piece-requires-clause-upto
-piece_on-piece-requires-clause-upto g c = c.loop-window.invariant.upto
-
-pub piece_on-peer-requires-clause-from : goal.piece_on-peer-requires-clause-from
-piece_on-peer-requires-clause-from g c = omega (arith, c.requires.first, c.loop-window.invariant.from)
-
-pub piece_on-peer-requires-clause-upto : goal.piece_on-peer-requires-clause-upto
-piece_on-peer-requires-clause-upto g c = omega (arith, c.requires.last, c.loop-window.invariant.upto)
 
 pub are_pieces_alike-requires-clause-left : goal.are_pieces_alike-requires-clause-left
 are_pieces_alike-requires-clause-left g c =

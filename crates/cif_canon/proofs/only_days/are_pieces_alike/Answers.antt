@@ -3,8 +3,7 @@ use Rattle.cif_canon.proofs.Names.{AreAlikeBy, None, ap, arith, false≢true, ge
 use Rattle.cif_calendar.specs.Source.{body_at}
 use Rattle.cif_canon.proofs.DifferentDays.{alike-week, day-more, not-below}
 use Rattle.cif_canon.proofs.only_days.are_pieces_alike.Goals as goal
-use Rattle.cif_canon.proofs.only_days.are_pieces_alike.Given.{Over}
-use Rattle.cif_canon.proofs.only_days.are_pieces_alike.Goals.{After-from-weekday}
+use Rattle.cif_canon.proofs.{only_days.are_pieces_alike.Given.Over, only_days.are_pieces_alike.Goals.After-from-weekday}
 
 pub have_same_body-requires-clause-left : goal.have_same_body-requires-clause-left
 have_same_body-requires-clause-left g c i is =
@@ -23,9 +22,6 @@ returns g c = (
       (omega (arith, b, c.loop.invariant.day_is, c.loop-test.false, c.loop.auto.counter-end))),
   λ all. refl,
 )
-
-pub bounds-piece-weekday : goal.bounds-piece-weekday
-bounds-piece-weekday g c = omega (arith, c.from-weekday.ensures, c.weekday.ensures.in_range)
 
 -- the bodies are those of the day, by its weekday
 alike-here : (g : Over) (c : After-from-weekday g) →

@@ -1,10 +1,9 @@
 -- One piece more: up to the earlier end it has what is left of both calendars' pieces (`only-more`).
 use Rattle.cif_canon.proofs.Names.{List, Piece, Tiles, arith, map, refl, sooner, subst, sym, ℕ, ◌+◌, ◌≡◌, ◌≤◌}
 use Rattle.cif_canon.proofs.DifferentDays.{not-below, piece-bodies, piece-ends}
-use Rattle.cif_canon.proofs.OnlyDays.{AreOnlyPieces, only-more}
+use Rattle.cif_canon.proofs.{OnlyDays.AreOnlyPieces, OnlyDays.only-more, only_days.only_calendar.Given.Over}
+use Rattle.cif_canon.proofs.{only_days.only_calendar.Goals.After-min-last, only_days.only_calendar.Goals.In_ok-push}
 use Rattle.cif_canon.proofs.only_days.only_calendar.Goals as goal
-use Rattle.cif_canon.proofs.only_days.only_calendar.Given.{Over}
-use Rattle.cif_canon.proofs.only_days.only_calendar.Goals.{After-min-last, In_ok-push}
 
 pub loop-pieces-init : goal.loop-pieces-init
 loop-pieces-init g c = record {
@@ -17,26 +16,11 @@ loop-pieces-init g c = record {
   };
 }
 
-pub piece_on-piece-requires-clause-from : goal.piece_on-piece-requires-clause-from
-piece_on-piece-requires-clause-from g c = c.loop-pieces.invariant.from
-
-pub piece_on-piece-requires-clause-upto : goal.piece_on-piece-requires-clause-upto
-piece_on-piece-requires-clause-upto g c = c.loop-pieces.invariant.upto
-
-pub piece_on-peer-requires-clause-from : goal.piece_on-peer-requires-clause-from
-piece_on-peer-requires-clause-from g c = omega (arith, c.requires.first, c.loop-pieces.invariant.from)
-
-pub piece_on-peer-requires-clause-upto : goal.piece_on-peer-requires-clause-upto
-piece_on-peer-requires-clause-upto g c = omega (arith, c.requires.last, c.loop-pieces.invariant.upto)
-
 -- both pieces have the first day
 far : (g : Over) (c : After-min-last g) → c.loop-pieces.first ≤ c.min-last.result
 far g c =
     let soon = sooner c.piece_on-piece.result.now.last c.piece_on-peer.result.now.last c.min-last.result c.min-last.ensures in
     omega (arith, soon.2, c.piece_on-piece.ensures.upto, c.piece_on-peer.ensures.upto)
-
-pub only_winners-winners-requires-clause-in_order : goal.only_winners-winners-requires-clause-in_order
-only_winners-winners-requires-clause-in_order g c = far g (goal.at.only_winners-winners-requires-clause-in_order g c).After-min-last
 
 pub only_winners-winners-requires-clause-left : goal.only_winners-winners-requires-clause-left
 only_winners-winners-requires-clause-left g c =

@@ -3,9 +3,6 @@ use Rattle.cif_canon.proofs.Names.{IfOk-weaker, map}
 use Rattle.cif_canon.proofs.OnlyRuns.{only-runs, only-sources, rising-runs}
 use Rattle.cif_canon.proofs.only_days.only_runs.Goals as goal
 
-pub only_calendar-requires : goal.only_calendar-requires
-only_calendar-requires g c = c.requires
-
 pub runs-requires : goal.runs-requires
 runs-requires g c =
     let sources = only-sources (map g.E.Entry.terms c.args.entries.now) c.args.one.now (map g.E.Entry.terms c.args.others.now)

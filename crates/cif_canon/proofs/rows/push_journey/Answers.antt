@@ -1,6 +1,5 @@
 -- The places go behind the train identity (`field-after`).
-use Rattle.cif_canon.proofs.Names.{parts_in, place_fields}
-use Rattle.cif_canon.proofs.ViewLines.{field-after}
+use Rattle.cif_canon.proofs.{Names.parts_in, Names.place_fields, ViewLines.field-after}
 use Rattle.cif_canon.proofs.rows.push_journey.Goals as goal
 
 pub returns-clause-text : goal.returns-clause-text

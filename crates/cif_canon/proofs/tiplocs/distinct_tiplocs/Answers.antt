@@ -1,6 +1,5 @@
 -- Sorting permutes the locations, and of equal ones one is kept: so they rise strictly and are the same (`distinct`).
-use Rattle.cif_canon.proofs.Names.{IsPermutation, subst}
-use Rattle.cif_canon.proofs.DistinctTiplocs.{distinct}
+use Rattle.cif_canon.proofs.{DistinctTiplocs.distinct, Names.IsPermutation, Names.subst}
 use Rattle.cif_canon.proofs.tiplocs.distinct_tiplocs.Goals as goal
 
 pub returns : goal.returns

@@ -1,8 +1,6 @@
 -- The lesser of the first locations has moved behind the others, or both are passed (`moved`, `passed-both`).
 use Rattle.cif_canon.proofs.Names.{IfOk-weaker, IsFirstOrder, Left, Right, Some, subst}
-use Rattle.cif_canon.proofs.MergedSides.{moved-smaller}
-use Rattle.cif_canon.proofs.PairedRecords.{tail-is}
-use Rattle.cif_canon.proofs.SiftedTiplocs.{moved, passed-both}
+use Rattle.cif_canon.proofs.{PairedRecords.tail-is, SiftedTiplocs.moved, SiftedTiplocs.passed-both}
 use Rattle.cif_canon.proofs.tiplocs.pass_first.Goals as goal
 
 pub returns-in-Less-clause-sifting : goal.returns-in-Less-clause-sifting
@@ -11,20 +9,12 @@ returns-in-Less-clause-sifting c =
     moved left right c.args.found.now.items c.push_next.new.found.items Left c.args.lefts.now c.args.rights.now _ _
     (subst (λ o. IsFirstOrder c.args.lefts.now c.args.rights.now (Some o)) c.in-Less.is c.requires) has a) c.push_next.ensures
 
-pub returns-in-Less-clause-smaller : goal.returns-in-Less-clause-smaller
-returns-in-Less-clause-smaller c =
-    IfOk-weaker c.push_next.result _ _ (λ rest moved. moved-smaller Left _ _ _ _ _ _ moved) c.push_next.ensures
-
 pub returns-in-Greater-clause-sifting : goal.returns-in-Greater-clause-sifting
 returns-in-Greater-clause-sifting c =
     IfOk-weaker c.push_next-in-Greater.result _ _ (λ rest has left right a.
     moved left right c.args.found.now.items c.push_next-in-Greater.new.found.items Right c.args.lefts.now c.args.rights.now _ _
     (subst (λ o. IsFirstOrder c.args.lefts.now c.args.rights.now (Some o)) c.in-Greater.is c.requires) has a)
     c.push_next-in-Greater.ensures
-
-pub returns-in-Greater-clause-smaller : goal.returns-in-Greater-clause-smaller
-returns-in-Greater-clause-smaller c =
-    IfOk-weaker c.push_next-in-Greater.result _ _ (λ rest moved. moved-smaller Right _ _ _ _ _ _ moved) c.push_next-in-Greater.ensures
 
 pub returns-in-Equal-clause-sifting : goal.returns-in-Equal-clause-sifting
 returns-in-Equal-clause-sifting c left right a =

@@ -1,9 +1,6 @@
 -- The text is a fold over items: one more goes behind it (`one-more`).
-use Rattle.cif_canon.proofs.AppendedTexts.{all-items, nothing, one-more}
+use Rattle.cif_canon.proofs.AppendedTexts.{all-items, one-more}
 use Rattle.cif_canon.proofs.writing.write_each.Goals as goal
-
-pub loop-item-init : goal.loop-item-init
-loop-item-init g c = nothing _ _ _
 
 pub loop-item-preserved : goal.loop-item-preserved
 loop-item-preserved g c =

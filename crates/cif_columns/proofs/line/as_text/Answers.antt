@@ -1,7 +1,6 @@
 -- The fault can't come: printable bytes are ASCII, each below 128, and so they are UTF-8, by two lemmas of std.
 use Rattle.cif_columns.proofs.Names.{arith}
-use Rattle.std.proofs.lemmas.Str.{IsUtf8-from_ascii}
-use Rattle.std.proofs.lemmas.Str.Ascii.{IsAscii-from_all}
+use Rattle.std.proofs.{lemmas.Str.Ascii.IsAscii-from_all, lemmas.Str.IsUtf8-from_ascii}
 use Rattle.cif_columns.proofs.line.as_text.Goals as goal
 
 -- bytes that may stand in a line are ASCII

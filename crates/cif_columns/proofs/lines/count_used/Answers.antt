@@ -10,9 +10,6 @@ loop-i-preserved c =
     ∙ ap (λ n. cond (is_space (get_or columns c.loop-i.i 0)) n (c.loop-i.i + 1)) c.loop-i.invariant
     ∙ sym (used_next columns c.loop-i.i c.loop-i-test.true)
 
-pub returns-clause-value : goal.returns-clause-value
-returns-clause-value c = c.loop-i.invariant ∙ ap used (take_all c.loop-i.i c.args.columns.now c.loop-i-test.false)
-
 pub returns-clause-bound : goal.returns-clause-bound
 returns-clause-bound c =
     subst (λ n. n ≤ length c.args.columns.now)

@@ -1,6 +1,5 @@
--- One column more by `used_more`; at the end these are all columns.
-use Rattle.cif_columns.proofs.Names.{ap, arith, take_all, used, ◌∙◌}
-use Rattle.cif_columns.proofs.KeptLines.{used_more}
+-- One column more by `used_more`.
+use Rattle.cif_columns.proofs.{KeptLines.used_more, Names.arith, Names.◌∙◌}
 use Rattle.cif_columns.proofs.lines.used_in_line.Goals as goal
 
 pub loop-i-preserved : goal.loop-i-preserved
@@ -9,8 +8,3 @@ loop-i-preserved c =
     c.max-count.ensures
     ∙ used_more c.args.columns.now c.loop-i.i c.loop-i.count c.end_of.result (omega (arith, below, c.told-columns)) c.loop-i.invariant
     c.end_of.ensures
-
-pub returns : goal.returns
-returns c =
-    let over = c.loop-i-test.false in
-    c.loop-i.invariant ∙ ap used (take_all c.loop-i.i c.args.columns.now (omega (arith, over, c.told-columns)))

@@ -1,10 +1,7 @@
 -- A column more is that of the wide line (`column_more`), and then comes the line feed (`whole_text`).
-use Rattle.cif_columns.proofs.Names.{ap, arith, drop, length-set, refl, subst, take, wide, ◌-◌, ◌∙◌, ◌≡◌}
+use Rattle.cif_columns.proofs.Names.{ap, arith, drop, length-set, subst, take, wide, ◌-◌, ◌∙◌, ◌≡◌}
 use Rattle.cif_columns.proofs.WideLines.{column_more, whole_text}
 use Rattle.cif_columns.proofs.lines.widened.Goals as goal
-
-pub loop-i-init : goal.loop-i-init
-loop-i-init c = (refl, refl)
 
 pub loop-i-preserved : goal.loop-i-preserved
 loop-i-preserved c =

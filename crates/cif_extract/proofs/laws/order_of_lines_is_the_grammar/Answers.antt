@@ -1,6 +1,5 @@
 -- Laws of all extracts, by induction over records: the grammar and the table of what may follow agree place by place.
-use Rattle.cif_extract.proofs.OrderLaws.{spelled_fine}
-use Rattle.cif_extract.proofs.OrderOfLines.{in_order-begins, spelled-in_order}
+use Rattle.cif_extract.proofs.{OrderLaws.spelled_fine, OrderOfLines.in_order-begins, OrderOfLines.spelled-in_order}
 use Rattle.cif_extract.proofs.laws.order_of_lines_is_the_grammar.Goals as goal
 
 pub returns-clause-in_order : goal.returns-clause-in_order

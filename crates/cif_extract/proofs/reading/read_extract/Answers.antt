@@ -4,7 +4,8 @@ use Rattle.cif_extract.proofs.Names.{reading_ends, reading_faults, reading_line,
 use Rattle.cif_extract.proofs.Names.{◌≤◌}
 use Rattle.cif_columns.proofs.PassedLines.{next_passed}
 use Rattle.cif_columns.specs.declared.ahead.Most.TheVariants.{Of}
-use Rattle.cif_extract.proofs.FirstRefusals.{at_line}
+use Rattle.cif_extract.proofs.{FirstRefusals.at_line, ReadCalls.at-fault}
+use Rattle.cif_extract.specs.declared.fault.Fault.TheVariants.{Memory}
 use Rattle.cif_extract.proofs.ReadingRuns.{HasCome, come_more, come_none, comes-end, comes-line_fault, comes-memory, comes-untaken}
 use Rattle.cif_extract.proofs.ReadingRuns.{refused_here, refused_reason}
 use Rattle.cif_extract.proofs.reading.read_extract.Goals as goal
@@ -23,7 +24,7 @@ loop-columns-preserved-then-goes_on_plainly g c =
       reading_line g.R.Read.remaining _ _ _ _ ls so_far c.pass_line.new.self c.loop-columns.source columns next.answer next.past_now
           next.limit_now more,
       come_more c.args.max_lines ls columns plain.is_line room (progress_of c.loop-columns.reading) come
-          (progress_of c.take_plain_stop.new.self) c.in-Ok.ensures,
+          (progress_of c.take_plain_stop.new.self) c.in_ok-take_plain_stop.ensures,
       read_on,
     )
 
@@ -42,7 +43,7 @@ loop-columns-preserved-in-Some-goes_further_plainly g c =
       reading_line g.R.Read.remaining _ _ _ _ ls so_far passed.new.self c.loop-columns.source columns next.answer next.past_now
           next.limit_now more,
       come_more c.args.max_lines ls columns plain.is_line room (progress_of c.loop-columns.reading) come
-          (progress_of c.take_plain_further.new.self) c.in-Ok-take_plain_further.ensures,
+          (progress_of c.take_plain_further.new.self) c.in_ok-take_plain_further.ensures,
       read_on,
     )
 
@@ -59,7 +60,7 @@ loop-columns-preserved g c =
       reading_line g.R.Read.remaining _ _ _ _ ls so_far c.read_line.new.self c.read_line.new.source line next.answer next.past_now
           next.limit_now more,
       come_more c.args.max_lines ls line c.take.ensures.line room (progress_of c.loop-columns.reading) come (progress_of c.take.new.self)
-          c.in-Ok-take.ensures.taken,
+          c.in-Ok.ensures.taken,
       read_on_both _ _ _ _ read_on (next.device so_far.reads_on),
     )
 
@@ -71,27 +72,9 @@ loop-columns-init g c = (
   search rules,
 )
 
-pub take-requires : goal.take-requires
-take-requires g c = let (ls, so_far, come, read_on) = c.loop-columns.invariant in (come.taken.records, come.taken.read)
-
-pub take_plain_stop-requires : goal.take_plain_stop-requires
-take_plain_stop-requires g c = c.if-goes_on_plainly.ensures refl
-
-pub take_plain_further-requires-clause-read : goal.take_plain_further-requires-clause-read
-take_plain_further-requires-clause-read g c =
-    let (ls, so_far, come, read_on) = c.loop-columns.invariant in (come.taken.records, come.taken.read)
-
-pub pass_line-requires : goal.pass_line-requires
-pass_line-requires g c = (c.in-Some.columns.now, c.in-Some.ensures)
-
-pub loop-columns-smaller : goal.loop-columns-smaller
-loop-columns-smaller g c =
-    let next = rw c.in-Ok-true.field-0-test at c.in-Ok-true.ensures in
-    let more : given c.read_line.new.self ≡ given c.loop-columns.lines + 1 = next.counted in
-    omega (arith, more, next.limit_now, c.read_line.new.self.counted)
-
-pub returns-in_default-take_plain_stop : goal.returns-in_default-take_plain_stop
-returns-in_default-take_plain_stop g c = comes-memory _ _ c.args.max_lines _ _ c.loop-columns.invariant.3
+pub returns-in_err-take_plain_stop : goal.returns-in_err-take_plain_stop
+returns-in_err-take_plain_stop g c =
+    rw (at-fault c.from_residual.result Memory c.from_residual.ensures.1) (comes-memory _ _ c.args.max_lines _ _ c.loop-columns.invariant.3)
 
 pub returns-in-Err-take : goal.returns-in-Err-take
 returns-in-Err-take g c =

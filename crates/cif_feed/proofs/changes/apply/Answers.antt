@@ -1,8 +1,7 @@
 -- What is untouched, and then what is put last.
 use Rattle.cif_feed.proofs.Names.{AreLast, SaysThere, ap, at_keys, changes_of, eq_by_cmp_equiv, get, is_some, map, not, on_equiv, put_last}
 use Rattle.cif_feed.proofs.Names.{refusals, reverse, reverse-reverse, same_by, subst, sym, untouched, with_keys, ◌++◌, ◌∙◌, ◌≡◌}
-use Rattle.cif_feed.proofs.ChangeLaws.{after_all-untouched, reported_by_rank}
-use Rattle.cif_feed.proofs.ChangeSteps.{last-some, untouched-keys}
+use Rattle.cif_feed.proofs.{ChangeLaws.after_all-untouched, ChangeLaws.reported_by_rank, ChangeSteps.last-some, ChangeSteps.untouched-keys}
 use Rattle.cif_feed.proofs.changes.apply.Goals as goal
 
 pub returns-clause-records : goal.returns-clause-records

@@ -1,6 +1,5 @@
 -- What is kept is what no flag names.
-use Rattle.cif_feed.proofs.Names.{rules}
-use Rattle.cif_feed.proofs.ChangeSteps.{kept-by_flags}
+use Rattle.cif_feed.proofs.{ChangeSteps.kept-by_flags, Names.rules}
 use Rattle.cif_feed.specs.contracts.changes.fn.take_out.retain as closure
 use Rattle.cif_feed.proofs.changes.take_out.Goals as goal
 

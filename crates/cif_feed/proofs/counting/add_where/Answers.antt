@@ -1,12 +1,9 @@
 -- One date more is there, if it is wanted (`also-more`, `also-passed`).
 use Rattle.cif_feed.proofs.Names.{IsHoliday, IsTrue, List, false≢true, subst, sym, take_all, ℕ, ◌↔◌, ◌∙◌}
 use Rattle.std.specs.Cmp.{booleans_Decides}
-use Rattle.cif_feed.proofs.CountedClashes.{AreAlso, also-more, also-none, also-passed, wanted-not, wanted-so}
+use Rattle.cif_feed.proofs.CountedClashes.{AreAlso, also-more, also-passed, wanted-not, wanted-so}
 use Rattle.cif_feed.proofs.counting.add_where.Goals as goal
 use Rattle.cif_feed.proofs.counting.add_where.Goals.{then-has-wanted+in_ok-push, else-has-wanted}
-
-pub loop-day-init : goal.loop-day-init
-loop-day-init c = also-none (λ (d : ℕ). IsHoliday c.args.holidays.now c.args.code d ↔ IsTrue c.args.wanted) c.args.days.now.items
 
 pub loop-day-preserved : goal.loop-day-preserved
 loop-day-preserved c =

@@ -1,7 +1,6 @@
 -- What was added is sorted, and nothing stands twice in it (`merged-days`).
-use Rattle.cif_feed.proofs.Names.{IsHoliday}
+use Rattle.cif_feed.proofs.{CountedClashes.merged-days, Names.IsHoliday}
 use Rattle.std.proofs.lemmas.List.Filters.{dedup_is}
-use Rattle.cif_feed.proofs.CountedClashes.{merged-days}
 use Rattle.cif_feed.proofs.counting.merged.Goals as goal
 
 pub returns : goal.returns

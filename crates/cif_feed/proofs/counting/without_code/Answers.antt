@@ -1,15 +1,10 @@
 -- One position more is there, unless its entry has the code (`also-more`, `also-passed`).
-use Rattle.cif_feed.proofs.Names.{All-contains, Contains-get_or, Contains-none, HasCodeAt, List, [], false, false≢true}
-use Rattle.cif_feed.proofs.Names.{get_or, get_or_default, inr, length, rules, subst, sym, take_all, true, ℕ, ⊎_elim, ◌<◌, ◌∙◌, ◌≡◌}
-use Rattle.cif_feed.proofs.CountedClashes.{AreAlso, also-more, also-none, also-passed, code-here}
+use Rattle.cif_feed.proofs.Names.{All-contains, Contains-get_or, Contains-none, HasCodeAt, List, [], false, false≢true, get_or}
+use Rattle.cif_feed.proofs.Names.{get_or_default, inr, length, rules, subst, sym, take_all, true, ℕ, ⊎_elim, ◌<◌, ◌∙◌, ◌≡◌}
+use Rattle.cif_feed.proofs.CountedClashes.{AreAlso, also-more, also-passed, code-here}
 use Rattle.cif_feed.proofs.counting.without_code.Goals as goal
 use Rattle.cif_feed.proofs.counting.without_code.Given.{Over}
 use Rattle.cif_feed.proofs.counting.without_code.Goals.{After-loop-position, else-not-is_of, then-not-is_of+in_ok-push}
-
-pub loop-position-init : goal.loop-position-init
-loop-position-init g c =
-    let Q = λ (i : ℕ). ¬ HasCodeAt g.E.PublishedEntry.published c.args.entries.now c.args.code i in
-    subst (λ (l : List ℕ). AreAlso Q [] [] l) (sym c.new-rest.ensures.items) (also-none Q [])
 
 pub loop-position-preserved : goal.loop-position-preserved
 loop-position-preserved g c =

@@ -1,7 +1,6 @@
 -- The columns say which transaction it is (`association_read`).
-use Rattle.cif_feed.proofs.Names.{sym}
-use Rattle.cif_feed.proofs.FeedSteps.{association_read}
-use Rattle.cif_feed.specs.declared.mark.Transaction.TheVariants.{Deleted, New, Revised}
+use Rattle.cif_feed.proofs.{FeedSteps.association_read, Names.sym}
+use Rattle.cif_feed.specs.declared.mark.Transaction.TheVariants.{New, Revised}
 use Rattle.cif_feed.proofs.feed_line.read_association.Goals as goal
 
 pub returns-in-Some-New : goal.returns-in-Some-New
@@ -16,9 +15,3 @@ returns-in-Some-Revised c allowed =
     let put = c.put_association-in-Some-Revised in
     association_read a.feed allowed a.number a.line.now Revised (sym (rw c.in-Some-Revised.field-0-is at c.in-Some-Revised.ensures.exact))
     put.result put.ensures
-
-pub returns-in-Some-Deleted : goal.returns-in-Some-Deleted
-returns-in-Some-Deleted c allowed =
-    let a = c.args in
-    association_read a.feed allowed a.number a.line.now Deleted (sym (rw c.in-Some-Deleted.field-0-is at c.in-Some-Deleted.ensures.exact))
-    c.deleted_association.result c.deleted_association.ensures

@@ -1,6 +1,5 @@
 -- The columns say which transaction it is (`basic_read`).
-use Rattle.cif_feed.proofs.Names.{sym}
-use Rattle.cif_feed.proofs.FeedSteps.{basic_put, basic_read}
+use Rattle.cif_feed.proofs.{FeedSteps.basic_put, FeedSteps.basic_read, Names.sym}
 use Rattle.cif_feed.specs.declared.mark.Transaction.TheVariants.{Deleted, New, Revised}
 use Rattle.cif_feed.proofs.feed_line.read_basic.Goals as goal
 

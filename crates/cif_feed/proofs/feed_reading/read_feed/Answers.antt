@@ -6,9 +6,12 @@ use Rattle.cif_feed.proofs.Names.{◌∙◌, ◌∷◌, ◌≡◌, ◌≤◌}
 use Rattle.cif_columns.proofs.PassedLines.{next_passed}
 use Rattle.cif_columns.specs.declared.ahead.Most.TheVariants.{InFeed}
 use Rattle.cif_columns.specs.LineReader.{given}
+use Rattle.cif_extract.proofs.ReadCalls.{at-fault}
+use Rattle.cif_extract.specs.declared.fault.Fault.TheVariants.{Memory}
 use Rattle.cif_feed.proofs.FeedRuns.{at_feed_line, comes-end, comes-line_fault, comes-memory, comes-untaken, comment_fine, feed_comment}
 use Rattle.cif_feed.proofs.FeedRuns.{feed_line, feed_reason, few_lines, line_why, none_more, none_none, room_more, room_one}
 use Rattle.cif_feed.proofs.SaidLines.{marked_result}
+use Rattle.cif_feed.specs.declared.feed_fault.FeedFault.TheVariants.{Extract}
 use Rattle.cif_feed.proofs.feed_reading.read_feed.Goals as goal
 
 pub loop-columns-init : goal.loop-columns-init
@@ -25,7 +28,7 @@ pub loop-columns-preserved-in-loop-columns : goal.loop-columns-preserved-in-loop
 loop-columns-preserved-in-loop-columns g c =
     let (cs, so_far, taken, fine, read_on) = c.loop-columns.invariant in
     let columns = c.in-Some.columns.now in
-    let stop = c.in-Ok.ensures c.args.feed c.args.allowed cs taken in
+    let stop = c.in_ok-take_plain_stop.ensures c.args.feed c.args.allowed cs taken in
     let next = next_passed g.R.Read.remaining g.R.ReadDevice.read_errors InFeed c.loop-columns.lines c.pass_line.new.self
     c.loop-columns.source columns c.in-Some.ensures stop.is_line.printable c.pass_line.ensures in
     let more : given c.pass_line.new.self ≡ given c.loop-columns.lines + 1 = next.counted in
@@ -54,8 +57,8 @@ take-requires-clause-counts g c =
     room_more cs c.loop-columns.reading.marks.counts (ap (λ (m : MarkParts). m.counts) taken.marks)
     (few_lines c.read_content.new.self cs (given c.loop-columns.lines) got.0.counted so_far.counted)
 
-pub loop-columns-preserved-in-Ok-take : goal.loop-columns-preserved-in-Ok-take
-loop-columns-preserved-in-Ok-take g c =
+pub loop-columns-preserved-in-Ok : goal.loop-columns-preserved-in-Ok
+loop-columns-preserved-in-Ok g c =
     let (cs, so_far, taken, fine, read_on) = c.loop-columns.invariant in
     let got = rw c.in-Ok-Line.field-0-is at c.in-Ok-Line.ensures in
     let next = got.0 in
@@ -64,13 +67,13 @@ loop-columns-preserved-in-Ok-take g c =
     let room : length cs < c.args.max_lines =
     omega (arith, more, so_far.counted, so_far.same_limit, next.limit_now, c.read_content.new.self.counted) in
     let number : c.line_number-number.result ≡ length cs + 1 = omega (arith, c.line_number-number.ensures, more, so_far.counted) in
-    let now = c.in-Ok-take.ensures.taken cs taken number in (
+    let now = c.in-Ok.ensures.taken cs taken number in (
       cs ++ line ∷ [],
       feed_line g.R.Read.remaining g.R.ReadDevice.read_errors _ _ _ _ cs so_far c.read_content.new.self c.read_content.new.source line
-          c.in-Ok-take.ensures.line next,
+          c.in-Ok.ensures.line next,
       now.1,
       none_more c.args.feed c.args.allowed c.args.max_lines cs line fine
-          (line_why c.args.feed c.args.allowed c.args.max_lines cs line c.in-Ok-take.ensures.line got.1 room ∙ now.0),
+          (line_why c.args.feed c.args.allowed c.args.max_lines cs line c.in-Ok.ensures.line got.1 room ∙ now.0),
       read_on_both _ _ _ _ read_on (next.device so_far.reads_on),
     )
 
@@ -104,20 +107,10 @@ returns-in-Ok-End-clause-marked g c =
     marked_result c.args.feed c.args.allowed cs c.finish.result
     (c.finish.ensures.held c.args.feed c.args.allowed cs taken)
 
-pub loop-columns-smaller-in-loop-columns : goal.loop-columns-smaller-in-loop-columns
-loop-columns-smaller-in-loop-columns g c =
-    let more : given c.pass_line.new.self ≡ given c.loop-columns.lines + 1 = c.pass_line.ensures.counted in
-    omega (arith, more, c.pass_line.ensures.limit_now, c.pass_line.new.self.counted)
-
-pub loop-columns-smaller-in-Ok-take : goal.loop-columns-smaller-in-Ok-take
-loop-columns-smaller-in-Ok-take g c =
-    let got = rw c.in-Ok-Line.field-0-is at c.in-Ok-Line.ensures in
-    let more : given c.read_content.new.self ≡ given c.loop-columns.lines + 1 = got.0.counted in
-    omega (arith, more, got.0.limit_now, c.read_content.new.self.counted)
-
-pub returns-in_default-clause-reads : goal.returns-in_default-clause-reads
-returns-in_default-clause-reads g c =
-    comes-memory c.args.feed c.args.allowed c.args.max_lines _ _ _ _ c.loop-columns.invariant.4
+pub returns-in_err-take_plain_stop-clause-reads : goal.returns-in_err-take_plain_stop-clause-reads
+returns-in_err-take_plain_stop-clause-reads g c =
+    rw (at-fault c.from_residual.result (Extract Memory) c.from_residual.ensures.1)
+    (comes-memory c.args.feed c.args.allowed c.args.max_lines _ _ _ _ c.loop-columns.invariant.4)
 
 pub returns-in-Err-take-clause-reads : goal.returns-in-Err-take-clause-reads
 returns-in-Err-take-clause-reads g c =

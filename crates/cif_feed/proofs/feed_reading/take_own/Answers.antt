@@ -1,10 +1,8 @@
 -- It is taken as a line of an extract of this profile is (`own_taken`), and its kind tells its mark (`own_marked`).
 use Rattle.cif_feed.proofs.Names.{Err, HolidayCodes, IsMarkedTaken, IsOwn, IsRecordTaken, IsTaken, Ok, Result, TakeFault, own_layouts}
 use Rattle.cif_feed.proofs.Names.{progress_of, refusal_at, subst, sym, ◌∙◌}
-use Rattle.cif_feed.proofs.FeedSteps.{own_taken}
-use Rattle.cif_feed.proofs.MarkLaws.{own_marked, passed_on}
+use Rattle.cif_feed.proofs.{FeedSteps.own_taken, MarkLaws.own_marked, MarkLaws.passed_on, feed_reading.take_own.Goals.After-take}
 use Rattle.cif_feed.proofs.feed_reading.take_own.Goals as goal
-use Rattle.cif_feed.proofs.feed_reading.take_own.Goals.{After-take}
 
 module _ (c : After-take) where
   taken : (allowed : HolidayCodes) (result : Result Unit TakeFault)

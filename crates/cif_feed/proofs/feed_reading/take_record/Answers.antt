@@ -1,16 +1,14 @@
--- It is refused where it may not stand (`out_of_place`), or for its fields (`in_place`); the record that it spells is put (`put_taken`).
-use Rattle.cif_feed.proofs.Names.{Err, IsKeepable, IsMarkedTaken, Kind, Mark, Ok, Progress, Record, Refusal, Result, Some, SpellsInFeed}
-use Rattle.cif_feed.proofs.Names.{TakeFault, UnlessMemory, ap, feed_refusal_as, kind_in, mark_of, may_stand}
-use Rattle.cif_feed.proofs.Names.{progress_of, read_as, refl, step, sym}
-use Rattle.cif_feed.proofs.Names.{true, ◌∙◌, ◌≡◌}
+-- It is refused for its fields (`in_place`), or the record that it spells is put (`put_taken`).
+use Rattle.cif_feed.proofs.Names.{IsKeepable, IsMarkedTaken, Kind, Mark, Ok, Progress, Record, Refusal, Result, Some, SpellsInFeed}
+use Rattle.cif_feed.proofs.Names.{TakeFault, ap, feed_refusal_as, kind_in, mark_of, may_stand, progress_of, read_as, refl, step, sym, true}
+use Rattle.cif_feed.proofs.Names.{◌∙◌, ◌≡◌}
 use Rattle.std.specs.Result.{IsErrAnd}
 use Rattle.cif_records.specs.declared.record.Record.TheVariants as of
-use Rattle.cif_extract.specs.declared.reading.TakeFault.TheVariants.{Memory, Refused}
-use Rattle.cif_feed.proofs.FeedSteps.{in_place, out_of_place, put_taken, unnamed}
-use Rattle.cif_feed.proofs.MarkLaws.{passed_on}
+use Rattle.cif_extract.specs.declared.reading.TakeFault.TheVariants.{Refused}
+use Rattle.cif_feed.proofs.FeedSteps.{in_place, put_taken}
+use Rattle.cif_feed.proofs.{MarkLaws.passed_on, feed_reading.take_record.Goals.Else-not-allows}
 use Rattle.cif_feed.specs.declared.mark.Mark.TheVariants as mark
 use Rattle.cif_feed.proofs.feed_reading.take_record.Goals as goal
-use Rattle.cif_feed.proofs.feed_reading.take_record.Goals.{Else-not-allows}
 
 module _ (c : Else-not-allows) where
   abbrev before : Progress
@@ -40,25 +38,9 @@ module _ (c : Else-not-allows) where
         → m ≡ mark_of c.args.allowed (Some kind) (c.args.number, c.args.line.now)
         → IsKeepable r × (after ≡ step before r) → Taken after (Ok m)
     put m kind is marked taken = (
-      put_taken c.args.feed c.args.allowed c.args.line.now before c.in-Some.kind named may r spells (Ok tt) after taken,
+      put_taken c.args.feed c.args.allowed c.args.line.now before c.in-Some.kind named may r spells after taken,
       marked ∙ ap (λ k. mark_of c.args.allowed k (c.args.number, c.args.line.now)) (ap Some (sym is) ∙ named),
     )
-
-    -- or memory runs out
-    unput : (fault : TakeFault) → UnlessMemory ⊥ (Err fault) → (result : Result Mark TakeFault)
-        → IsErrAnd result (λ e. e ≡ fault) → Taken after result
-    unput Memory memory result handed = passed_on (Taken after) Memory result handed tt
-    unput (Refused why) memory result handed = absurd memory
-
-pub returns-then-not-allows : goal.returns-then-not-allows
-returns-then-not-allows c =
-    out_of_place c.args.feed c.args.allowed c.args.line.now (progress_of c.args.reading.now) c.in-Some.kind
-    (sym c.in-Some.is ∙ c.kind_of.ensures.kind)
-    (ap (may_stand c.args.reading.now.place) (sym c.read_as.ensures) ∙ sym c.allows.ensures ∙ c.if-not-allows.true)
-
-pub returns-in_default : goal.returns-in_default
-returns-in_default c =
-    unnamed c.args.feed c.args.allowed c.args.line.now (progress_of c.args.reading.now) (sym c.kind_of.ensures.kind ∙ c.in_default.is)
 
 -- ---- HD
 
@@ -91,14 +73,6 @@ returns-in_err-association-in-Aa-default c =
     refused (goal.at.returns-in_err-association-in-Aa-default c).Else-not-allows _ c.in-Aa-default.is-0 read.field-0.0
     (read.ensures c.args.allowed) _ handed.result handed.ensures.1
 
-pub returns-in_err-put_association-in-Aa-default : goal.returns-in_err-put_association-in-Aa-default
-returns-in_err-put_association-in-Aa-default c =
-    let read = c.in_ok-association-in-Aa-default in
-    let put = c.in_err-put_association-in-Aa-default in
-    let handed = c.from_residual-in_err-put_association-in-Aa-default in
-    unput (goal.at.returns-in_err-put_association-in-Aa-default c).Else-not-allows (of.Association read.association)
-    (read.ensures c.args.allowed).1.0 (progress_of c.put_association.new.self) put.field-0.0 put.ensures handed.result handed.ensures.1
-
 -- ---- BS
 
 pub returns-in_ok-put_basic-in-Bs-default : goal.returns-in_ok-put_basic-in-Bs-default
@@ -109,21 +83,6 @@ returns-in_ok-put_basic-in-Bs-default c =
     (progress_of c.put_basic.new.self) (mark.Schedule read.mark) _ c.in-Bs-default.is-0 (ap mark.Schedule is.1)
     (c.in_ok-put_basic-in-Bs-default.ensures is.0.basic is.0.terms is.0.detail)
 
-pub returns-in_err-terms-in-Bs-default : goal.returns-in_err-terms-in-Bs-default
-returns-in_err-terms-in-Bs-default c =
-    let read = c.in_err-terms-in-Bs-default in
-    let handed = c.from_residual-in_err-terms-in-Bs-default in
-    refused (goal.at.returns-in_err-terms-in-Bs-default c).Else-not-allows _ c.in-Bs-default.is-0 read.field-0.0 read.ensures _
-    handed.result handed.ensures.1
-
-pub returns-in_err-put_basic-in-Bs-default : goal.returns-in_err-put_basic-in-Bs-default
-returns-in_err-put_basic-in-Bs-default c =
-    let is = c.in_ok-terms-in-Bs-default.ensures.1.0 in
-    let put = c.in_err-put_basic-in-Bs-default in
-    let handed = c.from_residual-in_err-put_basic-in-Bs-default in
-    unput (goal.at.returns-in_err-put_basic-in-Bs-default c).Else-not-allows (of.Basic is.basic) is.spells
-    (progress_of c.put_basic.new.self) put.field-0.0 (put.ensures is.basic is.terms is.detail) handed.result handed.ensures.1
-
 -- ---- TI, TA and TD
 
 pub returns-in_ok-put_tiploc-in-Ti-default : goal.returns-in_ok-put_tiploc-in-Ti-default
@@ -133,15 +92,4 @@ returns-in_ok-put_tiploc-in-Ti-default c =
     (progress_of c.put_tiploc.new.self) (mark.Tiploc read.result.1) c.in-Some.kind refl (read.ensures.mark c.args.allowed)
     (tt, c.in_ok-put_tiploc-in-Ti-default.ensures)
 
-pub returns-in_err-put_tiploc-in-Ti-default : goal.returns-in_err-put_tiploc-in-Ti-default
-returns-in_err-put_tiploc-in-Ti-default c =
-    let put = c.in_err-put_tiploc-in-Ti-default in
-    let handed = c.from_residual-in_err-put_tiploc-in-Ti-default in
-    unput (goal.at.returns-in_err-put_tiploc-in-Ti-default c).Else-not-allows (of.Tiploc c.read_tiploc.result.0)
-    (c.read_tiploc.ensures.spells c.args.allowed) (progress_of c.put_tiploc.new.self) put.field-0.0 put.ensures handed.result
-    handed.ensures.1
-
 -- ---- any other
-
-pub returns-in_default-2 : goal.returns-in_default-2
-returns-in_default-2 c = c.take_own.ensures c.args.allowed c.args.number

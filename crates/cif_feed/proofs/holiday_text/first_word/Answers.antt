@@ -1,8 +1,8 @@
 -- The loop passes spaces; what stands before the next space is a word (`first-some`), or no word is left (`first-none`).
 use Rattle.cif_feed.proofs.Names.{List, ap, arith, before_first, drop, length, sym, take_rest, words_in, ℕ, ◌==◌, ◌∙◌, ◌∷◌}
-use Rattle.cif_feed.proofs.HolidayLines.{first-none, first-some, words-space_at}
+use Rattle.cif_feed.proofs.{HolidayLines.first-none, HolidayLines.first-some, holiday_text.first_word.Goals.else-loop-start-test}
+use Rattle.cif_feed.proofs.{holiday_text.first_word.Goals.then-loop-start-test+else-bytes-start-eq32}
 use Rattle.cif_feed.proofs.holiday_text.first_word.Goals as goal
-use Rattle.cif_feed.proofs.holiday_text.first_word.Goals.{else-loop-start-test, then-loop-start-test+else-bytes-start-eq32}
 
 pub returns-clause-none : goal.returns-clause-none
 returns-clause-none c = λ empty.
@@ -21,9 +21,3 @@ returns-clause-some c = λ some.
     (c.before_byte-word.ensures ∙ ap (before_first (λ (b : ℕ). b == 32)) from) some
     ∙ ap (λ (l : List ℕ). c.before_byte-word.result.now ∷ words_in l)
     (sym (take_rest _ (length c.before_byte-word.result.now) ∙ ap (drop (length c.before_byte-word.result.now)) from))
-
-pub loop-start-preserved : goal.loop-start-preserved
-loop-start-preserved c = (
-  omega arith,
-  sym (words-space_at c.args.bytes.now c.loop-start.start c.loop-start-test.true c.if-bytes-start-eq32.true) ∙ c.loop-start.invariant.1,
-)

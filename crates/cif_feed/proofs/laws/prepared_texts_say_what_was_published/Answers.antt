@@ -1,7 +1,6 @@
 -- Bytes spell one extract, and the prepared one says what the published one does (`says-published`).
 use Rattle.cif_feed.proofs.Names.{AreDroppedIf, SayAsPublished, codes_named, contents_of, one_spelled, subst}
-use Rattle.cif_feed.proofs.PreparedRuns.{says-published}
-use Rattle.cif_feed.proofs.SpelledFeeds.{one_published}
+use Rattle.cif_feed.proofs.{PreparedRuns.says-published, SpelledFeeds.one_published}
 use Rattle.cif_feed.proofs.laws.prepared_texts_say_what_was_published.Goals as goal
 
 pub returns : goal.returns

@@ -1,6 +1,5 @@
 -- The records are those of the published extract, on other days.
-use Rattle.cif_feed.proofs.Names.{text-spells}
-use Rattle.cif_feed.proofs.PreparedFits.{prepared_fits}
+use Rattle.cif_feed.proofs.{Names.text-spells, PreparedFits.prepared_fits}
 use Rattle.cif_feed.proofs.laws.prepared_texts_spell_extracts.Goals as goal
 
 pub returns-clause-fits : goal.returns-clause-fits

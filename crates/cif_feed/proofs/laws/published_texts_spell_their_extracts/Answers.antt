@@ -1,6 +1,5 @@
 -- Each written line spells its record, and its mark is what was written over it.
-use Rattle.cif_feed.proofs.Names.{all_codes}
-use Rattle.cif_feed.proofs.FittingUpdates.{updated_fits}
+use Rattle.cif_feed.proofs.{FittingUpdates.updated_fits, Names.all_codes}
 use Rattle.cif_feed.proofs.PublishedTexts.{may_any, published-lines, published-spells, said_fits}
 use Rattle.cif_feed.proofs.laws.published_texts_spell_their_extracts.Goals as goal
 
@@ -9,9 +8,6 @@ returns-clause-fits c = said_fits
 
 pub returns-clause-spells : goal.returns-clause-spells
 returns-clause-spells c = λ allowed max p fits may within. published-spells allowed p fits may max within
-
-pub returns-clause-any_codes : goal.returns-clause-any_codes
-returns-clause-any_codes c = λ p. may_any p.schedules
 
 pub returns-clause-lines : goal.returns-clause-lines
 returns-clause-lines c = λ p fits. published-lines all_codes p fits (may_any p.schedules)

@@ -1,7 +1,6 @@
 -- Each line has its record and its mark, of which its change is made.
-use Rattle.cif_feed.proofs.Names.{contents_of}
+use Rattle.cif_feed.proofs.{Names.contents_of, SameDeletions.one_association_deletion, SameDeletions.one_schedule_deletion}
 use Rattle.cif_feed.proofs.SaidLines.{associations_said, schedules_said, tiplocs_said}
-use Rattle.cif_feed.proofs.SameDeletions.{one_association_deletion, one_schedule_deletion}
 use Rattle.cif_feed.proofs.laws.updates_say_what_their_lines_say.Goals as goal
 
 pub returns-clause-locations : goal.returns-clause-locations

@@ -1,9 +1,6 @@
 -- There is one at most, and what is spelled isn't blamed.
-use Rattle.cif_feed.proofs.HolidayLines.{holidays_as}
-use Rattle.cif_feed.proofs.JudgedRuns.{judged_as}
-use Rattle.cif_feed.proofs.SpelledFeeds.{published_as, update_as}
-use Rattle.cif_feed.proofs.UpdatesInTurn.{updated_blames_none}
-use Rattle.cif_feed.proofs.WrittenPrepared.{prepared_blames_none}
+use Rattle.cif_feed.proofs.{HolidayLines.holidays_as, JudgedRuns.judged_as, SpelledFeeds.published_as, SpelledFeeds.update_as}
+use Rattle.cif_feed.proofs.{UpdatesInTurn.updated_blames_none, WrittenPrepared.prepared_blames_none}
 use Rattle.cif_feed.proofs.laws.what_bytes_spell_is_read.Goals as goal
 
 pub returns-clause-published : goal.returns-clause-published

@@ -1,6 +1,5 @@
 -- It is the one that was made.
-use Rattle.cif_feed.proofs.Names.{refl}
-use Rattle.cif_feed.proofs.PartLists.{pushed-is}
+use Rattle.cif_feed.proofs.{Names.refl, PartLists.pushed-is}
 use Rattle.cif_feed.proofs.prepared_record.push.Goals as goal
 
 pub returns : goal.returns

@@ -1,7 +1,6 @@
 -- The last of the records and of the marks go to the front of what is made.
-use Rattle.cif_feed.proofs.Names.{ArePairs, [], ap, append-nil, append_assoc, arith, nil_from_length, reverse-append, subst, sym, ◌++◌, ◌∙◌}
-use Rattle.cif_feed.proofs.Names.{◌∷◌, ◌≡◌}
-use Rattle.cif_feed.proofs.ListSteps.{pairs_last, pairs_none, pairs_some}
+use Rattle.cif_feed.proofs.Names.{ArePairs, [], ap, append-nil, append_assoc, reverse-append, subst, sym, ◌++◌, ◌∙◌, ◌∷◌}
+use Rattle.cif_feed.proofs.ListSteps.{pairs_last, pairs_some}
 use Rattle.cif_feed.proofs.published_extract.from_lines.Goals as goal
 
 pub loop-entry-init : goal.loop-entry-init
@@ -37,12 +36,3 @@ loop-entry-preserved g c =
       marks_are ∙ ap (λ l. l ++ marks) c.last_of.ensures ∙ append_assoc c.last_of.new.marks.items (c.last_of.result ∷ []) marks,
       rw (c.in_ok-push.ensures.items, reverse-append c.loop-entry.made.items (c.from_line.result ∷ [])) (c.from_line.ensures, made),
     )
-
-pub returns : goal.returns
-returns g c =
-    let (pairs, entries, marks, entries_are, marks_are, made) = c.loop-entry.invariant in
-    let none : c.loop-entry.entries.items ≡ [] =
-    nil_from_length c.loop-entry.entries.items (omega (arith, c.in_default.ensures.cases.0, c.loop-entry.entries.ok.0)) in
-    let no_marks = pairs_none g.T.FromLine.may c.loop-entry.marks.items
-    (subst (λ l. ArePairs g.T.FromLine.may l c.loop-entry.marks.items) none pairs) in
-    rw (c.reverse.ensures.items, entries_are, marks_are, none, no_marks) made

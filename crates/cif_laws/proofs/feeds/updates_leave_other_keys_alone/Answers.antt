@@ -1,6 +1,6 @@
 -- The records of a key that no change is of are the same (`key-alone`).
-use Rattle.cif_feed.specs.PublishedParts.{published_association_terms, published_schedule_terms}
-use Rattle.cif_feed.specs.Updated.{published_association_key, published_schedule_key}
+use Rattle.cif_feed.specs.{PublishedParts.published_association_terms, PublishedParts.published_schedule_terms}
+use Rattle.cif_feed.specs.{Updated.published_association_key, Updated.published_schedule_key}
 use Rattle.cif_laws.proofs.OtherKeys.{key-alone}
 use Rattle.cif_laws.proofs.feeds.updates_leave_other_keys_alone.Goals as goal
 

@@ -1,9 +1,8 @@
 -- Three rows are put, which are a whole table.
 use Rattle.cif_records.proofs.Names.{AllFit, List, Row, [], ap, arith, exactly, length, length-columns, length-plain_line, plain_line}
 use Rattle.cif_records.proofs.Names.{put_all, put_all-plain_line, refl, replicate, row, spare, ℕ, ◌++◌, ◌∙◌, ◌∷◌, ◌≡◌}
-use Rattle.cif_records.proofs.Rows.{onto, ◌&◌}
+use Rattle.cif_records.proofs.{Rows.onto, Rows.◌&◌, detail.columns_alone.Goals.After-put_spare-2}
 use Rattle.cif_records.proofs.detail.columns_alone.Goals as goal
-use Rattle.cif_records.proofs.detail.columns_alone.Goals.{After-put_spare-2}
 
 abbrev rows : After-put_spare-2 → List Row
 rows c = row 1 29 spare ∷ row 30 78 (exactly c.columns_at.result) ∷ row 79 80 spare ∷ []

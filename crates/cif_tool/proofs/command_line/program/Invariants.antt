@@ -1,6 +1,5 @@
 -- With the subcommands that are left, the command has all.
-use Rattle.cif_tool.proofs.Names.{cif, drop}
-use Rattle.cif_tool.proofs.CommandBuilt.{IsGrowing}
+use Rattle.cif_tool.proofs.{CommandBuilt.IsGrowing, Names.cif, Names.drop}
 use Rattle.cif_tool.proofs.command_line.program.Given as goal
 
 abbrev pub invariant-loop-parts : goal.invariant-loop-parts

@@ -1,6 +1,5 @@
 -- One argument after another is taken (`argument_taken`), and then the subcommand is added.
-use Rattle.cif_tool.proofs.Names.{App, IfOk-weaker, ap, app_of, ap₂, argument, at_drop_all, sym, taking, with_subcommand, ◌||◌}
-use Rattle.cif_tool.proofs.Names.{◌∙◌}
+use Rattle.cif_tool.proofs.Names.{App, IfOk-weaker, ap, app_of, ap₂, argument, at_drop_all, sym, taking, with_subcommand, ◌||◌, ◌∙◌}
 use Rattle.cif_tool.proofs.CommandBuilt.{argument_taken, none_taken}
 use Rattle.cif_tool.proofs.command_line.with_parts.Goals as goal
 

@@ -1,12 +1,8 @@
 -- The records at the positions of the train are its records.
-use Rattle.cif_views.proofs.Names.{All, AreDayStates, ArePositionsOf, IfOk-weaker, Schedule, length, of_key, positions-records}
-use Rattle.cif_views.proofs.Names.{schedule_entries, schedule_terms, subst, sym, ◌+◌, ◌<◌}
+use Rattle.cif_views.proofs.Names.{AreDayStates, ArePositionsOf, IfOk-weaker, Schedule, of_key, positions-records, schedule_entries}
+use Rattle.cif_views.proofs.Names.{schedule_terms, subst, sym, ◌+◌}
 use Rattle.cif_calendar.proofs.DayStates.{AreDayStates-same}
 use Rattle.cif_views.proofs.calendar_weeks.states_of_train.Goals as goal
-
-pub day_states-requires : goal.day_states-requires
-day_states-requires c =
-    subst (All (λ i. i < length c.args.schedules.now)) (sym c.as_slice.ensures.value) c.in_ok-positions.ensures.within
 
 pub returns : goal.returns
 returns c =

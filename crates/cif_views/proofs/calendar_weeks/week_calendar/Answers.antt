@@ -4,9 +4,6 @@ use Rattle.cif_views.proofs.Names.{flat_map, of_key, schedule_entries, state_in,
 use Rattle.cif_views.proofs.WeekLines.{is-calendar}
 use Rattle.cif_views.proofs.calendar_weeks.week_calendar.Goals as goal
 
-pub write_weeks-requires : goal.write_weeks-requires
-write_weeks-requires g c = rw c.as_slice-2.ensures.value c.in_ok-states.ensures.many
-
 pub returns-clause-view : goal.returns-clause-view
 returns-clause-view g c =
     let first = c.of-window.result.first in

@@ -1,18 +1,9 @@
 -- One week more goes behind the others (`range-push`).
-use Rattle.cif_views.proofs.Names.{IsAppended, List, [], ap, arith, flat_map, range_with_len, state_in, subst, sym, week_line, week_of, ℕ}
-use Rattle.cif_views.proofs.Names.{◌+◌, ◌-◌, ◌∙◌, ◌≡◌}
-use Rattle.cif_canon.proofs.AppendedTexts.{behind, nothing, text-is}
+use Rattle.cif_views.proofs.Names.{IsAppended, List, ap, arith, flat_map, range_with_len, state_in, subst, sym, week_line, week_of, ℕ, ◌+◌}
+use Rattle.cif_views.proofs.Names.{◌-◌, ◌∙◌, ◌≡◌}
+use Rattle.cif_canon.proofs.AppendedTexts.{behind}
 use Rattle.cif_views.proofs.WeekLines.{range-push}
 use Rattle.cif_views.proofs.calendar_weeks.write_weeks.Goals as goal
-
-pub loop-week-init : goal.loop-week-init
-loop-week-init g c =
-    let w = c.args.window.now in
-    let line = week_line w.first w.last (state_in w.first c.args.states.now) in
-    let a = week_of w.first in
-    let none : 0 ≡ c.week-week.result - a = omega arith in
-    text-is _ _ [] (flat_map line (range_with_len a (c.week-week.result - a))) _ _ (ap (λ n. flat_map line (range_with_len a n)) none)
-    (nothing _ _ c.args.sink.now)
 
 pub loop-week-preserved : goal.loop-week-preserved
 loop-week-preserved g c =

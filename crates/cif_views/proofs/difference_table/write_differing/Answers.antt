@@ -1,11 +1,8 @@
 -- The text is a fold over fields: one more goes behind it (`one-more`).
 use Rattle.cif_views.proofs.Names.{all-items, column, field_row, flat_map-map, get_or_default, sym}
-use Rattle.cif_canon.proofs.AppendedTexts.{nothing, one-more, text-is}
+use Rattle.cif_canon.proofs.AppendedTexts.{one-more, text-is}
 use Rattle.cif_views.proofs.DifferingFields.{text-at}
 use Rattle.cif_views.proofs.difference_table.write_differing.Goals as goal
-
-pub loop-field-init : goal.loop-field-init
-loop-field-init g c = nothing _ _ _
 
 pub write_field-requires-clause-field : goal.write_field-requires-clause-field
 write_field-requires-clause-field g c =

@@ -1,24 +1,10 @@
 -- The cells are as one (`same-cells`), or else they go behind the row and are one (`other-cells`).
-use Rattle.cif_views.proofs.Names.{IsTrue, Whole, [], ap, arith, column, is_span, length, length-append, subst, sym, ℕ, ◌∙◌, ◌∷◌}
+use Rattle.cif_views.proofs.Names.{Whole, [], column, ◌∙◌, ◌∷◌}
 use Rattle.cif_canon.proofs.AppendedTexts.{nothing, text-is}
-use Rattle.cif_views.proofs.DifferingFields.{other-cells, same-cells, short-name, text-span}
+use Rattle.cif_views.proofs.DifferingFields.{other-cells, same-cells}
 use Rattle.cif_views.proofs.TableRows.{as-field, copied, more-pushed, row-is}
 use Rattle.cif_views.specs.DifferenceTable.{text}
 use Rattle.cif_views.proofs.difference_table.write_field.Goals as goal
-
-pub text_of-one-requires : goal.text_of-one-requires
-text_of-one-requires g c =
-    subst (λ (s : ℕ × ℕ). IsTrue (is_span s)) (sym c.span_in-span.ensures)
-    (text-span (column c.args.field.now) c.requires.field c.args.kind)
-
-pub text_of-other-requires : goal.text_of-other-requires
-text_of-other-requires g c =
-    subst (λ (s : ℕ × ℕ). IsTrue (is_span s)) (sym c.span_in-span.ensures)
-    (text-span (column c.args.field.now) c.requires.field c.args.kind)
-
-pub push_text-requires : goal.push_text-requires
-push_text-requires g c =
-    omega (arith, c.requires.begun, short-name (column c.args.field.now) c.requires.field, ap length c.copy-row.ensures)
 
 pub returns-then-eq : goal.returns-then-eq
 returns-then-eq g c =
@@ -26,10 +12,6 @@ returns-then-eq g c =
     (same-cells (column c.args.field.now) c.requires.field c.args.begun.now c.args.kind c.args.left.now c.args.right.now
     c.text_of-one.result.now c.text_of-other.result.now c.span_in-span.result c.span_in-span.ensures c.text_of-one.ensures.text
     c.text_of-other.ensures.text _ c.eq.ensures c.if-eq.true) (nothing _ _ _)
-
-pub write-requires-clause-some : goal.write-requires-clause-some
-write-requires-clause-some g c =
-    let long = ap length c.push-2.ensures.text ∙ length-append c.push.new.self _ in omega (arith, long)
 
 pub returns : goal.returns
 returns g c =

@@ -1,26 +1,8 @@
--- One place more is written (`one-place`), until none is left (`no-place`).
-use Rattle.cif_views.proofs.Names.{[], ap, arith, both, is_call, length, place_behind, places_behind, refl, ◌++◌}
-use Rattle.cif_canon.proofs.AppendedTexts.{nothing, text-is}
-use Rattle.cif_views.proofs.DifferingFields.{as-many, no-place, one-place, rest-places}
-use Rattle.cif_views.proofs.TableRows.{first-and-rest, next-call, no-lines, some-lines}
+-- One place more is written (`one-place`).
+use Rattle.cif_views.proofs.Names.{arith, both, is_call, place_behind, places_behind, ◌++◌}
+use Rattle.cif_views.proofs.DifferingFields.{as-many, one-place, rest-places}
+use Rattle.cif_views.proofs.TableRows.{first-and-rest, next-call, some-lines}
 use Rattle.cif_views.proofs.difference_table.write_places.Goals as goal
-
-pub loop-lefts-init : goal.loop-lefts-init
-loop-lefts-init g c = ([], nothing _ _ _, refl, c.requires.places, omega arith)
-
-pub first-other-requires : goal.first-other-requires
-first-other-requires g c =
-    let (text, written, left, same, few) = c.loop-lefts.invariant in
-    let some = some-lines c.loop-lefts.lefts _ c.is_empty.ensures c.loop-lefts-test.true in
-    let many = as-many c.loop-lefts.lefts c.loop-lefts.rights same in
-    omega (arith, some, many)
-
-pub rest-rights-requires : goal.rest-rights-requires
-rest-rights-requires g c =
-    let (text, written, left, same, few) = c.loop-lefts.invariant in
-    let some = some-lines c.loop-lefts.lefts _ c.is_empty.ensures c.loop-lefts-test.true in
-    let many = as-many c.loop-lefts.lefts c.loop-lefts.rights same in
-    omega (arith, some, many)
 
 pub loop-lefts-preserved : goal.loop-lefts-preserved
 loop-lefts-preserved g c =
@@ -48,19 +30,3 @@ loop-lefts-preserved g c =
       rest-places lefts rights more others same some c.rest-lefts.ensures c.rest-rights.ensures,
       next-call (is_call kind) call next _ lefts more one is c.call_after-call.ensures few,
     )
-
-pub loop-lefts-smaller : goal.loop-lefts-smaller
-loop-lefts-smaller g c =
-    let lefts = c.loop-lefts.lefts in
-    let some = some-lines lefts _ c.is_empty.ensures c.loop-lefts-test.true in
-    let long = ap length (first-and-rest lefts c.first-one.result c.rest-lefts.result some c.first-one.ensures c.rest-lefts.ensures) in
-    omega (arith, long)
-
-pub returns : goal.returns
-returns g c =
-    let (text, written, left, same, few) = c.loop-lefts.invariant in
-    let lefts = c.loop-lefts.lefts in
-    let none = no-lines lefts _ c.is_empty.ensures c.loop-lefts-test.false in
-    let begun = c.args.head.now in
-    let whole = places_behind begun 1 c.args.left c.args.right in
-    text-is _ _ text whole _ _ (no-place begun whole text c.loop-lefts.call lefts c.loop-lefts.rights none left) written

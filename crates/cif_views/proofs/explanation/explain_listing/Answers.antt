@@ -2,7 +2,7 @@
 use Rattle.cif_views.proofs.Names.{ArePlacedInOrder, Association, IsAssociationOf, IsTrain, Schedule, association_entries}
 use Rattle.cif_views.proofs.Names.{association_terms, both, explained_association_line, explained_train_line, explanation_heading}
 use Rattle.cif_views.proofs.Names.{extract_parts, fault-answered, flat_map, key_cmp, map, nat_cmp, placed_of, schedule_entries}
-use Rattle.cif_views.proofs.Names.{schedule_terms, slice_cmp, subst, sym, written-so, ◌++◌, ◌∙◌}
+use Rattle.cif_views.proofs.Names.{schedule_terms, slice_cmp, subst, sym, written-so, ◌++◌}
 use Rattle.cif_views.proofs.ExplainedTexts.{explanation}
 use Rattle.cif_views.proofs.explanation.explain_listing.Goals as goal
 
@@ -27,9 +27,3 @@ returns-clause-view g c =
           (map (placed_of (λ (s : Schedule). s.uid) schedule_terms) es)) (sym c.as_slice-4.ensures.value) c.in_ok-trains.ensures)
           others.1),
     )
-
-pub write_explained-requires : goal.write_explained-requires
-write_explained-requires g c = record { rising = rw c.as_slice-3.ensures.value c.in_ok-associations.ensures.rising }
-
-pub write_explained-requires-2 : goal.write_explained-requires-2
-write_explained-requires-2 g c = record { rising = rw c.as_slice-4.ensures.value c.in_ok-trains.ensures.rising }

@@ -1,6 +1,6 @@
 -- One record after another gets its mark (`one_marked`), and its line goes behind the text (`behind`).
-use Rattle.cif_views.proofs.Names.{All-nil, AreMarked, IsMarkAt, IsMarkOf, [], ap, arith, get_or-map, map, marked_as, placed_of, refl}
-use Rattle.cif_views.proofs.Names.{subst, sym, take_all, ◌++◌, ◌∙◌, ◌∷◌}
+use Rattle.cif_views.proofs.Names.{All-nil, IsMarkAt, IsMarkOf, [], ap, arith, get_or-map, map, marked_as, placed_of, refl, subst, sym}
+use Rattle.cif_views.proofs.Names.{◌++◌, ◌∙◌, ◌∷◌}
 use Rattle.cif_canon.proofs.AppendedTexts.{behind, nothing, text-is}
 use Rattle.cif_views.proofs.Explaining.{one_marked}
 use Rattle.cif_views.proofs.explanation.write_explained.Goals as goal
@@ -31,13 +31,3 @@ loop-i-preserved g c =
       );
       last = λ j is. subst (λ n. IsMarkAt (map of c.args.applying.now) n mark) (omega (arith, is)) marks;
     }
-
-pub returns : goal.returns
-returns g c =
-    let (done, marked, appended) = c.loop-i.invariant.written in
-    let of = placed_of g.E.Entry.key g.E.Entry.terms in (
-      done,
-      subst (λ xs. AreMarked (map of c.args.applying.now) (map of xs) done) (take_all c.loop-i.i c.args.applying.now
-          c.loop-i-test.false) marked,
-      appended,
-    )

@@ -1,11 +1,7 @@
 -- The groups of names, one after another, are the line of all (`heading-line`). Text has none.
-use Rattle.cif_views.proofs.Names.{refl, texts}
-use Rattle.cif_canon.proofs.AppendedTexts.{both, nothing, text-is}
-use Rattle.cif_views.proofs.CallTexts.{heading-line, names-text}
+use Rattle.cif_views.proofs.{CallTexts.heading-line, CallTexts.names-text, Names.refl, Names.texts}
+use Rattle.cif_canon.proofs.AppendedTexts.{both, text-is}
 use Rattle.cif_views.proofs.heading.write_heading.Goals as goal
-
-pub returns-in-Text : goal.returns-in-Text
-returns-in-Text g c = rw c.in-Text.is (nothing _ _ _)
 
 pub returns-in-Tsv : goal.returns-in-Tsv
 returns-in-Tsv g c =

@@ -1,7 +1,6 @@
 -- The first name, the others behind tabs and a line feed are the line of all names (`names-line`).
-use Rattle.cif_views.proofs.Names.{texts}
+use Rattle.cif_views.proofs.{CallTexts.names-line, CallTexts.names-text, Names.texts}
 use Rattle.cif_canon.proofs.AppendedTexts.{both, text-is}
-use Rattle.cif_views.proofs.CallTexts.{names-line, names-text}
 use Rattle.cif_views.proofs.heading.write_names.Goals as goal
 
 pub returns : goal.returns

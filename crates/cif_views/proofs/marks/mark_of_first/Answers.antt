@@ -6,9 +6,6 @@ use Rattle.cif_views.proofs.marks.mark_of_first.Goals as goal
 use Rattle.cif_views.proofs.marks.mark_of_first.Goals.{else-precedence-via-else-precedence}
 use Rattle.cif_views.proofs.marks.mark_of_first.Goals.{else-precedence-via-then-precedence+else-not-same_body}
 
-pub loop-other-init : goal.loop-other-init
-loop-other-init g c k d from upto = absurd (omega (arith, from, upto))
-
 pub returns-then-ne : goal.returns-then-ne
 returns-then-ne g c =
     let of = placed_of g.E.Entry.key g.E.Entry.terms in

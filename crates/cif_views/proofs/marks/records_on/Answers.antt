@@ -3,15 +3,9 @@ use Rattle.cif_views.proofs.Names.{ArePlacedBelow, ap, arith, false≢true, is_l
 use Rattle.cif_views.proofs.Names.{placed_cmp, placed_of, ranks_by, refl, rules, some_pair_parts, subst, sym, terms_at, ◌+◌, ◌∙◌, ◌≡◌}
 use Rattle.std.proofs.lemmas.Fn.{always_returns_same}
 use Rattle.cif_calendar.specs.Applies.{Applies}
-use Rattle.cif_views.proofs.Explaining.{placed-more, placed-no_more, placed-nothing, placed-sorted, placed_total}
+use Rattle.cif_views.proofs.Explaining.{placed-more, placed-no_more, placed-sorted, placed_total}
 use Rattle.cif_views.proofs.marks.records_on.Goals as goal
 use Rattle.cif_views.proofs.marks.records_on.Goals.{else-is_applying, then-is_applying+in_ok-push}
-
-pub loop-place-init : goal.loop-place-init
-loop-place-init g c =
-    subst (λ applying. ArePlacedBelow g.E.ExplainedEntry.is_of (keyed g.E.Entry.key g.E.Entry.terms c.args.entries.now) c.args.uid.now
-    c.args.day 0 (map (placed_of g.E.Entry.key g.E.Entry.terms) applying)) (sym c.new-applying.ensures.items)
-    (placed-nothing g.E.ExplainedEntry.is_of _ c.args.uid.now c.args.day)
 
 pub loop-place-preserved : goal.loop-place-preserved
 loop-place-preserved g c =

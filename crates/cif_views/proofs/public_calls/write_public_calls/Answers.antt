@@ -1,25 +1,10 @@
 -- One line more is written (`one-line`), and where no line is left the text is whole (`none-left`).
-use Rattle.cif_views.proofs.Names.{Tsv, [], ap, arith, is_call, kind_of_line, length, length-drop, number, refl, row_of_step, rules}
-use Rattle.cif_views.proofs.Names.{step_at, ◌++◌, ◌+◌, ◌∙◌, ◌∷◌}
+use Rattle.cif_views.proofs.Names.{Tsv, [], ap, arith, is_call, kind_of_line, length, number, refl, row_of_step, step_at, ◌++◌, ◌+◌, ◌∷◌}
 use Rattle.cif_canon.proofs.AppendedTexts.{text-is}
 use Rattle.cif_canon.specs.Fields.{after}
-use Rattle.cif_views.proofs.GatheredRows.{none-yet, rows-begin}
 use Rattle.cif_views.proofs.PublicRows.{none-left, one-line}
-use Rattle.cif_views.proofs.TableRows.{begun-row, first-and-rest, more-pushed, next-call, no-lines, some-lines}
+use Rattle.cif_views.proofs.TableRows.{first-and-rest, next-call, no-lines, some-lines}
 use Rattle.cif_views.proofs.public_calls.write_public_calls.Goals as goal
-
-pub loop-lines-init : goal.loop-lines-init
-loop-lines-init g c =
-    let row = (more-pushed _ _ _ _ (number c.args.schedule ∷ []) (begun-row _ c.new-row.ensures) c.push_number.ensures.text).text in (
-      [],
-      none-yet _ _ _ _ _ row,
-      search rules,
-      rows-begin _ c.args.schedule _ c.len-begun.ensures row
-          (let empty = ap length c.new-row.ensures in omega (arith, empty, c.push_number.ensures.len)),
-      c.len-begun.ensures ∙ ap length row,
-      search rules,
-      omega arith,
-    )
 
 pub loop-lines-preserved : goal.loop-lines-preserved
 loop-lines-preserved g c =
@@ -38,11 +23,6 @@ loop-lines-preserved g c =
       (n + 2, c.write_step-call.ensures.by n by, omega (arith, long, few)),
       next-call (is_call (kind_of_line line)) c.loop-lines.call _ _ lines _ line is c.write_step-call.ensures.next calls,
     )
-
-pub loop-lines-smaller : goal.loop-lines-smaller
-loop-lines-smaller g c =
-    let some = some-lines c.loop-lines.lines _ c.is_empty.ensures c.loop-lines-test.true in
-    let behind = ap length c.rest-lines.ensures ∙ length-drop 1 c.loop-lines.lines in omega (arith, some, behind)
 
 pub returns : goal.returns
 returns g c =

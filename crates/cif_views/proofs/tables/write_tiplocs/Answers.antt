@@ -1,10 +1,7 @@
 -- The text is a fold over locations: one more goes behind it (`one-more`).
 use Rattle.cif_views.proofs.Names.{all-items, ap, flat_map-map, line_of_tiploc, row_line, sym, tiploc_fields}
-use Rattle.cif_canon.proofs.AppendedTexts.{nothing, one-more, text-is}
+use Rattle.cif_canon.proofs.AppendedTexts.{one-more, text-is}
 use Rattle.cif_views.proofs.tables.write_tiplocs.Goals as goal
-
-pub loop-tiploc-init : goal.loop-tiploc-init
-loop-tiploc-init g c = nothing _ _ _
 
 pub loop-tiploc-preserved : goal.loop-tiploc-preserved
 loop-tiploc-preserved g c =

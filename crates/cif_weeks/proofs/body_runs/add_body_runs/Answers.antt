@@ -1,18 +1,10 @@
 -- While spans are left: one has ended (`left-fewer`), or weeks are done in which they have one mask (`mask-all`, `agree-all`). Then
 -- the runs are made (`body-made`).
-use Rattle.cif_weeks.proofs.Names.{Shows, [], append-nil, arith, cases_lt, inl, sym, week_of, window_days, ℕ, ⊎_elim, ◌+◌, ◌<◌, ◌∙◌, ◌≤◌}
+use Rattle.cif_weeks.proofs.Names.{Shows, arith, cases_lt, sym, week_of, window_days, ℕ, ⊎_elim, ◌+◌, ◌<◌, ◌∙◌, ◌≤◌}
 use Rattle.cif_weeks.proofs.ActiveSpans.{SameOn, agree-all, disputed-all, left-fewer, left-later, left-same, mask-all, none-after}
 use Rattle.cif_weeks.proofs.ActiveSpans.{none-before}
-use Rattle.cif_weeks.proofs.BodyRuns.{body-idle, body-made}
+use Rattle.cif_weeks.proofs.{BodyRuns.body-idle, BodyRuns.body-made, body_runs.add_body_runs.Goals.Else-min-from}
 use Rattle.cif_weeks.proofs.body_runs.add_body_runs.Goals as goal
-use Rattle.cif_weeks.proofs.body_runs.add_body_runs.Goals.{Else-min-from}
-
-pub loop-left-init : goal.loop-left-init
-loop-left-init c = record {
-  grown = ([], sym (append-nil c.args.runs.now.items), λ n less on. omega (arith, (c.weeks_of-first.ensures.weeks n on).0, less));
-  agreed = λ n less on. absurd (omega (arith, (c.weeks_of-first.ensures.weeks n on).0, less));
-  left = record { some = λ s listed. listed; all = λ s listed. inl listed; order = c.requires.order };
-}
 
 pub loop-left-preserved-then-min-from : goal.loop-left-preserved-then-min-from
 loop-left-preserved-then-min-from c =

@@ -1,8 +1,8 @@
 -- One span more: if it has this source, the weeks reach to its own.
 use Rattle.cif_weeks.proofs.Names.{arith, take_all, ⊎_elim}
-use Rattle.cif_weeks.proofs.Spans.{old_or_new, take_next}
+use Rattle.cif_weeks.proofs.{Spans.old_or_new, Spans.take_next, body_runs.weeks_of.Goals.else-span-source}
+use Rattle.cif_weeks.proofs.{body_runs.weeks_of.Goals.then-span-source}
 use Rattle.cif_weeks.proofs.body_runs.weeks_of.Goals as goal
-use Rattle.cif_weeks.proofs.body_runs.weeks_of.Goals.{else-span-source, then-span-source}
 
 pub loop-span-preserved : goal.loop-span-preserved
 loop-span-preserved c =

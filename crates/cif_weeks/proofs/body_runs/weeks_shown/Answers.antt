@@ -1,7 +1,7 @@
 -- A span alone leads wherever it is (`alone-weeks`); else each span with this source is one more that may lead.
 use Rattle.cif_weeks.proofs.Names.{arith}
-use Rattle.cif_weeks.proofs.Spans.{AreLater, agree-more, alone-agreed, alone-weeks, later-none, later-rest, some-agreed, some-all}
-use Rattle.cif_weeks.proofs.Spans.{some-more, some-same, take_next}
+use Rattle.cif_weeks.proofs.Spans.{AreLater, agree-more, alone-weeks, later-none, later-rest, some-agreed, some-all, some-more, some-same}
+use Rattle.cif_weeks.proofs.Spans.{take_next}
 use Rattle.cif_weeks.proofs.body_runs.weeks_shown.Goals as goal
 use Rattle.cif_weeks.proofs.body_runs.weeks_shown.Goals.{else-loop-span-test, else-span-source-2, then-loop-span-test+then-last-span}
 use Rattle.cif_weeks.proofs.body_runs.weeks_shown.Goals.{then-span-source-2+in_ok-weeks}
@@ -9,10 +9,6 @@ use Rattle.cif_weeks.proofs.body_runs.weeks_shown.Goals.{then-span-source-2+in_o
 pub returns-then-span-source-clause-weeks : goal.returns-then-span-source-clause-weeks
 returns-then-span-source-clause-weeks c = alone-weeks c.args.spans.now c.span-item.result
     (omega (arith, c.in-len1.len_at_least, c.in-len1.len_below)) c.span-item.is c.if-span-source.true c.weeks_from.ensures
-
-pub returns-then-span-source-clause-agreed : goal.returns-then-span-source-clause-agreed
-returns-then-span-source-clause-agreed c = alone-agreed c.args.spans.now c.span-item.result
-    (omega (arith, c.in-len1.len_at_least, c.in-len1.len_below)) c.span-item.is
 
 pub loop-span-preserved : goal.loop-span-preserved
 loop-span-preserved c =

@@ -3,9 +3,9 @@ use Rattle.cif_weeks.proofs.Names.{AreRunsOfBody, IsDisputed, IsPartitionPoint-f
 use Rattle.cif_weeks.proofs.Names.{rules, subst, window_days}
 use Rattle.cif_weeks.proofs.SourceRuns.{EndsSource, count-some, other, own-order, rest-order, runs-all, runs-more, runs-none, shows-all}
 use Rattle.cif_weeks.proofs.SourceRuns.{undisputed, whole-rest}
-use Rattle.cif_weeks.proofs.SpanRuns.{runs-permuted, runs-sorted}
+use Rattle.cif_weeks.proofs.{SpanRuns.runs-permuted, SpanRuns.runs-sorted}
+use Rattle.cif_weeks.proofs.{calendar_runs.add_runs_by_source.Goals.After-partition_point-count}
 use Rattle.cif_weeks.proofs.calendar_runs.add_runs_by_source.Goals as goal
-use Rattle.cif_weeks.proofs.calendar_runs.add_runs_by_source.Goals.{After-partition_point-count}
 
 point : (c : After-partition_point-count) → EndsSource c.span-item.result.source c.loop-left.left.now c.partition_point-count.result
 point c = IsPartitionPoint-from_clause (λ (s : Span). leb s.source c.span-item.result.source) _ _

@@ -3,18 +3,9 @@
 use Rattle.cif_weeks.proofs.Names.{AreSpansBefore, AreSpansOn, Span, answers_always, ap, arith, drop, drop_all, get_or, length, length-map}
 use Rattle.cif_weeks.proofs.Names.{map, named, rules, slice_get-get_or, subst, sym, take-append_seam, ◌+◌, ◌<◌, ◌≡◌}
 use Rattle.cif_weeks.proofs.PieceRuns.{firsts-inside, pieces-agreed, pieces-bodied, pieces-canonical, pieces-inside, pieces-level}
-use Rattle.cif_weeks.proofs.PieceSpans.{no-piece, spans-before_first, spans-done, tiles-next}
-use Rattle.cif_weeks.proofs.SourceRuns.{by-source}
+use Rattle.cif_weeks.proofs.PieceSpans.{no-piece, spans-done, tiles-next}
+use Rattle.cif_weeks.proofs.{SourceRuns.by-source, calendar_runs.runs.Given.Over, calendar_runs.runs.Goals.After-as_slice}
 use Rattle.cif_weeks.proofs.calendar_runs.runs.Goals as goal
-use Rattle.cif_weeks.proofs.calendar_runs.runs.Given.{Over}
-use Rattle.cif_weeks.proofs.calendar_runs.runs.Goals.{After-as_slice}
-
-pub loop-number-init : goal.loop-number-init
-loop-number-init g c = record {
-  limit = c.args.calendar.now.first;
-  tiles = rw c.pieces-number-end.ensures.pieces at c.pieces-number-end.ensures.tiles;
-  before = rw c.new-spans.ensures.items (spans-before_first _ _ c.requires.sources);
-}
 
 pub add_piece-requires-clause-spans : goal.add_piece-requires-clause-spans
 add_piece-requires-clause-spans g c piece at =

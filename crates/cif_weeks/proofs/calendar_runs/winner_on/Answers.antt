@@ -1,13 +1,10 @@
 -- The first date of the weekday comes up to six days after the piece's first.
-use Rattle.cif_weeks.proofs.Names.{None, ap, arith, get_or, sym, weekday_of, ℕ, ◌%◌, ◌+◌, ◌-◌, ◌<◌, ◌∙◌, ◌≡◌, ◌≤◌}
+use Rattle.cif_weeks.proofs.Names.{None, ap, arith, get_or, sym, weekday_of, ℕ, ◌%◌, ◌+◌, ◌-◌, ◌<◌, ◌∙◌, ◌≡◌}
 use Rattle.cif_weeks.proofs.calendar_runs.winner_on.Goals as goal
 
 module _ (first w on : ℕ) (is : on ≡ (w + 7 - weekday_of first) % 7) (below : w < 7) where
   its-weekday : weekday_of (first + on) ≡ w
   its-weekday = omega arith
-
-  none-sooner : (n : ℕ) → first ≤ n → weekday_of n ≡ w → first + on ≤ n
-  none-sooner n from day = omega arith
 
 pub returns-then-number-from : goal.returns-then-number-from
 returns-then-number-from c i =
@@ -25,13 +22,3 @@ returns-then-number-from c i =
       ),
       λ wins. at ∙ wins.1,
     )
-
-pub returns-else-number-from : goal.returns-else-number-from
-returns-else-number-from c i = (
-  λ none. absurd (cc),
-  λ ((n, from, upto, day), _).
-      let is : c.from.result ≡ (c.args.weekday + 7 - weekday_of c.args.piece.now.first) % 7 =
-      omega (arith, c.from.ensures, c.weekday.ensures.value) in
-      let sooner = none-sooner c.args.piece.now.first c.args.weekday c.from.result is c.requires n from day in
-      absurd (omega (arith, sooner, c.if-number-from.false, c.number.ensures.value, c.number-2.ensures.value)),
-)

@@ -4,10 +4,9 @@ use Rattle.cif_weeks.proofs.Names.{All-contains, All-take, AreLawful-chosen, Are
 use Rattle.cif_weeks.proofs.Names.{IsNonDecreasingBy-from_sort_by_key, List, MatchBool, Span, ap, arith, false, get_or, inr, length}
 use Rattle.cif_weeks.proofs.Names.{length-append, map, refill, rules, subst, take-append_seam, take_all, take_more, terms_at, true}
 use Rattle.cif_weeks.proofs.Names.{window_days, ℕ, ◌<◌, ◌∙◌, ◌≡◌}
-use Rattle.cif_weeks.proofs.MemberClash.{disputed-clash, spans-permuted}
+use Rattle.cif_weeks.proofs.{MemberClash.disputed-clash, MemberClash.spans-permuted, few.runs_of_few.Given.Over}
 use Rattle.cif_weeks.proofs.MemberRuns.{runs-of_members, shown-inside, spans-more, spans-same}
 use Rattle.cif_weeks.proofs.few.runs_of_few.Goals as goal
-use Rattle.cif_weeks.proofs.few.runs_of_few.Given.{Over}
 use Rattle.cif_weeks.proofs.few.runs_of_few.Goals.{After-as_slice-2, in-Some, in_default}
 
 pub source_of-source-requires-clause-sources : goal.source_of-source-requires-clause-sources

@@ -1,6 +1,5 @@
 -- What the list says of a day names its record; `single` says there is no other, `within-tight` that none applies elsewhere.
-use Rattle.cif_weeks.proofs.Names.{refl}
-use Rattle.cif_weeks.proofs.AlignedDays.{tight, within-tight}
+use Rattle.cif_weeks.proofs.{AlignedDays.tight, AlignedDays.within-tight, Names.refl}
 use Rattle.cif_weeks.proofs.laws.records_of_each_day.Goals as goal
 
 pub returns-clause-one : goal.returns-clause-one

@@ -1,8 +1,7 @@
 -- The winner that is read is the day's source: each piece that has the day tells the same (`source_at-piece`).
 use Rattle.cif_calendar.proofs.Names.{None, ap, get_or, source_at, sym, ◌∙◌, ◌≡◌}
-use Rattle.cif_calendar.proofs.PieceLists.{source_at-piece}
+use Rattle.cif_calendar.proofs.{PieceLists.source_at-piece, key_calendar.Calendar.source_on.Goals.After-weekday}
 use Rattle.cif_calendar.proofs.key_calendar.Calendar.source_on.Goals as goal
-use Rattle.cif_calendar.proofs.key_calendar.Calendar.source_on.Goals.{After-weekday}
 
 winner : (c : After-weekday) → get_or c.piece_on.result.now.winners c.weekday.result None ≡ source_at c.args.self.now.pieces c.args.day
 winner c =

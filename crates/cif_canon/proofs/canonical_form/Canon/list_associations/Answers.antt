@@ -1,8 +1,6 @@
 -- What is listed of the runs is what is listed of their lines (`parts-text`).
-use Rattle.cif_canon.proofs.Names.{CanonParts, ap, association_entries, association_plain, canon_lines, flat_map, refl}
-use Rattle.cif_canon.proofs.Names.{◌∙◌}
-use Rattle.cif_canon.proofs.AppendedTexts.{text-is}
-use Rattle.cif_canon.proofs.CanonLines.{parts-text}
+use Rattle.cif_canon.proofs.Names.{CanonParts, ap, association_entries, association_plain, canon_lines, flat_map, ◌∙◌}
+use Rattle.cif_canon.proofs.{AppendedTexts.text-is, CanonLines.parts-text}
 use Rattle.cif_canon.proofs.canonical_form.Canon.list_associations.Goals as goal
 
 pub returns : goal.returns
@@ -14,7 +12,3 @@ returns g c =
     (parts-text text association_plain (association_entries e.extract.now.associations.items) e.associations.items
     ∙ ap (λ (v : CanonParts). flat_map text v.lines.associations) c.self.view_is)
     (rw (c.as_slice.ensures.value, c.as_slice-2.ensures.value) at c.write_runs.ensures)
-
-pub write_runs-requires : goal.write_runs-requires
-write_runs-requires g c κs =
-    ((refl, tt), rw (c.as_slice.ensures.value, c.as_slice-2.ensures.value) c.self.invariant.0)

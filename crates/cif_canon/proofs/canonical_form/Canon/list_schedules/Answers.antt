@@ -1,8 +1,6 @@
 -- What is listed of the runs is what is listed of their lines, with their numbers (`numbered-texts`).
-use Rattle.cif_canon.proofs.Names.{CanonParts, ScheduleLines, ap, canon_lines, enumerate_from, flat_map, schedule_entries}
-use Rattle.cif_canon.proofs.Names.{ℕ, ◌∙◌}
-use Rattle.cif_canon.proofs.AppendedTexts.{text-is}
-use Rattle.cif_canon.proofs.CanonLines.{numbered-texts}
+use Rattle.cif_canon.proofs.Names.{CanonParts, ScheduleLines, ap, canon_lines, enumerate_from, flat_map, schedule_entries, ℕ, ◌∙◌}
+use Rattle.cif_canon.proofs.{AppendedTexts.text-is, CanonLines.numbered-texts}
 use Rattle.cif_canon.proofs.canonical_form.Canon.list_schedules.Goals as goal
 
 pub returns : goal.returns
@@ -14,6 +12,3 @@ returns g c =
     (numbered-texts text (schedule_entries e.extract.now.schedules.items) 1 e.schedules.items c.self.invariant.1
     ∙ ap (λ (v : CanonParts). flat_map (λ (s : ℕ × ScheduleLines). text s.0 s.1) (enumerate_from 1 v.lines.schedules)) c.self.view_is)
     (rw (c.as_slice.ensures.value, c.as_slice-2.ensures.value) at c.list_runs.ensures)
-
-pub list_runs-requires : goal.list_runs-requires
-list_runs-requires g c = rw (c.as_slice.ensures.value, c.as_slice-2.ensures.value) c.self.invariant.1

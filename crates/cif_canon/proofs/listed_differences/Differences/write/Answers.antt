@@ -1,7 +1,6 @@
 -- Three parts are appended one behind another (`differences-appended`).
-use Rattle.cif_canon.proofs.Names.{ap, differences_text, refl}
-use Rattle.cif_canon.proofs.AppendedTexts.{answered, text-is}
-use Rattle.cif_canon.proofs.WrittenDifferences.{differences-appended}
+use Rattle.cif_canon.proofs.{AppendedTexts.answered, AppendedTexts.text-is, Names.ap, Names.differences_text}
+use Rattle.cif_canon.proofs.{WrittenDifferences.differences-appended}
 use Rattle.cif_canon.proofs.listed_differences.Differences.write.Goals as goal
 
 pub returns-clause-writes : goal.returns-clause-writes
@@ -15,11 +14,3 @@ returns-clause-writes g c =
     (rw c.as_slice.ensures.value at c.write_each.ensures)
     (rw (c.as_slice-2.ensures.value, c.as_slice-3.ensures.value, c.as_slice-4.ensures.value) at c.write_sided_runs.ensures)
     (rw (c.as_slice-5.ensures.value, c.as_slice-6.ensures.value, c.as_slice-7.ensures.value) at c.write_sided_runs-2.ensures)))
-
-pub write_sided_runs-requires : goal.write_sided_runs-requires
-write_sided_runs-requires g c κs =
-    ((refl, tt), rw (c.as_slice-2.ensures.value, c.as_slice-3.ensures.value, c.as_slice-4.ensures.value) c.self.invariant.0)
-
-pub write_sided_runs-requires-2 : goal.write_sided_runs-requires-2
-write_sided_runs-requires-2 g c κs =
-    ((refl, tt), rw (c.as_slice-5.ensures.value, c.as_slice-6.ensures.value, c.as_slice-7.ensures.value) c.self.invariant.1)

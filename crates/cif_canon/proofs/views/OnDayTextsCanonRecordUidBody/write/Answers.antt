@@ -1,6 +1,5 @@
 -- A record has the text by the answer whether it applies (`listed-by`); one that doesn't apply has none.
-use Rattle.cif_canon.proofs.AppendedTexts.{nothing, text-is}
-use Rattle.cif_canon.proofs.RunningRecords.{listed-by}
+use Rattle.cif_canon.proofs.{AppendedTexts.nothing, AppendedTexts.text-is, RunningRecords.listed-by}
 use Rattle.cif_canon.proofs.views.OnDayTextsCanonRecordUidBody.write.Goals as goal
 
 pub returns-then-applies_on : goal.returns-then-applies_on

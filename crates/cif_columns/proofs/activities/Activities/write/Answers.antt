@@ -1,17 +1,11 @@
 -- By induction over the codes, as the invariant has them: packed, they fit, are printable, and are found again (`Codes`).
-use Rattle.cif_columns.proofs.Names.{AreCodes, ap, arith, left_justified, length, packed, ◌∙◌, ◌≡◌, ◌≤◌}
-use Rattle.cif_columns.proofs.Codes.{codes_in-codes_columns, elements-packed, length-packed, printable-packed, stands-codes_columns}
+use Rattle.cif_columns.proofs.Names.{AreCodes, ap, left_justified, packed, ◌∙◌, ◌≡◌}
+use Rattle.cif_columns.proofs.Codes.{codes_in-codes_columns, elements-packed, printable-packed, stands-codes_columns}
 use Rattle.cif_columns.proofs.activities.Activities.write.Goals as goal
 use Rattle.cif_columns.proofs.activities.Activities.write.Goals.{After-as_flattened}
 
 written : (c : After-as_flattened) → c.as_flattened.result.now ≡ packed c.self.inside.codes.items
 written c = c.as_flattened.ensures.value ∙ elements-packed c.as_slice.result.now ∙ ap packed c.as_slice.ensures.value
-
-pub left_justified-requires : goal.left_justified-requires
-left_justified-requires c =
-    let fits : length c.as_flattened.result.now ≤ 12 =
-    rw (written c) (omega (arith, c.self.invariant.few, length-packed _ c.self.invariant.each)) in
-    (omega arith, fits)
 
 pub returns-clause-printable : goal.returns-clause-printable
 returns-clause-printable c =

@@ -1,17 +1,11 @@
 -- What the held bytes decide is so of all that is left; the loop ends, as undecided bytes are fewer than can be held.
-use Rattle.cif_columns.proofs.Names.{List, Most, ℕ, ◌≡◌}
-use Rattle.cif_columns.proofs.Names.{AreUndecided, Keeps-refl, Keeps-trans, Ok, held_bytes, most_by, ap, arith}
-use Rattle.cif_columns.proofs.Names.{inl, inr, length, refl, subst, sym, ◌∙◌}
-use Rattle.cif_columns.proofs.NextContents.{decided_next, failed_next, last_next}
-use Rattle.cif_columns.proofs.ReadSources.{failed_after, read_nothing, read_on_both}
+use Rattle.cif_columns.proofs.Names.{AreUndecided, Keeps-trans, List, Most, Ok, ap, most_by, subst, sym, ℕ, ◌∙◌, ◌≡◌}
+use Rattle.cif_columns.proofs.{NextContents.decided_next, NextContents.last_next, ReadSources.read_on_both}
 use Rattle.cif_columns.proofs.ahead.Ahead.next_content.Goals as goal
 
 -- what is held later is undecided as it was
 undecided : (most : Most) (held now : List ℕ) → now ≡ held → AreUndecided (most_by most held) held → AreUndecided (most_by most now) now
 undecided most held now same none = subst (λ l. AreUndecided (most_by most l) l) (sym same) none
-
-pub loop-next-init : goal.loop-next-init
-loop-next-init g c = record { same_bytes = Keeps-refl _; read_on = read_nothing _ _; begun = inl refl }
 
 pub returns-in-Some : goal.returns-in-Some
 returns-in-Some g c =
@@ -19,29 +13,6 @@ returns-in-Some g c =
     decided_next g.R.Read.remaining g.R.ReadDevice.read_errors c.args.most c.args.self.now c.loop-next.self c.decided_content.new.self
     c.args.source.now c.loop-next.source so_far.same_bytes so_far.read_on (c.requires.some _) so_far.begun c.in-Some.next
     c.in-Some.ensures.found
-
-pub fill-requires : goal.fill-requires
-fill-requires g c =
-    omega (arith, c.in_default.ensures.none.short, c.requires.room (held_bytes c.loop-next.self), ap length c.in_default.ensures.kept)
-
-pub loop-next-smaller : goal.loop-next-smaller
-loop-next-smaller g c =
-    omega (
-      arith,
-      c.in-Ok-true.ensures.more (ap Ok c.in-Ok-true.field-0-test),
-      ap length c.in_default.ensures.kept,
-      c.in_default.ensures.none.short,
-      c.requires.room (held_bytes c.loop-next.self),
-    )
-
-pub loop-next-preserved : goal.loop-next-preserved
-loop-next-preserved g c =
-    let so_far = c.loop-next.invariant in
-    record {
-      same_bytes = Keeps-trans _ _ _ so_far.same_bytes (rw (← c.in_default.ensures.kept) c.in-Ok-true.ensures.bytes);
-      read_on = read_on_both _ _ _ _ so_far.read_on c.in-Ok-true.ensures.device.1;
-      begun = inr (sym so_far.read_on.going ∙ c.in-Ok-true.ensures.device.0);
-    }
 
 pub returns-in-Ok-false : goal.returns-in-Ok-false
 returns-in-Ok-false g c =
@@ -53,12 +24,3 @@ returns-in-Ok-false g c =
     (read_on_both _ _ _ _ so_far.read_on c.in-Ok-false.ensures.device.1)
     (undecided c.args.most _ _ (end.0 ∙ c.in_default.ensures.kept) c.in_default.ensures.none)
     (sym so_far.read_on.going ∙ c.in-Ok-false.ensures.device.0) end.2 end.1 c.last_content.result c.last_content.ensures
-
-pub returns-in-Err : goal.returns-in-Err
-returns-in-Err g c =
-    let so_far = c.loop-next.invariant in
-    failed_next g.R.Read.remaining g.R.ReadDevice.read_errors c.args.most c.args.self.now c.fill.new.self c.fill.new.self
-    c.args.source.now c.fill.new.source
-    (Keeps-trans _ _ _ so_far.same_bytes (rw (← c.in_default.ensures.kept) c.in-Err.ensures.bytes))
-    (failed_after _ _ _ _ so_far.read_on c.in-Err.ensures.device)
-    (undecided c.args.most _ _ (c.in-Err.ensures.err ∙ c.in_default.ensures.kept) c.in_default.ensures.none) c.in-Err.fault

@@ -1,6 +1,5 @@
 -- What passes the test stands in its columns: by cases of it, blank, or an hour, a minute and a space or `H` (`work-stands`).
-use Rattle.cif_columns.proofs.Names.{sym, ◌∙◌}
-use Rattle.cif_columns.proofs.Times.{work-stands}
+use Rattle.cif_columns.proofs.{Names.sym, Names.◌∙◌, Times.work-stands}
 use Rattle.cif_columns.proofs.clock.WorkTime.read.Goals as goal
 
 pub returns-then-is_work_time-clause-found : goal.returns-then-is_work_time-clause-found

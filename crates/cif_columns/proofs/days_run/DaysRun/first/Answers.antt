@@ -1,6 +1,5 @@
 -- The lowest bit that is set.
-use Rattle.cif_columns.proofs.Names.{sym}
-use Rattle.cif_columns.proofs.Flags.{first-of, some-bit}
+use Rattle.cif_columns.proofs.{Flags.first-of, Flags.some-bit, Names.sym}
 use Rattle.cif_columns.proofs.days_run.DaysRun.first.Goals as goal
 
 pub returns-clause-found : goal.returns-clause-found

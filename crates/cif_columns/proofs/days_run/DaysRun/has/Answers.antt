@@ -1,5 +1,4 @@
-use Rattle.cif_columns.proofs.Names.{sym}
-use Rattle.cif_columns.proofs.Flags.{has-runs}
+use Rattle.cif_columns.proofs.{Flags.has-runs, Names.sym}
 use Rattle.cif_columns.proofs.days_run.DaysRun.has.Goals as goal
 
 pub returns : goal.returns

@@ -1,5 +1,4 @@
-use Rattle.cif_columns.proofs.Names.{sym}
-use Rattle.cif_columns.proofs.Flags.{runs-and}
+use Rattle.cif_columns.proofs.{Flags.runs-and, Names.sym}
 use Rattle.cif_columns.proofs.days_run.DaysRun.intersection.Goals as goal
 
 pub returns-clause-runs : goal.returns-clause-runs

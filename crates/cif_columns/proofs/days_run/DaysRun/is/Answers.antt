@@ -1,5 +1,4 @@
-use Rattle.cif_columns.proofs.Names.{sym}
-use Rattle.cif_columns.proofs.Flags.{same-bits}
+use Rattle.cif_columns.proofs.{Flags.same-bits, Names.sym}
 use Rattle.cif_columns.proofs.days_run.DaysRun.is.Goals as goal
 
 pub returns : goal.returns

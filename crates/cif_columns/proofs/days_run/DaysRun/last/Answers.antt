@@ -1,6 +1,5 @@
 -- The highest bit that is set.
-use Rattle.cif_columns.proofs.Names.{sym}
-use Rattle.cif_columns.proofs.Flags.{last-of, some-bit}
+use Rattle.cif_columns.proofs.{Flags.last-of, Flags.some-bit, Names.sym}
 use Rattle.cif_columns.proofs.days_run.DaysRun.last.Goals as goal
 
 pub returns-clause-found : goal.returns-clause-found

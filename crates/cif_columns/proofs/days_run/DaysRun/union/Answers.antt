@@ -1,5 +1,4 @@
-use Rattle.cif_columns.proofs.Names.{or_lt, sym}
-use Rattle.cif_columns.proofs.Flags.{runs-or}
+use Rattle.cif_columns.proofs.{Flags.runs-or, Names.or_lt, Names.sym}
 use Rattle.cif_columns.proofs.days_run.DaysRun.union.Goals as goal
 
 pub returns-clause-runs : goal.returns-clause-runs

@@ -1,6 +1,5 @@
 -- A line that is ahead is the next one (`next_passed`).
-use Rattle.cif_columns.proofs.Names.{Of, refl}
-use Rattle.cif_columns.proofs.PassedLines.{next_passed}
+use Rattle.cif_columns.proofs.{Names.Of, Names.refl, PassedLines.next_passed}
 use Rattle.cif_columns.proofs.line_reader.LineReader.read_line.Goals as goal
 
 pub returns-then-read_ahead : goal.returns-then-read_ahead

@@ -1,8 +1,7 @@
 -- What is kept behind the first line keeps the others (`rest_kept`).
-use Rattle.cif_columns.proofs.Names.{drop}
+use Rattle.cif_columns.proofs.{Names.drop, lines.LineSlice.rest.Goals.After-from, lines.LineSlice.rest.Goals.After-split_at}
 use Rattle.cif_columns.proofs.KeptLines.{Keep, are_kept, first_within, keep_view, lines_kept, rest_kept}
 use Rattle.cif_columns.proofs.lines.LineSlice.rest.Goals as goal
-use Rattle.cif_columns.proofs.lines.LineSlice.rest.Goals.{After-from, After-split_at}
 
 kept : (c : After-from) → Keep c.self.inside.kept.now c.args.self.now
 kept c = keep_view c.self.inside.kept.now c.args.self.now c.self.invariant c.self.view_is

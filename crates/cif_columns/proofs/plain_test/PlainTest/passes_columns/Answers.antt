@@ -1,7 +1,5 @@
 -- The test lets no other bytes through (`line_by_test`), so the columns are a line, of which `plain_by_test` speaks.
-use Rattle.cif_columns.proofs.Names.{rules}
-use Rattle.cif_columns.proofs.TestedBytes.{line_by_test}
-use Rattle.cif_columns.proofs.TestedRows.{plain_by_test}
+use Rattle.cif_columns.proofs.{Names.rules, TestedBytes.line_by_test, TestedRows.plain_by_test}
 use Rattle.cif_columns.proofs.plain_test.PlainTest.passes_columns.Goals as goal
 
 pub returns-clause-line : goal.returns-clause-line

@@ -1,7 +1,6 @@
 -- A line more is written behind the others, or fails behind them (`line_failed`).
 use Rattle.cif_columns.proofs.Names.{[], arith, drop, length, lines_text, nat_tests, refl, ◌++◌, ◌<◌, ◌∷◌}
-use Rattle.cif_columns.proofs.WrittenLines.{line_failed, line_split}
-use Rattle.cif_columns.proofs.WrittenTexts.{writes_err, written_both}
+use Rattle.cif_columns.proofs.{WrittenLines.line_failed, WrittenLines.line_split, WrittenTexts.writes_err, WrittenTexts.written_both}
 use Rattle.cif_columns.proofs.sink.Sink.write_lines.Goals as goal
 
 pub returns-in_err-write_line : goal.returns-in_err-write_line

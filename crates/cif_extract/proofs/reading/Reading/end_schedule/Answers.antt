@@ -1,9 +1,8 @@
 -- The lines keep a whole body (`keeps_body`), and closing is the step.
-use Rattle.cif_extract.proofs.Names.{KeepSomeBody, None, Progress, ap, progress_of, subst, sym, ◌∙◌}
+use Rattle.std.proofs.lemmas.Result.{on_ok_weaker}
+use Rattle.cif_extract.proofs.Names.{KeepSomeBody, Progress, ap, progress_of, subst, sym, ◌∙◌}
 use Rattle.cif_records.specs.declared.record.Record.TheVariants as of
-use Rattle.cif_extract.proofs.BasicSteps.{closing, terminus_none}
-use Rattle.cif_extract.proofs.JourneySteps.{keeps_body}
-use Rattle.cif_extract.proofs.TakenLines.{memory_so}
+use Rattle.cif_extract.proofs.{BasicSteps.closing, BasicSteps.terminus_none, JourneySteps.keeps_body}
 use Rattle.cif_extract.proofs.reading.Reading.end_schedule.Goals as goal
 
 pub close-requires-clause-lines : goal.close-requires-clause-lines
@@ -13,17 +12,15 @@ close-requires-clause-lines c =
     subst KeepSomeBody (ap (λ (p : Progress). p.lines) (sym h.is))
     (keeps_body h.records before h.last h.here h.read c.in-Some.terms opened h.again).0
 
-pub close-requires-clause-runs : goal.close-requires-clause-runs
-close-requires-clause-runs c =
-    let (before, line, h) = c.requires in
-    let opened = ap (λ (p : Progress). p.opened) (sym h.is) ∙ sym c.take.ensures.value ∙ c.in-Some.is in
-    (keeps_body h.records before h.last h.here h.read c.in-Some.terms opened h.again).1
-
 pub returns-in-Some : goal.returns-in-Some
 returns-in-Some c = λ before line h.
-    memory_so None (λ is. (of.Terminus h.last, h.spelled, h.again, is)) c.close.result
-    (closing before (progress_of c.args.self.now) h.last h.is c.in-Some.terms (progress_of c.close.new.self) c.close.result
-    (sym c.take.ensures.value ∙ c.in-Some.is) (rw c.take.ensures.after at c.close.ensures))
+    on_ok_weaker c.close.result (λ closed. (
+      of.Terminus h.last,
+      h.spelled,
+      h.again,
+      closing before (progress_of c.args.self.now) h.last h.is c.in-Some.terms (progress_of c.close.new.self)
+          (sym c.take.ensures.value ∙ c.in-Some.is) (rw c.take.ensures.after at closed),
+    )) c.close.ensures
 
 pub returns-in-None : goal.returns-in-None
 returns-in-None c = λ before line h. (

@@ -1,6 +1,5 @@
 -- The place is the one after its record already: what is kept then is the step (`taken_further`).
-use Rattle.cif_extract.proofs.Names.{progress_of}
-use Rattle.cif_extract.proofs.TakenLines.{taken_further}
+use Rattle.cif_extract.proofs.{Names.progress_of, TakenLines.taken_further}
 use Rattle.cif_extract.proofs.reading.Reading.take_further.Goals as goal
 
 pub returns : goal.returns

@@ -1,6 +1,7 @@
 -- The columns as they are kept are the plain line: `plain_further` has all of it, and of an LT `plain_last`, with which its schedule ends.
-use Rattle.cif_extract.proofs.Names.{HasLast, IsFurtherPlainly, None, progress_of, subst, ◌∙◌}
-use Rattle.cif_extract.proofs.TakenLines.{memory_so, plain_further, plain_last, refusal_of_record}
+use Rattle.std.proofs.lemmas.Result.{on_ok_weaker}
+use Rattle.cif_extract.proofs.Names.{HasLast, IsFurtherPlainly, progress_of, subst, ◌∙◌}
+use Rattle.cif_extract.proofs.TakenLines.{plain_further, plain_last, refusal_of_record}
 use Rattle.cif_extract.proofs.reading.Reading.take_plain_further.Goals as goal
 use Rattle.cif_extract.proofs.reading.Reading.take_plain_further.Goals.{In_ok-keep_columns-in-Lt}
 
@@ -17,13 +18,13 @@ end_schedule-requires c =
 pub returns-in_ok-keep_columns-in-Lt : goal.returns-in_ok-keep_columns-in-Lt
 returns-in_ok-keep_columns-in-Lt c =
     let plain = c.requires.plain in
-    memory_so None
-    (λ step. (refusal_of_record _ _ c.args.kind plain.plain.kind_there plain.allowed ∙ plain.plain.fine, step)) c.end_schedule.result
+    on_ok_weaker c.end_schedule.result
+    (λ step. (refusal_of_record _ _ c.args.kind plain.plain.kind_there plain.allowed ∙ plain.plain.fine, step))
     (c.end_schedule.ensures _ _ (last (goal.at.returns-in_ok-keep_columns-in-Lt c).In_ok-keep_columns-in-Lt))
 
 pub returns-in_default : goal.returns-in_default
 returns-in_default c =
-    memory_so None
+    on_ok_weaker c.keep_columns-in_default.result
     (plain_further (progress_of c.args.self.now) (progress_of c.keep_columns-in_default.new.self) c.args.columns.now c.args.kind
     c.requires.plain c.in_default.not-Lt)
-    c.keep_columns-in_default.result (rw c.after_further-self.ensures at c.keep_columns-in_default.ensures)
+    (rw c.after_further-self.ensures at c.keep_columns-in_default.ensures)

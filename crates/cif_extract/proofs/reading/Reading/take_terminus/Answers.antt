@@ -1,8 +1,6 @@
 -- By its kind the record is an LT (`has_last`), whose schedule ends.
-use Rattle.cif_extract.proofs.Names.{HasLast, progress_of}
-use Rattle.cif_extract.proofs.TakenLines.{fine_so, has_last}
+use Rattle.cif_extract.proofs.{Names.HasLast, Names.progress_of, TakenLines.has_last, reading.Reading.take_terminus.Goals.In_ok-keep}
 use Rattle.cif_extract.proofs.reading.Reading.take_terminus.Goals as goal
-use Rattle.cif_extract.proofs.reading.Reading.take_terminus.Goals.{In_ok-keep}
 
 last : (c : In_ok-keep) → HasLast (progress_of c.args.self.now) c.args.line.now (progress_of c.keep.new.self)
 last c =
@@ -15,5 +13,4 @@ end_schedule-requires c = (progress_of c.args.self.now, c.args.line.now, last (g
 
 pub returns : goal.returns
 returns c =
-    fine_so _ (λ is. is) c.end_schedule.result c.in_ok-keep.ensures.0
-    (c.end_schedule.ensures _ _ (last (goal.at.returns c).In_ok-keep))
+    (c.in_ok-keep.ensures.0, c.in_ok-end_schedule.ensures _ _ (last (goal.at.returns c).In_ok-keep))

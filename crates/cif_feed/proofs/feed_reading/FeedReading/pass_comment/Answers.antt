@@ -1,6 +1,5 @@
 -- A comment is counted (`comment_step`).
-use Rattle.cif_feed.proofs.Names.{refl}
-use Rattle.cif_feed.proofs.FeedSteps.{comment_step}
+use Rattle.cif_feed.proofs.{FeedSteps.comment_step, Names.refl}
 use Rattle.cif_feed.proofs.feed_reading.FeedReading.pass_comment.Goals as goal
 
 pub returns : goal.returns

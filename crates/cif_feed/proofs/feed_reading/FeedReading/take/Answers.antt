@@ -1,8 +1,7 @@
 -- A note is counted (`note_taken`); of a line that is taken its mark is kept (`line_taken`).
-use Rattle.cif_feed.proofs.Names.{IsFeedTaken, List, ap, is_schedule_mark, is_trailer_mark, kind_in, mark_parts, sym, with_mark, ℕ, ◌||◌}
-use Rattle.cif_feed.proofs.Names.{◌∙◌}
-use Rattle.cif_feed.proofs.FeedSteps.{line_taken, line_untaken, note_taken}
-use Rattle.cif_feed.proofs.MarkLaws.{marked, passed_on, schedule_there, trailer_there}
+use Rattle.cif_feed.proofs.Names.{List, ap, is_schedule_mark, is_trailer_mark, kind_in, mark_parts, sym, with_mark, ℕ, ◌||◌, ◌∙◌}
+use Rattle.cif_feed.proofs.FeedSteps.{line_taken, note_taken}
+use Rattle.cif_feed.proofs.MarkLaws.{marked, schedule_there, trailer_there}
 use Rattle.cif_feed.proofs.feed_reading.FeedReading.take.Goals as goal
 
 pub returns-then-is_note-clause-taken : goal.returns-then-is_note-clause-taken
@@ -10,11 +9,8 @@ returns-then-is_note-clause-taken c = λ cs so_far at.
     note_taken c.args.feed c.args.allowed cs c.args.line.now c.requires.no_comment (sym c.is_note.ensures.note ∙ c.if-is_note.true)
     c.take_note.result c.args.self.now c.take_note.new.self so_far c.take_note.ensures
 
-pub take_record-requires : goal.take_record-requires
-take_record-requires c = record { read = (c.requires.taken.1.taken.records, c.requires.taken.1.taken.read) }
-
-pub returns-in-Ok-clause-taken : goal.returns-in-Ok-clause-taken
-returns-in-Ok-clause-taken c = λ cs so_far at.
+pub returns-clause-taken : goal.returns-clause-taken
+returns-clause-taken c = λ cs so_far at.
     let a = c.args in
     let old = a.self.now in
     let here : ℕ × List ℕ = (a.number, a.line.now) in
@@ -27,19 +23,10 @@ returns-in-Ok-clause-taken c = λ cs so_far at.
     }) at so_far (record {
       no_comment = c.requires.no_comment;
       no_note = sym c.is_note.ensures.note ∙ c.if-is_note.false;
-      marks = c.in-Ok.ensures ∙ ap (with_mark (mark_parts old.marks)) is
+      marks = c.in_ok-add.ensures ∙ ap (with_mark (mark_parts old.marks)) is
           ∙ marked a.allowed a.number a.line.now (mark_parts old.marks) a.feed taken.1.0 taken.1.1;
       basic = ap (λ b. old.has_basic || b) (c.is_of_schedule.ensures ∙ ap is_schedule_mark is
           ∙ schedule_there a.allowed (kind_in a.line.now) here);
       trailer = ap (λ b. old.has_trailer || b) (c.is_of_trailer.ensures ∙ ap is_trailer_mark is
           ∙ trailer_there a.allowed (kind_in a.line.now) here);
     }) taken
-
-pub returns-in_err-mark-clause-taken : goal.returns-in_err-mark-clause-taken
-returns-in_err-mark-clause-taken c = λ cs so_far at.
-    let a = c.args in
-    let new = record a.self.now { reading = c.take_record.new.reading } in
-    let fault = c.in_err-mark.field-0.0 in
-    passed_on (λ r. IsFeedTaken a.feed a.allowed cs a.line.now r new) fault c.from_residual.result c.from_residual.ensures.1
-    (line_untaken a.feed a.allowed cs a.line.now (sym c.is_note.ensures.note ∙ c.if-is_note.false) fault a.self.now new new
-    so_far c.in_err-mark.ensures)

@@ -1,5 +1,5 @@
 -- The invariant names the lines so far: one more (`line-more`), one that is bad, and the end are said of them all.
-use Rattle.cif_feed.proofs.Names.{HasLineMore, IsHolidayLine, IsLineFault, [], ap, arith, content, given_none, none_given, read_nothing}
+use Rattle.cif_feed.proofs.Names.{HasLineMore, IsHolidayLine, IsLineFault, [], ap, content, given_none, none_given, read_nothing}
 use Rattle.cif_feed.proofs.Names.{read_on_both, subst, ◌++◌, ◌+◌, ◌∷◌}
 use Rattle.cif_feed.proofs.HolidayLines.{AreLinesAndRest, are-none, are-push, comes-bad, comes-end, comes-line_fault, comes-overlong}
 use Rattle.cif_feed.proofs.HolidayLines.{line-more}
@@ -26,11 +26,6 @@ loop-lines-preserved g c =
           (subst (λ l. HasLineMore c.loop-lines.holidays l c.add_line.new.self) c.content.ensures added.1),
       read_on_both _ _ _ _ read_on next.device,
     )
-
-pub loop-lines-smaller : goal.loop-lines-smaller
-loop-lines-smaller g c =
-    let next = rw c.in-Ok-Content.field-0-is at c.in-Ok-Content.ensures in
-    omega (arith, next.holds.0, next.holds.1, next.limit_now, c.next.new.self.counted)
 
 pub returns-in-Err-add_line : goal.returns-in-Err-add_line
 returns-in-Err-add_line g c =

@@ -3,12 +3,6 @@ use Rattle.cif_feed.proofs.Names.{Err, Ok, Refused, arith, length, own_are, own_
 use Rattle.cif_feed.proofs.ReportedReasons.{none_has_more, none_refused_more, refused_here, some_has_more}
 use Rattle.cif_feed.proofs.judged.Order.take.Goals as goal
 
-pub take-requires : goal.take-requires
-take-requires c =
-    let (max, contents, so_far) = c.requires in
-    let here = rw c.in-Reading.is at so_far in
-    (here.2.records, here.2.read)
-
 pub returns-in-Ok-clause-taken : goal.returns-in-Ok-clause-taken
 returns-in-Ok-clause-taken c = λ max contents so_far numbered within own.
     let line = c.args.line.now in

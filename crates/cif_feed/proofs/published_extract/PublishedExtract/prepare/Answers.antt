@@ -1,7 +1,6 @@
 -- It is cut at no date of its keys (`whole-prepared`).
 use Rattle.cif_feed.proofs.Names.{IfOk-weaker, [], key_cmp, nat_cmp, published_parts}
-use Rattle.cif_feed.proofs.ClashingKeys.{whole-prepared}
-use Rattle.cif_feed.proofs.FoundKeys.{get-none, reads-none}
+use Rattle.cif_feed.proofs.{ClashingKeys.whole-prepared, FoundKeys.get-none, FoundKeys.reads-none}
 use Rattle.cif_feed.proofs.published_extract.PublishedExtract.prepare.Goals as goal
 
 pub returns : goal.returns

@@ -1,16 +1,7 @@
 -- Each kind of records is changed by itself.
-use Rattle.cif_feed.proofs.Names.{ap, append_assoc, last_line, published_parts, refl, refused_header, reported_once, update_parts, ◌++◌}
-use Rattle.cif_feed.proofs.Names.{◌∙◌}
+use Rattle.cif_feed.proofs.Names.{ap, append_assoc, last_line, published_parts, refused_header, reported_once, update_parts, ◌++◌, ◌∙◌}
 use Rattle.cif_feed.proofs.UpdatesInTurn.{reported-three}
 use Rattle.cif_feed.proofs.published_extract.PublishedExtract.update.Goals as goal
-
-pub returns-clause-updated : goal.returns-clause-updated
-returns-clause-updated c = record {
-  header = refl;
-  tiplocs = c.in_ok-of_tiplocs.ensures.records;
-  associations = c.in_ok-of_associations.ensures.records;
-  schedules = c.in_ok-of_schedules.ensures.records;
-}
 
 pub returns-clause-refused : goal.returns-clause-refused
 returns-clause-refused c =

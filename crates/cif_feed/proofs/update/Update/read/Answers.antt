@@ -1,8 +1,8 @@
 -- What the lines say is one update (`makes-update`), unless memory runs out.
 use Rattle.cif_extract.specs.declared.fault.Fault.TheVariants.{Memory}
-use Rattle.cif_feed.proofs.Names.{Extract, Ok, goes-on, hands-on, refl}
+use Rattle.cif_feed.proofs.Names.{Extract, Ok, goes-on, refl}
 use Rattle.cif_extract.proofs.ReadCalls.{hands-either}
-use Rattle.cif_feed.proofs.SpelledFeeds.{makes-update, reads-update}
+use Rattle.cif_feed.proofs.SpelledFeeds.{makes-update}
 use Rattle.cif_feed.proofs.update.Update.read.Goals as goal
 
 pub returns : goal.returns
@@ -16,9 +16,3 @@ returns-in_err-of_lines g c =
     let handed = c.from_residual-in_err-of_lines in
     goes-on _ _ _ _ _ _ c.in_ok-lines.lines c.in_ok-lines.ensures.reads handed.result
     (hands-either handed.result (Extract Memory) handed.ensures.1 _ _ (record { fault = λ bytes after is. tt; answers = tt; other = refl }))
-
-pub returns-in_err-lines : goal.returns-in_err-lines
-returns-in_err-lines g c =
-    let fault = c.in_err-lines.field-0.0 in
-    hands-on _ _ _ _ _ _ fault (reads-update c.args.max_lines c.all.result c.all.ensures fault) c.in_err-lines.ensures.reads _
-    c.from_residual.ensures.1

@@ -1,6 +1,5 @@
--- Each row is put behind those before (`onto`), and fits, as the call that put it says.
-use Rattle.cif_records.proofs.Names.{codes, printable_fact, refl}
-use Rattle.cif_records.proofs.Rows.{onto, ◌&◌}
+-- Each row is put behind those before (`onto`).
+use Rattle.cif_records.proofs.Rows.{onto}
 use Rattle.cif_records.proofs.association.Association.put_fields.Goals as goal
 
 pub returns-clause-columns : goal.returns-clause-columns
@@ -11,10 +10,3 @@ returns-clause-columns c =
     onto _ c.put_on-5.ensures.columns (onto _ c.put_on-4.ensures.columns (onto _ c.put_on-3.ensures.columns (
     onto _ c.put_on-2.ensures.columns (onto _ c.put_on.ensures.columns (
     onto _ c.put_columns-2.ensures.columns (onto _ c.put_columns.ensures.columns c.requires)))))))))))))))
-
-pub returns-clause-fits : goal.returns-clause-fits
-returns-clause-fits c =
-    (refl & printable_fact (codes "AA") refl) & (refl & printable_fact (codes "N") refl) & c.put_on.ensures.fits
-    & c.put_on-2.ensures.fits & c.put_on-3.ensures.fits & c.put_on-4.ensures.fits & c.put_on-5.ensures.fits & c.put_on-6.ensures.fits
-    & c.put_on-7.ensures.fits & c.put_on-8.ensures.fits & c.put_on-9.ensures.fits & c.put_on-10.ensures.fits & c.put_on-11.ensures.fits
-    & c.put_on-12.ensures.fits & tt & c.put_on-13.ensures.fits & tt

@@ -1,7 +1,5 @@
 -- Each field was found where its row says. A line spells one association (`one_association`), and none if it is refused.
-use Rattle.cif_records.proofs.Associations.{no_refusal, one_association}
-use Rattle.cif_records.proofs.Judging.{only}
-use Rattle.cif_records.proofs.Rows.{◌&◌}
+use Rattle.cif_records.proofs.{Associations.no_refusal, Associations.one_association, Judging.only, Rows.◌&◌}
 use Rattle.cif_records.proofs.association.Association.read.Goals as goal
 
 pub returns-in-Ok-clause-exact : goal.returns-in-Ok-clause-exact

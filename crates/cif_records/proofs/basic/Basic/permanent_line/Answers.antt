@@ -1,6 +1,5 @@
 -- Columns 30 to 78 stand as they are: `detail_columns` has them as the detail's plain ones.
-use Rattle.cif_records.proofs.Names.{Some}
-use Rattle.cif_records.proofs.Details.{detail_columns}
+use Rattle.cif_records.proofs.{Details.detail_columns, Names.Some}
 use Rattle.cif_records.proofs.basic.Basic.permanent_line.Goals as goal
 
 pub returns : goal.returns

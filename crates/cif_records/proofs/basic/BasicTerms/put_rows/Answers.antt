@@ -2,9 +2,8 @@
 use Rattle.cif_records.proofs.Names.{AllFit, List, Row, [], ap, arith, basic_back, basic_front, codes, detail_rows, exactly, fits-append}
 use Rattle.cif_records.proofs.Names.{length, length-columns, length-plain_line, plain_line, plain_line-append, printable_fact, put_all}
 use Rattle.cif_records.proofs.Names.{put_all-plain_line, refl, row, sym, ℕ, ◌++◌, ◌∙◌, ◌∷◌, ◌≡◌}
-use Rattle.cif_records.proofs.Rows.{onto, ◌&◌}
+use Rattle.cif_records.proofs.{Rows.onto, Rows.◌&◌, basic.BasicTerms.put_rows.Goals.After-put_on-5}
 use Rattle.cif_records.proofs.basic.BasicTerms.put_rows.Goals as goal
-use Rattle.cif_records.proofs.basic.BasicTerms.put_rows.Goals.{After-put_on-5}
 
 abbrev front : After-put_on-5 → List Row
 front c = let t = c.args.self.now in basic_front t.uid t.first t.last t.days
@@ -47,12 +46,6 @@ returns-clause-columns c = λ d is.
     ∙ ap (λ (l : List ℕ). plain_line (front here) ++ (l ++ plain_line last)) (c.columns_at.ensures.value ∙ is)
     ∙ ap (λ (l : List ℕ). plain_line (front here) ++ l) (sym (plain_line-append (detail_rows d) last))
     ∙ sym (plain_line-append (front here) (detail_rows d ++ last))
-
-pub returns-clause-fits : goal.returns-clause-fits
-returns-clause-fits c = λ d fit.
-    let here = (goal.at.returns-clause-fits c).After-put_on-5 in
-    fits-append (front here) (detail_rows d ++ basic_back c.args.self.now.letter) (front-fits here)
-    (fits-append (detail_rows d) (basic_back c.args.self.now.letter) fit (tt & c.put_on-5.ensures.fits & tt))
 
 pub returns-clause-width : goal.returns-clause-width
 returns-clause-width c =

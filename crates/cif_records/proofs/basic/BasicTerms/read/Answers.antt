@@ -1,7 +1,5 @@
 -- The schedule that the line spells has to be named: `terms_spell` builds it, with the detail in the columns or none.
-use Rattle.cif_records.proofs.Names.{basic_refusal, sym}
-use Rattle.cif_records.proofs.Details.{terms_spell}
-use Rattle.cif_records.proofs.Rows.{◌&◌}
+use Rattle.cif_records.proofs.{Details.terms_spell, Names.basic_refusal, Names.sym, Rows.◌&◌}
 use Rattle.cif_records.proofs.basic.BasicTerms.read.Goals as goal
 
 pub returns : goal.returns

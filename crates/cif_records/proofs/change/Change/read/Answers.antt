@@ -1,8 +1,5 @@
--- Each text was found where its row says. A line spells one change (`one_change`), and none if it is refused.
-use Rattle.cif_records.proofs.Names.{Err, change_refusal}
-use Rattle.cif_records.proofs.Changes.{no_refusal, one_change}
-use Rattle.cif_records.proofs.Judging.{only}
-use Rattle.cif_records.proofs.Rows.{◌&◌}
+-- Each text was found where its row says. A line spells one change (`one_change`).
+use Rattle.cif_records.proofs.{Changes.no_refusal, Changes.one_change, Judging.only, Names.change_refusal, Rows.◌&◌}
 use Rattle.cif_records.proofs.change.Change.read.Goals as goal
 
 pub returns-in-Ok-clause-exact : goal.returns-in-Ok-clause-exact
@@ -18,8 +15,3 @@ returns-in-Ok-clause-exact c =
 
 pub returns-in-Ok-clause-only : goal.returns-in-Ok-clause-only
 returns-in-Ok-clause-only c r h = only _ _ _ (one_change c.args.line.now) (no_refusal c.args.line.now) (returns-in-Ok-clause-exact c) r h
-
-pub returns-in-Err-clause-only : goal.returns-in-Err-clause-only
-unfolding change_refusal
-returns-in-Err-clause-only c r h =
-    only _ _ (Err c.in-Err.why) (one_change c.args.line.now) (no_refusal c.args.line.now) (rw c.in-Err.ensures) r h

@@ -1,6 +1,5 @@
 -- Each text was found where its row says, and one detail stands in a line at most (`one_detail`).
-use Rattle.cif_records.proofs.Details.{detail_stands, one_detail}
-use Rattle.cif_records.proofs.Rows.{◌&◌}
+use Rattle.cif_records.proofs.{Details.detail_stands, Details.one_detail, Rows.◌&◌}
 use Rattle.cif_records.proofs.detail.Detail.read.Goals as goal
 
 pub returns-clause-stands : goal.returns-clause-stands

@@ -1,8 +1,5 @@
--- Each value was found where its row says. A line spells one record of further details (`one_extra`), and none if it is refused.
-use Rattle.cif_records.proofs.Names.{Err, extra_refusal}
-use Rattle.cif_records.proofs.Extras.{no_refusal, one_extra}
-use Rattle.cif_records.proofs.Judging.{only}
-use Rattle.cif_records.proofs.Rows.{◌&◌}
+-- Each value was found where its row says. A line spells one record of further details (`one_extra`).
+use Rattle.cif_records.proofs.{Extras.no_refusal, Extras.one_extra, Judging.only, Names.extra_refusal, Rows.◌&◌}
 use Rattle.cif_records.proofs.extra.Extra.read.Goals as goal
 
 pub returns-in-Ok-clause-exact : goal.returns-in-Ok-clause-exact
@@ -13,8 +10,3 @@ returns-in-Ok-clause-exact c =
 
 pub returns-in-Ok-clause-only : goal.returns-in-Ok-clause-only
 returns-in-Ok-clause-only c r h = only _ _ _ (one_extra c.args.line.now) (no_refusal c.args.line.now) (returns-in-Ok-clause-exact c) r h
-
-pub returns-in-Err-clause-only : goal.returns-in-Err-clause-only
-unfolding extra_refusal
-returns-in-Err-clause-only c r h =
-    only _ _ (Err c.in-Err.why) (one_extra c.args.line.now) (no_refusal c.args.line.now) (rw c.in-Err.ensures) r h

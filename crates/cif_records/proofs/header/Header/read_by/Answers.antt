@@ -2,8 +2,7 @@
 use Rattle.cif_records.proofs.Names.{IsPrintable, ap, arith, columns, ddmmyy_in, length-columns, lit<, refl, sym, ◌∙◌}
 use Rattle.std.proofs.lemmas.List.Elements.{All-set}
 use Rattle.cif_records.proofs.Headers.{digits_of, full-before, full-behind, full-there, full-wide, no_refusal, one_header}
-use Rattle.cif_records.proofs.Judging.{only}
-use Rattle.cif_records.proofs.Rows.{◌&◌}
+use Rattle.cif_records.proofs.{Judging.only, Rows.◌&◌}
 use Rattle.cif_records.proofs.header.Header.read_by.Goals as goal
 
 pub invariant_of-result : goal.invariant_of-result

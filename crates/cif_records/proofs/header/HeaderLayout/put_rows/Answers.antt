@@ -1,8 +1,7 @@
 -- Columns 3 to 60 are put at once, and the table has them in parts: `columns-parts` says that these are the same.
 use Rattle.cif_records.proofs.Names.{List, [], ap, codes, exactly, header_table, printable_fact, put_all, put_all-plain_line, refl, row}
 use Rattle.cif_records.proofs.Names.{spare, sym, ℕ, ◌++◌, ◌∙◌, ◌∷◌, ◌≡◌}
-use Rattle.cif_records.proofs.Headers.{columns-parts, fits}
-use Rattle.cif_records.proofs.Rows.{onto, ◌&◌}
+use Rattle.cif_records.proofs.{Headers.columns-parts, Headers.fits, Rows.onto, Rows.◌&◌}
 use Rattle.cif_records.proofs.header.HeaderLayout.put_rows.Goals as goal
 
 pub returns-clause-columns : goal.returns-clause-columns

@@ -1,8 +1,5 @@
 -- Each value was found where its row says. A line spells one first location (`one_origin`), and none if it is refused.
-use Rattle.cif_records.proofs.Names.{origin_refusal}
-use Rattle.cif_records.proofs.Judging.{only}
-use Rattle.cif_records.proofs.Origins.{no_refusal, one_origin}
-use Rattle.cif_records.proofs.Rows.{◌&◌}
+use Rattle.cif_records.proofs.{Judging.only, Names.origin_refusal, Origins.no_refusal, Origins.one_origin, Rows.◌&◌}
 use Rattle.cif_records.proofs.origin.Origin.read.Goals as goal
 
 pub returns-in-Ok-clause-exact : goal.returns-in-Ok-clause-exact

@@ -1,9 +1,6 @@
--- The test asks for bytes of lines alone, and for the table of the location on the way in the line: both by `refl`.
+-- The test asks for the table of the location on the way in the line, by `refl`.
 use Rattle.cif_records.proofs.Names.{refl, stop_in, stop_table}
 use Rattle.cif_records.proofs.stop.Stop.are_plain.Goals as goal
-
-pub returns-clause-line : goal.returns-clause-line
-returns-clause-line c = λ yes. c.passes_columns.ensures.line yes refl
 
 pub returns-clause-plain : goal.returns-clause-plain
 returns-clause-plain c = λ yes.

@@ -1,7 +1,5 @@
 -- Each value was found where its row says. A line spells one location on the way (`one_stop`), and none if it is refused.
-use Rattle.cif_records.proofs.Judging.{only}
-use Rattle.cif_records.proofs.Rows.{◌&◌}
-use Rattle.cif_records.proofs.Stops.{no_refusal, one_stop}
+use Rattle.cif_records.proofs.{Judging.only, Rows.◌&◌, Stops.no_refusal, Stops.one_stop}
 use Rattle.cif_records.proofs.stop.Stop.read.Goals as goal
 
 pub returns-in-Ok-clause-exact : goal.returns-in-Ok-clause-exact

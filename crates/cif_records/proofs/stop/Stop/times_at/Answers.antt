@@ -1,7 +1,6 @@
 -- The last three exits of six, and the end: the first reason is found past those checks that went well, which are rewritten one by one.
-use Rattle.cif_records.proofs.Names.{stop_refusal}
+use Rattle.cif_records.proofs.{Judging.judged_err, Names.stop_refusal}
 use Rattle.std.proofs.lemmas.Result.{err_from_is_err_and}
-use Rattle.cif_records.proofs.Judging.{judged_err}
 use Rattle.cif_records.proofs.stop.Stop.times_at.Goals as goal
 
 pub returns-in_err-field_or-3 : goal.returns-in_err-field_or-3

@@ -1,8 +1,5 @@
 -- Each value was found where its row says. A line spells one last location (`one_terminus`), and none if it is refused.
-use Rattle.cif_records.proofs.Names.{terminus_refusal}
-use Rattle.cif_records.proofs.Judging.{only}
-use Rattle.cif_records.proofs.Rows.{◌&◌}
-use Rattle.cif_records.proofs.Termini.{no_refusal, one_terminus}
+use Rattle.cif_records.proofs.{Judging.only, Names.terminus_refusal, Rows.◌&◌, Termini.no_refusal, Termini.one_terminus}
 use Rattle.cif_records.proofs.terminus.Terminus.read.Goals as goal
 
 pub returns-in-Ok-clause-exact : goal.returns-in-Ok-clause-exact

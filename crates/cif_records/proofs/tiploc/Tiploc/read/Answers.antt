@@ -1,8 +1,6 @@
--- Each value was found where its row says. A line spells one location (`one_tiploc`), and none if it is refused.
-use Rattle.cif_records.proofs.Names.{Err, sym, tiploc_refusal}
-use Rattle.cif_records.proofs.Judging.{only}
-use Rattle.cif_records.proofs.Rows.{◌&◌}
-use Rattle.cif_records.proofs.Tiplocs.{no_refusal, one_tiploc}
+-- Each value was found where its row says. A line spells one location (`one_tiploc`).
+use Rattle.cif_records.proofs.Names.{sym, tiploc_refusal}
+use Rattle.cif_records.proofs.{Judging.only, Rows.◌&◌, Tiplocs.no_refusal, Tiplocs.one_tiploc}
 use Rattle.cif_records.proofs.tiploc.Tiploc.read.Goals as goal
 
 pub returns-in-Ok-clause-exact : goal.returns-in-Ok-clause-exact
@@ -11,8 +9,3 @@ returns-in-Ok-clause-exact c = (rw c.in-Ok.ensures.0) & c.in-Ok.ensures.1 & sym 
 
 pub returns-in-Ok-clause-only : goal.returns-in-Ok-clause-only
 returns-in-Ok-clause-only c r h = only _ _ _ (one_tiploc c.args.line.now) (no_refusal c.args.line.now) (returns-in-Ok-clause-exact c) r h
-
-pub returns-in-Err-clause-only : goal.returns-in-Err-clause-only
-unfolding tiploc_refusal
-returns-in-Err-clause-only c r h =
-    only _ _ (Err c.in-Err.why) (one_tiploc c.args.line.now) (no_refusal c.args.line.now) (rw c.in-Err.ensures) r h

@@ -4,8 +4,7 @@ use Rattle.cif_views.proofs.Names.{association_head, association_plain, category
 use Rattle.cif_views.proofs.Names.{in_record, listed_as, replicate, single_row, sym, type_fields, ℕ, ◌++◌, ◌∙◌}
 use Rattle.cif_canon.proofs.AppendedTexts.{text-is}
 use Rattle.cif_canon.specs.Fields.{nothing}
-use Rattle.cif_views.proofs.PairedJourneys.{shown-change}
-use Rattle.cif_views.proofs.TableRows.{behind-row}
+use Rattle.cif_views.proofs.{PairedJourneys.shown-change, TableRows.behind-row}
 use Rattle.cif_views.proofs.difference_table.DifferenceTableTextsListedRecordAssocKeyAssocBody.write.Goals as goal
 
 abbrev Record : Type 0

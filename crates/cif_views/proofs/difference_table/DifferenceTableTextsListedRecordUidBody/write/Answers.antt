@@ -3,8 +3,7 @@ use Rattle.cif_views.proofs.Names.{BodyLines, Field, List, Listed, Option, Perma
 use Rattle.cif_views.proofs.Names.{schedule_differences, schedule_head, schedule_plain, single_row, sym, ℕ, ◌∙◌}
 use Rattle.cif_canon.proofs.AppendedTexts.{text-is}
 use Rattle.cif_canon.specs.Fields.{nothing}
-use Rattle.cif_views.proofs.PairedJourneys.{shown-change}
-use Rattle.cif_views.proofs.TableRows.{behind-row}
+use Rattle.cif_views.proofs.{PairedJourneys.shown-change, TableRows.behind-row}
 use Rattle.cif_views.proofs.difference_table.DifferenceTableTextsListedRecordUidBody.write.Goals as goal
 
 abbrev Record : Type 0

@@ -1,14 +1,8 @@
--- Equal masks agree (`same-agree`). Else one weekday more, which doesn't count or on which the masks are alike (`agree-more`).
-use Rattle.cif_weeks.proofs.Names.{iff_false, rules, sym, window_days, ◌∙◌, ◌≡◌}
-use Rattle.cif_weeks.proofs.AgreedDays.{agree-more, same-agree}
+-- One weekday more, which doesn't count or on which the masks are alike (`agree-more`).
+use Rattle.cif_weeks.proofs.Names.{iff_false, rules, sym, ◌∙◌, ◌≡◌}
+use Rattle.cif_weeks.proofs.{AgreedDays.agree-more, form.Joining.agree.Goals.else-has-via-else-has}
+use Rattle.cif_weeks.proofs.{form.Joining.agree.Goals.else-has-via-then-has+else-counts}
 use Rattle.cif_weeks.proofs.form.Joining.agree.Goals as goal
-use Rattle.cif_weeks.proofs.form.Joining.agree.Goals.{else-has-via-else-has, else-has-via-then-has+else-counts}
-
-pub returns-then-is : goal.returns-then-is
-returns-then-is c week next =
-    let a = c.args in
-    same-agree a.self.now.form (window_days a.self.now.window) week a.before a.days
-    (c.is.ensures.0 c.if-is.true)
 
 pub loop-weekday-preserved : goal.loop-weekday-preserved
 loop-weekday-preserved c = agree-more c.loop-weekday.invariant (λ week is counted. elim c.else-has.branch [

@@ -1,6 +1,5 @@
 -- On the weekdays before `weekday` on which the two weeks have to agree their masks do.
-use Rattle.cif_weeks.proofs.Names.{window_days}
-use Rattle.cif_weeks.proofs.AgreedDays.{AgreeUpTo}
+use Rattle.cif_weeks.proofs.{AgreedDays.AgreeUpTo, Names.window_days}
 use Rattle.cif_weeks.proofs.form.Joining.agree.Given as goal
 
 abbrev pub invariant-loop-weekday : goal.invariant-loop-weekday

@@ -1,9 +1,0 @@
--- The lines of the clashes are appended, and the sink tells whether it failed (`answered`).
-use Rattle.cif_views.proofs.Names.{answered, ap, clashes_text, ◌∙◌}
-use Rattle.cif_canon.proofs.AppendedTexts.{text-is}
-use Rattle.cif_views.proofs.clash_list.Clashes.write.Goals as goal
-
-pub returns-clause-writes : goal.returns-clause-writes
-returns-clause-writes g c =
-    answered _ _ _ _ _ c.answer.result c.answer.ensures.ok c.answer.ensures.failed
-    (text-is _ _ _ _ _ _ (ap clashes_text (c.as_slice.ensures.value ∙ c.self.view_is)) c.write_clashes.ensures)
