@@ -8,7 +8,7 @@ use Rattle.cif_calendar.proofs.Names.{⊎_elim, ◌++◌, ◌<◌, ◌∙◌, �
 use Rattle.cif_calendar.proofs.KeyTurns.{decided, first-leads, no-entry, rising-after}
 use Rattle.cif_calendar.proofs.{NoEntries.none-clear, Positions.positions-records, RisingLists.Contains-none, Sets.IsFirstClash-same}
 use Rattle.cif_calendar.proofs.PassedKeys.{HasPassed, key-or-later, later-less, left-before, passed-more, turn}
-use Rattle.cif_calendar.specs.Clashes.{AreClashes, TellClashes, told}
+use Rattle.cif_calendar.specs.Clashes.{AreClashes, StandForClashes, key_and_day}
 
 module _ {K B : Type 0} (cmp : K → K → Ordering) (es : List (K × Terms B)) (first last : ℕ) where
   -- the clashes of all keys but the ones with entries at `rest`, which are after them
@@ -101,17 +101,17 @@ module _ {K B : Type 0} (cmp : K → K → Ordering) (es : List (K × Terms B)) 
           (decided cmp total same k run.key (cmp k run.key) refl);
     }
 
-  -- what was found tells the clashes of all keys but the ones with entries at `rest`
+  -- what was found stands for the clashes of all keys but the ones with entries at `rest`
   pub record AreFound (found : List KeyClash) (rest : List ℕ) : Type 0 where
     pub clashes : List (K × ℕ)
     pub searched : IsSearched clashes rest
-    pub tell : map (told es) found ≡ map Some clashes
+    pub stand_for : map (key_and_day es) found ≡ map Some clashes
 
   pub found-nothing : (rest : List ℕ) → ((i : ℕ) → i < length es → Contains rest i) → IsRising cmp es rest → AreFound [] rest
-  found-nothing rest whole rising = record { clashes = []; searched = searched-nothing rest whole rising; tell = refl }
+  found-nothing rest whole rising = record { clashes = []; searched = searched-nothing rest whole rising; stand_for = refl }
 
-  pub found-all : (found : List KeyClash) → AreFound found [] → TellClashes cmp es first last found
-  found-all found a = record { clashes = a.clashes; are = searched-all a.clashes a.searched; tell = a.tell }
+  pub found-all : (found : List KeyClash) → AreFound found [] → StandForClashes cmp es first last found
+  found-all found a = record { clashes = a.clashes; are = searched-all a.clashes a.searched; stand_for = a.stand_for }
 
   -- one key more
   pub found-key : IsTotalOrder cmp → ((j k : K) → cmp j k ≡ Equal → j ≡ k) → (found more : List KeyClash) (rest : List ℕ) →
@@ -121,18 +121,18 @@ module _ {K B : Type 0} (cmp : K → K → Ordering) (es : List (K × Terms B)) 
       (λ clear. record {
         clashes = a.clashes;
         searched = searched-clear total same a.clashes rest a.searched n run clear.0;
-        tell = ap (map (told es)) clear.1 ∙ a.tell;
+        stand_for = ap (map (key_and_day es)) clear.1 ∙ a.stand_for;
       })
       (λ added. record {
         clashes = a.clashes ++ ((run.key, added.day) ∷ []);
         searched = searched-clash total same a.clashes rest a.searched n run added.day added.clash;
-        tell = ap (map (told es)) added.added ∙ map-append (told es) found (added.one ∷ [])
-            ∙ ap₂ (λ (xs ys : List (Option (K × ℕ))). xs ++ ys) a.tell (ap (λ o. o ∷ []) added.tells)
+        stand_for = ap (map (key_and_day es)) added.added ∙ map-append (key_and_day es) found (added.one ∷ [])
+            ∙ ap₂ (λ (xs ys : List (Option (K × ℕ))). xs ++ ys) a.stand_for (ap (λ o. o ∷ []) added.stands_for)
             ∙ sym (map-append Some a.clashes ((run.key, added.day) ∷ []));
       })
       (own run.key (own-turn total same a.clashes rest a.searched n run))
 
--- the first clash of a key, told by a position of the key, comes behind what was found
+-- the first clash of a key, by a position of the key, comes behind what was found
 clash-added : {E K B : Type 0} (key : E → K) (terms : E → Terms B) (es : List E) (first last : ℕ) (k : K) (members : List ℕ) →
     ArePositionsOf (keyed key terms es) k members → (one : KeyClash) → Contains members one.position →
     IsFirstClash (IsChosen (map terms es) members) first last one.day → (found more : List KeyClash) → more ≡ found ++ (one ∷ []) →
@@ -143,11 +143,11 @@ clash-added {K = K} {B = B} key terms es first last k members p one member clash
       day = one.day;
       clash = IsFirstClash-same _ _ (positions-records key terms es k members p) first last one.day clash;
       one = one;
-      tells = ap (λ o. option_map (λ (e : K × Terms B). (e.0, one.day)) o) at.1;
+      stands_for = ap (λ o. option_map (λ (e : K × Terms B). (e.0, one.day)) o) at.1;
       added = is;
     })
 
--- what a fault of a key's calendar tells is the first clash of the key
+-- what a fault of a key's calendar reports is the first clash of the key
 pub fault-added : {E K B : Type 0} (key : E → K) (terms : E → Terms B) (es : List E) (first last : ℕ) (k : K) (members : List ℕ) →
     ArePositionsOf (keyed key terms es) k members → (i : ℕ) → Contains members i → (fault : CalendarFault) →
     IsFault (IsChosen (map terms es) members) first last fault → (found more : List KeyClash) → IsFaultAdded i fault found more →

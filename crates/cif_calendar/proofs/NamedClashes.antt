@@ -1,10 +1,10 @@
--- Clashes that are told by positions, and their names one after another.
+-- Clashes by positions, and their names one after another.
 use Rattle.cif_calendar.proofs.Names.{HasKey, KeyClash, List, Some, Terms, [], ap, append-nil, append_assoc, flat_map, flat_map-append}
 use Rattle.cif_calendar.proofs.Names.{get_or, length, map, named, named_if, option_map, sym, take, take_all, take_more, ℕ, ◌++◌, ◌+◌, ◌<◌}
 use Rattle.cif_calendar.proofs.Names.{◌∙◌, ◌∷◌, ◌≡◌, ◌≤◌}
 use Rattle.std.proofs.{lemmas.List.Concat.flat_map_single, lemmas.List.Folds.flat_map-map}
 use Rattle.cif_extract.specs.declared.fault.Clash.{Clash}
-use Rattle.cif_calendar.specs.Clashes.{told}
+use Rattle.cif_calendar.specs.Clashes.{key_and_day}
 
 module _ {K B : Type 0} (name : K → ℕ → Clash) (es : List (K × Terms B)) (known : List Clash) (found : List KeyClash) where
   -- the name of a clash, by the key at its position
@@ -26,13 +26,13 @@ module _ {K B : Type 0} (name : K → ℕ → Clash) (es : List (K × Terms B)) 
       (append-nil (named name es clash) ∙ named-one clash k has)))
 
   -- all of them
-  pub named-all : (keys : List (K × ℕ)) → map (told es) found ≡ map Some keys → (n : ℕ) → length found ≤ n →
+  pub named-all : (keys : List (K × ℕ)) → map (key_and_day es) found ≡ map Some keys → (n : ℕ) → length found ≤ n →
       (all : List Clash) → all ≡ known ++ flat_map (named name es) (take n found) →
       all ≡ known ++ map (λ (k : K × ℕ). name k.0 k.1) keys
-  named-all keys tell n over all so_far =
+  named-all keys stand_for n over all so_far =
       so_far ∙ ap (λ (l : List Clash). known ++ l)
       (ap (flat_map (named name es)) (take_all n found over)
-      ∙ sym (flat_map-map (named_if name) (told es) found)
-      ∙ ap (flat_map (named_if name)) tell
+      ∙ sym (flat_map-map (named_if name) (key_and_day es) found)
+      ∙ ap (flat_map (named_if name)) stand_for
       ∙ flat_map-map (named_if name) Some keys
       ∙ flat_map_single (λ (k : K × ℕ). name k.0 k.1) keys)

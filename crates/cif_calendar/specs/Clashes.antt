@@ -12,13 +12,13 @@ pub record AreClashes {K B : Type 0} (cmp : K → K → Ordering) (entries : Lis
   pub clashes : (k : K) (d : ℕ) → Contains found (k, d) → IsFirstClash (of_key entries k) first last d
   pub others : (k : K) → ((d : ℕ) → ¬ Contains found (k, d)) → IsClearFrom (of_key entries k) first last
 
--- what is told of a clash: the key of the entry at its position, and its day
-abbrev pub told : {K B : Type 0} → List (K × Terms B) → KeyClash → Option (K × ℕ)
-told entries clash = option_map (λ e. (e.0, clash.day)) (slice_get entries clash.position)
+-- what a found clash stands for: the key of the entry at its position, and its day
+abbrev pub key_and_day : {K B : Type 0} → List (K × Terms B) → KeyClash → Option (K × ℕ)
+key_and_day entries clash = option_map (λ e. (e.0, clash.day)) (slice_get entries clash.position)
 
--- what is told of these are the clashes, one by one
-pub record TellClashes {K B : Type 0} (cmp : K → K → Ordering) (entries : List (K × Terms B)) (first last : ℕ) (found : List KeyClash)
+-- these stand for the clashes, one by one
+pub record StandForClashes {K B : Type 0} (cmp : K → K → Ordering) (entries : List (K × Terms B)) (first last : ℕ) (found : List KeyClash)
     : Type 0 where
   pub clashes : List (K × ℕ)
   pub are : AreClashes cmp entries first last clashes
-  pub tell : map (told entries) found ≡ map Some clashes
+  pub stand_for : map (key_and_day entries) found ≡ map Some clashes

@@ -1,6 +1,6 @@
 //! The keys that have a clash in a window.
 ghost use Rattle.std.specs.Prelude.{◌<◌, All, IfOk, OnOk, length};
-ghost use Rattle.cif_calendar.specs.{Clashes.TellClashes, Keys.ArePositionsOf, Keys.keyed, Steps.Clashes.IsAddedOfKey};
+ghost use Rattle.cif_calendar.specs.{Clashes.StandForClashes, Keys.ArePositionsOf, Keys.keyed, Steps.Clashes.IsAddedOfKey};
 ghost use Rattle.cif_calendar.specs.{Steps.Clashes.IsFaultAdded};
 
 use crate::applies::Window;
@@ -26,7 +26,7 @@ pub fn clashing_keys<E: Entry>(
     entries: &[E],
     window: &Window,
 ) -> Result<Vec<KeyClash>, AllocError>
-    ensures clashes { IfOk result (λ found. TellClashes E.Key.cmp (keyed E.key E.terms entries.now)
+    ensures clashes { IfOk result (λ found. StandForClashes E.Key.cmp (keyed E.key E.terms entries.now)
         window.now.first window.now.last found.items) }
     ensures within { IfOk result (λ found. All (λ clash. clash.position < length entries.now) found.items) }
 {

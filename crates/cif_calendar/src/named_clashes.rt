@@ -1,6 +1,6 @@
 //! Clashes by the names of their keys.
 ghost use Rattle.std.specs.Prelude.{◌≡◌, ◌<◌, ◌++◌, ℕ, All, IfOk, List, Some, length, map};
-ghost use Rattle.cif_calendar.specs.{Clashes.told, Keys.keyed};
+ghost use Rattle.cif_calendar.specs.{Clashes.key_and_day, Keys.keyed};
 
 use crate::entry::Entry;
 use crate::key_clashes::KeyClash;
@@ -50,7 +50,7 @@ pub fn add_named<E: NamedEntry>(
 ) -> Result<(), AllocError>
     requires { All (λ clash. clash.position < length entries.now) found.now }
     ensures { IfOk result (λ _. (keys : List (E.Key × ℕ))
-        → map (told (keyed E.key E.terms entries.now)) found.now ≡ map Some keys
+        → map (key_and_day (keyed E.key E.terms entries.now)) found.now ≡ map Some keys
         → clashes.new.items ≡ clashes.old.items ++ map (λ (k : E.Key × ℕ). E.clash_of k.0 k.1) keys) }
 {
     for clash in found {

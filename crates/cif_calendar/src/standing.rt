@@ -103,7 +103,7 @@ fn have_one_body<E: Entry>(
     requires other { other < length members.now.positions }
     requires alike { AreAlike members.now.terms members.now.positions alike.old }
     ensures alike { AreAlike members.now.terms members.now.positions alike.new }
-    ensures told { IsTrue result ↔ HaveOneBody members.now.terms members.now.positions one other }
+    ensures exact { IsTrue result ↔ HaveOneBody members.now.terms members.now.positions one other }
 {
     // The greater number first, as links fall.
     let mut pair = (one.max(other), one.min(other));

@@ -140,7 +140,7 @@ pub(crate) fn stretches_of<E: Entry>(
 }
 
 /// The piece of a stretch that begins on `first`, or its first date with a clash. The first seven
-/// dates tell of the others.
+/// dates say of the others.
 fn judge<E: Entry>(
     members: &Members<E>,
     first: Day,

@@ -19,13 +19,13 @@ module _ {K B : Type 0} (cmp : K → K → Ordering) where
       any.member k any.has))
   front-some total es rest k any (suc n) front = (let z : 0 < suc n = omega arith in z)
 
-  -- What isn't at the rests has passed, and of each key that isn't left something is told.
-  pub record ArePassed (xs ys : List (K × Terms B)) (l r : List ℕ) (Told : K → Type 0) : Type 0 where
+  -- What isn't at the rests has passed, and of each key that isn't left something is known.
+  pub record ArePassed (xs ys : List (K × Terms B)) (l r : List ℕ) (Known : K → Type 0) : Type 0 where
     pub left_rising : IsRising cmp xs l
     pub right_rising : IsRising cmp ys r
     pub left_passed : HasPassed cmp xs l (IsLeft xs l ys r)
     pub right_passed : HasPassed cmp ys r (IsLeft xs l ys r)
-    pub told : (k : K) → (IsLeft xs l ys r k → ⊥) → Told k
+    pub known : (k : K) → (IsLeft xs l ys r k → ⊥) → Known k
 
   -- the fronts of both rests are the positions of the key, and the keys of what is later are those that are left, and after it
   pub record AreTurns (xs ys : List (K × Terms B)) (l r : List ℕ) (k : K) (l_front l_later r_front r_later : List ℕ) : Type 0 where
@@ -37,21 +37,21 @@ module _ {K B : Type 0} (cmp : K → K → Ordering) where
 
   module _ (total : IsTotalOrder cmp) (same : (j k : K) → cmp j k ≡ Equal → j ≡ k) (xs ys : List (K × Terms B)) where
     -- at first all positions are left
-    pub passed-nothing : (l r : List ℕ) → AreAllByKey cmp xs l → AreAllByKey cmp ys r → (Told : K → Type 0) →
-        ((k : K) → ((t : Terms B) → of_key xs k t → ⊥) → ((t : Terms B) → of_key ys k t → ⊥) → Told k) → ArePassed xs ys l r Told
-    passed-nothing l r left right Told idle = record {
+    pub passed-nothing : (l r : List ℕ) → AreAllByKey cmp xs l → AreAllByKey cmp ys r → (Known : K → Type 0) →
+        ((k : K) → ((t : Terms B) → of_key xs k t → ⊥) → ((t : Terms B) → of_key ys k t → ⊥) → Known k) → ArePassed xs ys l r Known
+    passed-nothing l r left right Known idle = record {
       left_rising = left.rising;
       right_rising = right.rising;
       left_passed = λ i j has. inl (left.whole i (slice_get_within xs i (j, has.terms) has.at));
       right_passed = λ i j has. inl (right.whole i (slice_get_within ys i (j, has.terms) has.at));
-      told = λ k none. idle k (no-entry xs l left.whole k (λ any. none (inl any))) (no-entry ys r right.whole k (λ any. none (inr any)));
+      known = λ k none. idle k (no-entry xs l left.whole k (λ any. none (inl any))) (no-entry ys r right.whole k (λ any. none (inr any)));
     }
 
     -- nobody is left where there are no positions
     pub nobody : (k : K) → IsLeft xs [] ys [] k → ⊥
     nobody k = ⊎_elim (λ any. Contains-none any.position any.member) (λ any. Contains-none any.position any.member)
 
-    module _ (l r : List ℕ) (Told : K → Type 0) (a : ArePassed xs ys l r Told) (k : K) (f : IsFirstOfBoth cmp xs l ys r k) where
+    module _ (l r : List ℕ) (Known : K → Type 0) (a : ArePassed xs ys l r Known) (k : K) (f : IsFirstOfBoth cmp xs l ys r k) where
       module _ (n m : ℕ) (left_front : IsCountOfKey cmp xs l k n) (right_front : IsCountOfKey cmp ys r k m) where
         left-turn : ArePositionsOf xs k (take n l)
         left-turn = turn cmp total xs l (IsLeft xs l ys r) a.left_passed k f.has n left_front
@@ -100,7 +100,7 @@ module _ {K B : Type 0} (cmp : K → K → Ordering) where
         }
 
         -- the key has passed
-        pub pass : (Next : K → Type 0) → Next k → ((j : K) → (j ≡ k → ⊥) → Told j → Next j) → ArePassed xs ys (drop n l) (drop m r) Next
+        pub pass : (Next : K → Type 0) → Next k → ((j : K) → (j ≡ k → ⊥) → Known j → Next j) → ArePassed xs ys (drop n l) (drop m r) Next
         pass Next here on = record {
           left_rising = rising-after cmp xs l a.left_rising n;
           right_rising = rising-after cmp ys r a.right_rising m;
@@ -108,8 +108,8 @@ module _ {K B : Type 0} (cmp : K → K → Ordering) where
               (IsLeft xs (drop n l) ys (drop m r)) still less;
           right_passed = passed-more cmp total ys r (IsLeft xs l ys r) a.right_passed k f.has m right_front
               (IsLeft xs (drop n l) ys (drop m r)) still less;
-          told = λ j none. ⊎_elim
+          known = λ j none. ⊎_elim
               (λ is. subst (λ i. Next i) (sym is) here)
-              (λ apart. on j apart (a.told j (λ was. none (left-on j apart was))))
+              (λ apart. on j apart (a.known j (λ was. none (left-on j apart was))))
               (decided cmp total same j k (cmp j k) refl);
         }

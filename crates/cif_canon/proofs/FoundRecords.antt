@@ -74,7 +74,7 @@ module _ {K B : Type 0} (xs ys : List (K × Terms B)) where
 -- ---- what is found of one key more
 
 -- of key k each list is clear, the records of its side say what only it does, and it is known what runs by each
-pub record AreTold {K B : Type 0} (window : Window) (xs ys : List (K × Terms B)) (found : List (Sided (K × Permanent B))) (k : K) : Type 0
+pub record IsKeyKnown {K B : Type 0} (window : Window) (xs ys : List (K × Terms B)) (found : List (Sided (K × Permanent B))) (k : K) : Type 0
   where
     pub clear : (side : Side) → IsClearFrom (of_key (at_side xs ys side) k) window.first window.last
     pub says : (side : Side) (d : ℕ) (b : B) → IsWithin window d →
@@ -89,7 +89,7 @@ module _ {K B : Type 0} (cmp : K → K → Ordering) (window : Window) (xs ys : 
     pub canonical : (side : Side) → AreCanonical cmp Two window (of_side side found)
     pub in_order : AllPairs (ComesBefore cmp) found
     pub before : (s : Sided (K × Permanent B)) (k : K) → Contains found s → IsLeft cmp xs l ys r k → cmp s.it.0 k ≡ Less
-    pub passed : ArePassed cmp xs ys l r (AreTold window xs ys found)
+    pub passed : ArePassed cmp xs ys l r (IsKeyKnown window xs ys found)
 
 -- one record comes before another by first date, and where that is the same the left one before the right one
 abbrev DatesBefore : {K B : Type 0} → Sided (K × Permanent B) → Sided (K × Permanent B) → Type 0
@@ -105,7 +105,7 @@ module _ {K B : Type 0} (cmp : K → K → Ordering) (total : IsTotalOrder cmp) 
     (window : Window) (xs ys : List (K × Terms B)) (l r : List ℕ) (runs : List (Sided Run)) (a : AreFound cmp window xs ys l r runs) (k : K)
     (f : IsFirstOfBoth cmp xs l ys r k) (n m : ℕ) (left_front : IsCountOfKey cmp xs l k n) (right_front : IsCountOfKey cmp ys r k m) where
   pub found-turns : AreTurns cmp xs ys l r k (take n l) (drop n l) (take m r) (drop m r)
-  found-turns = turns cmp total same xs ys l r (AreTold window xs ys a.found) a.passed k f n m left_front right_front
+  found-turns = turns cmp total same xs ys l r (IsKeyKnown window xs ys a.found) a.passed k f n m left_front right_front
 
   module _ (merged : List (Sided Run))
       (given : ArePositionsOf xs k (take n l) → ArePositionsOf ys k (take m r) → AreOfKey window xs ys k merged) where
@@ -169,8 +169,8 @@ module _ {K B : Type 0} (cmp : K → K → Ordering) (total : IsTotalOrder cmp) 
         (by-dates i j d less within)
 
     -- for the key itself
-    told-here : AreTold window xs ys (a.found ++ zipped.found) k
-    told-here = record {
+    known-here : IsKeyKnown window xs ys (a.found ++ zipped.found) k
+    known-here = record {
       clear = o.clear;
       says = λ side d b within.
           let bodies = bodies-own (of_side side a.found) k (own side)
@@ -182,8 +182,8 @@ module _ {K B : Type 0} (cmp : K → K → Ordering) (total : IsTotalOrder cmp) 
     }
 
     -- and for another
-    told-there : (j : K) → (j ≡ k → ⊥) → AreTold window xs ys a.found j → AreTold window xs ys (a.found ++ zipped.found) j
-    told-there j apart t = record {
+    known-there : (j : K) → (j ≡ k → ⊥) → IsKeyKnown window xs ys a.found j → IsKeyKnown window xs ys (a.found ++ zipped.found) j
+    known-there j apart t = record {
       clear = t.clear;
       says = λ side d b within.
           let bodies = bodies-other (of_side side a.found) k (own side) j apart d b in
@@ -206,15 +206,15 @@ module _ {K B : Type 0} (cmp : K → K → Ordering) (total : IsTotalOrder cmp) 
           (λ old. a.before s j old (found-turns.still j left))
           (λ new. subst (λ i. cmp i j ≡ Less) (sym (own-key s new)) (found-turns.later j left))
           (Contains-append_cases a.found zipped.found s in_s);
-      passed = pass cmp total same xs ys l r (AreTold window xs ys a.found) a.passed k f n m left_front right_front
-          (AreTold window xs ys (a.found ++ zipped.found)) told-here told-there;
+      passed = pass cmp total same xs ys l r (IsKeyKnown window xs ys a.found) a.passed k f n m left_front right_front
+          (IsKeyKnown window xs ys (a.found ++ zipped.found)) known-here known-there;
     }
 
 -- ---- of a key without entries
 
-told-idle : {K B : Type 0} (window : Window) (xs ys : List (K × Terms B)) (k : K) →
-    ((side : Side) (t : Terms B) → of_key (at_side xs ys side) k t → ⊥) → AreTold window xs ys [] k
-told-idle {K} {B} window xs ys k nothing = record {
+known-idle : {K B : Type 0} (window : Window) (xs ys : List (K × Terms B)) (k : K) →
+    ((side : Side) (t : Terms B) → of_key (at_side xs ys side) k t → ⊥) → IsKeyKnown window xs ys [] k
+known-idle {K} {B} window xs ys k nothing = record {
   clear = λ side. none-clear (of_key (at_side xs ys side) k) (nothing side) window.first window.last;
   says = λ side d b within. (
     λ h. absurd (Contains-none (k, h.it) h.listed),
@@ -239,11 +239,11 @@ found-first {K} {B} cmp total same window xs ys l r left right = record {
   canonical = λ side. canonical-none cmp Two window;
   in_order = λ i j d less within. absurd (omega arith);
   before = λ s k in'. absurd (Contains-none s in');
-  passed = passed-nothing cmp total same xs ys l r left right (AreTold window xs ys []) (λ k no_x no_y. told-idle window xs ys k
+  passed = passed-nothing cmp total same xs ys l r left right (IsKeyKnown window xs ys []) (λ k no_x no_y. known-idle window xs ys k
       (by-side (λ side. (t : Terms B) → of_key (at_side xs ys side) k t → ⊥) no_x no_y));
 }
 
--- ---- what is told of all keys
+-- ---- what is known of all keys
 
 -- a list without members
 pub no-member : {A : Type 0} (zs : List A) → ((s : A) → Contains zs s → ⊥) → zs ≡ []
@@ -259,7 +259,7 @@ same-options None (Some b) no_u no_v (inr apart) = absurd (no_v b refl apart)
 same-options (Some a) v no_u no_v (inr apart) = absurd (no_u a refl (λ e. apart (sym e)))
 
 module _ {K B : Type 0} (window : Window) (xs ys : List (K × Terms B)) (found : List (Sided (K × Permanent B))) where
-  module _ (k : K) (t : AreTold window xs ys found k) (d : ℕ) (within : IsWithin window d) where
+  module _ (k : K) (t : IsKeyKnown window xs ys found k) (d : ℕ) (within : IsWithin window d) where
     abbrev on : AreRuns xs ys k d
     on = t.runs d within
 
@@ -325,19 +325,19 @@ module _ {K B : Type 0} (window : Window) (xs ys : List (K × Terms B)) (found :
       λ h. (on.runs Left o).0 (same ∙ (on.runs Right o).1 h),
     )
 
-  module _ (told : (k : K) → AreTold window xs ys found k) where
+  module _ (known : (k : K) → IsKeyKnown window xs ys found k) where
     pub turn-all : TurnInto window xs ys found
-    turn-all = record { runs = λ k d o within. turn-on k (told k) d within o }
+    turn-all = record { runs = λ k d o within. turn-on k (known k) d within o }
 
     clear-all : (side : Side) → AreClear (at_side xs ys side) window.first window.last
-    clear-all side = record { key = λ k. (told k).clear side }
+    clear-all side = record { key = λ k. (known k).clear side }
 
     same-all : found ≡ [] → AreSame window xs ys
     same-all is = record {
       clear = clear-all;
       same = record {
         same = λ k d o from upto.
-            silent-same k (told k) d (record { from = from; upto = upto }) (λ side. none-says side k d) o;
+            silent-same k (known k) d (record { from = from; upto = upto }) (λ side. none-says side k d) o;
       };
     } where
       none-says : (side : Side) (k : K) (d : ℕ) → SaysNothing side found k d
@@ -350,7 +350,7 @@ module _ {K B : Type 0} (window : Window) (xs ys : List (K × Terms B)) (found :
 module _ {K B : Type 0} (cmp : K → K → Ordering) (total : IsTotalOrder cmp) (window : Window) (xs ys : List (K × Terms B))
     (s : Sided (K × Permanent B)) (others : List (Sided (K × Permanent B))) (in_order : AllPairs (ComesBefore cmp) (s ∷ others))
     (canonical : (side : Side) → AreCanonical cmp Two window (of_side side (s ∷ others)))
-    (told : (k : K) → (cmp s.it.0 k ≡ Less → ⊥) → AreTold window xs ys (s ∷ others) k) where
+    (known : (k : K) → (cmp s.it.0 k ≡ Less → ⊥) → IsKeyKnown window xs ys (s ∷ others) k) where
   -- no record is before it
   from-first : (side : Side) (k : K) (p : Permanent B) → of_key (of_side side (s ∷ others)) k p →
       (cmp s.it.0 k ≡ Less) ⊎ ((s.it.0 ≡ k) × (s.it.1.first ≤ p.first))
@@ -381,8 +381,8 @@ module _ {K B : Type 0} (cmp : K → K → Ordering) (total : IsTotalOrder cmp) 
       (λ same. let begun : h.it.first ≤ d = h.applies.begun in let from = same.1 in omega (arith, begun, from, less))
       (from-first side s.it.0 h.it h.listed)
 
-  here : AreTold window xs ys (s ∷ others) s.it.0
-  here = told s.it.0 (not_less cmp total s.it.0 s.it.0 refl)
+  here : IsKeyKnown window xs ys (s ∷ others) s.it.0
+  here = known s.it.0 (not_less cmp total s.it.0 s.it.0 refl)
 
   -- on its first day it applies
   first-day : IsWithin window s.it.1.first × HasBody (of_key (of_side s.side (s ∷ others)) s.it.0) s.it.1.first s.it.1.body
@@ -416,7 +416,7 @@ module _ {K B : Type 0} (cmp : K → K → Ordering) (total : IsTotalOrder cmp) 
         silent-same window xs ys (s ∷ others) s.it.0 here e (record { from = from; upto = omega (arith, upto, less) })
         (λ side. silent-day side e less);
     keys_before = λ j e less from upto.
-        silent-same window xs ys (s ∷ others) j (told j (less_one_way cmp total j s.it.0 less)) e (record { from = from; upto = upto })
+        silent-same window xs ys (s ∷ others) j (known j (less_one_way cmp total j s.it.0 less)) e (record { from = from; upto = upto })
         (λ side. silent-key side j e less);
   }
 
@@ -430,33 +430,33 @@ module _ {K B : Type 0} (cmp : K → K → Ordering) (total : IsTotalOrder cmp) 
 module _ {K B : Type 0} (cmp : K → K → Ordering) (total : IsTotalOrder cmp) (window : Window) (xs ys : List (K × Terms B)) where
   of-first : (found : List (Sided (K × Permanent B))) → AllPairs (ComesBefore cmp) found →
       ((side : Side) → AreCanonical cmp Two window (of_side side found)) →
-      ((s : Sided (K × Permanent B)) (k : K) → Contains found s → (cmp s.it.0 k ≡ Less → ⊥) → AreTold window xs ys found k) →
+      ((s : Sided (K × Permanent B)) (k : K) → Contains found s → (cmp s.it.0 k ≡ Less → ⊥) → IsKeyKnown window xs ys found k) →
       (found ≡ [] → AreSame window xs ys) →
       IsFirstFound cmp window xs ys found × (EntriesSayTheSame xs ys window.first window.last → found ≡ [])
-  of-first [] in_order canonical told none = (none refl, λ same. refl)
-  of-first (s ∷ others) in_order canonical told none =
-      let those = λ (k : K). told s k (Contains-first s others) in (
+  of-first [] in_order canonical known none = (none refl, λ same. refl)
+  of-first (s ∷ others) in_order canonical known none =
+      let those = λ (k : K). known s k (Contains-first s others) in (
         first-found cmp total window xs ys s others in_order canonical those,
         λ same. absurd (not-same cmp total window xs ys s others in_order canonical those same),
       )
 
   module _ (l r : List ℕ) (runs : List (Sided Run)) (a : AreFound cmp window xs ys l r runs) (extent : Extent) where
     different-runs : (a.found ≡ [] → AreSame window xs ys) →
-        (extent ≡ AllKeys → (k : K) → AreTold window xs ys a.found k) → AreDifferentRuns cmp window xs ys extent runs
-    different-runs none told =
+        (extent ≡ AllKeys → (k : K) → IsKeyKnown window xs ys a.found k) → AreDifferentRuns cmp window xs ys extent runs
+    different-runs none known =
         let first = of-first a.found a.in_order a.canonical
-        (λ s k in' apart. a.passed.told k (λ left. apart (a.before s k in' left))) none in record {
+        (λ s k in' apart. a.passed.known k (λ left. apart (a.before s k in' left))) none in record {
           found = a.found;
           runs_of = a.runs_of;
           first = first.0;
           none = first.1;
-          clear = λ all. clear-all window xs ys a.found (told all);
+          clear = λ all. clear-all window xs ys a.found (known all);
           different = λ all. record {
             only = λ side. subst (λ zs. AreOnlyRecords cmp window (at_side xs ys side) zs (of_side side a.found)) (at_other xs ys side)
-                (record { canonical = a.canonical side; exact = λ k d b within. (told all k).says side d b within });
+                (record { canonical = a.canonical side; exact = λ k d b within. (known all k).says side d b within });
             in_order = a.in_order;
           };
-          turn = λ all. turn-all window xs ys a.found (told all);
+          turn = λ all. turn-all window xs ys a.found (known all);
         }
 
     -- where something is found, that is enough for the first difference
@@ -469,5 +469,5 @@ module _ {K B : Type 0} (cmp : K → K → Ordering) (total : IsTotalOrder cmp) 
   pub found-all : (same : (j k : K) → cmp j k ≡ Equal → j ≡ k) (runs : List (Sided Run)) → AreFound cmp window xs ys [] [] runs →
       (extent : Extent) → AreDifferentRuns cmp window xs ys extent runs
   found-all same runs a extent =
-      let told = λ (k : K). a.passed.told k (nobody cmp total same xs ys k) in
-      different-runs [] [] runs a extent (same-all window xs ys a.found told) (λ all. told)
+      let known = λ (k : K). a.passed.known k (nobody cmp total same xs ys k) in
+      different-runs [] [] runs a extent (same-all window xs ys a.found known) (λ all. known)

@@ -22,7 +22,7 @@ IsFirstClashIn x (Train uid day) =
     AreClear (association_entries x.associations) x.header.first x.header.last
     × IsFirstClashOf (slice_cmp nat_cmp) (schedule_entries x.schedules) x.header.first x.header.last uid day
 
--- why an extract has no canonical form: its first clash, or memory ran out, of which no contract tells
+-- why an extract has no canonical form: its first clash, or memory ran out, of which no contract speaks
 abbrev pub IsCanonFault : ExtractParts → Fault → Type 0
 IsCanonFault x (Ambiguous clash) = IsFirstClashIn x clash
 IsCanonFault x Memory = ⊤

@@ -39,8 +39,8 @@ pub(crate) fn extract_runs(
     ensures fault { IfErr result (IsCanonFault (extract_parts extract.now)) }
 {
     let window = Window::of(&extract.header);
-    let associations = canonical_runs(alloc, extract.associations.as_slice(), &window, form)?;
-    let schedules = canonical_runs(alloc, extract.schedules.as_slice(), &window, form)?;
+    let associations = runs_of_entries(alloc, extract.associations.as_slice(), &window, form)?;
+    let schedules = runs_of_entries(alloc, extract.schedules.as_slice(), &window, form)?;
     Ok(ExtractRuns {
         associations,
         schedules,
@@ -59,7 +59,7 @@ fn fault_of<E: NamedEntry>(fault: CalendarFault, entry: &E) -> Fault
 
 /// Makes the runs of one key's canonical records, in place of those that the list has. The key's
 /// entries are at `members`.
-fn make_runs_of_key<E: NamedEntry>(
+fn add_runs_of_key<E: NamedEntry>(
     alloc: Global,
     made: &mut Vec<Run>,
     entries: &[E],
@@ -112,7 +112,7 @@ fn look_ahead<E: Entry>(entries: &[E], positions: &[usize])
 ///
 /// Ambiguous comes only where on some date two winners of a key have different bodies, and names the
 /// first such key and its first such date; Memory where memory ran out.
-pub(crate) fn canonical_runs<E: NamedEntry>(
+pub(crate) fn runs_of_entries<E: NamedEntry>(
     alloc: Global,
     entries: &[E],
     window: &Window,
@@ -137,7 +137,7 @@ pub(crate) fn canonical_runs<E: NamedEntry>(
         }
         let (members, later) = rest.split_at(count_of_first_key(entries, rest));
         looked_at = looked_at.saturating_sub(members.len());
-        make_runs_of_key(alloc, &mut runs, entries, members, window, form)?;
+        add_runs_of_key(alloc, &mut runs, entries, members, window, form)?;
         all.extend_from_slice(runs.as_slice())?;
         rest = later;
     }

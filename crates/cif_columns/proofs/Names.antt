@@ -46,7 +46,7 @@ pub use Rattle.cif_columns.specs.Contents.{IsFirstContent, IsFirstFeed, IsLineRe
 unfoldable pub use Rattle.cif_columns.specs.Day.{day_number, ddmmyy_in, yymmdd_in}
 pub use Rattle.cif_columns.specs.Day.{IsDated, IsDay, IsOfCentury, StandsInDdmmyy, StandsInYymmdd, day_from, is_date, year_of}
 unfoldable pub use Rattle.cif_columns.specs.DayDigits.{date_of, ddmmyy_of, yymmdd_of}
-pub use Rattle.cif_columns.specs.{DayDigits.CalendarDate, DayDigits.next_date, Devices.OneError, Devices.told_count, Digits.number_in}
+pub use Rattle.cif_columns.specs.{DayDigits.CalendarDate, DayDigits.next_date, Devices.OneError, Devices.known_count, Digits.number_in}
 pub use Rattle.cif_columns.specs.{Digits.two_digits, Laws.Flags.bits_of-flags, PublicTime.IsPublicTime, PublicTime.is_public_time}
 pub use Rattle.cif_columns.specs.{Stp.letter, Stp.stp_in, WorkTime.IsWorkTime, WorkTime.is_work_time}
 pub use Rattle.cif_columns.specs.DaysRun.{IsFirstOf, IsLastOf, RunsOn, bits_of, days_columns, days_of, flag, flags, is_flag}

@@ -62,7 +62,7 @@ pub record CutsNext {R : Type 0} (remaining : R → Option (List ℕ)) (errors :
       (λ bytes. MatchResult result (λ next. AnswersNext most bytes next (content_bytes new) (known_left remaining new to))
       (λ fault. known_left remaining new to ≡ Some bytes))
   pub overlong : result ≡ Ok next.Overlong → BeginOverlong (most_by most (held_bytes new)) (held_bytes new)
-  -- what isn't a failure is decided by the bytes so far, or by the end that the source told
+  -- what isn't a failure is decided by the bytes so far, or by the end that the source reported
   pub decided : IfOk result (λ next. source_ended to ≡ false → GivenDecided most (known_left remaining old from) (remaining (reader_of to)))
   pub undecided : OnErr result (AreUndecided (most_by most (held_bytes new)) (held_bytes new))
   -- a source that fails is reported; one that has failed has no end, and gives no bytes where none are held

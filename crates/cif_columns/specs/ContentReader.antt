@@ -73,7 +73,7 @@ pub record IsNextWithin {R : Type 0} (remaining : R → Option (List ℕ)) (erro
   pub holds : HoldsNext most old result new
   pub limit_now : limit new ≡ limit old
   pub most_now : most_of new ≡ most_of old
-  -- what isn't a failure is decided by the bytes so far, or by the end that the source told
+  -- what isn't a failure is decided by the bytes so far, or by the end that the source reported
   pub decided : result ≢ Err Read → source_ended to ≡ false →
       GivenDecideContent most (limit old) (given old) (left remaining old from) (remaining (reader_of to))
   -- a source that fails is reported; one that has failed has no end, and gives no bytes where none are held

@@ -55,7 +55,7 @@ pub record IsContentDecidedWithin (P : List ℕ → Type 0) (most : Most) (max :
   pub numbered : number ≡ length lines + 1
   pub decided : ¬ DecideNoContent (most_by most rest) max (length lines) rest
 
--- The content of this number is decided, whatever follows: by what the source gave of the bytes, or else by the end that it told.
+-- The content of this number is decided, whatever follows: by what the source gave of the bytes, or else by the end that it reported.
 abbrev pub IsDecidedWithinOrLast : (List ℕ → Type 0) → Most → ℕ → List ℕ → Unread → ℕ → Type 0
 IsDecidedWithinOrLast P most max bytes after number = after.ended ≡ false → IsSomeAnd after.bytes
     (λ unread. IsContentDecidedWithin P most max bytes unread number)

@@ -80,16 +80,16 @@ pub record IsNextBy {R : Type 0} (remaining : R → Option (List ℕ)) (errors :
   -- the answer is the first line of the bytes that are left, and the bytes after it are left then
   pub answer : past old ≡ Reading → IfSome (left remaining old from) (λ bytes.
       Answers (limit old) (given old) bytes result (left remaining new to))
-  -- What isn't a failure is decided by the bytes so far, or by the end that the source told.
+  -- What isn't a failure is decided by the bytes so far, or by the end that the source reported.
   pub decided : past old ≡ Reading → result ≢ Err Read → source_ended to ≡ false →
       GivenDecideContent most (limit old) (given old) (left remaining old from) (remaining (reader_of to))
   -- A source that fails is reported where the bytes before the failure decide nothing. One that has failed has no end, and an end is
-  -- reported where the source told it.
+  -- reported where the source reported it.
   pub device : past old ≡ Reading → LineReads errors from to result
   pub undecided : past old ≡ Reading → result ≡ Err Read →
       DecideNoContent (most_by most (held new)) (limit old) (given old) (held new)
   pub endless : past old ≡ Reading → result ≡ Ok None → source_failed from ≡ false
-  pub told : past old ≡ Reading → result ≡ Ok None → source_ended to ≡ true
+  pub ended : past old ≡ Reading → result ≡ Ok None → source_ended to ≡ true
   -- for any source: a refusal names the next line, and one of the reasons of lines
   pub fault : past old ≡ Reading → IfErr result (IsNextFault (given old))
   -- after the end, and after a fault, it is answered again, and nothing is read

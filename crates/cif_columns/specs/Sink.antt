@@ -34,7 +34,7 @@ pub record HasFailed {W : Type 0} (contents : W → Option (List ℕ)) (errors :
   pub erred : sink_failed old ≡ false → OneError (errors (writer_of old)) (errors (writer_of new))
   pub untouched : sink_failed old ≡ true → new ≡ old
 
--- what a call that writes a text owes its sink, over what its writer tells of its bytes and its errors
+-- what a call that writes a text owes its sink, over what its writer says about its bytes and its errors
 abbrev pub Writes : {W A E : Type 0} → (W → Option (List ℕ)) → (W → Option ℕ) → List ℕ → Sink W → Sink W → Result A E → Type 0
 Writes contents errors text old new (Ok done) = HasWritten contents errors text old new
 Writes contents errors text old new (Err fault) = HasFailed contents errors text old new

@@ -10,11 +10,11 @@ reader_of s = s.reader
 abbrev pub source_failed : {R : Type 0} → Source R → Bool
 source_failed s = s.failed
 
--- whether the last read that didn't fail told the end: the reader was asked for bytes and gave none
+-- whether the last read that didn't fail reported the end: the reader was asked for bytes and gave none
 abbrev pub source_ended : {R : Type 0} → Source R → Bool
 source_ended s = s.ended
 
--- what is left of a source after a call: the bytes of its reader, where they are known, and whether it told its end
+-- what is left of a source after a call: the bytes of its reader, where they are known, and whether it reported its end
 pub record Unread : Type 0 where
   pub bytes : Option (List ℕ)
   pub ended : Bool

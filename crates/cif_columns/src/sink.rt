@@ -115,7 +115,7 @@ impl<W: WriteDevice> Sink<W> {
 
 /// A writer that a `Sink` can write to.
 pub trait WriteDevice: Write {
-    ghost use Rattle.cif_columns.specs.Devices.{OneError, TellsErrors};
+    ghost use Rattle.cif_columns.specs.Devices.{OneError, CountsErrors};
 
     // How many writes and flushes have failed, where that is known. A write that takes none of some
     // bytes has failed too.
@@ -138,7 +138,7 @@ pub trait WriteDevice: Write {
     /// Flushes once, as `flush` does.
     fn flush_once(&mut self) -> io::Result<()>
         ensures bytes { Keeps (Self.contents self.old) (Self.contents self.new) }
-        ensures errors { TellsErrors (write_errors self.old) (write_errors self.new) result }
+        ensures errors { CountsErrors (write_errors self.old) (write_errors self.new) result }
         ensures handed_on { IfOk result (λ _. holds_nothing self.new) };
 }
 

@@ -79,7 +79,7 @@ impl<R: ReadDevice> Source<R> {
 
 /// A reader that a `Source` can read.
 pub trait ReadDevice: Read {
-    ghost use Rattle.cif_columns.specs.Devices.{TellsErrors};
+    ghost use Rattle.cif_columns.specs.Devices.{CountsErrors};
 
     // How many reads have failed, where that is known.
     ghost read_errors: { Self → Option ℕ } = { λ _. None };
@@ -89,7 +89,7 @@ pub trait ReadDevice: Read {
         ensures bound { ReadsAtMost result buf.new }
         ensures bytes { ReadConsumes (Self.remaining self.old) (Self.remaining self.new)
             result buf.new }
-        ensures errors { TellsErrors (read_errors self.old) (read_errors self.new) result };
+        ensures errors { CountsErrors (read_errors self.old) (read_errors self.new) result };
 }
 
 impl ReadDevice for File {

@@ -2,7 +2,7 @@
 ghost use Rattle.std.specs.Prelude.{◌≡◌, ◌+◌, ◌-◌, ◌^◌, ◌<◌, ◌≤◌, [], Some, IsTrue, IfOk, IsErr, min, length, take};
 ghost use Rattle.std.specs.Io.{ReadsAtMost, WritesAtMost};
 ghost use Rattle.std.specs.Io.KnownBytes.{ReadConsumes, Keeps, WriteAppends};
-ghost use Rattle.cif_columns.specs.Devices.{TellsErrors, OneError, told_count};
+ghost use Rattle.cif_columns.specs.Devices.{CountsErrors, OneError, known_count};
 ghost use Rattle.cif_columns.specs.End.{ends_below, bytes_left};
 ghost use Rattle.cif_columns.specs.declared.trials.TheConstants.{ROOM};
 
@@ -73,7 +73,7 @@ impl<'a> Read for TrialReader<'a> {
         ensures bound { ReadsAtMost result buf.new }
         ensures bytes { ReadConsumes (⟦<TrialReader<'a> as Read>⟧.remaining self.old)
             (⟦<TrialReader<'a> as Read>⟧.remaining self.new) result buf.new }
-        ensures errors { TellsErrors (told_count self.old.failures) (told_count self.new.failures)
+        ensures errors { CountsErrors (known_count self.old.failures) (known_count self.new.failures)
             result }
         ensures calls { read_calls self.new ≡ min (read_calls self.old + 1) (2 ^ 64 - 1) }
     {
@@ -97,13 +97,13 @@ impl<'a> Read for TrialReader<'a> {
 impl<'a> ReadDevice for TrialReader<'a> {
     ghost use Rattle.cif_columns.specs.TrialReader.{read_calls};
 
-    ghost read_errors = { λ r. told_count r.failures };
+    ghost read_errors = { λ r. known_count r.failures };
 
     fn read_once(&mut self, buf: &mut [u8]) -> io::Result<usize>
         ensures bound { ReadsAtMost result buf.new }
         ensures bytes { ReadConsumes (⟦<TrialReader<'a> as Read>⟧.remaining self.old)
             (⟦<TrialReader<'a> as Read>⟧.remaining self.new) result buf.new }
-        ensures errors { TellsErrors (⟦<TrialReader<'a> as ReadDevice>⟧.read_errors self.old)
+        ensures errors { CountsErrors (⟦<TrialReader<'a> as ReadDevice>⟧.read_errors self.old)
             (⟦<TrialReader<'a> as ReadDevice>⟧.read_errors self.new) result }
         ensures calls { read_calls self.new ≡ min (read_calls self.old + 1) (2 ^ 64 - 1) }
     {
@@ -175,9 +175,9 @@ impl Write for TrialWriter {
         ensures fine { IfOk result (λ n. (n ≡ 0 → length buf.now ≡ 0)
             → self.new.failures ≡ self.old.failures) }
         ensures stuck { IfOk result (λ n. n ≡ 0 → 0 < length buf.now
-            → OneError (told_count self.old.failures) (told_count self.new.failures)) }
+            → OneError (known_count self.old.failures) (known_count self.new.failures)) }
         ensures errors { IsErr result
-            → OneError (told_count self.old.failures) (told_count self.new.failures) }
+            → OneError (known_count self.old.failures) (known_count self.new.failures) }
         ensures calls { write_calls self.new ≡ min (write_calls self.old + 1) (2 ^ 64 - 1) }
     {
         self.calls = self.calls.saturating_add(1);
@@ -199,7 +199,7 @@ impl Write for TrialWriter {
     fn flush(&mut self) -> io::Result<()>
         ensures bytes { Keeps (⟦<TrialWriter as Write>⟧.contents self.old)
             (⟦<TrialWriter as Write>⟧.contents self.new) }
-        ensures errors { TellsErrors (told_count self.old.failures) (told_count self.new.failures)
+        ensures errors { CountsErrors (known_count self.old.failures) (known_count self.new.failures)
             result }
         ensures calls { write_calls self.new ≡ min (write_calls self.old + 1) (2 ^ 64 - 1) }
     {
@@ -209,7 +209,7 @@ impl Write for TrialWriter {
 }
 
 impl WriteDevice for TrialWriter {
-    ghost write_errors = { λ w. told_count w.failures };
+    ghost write_errors = { λ w. known_count w.failures };
 
     fn write_once(&mut self, bytes: &[u8]) -> io::Result<usize> {
         self.write(bytes)

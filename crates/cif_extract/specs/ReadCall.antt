@@ -32,7 +32,7 @@ abbrev pub IsOwed : {R A F : Type 0} → (R → Option ℕ) → (F → Bool) →
 IsOwed errors is_read old new (Ok answer) = (source_failed old ≡ false) × HasReadOn errors old new
 IsOwed errors is_read old new (Err fault) = MatchBool (is_read fault) (HasFailedToRead errors old new) (HasReadOn errors old new)
 
--- the source told its end, and nothing is left of what the reader had
+-- the source reported its end, and nothing is left of what the reader had
 abbrev pub IsReadWhole : {R : Type 0} → (R → Option (List ℕ)) → Source R → Source R → Type 0
 IsReadWhole remaining old new =
     (source_ended new ≡ true) × IfSome (remaining (reader_of old)) (λ bytes. remaining (reader_of new) ≡ Some [])

@@ -14,7 +14,7 @@ use Rattle.cif_feed.specs.{FeedLine.column, Marks.record_mark, Transaction.trans
 use Rattle.cif_feed.specs.Steps.Marks.{is_schedule_mark, is_trailer_mark, mark_of, own_mark, with_mark}
 use Rattle.cif_feed.specs.declared.{feed_line.Feed.TheVariants.Update, mark.UpdateCounts.UpdateCounts}
 use Rattle.cif_feed.specs.declared.holidays.HolidayCode.TheVariants.{X, E, G}
-use Rattle.cif_feed.specs.declared.mark.Mark.TheVariants as mark
+use Rattle.cif_feed.specs.declared.mark.LineMark.TheVariants as mark
 use Rattle.cif_feed.specs.declared.mark.Transaction.TheVariants.{Deleted, New, Revised}
 
 -- a code that stands there counts

@@ -145,7 +145,7 @@ pub use Rattle.cif_feed.specs.declared.{changes.Action.Action, changes.RecordCha
 pub use Rattle.cif_feed.specs.declared.{dropped.Dropped.Dropped, dropped.DroppedKey.DroppedKey, feed_fault.FeedFault.FeedFault}
 pub use Rattle.cif_feed.specs.declared.{feed_line.Feed.Feed, feed_line.Feed.TheVariants.Full, feed_reading.FeedExtract.FeedExtract}
 pub use Rattle.cif_feed.specs.declared.{feed_reading.FeedReading.FeedReading, holidays.HolidayCode.HolidayCode}
-pub use Rattle.cif_feed.specs.declared.{holidays.HolidayCodes.HolidayCodes, holidays.Holidays.Holidays, mark.Mark.Mark}
+pub use Rattle.cif_feed.specs.declared.{holidays.HolidayCodes.HolidayCodes, holidays.Holidays.Holidays, mark.LineMark.LineMark}
 pub use Rattle.cif_feed.specs.declared.{mark.RecordMark.RecordMark, mark.TiplocMark.TiplocMark, mark.Transaction.Transaction}
 pub use Rattle.cif_feed.specs.declared.{prepared_record.PreparedRecord.PreparedRecord, prepared_record.RisingDays.RisingDays}
 pub use Rattle.cif_feed.specs.declared.{published_extract.PublishedAssociation.PublishedAssociation}

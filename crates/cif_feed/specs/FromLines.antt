@@ -8,7 +8,7 @@ ArePairs P [] (y ∷ ys) = ⊥
 ArePairs P (x ∷ xs) [] = ⊥
 ArePairs P (x ∷ xs) (y ∷ ys) = P x y × ArePairs P xs ys
 
--- the same of three
+-- P of the first of all three, of the second and so on; there are as many of each
 abbrev pub AreTriples : {A B C : Type 0} → (A → B → C → Type 0) → List A → List B → List C → Type 0
 AreTriples P [] [] [] = Unit {0}
 AreTriples P (x ∷ xs) (y ∷ ys) (z ∷ zs) = P x y z × AreTriples P xs ys zs

@@ -56,7 +56,7 @@ impl PublishedExtract {
         count
     }
 
-    /// How many of its schedules do.
+    /// How many of its schedules apply on a date on which their UID clashes.
     pub(crate) fn count_clashing_schedules(
         &self,
         holidays: &Holidays,

@@ -13,7 +13,7 @@ ghost use Rattle.cif_feed.specs.LayoutRefusals.{holiday_code_refusal, kind_read_
 ghost use Rattle.cif_feed.specs.Marks.{association_mark, deleted_mark, put_mark, schedule_mark, tiploc_transaction};
 ghost use Rattle.cif_feed.specs.declared.holidays.HolidayCodes.{HolidayCodes};
 
-use crate::mark::{Mark, RecordMark, TiplocMark};
+use crate::mark::{LineMark, RecordMark, TiplocMark};
 use crate::{HolidayCode, HolidayCodes, Transaction};
 use cif_columns::{Day, DaysRun, Line, Refusal, Stp, columns_at, uid_at};
 use cif_records::{
@@ -48,7 +48,7 @@ pub(crate) fn read_tiploc(feed: Feed, kind: Kind, number: u64, line: &Line) -> (
     requires kind { kind_in line.now ≡ Some kind }
     requires located { kind_read_as feed (Some kind) ≡ Some Kind.Ti }
     ensures spells { (allowed : HolidayCodes) → SpellsInFeed feed allowed line.now (of.Tiploc result.0) }
-    ensures mark { (allowed : HolidayCodes) → Mark.Tiploc result.1 ≡ mark_of allowed (Some kind) (number, line.now) }
+    ensures mark { (allowed : HolidayCodes) → LineMark.Tiploc result.1 ≡ mark_of allowed (Some kind) (number, line.now) }
 {
     let tiploc = Tiploc {
         columns: match (feed, kind) {

@@ -13,7 +13,7 @@ ghost use Rattle.cif_records.specs.Kind.{kind_in};
 ghost use Rattle.cif_records.specs.declared.record.Record.{Record};
 
 use crate::feed_line::{read_association, read_basic, read_header, read_tiploc};
-use crate::mark::{Mark, Marks};
+use crate::mark::{LineMark, Marks};
 use crate::{Feed, FeedFault, HolidayCodes};
 use cif_columns::{Content, LINE_WIDTH, Line, LineReader, ReadDevice, Refusal, Source, columns_at};
 use cif_extract::{Extract, Fault, Reading, TakeFault};
@@ -188,7 +188,7 @@ fn take_record(
     allowed: HolidayCodes,
     number: u64,
     line: &Line,
-) -> Result<Mark, TakeFault>
+) -> Result<LineMark, TakeFault>
     requires read { (records : List Record) × HasRead records (progress_of reading.old) }
     ensures { IsMarkedTaken feed allowed (number, line.now) (progress_of reading.old) result
         (progress_of reading.new) }
@@ -202,22 +202,22 @@ fn take_record(
     match (kind, feed) {
         (Kind::Hd, _) => {
             reading.put_header(read_header(feed, line)?);
-            Ok(Mark::Header(number))
+            Ok(LineMark::Header(number))
         }
         (Kind::Aa, _) => {
             let (association, mark) = read_association(feed, number, line)?;
             reading.put_association(association)?;
-            Ok(Mark::Association(mark))
+            Ok(LineMark::Association(mark))
         }
         (Kind::Bs, _) => {
             let (terms, mark) = read_basic(feed, allowed, number, line)?;
             reading.put_basic(terms, line)?;
-            Ok(Mark::Schedule(mark))
+            Ok(LineMark::Schedule(mark))
         }
         (Kind::Ti, _) | (Kind::Ta | Kind::Td, Feed::Update) => {
             let (tiploc, mark) = read_tiploc(feed, kind, number, line);
             reading.put_tiploc(tiploc)?;
-            Ok(Mark::Tiploc(mark))
+            Ok(LineMark::Tiploc(mark))
         }
         _ => take_own(alloc, reading, feed, kind, line),
     }
@@ -230,7 +230,7 @@ fn take_own(
     feed: Feed,
     kind: Kind,
     line: &Line,
-) -> Result<Mark, TakeFault>
+) -> Result<LineMark, TakeFault>
     requires kind { kind_in line.now ≡ Some kind }
     requires own { IsOwn (Some kind) feed }
     requires read { (records : List Record) × HasRead records (progress_of reading.old) }
@@ -243,12 +243,12 @@ fn take_own(
 }
 
 /// What a line of this kind says beyond its record, where it is as in an extract of this profile.
-fn own_mark(kind: Kind) -> Mark
+fn own_mark(kind: Kind) -> LineMark
     ensures { result ≡ own_mark kind }
 {
     match kind {
-        Kind::Zz => Mark::Trailer,
-        _ => Mark::Nothing,
+        Kind::Zz => LineMark::Trailer,
+        _ => LineMark::Nothing,
     }
 }
 

@@ -62,7 +62,7 @@ pub(crate) struct RecordMark {
 
 /// What any line says beyond its record.
 #[derive(Clone, Copy)]
-pub(crate) enum Mark {
+pub(crate) enum LineMark {
     /// An HD, by the number of its line.
     Header(u64),
     /// A TI, a TA or a TD.
@@ -77,19 +77,19 @@ pub(crate) enum Mark {
     Nothing,
 }
 
-impl Mark {
+impl LineMark {
     /// Whether it is that of a BS.
     pub(crate) fn is_of_schedule(&self) -> bool
         ensures { result ≡ is_schedule_mark self.now }
     {
-        matches!(self, Mark::Schedule(_))
+        matches!(self, LineMark::Schedule(_))
     }
 
     /// Whether it is that of a ZZ.
     pub(crate) fn is_of_trailer(&self) -> bool
         ensures { result ≡ is_trailer_mark self.now }
     {
-        matches!(self, Mark::Trailer)
+        matches!(self, LineMark::Trailer)
     }
 }
 
@@ -107,7 +107,7 @@ pub struct Passed {
 pub(crate) struct Marks {
     // The number of the line of the header; 0 before one has come.
     pub(crate) header_line: u64,
-    // Those of the locations, associations and schedules, in their order.
+    // The marks of the locations, associations and schedules, in their order.
     pub(crate) tiplocs: Vec<TiplocMark>,
     pub(crate) associations: Vec<RecordMark>,
     pub(crate) schedules: Vec<RecordMark>,
@@ -141,29 +141,29 @@ impl Marks {
     }
 
     /// Adds what a line says beyond its record.
-    pub(crate) fn add(&mut self, mark: Mark) -> Result<(), AllocError>
+    pub(crate) fn add(&mut self, mark: LineMark) -> Result<(), AllocError>
         requires { HaveRoom self.old.counts }
         ensures { IfOk result (λ _. mark_parts self.new ≡ with_mark (mark_parts self.old) mark) }
     {
         match mark {
-            Mark::Header(line) => {
+            LineMark::Header(line) => {
                 if self.header_line == 0 {
                     self.header_line = line;
                 }
             }
-            Mark::Tiploc(mark) => {
+            LineMark::Tiploc(mark) => {
                 self.counts.add(mark.transaction);
                 self.tiplocs.push(mark)?;
             }
-            Mark::Association(mark) => {
+            LineMark::Association(mark) => {
                 self.counts.add_record(&mark);
                 self.associations.push(mark)?;
             }
-            Mark::Schedule(mark) => {
+            LineMark::Schedule(mark) => {
                 self.counts.add_record(&mark);
                 self.schedules.push(mark)?;
             }
-            Mark::Trailer | Mark::Nothing => {}
+            LineMark::Trailer | LineMark::Nothing => {}
         }
         Ok(())
     }

@@ -139,7 +139,7 @@ impl Detail {
         Detail::plain_line_of(line)
     }
 
-    /// The same, for any columns.
+    /// The line of its own of a detail that is built.
     // Few details come here: the others needn't clear the room for one.
     #[inline(never)]
     fn plain_line_of(line: &Line) -> Line

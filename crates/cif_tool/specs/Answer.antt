@@ -46,7 +46,7 @@ pub record Answers {W : Type 0} (contents : W → Option (List ℕ)) (errors : W
 abbrev pub OfInput : {R : Type 0} → (R → Option (List ℕ)) → (List ℕ → List ℕ → ℕ → Type 0) → Source R → List ℕ → ℕ → Type 0
 OfInput remaining IsAnswer source text status = IfSome (remaining (reader_of source)) (λ bytes. IsAnswer bytes text status)
 
--- and the same of two readers
+-- where the bytes that two readers give are known, this answers them
 abbrev pub OfBoth : {R : Type 0} → (R → Option (List ℕ)) → (List ℕ → List ℕ → List ℕ → ℕ → Type 0) → Source R → Source R → List ℕ →
     ℕ → Type 0
 OfBoth remaining IsAnswer left right =
@@ -203,7 +203,8 @@ pub record IsAnswered {R W : Type 0} (remaining : R → Option (List ℕ)) (read
   pub reads : IsResultOf remaining read_errors call source source_new result
   pub handed_on : IsHandedOn holds_nothing sink_new result
 
--- the same of a command with two, of which it makes this once both are whole extracts
+-- What a command with two inputs owes its sink, of which it makes this once both are whole extracts, what comes of their sources, and that
+-- nothing is held back.
 pub record AreAnswered {R W : Type 0} (remaining : R → Option (List ℕ)) (read_errors : R → Option ℕ) (contents : W → Option (List ℕ))
     (write_errors : W → Option ℕ) (holds_nothing : W → Type 0) (IsAnswer : List ℕ → List ℕ → List ℕ → ℕ → Type 0)
     (Makes : Extract → Extract → Result ℕ Fault → Type 0) (left left_new right right_new : Source R) (sink sink_new : Sink W)

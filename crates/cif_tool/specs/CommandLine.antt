@@ -6,8 +6,8 @@ use Rattle.clap.specs.{Kinds.Kinds, Lexer.usize_max}
 use Rattle.clap.specs.declared.{Command.Command, Command.TheViews.out-Command, builder.ArgAction.TheVariants.SetTrue}
 use Rattle.clap.specs.declared.{builder.ValueParser.TheVariants.Names}
 use Rattle.cif_tool.specs.declared.{command_line.Argument.Argument, command_line.Choices.Choices, command_line.Syntax.Syntax}
-use Rattle.cif_tool.specs.declared.command_line.Argument.TheVariants.{All, Common, Date, DropClashes, File, Form, Format, From, Full}
-use Rattle.cif_tool.specs.declared.command_line.Argument.TheVariants.{Holidays, Left, Lenient, Right, Stops, Table, To, Uid, Updates}
+use Rattle.cif_tool.specs.declared.command_line.Argument.TheVariants.{All, Common, Date, DropClashes, File, Form, Format, FromDate, Full}
+use Rattle.cif_tool.specs.declared.command_line.Argument.TheVariants.{Holidays, Left, Lenient, Right, Stops, Table, ToDate, Uid, Updates}
 use Rattle.cif_tool.specs.declared.command_line.Argument.TheVariants.{Verbose}
 use Rattle.cif_tool.specs.declared.command_line.Syntax.TheVariants as syntax
 
@@ -46,7 +46,7 @@ pub record AreChoices (choices : Choices) : Type 0 where
 abbrev pub one_of : Choice → Rule → Rule
 one_of words rule = record rule { parser = Some (Names words) }
 
--- the same of an option that has this value where it is left out
+-- an option whose value is one of these words, and this one where it is left out
 abbrev pub one_of_or : Choice → Text → Rule → Rule
 one_of_or words default rule = record (one_of words rule) { defaults = default ∷ [] }
 
@@ -60,8 +60,8 @@ given Full = (codes "FULL", syntax.Required)
 given Updates = (codes "UPDATE", syntax.Several)
 given Uid = (codes "UID", syntax.Required)
 given Date = (codes "YYMMDD", syntax.Required)
-given From = (codes "from", syntax.Date)
-given To = (codes "to", syntax.Date)
+given FromDate = (codes "from", syntax.Date)
+given ToDate = (codes "to", syntax.Date)
 given All = (codes "all", syntax.Flag)
 given Common = (codes "common", syntax.Flag)
 given Stops = (codes "stops", syntax.Flag)
@@ -92,19 +92,19 @@ taking choices a (r ∷ rs) = taking choices (with_rule a (argument choices (giv
 
 -- `cif normalise [-v] [--from YYMMDD] [--to YYMMDD] [--form FORM] [FILE]`
 abbrev pub normalise : List Argument
-normalise = Verbose ∷ File ∷ From ∷ To ∷ Form ∷ []
+normalise = Verbose ∷ File ∷ FromDate ∷ ToDate ∷ Form ∷ []
 
 -- `cif check [-v] [--from YYMMDD] [--to YYMMDD] [--form FORM] [--all] [FILE]`
 abbrev pub check : List Argument
-check = Verbose ∷ File ∷ From ∷ To ∷ Form ∷ All ∷ []
+check = Verbose ∷ File ∷ FromDate ∷ ToDate ∷ Form ∷ All ∷ []
 
 -- `cif compare [-v] [--from YYMMDD] [--to YYMMDD] [--common] LEFT RIGHT`
 abbrev pub compare : List Argument
-compare = Verbose ∷ Left ∷ Right ∷ From ∷ To ∷ Common ∷ []
+compare = Verbose ∷ Left ∷ Right ∷ FromDate ∷ ToDate ∷ Common ∷ []
 
 -- `cif diff [-v] [--from YYMMDD] [--to YYMMDD] [--common] [--format FORMAT] LEFT RIGHT`
 abbrev pub diff : List Argument
-diff = Verbose ∷ Left ∷ Right ∷ From ∷ To ∷ Common ∷ Format ∷ []
+diff = Verbose ∷ Left ∷ Right ∷ FromDate ∷ ToDate ∷ Common ∷ Format ∷ []
 
 -- `cif day [-v] [--stops] [--format FORMAT] YYMMDD [FILE]`
 abbrev pub day : List Argument
@@ -112,7 +112,7 @@ day = Verbose ∷ Date ∷ File ∷ Stops ∷ Format ∷ []
 
 -- `cif train [-v] [--from YYMMDD] [--to YYMMDD] [--form FORM] [--stops] [--format FORMAT] UID [FILE]`
 abbrev pub train : List Argument
-train = Verbose ∷ Uid ∷ File ∷ From ∷ To ∷ Form ∷ Stops ∷ Format ∷ []
+train = Verbose ∷ Uid ∷ File ∷ FromDate ∷ ToDate ∷ Form ∷ Stops ∷ Format ∷ []
 
 -- `cif explain [-v] [--format FORMAT] UID YYMMDD [FILE]`
 abbrev pub explain : List Argument
@@ -120,15 +120,15 @@ explain = Verbose ∷ Uid ∷ Date ∷ File ∷ Format ∷ []
 
 -- `cif clashes [-v] [--from YYMMDD] [--to YYMMDD] [FILE]`
 abbrev pub clashes : List Argument
-clashes = Verbose ∷ File ∷ From ∷ To ∷ []
+clashes = Verbose ∷ File ∷ FromDate ∷ ToDate ∷ []
 
 -- `cif table [-v] [--from YYMMDD] [--to YYMMDD] [--form FORM] TABLE [FILE]`
 abbrev pub table : List Argument
-table = Verbose ∷ Table ∷ File ∷ From ∷ To ∷ Form ∷ []
+table = Verbose ∷ Table ∷ File ∷ FromDate ∷ ToDate ∷ Form ∷ []
 
 -- `cif calendar [-v] [--from YYMMDD] [--to YYMMDD] UID [FILE]`
 abbrev pub calendar : List Argument
-calendar = Verbose ∷ Uid ∷ File ∷ From ∷ To ∷ []
+calendar = Verbose ∷ Uid ∷ File ∷ FromDate ∷ ToDate ∷ []
 
 -- `cif prepare [-v] [--holidays FILE] [--drop-clashes] [FILE]`
 abbrev pub prepare : List Argument

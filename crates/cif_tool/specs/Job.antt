@@ -135,17 +135,17 @@ IsChosen (Calendar job) met = (met.0 ≡ codes "calendar")
     × IsUidWord (required_word (codes "UID") met.1) job.uid
     × IsAskedBy met.1 job.asked
 
--- the same of a job on published extracts
+-- the words that were met ask for this job on published extracts
 abbrev pub IsFeedChosen : FeedJob → Text × List Row → Type 0
 IsFeedChosen (Prepare job) met = (met.0 ≡ codes "prepare") × (job.drop_clashes ≡ has_flag (codes "drop-clashes") met.1)
 IsFeedChosen (Update job) met = (met.0 ≡ codes "update") × (job.lenient ≡ has_flag (codes "lenient") met.1)
 
--- the same of a task
+-- the words that were met ask for this task
 abbrev pub IsTaskChosen : Task → Text × List Row → Type 0
 IsTaskChosen (Extract job) = IsChosen job
 IsTaskChosen (Feed job) = IsFeedChosen job
 
--- the same of a call, which has the names of the inputs, of which at most one is standard input
+-- The words that were met ask for this call, which has the names of the inputs, of which at most one is standard input.
 pub record IsRequestChosen (request : Request) (met : Text × List Row) : Type 0 where
   pub task : IsTaskChosen request.task met
   pub inputs : names_of request.inputs ≡ inputs_of met

@@ -4,7 +4,7 @@ use crate::answers::Kept;
 use crate::devices::{ExtractInput, OutputState};
 use crate::job::Job;
 use crate::line_advice::Reader;
-use crate::message::{Detail, Message};
+use crate::message::{Verbosity, Message};
 use cif_canon::Format;
 use cif_columns::{Sink, Uid};
 use cif_extract::{Clash, Extract, Fault};
@@ -18,7 +18,7 @@ const CLASHES: &str =
 /// A job that was done.
 #[derive(Drop)]
 pub(crate) struct DoneJob<'a, 'b> {
-    pub(crate) detail: Detail,
+    pub(crate) verbosity: Verbosity,
     pub(crate) job: &'a Job,
     /// What became of the output.
     pub(crate) written: &'a OutputState,
@@ -51,7 +51,7 @@ impl DoneJob<'_, '_> {
             self.left.add_reasons(reasons, message);
             return;
         }
-        if self.detail == Detail::All {
+        if self.verbosity == Verbosity::All {
             self.add_windows(message);
         }
         if let Some(extract) = &kept.left {

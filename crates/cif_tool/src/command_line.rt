@@ -7,8 +7,8 @@ ghost use Rattle.cif_tool.specs.CommandLine.{AreChoices, IsCommand, argument, ch
 
 use crate::help;
 use Argument::{
-    All, Common, Date, DropClashes, File, Form, Format, From, Full, Holidays, Left, Lenient, Right,
-    Stops, Table, To, Uid, Updates, Verbose,
+    All, Common, Date, DropClashes, File, Form, Format, FromDate, Full, Holidays, Left, Lenient, Right,
+    Stops, Table, ToDate, Uid, Updates, Verbose,
 };
 use clap::{Arg, ArgAction, ArgMatches, Command};
 use std::alloc::{AllocError, Global};
@@ -49,8 +49,8 @@ enum Argument {
     Updates,
     Uid,
     Date,
-    From,
-    To,
+    FromDate,
+    ToDate,
     All,
     Common,
     Stops,
@@ -76,8 +76,8 @@ impl Argument {
             Updates => ("UPDATE", Syntax::Several, help::UPDATES),
             Uid => ("UID", Syntax::Required, help::UID),
             Date => ("YYMMDD", Syntax::Required, help::DATE),
-            From => ("from", Syntax::Date, help::FROM),
-            To => ("to", Syntax::Date, help::TO),
+            FromDate => ("from", Syntax::Date, help::FROM),
+            ToDate => ("to", Syntax::Date, help::TO),
             All => ("all", Syntax::Flag, help::ALL),
             Common => ("common", Syntax::Flag, help::COMMON),
             Stops => ("stops", Syntax::Flag, help::STOPS),
@@ -199,37 +199,37 @@ static SUBCOMMANDS: [Parts<'static>; 12] = [
     (
         "normalise",
         help::NORMALISE,
-        &[Verbose, File, From, To, Form],
+        &[Verbose, File, FromDate, ToDate, Form],
     ),
-    ("check", help::CHECK, &[Verbose, File, From, To, Form, All]),
+    ("check", help::CHECK, &[Verbose, File, FromDate, ToDate, Form, All]),
     (
         "compare",
         help::COMPARE,
-        &[Verbose, Left, Right, From, To, Common],
+        &[Verbose, Left, Right, FromDate, ToDate, Common],
     ),
     (
         "diff",
         help::DIFF,
-        &[Verbose, Left, Right, From, To, Common, Format],
+        &[Verbose, Left, Right, FromDate, ToDate, Common, Format],
     ),
     ("day", help::DAY, &[Verbose, Date, File, Stops, Format]),
     (
         "train",
         help::TRAIN,
-        &[Verbose, Uid, File, From, To, Form, Stops, Format],
+        &[Verbose, Uid, File, FromDate, ToDate, Form, Stops, Format],
     ),
     (
         "explain",
         help::EXPLAIN,
         &[Verbose, Uid, Date, File, Format],
     ),
-    ("clashes", help::CLASHES, &[Verbose, File, From, To]),
+    ("clashes", help::CLASHES, &[Verbose, File, FromDate, ToDate]),
     (
         "table",
         help::TABLE,
-        &[Verbose, Table, File, From, To, Form],
+        &[Verbose, Table, File, FromDate, ToDate, Form],
     ),
-    ("calendar", help::CALENDAR, &[Verbose, Uid, File, From, To]),
+    ("calendar", help::CALENDAR, &[Verbose, Uid, File, FromDate, ToDate]),
     (
         "prepare",
         help::PREPARE,

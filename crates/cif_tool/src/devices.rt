@@ -2,7 +2,7 @@
 ghost use Rattle.std.specs.Io.{ReadsAtMost};
 
 use crate::line_again::{LastRead, LineAgain, MOST_LOOKED_AT, START};
-use crate::message::{Detail, Escaped};
+use crate::message::{Verbosity, Escaped};
 use crate::words::is_standard;
 use arrayvec::ArrayVec;
 use cif_columns::{LINE_WIDTH, Line, ReadDevice, Sink, Source, WriteDevice};
@@ -53,7 +53,7 @@ impl<'a> ExtractInput<'a> {
         rt: HostRuntime,
         side: &'static str,
         file: Option<&'a str>,
-        detail: Detail,
+        verbosity: Verbosity,
     ) -> Self {
         ExtractInput {
             rt,
@@ -70,7 +70,7 @@ impl<'a> ExtractInput<'a> {
             start: ArrayVec::new(),
             last: match file {
                 Some(name) if !is_standard(name) => None,
-                _ => detail.helps().then(|| LastRead::new(rt.alloc())),
+                _ => verbosity.helps().then(|| LastRead::new(rt.alloc())),
             },
             failure: None,
         }
@@ -323,9 +323,9 @@ pub(crate) fn source_of<'a>(
     rt: HostRuntime,
     side: &'static str,
     file: Option<&'a str>,
-    detail: Detail,
+    verbosity: Verbosity,
 ) -> Source<ExtractInput<'a>> {
-    Source::new(ExtractInput::of(rt, side, file, detail))
+    Source::new(ExtractInput::of(rt, side, file, verbosity))
 }
 
 /// The input of this name on the heap, since a small stack has no room for two.
@@ -335,7 +335,7 @@ pub(crate) fn boxed_source<'a>(
     rt: HostRuntime,
     side: &'static str,
     file: Option<&'a str>,
-    detail: Detail,
+    verbosity: Verbosity,
 ) -> Result<Box<Source<ExtractInput<'a>>>, AllocError> {
-    Ok(Box::new(rt.alloc(), source_of(rt, side, file, detail))?)
+    Ok(Box::new(rt.alloc(), source_of(rt, side, file, verbosity))?)
 }

@@ -3,7 +3,7 @@ use crate::devices::{ExtractInput, OutputState};
 use crate::input_advice::{FULL_FIRST, other_format};
 use crate::job::PrepareJob;
 use crate::line_advice::Reader;
-use crate::message::{Detail, Message, shown};
+use crate::message::{Verbosity, Message, shown};
 use cif_columns::{LINE_WIDTH, Sink, Source};
 use cif_extract::Fault;
 use cif_feed::{
@@ -28,7 +28,7 @@ const IN_THEIR_ORDER: &str = "updates stand in their order, the oldest first";
 /// A job of `prepare` that was done, with its inputs and its output.
 #[derive(Drop)]
 pub(crate) struct DonePrepareJob<'a, 'h, 'b> {
-    pub(crate) detail: Detail,
+    pub(crate) verbosity: Verbosity,
     pub(crate) job: &'a PrepareJob,
     /// What became of the output.
     pub(crate) written: &'a OutputState,
@@ -48,7 +48,7 @@ impl DonePrepareJob<'_, '_, '_> {
     ) {
         let mut message = Message::new(alloc);
         match answer {
-            Ok(_) if self.detail == Detail::Help => {}
+            Ok(_) if self.verbosity == Verbosity::Help => {}
             Ok(dropped) => self.add_prepared(dropped, kept, &mut message),
             Err(fault) => self.add_unprepared(fault, &mut message),
         }
@@ -97,7 +97,7 @@ impl DonePrepareJob<'_, '_, '_> {
 /// A job of `update` that was done, with its inputs and its output.
 #[derive(Drop)]
 pub(crate) struct DoneUpdateJob<'a, 'b> {
-    pub(crate) detail: Detail,
+    pub(crate) verbosity: Verbosity,
     /// What became of the output.
     pub(crate) written: &'a OutputState,
     pub(crate) full: &'a ExtractInput<'b>,
@@ -115,7 +115,7 @@ impl<'a, 'b> DoneUpdateJob<'a, 'b> {
     ) {
         let mut message = Message::new(alloc);
         match answer {
-            Ok(()) if self.detail == Detail::Help => {}
+            Ok(()) if self.verbosity == Verbosity::Help => {}
             Ok(()) => self.add_updated(kept, &mut message),
             Err(fault) => self.add_undone(fault, kept, &mut message),
         }

@@ -161,7 +161,7 @@ fn refused_line(fault: &FeedFault) -> ArrayString<LONGEST_LINE>
     line
 }
 
-/// The line of one that was waived.
+/// The line that names a waived line of an update.
 #[tactic(auto, unfolding(crate::specs::Reported::waived_line))]
 fn waived_line(refused: &RefusedLine) -> ArrayString<LONGEST_LINE>
     ensures { result.bytes ≡ waived_line refused.now }
@@ -197,7 +197,7 @@ fn prepared_line(looks_prepared: bool) -> ArrayString<LONGEST_LINE>
     line
 }
 
-/// The lines of such keys.
+/// The lines of keys of which nothing runs on some dates.
 struct DroppedLines;
 
 impl Texts<DroppedKey> for DroppedLines {
@@ -210,7 +210,7 @@ impl Texts<DroppedKey> for DroppedLines {
     }
 }
 
-/// The lines that updates waived, and that one of them did.
+/// The lines that name what updates waived.
 struct WaivedLines;
 
 impl Texts<DoneUpdate> for WaivedLines {

@@ -29,7 +29,7 @@ use crate::feed_run::{run_prepare, run_update};
 use crate::job::{
     FeedJob, InputNames, Job, JobFault, PrepareJob, Request, Task, UpdateJob, run_fault,
 };
-use crate::message::Detail;
+use crate::message::Verbosity;
 use crate::status::{USAGE_ERROR, end};
 use crate::word_advice::advise_on_word;
 use crate::words::task_of;
@@ -91,8 +91,8 @@ fn refused(rt: HostRuntime, fault: JobFault, errors: &mut Sink<Stderr>) -> u8 {
         Err(fault) => end(&Err(fault), errors),
     };
     if let Ok(words) = words_of(rt) {
-        let detail = Detail::of(rt, false);
-        advise_on_word(alloc, words.as_slice(), &fault, detail, errors);
+        let verbosity = Verbosity::of(rt, false);
+        advise_on_word(alloc, words.as_slice(), &fault, verbosity, errors);
     }
     status
 }
@@ -119,18 +119,18 @@ fn answer_job(
         None => ("", ""),
     };
     let alloc = rt.alloc();
-    let detail = Detail::of(rt, request.verbose);
+    let verbosity = Verbosity::of(rt, request.verbose);
     let left_file = Some(request.inputs.first.as_str());
-    let mut left = boxed_source(rt, side, left_file, detail)?;
-    let mut right = boxed_source(rt, right_side, right_file, detail)?;
+    let mut left = boxed_source(rt, side, left_file, verbosity)?;
+    let mut right = boxed_source(rt, right_side, right_file, verbosity)?;
     let mut written = OutputState::new();
     let mut output = standard_output(rt, &mut written)?;
     let ended = run_job(alloc, job, &mut *left, &mut *right, &mut output, errors);
     // The process ends after this: the system takes back the memory of all bodies at once.
     let mut ended = ManuallyDrop::new(ended);
-    if detail.helps() {
+    if verbosity.helps() {
         let done_job = DoneJob {
-            detail,
+            verbosity,
             job,
             written: &written,
             left: left.reader(),
@@ -153,18 +153,18 @@ fn prepare(
     errors: &mut Sink<Stderr>,
 ) -> Result<u8, Fault> {
     let alloc = rt.alloc();
-    let detail = Detail::of(rt, request.verbose);
-    let mut holidays = source_of_holidays(rt, &request.inputs, detail);
+    let verbosity = Verbosity::of(rt, request.verbose);
+    let mut holidays = source_of_holidays(rt, &request.inputs, verbosity);
     let file = request.inputs.rest.first().unwrap_or(&request.inputs.first);
-    let mut source = boxed_source(rt, "", Some(file.as_str()), detail)?;
+    let mut source = boxed_source(rt, "", Some(file.as_str()), verbosity)?;
     let mut written = OutputState::new();
     let mut output = standard_output(rt, &mut written)?;
     let ended = run_prepare(alloc, job, &mut holidays, &mut *source, &mut output, errors);
     // The process ends after this: the system takes back the memory of all bodies at once.
     let ended = ManuallyDrop::new(ended);
-    if detail.helps() {
+    if verbosity.helps() {
         let done_job = DonePrepareJob {
-            detail,
+            verbosity,
             job,
             written: &written,
             holidays: holidays.as_ref().map(Source::reader),
@@ -180,11 +180,11 @@ fn prepare(
 fn source_of_holidays<'a>(
     rt: HostRuntime,
     inputs: &'a InputNames,
-    detail: Detail,
+    verbosity: Verbosity,
 ) -> Option<Source<ExtractInput<'a>>> {
     inputs.rest.first()?;
     let file = Some(inputs.first.as_str());
-    Some(source_of(rt, "holidays", file, detail))
+    Some(source_of(rt, "holidays", file, verbosity))
 }
 
 /// Writes what the updates make of the full extract, the first input, and returns the status to exit with. Memory comes as in
@@ -197,10 +197,10 @@ fn update(
     errors: &mut Sink<Stderr>,
 ) -> Result<u8, Fault> {
     let alloc = rt.alloc();
-    let detail = Detail::of(rt, request.verbose);
+    let verbosity = Verbosity::of(rt, request.verbose);
     let file = Some(request.inputs.first.as_str());
-    let mut full = boxed_source(rt, "FULL", file, detail)?;
-    let mut updates = updates_of(rt, &request.inputs, detail)?;
+    let mut full = boxed_source(rt, "FULL", file, verbosity)?;
+    let mut updates = updates_of(rt, &request.inputs, verbosity)?;
     let mut written = OutputState::new();
     let mut output = standard_output(rt, &mut written)?;
     let ended = run_update(
@@ -213,9 +213,9 @@ fn update(
     );
     // The process ends after this: the system takes back the memory of all bodies at once.
     let ended = ManuallyDrop::new(ended);
-    if detail.helps() {
+    if verbosity.helps() {
         let done_job = DoneUpdateJob {
-            detail,
+            verbosity,
             written: &written,
             full: full.reader(),
             updates: updates.as_slice(),
@@ -231,11 +231,11 @@ fn update(
 fn updates_of<'a>(
     rt: HostRuntime,
     inputs: &'a InputNames,
-    detail: Detail,
+    verbosity: Verbosity,
 ) -> Result<Vec<Source<ExtractInput<'a>>>, AllocError> {
     let mut updates = Vec::new(rt.alloc());
     for name in &inputs.rest {
-        updates.push(source_of(rt, "UPDATE", Some(name.as_str()), detail))?;
+        updates.push(source_of(rt, "UPDATE", Some(name.as_str()), verbosity))?;
     }
     Ok(updates)
 }

@@ -8,7 +8,7 @@ use std::io::{IsTerminal, Stderr, Write};
 
 /// How much is said on standard error.
 #[derive(Clone, Copy, PartialEq, Eq)]
-pub(crate) enum Detail {
+pub(crate) enum Verbosity {
     /// The fault line alone, for scripts.
     Fault,
     /// What helps with the fault too: standard error is a terminal.
@@ -17,21 +17,21 @@ pub(crate) enum Detail {
     All,
 }
 
-impl Detail {
+impl Verbosity {
     /// As much as is asked for, or as a terminal gets.
-    pub(crate) fn of(rt: HostRuntime, verbose: bool) -> Detail {
+    pub(crate) fn of(rt: HostRuntime, verbose: bool) -> Verbosity {
         if verbose {
-            Detail::All
+            Verbosity::All
         } else if rt.stderr().is_terminal() {
-            Detail::Help
+            Verbosity::Help
         } else {
-            Detail::Fault
+            Verbosity::Fault
         }
     }
 
     /// Whether it is more than the fault line.
     pub(crate) fn helps(self) -> bool {
-        self != Detail::Fault
+        self != Verbosity::Fault
     }
 }
 

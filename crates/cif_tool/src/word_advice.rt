@@ -1,6 +1,6 @@
 //! What is said of a mistaken word.
 use crate::job::JobFault;
-use crate::message::{Detail, Escaped, Message};
+use crate::message::{Verbosity, Escaped, Message};
 use crate::refused_columns::YYMMDD;
 use crate::words::bad_word;
 use arrayvec::ArrayString;
@@ -13,13 +13,13 @@ pub(crate) fn advise_on_word(
     alloc: Global,
     words: &[String],
     fault: &JobFault,
-    detail: Detail,
+    verbosity: Verbosity,
     errors: &mut Sink<Stderr>,
 ) {
     let mut message = Message::new(alloc);
     match fault {
         JobFault::BadDate | JobFault::BadUid => {
-            if let Some(word) = bad_word(alloc, words, fault, detail) {
+            if let Some(word) = bad_word(alloc, words, fault, verbosity) {
                 add_word(word, fault, &mut message);
             }
         }

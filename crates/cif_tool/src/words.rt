@@ -15,7 +15,7 @@ use crate::job::{
     CalendarJob, CanonicalJob, CompareJob, DayJob, DiffJob, ExplainJob, FeedJob, InputNames,
     Inputs, Job, JobFault, PrepareJob, Request, TableJob, Task, TrainJob, UpdateJob,
 };
-use crate::message::{Detail, Escaped};
+use crate::message::{Verbosity, Escaped};
 use cif_canon::{Asked, Format};
 use cif_columns::{Day, Uid, are_printable};
 use cif_views::{Listing, Table};
@@ -49,11 +49,11 @@ pub(crate) fn bad_word<'a>(
     alloc: Global,
     words: &'a [String],
     fault: &JobFault,
-    detail: Detail,
+    verbosity: Verbosity,
 ) -> Option<&'a str> {
     match matches_of(alloc, &all_choices(), words) {
         Ok(matches) => match matches.subcommand() {
-            Some((_, inner)) if detail.helps() || has_flag(inner, "verbose") => match fault {
+            Some((_, inner)) if verbosity.helps() || has_flag(inner, "verbose") => match fault {
                 JobFault::BadUid => word_of(inner, "UID"),
                 _ => bad_date(inner),
             },

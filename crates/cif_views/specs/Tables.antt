@@ -158,7 +158,7 @@ basic_fields =
     ∷ (codes "days_run", text_at 22 28)
     ∷ detail_fields
 
--- what tells of a BX, its identity, and its other fields
+-- the identity of a BX, and its other fields
 abbrev pub extra_identity : TableFields (List ℕ)
 extra_identity = (codes "extra", text_at 1 2) ∷ []
 

@@ -44,7 +44,7 @@ impl Model for TimeOfDay {
 }
 
 impl TimeOfDay {
-    /// The one so many seconds from midnight.
+    /// The time of day so many seconds from midnight.
     pub(crate) fn new(seconds: u32) -> TimeOfDay
         requires { seconds < DAY }
         ensures { result ≡ seconds }

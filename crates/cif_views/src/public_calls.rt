@@ -42,7 +42,7 @@ struct Shown {
 }
 
 impl CallTimes {
-    /// Those in a line of this kind.
+    /// The times in a line of this kind.
     fn of(kind: JourneyKind, line: &Line) -> CallTimes
         ensures { result ≡ times_in kind line.now }
     {

@@ -35,7 +35,7 @@ pub record AreSaid {K B : Type 0} (window : Window) (entries : List (K × Terms 
   pub say : (n : ℕ) (b : B) → IsWithin window n → BodyRuns (of_key entries k) n b ↔ HasBody records n b
 
 -- The runs are, one by one, those of records of the form, rising by first day, that say on each day of the window what is said of it.
--- `IsOf` tells what a run has of its record.
+-- `IsOf` says what a run has of its record.
 pub record AreRunsOf {B : Type 0} (form : Form) (window : Window) (IsOf : Run → Permanent B → Type 0) (IsSaid : ℕ → B → Type 0)
     (runs : List Run) : Type 0 where
   pub records : List (Permanent B)

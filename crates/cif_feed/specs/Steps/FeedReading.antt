@@ -14,7 +14,7 @@ use Rattle.cif_feed.specs.{FeedLayouts.feed_layouts, FeedLine.SpellsInFeed, Feed
 use Rattle.cif_feed.specs.{Steps.Marks.mark_of}
 use Rattle.cif_feed.specs.RecordLines.{is_basic, is_trailer, record_lines}
 use Rattle.cif_feed.specs.declared.{feed_line.Feed.Feed, feed_line.Feed.TheVariants.Update, feed_reading.FeedReading.FeedReading}
-use Rattle.cif_feed.specs.declared.{holidays.HolidayCodes.HolidayCodes, mark.Mark.Mark, mark.Passed.Passed}
+use Rattle.cif_feed.specs.declared.{holidays.HolidayCodes.HolidayCodes, mark.LineMark.LineMark, mark.Passed.Passed}
 
 -- the reading has taken these contents
 pub record HasTakenFeed (feed : Feed) (allowed : HolidayCodes) (contents : List (List ℕ)) (r : FeedReading) : Type 0 where
@@ -29,7 +29,7 @@ IsRecordTaken feed allowed line before =
     IsTakenAs (refusal_at (feed_layouts feed allowed) before.place line) (SpellsInFeed feed allowed line) before
 
 -- the same, and what it says beyond the record
-abbrev pub IsMarkedTaken : Feed → HolidayCodes → ℕ × List ℕ → Progress → Result Mark TakeFault → Progress → Type 0
+abbrev pub IsMarkedTaken : Feed → HolidayCodes → ℕ × List ℕ → Progress → Result LineMark TakeFault → Progress → Type 0
 IsMarkedTaken feed allowed line before (Ok mark) after =
     IsRecordTaken feed allowed line.1 before (Ok tt) after × (mark ≡ mark_of allowed (kind_in line.1) line)
 IsMarkedTaken feed allowed line before (Err fault) after = IsRecordTaken feed allowed line.1 before (Err fault) after

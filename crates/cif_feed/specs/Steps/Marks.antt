@@ -9,9 +9,9 @@ use Rattle.cif_feed.specs.Counts.{ends_open, has_holiday_code, is_deleted, is_ne
 use Rattle.cif_feed.specs.{FromLines.ArePairs, LastDay.last_day, SpellsFeed.FeedParts}
 use Rattle.cif_feed.specs.Marks.{MarkParts, association_mark, schedule_mark, tiploc_mark}
 use Rattle.cif_feed.specs.RecordLines.{is_association, is_basic, is_header, is_of_tiploc}
-use Rattle.cif_feed.specs.declared.{holidays.HolidayCodes.HolidayCodes, mark.Mark.Mark, mark.RecordMark.RecordMark}
+use Rattle.cif_feed.specs.declared.{holidays.HolidayCodes.HolidayCodes, mark.LineMark.LineMark, mark.RecordMark.RecordMark}
 use Rattle.cif_feed.specs.declared.{mark.Transaction.Transaction, mark.UpdateCounts.UpdateCounts}
-use Rattle.cif_feed.specs.declared.mark.Mark.TheVariants as of
+use Rattle.cif_feed.specs.declared.mark.LineMark.TheVariants as of
 
 -- one more, if it counts
 abbrev pub plus_if : ℕ → Bool → ℕ
@@ -57,7 +57,7 @@ with_line m allowed kind line = record {
 -- ---- mark by mark
 
 -- what a line of this kind says beyond its record, where these holiday codes may stand
-abbrev pub mark_of : HolidayCodes → Option Kind → ℕ × List ℕ → Mark
+abbrev pub mark_of : HolidayCodes → Option Kind → ℕ × List ℕ → LineMark
 mark_of allowed (Some Hd) line = of.Header line.0
 mark_of allowed (Some Ti) line = of.Tiploc (tiploc_mark (Some Ti) line)
 mark_of allowed (Some Ta) line = of.Tiploc (tiploc_mark (Some Ta) line)
@@ -68,16 +68,16 @@ mark_of allowed (Some Zz) line = of.Trailer
 mark_of allowed kind line = of.Nothing
 
 -- the same, where the line is as in an extract of this profile
-abbrev pub own_mark : Kind → Mark
+abbrev pub own_mark : Kind → LineMark
 own_mark Zz = of.Trailer
 own_mark kind = of.Nothing
 
 -- whether it is that of a BS, and of a ZZ
-abbrev pub is_schedule_mark : Mark → Bool
+abbrev pub is_schedule_mark : LineMark → Bool
 is_schedule_mark (of.Schedule m) = true
 is_schedule_mark mark = false
 
-abbrev pub is_trailer_mark : Mark → Bool
+abbrev pub is_trailer_mark : LineMark → Bool
 is_trailer_mark of.Trailer = true
 is_trailer_mark mark = false
 
@@ -96,7 +96,7 @@ with_record c mark = record (with_transaction c mark.transaction) {
 }
 
 -- the marks with one more
-abbrev pub with_mark : MarkParts → Mark → MarkParts
+abbrev pub with_mark : MarkParts → LineMark → MarkParts
 with_mark m (of.Header number) = record m { header_line = if m.header_line == 0 then number else m.header_line }
 with_mark m (of.Tiploc t) = record m { tiplocs = m.tiplocs ++ t ∷ []; counts = with_transaction m.counts t.transaction }
 with_mark m (of.Association a) = record m { associations = m.associations ++ a ∷ []; counts = with_record m.counts a }

@@ -1,4 +1,4 @@
--- Whichever key has these positions: it is clear, or its first clash is told by the first of them (`fault-added`).
+-- Whichever key has these positions: it is clear, or its first clash has the first of them (`fault-added`).
 use Rattle.cif_calendar.proofs.Names.{Contains-get_or, inl, on_ok_weaker, refl}
 use Rattle.cif_calendar.proofs.{FoundClashes.fault-added, FoundClashes.fault-within, Positions.positions-records, Sets.IsClearFrom-same}
 use Rattle.cif_calendar.proofs.key_clashes.add_clash_of_key.Goals as goal

@@ -11,7 +11,7 @@ loop-rest-init g c =
     let window = c.args.window.now in record {
       within = subst (λ (rest : List ℕ). All (λ i. i < length c.args.entries.now) rest) (sym c.as_slice-rest.ensures.value)
           (all-within g.E.Entry.key g.E.Entry.terms c.args.entries.now c.in_ok-positions.positions.items c.in_ok-positions.ensures.within);
-      told_within = rw (c.new-found.ensures.items) (All-nil _);
+      found_within = rw (c.new-found.ensures.items) (All-nil _);
       found = rw (c.new-found.ensures.items)
           (subst (λ (rest : List ℕ). AreFound g.E.Key.Ord.cmp es window.first window.last [] rest) (sym c.as_slice-rest.ensures.value)
           (found-nothing g.E.Key.Ord.cmp es window.first window.last c.in_ok-positions.positions.items
@@ -31,7 +31,7 @@ loop-rest-preserved g c =
     record {
       within = subst (λ (rest : List ℕ). All (λ i. i < length c.args.entries.now) rest) (sym c.split_at.ensures.back)
           (All-drop (λ i. i < length c.args.entries.now) c.count_of_first_key.result c.loop-rest.rest.now c.loop-rest.invariant.within);
-      told_within = c.in_ok-add_clash_of_key.ensures.within c.loop-rest.invariant.told_within;
+      found_within = c.in_ok-add_clash_of_key.ensures.within c.loop-rest.invariant.found_within;
       found = rw (c.split_at.ensures.back)
           (found-key g.E.Key.Ord.cmp es window.first window.last g.met.E.Key.Ord.total same
           c.loop-rest.found.items _ c.loop-rest.rest.now c.loop-rest.invariant.found c.count_of_first_key.result

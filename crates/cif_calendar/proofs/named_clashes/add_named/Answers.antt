@@ -1,4 +1,4 @@
--- One clash after another goes behind by its name (`named-more`), and all that were found are told (`named-all`).
+-- One clash after another goes behind by its name (`named-more`), and so do all that were found (`named-all`).
 use Rattle.cif_calendar.proofs.Names.{KeyClash, [], ap, keyed, length, subst, sym, ◌++◌, ◌<◌, ◌∙◌, ◌∷◌}
 use Rattle.cif_calendar.proofs.{KeyPositions.has-key, NamedClashes.named-all, NamedClashes.named-more}
 use Rattle.cif_calendar.proofs.named_clashes.add_named.Goals as goal
@@ -17,7 +17,7 @@ loop-clash-preserved g c =
     (c.in_ok-push.ensures.items ∙ ap (λ one. c.loop-clash.clashes.items ++ (one ∷ [])) c.clash_on.ensures)
 
 pub returns : goal.returns
-returns g c = λ keys tell.
+returns g c = λ keys stand_for.
     named-all g.E.NamedEntry.clash_of (keyed g.E.Entry.key g.E.Entry.terms c.args.entries.now) c.args.clashes.now.items c.args.found.now
     keys
-    tell c.loop-clash.clash-index c.loop-clash-test.false c.loop-clash.clashes.items c.loop-clash.invariant
+    stand_for c.loop-clash.clash-index c.loop-clash-test.false c.loop-clash.clashes.items c.loop-clash.invariant

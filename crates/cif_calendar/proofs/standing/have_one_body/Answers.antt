@@ -13,8 +13,8 @@ loop-init g c = record {
       c.max.ensures c.min.ensures (λ h. h, λ h. h);
 }
 
-pub returns-then-pair-clause-told : goal.returns-then-pair-clause-told
-returns-then-pair-clause-told g c = (
+pub returns-then-pair-clause-exact : goal.returns-then-pair-clause-exact
+returns-then-pair-clause-exact g c = (
   λ _. c.loop.invariant.both.0 (ap (λ k. body_at c.args.members.now.terms (slice_get
       c.args.members.now.positions k)) c.if-pair.true),
   λ _. refl,
@@ -37,13 +37,13 @@ loop-preserved g c =
           c.loop.invariant.both;
     }
 
-told : (g : Over) (c : After-same_body-same g) →
+tested : (g : Over) (c : After-same_body-same g) →
     IsTrue c.same_body-same.result ↔ HaveOneBody c.args.members.now.terms c.args.members.now.positions
     c.args.one c.args.other
-told g c = one-body _ _ _ _ _ _ _ c.entry.ensures.stands c.entry-2.ensures.stands c.same_body-same.ensures
+tested g c = one-body _ _ _ _ _ _ _ c.entry.ensures.stands c.entry-2.ensures.stands c.same_body-same.ensures
 
 pub returns-then-same-clause-alike : goal.returns-then-same-clause-alike
 returns-then-same-clause-alike g c = alike-noted c.args.members.now.terms c.args.members.now.positions
     c.loop.alike _ _ _
-    (c.loop.invariant.both.1 ((told g (goal.at.returns-then-same-clause-alike g c).After-same_body-same).0 c.if-same.true))
+    (c.loop.invariant.both.1 ((tested g (goal.at.returns-then-same-clause-alike g c).After-same_body-same).0 c.if-same.true))
     c.note-then-same.ensures c.loop.invariant.alike

@@ -13,9 +13,9 @@ returns-in_default-other-clause-stands g c n is also =
 pub returns-then-have_one_body-clause-stands : goal.returns-then-have_one_body-clause-stands
 returns-then-have_one_body-clause-stands g c n is also = rw (c.in-Leader.is, c.in-Leader-other.is)
     (leaders_agree _ _ n c.in-Leader.leader c.in-Leader-other.rival (rw c.in-Leader.is at is) (rw c.in-Leader-other.is at also)
-    (c.have_one_body.ensures.told.0 c.if-have_one_body.true))
+    (c.have_one_body.ensures.exact.0 c.if-have_one_body.true))
 
 pub returns-else-have_one_body-clause-stands : goal.returns-else-have_one_body-clause-stands
 returns-else-have_one_body-clause-stands g c n is also = rw (c.in-Leader.is, c.in-Leader-other.is)
     (leaders_differ _ _ n c.in-Leader.leader c.in-Leader-other.rival (rw c.in-Leader.is at is) (rw c.in-Leader-other.is at also)
-    (iff_false c.have_one_body.ensures.told c.if-have_one_body.false))
+    (iff_false c.have_one_body.ensures.exact c.if-have_one_body.false))

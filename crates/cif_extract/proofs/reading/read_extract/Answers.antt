@@ -121,7 +121,7 @@ returns-in-Ok-false g c =
     omega (arith, c.line_number-in-Ok-false.ensures, c.read_line.new.self.counted, next.limit_now, so_far.same_limit) in
     comes-end _ _ c.args.max_lines _ _ ls come.fine
     (reading_ends g.R.Read.remaining _ _ _ _ ls so_far c.read_line.new.self c.read_line.new.source next.answer) (
-      next.told so_far.reads_on refl,
+      next.ended so_far.reads_on refl,
       nothing_left g.R.Read.remaining _ _ _ _ ls so_far c.read_line.new.self c.read_line.new.source next.answer,
     )
     (sym read_on.going ∙ next.endless so_far.reads_on refl) (read_on_both _ _ _ _ read_on (next.device so_far.reads_on))

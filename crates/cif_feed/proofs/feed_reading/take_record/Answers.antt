@@ -1,5 +1,5 @@
 -- It is refused for its fields (`in_place`), or the record that it spells is put (`put_taken`).
-use Rattle.cif_feed.proofs.Names.{IsKeepable, IsMarkedTaken, Kind, Mark, Ok, Progress, Record, Refusal, Result, Some, SpellsInFeed}
+use Rattle.cif_feed.proofs.Names.{IsKeepable, IsMarkedTaken, Kind, LineMark, Ok, Progress, Record, Refusal, Result, Some, SpellsInFeed}
 use Rattle.cif_feed.proofs.Names.{TakeFault, ap, feed_refusal_as, kind_in, mark_of, may_stand, progress_of, read_as, refl, step, sym, true}
 use Rattle.cif_feed.proofs.Names.{◌∙◌, ◌≡◌}
 use Rattle.std.specs.Result.{IsErrAnd}
@@ -7,14 +7,14 @@ use Rattle.cif_records.specs.declared.record.Record.TheVariants as of
 use Rattle.cif_extract.specs.declared.reading.TakeFault.TheVariants.{Refused}
 use Rattle.cif_feed.proofs.FeedSteps.{in_place, put_taken}
 use Rattle.cif_feed.proofs.{MarkLaws.passed_on, feed_reading.take_record.Goals.Else-not-allows}
-use Rattle.cif_feed.specs.declared.mark.Mark.TheVariants as mark
+use Rattle.cif_feed.specs.declared.mark.LineMark.TheVariants as mark
 use Rattle.cif_feed.proofs.feed_reading.take_record.Goals as goal
 
 module _ (c : Else-not-allows) where
   abbrev before : Progress
   before = progress_of c.args.reading.now
 
-  abbrev Taken : Progress → Result Mark TakeFault → Type 0
+  abbrev Taken : Progress → Result LineMark TakeFault → Type 0
   Taken after result = IsMarkedTaken c.args.feed c.args.allowed (c.args.number, c.args.line.now) before result after
 
   named : Some c.in-Some.kind ≡ kind_in c.args.line.now
@@ -26,7 +26,7 @@ module _ (c : Else-not-allows) where
   -- a field is refused
   refused : (kind : Kind) → c.in-Some.kind ≡ kind → (why : Refusal)
       → feed_refusal_as c.args.feed c.args.allowed (Some kind) c.args.line.now ≡ Some why
-      → (after : Progress) (result : Result Mark TakeFault) → IsErrAnd result (λ e. e ≡ Refused why) → Taken after result
+      → (after : Progress) (result : Result LineMark TakeFault) → IsErrAnd result (λ e. e ≡ Refused why) → Taken after result
   refused kind is why reason after result handed =
       passed_on (Taken after) (Refused why) result handed
       (in_place c.args.feed c.args.allowed c.args.line.now before c.in-Some.kind named may
@@ -34,7 +34,7 @@ module _ (c : Else-not-allows) where
 
   module _ (r : Record) (spells : SpellsInFeed c.args.feed c.args.allowed c.args.line.now r) (after : Progress) where
     -- the record is put
-    put : (m : Mark) (kind : Kind) → c.in-Some.kind ≡ kind
+    put : (m : LineMark) (kind : Kind) → c.in-Some.kind ≡ kind
         → m ≡ mark_of c.args.allowed (Some kind) (c.args.number, c.args.line.now)
         → IsKeepable r × (after ≡ step before r) → Taken after (Ok m)
     put m kind is marked taken = (

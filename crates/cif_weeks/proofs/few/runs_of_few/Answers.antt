@@ -53,14 +53,14 @@ either : {P Q R S : Type 0} (made : Bool) → (P → R) → (Q → S) → MatchB
 either true f g h = f h
 either false f g h = g h
 
-pub add_all_runs-requires : goal.add_all_runs-requires
-add_all_runs-requires g c =
+pub add_runs_of_spans-requires : goal.add_runs_of_spans-requires
+add_runs_of_spans-requires g c =
     let items = c.loop-position.spans.items in
     let sorted = c.sort_unstable_by_key.ensures in
     let long = sorted.len ∙ ap length c.as_mut_slice.ensures.value in
     record {
       none = c.clear.ensures.items;
-      inside = shown-inside _ _ _ _ (all g (goal.at.add_all_runs-requires g c).After-as_slice-2);
+      inside = shown-inside _ _ _ _ (all g (goal.at.add_runs_of_spans-requires g c).After-as_slice-2);
       order = rw (c.as_slice-2.ensures.value, refilled (length items) items c.sort_unstable_by_key.new.self long)
           (IsNonDecreasingBy-from_sort_by_key (λ (s : Span). s.first_week) _ sorted.sorted (λ a r q k. search rules));
     }
@@ -68,7 +68,7 @@ add_all_runs-requires g c =
 pub returns : goal.returns
 returns g c =
     let spans = all g (goal.at.returns g c).After-as_slice-2 in
-    IfOk-weaker c.add_all_runs.result _ _ (λ made. either made
+    IfOk-weaker c.add_runs_of_spans.result _ _ (λ made. either made
     (λ are. runs-of_members _ _ _ _ spans
     (AreLawful-chosen g.E.Entry.key g.E.Entry.terms g.met.E.Entry.cancelled c.args.entries.now c.args.members.now) c.args.form _ are)
-    (λ (n, disputed). inr (disputed-clash spans n disputed))) c.add_all_runs.ensures
+    (λ (n, disputed). inr (disputed-clash spans n disputed))) c.add_runs_of_spans.ensures

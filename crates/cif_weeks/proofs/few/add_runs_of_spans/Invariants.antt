@@ -1,7 +1,7 @@
 -- The runs of the spans so far.
 use Rattle.cif_weeks.proofs.Names.{HasSource, take, window_days}
 use Rattle.cif_weeks.proofs.SpanRuns.{AreRunsOf}
-use Rattle.cif_weeks.proofs.few.add_all_runs.Given as goal
+use Rattle.cif_weeks.proofs.few.add_runs_of_spans.Given as goal
 
 abbrev pub invariant-loop-number : goal.invariant-loop-number
 invariant-loop-number l =

@@ -2,7 +2,7 @@
 -- or without a calendar, are the key's (`members-records`, `key-records`).
 use Rattle.cif_canon.proofs.Names.{Contains-get_or, window_days}
 use Rattle.cif_canon.proofs.KeyRecords.{key-records, key_fault, members-records}
-use Rattle.cif_canon.proofs.extract_runs.make_runs_of_key.Goals as goal
+use Rattle.cif_canon.proofs.extract_runs.add_runs_of_key.Goals as goal
 
 pub returns-then-branch-clause-runs : goal.returns-then-branch-clause-runs
 returns-then-branch-clause-runs g c k p =

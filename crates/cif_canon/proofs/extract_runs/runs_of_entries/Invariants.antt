@@ -1,7 +1,7 @@
 -- The runs are those of all keys but the ones with entries at `rest`, and these are greater.
 use Rattle.cif_canon.proofs.Names.{All, keyed, length, window_days, ◌<◌}
 use Rattle.cif_canon.proofs.MadeRecords.{IsMade}
-use Rattle.cif_canon.proofs.extract_runs.canonical_runs.Given as goal
+use Rattle.cif_canon.proofs.extract_runs.runs_of_entries.Given as goal
 
 abbrev pub invariant-loop-rest : goal.invariant-loop-rest
 invariant-loop-rest g l = record {

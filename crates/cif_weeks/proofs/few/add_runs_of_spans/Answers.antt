@@ -1,7 +1,7 @@
 -- The runs of one span more (`runs-skipped`, `runs-added`), and those of all after the sort.
 use Rattle.cif_weeks.proofs.Names.{take_all, take_more}
 use Rattle.cif_weeks.proofs.SpanRuns.{runs-added, runs-of_body, runs-permuted, runs-skipped, runs-sorted}
-use Rattle.cif_weeks.proofs.few.add_all_runs.Goals as goal
+use Rattle.cif_weeks.proofs.few.add_runs_of_spans.Goals as goal
 
 pub add_body_runs-requires-clause-inside : goal.add_body_runs-requires-clause-inside
 add_body_runs-requires-clause-inside c n shows = c.requires.inside _ n shows

@@ -3,7 +3,7 @@ use Rattle.cif_canon.proofs.Names.{All, All-drop, All-take, AreLawful-of_key, Li
 use Rattle.cif_canon.proofs.Names.{err_from_is_err_and, keyed, length, length-drop, length-take-le, nil_from_length, same_key-cmp, subst}
 use Rattle.cif_canon.proofs.Names.{sym, window_days, ℕ, ◌-◌, ◌<◌, ◌∙◌, ◌≡◌}
 use Rattle.cif_canon.proofs.MadeRecords.{IsMade, made-all, made-fault, made-key, made-nothing}
-use Rattle.cif_canon.proofs.extract_runs.canonical_runs.Goals as goal
+use Rattle.cif_canon.proofs.extract_runs.runs_of_entries.Goals as goal
 
 pub loop-rest-init : goal.loop-rest-init
 loop-rest-init g c =
@@ -18,13 +18,13 @@ loop-rest-init g c =
           c.in_ok-positions.ensures.whole c.in_ok-positions.ensures.rising));
     }
 
-pub make_runs_of_key-requires-clause-within : goal.make_runs_of_key-requires-clause-within
-make_runs_of_key-requires-clause-within g c =
+pub add_runs_of_key-requires-clause-within : goal.add_runs_of_key-requires-clause-within
+add_runs_of_key-requires-clause-within g c =
     subst (λ (front : List ℕ). All (λ i. i < length c.args.entries.now) front) (sym c.split_at.ensures.front)
     (All-take (λ i. i < length c.args.entries.now) _ _ c.loop-rest.invariant.within)
 
-pub make_runs_of_key-requires-clause-some : goal.make_runs_of_key-requires-clause-some
-make_runs_of_key-requires-clause-some g c =
+pub add_runs_of_key-requires-clause-some : goal.add_runs_of_key-requires-clause-some
+add_runs_of_key-requires-clause-some g c =
     let first = c.count_of_first_key.ensures in
     let front : length c.split_at.result.0.now ≡ c.count_of_first_key.result =
     ap length c.split_at.ensures.front ∙ length-take-le c.count_of_first_key.result c.loop-rest.rest.now first.count.upto in
@@ -47,20 +47,20 @@ loop-rest-preserved g c =
           (All-drop (λ i. i < length c.args.entries.now) c.count_of_first_key.result c.loop-rest.rest.now c.loop-rest.invariant.within);
       made = rw (c.in_ok-extend_from_slice.ensures.items, c.as_slice.ensures.value, c.split_at.ensures.back)
           (made-key g.E.Key.Ord.cmp c.args.form window es g.met.E.Key.Ord.total same c.loop-rest.all.items c.loop-rest.rest.now
-          c.loop-rest.invariant.made c.count_of_first_key.result c.count_of_first_key.ensures c.make_runs_of_key.new.made.items
-          (rw c.split_at.ensures.front at c.in_ok-make_runs_of_key.ensures.runs));
+          c.loop-rest.invariant.made c.count_of_first_key.result c.count_of_first_key.ensures c.add_runs_of_key.new.made.items
+          (rw c.split_at.ensures.front at c.in_ok-add_runs_of_key.ensures.runs));
     }
 
-pub returns-in_err-make_runs_of_key-clause-fault : goal.returns-in_err-make_runs_of_key-clause-fault
-returns-in_err-make_runs_of_key-clause-fault g c =
+pub returns-in_err-add_runs_of_key-clause-fault : goal.returns-in_err-add_runs_of_key-clause-fault
+returns-in_err-add_runs_of_key-clause-fault g c =
     let es = keyed g.E.Entry.key g.E.Entry.terms c.args.entries.now in
     let window = window_days c.args.window.now in
     let same = same_key-cmp g.E.Key.PartialEq.eq g.E.Key.Ord.cmp g.met.E.Key.Ord.matches_eq g.met.E.Entry.same_key in
-    let p = err_from_is_err_and c.from_residual-in_err-make_runs_of_key.result c.from_residual-in_err-make_runs_of_key.ensures.1 in
+    let p = err_from_is_err_and c.from_residual-in_err-add_runs_of_key.result c.from_residual-in_err-add_runs_of_key.ensures.1 in
     rw (p.1, p.2) (made-fault g.E.Key.Ord.cmp c.args.form window es g.met.E.Key.Ord.total same c.loop-rest.all.items c.loop-rest.rest.now
     c.loop-rest.invariant.made c.count_of_first_key.result c.count_of_first_key.ensures g.E.NamedEntry.clash_of
-    c.in_err-make_runs_of_key.field-0.0
-    (rw c.split_at.ensures.front at c.in_err-make_runs_of_key.ensures.fault))
+    c.in_err-add_runs_of_key.field-0.0
+    (rw c.split_at.ensures.front at c.in_err-add_runs_of_key.ensures.fault))
 
 pub returns-clause-records : goal.returns-clause-records
 returns-clause-records g c =
