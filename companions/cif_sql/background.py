@@ -31,7 +31,7 @@ class Background(Database):
             self.wait()
 
     def finish(self) -> None:
-        """Says that all rows are there. What ended the process early is told by `wait`."""
+        """Says that all rows are there. `wait` says what ended the process early."""
         try:
             self.process.send(None)
         except OSError:

@@ -18,7 +18,7 @@ INPUT = 2**64 - 1
 
 
 class Answer(NamedTuple):
-    """What a run of the program gave, and what the library told."""
+    """What a run of the program gave, and what the library reported."""
 
     status: int
     stdout: bytes

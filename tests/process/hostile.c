@@ -16,7 +16,7 @@
      z     a read gave no byte
      o     a file was opened
      e     a call failed because it was to
-     a     another call came after that one; it is told once, and not of an end
+     a     another call came after that one; it is reported once, and not of an end
 
    A program that runs for ten seconds is ended. SIGPIPE ends it too, unless the program says otherwise.
 

@@ -75,7 +75,7 @@ OPTIONS = {
 OF_TWO = ("compare", "diff")
 OF_FEEDS = ("prepare", "update")
 
-# How the fault is told that two inputs are standard input.
+# How the fault is reported that two inputs are standard input.
 TWICE = {
     "prepare": "--holidays and FILE are both standard input",
     "update": "two inputs are standard input",

@@ -160,7 +160,7 @@ def has_marks(records: List[Record]) -> bool:
 
 
 def told(key: Tuple[str, ...], days: List[date]) -> str:
-    """What is told of a key that has these clash dates."""
+    """What is reported of a key that has these clash dates."""
     more = len(days) - 1
     rest = f" and {more} more date" + "s" * (more > 1) if more else ""
     return f"dropped: {name_of(key)} on {yymmdd(days[0])}{rest}"

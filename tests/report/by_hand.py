@@ -289,7 +289,7 @@ def with_own_uids(trains: List[Schedule], number: int) -> List[Schedule]:
 
 
 def check_case(counts: Counts, page: Page, name: str, of_case: Callable[[Train], bool]) -> None:
-    """The words and the numbers of a case, whose trains are told by their UIDs."""
+    """The words and the numbers of a case, whose trains are known by their UIDs."""
     _, words, numbers = CASES[name]
     groups = [group for group in page.groups if any(map(of_case, group.trains))]
     counts.same(
