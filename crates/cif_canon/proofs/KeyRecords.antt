@@ -52,7 +52,7 @@ runs-as {B} form window after is IsOf IsAs ties IsSaid IsTold same runs a = subs
   say = λ n b within.
       let say = a.say n b within in
       let words = same n b within in
-      (λ told. say.0 (words.1 told), λ has. words.0 (say.1 has));
+      (λ known. say.0 (words.1 known), λ has. words.0 (say.1 has));
 })
 
 -- each record with the key

@@ -67,7 +67,7 @@ module _ {K B : Type 0} (xs ys : List (K × Terms B)) (runs : List (Sided Run)) 
 
   -- a record before these, by whether it makes a pair with the first of them
   module _ (cmp : K → K → Ordering) (decides : (j k : K) → Decides (is_eq (cmp j k)) (j ≡ k)) (s : Sided (K × Permanent B))
-      (answer : Bool) (told : Decides answer (ArePair s own)) where
+      (answer : Bool) (known : Decides answer (ArePair s own)) where
     abbrev others : List (Sided (K × Permanent B))
     others = sided_records xs ys (drop 1 runs)
 
@@ -80,7 +80,7 @@ module _ {K B : Type 0} (xs ys : List (K × Terms B)) (runs : List (Sided Run)) 
     by-answer : by_pairs cmp (s ∷ sided_records xs ys runs) ≡ by answer
     by-answer =
         ap (λ (l : List (Sided (K × Permanent B))). by_pairs cmp (s ∷ l)) first-record
-        ∙ ap by (same_from_decides {P = ArePair s own} (are_pair cmp s own) answer (pair-decided cmp decides s own) told)
+        ∙ ap by (same_from_decides {P = ArePair s own} (are_pair cmp s own) answer (pair-decided cmp decides s own) known)
 
     pub listed-pair : answer ≡ true → IsListedFirst cmp xs ys s (Some it) runs
     listed-pair is_so = by-answer ∙ ap by is_so

@@ -31,10 +31,10 @@ applies-decided r d = Decides-like (applies_on r d)
     (runs r.days (weekday_of d), runs-true r.days (weekday_of d))))
 
 -- what is listed on a day of the record that an item is, by the answer whether its run applies
-pub listed-by : {K B : Type 0} (text : K × B → List ℕ) (k : K) (run : Run) (b : B) (d : ℕ) (answer told : Bool) → answer ≡ told →
+pub listed-by : {K B : Type 0} (text : K × B → List ℕ) (k : K) (run : Run) (b : B) (d : ℕ) (answer known : Bool) → answer ≡ known →
     IsTrue answer ↔ IsAmongDates run.first run.last run.days d → (item : K × Permanent B) → (k, record_of run b) ≡ item →
-    (if told then text (k, b) else []) ≡ listed_on text d item
-listed-by text k run b d answer told is h item same =
+    (if known then text (k, b) else []) ≡ listed_on text d item
+listed-by text k run b d answer known is h item same =
     ap (λ (t : Bool). if t then text (k, b) else [])
     (sym is ∙ same_from_decides answer (applies_on (record_of run b) d) h (applies-decided (record_of run b) d))
     ∙ ap (listed_on text d) same

@@ -64,7 +64,7 @@ module _ {R : Type 0} {remaining : R → Option (List ℕ)} {errors : R → Opti
     decided = λ _ _. decided;
     undecided = λ _ e. absurd (cc);
     endless = λ _ e. absurd (cc);
-    ended = λ _ e. absurd (cc);
+    reported = λ _ e. absurd (cc);
     fault = λ _. tt;
     past_now = past_now;
     again = λ e. absurd (e reading);
@@ -90,7 +90,7 @@ module _ {R : Type 0} {remaining : R → Option (List ℕ)} {errors : R → Opti
     decided = λ _ _. decided;
     undecided = λ _ e. absurd (cc);
     endless = λ _ e. absurd (cc);
-    ended = λ _ e. absurd (cc);
+    reported = λ _ e. absurd (cc);
     fault = λ _. (next, is_reason);
     past_now = past_now;
     again = λ e. absurd (e reading);
@@ -112,7 +112,7 @@ module _ {R : Type 0} {remaining : R → Option (List ℕ)} {errors : R → Opti
     decided = λ _ other. absurd (other refl);
     undecided = λ _ e. undecided;
     endless = λ _ e. absurd (cc);
-    ended = λ _ e. absurd (cc);
+    reported = λ _ e. absurd (cc);
     fault = λ _. tt;
     past_now = past_now;
     again = λ e. absurd (e reading);

@@ -13,7 +13,7 @@ pub use Rattle.std.proofs.KnownBytes.{Appends-nil, Appends-trans, Keeps-refl, Ke
 pub use Rattle.std.proofs.Math.Seq.{drop-append-add, take-append-add, take-append_seam}
 pub use Rattle.std.proofs.lemmas.Bool.{and_from, and_parts, cases_lt, cond_both, false_from_ne_true, false≢true, not-true, not_from_false}
 pub use Rattle.std.proofs.lemmas.Bool.{or_cases, or_from, or_parts, or_right}
-pub use Rattle.std.proofs.{lemmas.Bool.Decides.Decides-eqb, lemmas.Bool.Decides.nat_tests, lemmas.List.Folds.list_any-append}
+pub use Rattle.std.proofs.{lemmas.Bool.Decides.Decides-eqb, lemmas.Bool.Decides.nat_tests, lemmas.List.Elements.same_from_all_zip}
 pub use Rattle.std.proofs.lemmas.Grind.{common_steps, flat_map-append, reverse_onto}
 pub use Rattle.std.proofs.lemmas.List.{append_cancel_right, drop-take, drop_more, get_or-append_right, get_or-replicate, get_or-reverse}
 pub use Rattle.std.proofs.lemmas.List.{get_or_append_left, get_or_default, get_or_past, length-map, length-replicate, length-reverse}
@@ -21,7 +21,8 @@ pub use Rattle.std.proofs.lemmas.List.{nil_from_length, replicate-append-replica
 pub use Rattle.std.proofs.lemmas.List.{take-append-le, take_more, take_more_set, take_rest}
 pub use Rattle.std.proofs.lemmas.List.Elements.{All-append, All-cons, All-contains, All-drop, All-from_get_or, All-get_or, All-head}
 pub use Rattle.std.proofs.lemmas.List.Elements.{All-nil, All-push, All-replicate, All-tail, All-take, All-weaker, Contains-append_right}
-pub use Rattle.std.proofs.lemmas.Nat.{leading_top, or_lt}
+pub use Rattle.std.proofs.lemmas.List.Folds.{list_all_more, list_any-append}
+pub use Rattle.std.proofs.lemmas.Nat.{and_le_l, leading_top, or_lt}
 pub use Rattle.std.proofs.lemmas.Option.{get_or_from_slice_get, same_Some, slice_get-get_or, slice_get_within}
 pub use Rattle.std.proofs.lemmas.Slice.Eq.{bytes_eq-Decides, strip_suffix_is, text_from_reads}
 pub use Rattle.jiff_core.proofs.CalendarLemmas.{day_count-day, day_count-day_of_year, day_count-last_of_year, day_count-later_year}

@@ -89,7 +89,7 @@ pub record IsNextBy {R : Type 0} (remaining : R → Option (List ℕ)) (errors :
   pub undecided : past old ≡ Reading → result ≡ Err Read →
       DecideNoContent (most_by most (held new)) (limit old) (given old) (held new)
   pub endless : past old ≡ Reading → result ≡ Ok None → source_failed from ≡ false
-  pub ended : past old ≡ Reading → result ≡ Ok None → source_ended to ≡ true
+  pub reported : past old ≡ Reading → result ≡ Ok None → source_ended to ≡ true
   -- for any source: a refusal names the next line, and one of the reasons of lines
   pub fault : past old ≡ Reading → IfErr result (IsNextFault (given old))
   -- after the end, and after a fault, it is answered again, and nothing is read

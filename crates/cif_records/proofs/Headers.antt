@@ -167,7 +167,7 @@ module _ (line indicator : List ℕ) where
   no_refusal h p =
       let in_order = h.in_order in
       let test : nat_le h.first h.last ≡ true = grind (arith, nat_tests) in
-      let told : are (columns 47 47 line) indicator ≡ true = (bytes_decides (columns 47 47 line) indicator).1 p.1.1.0 in
+      let known : are (columns 47 47 line) indicator ≡ true = (bytes_decides (columns 47 47 line) indicator).1 p.1.1.0 in
       let first : ddmmyy_in (columns 49 54 line) ≡ Some h.first = ap ddmmyy_in (p.1.1.1.1.0 ∙ sym (first_digits h)) ∙ h.first_stands in
       let last : ddmmyy_in (columns 55 60 line) ≡ Some h.last = ap ddmmyy_in (p.1.1.1.1.1.0 ∙ sym (last_digits h)) ∙ h.last_stands in
-      rw (p.0, told, first, last, test)
+      rw (p.0, known, first, last, test)

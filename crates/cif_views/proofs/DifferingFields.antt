@@ -38,21 +38,21 @@ module _ (it : Column) (is : IsTrue (is_text it)) where
 
     tested : (answer : Bool) → answer ≡ pointwise nat_eq one other → (test : Bool) → answer ≡ test →
         test ≡ pointwise nat_eq (shown Tsv (field_in kind left it.1)) (shown Tsv (field_in kind right it.1))
-    tested answer told test is = sym is ∙ told ∙ ap₂ (λ (a b : List ℕ). pointwise nat_eq a b) shown-one shown-other
+    tested answer known test is = sym is ∙ known ∙ ap₂ (λ (a b : List ℕ). pointwise nat_eq a b) shown-one shown-other
 
     abbrev fields : List Field
     fields = text it.0 ∷ field_in kind left it.1 ∷ field_in kind right it.1 ∷ []
 
     pub same-cells : (answer : Bool) → answer ≡ pointwise nat_eq one other → answer ≡ true → [] ≡ field_row begun kind left right it
     unfolding field_row
-    same-cells answer told is = ap (λ (b : Bool). if b then [] else row_behind begun fields) (tested answer told true is)
+    same-cells answer known is = ap (λ (b : Bool). if b then [] else row_behind begun fields) (tested answer known true is)
 
     pub other-cells : (answer : Bool) → answer ≡ pointwise nat_eq one other → answer ≡ false →
         row_behind begun (text it.0 ∷ (Whole, one) ∷ (Whole, other) ∷ []) ≡ field_row begun kind left right it
     unfolding field_row
-    other-cells answer told is =
+    other-cells answer known is =
         ap₂ (λ (a b : List ℕ). row_behind begun (text it.0 ∷ (Whole, a) ∷ (Whole, b) ∷ [])) shown-one shown-other
-        ∙ ap (λ (b : Bool). if b then [] else row_behind begun fields) (tested answer told false is)
+        ∙ ap (λ (b : Bool). if b then [] else row_behind begun fields) (tested answer known false is)
 
 pub text-at : (given : List (Bor (List ℕ) × FieldPlace)) → IsTrue (are_texts (named given)) → (i : ℕ) (none : Bor (List ℕ) × FieldPlace) →
     i < length given → IsTrue (is_text (column (get_or given i none)))

@@ -9,8 +9,8 @@ loop-rest-preserved g c =
     let (done, split, written) = c.loop-rest.invariant in
     let rest = c.loop-rest.rest in
     let test = c.loop-rest-test.true in
-    let told = c.is_empty.ensures in
-    let some : 0 < length rest = grind (arith, nat_tests, test, told) in (
+    let known = c.is_empty.ensures in
+    let some : 0 < length rest = grind (arith, nat_tests, test, known) in (
       done ++ c.first.result ∷ [],
       split ∙ ap (λ l. done ++ l) (drop_more rest 0 [] some ∙ ap (λ l. l ∷ drop 1 rest) (sym c.first.ensures)
           ∙ ap (λ l. c.first.result ∷ l) (sym c.rest-rest.ensures)) ∙ sym (append_assoc done (c.first.result ∷ []) c.rest-rest.result),
@@ -21,8 +21,8 @@ pub returns : goal.returns
 returns g c =
     let (done, split, written) = c.loop-rest.invariant in
     let test = c.loop-rest-test.false in
-    let told = c.is_empty.ensures in
-    let none : c.loop-rest.rest ≡ [] = nil_from_length c.loop-rest.rest (grind (arith, nat_tests, test, told)) in
+    let known = c.is_empty.ensures in
+    let none : c.loop-rest.rest ≡ [] = nil_from_length c.loop-rest.rest (grind (arith, nat_tests, test, known)) in
     let all : done ≡ c.args.lines.now = sym (split ∙ ap (λ l. done ++ l) none ∙ append-nil done) in
     text-is _ _ _ _ _ _ (ap (flat_map (λ (line : List ℕ). marked_text c.args.side (line ∷ []))) all
     ∙ sym (marked-lines c.args.side c.args.lines.now)) written

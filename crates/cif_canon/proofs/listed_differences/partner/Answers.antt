@@ -6,17 +6,17 @@ use Rattle.cif_canon.proofs.listed_differences.partner.Goals as goal
 pub sided_record-other-requires : goal.sided_record-other-requires
 sided_record-other-requires g c =
     let test = c.if-is_empty.false in
-    let told = c.is_empty.ensures in
+    let known = c.is_empty.ensures in
     subst (HasSidedRecord (keyed g.E.Entry.key g.E.Entry.terms c.args.left.now) (keyed g.E.Entry.key g.E.Entry.terms c.args.right.now))
-    (sym c.index-later-0.is) (c.requires 0 c.index-later-0.result (grind (arith, nat_tests, test, told)))
+    (sym c.index-later-0.is) (c.requires 0 c.index-later-0.result (grind (arith, nat_tests, test, known)))
 
 pub returns-then-are_pair-clause-listed : goal.returns-then-are_pair-clause-listed
 returns-then-are_pair-clause-listed g c =
     let test = c.if-is_empty.false in
-    let told = c.is_empty.ensures in
+    let known = c.is_empty.ensures in
     listed-pair (keyed g.E.Entry.key g.E.Entry.terms c.args.left.now) (keyed g.E.Entry.key g.E.Entry.terms c.args.right.now)
     c.args.later.now c.index-later-0.result c.sided_record-other.result
-    (grind (arith, nat_tests, test, told)) c.index-later-0.is c.sided_record-other.ensures g.E.Key.Ord.cmp
+    (grind (arith, nat_tests, test, known)) c.index-later-0.is c.sided_record-other.ensures g.E.Key.Ord.cmp
     (keys-decided g.E.Key.PartialEq.eq g.E.Key.Ord.cmp g.met.E.Key.Ord.matches_eq g.met.E.Entry.same_key)
     (record { side = c.args.side; it = c.args.one.now }) c.are_pair.result c.are_pair.ensures
     c.if-are_pair.true
@@ -24,10 +24,10 @@ returns-then-are_pair-clause-listed g c =
 pub returns-else-are_pair-clause-listed : goal.returns-else-are_pair-clause-listed
 returns-else-are_pair-clause-listed g c =
     let test = c.if-is_empty.false in
-    let told = c.is_empty.ensures in
+    let known = c.is_empty.ensures in
     listed-one (keyed g.E.Entry.key g.E.Entry.terms c.args.left.now) (keyed g.E.Entry.key g.E.Entry.terms c.args.right.now)
     c.args.later.now c.index-later-0.result c.sided_record-other.result
-    (grind (arith, nat_tests, test, told)) c.index-later-0.is c.sided_record-other.ensures g.E.Key.Ord.cmp
+    (grind (arith, nat_tests, test, known)) c.index-later-0.is c.sided_record-other.ensures g.E.Key.Ord.cmp
     (keys-decided g.E.Key.PartialEq.eq g.E.Key.Ord.cmp g.met.E.Key.Ord.matches_eq g.met.E.Entry.same_key)
     (record { side = c.args.side; it = c.args.one.now }) c.are_pair.result c.are_pair.ensures
     c.if-are_pair.false

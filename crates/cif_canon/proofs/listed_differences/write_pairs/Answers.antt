@@ -13,8 +13,8 @@ loop-rest-init g c = record {
 pub first_listed-first-requires-clause-some : goal.first_listed-first-requires-clause-some
 first_listed-first-requires-clause-some g c =
     let test = c.loop-rest-test.true in
-    let told = c.is_empty.ensures in
-    grind (arith, nat_tests, test, told)
+    let known = c.is_empty.ensures in
+    grind (arith, nat_tests, test, known)
 
 pub loop-rest-preserved : goal.loop-rest-preserved
 loop-rest-preserved g c =
@@ -40,8 +40,8 @@ returns g c =
     let ys = keyed g.E.Entry.key g.E.Entry.terms c.args.right.now in
     let (done, split, written) = c.loop-rest.invariant.written in
     let test = c.loop-rest-test.false in
-    let told = c.is_empty.ensures in
-    let none : c.loop-rest.rest.now ≡ [] = nil_from_length c.loop-rest.rest.now (grind (arith, nat_tests, test, told)) in
+    let known = c.is_empty.ensures in
+    let none : c.loop-rest.rest.now ≡ [] = nil_from_length c.loop-rest.rest.now (grind (arith, nat_tests, test, known)) in
     text-is _ _ _ _ _ _
     (ap (flat_map (g.L.Texts.text c.args.texts.now))
     (sym (split ∙ ap (λ l. done ++ by_pairs g.E.Key.Ord.cmp (sided_records xs ys l)) none ∙ append-nil done))) written

@@ -121,10 +121,29 @@ returns-in-Ok-false g c =
     omega (arith, c.line_number-in-Ok-false.ensures, c.read_line.new.self.counted, next.limit_now, so_far.same_limit) in
     comes-end _ _ c.args.max_lines _ _ ls come.fine
     (reading_ends g.R.Read.remaining _ _ _ _ ls so_far c.read_line.new.self c.read_line.new.source next.answer) (
-      next.ended so_far.reads_on refl,
+      next.reported so_far.reads_on refl,
       nothing_left g.R.Read.remaining _ _ _ _ ls so_far c.read_line.new.self c.read_line.new.source next.answer,
     )
     (sym read_on.going ∙ next.endless so_far.reads_on refl) (read_on_both _ _ _ _ read_on (next.device so_far.reads_on))
     c.line_number-in-Ok-false.result number within (progress_of c.loop-columns.reading) come.taken c.finish.result
     (c.finish.ensures.are come.taken.records come.taken.read) c.finish.ensures.truncated
     (c.finish.ensures.unfinished come.taken.records come.taken.read)
+
+pub take-requires : goal.take-requires
+take-requires g c = let (ls, so_far, come, read_on) = c.loop-columns.invariant in (come.taken.records, come.taken.read)
+
+pub take_plain_stop-requires : goal.take_plain_stop-requires
+take_plain_stop-requires g c = c.if-goes_on_plainly.ensures refl
+
+pub take_plain_further-requires-clause-read : goal.take_plain_further-requires-clause-read
+take_plain_further-requires-clause-read g c =
+    let (ls, so_far, come, read_on) = c.loop-columns.invariant in (come.taken.records, come.taken.read)
+
+pub pass_line-requires : goal.pass_line-requires
+pass_line-requires g c = (c.in-Some.columns.now, c.in-Some.ensures)
+
+pub loop-columns-smaller : goal.loop-columns-smaller
+loop-columns-smaller g c =
+    let next = rw c.in-Ok-true.field-0-test at c.in-Ok-true.ensures in
+    let more : given c.read_line.new.self ≡ given c.loop-columns.lines + 1 = next.counted in
+    omega (arith, more, next.limit_now, c.read_line.new.self.counted)

@@ -145,7 +145,7 @@ returns-in-Ok-End-clause-reads g c =
     omega (arith, c.line_number.ensures, c.read_content.new.self.counted, next.limit_now, so_far.same_limit) in
     comes-end c.args.feed c.args.allowed c.args.max_lines _ _ _ _ cs fine
     (reading_ends g.R.Read.remaining _ _ _ _ cs so_far c.read_content.new.self c.read_content.new.source next.answer) (
-      next.ended so_far.reads_on refl,
+      next.reported so_far.reads_on refl,
       nothing_left g.R.Read.remaining _ _ _ _ cs so_far c.read_content.new.self c.read_content.new.source next.answer,
     )
     (sym read_on.going ∙ next.endless so_far.reads_on refl) (read_on_both _ _ _ _ read_on (next.device so_far.reads_on))

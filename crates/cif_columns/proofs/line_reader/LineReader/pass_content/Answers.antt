@@ -1,4 +1,4 @@
--- What its contents gave is told of the lines by these lemmas.
+-- What its contents gave is said of the lines by these lemmas.
 use Rattle.cif_columns.proofs.Names.{ContentReader, Err, IsNextWithin, Ok, Overlong, ap, subst, sym, ◌+◌}
 use Rattle.cif_columns.proofs.LineAnswers.{passes_fault, passes_overlong}
 use Rattle.cif_columns.proofs.line_reader.LineReader.pass_content.Goals as goal

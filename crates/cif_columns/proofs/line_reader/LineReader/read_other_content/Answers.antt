@@ -1,5 +1,5 @@
 -- The content is a comment, a line, or refused.
-use Rattle.cif_columns.proofs.Names.{Faulted, ap, is_comment, line_of, sym, ◌∙◌}
+use Rattle.cif_columns.proofs.Names.{Faulted, ap, is_comment, line_of, refl, sym, ◌∙◌}
 use Rattle.cif_columns.proofs.LineAnswers.{line_ok, makes_line, no_comment, passes_comment, refuses_content}
 use Rattle.cif_columns.proofs.line_reader.LineReader.read_other_content.Goals as goal
 
@@ -28,3 +28,6 @@ returns-in-Err-line_of g c =
           refused.limit refused.given (refused.past ∙ ap Faulted refused.fault),
       λ _. no_comment c.args.self.now _ next (ap is_comment content ∙ sym c.is_comment.ensures ∙ c.if-is_comment.false),
     )
+
+pub returns-in-Err : goal.returns-in-Err
+returns-in-Err g c = (c.in-Err.ensures.0, c.in-Err.ensures.1 refl)

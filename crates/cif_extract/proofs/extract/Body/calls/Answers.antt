@@ -1,6 +1,6 @@
 -- `some_journey` tells of the lines from LO to LT: they are two at least, and those between spell calls.
-use Rattle.cif_extract.proofs.Names.{All, SpellsSomeCall, ap, arith, before_last, drop, journey_in, length, length-drop, slice_range, subst}
-use Rattle.cif_extract.proofs.Names.{sym, take, ◌-◌, ◌∙◌, ◌≡◌}
+use Rattle.cif_extract.proofs.Names.{All, SpellsSomeCall, ap, arith, before_last, call_in, drop, journey_in, length, length-drop, map}
+use Rattle.cif_extract.proofs.Names.{slice_range, subst, sym, take, ◌-◌, ◌∙◌, ◌≡◌}
 use Rattle.cif_extract.proofs.{Bodies.some_journey, extract.Body.calls.Goals.After-rest}
 use Rattle.cif_extract.proofs.extract.Body.calls.Goals as goal
 
@@ -13,3 +13,9 @@ between c =
 
 pub of_lines-requires : goal.of_lines-requires
 of_lines-requires c = subst (All SpellsSomeCall) (sym (between c)) (some_journey c.args.self.now c.journey.ensures.keep).spelled
+
+pub rest-requires : goal.rest-requires
+rest-requires c = omega (arith, ap length c.journey.ensures.journey, (some_journey c.args.self.now c.journey.ensures.keep).longer)
+
+pub returns : goal.returns
+returns c = c.of_lines.ensures ∙ ap (map call_in) (between (goal.at.returns c).After-rest)

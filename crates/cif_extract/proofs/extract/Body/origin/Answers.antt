@@ -1,5 +1,5 @@
 -- The journey's first line spells its LO (`some_journey`), so `read` gives that (`only`) and refuses nothing.
-use Rattle.cif_extract.proofs.Names.{Ok, SpellsOrigin, [], ap, get_or, is_ok, parts_in, subst, sym, ◌∙◌, ◌≡◌}
+use Rattle.cif_extract.proofs.Names.{Ok, SpellsOrigin, [], ap, arith, get_or, is_ok, length, parts_in, subst, sym, ◌∙◌, ◌≡◌}
 use Rattle.cif_extract.proofs.{Bodies.some_journey, extract.Body.origin.Goals.After-read}
 use Rattle.cif_extract.proofs.extract.Body.origin.Goals as goal
 
@@ -17,3 +17,6 @@ returns c =
     let said = read (goal.at.returns c).After-read in
     let given = c.unwrap.ensures in
     cc
+
+pub first-requires : goal.first-requires
+first-requires c = omega (arith, ap length c.journey.ensures.journey, (some_journey c.args.self.now c.journey.ensures.keep).longer)

@@ -1,5 +1,5 @@
 -- The journey's last line spells its LT (`some_journey`), so `read` gives that (`only`) and refuses nothing.
-use Rattle.cif_extract.proofs.Names.{Ok, SpellsTerminus, [], ap, get_or, is_ok, length, parts_in, subst, sym, ◌-◌, ◌∙◌, ◌≡◌}
+use Rattle.cif_extract.proofs.Names.{Ok, SpellsTerminus, [], ap, arith, get_or, is_ok, length, parts_in, subst, sym, ◌-◌, ◌∙◌, ◌≡◌}
 use Rattle.cif_extract.proofs.{Bodies.some_journey, extract.Body.terminus.Goals.After-read}
 use Rattle.cif_extract.proofs.extract.Body.terminus.Goals as goal
 
@@ -17,3 +17,6 @@ returns c =
     let said = read (goal.at.returns c).After-read in
     let given = c.unwrap.ensures in
     cc
+
+pub last-requires : goal.last-requires
+last-requires c = omega (arith, ap length c.journey.ensures.journey, (some_journey c.args.self.now c.journey.ensures.keep).longer)

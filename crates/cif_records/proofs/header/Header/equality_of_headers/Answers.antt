@@ -5,10 +5,10 @@ use Rattle.cif_records.proofs.header.Header.equality_of_headers.Goals as goal
 
 pub returns : goal.returns
 returns c h k =
-    let told = bytes_decides h.columns k.columns in (
-      λ eq. same_header h k (told.0 (and_parts _ _ eq).0),
+    let known = bytes_decides h.columns k.columns in (
+      λ eq. same_header h k (known.0 (and_parts _ _ eq).0),
       λ same.
-          let columns : pointwise nat_eq h.columns k.columns ≡ true = told.1 (ap (λ (j : Header). j.columns) same) in
+          let columns : pointwise nat_eq h.columns k.columns ≡ true = known.1 (ap (λ (j : Header). j.columns) same) in
           let first_is = ap (λ (j : Header). j.first) same in
           let last_is = ap (λ (j : Header). j.last) same in
           let first : nat_eq h.first k.first ≡ true = grind (arith, nat_tests) in

@@ -5,5 +5,5 @@ use Rattle.cif_records.proofs.tiploc.Tiploc.order_of_tiplocs.Goals as goal
 
 pub returns-clause-equality : goal.returns-clause-equality
 returns-clause-equality c s t =
-    let told = bytes_decides s.columns t.columns in
-    (λ eq. same_tiploc s t (told.0 eq), λ same. told.1 (ap (λ (u : Tiploc). u.columns) same))
+    let known = bytes_decides s.columns t.columns in
+    (λ eq. same_tiploc s t (known.0 eq), λ same. known.1 (ap (λ (u : Tiploc). u.columns) same))

@@ -15,9 +15,9 @@ returns-clause-text g c = λ row text s long h.
     let bytes = c.self.inside.bytes in
     let len = c.self.inside.len in
     let begun = c.args.begun in
-    let told = c.self.told in
+    let known = c.self.told in
     let size = ap length c.self.view_is in
-    let kept = length-take-le len bytes (omega (arith, c.self.invariant, told)) in
+    let kept = length-take-le len bytes (omega (arith, c.self.invariant, known)) in
     let one : 1 + (begun - 1) ≡ begun = omega (arith, c.requires.some) in
     let first : take (begun - 1) c.first_columns-first.result ≡ drop 1 row =
     ap (take (begun - 1)) c.first_columns-first.ensures

@@ -7,10 +7,10 @@ pub returns : goal.returns
 returns c =
     let row = c.self.inside in
     let room = c.requires.room in
-    let told = c.self.told in
+    let known = c.self.told in
     let size = ap length c.self.view_is in
-    let kept = length-take-le row.len row.bytes (omega (arith, c.self.invariant, told)) in
+    let kept = length-take-le row.len row.bytes (omega (arith, c.self.invariant, known)) in
     row-more c.args.separator row.bytes c.args.columns.now c.copy_from_slice.new.self row.len c.args.count _
-    (omega (arith, room, told, size, kept))
+    (omega (arith, room, known, size, kept))
     c.copy_from_slice.ensures.after c.requires.count
     ∙ ap (λ (l : List ℕ). l ++ (c.args.separator ∷ take c.args.count c.args.columns.now)) c.self.view_is

@@ -54,7 +54,7 @@ pub returns-in-Ok-None-clause-endless : goal.returns-in-Ok-None-clause-endless
 returns-in-Ok-None-clause-endless g c =
     let (ls, so_far, read_on) = c.loop-lines.invariant in
     let is = ap Ok c.in-Ok-None.field-0-is in
-    (sym read_on.going ∙ c.in-Ok-None.ensures.endless so_far.reads_on is, c.in-Ok-None.ensures.ended so_far.reads_on is)
+    (sym read_on.going ∙ c.in-Ok-None.ensures.endless so_far.reads_on is, c.in-Ok-None.ensures.reported so_far.reads_on is)
 
 pub returns-in-Err-clause-device : goal.returns-in-Err-clause-device
 returns-in-Err-clause-device g c =
