@@ -51,12 +51,18 @@ def number_of_trains(text: str) -> int:
     return int(text)
 
 
+def title(text: str) -> str:
+    if not text.strip():
+        raise argparse.ArgumentTypeError("the title is empty")
+    return text
+
+
 def arguments_of(words: Optional[Sequence[str]]) -> argparse.Namespace:
     parser = new_parser(PROGRAM, ABOUT, STATUSES)
     add = parser.add_argument
     add_window(parser)
     add_names(parser)
-    add("--title", metavar="TEXT", help="the title of the page")
+    add("--title", type=title, metavar="TEXT", help="the title of the page")
     add(
         "--most",
         type=number_of_trains,

@@ -57,6 +57,9 @@ OF_MSN: Dict[str, Tuple[str, Optional[float], Optional[float]]] = {
 }
 OF_MSN |= {"VICTRIE": OF_MSN["VICTRIC"], "STFDAVN": ("Stratford-upon-Avon", None, None)}
 INTERCHANGE = "crs,minutes\nCLJ,10\nSAV,5\nVIC,15\n"
+# The first lines of an extract.
+HEADER = "HDTPS.UDFROC1.PD2601011101262000DFROC1A       FA010126010227\n"
+ASSOCIATION = "AANP00001P000022601012602011111111NPSEDINBUR  TO                               P\n"
 ALF = """\
 /!! a remark
 M=WALK,O=EUS,D=KGX,T=10,S=0001,E=2359,P=4,R=1111111
@@ -118,7 +121,9 @@ BAD = {
             with_record("HOVE", "HOV", "15288", "6105", 5),
             "line 8: northing `6105` isn't 6 and four digits",
         ),
-        (NAPTAN, "line 2: no record of MSN begins so"),
+        (NAPTAN, "line 1: no record of MSN begins so"),
+        (HEADER + ASSOCIATION, "line 2: no record of MSN begins so"),
+        (HEADER, "this is no MSN: it has no record A"),
     ),
     "msn-interchange": (
         (

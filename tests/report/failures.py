@@ -133,6 +133,7 @@ def check_refusals(counts: Counts, maker: Maker, old: Path, new: Path) -> None:
     refused(
         counts, maker, "--most without a number", 2, "number of trains", "--most", "-1", old, new
     )
+    refused(counts, maker, "an empty title", 2, "the title is empty", "--title", " ", old, new)
     bad.write_text("tiploc,name,latitude,longitude\nBETA,,91,0\n")
     refused(counts, maker, "a bad file of places", 3, "line 2: latitude", "--places", bad, old, new)
     bad.unlink()
