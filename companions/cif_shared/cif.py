@@ -29,6 +29,11 @@ def find_cif(asked: Optional[str]) -> Cif:
     return Cif(found)
 
 
+def read_rest(stream: IO[bytes]) -> None:
+    while stream.read(BLOCK):
+        pass
+
+
 class Cif:
     """The program `cif` by its path."""
 
@@ -42,8 +47,9 @@ class Cif:
         stdin: Optional[IO[bytes]] = None,
         good: Collection[int] = (SUCCESS,),
     ) -> Iterator[IO[bytes]]:
-        """What a call writes, as it comes. If the block ends early, so does `cif`. If its status
-        isn't a good one, the run ends with what it reported and what would help."""
+        """What a call writes, as it comes. What the block leaves is read too, since `cif` fails if it
+        can't write all. If the block fails, `cif` ends with it. If its status isn't a good one, the
+        run ends with what it reported and what would help."""
         with scratch_file() as report:
             call = [self.path, *words[:1], "--verbose", *words[1:]]
             try:
@@ -56,13 +62,13 @@ class Cif:
                 assert process.stdout is not None
                 try:
                     yield process.stdout
+                    read_rest(process.stdout)
                 except Exception as problem:  # pylint: disable=broad-except
                     if isinstance(problem, (Ending, OSError, MemoryError)):
                         process.kill()
                         raise
                     # what it wrote makes no sense, perhaps since it failed
-                    while process.stdout.read(BLOCK):
-                        pass
+                    read_rest(process.stdout)
                     if process.wait() in good:
                         raise
                 except BaseException:

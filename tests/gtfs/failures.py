@@ -671,6 +671,46 @@ def check_few(counts: Counts, maker: Maker) -> None:
     counts.same("what a feed of few associations leaves out", want.stderr, got.stderr)
 
 
+# A train that divides at BETA, and its portion. Trains whose calls are far more than a pipe holds come after them.
+DIVIDING = """\
+HDTPS.UTEST01.PD2601040401262000DFTEST1       FA050126250126
+TIALPHA  00890500AALPHA JUNCTION            032010000ALPALPHA
+TIBETA   00890500BBETA-ON-SEA               032020000BET
+AANA00001A000022601052601231111100VVSBETA     TP                               P
+BSNA000012601052601231111100 PXX1S01    122104000 EMU    090      B            P
+BX         SRY
+LOALPHA   2100 21001         TB
+LIBETA    2130 2135      213021352        T
+LTALPHA   2300 23004     TF
+BSNA000022601052601231111100 PXX1S02    122104000 EMU    090      B            P
+BX         SRY
+LOBETA    2140 21401         TB
+LTALPHA   2300 23004     TF
+"""
+LONG = """\
+BSNB{number:05}2601052601231111100 PXX1S03    122104000 EMU    090      B            P
+BX         SRY
+LOALPHA   2100 21001         TB
+{calls}LTALPHA   2300 23004     TF
+"""
+PASSING = "LIBETA              2200 00000000\n"
+# Each has 3,500 calls, and all of them some 3 MB of rows.
+LONG_TRAINS = 16
+PASSINGS = 3498
+
+
+def check_rest(counts: Counts, maker: Maker) -> None:
+    """After the last train with associations there are far more calls than a pipe holds."""
+    long = "".join(LONG.format(number=n, calls=PASSING * PASSINGS) for n in range(LONG_TRAINS))
+    extract = maker.folder / "long.cif"
+    extract.write_bytes(b"".join(padded(*(DIVIDING + long + "ZZ").splitlines())))
+    done = maker.run(extract)
+    wanted = ["cif-gtfs: places without coordinates: 2, listed in places-wanted.csv"]
+    counts.same(
+        "calls after linked trains", (1, wanted), (done.returncode, done.stderr.splitlines())
+    )
+
+
 def check(counts: Counts, maker: Maker, special: Path) -> None:
     folder = maker.folder / "failures"
     folder.mkdir()
@@ -695,3 +735,4 @@ def check(counts: Counts, maker: Maker, special: Path) -> None:
     check_blocks(counts)
     check_part(counts)
     check_few(counts, maker)
+    check_rest(counts, maker)
