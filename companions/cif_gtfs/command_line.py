@@ -5,12 +5,11 @@ import argparse
 import gc
 import os
 import sys
-from pathlib import Path
 from typing import Optional, Sequence
 
 from cif_shared.arguments import add_cif, add_help, add_names, add_window, new_parser
 from cif_shared.cif import find_cif
-from cif_shared.csv_files import MOST_BYTES, Mistake, mail_address, plain_text, read_file
+from cif_shared.csv_files import Mistake, mail_address, plain_text, read_file
 from cif_shared.csv_files import web_address
 from cif_shared.endings import SUCCESS, Misused
 from cif_shared.files import output_path
@@ -24,6 +23,7 @@ from .conversion import Outputs, UserFiles, Wishes, convert
 from .feed import Publisher
 from .trains import EXTENDED_TYPES, TYPES
 from .user_files import INTERCHANGE, LINKS
+from .wanted import list_beside
 
 PROGRAM = "cif-gtfs"
 # The status of a feed with places that have no coordinates.
@@ -88,26 +88,18 @@ def arguments_of(words: Optional[Sequence[str]]) -> argparse.Namespace:
 def outputs_of(asked: argparse.Namespace) -> Outputs:
     """The places of the outputs. One in the place of an input is refused."""
     feed = output_path(asked.output)
-    wanted = Path(asked.output).parent / "places-wanted.csv"
+    wanted = list_beside(asked.output)
     trips = output_path(asked.trips) if asked.trips is not None else None
-    outputs = [place for place in (feed, wanted, trips) if place]
+    outputs = [place for place in (feed, wanted.place, trips) if place]
     inputs = (asked.extract, asked.places, asked.operators, asked.interchange, asked.links)
     for name in (each for each in inputs if each):
         for output in outputs:
             if output.exists() and os.path.exists(name) and output.samefile(name):
                 raise Misused(f"{output} would take the place of an input: rename one of them")
-    if len({place.resolve() for place in outputs}) < len(outputs):
+    if len(set(outputs)) < len(outputs):
         raise Misused("two outputs have one place")
-    if wanted.exists() and not is_unfilled(wanted):
-        raise Misused(f"{wanted} has been filled in: rename it, and give it by --places")
+    wanted.check()
     return Outputs(feed, wanted, trips)
-
-
-def is_unfilled(path: Path) -> bool:
-    """Whether a list of places without coordinates is as it was written."""
-    with open(path, "rb") as file:
-        lines = file.read(MOST_BYTES).splitlines()
-    return all(line.endswith(b",,") for line in lines[1:])
 
 
 def publisher_of(asked: argparse.Namespace) -> Publisher:
@@ -143,7 +135,7 @@ def make_feed(asked: argparse.Namespace, progress: Progress) -> int:
         print(f"{PROGRAM}: {line}", file=sys.stderr)
     if not outcome.wanted:
         return SUCCESS
-    wanted = f"places without coordinates: {outcome.wanted}, listed in {outputs.wanted}"
+    wanted = f"places without coordinates: {outcome.wanted}, listed in {outputs.wanted.name}"
     print(f"{PROGRAM}: {wanted}", file=sys.stderr)
     return WANTING
 

@@ -234,26 +234,74 @@ def check_outputs(counts: Counts, maker: Maker, special: Path) -> None:
     )
 
 
+# Lists of places without coordinates that somebody has filled in, or that are other files.
+LIST_HEADING = "tiploc,name,latitude,longitude,known_as\n"
+FILLED = {
+    "coordinates": LIST_HEADING + "ALPHA,Alpha Junction,51,0,Alpha Junction\n",
+    "one coordinate": LIST_HEADING + "ALPHA,Alpha Junction,,0,Alpha Junction\n",
+    "a name": LIST_HEADING + "ALPHA,Alpha,,,Alpha Junction\nOMEGA,Omega,,,Omega\n",
+    "no name": LIST_HEADING + "ALPHA,,,,Alpha Junction\n",
+    "a remark": LIST_HEADING + "ALPHA,Alpha Junction,,,Alpha Junction,ask\n",
+    "a file of places": "tiploc,name,latitude,longitude\nALPHA,Alpha,,\n",
+    "another file": "monday,tuesday,,\nCall Ann,,,\n",
+    "no CSV": LIST_HEADING + 'ALPHA,"Alpha Junction\n',
+}
+
+
+def check_filled(counts: Counts, maker: Maker, special: Path, places: Path) -> None:
+    """A list that somebody has filled in is neither replaced nor removed."""
+    wanted = maker.folder / "folder" / "places-wanted.csv"
+    told = [
+        "cif-gtfs: folder/places-wanted.csv has been filled in: rename it, and give it by --places"
+    ]
+    calls: List[Tuple[Word, ...]] = [(), ("--places", places)]
+    for name, text in FILLED.items():
+        wanted.write_text(text)
+        for words in calls:
+            words = ("-o", "folder/feed.zip", *words, special)
+            refused(counts, maker, f"a list with {name}, {words[2:-1]}", 2, told, *words)
+            counts.same(f"a list with {name} stays", text, wanted.exists() and wanted.read_text())
+
+
+def check_place_of_wanted(counts: Counts, maker: Maker, special: Path, unfilled: str) -> None:
+    """The list is a file, or a link to one, as any output."""
+    folder = maker.folder / "folder"
+    wanted, behind = folder / "places-wanted.csv", maker.folder / "behind.csv"
+    wanted.unlink()
+    for is_pipe in False, True:
+        (os.mkfifo if is_pipe else os.mkdir)(wanted)
+        name = "a list that isn't a file"
+        refused(counts, maker, name, 2, None, "-o", "folder/feed.zip", special)
+        (os.unlink if is_pipe else os.rmdir)(wanted)
+    behind.write_text(LIST_HEADING)
+    wanted.symlink_to("../behind.csv")
+    done = maker.run("-o", "folder/feed.zip", special)
+    counts.same(
+        "a list behind a link",
+        (1, True, unfilled),
+        (done.returncode, wanted.is_symlink(), behind.read_text()),
+    )
+    wanted.unlink()
+    behind.rename(wanted)
+
+
 def check_wanted(counts: Counts, maker: Maker, special: Path) -> None:
     """An older list of places without coordinates goes when no place is without, but not if somebody has filled it in."""
     folder = maker.folder / "folder"
     wanted = folder / "places-wanted.csv"
     counts.test("places are wanted beside the name that is given", wanted.exists())
     places = maker.folder / "all.csv"
-    names = [line.partition(",")[0] for line in wanted.read_text().splitlines()[1:]]
+    unfilled = wanted.read_text()
+    names = [line.partition(",")[0] for line in unfilled.splitlines()[1:]]
     places.write_text(
         "tiploc,name,latitude,longitude\n" + "".join(f"{name},,51,-.5\n" for name in names)
     )
-    filled = wanted.read_text().replace(",,\n", ",51,0\n")
-    unfilled, _ = wanted.read_text(), wanted.write_text(filled)
-    told = [
-        "cif-gtfs: folder/places-wanted.csv has been filled in: rename it, and give it by --places"
-    ]
-    refused(counts, maker, "a list that is filled in", 2, told, "-o", "folder/feed.zip", special)
-    counts.same("a list that is filled in stays", filled, wanted.read_text())
-    wanted.write_text(unfilled)
-    done = maker.run("-o", "folder/feed.zip", "--places", places, special)
-    counts.same("no place is wanted", (0, False), (done.returncode, wanted.exists()))
+    check_filled(counts, maker, special, places)
+    check_place_of_wanted(counts, maker, special, unfilled)
+    for text in unfilled, unfilled + "\n", unfilled.replace("\n", "\r\n"):
+        wanted.write_bytes(text.encode())
+        done = maker.run("-o", "folder/feed.zip", "--places", places, special)
+        counts.same("no place is wanted", (0, False), (done.returncode, wanted.exists()))
     shutil.rmtree(folder)
     for name in "all.csv", "target.zip":
         (maker.folder / name).unlink()
