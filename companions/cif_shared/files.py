@@ -1,6 +1,7 @@
 """Files that a run writes: temporary ones, and those that take their places once all is well."""
 from __future__ import annotations
 
+import errno
 import io
 import os
 import signal
@@ -8,7 +9,7 @@ import stat
 import tempfile
 from contextlib import contextmanager
 from pathlib import Path
-from typing import IO, Any, Iterator, List, Tuple
+from typing import IO, Any, Iterator, List, Optional, Tuple
 
 from .endings import Failed, Misused
 from .running import INTERRUPTS
@@ -42,17 +43,27 @@ def scratch_file() -> Iterator[IO[bytes]]:
             yield scratch
 
 
+def kind_of(text: str) -> Optional[str]:
+    """What stands in the place of an output, if it isn't a regular file and can't be replaced."""
+    try:
+        mode = os.stat(text).st_mode
+    except OSError as problem:
+        return "a link in a circle" if problem.errno == errno.ELOOP else None
+    if stat.S_ISDIR(mode):
+        return "a folder"
+    return None if stat.S_ISREG(mode) else "a device or a pipe"
+
+
 def output_path(text: str) -> Path:
     """The place of an output: that of a regular file, or where there is nothing yet. A link is
     followed."""
     if text in ("", "-"):
         raise Misused(f"the output `{text}` has to be a file")
-    path = Path(os.path.realpath(text))
-    if path.is_dir() or text.endswith(os.sep):
-        raise Misused(f"the output {text} has to be a file, and isn't: it is a folder")
-    if path.exists() and not stat.S_ISREG(path.stat().st_mode):
-        raise Misused(f"the output {text} has to be a file, and isn't: it is a device or a pipe")
-    return path
+    # first what it is, since the path of a pipe leads nowhere
+    kind = "a folder" if text.endswith(os.sep) else kind_of(text)
+    if kind:
+        raise Misused(f"the output {text} has to be a file, and isn't: it is {kind}")
+    return Path(os.path.realpath(text))
 
 
 def mode_for(path: Path) -> int:

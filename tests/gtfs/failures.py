@@ -201,25 +201,27 @@ def check_outputs(counts: Counts, maker: Maker, special: Path) -> None:
     """An output is a file, or a link to one, and what was there stays if it isn't."""
     folder = maker.folder
     os.mkfifo(folder / "fifo")
+    (folder / "loop").symlink_to("loop")
     (folder / "folder").mkdir()
-    others = ["fifo", "folder", "folder/", "missing/", "-", ""]
+    # what is run has a pipe for its standard output
+    others = ["fifo", "loop", "folder", "folder/", "missing/", "-", "", "/dev/stdout"]
     if os.geteuid() == 0:
         os.mknod(folder / "device", 0o666 | stat.S_IFCHR, os.makedev(1, 3))
         others.append("device")
-    kinds = {path.name: path.stat().st_mode for path in folder.iterdir()}
+    kinds = {path.name: path.lstat().st_mode for path in folder.iterdir()}
     for output in others:
         refused(counts, maker, f"the output {output!r}", 2, None, "-o", output, special)
         refused(counts, maker, f"the trips {output!r}", 2, None, "--trips", output, special)
     counts.same(
         "what wasn't a file stays",
         kinds,
-        {path.name: path.stat().st_mode for path in folder.iterdir()},
+        {path.name: path.lstat().st_mode for path in folder.iterdir()},
     )
     refused(
         counts, maker, "two outputs in one place", 2, None, "-o", "one", "--trips", "./one", special
     )
     for output in others:
-        if output in ("fifo", "device"):
+        if output in ("fifo", "loop", "device"):
             (folder / output).unlink()
     (folder / "target.zip").write_text("older")
     (folder / "target.zip").chmod(0o640)
