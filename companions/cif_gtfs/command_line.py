@@ -10,7 +10,7 @@ from typing import Optional, Sequence
 from cif_shared.arguments import add_cif, add_help, add_names, add_window, new_parser
 from cif_shared.cif import find_cif
 from cif_shared.csv_files import Mistake, mail_address, plain_text, read_file
-from cif_shared.csv_files import web_address
+from cif_shared.csv_files import shown, web_address
 from cif_shared.endings import SUCCESS, Misused
 from cif_shared.files import output_path
 from cif_shared.operators import read_operators
@@ -113,7 +113,7 @@ def publisher_of(asked: argparse.Namespace) -> Publisher:
             if value is not None:
                 read(value)
         except Mistake as mistake:
-            raise Misused(f"{option} `{value}` {mistake}") from None
+            raise Misused(f"{option} {shown(value)} {mistake}") from None
     return Publisher(asked.publisher or PUBLISHER, asked.url or NO_WEB, asked.email or "")
 
 

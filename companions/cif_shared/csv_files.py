@@ -22,7 +22,8 @@ HOST = r"(?:[A-Za-z0-9](?:[A-Za-z0-9-]*[A-Za-z0-9])?\.)+[A-Za-z][A-Za-z0-9-]*[A-
 WEB = re.compile(rf"https?://(?:{HOST}|\d+\.\d+\.\d+\.\d+)(?::\d+)?(?:[/?#][!-~]*)?")
 MAIL = re.compile(rf"[A-Za-z0-9.!#$%&'*+/=?^_`{{|}}~-]+@{HOST}")
 NUMBER = re.compile(r"[+-]?(?:\d+\.?\d*|\.\d+)")
-CONTROL = re.compile(r"[\x00-\x1f\x7f-\x9f\u2028\u2029]")
+# What has no place on a line of text. A byte of an argument that isn't text is a surrogate.
+CONTROL = re.compile(r"[\x00-\x1f\x7f-\x9f\u2028\u2029\ud800-\udfff]")
 
 
 class Mistake(Exception):

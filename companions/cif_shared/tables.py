@@ -14,7 +14,7 @@ from typing import IO, Callable, Collection, Iterator, List, Mapping, NamedTuple
 from typing import Sequence, Type, TypeVar
 
 from .cif import Cif
-from .endings import CifEnded, Failed, Misused
+from .endings import CifEnded, Failed, Misused, Unexpected
 from .files import BLOCK, reporting
 
 Row = TypeVar("Row", bound=NamedTuple)
@@ -45,21 +45,6 @@ class TiplocRow(NamedTuple):
     description: str
 
 
-class ScheduleRow(NamedTuple):
-    """A schedule of an extract, without its calls."""
-
-    schedule: str
-    uid: str
-    first_date: str
-    last_date: str
-    days_run: str
-    status: str
-    category: str
-    identity: str
-    sleepers: str
-    operator_code: str
-
-
 class AssociationRow(NamedTuple):
     """An association of an extract."""
 
@@ -85,6 +70,10 @@ class Table(NamedTuple):
 
     def reader(self, kind: Type[Row]) -> Callable[[bytes], Row]:
         """Reads a line: those fields that a row of this kind has, whatever their order."""
+        missing = [field for field in kind._fields if field not in self.names]
+        if missing:
+            what = f"a table without the field {missing[0]}"
+            raise Unexpected(f"cif writes {what}: is it another program, or another release?")
         cells_at = itemgetter(*(self.names.index(field) for field in kind._fields))
         return lambda line: kind._make(cells_at(line.decode().rstrip("\n").split("\t")))
 

@@ -379,6 +379,21 @@ def check_version(counts: Counts, maker: Maker) -> None:
         counts.same(f"{program} --version", f"{program} {number}", done.stdout)
 
 
+CONTROL = "has a line break or another control character"
+NO_WEB = "isn't an address of the web such as https://www.example.com/"
+NO_MAIL = "isn't an address of mail such as info@example.com"
+# What isn't UTF-8 in an argument becomes a surrogate.
+BAD_PUBLISHERS = (
+    ("--publisher", "a\nb", f"`a?b` {CONTROL}"),
+    ("--publisher", "Caf\udce9", f"`Caf?` {CONTROL}"),
+    ("--url", "acme.example", f"`acme.example` {NO_WEB}"),
+    ("--url", "", f"`` {NO_WEB}"),
+    ("--email", "acme", f"`acme` {NO_MAIL}"),
+    ("--email", "a b@c.example", f"`a b@c.example` {NO_MAIL}"),
+    ("--email", "", f"`` {NO_MAIL}"),
+)
+
+
 def check_publisher(counts: Counts, maker: Maker, special: Path) -> None:
     words = (
         "--publisher",
@@ -391,13 +406,9 @@ def check_publisher(counts: Counts, maker: Maker, special: Path) -> None:
     [about] = maker.feed(*words, special)[1]["feed_info"].splitlines()[1:]
     counts.test("the publisher", about.startswith('"Acme, Feeds",https://acme.example/x?y,'), about)
     counts.test("the publisher's mail", about.endswith(",feeds@acme.example"), about)
-    for option, bad in (
-        ("--publisher", "a\nb"),
-        ("--url", "acme.example"),
-        ("--email", "acme"),
-        ("--email", "a b@c.example"),
-    ):
-        refused(counts, maker, f"{option} {bad!r}", 2, None, option, bad, special)
+    for option, bad, told in BAD_PUBLISHERS:
+        told = f"cif-gtfs: {option} {told}"
+        refused(counts, maker, f"{option} {bad!r}", 2, [told], option, bad, special)
 
 
 def check_words(counts: Counts, maker: Maker, special: Path) -> None:
@@ -460,7 +471,10 @@ def check_failures(counts: Counts, maker: Maker, special: Path) -> None:
     )
     refused(counts, maker, "no folder for the zip", 4, None, "-o", "missing/gtfs.zip", special)
     refused(counts, maker, "no program cif", 4, None, "--cif", "./missing", special)
-    refused(counts, maker, "another program", 4, None, "--cif", "echo", special)
+    told = [
+        "cif-gtfs: cif writes a table without the field mainframe_identity: is it another program, or another release?"
+    ]
+    refused(counts, maker, "another program", 4, told, "--cif", "echo", special)
     (maker.folder / "gtfs.zip").write_text("older")
     refused(counts, maker, "a refused extract over an older zip", 3, None, bad)
     counts.same("an older zip stays", "older", (maker.folder / "gtfs.zip").read_text())
@@ -479,9 +493,11 @@ def failing_cif(maker: Maker, table: str, then: str) -> Maker:
 def check_failing_cif(counts: Counts, maker: Maker, special: Path, table: str) -> None:
     failing = failing_cif(maker, table, "echo 'cif: Memory' >&2; exit 4")
     refused(counts, failing, f"cif fails at {table}", 4, ["cif: Memory"], special)
-    failing = failing_cif(maker, table, "kill -KILL $$")
-    killed = [f"cif was killed by SIGKILL: {failing.cif}"]
-    refused(counts, failing, f"cif is killed at {table}", 4, killed, special)
+    # the second signal has no name
+    for number, name in ("KILL", "SIGKILL"), ("40", "signal 40"):
+        failing = failing_cif(maker, table, f"kill -{number} $$")
+        killed = [f"cif was killed by {name}: {failing.cif}"]
+        refused(counts, failing, f"cif is killed at {table}, {name}", 4, killed, special)
     for status in 1, 7:
         failing = failing_cif(maker, table, f"exit {status}")
         ended = [f"cif ended with status {status}, which isn't one of its faults: {failing.cif}"]
