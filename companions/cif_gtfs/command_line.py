@@ -9,7 +9,7 @@ from typing import Optional, Sequence
 
 from cif_shared.arguments import add_cif, add_help, add_names, add_window, new_parser
 from cif_shared.cif import find_cif
-from cif_shared.csv_files import Mistake, mail_address, plain_text, read_file
+from cif_shared.csv_files import Mistake, mail_address, name_of_publisher, read_file
 from cif_shared.csv_files import shown, web_address
 from cif_shared.endings import SUCCESS, Misused
 from cif_shared.files import output_path
@@ -105,7 +105,7 @@ def outputs_of(asked: argparse.Namespace) -> Outputs:
 def publisher_of(asked: argparse.Namespace) -> Publisher:
     """Who answers for the feed, as the user says."""
     for option, value, read in (
-        ("--publisher", asked.publisher, plain_text),
+        ("--publisher", asked.publisher, name_of_publisher),
         ("--url", asked.url, web_address),
         ("--email", asked.email, mail_address),
     ):

@@ -18,6 +18,7 @@ from pathlib import Path
 from typing import Callable, DefaultDict, Dict, FrozenSet, List, Optional, Set, Tuple
 
 from cif_gtfs import trips
+from cif_shared.csv_files import Mistake, mail_address, web_address
 from cif_shared.endings import Refused
 from cif_shared.tables import rows_with, write_part
 
@@ -381,11 +382,44 @@ def check_version(counts: Counts, maker: Maker) -> None:
 
 CONTROL = "has a line break or another control character"
 NO_WEB = "isn't an address of the web such as https://www.example.com/"
-NO_MAIL = "isn't an address of mail such as info@example.com"
+NO_MAIL = "isn't an email address such as info@example.com"
+# Addresses that break a rule each, and the longest ones that are right: a label has 63 letters, a host 253, a port is 65535 at most,
+# and what stands before the @ has 64 characters.
+LONG_HOST = ".".join(["a" * 63] * 3 + ["b" * 57, "com"])
+BAD_ADDRESSES = (
+    "http://999.999.1.1",
+    "http://256.1.1.1/",
+    "http://1.2.3.04/",
+    "http://\u0661.\u0662.\u0663.\u0664/",
+    "http://a.example:\u0661/",
+    "http://a.example:65536/",
+    "http://a.example:99999/",
+    f"http://{'a' * 64}.com/",
+    f"http://a.{'c' * 64}/",
+    f"https://a{LONG_HOST}/",
+)
+GOOD_ADDRESSES = (
+    "http://255.249.199.0",
+    "http://a.example:65535/x?y#z",
+    f"http://{'a' * 63}.{'c' * 63}",
+    f"https://{LONG_HOST}/",
+)
+BAD_MAIL = (
+    ".a@c.com",
+    "a.@c.com",
+    "a..b@c.com",
+    "a@c",
+    f"a@{'b' * 64}.com",
+    f"a@b{LONG_HOST}",
+    f"{'a' * 65}@c.com",
+)
+GOOD_MAIL = (f"{'a' * 62}.b@c.com", f"a@{LONG_HOST}", "a.b+c@d-e.example")
 # What isn't UTF-8 in an argument becomes a surrogate.
 BAD_PUBLISHERS = (
     ("--publisher", "a\nb", f"`a?b` {CONTROL}"),
     ("--publisher", "Caf\udce9", f"`Caf?` {CONTROL}"),
+    ("--publisher", "", "`` is empty"),
+    ("--publisher", " ", "` ` is empty"),
     ("--url", "acme.example", f"`acme.example` {NO_WEB}"),
     ("--url", "", f"`` {NO_WEB}"),
     ("--email", "acme", f"`acme` {NO_MAIL}"),
@@ -409,6 +443,23 @@ def check_publisher(counts: Counts, maker: Maker, special: Path) -> None:
     for option, bad, told in BAD_PUBLISHERS:
         told = f"cif-gtfs: {option} {told}"
         refused(counts, maker, f"{option} {bad!r}", 2, [told], option, bad, special)
+
+
+def is_taken(read: Callable[[str], str], text: str) -> bool:
+    try:
+        return read(text) == text
+    except Mistake:
+        return False
+
+
+def check_addresses(counts: Counts) -> None:
+    counts.same("the length of the longest host", 253, len(LONG_HOST))
+    for read, good, bad in (
+        (web_address, GOOD_ADDRESSES, BAD_ADDRESSES),
+        (mail_address, GOOD_MAIL, BAD_MAIL),
+    ):
+        for text in (*good, *bad):
+            counts.same(f"the address {text}", text in good, is_taken(read, text))
 
 
 def check_words(counts: Counts, maker: Maker, special: Path) -> None:
@@ -791,6 +842,7 @@ def check(counts: Counts, maker: Maker, special: Path) -> None:
     check_hints(counts, maker, special)
     check_space(counts, maker, special)
     check_publisher(counts, maker, special)
+    check_addresses(counts)
     check_version(counts, maker)
     check_changed(counts, maker, special)
     check_signals(counts, maker, special)
