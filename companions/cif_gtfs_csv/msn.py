@@ -8,7 +8,7 @@ from cif_shared.endings import Refused
 from cif_shared.places import in_small_letters
 
 from .grid import latitude_and_longitude
-from .public_file import PLACES, Row, lines_of, refusal
+from .public_file import PLACES, Row, checked_text, lines_of, refusal
 
 CRS = re.compile(r"[A-Z0-9]{3}")
 RECORD_OR_COMMENT = re.compile(r"A    |[B-Z ]|/!!|$")
@@ -70,8 +70,9 @@ def places(path: str) -> List[Row]:
     for station in stations(path):
         if not station.tiploc:
             raise refusal(path, station.line, "the TIPLOC is missing")
-        row = (station.tiploc, in_small_letters(station.name), *coordinates(path, station))
-        found.setdefault(station.tiploc, row)
+        tiploc = checked_text(path, station.line, "TIPLOC", station.tiploc)
+        name = in_small_letters(checked_text(path, station.line, "name", station.name))
+        found.setdefault(tiploc, (tiploc, name, *coordinates(path, station)))
     return [PLACES, *(found[tiploc] for tiploc in sorted(found))]
 
 
