@@ -6,6 +6,7 @@ import io
 import os
 import signal
 import stat
+import sys
 import tempfile
 from contextlib import contextmanager
 from pathlib import Path
@@ -75,9 +76,17 @@ def mode_for(path: Path) -> int:
     return 0o666 & ~mask
 
 
+# A file's name has 255 bytes at most, of which so many leave room for what makes one unlike others.
+ROOM = 200
+
+
 def file_beside(place: Path) -> Path:
     """The path of a new file in the folder of a place."""
-    descriptor, name = tempfile.mkstemp(dir=place.parent, prefix=f".{place.name}.")
+    start = os.fsencode(place.name)[:ROOM].decode(sys.getfilesystemencoding(), "ignore")
+    try:
+        descriptor, name = tempfile.mkstemp(dir=place.parent, prefix=f".{start}.")
+    except OSError as problem:
+        raise Failed(f"{place}: {problem.strerror}") from None
     os.close(descriptor)
     return Path(name)
 

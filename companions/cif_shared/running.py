@@ -60,7 +60,9 @@ def catch_interrupts() -> None:
 def description_of(problem: OSError) -> str:
     """The file and the reason of a fault of the system."""
     reason = problem.strerror or str(problem)
-    return f"{os.fspath(problem.filename)}: {reason}" if problem.filename else reason
+    if problem.filename is None:
+        return reason
+    return f"{os.fspath(problem.filename) or repr('')}: {reason}"
 
 
 def run(program: str, work: Callable[[Progress], int]) -> int:

@@ -520,7 +520,9 @@ def check_failures(counts: Counts, maker: Maker, special: Path) -> None:
         [f"cif-gtfs: {freight} has no public train in its window"],
         freight,
     )
-    refused(counts, maker, "no folder for the zip", 4, None, "-o", "missing/gtfs.zip", special)
+    told = [f"cif-gtfs: {maker.folder}/missing/gtfs.zip: No such file or directory"]
+    refused(counts, maker, "no folder for the zip", 4, told, "-o", "missing/gtfs.zip", special)
+    check_names(counts, maker, special)
     refused(counts, maker, "no program cif", 4, None, "--cif", "./missing", special)
     told = [
         "cif-gtfs: cif writes a table without the field mainframe_identity: is it another program, or another release?"
@@ -532,6 +534,21 @@ def check_failures(counts: Counts, maker: Maker, special: Path) -> None:
     (maker.folder / "gtfs.zip").unlink()
     for table in "header", "schedules", "public":
         check_failing_cif(counts, maker, special, table)
+
+
+def check_names(counts: Counts, maker: Maker, special: Path) -> None:
+    """A name can be as long as the system has them, and one that is empty is shown."""
+    longest = maker.folder / ("a" + "\u00e4" * 127)
+    done = maker.run("-o", longest, special)
+    counts.same("the longest name, status", 1, done.returncode)
+    counts.test("the longest name", zipfile.is_zipfile(longest))
+    for path in longest, maker.folder / "places-wanted.csv":
+        path.unlink(missing_ok=True)
+    told = [f"cif-gtfs: {longest}a: File name too long"]
+    refused(counts, maker, "a longer name", 4, told, "-o", f"{longest}a", special)
+    told = ["cif-gtfs: '': No such file or directory"]
+    refused(counts, maker, "an extract without a name", 4, told, "")
+    refused(counts, maker, "places without a name", 4, told, "--places", "", special)
 
 
 def failing_cif(maker: Maker, table: str, then: str) -> Maker:
