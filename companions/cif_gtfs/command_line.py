@@ -3,7 +3,6 @@ from __future__ import annotations
 
 import argparse
 import gc
-import os
 import sys
 from typing import Optional, Sequence
 
@@ -12,7 +11,7 @@ from cif_shared.cif import find_cif
 from cif_shared.csv_files import Mistake, mail_address, name_of_publisher, read_file
 from cif_shared.csv_files import shown, web_address
 from cif_shared.endings import SUCCESS, Misused
-from cif_shared.files import output_path
+from cif_shared.files import check_inputs_stay, output_path
 from cif_shared.operators import read_operators
 from cif_shared.places import PLACES
 from cif_shared.progress import Progress
@@ -91,11 +90,8 @@ def outputs_of(asked: argparse.Namespace) -> Outputs:
     wanted = list_beside(asked.output)
     trips = output_path(asked.trips) if asked.trips is not None else None
     outputs = [place for place in (feed, wanted.place, trips) if place]
-    inputs = (asked.extract, asked.places, asked.operators, asked.interchange, asked.links)
-    for name in (each for each in inputs if each):
-        for output in outputs:
-            if output.exists() and os.path.exists(name) and output.samefile(name):
-                raise Misused(f"{output} would take the place of an input: rename one of them")
+    others = (asked.places, asked.operators, asked.interchange, asked.links)
+    check_inputs_stay(outputs, [asked.extract], others)
     if len(set(outputs)) < len(outputs):
         raise Misused("two outputs have one place")
     wanted.check()

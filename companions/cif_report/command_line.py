@@ -4,7 +4,6 @@ from __future__ import annotations
 import argparse
 import gc
 import io
-import os
 from pathlib import Path
 from typing import Optional, Sequence
 
@@ -12,7 +11,7 @@ from cif_shared.arguments import add_cif, add_help, add_names, add_window, new_p
 from cif_shared.cif import find_cif
 from cif_shared.csv_files import read_file
 from cif_shared.endings import SUCCESS, Misused, Refused
-from cif_shared.files import new_files, output_path, scratch_file
+from cif_shared.files import check_inputs_stay, new_files, output_path, scratch_file
 from cif_shared.operators import operator_name, read_operators
 from cif_shared.places import PLACES, Places
 from cif_shared.progress import Progress
@@ -101,11 +100,8 @@ class Outputs:
         self.rows = output_path(str(self.page.with_suffix(".csv")))
         if self.rows == self.page:
             raise Misused(f"{asked.output}: the CSV file would take the place of the page")
-        inputs = [asked.old, asked.new, asked.places, asked.operators]
-        for place in self.page, self.rows:
-            for each in inputs:
-                if each and place.exists() and os.path.exists(each) and place.samefile(each):
-                    raise Misused(f"{place} would take the place of an input")
+        others = (asked.places, asked.operators)
+        check_inputs_stay((self.page, self.rows), (asked.old, asked.new), others)
         check_rows(self.rows)
 
 

@@ -16,7 +16,7 @@ from cif_shared.arguments import add_cif, add_help, add_names, add_window, new_p
 from cif_shared.cif import Cif, find_cif
 from cif_shared.csv_files import CONTROL, read_file
 from cif_shared.endings import SUCCESS, Misused
-from cif_shared.files import BLOCK, new_files, output_path
+from cif_shared.files import BLOCK, check_inputs_stay, new_files, output_path
 from cif_shared.operators import read_operators
 from cif_shared.places import PLACES
 from cif_shared.progress import Progress
@@ -77,9 +77,7 @@ def place_of(asked: argparse.Namespace) -> Path:
             raise Misused("the extract has no name: -o says which database to write")
         name = os.path.splitext(asked.extract)[0] + ".db"
     place = output_path(name)
-    for each in (asked.extract, asked.places, asked.operators):
-        if each and place.exists() and os.path.exists(each) and place.samefile(each):
-            raise Misused(f"{place} would take the place of an input: -o says where to write")
+    check_inputs_stay([place], [asked.extract], (asked.places, asked.operators))
     return place
 
 

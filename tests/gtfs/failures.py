@@ -370,6 +370,18 @@ def check_space(counts: Counts, maker: Maker, special: Path) -> None:
     )
     counts.same("no space, what is left", [], sorted(temporary.iterdir()))
     temporary.rmdir()
+    for folder in temporary, special:
+        environment = {**os.environ, "TMPDIR": str(folder)}
+        done = subprocess.run(
+            [*words[5:]],
+            env=environment,
+            capture_output=True,
+            text=True,
+            cwd=maker.folder,
+            check=False,
+        )
+        told = f"cif-gtfs: TMPDIR: no temporary file can be written in {folder}\n"
+        counts.same(f"TMPDIR is {folder.name}", (4, told), (done.returncode, done.stderr))
 
 
 def check_version(counts: Counts, maker: Maker) -> None:
@@ -462,6 +474,30 @@ def check_addresses(counts: Counts) -> None:
             counts.same(f"the address {text}", text in good, is_taken(read, text))
 
 
+def check_own_input(counts: Counts, maker: Maker, special: Path) -> None:
+    """No output takes the place of an extract that is standard input."""
+    extract = maker.folder / "own.cif"
+    extract.write_bytes(special.read_bytes())
+    told = f"cif-gtfs: {extract} would take the place of an input: rename one of them\n"
+    for option in "-o", "--trips":
+        for name in "-", "/dev/stdin":
+            words: List[Word] = [COMPANIONS / "cif-gtfs", "--cif", maker.cif]
+            words += [option, "own.cif", name]
+            with open(extract, "rb") as stdin:
+                done = subprocess.run(
+                    words,
+                    stdin=stdin,
+                    capture_output=True,
+                    text=True,
+                    cwd=maker.folder,
+                    check=False,
+                )
+            counts.same(f"{option} for {name}", (2, told), (done.returncode, done.stderr))
+            kept = extract.read_bytes() == special.read_bytes()
+            counts.test(f"{option} for {name}, the extract stays", kept)
+    extract.unlink()
+
+
 def check_words(counts: Counts, maker: Maker, special: Path) -> None:
     calls: List[Tuple[Word, ...]] = [
         (),
@@ -478,6 +514,7 @@ def check_words(counts: Counts, maker: Maker, special: Path) -> None:
     for words in calls:
         refused(counts, maker, f"an output in the place of an input, {words[1]}", 2, None, *words)
     wanted.unlink()
+    check_own_input(counts, maker, special)
     for word in "260230", "":
         told = ["cif: bad date", f"  '{word}': must be a valid date as six digits, YYMMDD"]
         refused(counts, maker, f"the date {word!r}", 2, told, "--from", word, special)
