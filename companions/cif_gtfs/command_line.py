@@ -2,7 +2,6 @@
 from __future__ import annotations
 
 import argparse
-import gc
 import sys
 from typing import Optional, Sequence
 
@@ -15,7 +14,7 @@ from cif_shared.files import check_inputs_stay, output_path
 from cif_shared.operators import read_operators
 from cif_shared.places import PLACES
 from cif_shared.progress import Progress
-from cif_shared.running import run
+from cif_shared.running import leave_cycles, run
 from cif_shared.tables import open_extract
 
 from .conversion import Outputs, UserFiles, Wishes, convert
@@ -138,6 +137,5 @@ def make_feed(asked: argparse.Namespace, progress: Progress) -> int:
 
 def main(words: Optional[Sequence[str]] = None) -> int:
     asked = arguments_of(words)
-    # nothing that is kept has cycles, and looking for them takes a tenth of the time
-    gc.disable()
+    leave_cycles()
     return run(PROGRAM, lambda progress: make_feed(asked, progress))

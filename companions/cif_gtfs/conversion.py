@@ -18,8 +18,8 @@ from typing import (
     Optional,
     Sequence,
     Set,
+    Tuple,
 )
-from typing import Tuple
 
 from cif_shared.csv_files import Key
 from cif_shared.dates import Dates, Window

@@ -2,7 +2,6 @@
 from __future__ import annotations
 
 import argparse
-import gc
 import io
 from pathlib import Path
 from typing import Optional, Sequence
@@ -15,7 +14,7 @@ from cif_shared.files import check_inputs_stay, new_files, output_path, scratch_
 from cif_shared.operators import operator_name, read_operators
 from cif_shared.places import PLACES, Places
 from cif_shared.progress import Progress
-from cif_shared.running import run
+from cif_shared.running import leave_cycles, run
 
 from .comparison import compare, numbers_of
 from .days import Calendar
@@ -139,6 +138,5 @@ def write_report(asked: argparse.Namespace, progress: Progress) -> int:
 
 def main(words: Optional[Sequence[str]] = None) -> int:
     asked = arguments_of(words)
-    # nothing that is kept has cycles, and looking for them takes a tenth of the time
-    gc.disable()
+    leave_cycles()
     return run(PROGRAM, lambda progress: write_report(asked, progress))

@@ -12,7 +12,7 @@ from .endings import Refused
 
 Row = TypeVar("Row", bound=NamedTuple)
 
-# There is at most a row for each place, with names. So what is longer is another file.
+# There is at most a row for each place, with names. So what is longer is the wrong file.
 MOST_BYTES = 64 << 20
 LONGEST_LINE = 1 << 16
 # So many mistakes of a file are reported, and the others are counted.
@@ -153,7 +153,7 @@ class Lines:
         self.number += 1
         self.left -= len(line)
         if len(line) > LONGEST_LINE or self.left < 0:
-            raise Unreadable("the line or the file is too long: this is another file")
+            raise Unreadable("the line or the file is too long: this can't be the right file")
         if b"\0" in line:
             raise Unreadable("this is no text: it has a byte 0")
         try:
@@ -193,7 +193,7 @@ class Reader(Generic[Row]):
     def is_heading(self, names: Sequence[str]) -> bool:
         fields = [field.name for field in self.layout.fields]
         wrong = [f"the field {name} is missing" for name in fields if name not in names]
-        wrong += [f"the field {name} is double" for name in fields if names.count(name) > 1]
+        wrong += [f"the field {name} is a duplicate" for name in fields if names.count(name) > 1]
         self.mistakes += [(1, mistake) for mistake in wrong]
         return not wrong
 
@@ -232,7 +232,9 @@ class Reader(Generic[Row]):
     def check_key(self, line: int, key: Key) -> None:
         if key in self.line_of:
             names = ", ".join(map(str, key))
-            self.mistakes.append((line, f"{names} is double: line {self.line_of[key]} has it too"))
+            self.mistakes.append(
+                (line, f"{names} is a duplicate: line {self.line_of[key]} has it too")
+            )
         if len(set(key)) < len(key):
             self.mistakes.append((line, f"{' and '.join(self.layout.key)} are the same"))
         self.line_of.setdefault(key, line)

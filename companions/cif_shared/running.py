@@ -1,6 +1,7 @@
 """The frame of a run: standard streams, interrupts, whatever ends it, and its status."""
 from __future__ import annotations
 
+import gc
 import os
 import signal
 import sys
@@ -63,6 +64,12 @@ def description_of(problem: OSError) -> str:
     if problem.filename is None:
         return reason
     return f"{os.fspath(problem.filename) or repr('')}: {reason}"
+
+
+def leave_cycles() -> None:
+    """Ends Python's looking for cycles: nothing that is kept has any, and it takes a tenth of the
+    time."""
+    gc.disable()
 
 
 def run(program: str, work: Callable[[Progress], int]) -> int:

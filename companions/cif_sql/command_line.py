@@ -2,7 +2,6 @@
 from __future__ import annotations
 
 import argparse
-import gc
 import hashlib
 import os
 from concurrent.futures import ThreadPoolExecutor
@@ -20,7 +19,7 @@ from cif_shared.files import BLOCK, check_inputs_stay, new_files, output_path
 from cif_shared.operators import read_operators
 from cif_shared.places import PLACES
 from cif_shared.progress import Progress
-from cif_shared.running import run, standard_output
+from cif_shared.running import leave_cycles, run, standard_output
 from cif_shared.tables import Extract, is_stream, open_extract
 
 from .background import in_background
@@ -160,7 +159,6 @@ def write_script(asked: argparse.Namespace, progress: Progress) -> int:
 
 def main(words: Optional[Sequence[str]] = None) -> int:
     asked = arguments_of(words)
-    # nothing that is kept has cycles, and looking for them takes a tenth of the time
-    gc.disable()
+    leave_cycles()
     make = write_script if asked.postgres else make_file
     return run(PROGRAM, lambda progress: make(asked, progress))

@@ -54,7 +54,7 @@ BAD_FILES = {
             "line 4: tiploc is missing",
             "line 5: latitude `north` isn't a number of degrees from -90 to 90",
             "line 5: longitude `181` isn't a number of degrees from -180 to 180",
-            "line 6: ALPHA is double: line 2 has it too",
+            "line 6: ALPHA is a duplicate: line 2 has it too",
             "line 7: 2 fields, and the first line has 4",
             "line 8: name `The?ta` has a line break or another control character",
             "line 10: name `Io?ta` has a line break or another control character",
@@ -69,7 +69,7 @@ BAD_FILES = {
         (
             "line 2: name is missing",
             "line 2: url `www.southern.example` isn't an address of the web such as https://www.example.com/",
-            "line 3: SN is double: line 2 has it too",
+            "line 3: SN is a duplicate: line 2 has it too",
             *(
                 f"line {line}: url `{url}` isn't an address of the web such as https://www.example.com/"
                 for line, url in enumerate(
@@ -89,12 +89,12 @@ BAD_FILES = {
     ),
     "links": (
         "from,to,minutes\nALP,ALP,5\nALP,BET,5\nBET,ALP,6\nALP,BET,7\n",
-        ("line 2: from and to are the same", "line 5: ALP, BET is double: line 3 has it too"),
+        ("line 2: from and to are the same", "line 5: ALP, BET is a duplicate: line 3 has it too"),
     ),
 }
 BAD_HEADINGS = {
     "places": ("tiploc,name,latitude\n", ("line 1: the field longitude is missing",)),
-    "links": ("from,to,minutes,to\n", ("line 1: the field to is double",)),
+    "links": ("from,to,minutes,to\n", ("line 1: the field to is a duplicate",)),
     "operators": (
         "",
         tuple(f"line 1: the field {name} is missing" for name in ("operator_code", "name", "url")),
@@ -114,7 +114,7 @@ OTHER_FILES = {
     "a byte 0": (HEADING + b"ALPHA,,,\nBETA,B\0,,\n", "line 3: this is no text: it has a byte 0"),
     "a long line": (
         HEADING + b"A" * 70000,
-        "line 2: the line or the file is too long: this is another file",
+        "line 2: the line or the file is too long: this can't be the right file",
     ),
     "many mistakes": (HEADING + b"ALPHA,A,x,\n" * 30, None),
 }
@@ -193,7 +193,7 @@ def check_other_files(counts: Counts, maker: Maker, special: Path) -> None:
         lines[-3:],
     )
     endless = [
-        "cif-gtfs: /dev/zero: line 1: the line or the file is too long: this is another file"
+        "cif-gtfs: /dev/zero: line 1: the line or the file is too long: this can't be the right file"
     ]
     refused(counts, maker, "an endless file", 3, endless, "--places", "/dev/zero", special)
 
