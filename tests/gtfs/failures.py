@@ -299,6 +299,12 @@ def check_wanted(counts: Counts, maker: Maker, special: Path) -> None:
     places.write_text(
         "tiploc,name,latitude,longitude\n" + "".join(f"{name},,51,-.5\n" for name in names)
     )
+    renamed = maker.folder / "renamed.csv"
+    renamed.write_text(unfilled.replace(",,,", ",51,-.5,"))
+    done = maker.run("--places", renamed, "-o", "renamed.zip", special)
+    counts.same("a list that is filled in and renamed", 0, done.returncode)
+    (maker.folder / "renamed.zip").unlink()
+    renamed.unlink()
     check_filled(counts, maker, special, places)
     check_place_of_wanted(counts, maker, special, unfilled)
     for text in unfilled, unfilled + "\n", unfilled.replace("\n", "\r\n"):
